@@ -1,0 +1,15 @@
+use Rattle.std.proofs.Common.{arith, [], ◌≡◌}
+use Rattle.std.proofs.lemmas.Grind.{common_steps}
+use Rattle.std.proofs.lemmas.List.Elements.{All-push}
+use Rattle.snoop_bus.proofs.Within.{AreBlocksWithin-empty}
+use Rattle.snoop_bus.proofs.bus.Bus.new.Goals as goal
+
+pub loop-preserved : goal.loop-preserved
+loop-preserved c = (
+  grind (arith, common_steps),
+  rw c.push_reserved.ensures.items (All-push (λ queue. queue.requests ≡ []) _ _ c.loop.invariant.1 c.new.ensures),
+  grind (arith, common_steps),
+)
+
+pub invariant_of-result : goal.invariant_of-result
+invariant_of-result c = AreBlocksWithin-empty _ _ c.loop.invariant.1

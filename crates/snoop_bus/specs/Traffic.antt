@@ -1,0 +1,44 @@
+-- What a bus holds: the requests that wait, and the open transactions.
+-- Source: "A Primer on Memory Consistency and Cache Coherence", 2nd edition, chapter 7, system model: requests of a core are ordered
+-- in the order of issue, and transactions are atomic, one at a time for each block.
+use Rattle.std.specs.Prelude.{◌≡◌, ℕ, ◌+◌, ◌<◌, List, [], drop, All, Option, Some, None, slice_get, slice_set, slice_index_or}
+use Rattle.snoop_rules.specs.declared.names.Request.{Request}
+use Rattle.snoop_rules.specs.declared.names.Payload.{Payload}
+use Rattle.snoop_bus.specs.declared.transactions.Open.{Open}
+
+-- one core's requests with their blocks, in order of issue, and for how many more there is room
+pub record Waiting : Type 0 where
+  pub requests : List (Request × ℕ)
+  pub room : ℕ
+
+-- the queue of each core, and each block's open transaction
+pub record Traffic : Type 0 where
+  pub queues : List Waiting
+  pub transactions : List (Option Open)
+
+-- what a core outside the shape has
+abbrev pub no_queue : Waiting
+no_queue = record { requests = []; room = 0 }
+
+-- the queue of one core
+abbrev pub waiting_of : Traffic → ℕ → Waiting
+waiting_of bus core = slice_index_or bus.queues core no_queue
+
+-- the core's oldest request and its block
+abbrev pub head_of : Traffic → ℕ → Option (Request × ℕ)
+head_of bus core = slice_get (waiting_of bus core).requests 0
+
+-- the transaction that is open on a block
+abbrev pub transaction_on : Traffic → ℕ → Option Open
+transaction_on bus block = slice_index_or bus.transactions block None
+
+-- every request that waits is for a block that there is
+abbrev pub AreBlocksWithin : List Waiting → ℕ → Type 0
+AreBlocksWithin queues blocks = All (λ queue. All (λ r. r.1 < blocks) queue.requests) queues
+
+-- the core's oldest request leaves its queue, which has room for one more, and its transaction opens with this message
+pub record Starts (old new : Traffic) (core : ℕ) (request : Request) (block : ℕ) (payload : Payload) (value : ℕ) (from : Option ℕ) : Type 0 where
+  pub room : ℕ
+  pub more : room ≡ (waiting_of old core).room + 1
+  pub queues : new.queues ≡ slice_set old.queues core (record { requests = drop 1 (waiting_of old core).requests; room = room })
+  pub transactions : new.transactions ≡ slice_set old.transactions block (Some (record { core = core; request = request; block = block; payload = payload; value = value; from = from }))

@@ -1,0 +1,145 @@
+//! The bus of a machine.
+ghost use Rattle.std.specs.Prelude.{◌≡◌, ◌-◌, ◌<◌, ◌≤◌, ◌↔◌, [], ◌∷◌, ◌++◌, length, replicate, All, IsTrue, IsNone, IsSome, IfOk, OnOk, OnErr, IfSome, None, slice_set};
+ghost use Rattle.snoop_bus.specs.Traffic.{Traffic, Waiting, waiting_of, head_of, transaction_on, Starts};
+
+use crate::queues::Queue;
+use crate::transactions::Open;
+use snoop_rules::{Payload, Request};
+use snoop_trace::{NoMemory, Shape};
+use std::alloc::Global;
+use std::marker::Model;
+
+/// The requests that wait, by core in order of issue, and the open transactions, by block.
+///
+/// Memory is asked for in `new` and `reserve` alone. Outside the shape a core has no request and no
+/// room, and a block no transaction.
+#[derive(Debug, Drop)]
+pub struct Bus {
+    queues: Vec<Queue>,
+    transactions: Vec<Option<Open>>,
+}
+
+impl Model for Bus {
+    ghost use Rattle.std.specs.Prelude.{length};
+    ghost use Rattle.snoop_bus.specs.Traffic.{Traffic, AreBlocksWithin};
+
+    ghost Value = { Traffic };
+
+    ghost view = { λ b. record { queues = b.queues.items; transactions = b.transactions.items } };
+
+    ghost invariant = { λ b. AreBlocksWithin b.queues.items (length b.transactions.items) };
+}
+
+impl Bus {
+    /// A bus with no request and no transaction.
+    pub fn new(alloc: Global, shape: Shape) -> Result<Self, NoMemory>
+        ensures queues { IfOk result (λ bus. (length bus.queues ≡ shape.cores) × All (λ queue. queue.requests ≡ []) bus.queues) }
+        ensures transactions { IfOk result (λ bus. bus.transactions ≡ replicate shape.blocks None) }
+    {
+        let cores = shape.cores() as usize;
+        let blocks = shape.blocks() as usize;
+        let mut queues = Vec::with_capacity(alloc, cores)?;
+        for _ in 0..cores {
+            queues.push_reserved(Queue::new(alloc));
+        }
+        let transactions = vec![in alloc; None; blocks]?;
+        Ok(Bus {
+            queues,
+            transactions,
+        })
+    }
+
+    /// Makes room for one more request of the core, where there is none. After a refusal every
+    /// request and transaction is as before.
+    pub fn reserve(&mut self, core: u32) -> Result<(), NoMemory>
+        requires { core < length self.old.queues }
+        ensures ok { OnOk result (0 < (waiting_of self.new core).room) }
+        ensures full { OnErr result ((waiting_of self.old core).room ≡ 0) }
+
+        // Nothing but the core's room changes, and it doesn't shrink.
+        ensures room { (waiting_of self.old core).room ≤ (waiting_of self.new core).room }
+        ensures queue { self.new.queues ≡ slice_set self.old.queues core (record { requests = (waiting_of self.old core).requests; room = (waiting_of self.new core).room }) }
+        ensures transactions { self.new.transactions ≡ self.old.transactions }
+    {
+        let queue = &mut self.queues[core as usize];
+        queue.reserve()?;
+        Ok(())
+    }
+
+    /// Whether the core can issue one more request.
+    pub fn has_room(&self, core: u32) -> bool
+        ensures { IsTrue result ↔ (0 < (waiting_of self.now core).room) }
+    {
+        match self.queues.get(core as usize) {
+            Some(queue) => queue.has_room(),
+            None => false,
+        }
+    }
+
+    /// Puts a request for a block last in the core's queue.
+    pub fn issue(&mut self, core: u32, request: Request, block: u32)
+        requires core { core < length self.old.queues }
+        requires block { block < length self.old.transactions }
+        requires room { 0 < (waiting_of self.old core).room }
+        ensures queue { self.new.queues ≡ slice_set self.old.queues core (record { requests = (waiting_of self.old core).requests ++ (request, block) ∷ []; room = (waiting_of self.old core).room - 1 }) }
+        ensures transactions { self.new.transactions ≡ self.old.transactions }
+    {
+        let queue = &mut self.queues[core as usize];
+        queue.push(request, block);
+    }
+
+    /// The core's oldest request and its block.
+    pub fn head(&self, core: u32) -> Option<(Request, u32)>
+        ensures { result ≡ head_of self.now core }
+    {
+        match self.queues.get(core as usize) {
+            Some(queue) => queue.head(),
+            None => None,
+        }
+    }
+
+    /// The transaction that is open on the block.
+    pub fn open(&self, block: u32) -> Option<Open>
+        ensures { result ≡ transaction_on self.now block }
+    {
+        match self.transactions.get(block as usize) {
+            Some(transaction) => *transaction,
+            None => None,
+        }
+    }
+
+    /// Orders the core's oldest request: it leaves the queue, and its transaction opens with the
+    /// message that the core `from`, or memory, sends.
+    pub fn start(&mut self, core: u32, payload: Payload, value: u64, from: Option<u32>)
+        requires core { core < length self.old.queues }
+        requires head { IsSome (head_of self.old core) }
+        requires free { IfSome (head_of self.old core) (λ head. transaction_on self.old head.1 ≡ None) }
+        ensures { IfSome (head_of self.old core) (λ head. Starts self.old self.new core head.0 head.1 payload value from) }
+    {
+        let queue = &mut self.queues[core as usize];
+        let (request, block) = queue.pop().unwrap();
+        self.transactions[block as usize] = Some(Open {
+            core,
+            request,
+            block,
+            payload,
+            value,
+            from,
+        });
+    }
+
+    /// Closes the block's transaction and hands it out; where none is open, nothing changes.
+    pub fn finish(&mut self, block: u32) -> Option<Open>
+        ensures closed { result ≡ transaction_on self.old block }
+        ensures after { self.new ≡ record self.old { transactions = slice_set self.old.transactions block None } }
+        ensures unchanged { IsNone result → self.new ≡ self.old }
+    {
+        let place = block as usize;
+        if place >= self.transactions.len() {
+            return None;
+        }
+        let transaction = self.transactions[place];
+        self.transactions[place] = None;
+        transaction
+    }
+}

@@ -1,0 +1,12 @@
+//! The bus: each core's queue of requests that wait to be ordered, and the open transaction of each block.
+#![tactic(auto)]
+
+mod bus;
+mod queues;
+mod transactions;
+
+pub use bus::Bus;
+pub use transactions::Open;
+
+#[cfg(test)]
+mod tests;

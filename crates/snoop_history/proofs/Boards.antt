@@ -1,0 +1,256 @@
+-- The board of a list with one item more.
+use Rattle.std.proofs.Common.{◌≡◌, ◌≢◌, ℕ, zero, suc, ◌+◌, ◌-◌, ◌^◌, ◌<◌, ◌≤◌, min, Bool, true, false, not, ◌&&◌, List, [], ◌∷◌, ◌++◌, length, Option, Some, None, refl, sym, ◌∙◌, ap, arith, map, filter, cond, fold, inl, inr, eqb, subst, zero-add, add-zero, add-suc}
+use Rattle.std.specs.Prelude.{All, replicate, option_to_list, slice_index, slice_set, slice_get, ◌==◌, nat_lt, if◌then◌else◌, option_and_then}
+use Rattle.std.specs.List.{range_with_len}
+use Rattle.std.specs.Option.{option_map_or, ForSome}
+use Rattle.std.proofs.lemmas.Bool.{eq-eqb, ne_eqb, ltb-true, lt-ltb, le-ltb}
+use Rattle.std.proofs.lemmas.Bool.Decides.{nat_tests}
+use Rattle.std.proofs.lemmas.List.{map-append, length-append, append-nil, append_assoc}
+use Rattle.std.proofs.lemmas.List.FromFn.{length-map-range_with_len, get_or-map-range_with_len}
+use Rattle.std.proofs.lemmas.List.Elements.{filter-append, filter_map-append, All-head, All-tail}
+use Rattle.snoop_history.specs.declared.items.Did.{Did}
+use Rattle.snoop_history.specs.declared.items.Item.{Item}
+use Rattle.snoop_history.specs.declared.items.Totals.{Totals}
+use Rattle.snoop_history.specs.History.{operation_of, operations, answers_of, next_number, is_store_to, last_or, flat, last_of}
+use Rattle.snoop_history.specs.Within.{core_of, block_of, IsWithin, is_within, inside}
+use Rattle.snoop_history.specs.Totals.{totals_of, capped, capped_totals}
+use Rattle.snoop_history.specs.Journal.{counted, tallied}
+use Rattle.snoop_history.specs.Board.{Tables, for_each_below, board_of, operation_within, noted, absorbed, Absorbs}
+use Rattle.snoop_history.proofs.Pushed.{operations-one, operations-push, capped_totals-push, last_or-append}
+
+-- two functions that agree make one list
+map-same : {A : Type 0} (f g : ℕ → A) (xs : List ℕ) → ((j : ℕ) → g j ≡ f j) → map g xs ≡ map f xs
+map-same f g [] same = refl
+map-same f g (x ∷ xs) same = rw (same x, map-same f g xs same)
+
+-- two functions that agree from a number on
+map-above : {A : Type 0} (f g : ℕ → A) (a n : ℕ) → ((j : ℕ) → a ≤ j → g j ≡ f j) → map g (range_with_len a n) ≡ map f (range_with_len a n)
+map-above f g a zero same = refl
+map-above f g a (suc n) same = rw (same a (omega arith), map-above f g (a + 1) n (λ j h. same j (omega arith)))
+
+-- two functions that agree but at one number make lists that differ at one place
+map-set : {A : Type 0} (f g : ℕ → A) (a n i : ℕ) (v : A) → i < n → g (a + i) ≡ v → ((j : ℕ) → j ≢ a + i → g j ≡ f j)
+    → map g (range_with_len a n) ≡ slice_set (map f (range_with_len a n)) i v
+map-set f g a zero i v within here others = absurd (omega arith)
+map-set f g a (suc n) zero v within here others =
+    let first : g a ≡ v = rw (add-zero) at here in
+    rw (first, map-above f g (a + 1) n (λ j h. others j (λ e. absurd (omega arith))))
+map-set f g a (suc n) (suc i) v within here others =
+    let next : a + suc i ≡ a + 1 + i = omega arith in
+    let there : g (a + 1 + i) ≡ v = ap g (sym next) ∙ here in
+    let rest = map-set f g (a + 1) n i v (omega arith) there (λ j h. others j (λ e. h (e ∙ next))) in
+    rw (others a (λ e. absurd (omega arith)), rest)
+
+ltb-suc : (a b : ℕ) → nat_lt (suc a) (suc b) ≡ nat_lt a b
+ltb-suc a b = grind (arith, nat_tests)
+
+-- the entry of a number below n
+pub entry-below : {A : Type 0} (f : ℕ → A) (a n k : ℕ) → slice_get (map f (range_with_len a n)) k ≡ (if nat_lt k n then Some (f (a + k)) else None)
+entry-below f a zero k = let none : nat_lt k 0 ≡ false = le-ltb k 0 (omega arith) in rw none
+entry-below f a (suc n) zero = let some : nat_lt 0 (suc n) ≡ true = lt-ltb 0 (suc n) (omega arith) in rw (some, add-zero)
+entry-below f a (suc n) (suc k) = let same : nat_lt (suc k) (suc n) ≡ nat_lt k n = ltb-suc k n in rw same (entry-below f (a + 1) n k ∙ ap (λ m. if nat_lt k n then Some (f m) else None) (omega arith))
+
+-- the same lists from 0 on
+map-set_0 : {A : Type 0} (f g : ℕ → A) (n i : ℕ) (v : A) → i < n → g i ≡ v → ((j : ℕ) → j ≢ i → g j ≡ f j) → for_each_below n g ≡ slice_set (for_each_below n f) i v
+map-set_0 f g n i v within here others = map-set f g 0 n i v within (ap g (zero-add i) ∙ here) (λ j h. others j (λ e. h (e ∙ sym (zero-add i))))
+
+pub entry-below_0 : {A : Type 0} (f : ℕ → A) (n k : ℕ) → slice_get (for_each_below n f) k ≡ (if nat_lt k n then Some (f k) else None)
+entry-below_0 f n k = entry-below f 0 n k ∙ ap (λ m. if nat_lt k n then Some (f m) else None) (zero-add k)
+
+operations-one_if : (here : Bool) (entry : Item) → operations (cond here (entry ∷ []) []) ≡ option_to_list (if here then operation_of entry else None)
+operations-one_if true entry = operations-one entry
+operations-one_if false entry = refl
+
+-- the operations within a shape, of a list with one item more
+operations-inside-push : (cores blocks : ℕ) (items : List Item) (entry : Item) →
+    operations (inside cores blocks (items ++ entry ∷ [])) ≡ operations (inside cores blocks items) ++ option_to_list (operation_within cores blocks entry)
+operations-inside-push cores blocks items entry =
+    ap operations (filter-append (is_within cores blocks) items (entry ∷ []))
+    ∙ filter_map-append operation_of (inside cores blocks items) (filter (is_within cores blocks) (entry ∷ []))
+    ∙ ap (λ l. operations (inside cores blocks items) ++ l) (operations-one_if (is_within cores blocks entry) entry)
+
+-- the tables of a list of operations
+abbrev pub value_in : List Did → ℕ → ℕ
+value_in dids block = last_or 0 (map (λ did. did.value) (filter (is_store_to block) dids))
+
+abbrev pub count_in : List Did → ℕ → ℕ
+count_in dids core = capped (length (filter (λ did. did.core == core) dids))
+
+abbrev pub last_in : List Did → ℕ → Option Did
+last_in dids core = last_or None (map Some (filter (λ did. did.core == core) dids))
+
+abbrev pub board_with : ℕ → ℕ → List Did → Totals → Tables
+board_with cores blocks dids totals =
+    record { values = for_each_below blocks (value_in dids); counts = for_each_below cores (count_in dids); lasts = for_each_below cores (last_in dids); totals = totals }
+
+pub same_tables : (s t : Tables) → s.values ≡ t.values → s.counts ≡ t.counts → s.lasts ≡ t.lasts → s.totals ≡ t.totals → s ≡ t
+same_tables s t v c l o =
+    ap (λ (x : List ℕ). let r : Tables = record s { values = x } in r) v
+    ∙ (ap (λ (x : List ℕ). let r : Tables = record s { values = t.values; counts = x } in r) c
+    ∙ (ap (λ (x : List (Option Did)). let r : Tables = record t { totals = s.totals; lasts = x } in r) l
+    ∙ ap (λ (x : Totals). let r : Tables = record t { totals = x } in r) o))
+
+-- the tables with one operation more
+module _ (dids : List Did) (did : Did) where
+  filter-one : (test : Did → Bool) (b : Bool) → test did ≡ b → filter test (dids ++ did ∷ []) ≡ filter test dids ++ cond b (did ∷ []) []
+  filter-one test b e = filter-append test dids (did ∷ []) ∙ ap (λ (x : Bool). filter test dids ++ cond x (did ∷ []) []) e
+
+  count-own : count_in (dids ++ did ∷ []) did.core ≡ counted (count_in dids did.core) true
+  count-own =
+      let e : filter (λ d. d.core == did.core) (dids ++ did ∷ []) ≡ filter (λ d. d.core == did.core) dids ++ did ∷ [] = filter-one (λ d. d.core == did.core) true (eq-eqb did.core did.core refl) in
+      let n = length-append (filter (λ d. d.core == did.core) dids) (did ∷ []) in
+      rw e (omega (arith, n))
+
+  last-own : last_in (dids ++ did ∷ []) did.core ≡ Some did
+  last-own =
+      let own = filter (λ (d : Did). d.core == did.core) dids in
+      ap (λ (l : List Did). last_or None (map Some l)) (filter-one (λ d. d.core == did.core) true (eq-eqb did.core did.core refl))
+      ∙ ap (λ (l : List (Option Did)). last_or None l) (map-append Some own (did ∷ []))
+      ∙ last_or-append None (map Some own) (Some did ∷ [])
+
+  others-core : (core : ℕ) → core ≢ did.core → filter (λ d. d.core == core) (dids ++ did ∷ []) ≡ filter (λ d. d.core == core) dids
+  others-core core other = filter-one (λ d. d.core == core) false (ne_eqb did.core core (λ e. other (sym e))) ∙ append-nil (filter (λ d. d.core == core) dids)
+
+  value-kept : (block : ℕ) → is_store_to block did ≡ false → value_in (dids ++ did ∷ []) block ≡ value_in dids block
+  value-kept block e = ap (λ (l : List Did). last_or 0 (map (λ d. d.value) l)) (filter-one (is_store_to block) false e ∙ append-nil (filter (is_store_to block) dids))
+
+  value-stored : (block : ℕ) → is_store_to block did ≡ true → value_in (dids ++ did ∷ []) block ≡ did.value
+  value-stored block e =
+      let old = filter (is_store_to block) dids in
+      ap (λ (l : List Did). last_or 0 (map (λ d. d.value) l)) (filter-one (is_store_to block) true e)
+      ∙ ap (λ (l : List ℕ). last_or 0 l) (map-append (λ d. d.value) old (did ∷ []))
+      ∙ last_or-append 0 (map (λ d. d.value) old) (did.value ∷ [])
+
+  values-after : (blocks : ℕ) → did.block < blocks → (load : Bool) → did.load ≡ load →
+      (if load then for_each_below blocks (value_in dids) else slice_set (for_each_below blocks (value_in dids)) did.block did.value) ≡ for_each_below blocks (value_in (dids ++ did ∷ []))
+  values-after blocks within true e = sym (map-same (value_in dids) (value_in (dids ++ did ∷ [])) (range_with_len 0 blocks) (λ block. value-kept block (rw e)))
+  values-after blocks within false e =
+      sym (map-set_0 (value_in dids) (value_in (dids ++ did ∷ [])) blocks did.block did.value within
+      (value-stored did.block (rw (e, eq-eqb did.block did.block refl)))
+      (λ block other. value-kept block (rw (e, ne_eqb did.block block (λ same. other (sym same))))))
+
+  counts-after : (cores : ℕ) → did.core < cores →
+      slice_set (for_each_below cores (count_in dids)) did.core (counted (slice_index (for_each_below cores (count_in dids)) did.core) true) ≡ for_each_below cores (count_in (dids ++ did ∷ []))
+  counts-after cores within =
+      let old : slice_index (for_each_below cores (count_in dids)) did.core ≡ count_in dids did.core = get_or-map-range_with_len (count_in dids) 0 cores did.core did.core 0 within (zero-add did.core) in
+      ap (λ (n : ℕ). slice_set (for_each_below cores (count_in dids)) did.core (counted n true)) old
+      ∙ sym (map-set_0 (count_in dids) (count_in (dids ++ did ∷ [])) cores did.core (counted (count_in dids did.core) true) within count-own
+      (λ core other. ap (λ (l : List Did). capped (length l)) (others-core core other)))
+
+  lasts-after : (cores : ℕ) → did.core < cores → slice_set (for_each_below cores (last_in dids)) did.core (Some did) ≡ for_each_below cores (last_in (dids ++ did ∷ []))
+  lasts-after cores within =
+      sym (map-set_0 (last_in dids) (last_in (dids ++ did ∷ [])) cores did.core (Some did) within last-own
+      (λ core other. ap (λ (l : List Did). last_or None (map Some l)) (others-core core other)))
+
+-- a board after an operation that counts for it, and other totals
+abbrev pub with_totals : Tables → Option Did → Totals → Tables
+with_totals board op totals = record (noted board op) { totals = totals }
+
+noted-board : (cores blocks : ℕ) (dids : List Did) (old new : Totals) (op : Option Did) → ((did : Did) → op ≡ Some did → (did.core < cores) × (did.block < blocks)) →
+    with_totals (board_with cores blocks dids old) op new ≡ board_with cores blocks (dids ++ option_to_list op) new
+noted-board cores blocks dids old new None within = ap (λ (l : List Did). board_with cores blocks l new) (sym (append-nil dids))
+noted-board cores blocks dids old new (Some did) within =
+    let lies = within did refl in
+    same_tables (with_totals (board_with cores blocks dids old) (Some did) new) (board_with cores blocks (dids ++ did ∷ []) new)
+    (values-after dids did blocks lies.1 did.load refl) (counts-after dids did cores lies.0) (lasts-after dids did cores lies.0) refl
+
+pub both : (a b : Bool) → (a && b) ≡ true → (a ≡ true) × (b ≡ true)
+both true b e = (refl, e)
+both false b e = cc
+
+lies-within : (cores blocks : ℕ) (did : Did) → (nat_lt did.core cores && nat_lt did.block blocks) ≡ true → (did.core < cores) × (did.block < blocks)
+lies-within cores blocks did e = let p = both (nat_lt did.core cores) (nat_lt did.block blocks) e in (ltb-true did.core cores p.0, ltb-true did.block blocks p.1)
+
+operation-lies : (cores blocks : ℕ) (op : Option Did) (rest here : Bool) → (here ≡ (rest && option_map_or (λ d. nat_lt d.core cores && nat_lt d.block blocks) op true)) → (did : Did) → (if here then op else None) ≡ Some did
+    → (did.core < cores) × (did.block < blocks)
+operation-lies cores blocks op rest false e did is = cc
+operation-lies cores blocks None rest true e did is = cc
+operation-lies cores blocks (Some d) rest true e did is =
+    let p : d ≡ did = cc in
+    let P : Did → Type 0 = λ x. (x.core < cores) × (x.block < blocks) in
+    subst P p (lies-within cores blocks d (both rest (nat_lt d.core cores && nat_lt d.block blocks) (sym e)).1)
+
+pub operation_within-lies : (cores blocks : ℕ) (entry : Item) (did : Did) → operation_within cores blocks entry ≡ Some did → (did.core < cores) × (did.block < blocks)
+operation_within-lies cores blocks entry did is =
+    operation-lies cores blocks (operation_of entry) (nat_lt (core_of entry) cores && nat_lt (block_of entry) blocks) (is_within cores blocks entry) refl did is
+
+-- absorbing one item gives the board of the list with it
+pub absorbed_board : (cores blocks : ℕ) (items : List Item) (entry : Item) → absorbed (board_of cores blocks items) entry ≡ board_of cores blocks (items ++ entry ∷ [])
+absorbed_board cores blocks items entry =
+    let board = board_of cores blocks items in
+    let dids = operations (inside cores blocks items) in
+    let old = capped_totals (totals_of items) in
+    let new = capped_totals (totals_of (items ++ entry ∷ [])) in
+    ap (λ (n : ℕ). with_totals board (operation_within n (length board.values) entry) (tallied old entry)) (length-map-range_with_len (count_in dids) 0 cores)
+    ∙ (ap (λ (n : ℕ). with_totals board (operation_within cores n entry) (tallied old entry)) (length-map-range_with_len (value_in dids) 0 blocks)
+    ∙ (ap (λ (t : Totals). with_totals board (operation_within cores blocks entry) t) (capped_totals-push items entry)
+    ∙ (noted-board cores blocks dids old new (operation_within cores blocks entry) (operation_within-lies cores blocks entry)
+    ∙ ap (λ (l : List Did). board_with cores blocks l new) (sym (operations-inside-push cores blocks items entry)))))
+
+pub flat-if : (here : Bool) (o : Option Did) → option_and_then (λ (p : Option Did). p) (if here then Some o else None) ≡ (if here then o else None)
+flat-if true o = refl
+flat-if false o = refl
+
+-- a table of one value
+pub table-of : {A : Type 0} (f : ℕ → A) (x : A) (a n : ℕ) → ((j : ℕ) → f j ≡ x) → replicate n x ≡ map f (range_with_len a n)
+table-of f x a zero same = refl
+table-of f x a (suc n) same = rw (same a, table-of f x (a + 1) n same)
+
+-- what the clauses of a board's calls say of the board of a list
+pub board_after : (view old new : Tables) (entry : Item) → view ≡ old → new ≡ absorbed view entry → (cores blocks : ℕ) (items : List Item) → old ≡ board_of cores blocks items → new ≡ board_of cores blocks (items ++ entry ∷ [])
+board_after view old new entry is_view after cores blocks items is = after ∙ (ap (λ (t : Tables). absorbed t entry) (is_view ∙ is) ∙ absorbed_board cores blocks items entry)
+
+pub board_value : (view board : Tables) (answer : Option ℕ) (block : ℕ) → view ≡ board → answer ≡ slice_get view.values block → (cores blocks : ℕ) (items : List Item) → board ≡ board_of cores blocks items →
+    answer ≡ (if nat_lt block blocks then Some (flat (inside cores blocks items) block) else None)
+board_value view board answer block is_view read cores blocks items is =
+    read ∙ (ap (λ (t : Tables). slice_get t.values block) (is_view ∙ is) ∙ entry-below_0 (flat (inside cores blocks items)) blocks block)
+
+pub board_count : (view board : Tables) (answer : Option ℕ) (core : ℕ) → view ≡ board → answer ≡ slice_get view.counts core → (cores blocks : ℕ) (items : List Item) → board ≡ board_of cores blocks items →
+    answer ≡ (if nat_lt core cores then Some (capped (next_number (inside cores blocks items) core)) else None)
+board_count view board answer core is_view read cores blocks items is =
+    read ∙ (ap (λ (t : Tables). slice_get t.counts core) (is_view ∙ is) ∙ entry-below_0 (λ k. capped (next_number (inside cores blocks items) k)) cores core)
+
+pub board_last : (view board : Tables) (answer : Option Did) (core : ℕ) → view ≡ board → answer ≡ option_and_then (λ (o : Option Did). o) (slice_get view.lasts core) → (cores blocks : ℕ) (items : List Item) → board ≡ board_of cores blocks items →
+    answer ≡ (if nat_lt core cores then last_of (inside cores blocks items) core else None)
+board_last view board answer core is_view read cores blocks items is =
+    read
+    ∙ (ap (λ (t : Tables). option_and_then (λ (o : Option Did). o) (slice_get t.lasts core)) (is_view ∙ is)
+    ∙ (ap (λ (o : Option (Option Did)). option_and_then (λ (p : Option Did). p) o) (entry-below_0 (last_of (inside cores blocks items)) cores core)
+    ∙ flat-if (nat_lt core cores) (last_of (inside cores blocks items) core)))
+
+-- a board after an operation that counts for it, table by table
+pub absorbed_as : (view new : Tables) (entry : Item) (did : Did) → operation_within (length view.counts) (length view.values) entry ≡ Some did →
+    new.values ≡ (if did.load then view.values else slice_set view.values did.block did.value) →
+    new.counts ≡ slice_set view.counts did.core (counted (slice_index view.counts did.core) true) →
+    new.lasts ≡ slice_set view.lasts did.core (Some did) →
+    new.totals ≡ tallied view.totals entry → new ≡ absorbed view entry
+absorbed_as view new entry did is v c l t =
+    same_tables new (with_totals view (Some did) (tallied view.totals entry)) v c l t
+    ∙ ap (λ (op : Option Did). with_totals view op (tallied view.totals entry)) (sym is)
+
+-- absorbing a list gives the board of the list behind what was there
+absorbs-behind : (cores blocks : ℕ) (before items : List Item) (board : Tables) → Absorbs (board_of cores blocks before) items board → board ≡ board_of cores blocks (before ++ items)
+absorbs-behind cores blocks before [] board is = is ∙ ap (board_of cores blocks) (sym (append-nil before))
+absorbs-behind cores blocks before (x ∷ xs) board is =
+    let P : Tables → Type 0 = λ t. Absorbs t xs board in
+    absorbs-behind cores blocks (before ++ x ∷ []) xs board (subst P (absorbed_board cores blocks before x) is) ∙ ap (board_of cores blocks) (append_assoc before (x ∷ []) xs)
+
+pub absorbs_list : (cores blocks : ℕ) (items : List Item) (board : Tables) → Absorbs (board_of cores blocks []) items board → board ≡ board_of cores blocks items
+absorbs_list cores blocks items board is = absorbs-behind cores blocks [] items board is
+
+pub absorbs_equal : (cores blocks : ℕ) (items : List Item) (one two : Tables) → Absorbs (board_of cores blocks []) items one → Absorbs (board_of cores blocks []) items two → one ≡ two
+absorbs_equal cores blocks items one two a b = absorbs_list cores blocks items one a ∙ sym (absorbs_list cores blocks items two b)
+
+-- an item within a shape passes the test
+pub within-passes : (cores blocks : ℕ) (entry : Item) → IsWithin cores blocks entry → is_within cores blocks entry ≡ true
+within-passes cores blocks entry lies =
+    rw (lt-ltb (core_of entry) cores lies.core, lt-ltb (block_of entry) blocks lies.block) (operation (operation_of entry) lies.operation)
+  where
+    operation : (op : Option Did) → ForSome op (λ did. (did.core < cores) × (did.block < blocks)) → option_map_or (λ did. nat_lt did.core cores && nat_lt did.block blocks) op true ≡ true
+    operation None h = refl
+    operation (Some did) h = let p = h did refl in rw (lt-ltb did.core cores p.0, lt-ltb did.block blocks p.1)
+
+pub inside_all : (cores blocks : ℕ) (items : List Item) → All (IsWithin cores blocks) items → inside cores blocks items ≡ items
+inside_all cores blocks [] all = refl
+inside_all cores blocks (x ∷ xs) all =
+    rw (within-passes cores blocks x (All-head (IsWithin cores blocks) x xs all)) (ap (λ (l : List Item). x ∷ l) (inside_all cores blocks xs (All-tail (IsWithin cores blocks) x xs all)))

@@ -1,0 +1,78 @@
+-- What a legal list and flat memory are after one more item.
+use Rattle.std.proofs.Common.{◌≡◌, ℕ, zero, suc, List, [], ◌∷◌, ◌++◌, take, Option, Some, None, ◌⊎◌, inl, inr, refl, ap, subst, true, false, cond, map}
+use Rattle.std.specs.Prelude.{slice_get, filter, if◌then◌else◌}
+use Rattle.std.specs.List.{cons_option}
+use Rattle.std.specs.Option.{option_map_or}
+use Rattle.std.proofs.lemmas.List.{map-append}
+use Rattle.std.proofs.lemmas.List.Elements.{filter-append, filter_map-append}
+use Rattle.snoop_history.specs.declared.items.Item.{Item}
+use Rattle.snoop_history.specs.declared.items.Did.{Did}
+use Rattle.snoop_history.proofs.Pushed.{last_or-append}
+use Rattle.snoop_history.specs.History.{Legal, Follows, flat, stores, stored_values, operations, operation_of, is_store_to, last_or, IsNumbered}
+use Rattle.snoop_history.specs.Within.{IsWithin}
+use Rattle.snoop_history.specs.Tallied.{IsKeptList}
+
+-- an element of a list with one more at its end: an earlier one, or the new one
+slice_get-snoc : {A : Type 0} (items : List A) (entry : A) (k : ℕ) (x : A) → slice_get (items ++ entry ∷ []) k ≡ Some x →
+    ((slice_get items k ≡ Some x) × (take k (items ++ entry ∷ []) ≡ take k items)) ⊎ ((x ≡ entry) × (take k (items ++ entry ∷ []) ≡ items))
+slice_get-snoc [] entry zero x at = inr (cc, refl)
+slice_get-snoc [] entry (suc k) x at = cc
+slice_get-snoc (y ∷ ys) entry zero x at = inl (at, refl)
+slice_get-snoc (y ∷ ys) entry (suc k) x at =
+    elim (slice_get-snoc ys entry k x at) [ inl p ↦ inl (p.0, ap (λ l. y ∷ l) p.1) | inr p ↦ inr (p.0, ap (λ l. y ∷ l) p.1) ]
+
+-- what holds of each item and those before it, of one item more and of fewer
+module _ (P : List Item → Item → Type 0) where
+  pub each-grows : (items : List Item) (entry : Item) → ((k : ℕ) (x : Item) → slice_get items k ≡ Some x → P (take k items) x) → P items entry
+      → (k : ℕ) (x : Item) → slice_get (items ++ entry ∷ []) k ≡ Some x → P (take k (items ++ entry ∷ [])) x
+  each-grows items entry each last k x at =
+      elim (slice_get-snoc items entry k x at) [
+        | inl p ↦ rw p.1 (each k x p.0)
+        | inr p ↦ rw (p.1, p.0) last
+      ]
+
+-- a log's list with one item more
+pub listed-push : (cores blocks : ℕ) (items : List Item) (entry : Item) → IsKeptList cores blocks items → IsWithin cores blocks entry → IsNumbered items entry → IsKeptList cores blocks (items ++ entry ∷ [])
+listed-push cores blocks items entry kept within numbered =
+    record {
+      within = each-grows (λ past x. IsWithin cores blocks x) items entry kept.within within;
+      in_order = each-grows IsNumbered items entry kept.in_order numbered;
+    }
+
+-- the same under other names of the sizes
+pub listed-same : (cores blocks cores' blocks' : ℕ) (items : List Item) → cores ≡ cores' → blocks ≡ blocks' → IsKeptList cores blocks items → IsKeptList cores' blocks' items
+listed-same cores blocks cores' blocks' items c b kept =
+    let P : ℕ → Type 0 = λ n. IsKeptList n blocks items in
+    let Q : ℕ → Type 0 = λ n. IsKeptList cores' n items in
+    subst Q b (subst P c kept)
+
+pub legal-grows : (items : List Item) (entry : Item) → Legal items → Follows items entry → Legal (items ++ entry ∷ [])
+legal-grows items entry legal follows = each-grows Follows items entry legal follows
+
+slice_get-front : {A : Type 0} (items rest : List A) (k : ℕ) (x : A) → slice_get items k ≡ Some x →
+    (slice_get (items ++ rest) k ≡ Some x) × (take k (items ++ rest) ≡ take k items)
+slice_get-front [] rest k x at = cc
+slice_get-front (y ∷ ys) rest zero x at = (at, refl)
+slice_get-front (y ∷ ys) rest (suc k) x at =
+    let p = slice_get-front ys rest k x at in (p.0, ap (λ l. y ∷ l) p.1)
+
+pub legal-begins : (items rest : List Item) → Legal (items ++ rest) → Legal items
+legal-begins items rest legal k x at =
+    let p = slice_get-front items rest k x at in rw (← p.1) (legal k x p.0)
+
+-- the last value stored by one item, after another
+flat-one : (before : ℕ) (block : ℕ) (did : Option Did) →
+    last_or before (map (λ d. d.value) (filter (is_store_to block) (cons_option did []))) ≡ option_map_or (λ d. if is_store_to block d then d.value else before) did before
+flat-one before block None = refl
+flat-one before block (Some d) =
+    elim (is_store_to block d) as (λ b. last_or before (map (λ d. d.value) (cond b (d ∷ []) [])) ≡ (if b then d.value else before)) [ true ↦ refl | false ↦ refl ]
+
+pub flat-grows : (items : List Item) (entry : Item) (block : ℕ) → flat (items ++ entry ∷ []) block ≡ stores entry block (flat items block)
+flat-grows items entry block =
+    rw (
+      filter_map-append operation_of items (entry ∷ []),
+      filter-append (is_store_to block) (operations items) (cons_option (operation_of entry) []),
+      map-append (λ d. d.value) (filter (is_store_to block) (operations items)) (filter (is_store_to block) (cons_option (operation_of entry) [])),
+      last_or-append 0 (stored_values items block) (map (λ d. d.value) (filter (is_store_to block) (cons_option (operation_of entry) []))),
+    )
+    (flat-one (flat items block) block (operation_of entry))

@@ -1,0 +1,4 @@
+pub mod Pushed
+pub mod Legal
+pub mod Boards
+pub mod Touching

@@ -1,0 +1,108 @@
+-- The blocks that a list mentions, with one item more.
+use Rattle.std.proofs.Common.{◌≡◌, ℕ, Bool, true, false, not, ◌&&◌, List, [], ◌∷◌, ◌++◌, refl, sym, ◌∙◌, ap, map, filter, cond, take, length, ◌<◌, ◌+◌, get_or, arith, eqb, inl, inr, append-nil, append_assoc}
+use Rattle.std.specs.Prelude.{Option, Some, None, slice_get, suc, nat_lt, ◌==◌, nat_eq, All, if◌then◌else◌}
+use Rattle.std.specs.List.{list_any, flat_map}
+use Rattle.std.proofs.lemmas.Grind.{flat_map-append}
+use Rattle.snoop_history.specs.History.{flat}
+use Rattle.snoop_history.specs.Report.{block_text, blocks_text, totals_text, report_of}
+use Rattle.std.proofs.lemmas.Bool.{cases_eq, eq-eqb, ne_eqb, eqb-true, lt-ltb}
+use Rattle.std.proofs.lemmas.List.{map-append, take_more}
+use Rattle.std.proofs.lemmas.List.Elements.{filter-append, All-filter, All-nil, All-cons, All-head, All-tail, All-map, All-weaker}
+use Rattle.std.proofs.lemmas.Map.Views.{any-filter_same}
+use Rattle.indexmap.specs.IndexSet.{insert_key}
+use Rattle.snoop_history.specs.declared.items.Item.{Item}
+use Rattle.snoop_history.specs.declared.items.Item.TheVariants as item
+use Rattle.snoop_history.specs.Within.{block_of, IsWithin}
+use Rattle.snoop_history.specs.Totals.{each_once, touched, totals_of}
+use Rattle.snoop_history.specs.declared.items.Totals.{Totals}
+
+-- the numbers other than y
+abbrev pub but : ℕ → List ℕ → List ℕ
+but y xs = filter (λ z. not (z == y)) xs
+
+-- another number is found among them as before
+any-but : (x y : ℕ) (xs : List ℕ) → eqb x y ≡ false → list_any (nat_eq x) (but y xs) ≡ list_any (nat_eq x) xs
+any-but x y xs other = any-filter_same (nat_eq x) (λ z. not (z == y)) true (λ z same. let e : x ≡ z = eqb-true x z same in rw (← e, other)) xs
+
+-- a list with x behind it where it is new, without another number
+but-insert : (x y : ℕ) (xs : List ℕ) → eqb x y ≡ false → (b : Bool) → list_any (nat_eq x) xs ≡ b → but y (insert_key nat_eq xs x) ≡ insert_key nat_eq (but y xs) x
+but-insert x y xs other true e = rw (any-but x y xs other, e)
+but-insert x y xs other false e = rw (any-but x y xs other, e) (filter-append (λ z. not (z == y)) xs (x ∷ []) ∙ rw other)
+
+-- and without x itself
+but-insert_same : (x y : ℕ) (xs : List ℕ) → eqb x y ≡ true → (b : Bool) → list_any (nat_eq x) xs ≡ b → but y (insert_key nat_eq xs x) ≡ but y xs
+but-insert_same x y xs same true e = rw e
+but-insert_same x y xs same false e = rw e (filter-append (λ z. not (z == y)) xs (x ∷ []) ∙ rw same (append-nil (but y xs)))
+
+insert-cons : (x y : ℕ) (xs : List ℕ) → eqb x y ≡ false → (b : Bool) → list_any (nat_eq x) xs ≡ b → y ∷ insert_key nat_eq xs x ≡ insert_key nat_eq (y ∷ xs) x
+insert-cons x y xs other true e = rw (other, e)
+insert-cons x y xs other false e = rw (other, e)
+
+insert-first : (x y : ℕ) (xs : List ℕ) → eqb x y ≡ true → insert_key nat_eq (y ∷ xs) x ≡ y ∷ xs
+insert-first x y xs same = rw same
+
+-- one number more stands last, where it is new
+pub each_once-more : (xs : List ℕ) (x : ℕ) → each_once (xs ++ x ∷ []) ≡ insert_key nat_eq (each_once xs) x
+each_once-more [] x = refl
+each_once-more (y ∷ ys) x =
+    let more : y ∷ but y (each_once (ys ++ x ∷ [])) ≡ y ∷ but y (insert_key nat_eq (each_once ys) x) = ap (λ l. y ∷ but y l) (each_once-more ys x) in
+    elim (cases_eq x y) [
+      | inl e ↦
+          let same = eq-eqb x y e in
+          more ∙ (ap (λ l. y ∷ l) (but-insert_same x y (each_once ys) same (list_any (nat_eq x) (each_once ys)) refl) ∙ sym (insert-first x y (but y (each_once ys)) same))
+      | inr ne ↦
+          let other = ne_eqb x y ne in
+          more ∙ (ap (λ l. y ∷ l) (but-insert x y (each_once ys) other (list_any (nat_eq x) (each_once ys)) refl)
+          ∙ insert-cons x y (but y (each_once ys)) other (list_any (nat_eq x) (but y (each_once ys))) refl)
+    ]
+
+pub touched-more : (items : List Item) (entry : Item) → touched (items ++ entry ∷ []) ≡ insert_key nat_eq (touched items) (block_of entry)
+touched-more items entry = ap each_once (map-append block_of items (entry ∷ [])) ∙ each_once-more (map block_of items) (block_of entry)
+
+each_once-all : (P : ℕ → Type 0) (xs : List ℕ) → All P xs → All P (each_once xs)
+each_once-all P [] all = All-nil P
+each_once-all P (x ∷ xs) all = All-cons P x (but x (each_once xs)) (All-head P x xs all) (All-filter (λ z. not (z == x)) P (each_once xs) (each_once-all P xs (All-tail P x xs all)))
+
+-- the touched blocks of a list within a shape are within it
+pub touched_within : (cores blocks : ℕ) (items : List Item) → All (IsWithin cores blocks) items → All (λ block. block < blocks) (touched items)
+touched_within cores blocks items all =
+    each_once-all (λ block. block < blocks) (map block_of items) (All-map (λ block. block < blocks) block_of items (All-weaker (IsWithin cores blocks) (λ entry. block_of entry < blocks) (λ entry within. within.block) items all))
+
+-- a step of the loop over the items
+pub touched_step : (items : List Item) (i : ℕ) (keys keys' : List ℕ) (block : ℕ) (within : i < length items) → keys ≡ touched (take i items) →
+    block ≡ block_of (get_or items i (item.Did (record { core = 0; number = 0; block = 0; load = false; value = 0; hit = false }))) → keys' ≡ insert_key nat_eq keys block → keys' ≡ touched (take (i + 1) items)
+touched_step items i keys keys' block within so_far is inserted =
+    let entry = get_or items i (item.Did (record { core = 0; number = 0; block = 0; load = false; value = 0; hit = false })) in
+    inserted ∙ (ap (λ (l : List ℕ). insert_key nat_eq l block) so_far ∙ (ap (λ (b : ℕ). insert_key nat_eq (touched (take i items)) b) is
+    ∙ (sym (touched-more (take i items) entry) ∙ ap touched (sym (take_more items i _ within)))))
+
+-- a step of the loop over the blocks
+pub blocks_step : (items : List Item) (blocks : List ℕ) (i : ℕ) (old before after : List ℕ) (value : ℕ) → i < length blocks → before ≡ old ++ blocks_text items (take i blocks) →
+    value ≡ flat items (get_or blocks i 0) → after ≡ before ++ block_text (get_or blocks i 0) value → after ≡ old ++ blocks_text items (take (i + 1) blocks)
+blocks_step items blocks i old before after value within so_far is put =
+    let block = get_or blocks i 0 in
+    let line : ℕ → List ℕ = λ b. block_text b (flat items b) in
+    let more : flat_map line (take (i + 1) blocks) ≡ flat_map line (take i blocks) ++ (line block ++ []) = ap (flat_map line) (take_more blocks i 0 within) ∙ flat_map-append line (take i blocks) (block ∷ []) in
+    put ∙ (ap (λ (l : List ℕ). l ++ block_text block value) so_far ∙ (ap (λ (v : ℕ). (old ++ flat_map line (take i blocks)) ++ block_text block v) is
+    ∙ (append_assoc old (flat_map line (take i blocks)) (line block) ∙ ap (λ (l : List ℕ). old ++ l) (ap (λ (l : List ℕ). flat_map line (take i blocks) ++ l) (sym (append-nil (line block))) ∙ sym more))))
+
+-- what holds of the element at each place holds of all
+pub all_places : (P : Item → Type 0) (items : List Item) → ((k : ℕ) (entry : Item) → slice_get items k ≡ Some entry → P entry) → All P items
+all_places P [] each = All-nil P
+all_places P (x ∷ xs) each = All-cons P x xs (each 0 x refl) (all_places P xs (λ k entry at. each (suc k) entry at))
+
+-- a flat value that was found
+pub flat_found : (cores blocks : ℕ) (items : List Item) (block value : ℕ) (answer : Option ℕ) → block < blocks → answer ≡ (if nat_lt block blocks then Some (flat items block) else None) → answer ≡ Some value → value ≡ flat items block
+flat_found cores blocks items block value answer within told found =
+    let inside : nat_lt block blocks ≡ true = lt-ltb block blocks within in
+    let some : answer ≡ Some (flat items block) = rw inside at told in
+    cc
+
+-- the totals and then the blocks are the report
+pub report_joined : (items : List Item) (blocks old mid new : List ℕ) (totals : Totals) → totals ≡ totals_of items → blocks ≡ touched items → mid ≡ old ++ totals_text totals →
+    new ≡ mid ++ blocks_text items blocks → new ≡ old ++ report_of items
+report_joined items blocks old mid new totals counts mentioned put_totals put_blocks =
+    put_blocks
+    ∙ (ap (λ (l : List ℕ). l ++ blocks_text items blocks) (put_totals ∙ ap (λ (t : Totals). old ++ totals_text t) counts)
+    ∙ (append_assoc old (totals_text (totals_of items)) (blocks_text items blocks)
+    ∙ ap (λ (l : List ℕ). old ++ (totals_text (totals_of items) ++ blocks_text items l)) mentioned))

@@ -1,0 +1,8 @@
+pub mod History
+pub mod Within
+pub mod Totals
+pub mod Journal
+pub mod Tallied
+pub mod Board
+pub mod Report
+pub mod Joins

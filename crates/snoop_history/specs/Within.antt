@@ -1,0 +1,35 @@
+-- Which core and block an item is of, and which items lie within a shape. Source: this project's profile.
+use Rattle.std.specs.Prelude.{◌≡◌, ℕ, ◌<◌, Bool, true, ◌&&◌, List, filter, Option, nat_lt}
+use Rattle.std.specs.Option.{option_map_or, ForSome}
+use Rattle.snoop_history.specs.declared.items.Did.{Did}
+use Rattle.snoop_history.specs.declared.items.Item.{Item}
+use Rattle.snoop_history.specs.declared.items.Item.TheVariants as item
+use Rattle.snoop_history.specs.History.{operation_of}
+
+-- the core that an item is of: it performed, requested or was answered
+abbrev pub core_of : Item → ℕ
+core_of (item.Did did) = did.core
+core_of (item.Sent sent) = sent.core
+core_of (item.Came came did) = came.core
+
+-- the block that an item mentions
+abbrev pub block_of : Item → ℕ
+block_of (item.Did did) = did.block
+block_of (item.Sent sent) = sent.block
+block_of (item.Came came did) = came.block
+
+-- the item's core and block are within the shape, and so are those of its operation
+pub record IsWithin (cores blocks : ℕ) (entry : Item) : Type 0 where
+  pub core : core_of entry < cores
+  pub block : block_of entry < blocks
+  pub operation : ForSome (operation_of entry) (λ did. (did.core < cores) × (did.block < blocks))
+
+-- the same as a test
+abbrev pub is_within : ℕ → ℕ → Item → Bool
+is_within cores blocks entry =
+    nat_lt (core_of entry) cores && nat_lt (block_of entry) blocks
+    && option_map_or (λ did. nat_lt did.core cores && nat_lt did.block blocks) (operation_of entry) true
+
+-- the items of a list that lie within the shape
+abbrev pub inside : ℕ → ℕ → List Item → List Item
+inside cores blocks items = filter (is_within cores blocks) items

@@ -1,0 +1,102 @@
+//! What a watcher reads of a history.
+ghost use Rattle.std.specs.Prelude.{◌≡◌, ℕ, List, [], ◌∷◌, ◌++◌, length, Some, None, slice_get, option_and_then, if◌then◌else◌, nat_lt, IfOk};
+ghost use Rattle.snoop_history.specs.declared.items.Item.{Item};
+ghost use Rattle.snoop_history.specs.History.{next_number, flat, last_of};
+ghost use Rattle.snoop_history.specs.Within.{inside};
+ghost use Rattle.snoop_history.specs.Totals.{totals_of, capped, capped_totals};
+ghost use Rattle.snoop_history.specs.Board.{Tables, board_of, absorbed};
+
+use crate::items::{Did, Item, Totals};
+use snoop_trace::{NoMemory, Shape};
+use std::alloc::Global;
+use std::marker::Model;
+
+/// The board of a list of items: values by block, counts and last operations by core, and totals,
+/// in tables of a fixed size. Counts stop at the largest `u64`.
+///
+/// An item whose core or block, or those of its operation, lie outside the shape is counted by the
+/// totals and changes nothing else.
+#[derive(Debug, Drop)]
+pub struct Board {
+    values: Vec<u64>,
+    counts: Vec<u64>,
+    lasts: Vec<Option<Did>>,
+    totals: Totals,
+}
+
+impl Model for Board {
+    ghost use Rattle.std.specs.Prelude.{◌≡◌, length};
+    ghost use Rattle.snoop_history.specs.Board.{Tables};
+
+    ghost Value = { Tables };
+
+    ghost view = { λ b. record { values = b.values.items; counts = b.counts.items; lasts = b.lasts.items; totals = b.totals } };
+
+    ghost invariant = { λ b. length b.lasts.items ≡ length b.counts.items };
+}
+
+impl Board {
+    /// The board of no items, for this shape. `NoMemory` where a table was refused.
+    pub fn new(alloc: Global, shape: Shape) -> Result<Board, NoMemory>
+        ensures { IfOk result (λ board. board ≡ board_of shape.cores shape.blocks []) }
+    {
+        let cores = shape.cores() as usize;
+        Ok(Board {
+            values: vec![in alloc; 0; shape.blocks() as usize]?,
+            counts: vec![in alloc; 0; cores]?,
+            lasts: vec![in alloc; None; cores]?,
+            totals: Totals::default(),
+        })
+    }
+
+    /// Takes in one more item, of any kind. It takes no memory and cannot fail.
+    pub fn absorb(&mut self, item: Item)
+        ensures after { self.new ≡ absorbed self.old item }
+
+        // The board of a list becomes the board of the list with the item behind it.
+        ensures board { (cores blocks : ℕ) (items : List Item) → self.old ≡ board_of cores blocks items → self.new ≡ board_of cores blocks (items ++ item ∷ []) }
+    {
+        let did = item.operation_within(self.counts.len(), self.values.len());
+        self.totals = self.totals.with(item);
+        if let Some(did) = did {
+            let core = did.core as usize;
+            self.counts[core] = self.counts[core].saturating_add(1);
+            self.lasts[core] = Some(did);
+            if !did.load {
+                self.values[did.block as usize] = did.value;
+            }
+        }
+    }
+
+    /// The last value stored in the block, 0 if there is none; `None` outside the shape.
+    pub fn value(&self, block: u32) -> Option<u64>
+        ensures value { result ≡ slice_get self.now.values block }
+        ensures board { (cores blocks : ℕ) (items : List Item) → self.now ≡ board_of cores blocks items → result ≡ (if nat_lt block blocks then Some (flat (inside cores blocks items) block) else None) }
+    {
+        self.values.get(block as usize).copied()
+    }
+
+    /// How many operations of the core there are, up to the largest `u64`; `None` outside the shape.
+    pub fn count(&self, core: u32) -> Option<u64>
+        ensures value { result ≡ slice_get self.now.counts core }
+        ensures board { (cores blocks : ℕ) (items : List Item) → self.now ≡ board_of cores blocks items → result ≡ (if nat_lt core cores then Some (capped (next_number (inside cores blocks items) core)) else None) }
+    {
+        self.counts.get(core as usize).copied()
+    }
+
+    /// The core's last operation; `None` where it has none, and outside the shape.
+    pub fn last(&self, core: u32) -> Option<Did>
+        ensures value { result ≡ option_and_then (λ last. last) (slice_get self.now.lasts core) }
+        ensures board { (cores blocks : ℕ) (items : List Item) → self.now ≡ board_of cores blocks items → result ≡ (if nat_lt core cores then last_of (inside cores blocks items) core else None) }
+    {
+        self.lasts.get(core as usize).copied().flatten()
+    }
+
+    /// The counts of all items, each up to the largest `u64`.
+    pub fn totals(&self) -> Totals
+        ensures value { result ≡ self.now.totals }
+        ensures board { (cores blocks : ℕ) (items : List Item) → self.now ≡ board_of cores blocks items → result ≡ capped_totals (totals_of items) }
+    {
+        self.totals
+    }
+}

@@ -1,0 +1,18 @@
+//! The history of a machine: its items, and what is read off them.
+#![tactic(auto)]
+
+mod board;
+mod item;
+mod items;
+pub mod laws;
+mod log;
+mod report;
+mod totals;
+
+pub use board::Board;
+pub use items::{Came, Did, Item, Sent, Totals};
+pub use log::Log;
+pub use report::write_report;
+
+#[cfg(test)]
+mod tests;

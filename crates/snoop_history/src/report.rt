@@ -1,0 +1,136 @@
+//! The report of a history.
+ghost use Rattle.std.specs.Prelude.{All, ◌≡◌, ◌≢◌, ◌<◌, ◌++◌, true, OnOk, OnErr, IfOk, Err};
+ghost use Rattle.std.specs.Io.KnownBytes.{Appends};
+ghost use Rattle.snoop_trace.specs.Output.{AppendsFront};
+ghost use Rattle.snoop_history.specs.Totals.{touched};
+ghost use Rattle.snoop_history.specs.Report.{loads_text, stores_text, requests_text, sources_text, writebacks_text, totals_text, block_text, blocks_text, report_of};
+
+use crate::items::{Item, Totals};
+use crate::log::Log;
+use indexmap::IndexSet;
+use snoop_trace::{Sink, WriteFault, write_whole};
+use std::alloc::{AllocError, Global};
+use std::io;
+use std::io::Write;
+
+// Puts the line of loads at the end.
+fn push_loads(out: &mut Vec<u8>, totals: Totals) -> io::Result<()>
+    ensures { OnOk result (out.new.items ≡ out.old.items ++ loads_text totals) }
+{
+    writeln!(out, "loads {} hits {}", totals.loads, totals.load_hits)
+}
+
+// Puts the line of stores at the end.
+fn push_stores(out: &mut Vec<u8>, totals: Totals) -> io::Result<()>
+    ensures { OnOk result (out.new.items ≡ out.old.items ++ stores_text totals) }
+{
+    writeln!(out, "stores {} hits {}", totals.stores, totals.store_hits)
+}
+
+// Puts the line of ordered requests at the end.
+fn push_requests(out: &mut Vec<u8>, totals: Totals) -> io::Result<()>
+    ensures { OnOk result (out.new.items ≡ out.old.items ++ requests_text totals) }
+{
+    writeln!(
+        out,
+        "GetS {} GetM {} PutM {}",
+        totals.get_s, totals.get_m, totals.put_m
+    )
+}
+
+// Puts the line of where data came from at the end.
+fn push_sources(out: &mut Vec<u8>, totals: Totals) -> io::Result<()>
+    ensures { OnOk result (out.new.items ≡ out.old.items ++ sources_text totals) }
+{
+    writeln!(
+        out,
+        "from memory {} from caches {}",
+        totals.from_memory, totals.from_caches
+    )
+}
+
+// Puts the line of writebacks at the end.
+fn push_writebacks(out: &mut Vec<u8>, totals: Totals) -> io::Result<()>
+    ensures { OnOk result (out.new.items ≡ out.old.items ++ writebacks_text totals) }
+{
+    writeln!(
+        out,
+        "writebacks {} clean {} stale {}",
+        totals.writebacks, totals.clean, totals.stale
+    )
+}
+
+// Puts the five lines of totals at the end.
+fn push_totals(out: &mut Vec<u8>, totals: Totals) -> io::Result<()>
+    ensures { OnOk result (out.new.items ≡ out.old.items ++ totals_text totals) }
+{
+    push_loads(out, totals)?;
+    push_stores(out, totals)?;
+    push_requests(out, totals)?;
+    push_sources(out, totals)?;
+    push_writebacks(out, totals)
+}
+
+// Puts the line of a block at the end.
+fn push_block(out: &mut Vec<u8>, block: u32, value: u64) -> io::Result<()>
+    ensures { OnOk result (out.new.items ≡ out.old.items ++ block_text block value) }
+{
+    writeln!(out, "block {block} value {value}")
+}
+
+// The blocks that an item mentions, in order of first mention.
+fn touched(alloc: Global, items: &[Item]) -> Result<IndexSet<u32>, AllocError>
+    ensures { IfOk result (λ blocks. blocks.keys ≡ touched items.now) }
+{
+    let mut blocks = IndexSet::new(alloc);
+    for item in items {
+        blocks.insert(item.block())?;
+    }
+    Ok(blocks)
+}
+
+// Puts a line for each of the blocks at the end.
+fn push_blocks(out: &mut Vec<u8>, log: &Log, blocks: &[u32]) -> io::Result<()>
+    requires { All (λ block. block < log.now.blocks) blocks.now }
+    ensures { OnOk result (out.new.items ≡ out.old.items ++ blocks_text log.now.items blocks.now) }
+{
+    for block in blocks {
+        push_block(out, *block, log.flat(*block).unwrap())?;
+    }
+    Ok(())
+}
+
+// Puts the report at the end, given the blocks that an item mentions.
+fn push_report(out: &mut Vec<u8>, log: &Log, blocks: &[u32]) -> io::Result<()>
+    requires touched { blocks.now ≡ touched log.now.items }
+    requires within { All (λ block. block < log.now.blocks) blocks.now }
+    ensures { OnOk result (out.new.items ≡ out.old.items ++ report_of log.now.items) }
+{
+    push_totals(out, log.totals())?;
+    push_blocks(out, log, blocks)
+}
+
+/// Writes the report of a history: five lines of totals, then a line for each block that an item
+/// mentions, in order of first mention, with its value in flat memory. All numbers are decimal.
+///
+/// After `Write` the writer holds a beginning of the report, the failed write's own bytes aside;
+/// `NoMemory` comes before anything is written.
+pub fn write_report<W: Sink>(alloc: Global, writer: &mut W, log: &Log) -> Result<(), WriteFault>
+    ensures ok { OnOk result (Appends (W.contents writer.old) (W.contents writer.new) (report_of log.now.items)) }
+    ensures front { OnErr result (AppendsFront (W.contents writer.old) (W.contents writer.new) (report_of log.now.items)) }
+
+    // Want of memory is met before anything is written.
+    ensures memory { result ≡ Err WriteFault.NoMemory → W.contents writer.new ≡ W.contents writer.old }
+
+    // A writer whose contract rules failure out is never blamed.
+    ensures blames { W.never_fails ≡ true → result ≢ Err WriteFault.Write }
+{
+    let Ok(blocks) = touched(alloc, log.items()) else {
+        return Err(WriteFault::NoMemory);
+    };
+    let mut report = Vec::new(alloc);
+    let Ok(()) = push_report(&mut report, log, blocks.as_slice()) else {
+        return Err(WriteFault::NoMemory);
+    };
+    write_whole(writer, &report)
+}

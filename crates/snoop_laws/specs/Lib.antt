@@ -1,0 +1,4 @@
+pub mod Fits
+pub mod Good
+pub mod Coherent
+pub mod InQueue

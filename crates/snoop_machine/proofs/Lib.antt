@@ -1,0 +1,15 @@
+pub mod Rows
+pub mod Facts
+pub mod Taking
+pub mod MemRows
+pub mod Finding
+pub mod Placed
+pub mod Kept
+pub mod Queued
+pub mod Ordered
+pub mod Heads
+pub mod Responding
+pub mod Reset
+pub mod Passing
+pub mod Planned
+pub mod Prepared

@@ -1,0 +1,348 @@
+-- A planned step is refused for no cause, adds the plan's item, and needs the plan's room.
+use Rattle.std.proofs.Common.{◌≡◌, ◌≢◌, ℕ, ◌<◌, Bool, List, Option, Some, None, true, false, refl, sym, ◌∙◌, ap, subst, arith, ◌⊎◌, inl, inr}
+use Rattle.std.proofs.lemmas.Option.{same_Some}
+use Rattle.std.specs.Prelude.{slice_index_or, IsSome, is_some, MatchOption, MatchBool, ⊤}
+use Rattle.snoop_rules.specs.declared.names.CacheEvent.{CacheEvent}
+use Rattle.snoop_rules.specs.declared.names.MemEvent.{MemEvent}
+use Rattle.snoop_trace.specs.declared.step.Op.{Op}
+use Rattle.snoop_trace.specs.declared.step.Op.TheVariants as op
+use Rattle.snoop_trace.specs.declared.step.Step.TheVariants as step
+use Rattle.snoop_trace.specs.declared.step.Step.{Step}
+use Rattle.snoop_rules.specs.declared.names.Protocol.{Protocol}
+use Rattle.snoop_rules.specs.declared.names.Protocol.TheVariants.{Msi, Mesi}
+use Rattle.snoop_rules.specs.declared.names.CacheState.{CacheState}
+use Rattle.snoop_rules.specs.declared.names.CacheState.TheVariants.{I}
+use Rattle.snoop_rules.specs.declared.names.CacheAction.{CacheAction}
+use Rattle.snoop_rules.specs.declared.names.CacheAction.TheVariants as action
+use Rattle.snoop_rules.specs.declared.names.Request.{Request}
+use Rattle.snoop_rules.specs.declared.names.Request.TheVariants.{GetS, GetM, PutM}
+use Rattle.snoop_rules.specs.declared.names.MemState.{MemState}
+use Rattle.snoop_rules.specs.declared.names.Payload.{Payload}
+use Rattle.snoop_rules.specs.Cell.{Cell}
+use Rattle.snoop_rules.specs.Possible.{IsImpossible, IsMemImpossible}
+use Rattle.snoop_rules.specs.Takers.{asked}
+use Rattle.snoop_bus.specs.declared.transactions.Open.{Open}
+use Rattle.snoop_history.specs.declared.items.Did.{Did}
+use Rattle.snoop_history.specs.declared.items.Item.{Item}
+use Rattle.snoop_history.specs.declared.items.Item.TheVariants as item
+use Rattle.snoop_machine.specs.declared.lines.Line.{Line}
+use Rattle.snoop_machine.specs.declared.memory.MemLine.{MemLine}
+use Rattle.snoop_machine.specs.declared.message.Message.{Message}
+use Rattle.snoop_machine.specs.declared.ask.Asked.{Asked}
+use Rattle.snoop_machine.specs.declared.ask.Asked.TheVariants.{Absent, Hit, Issue, Drop}
+use Rattle.snoop_machine.specs.declared.respond.Filled.{Filled}
+use Rattle.snoop_machine.specs.declared.plan.Plan.{Plan}
+use Rattle.snoop_machine.specs.declared.plan.Plan.TheVariants as plan
+use Rattle.snoop_machine.specs.declared.replies.Reply.{Reply}
+use Rattle.snoop_machine.specs.declared.replies.Refused.{Refused}
+use Rattle.snoop_machine.specs.declared.replies.Refused.TheVariants.{NoCore, NoBlock, Stalled, NothingWaiting, BusTaken, NoTransaction, NoMemory, Impossible}
+use Rattle.snoop_machine.specs.Room.{Standing}
+use Rattle.snoop_machine.specs.Picture.{held_at, held_by}
+use Rattle.snoop_machine.specs.Situation.{Situation, picture_of, state_of, no_memory, Waits}
+use Rattle.snoop_machine.specs.Sound.{line_at}
+use Rattle.snoop_machine.specs.Asked.{TakesAsk, RefusesAsk}
+use Rattle.snoop_machine.specs.Arrive.{FillsLine, ArrivesIn, TakesIn}
+use Rattle.snoop_machine.specs.Move.{Performs, Hits, Takes, Fills, ArrivesFor, FirstMove, came_of, next_did}
+use Rattle.snoop_machine.specs.AskMove.{MovesAsk}
+use Rattle.snoop_machine.specs.OrderMove.{IsHead}
+use Rattle.snoop_machine.specs.Meets.{LacksRow, LacksAtOrder, LacksAtRequestor, LacksAtMemory}
+use Rattle.snoop_machine.specs.Refuses.{Refuses}
+use Rattle.snoop_machine.specs.StepMove.{IsDenied, RefusedFor}
+use Rattle.snoop_machine.specs.Prepared.{room_to, IsFull, IsPrepared}
+use Rattle.snoop_machine.specs.Plan.{IsPlan, IsPlanFor, IsOrdered, IsClosing, step_of, room_for, room_for_ask, entry_of, entry_of_ask}
+use Rattle.snoop_machine.proofs.Rows.{Cell-one}
+
+-- an Evict in I has no row
+no_row : (p : Protocol) (s : CacheState) (asking : Op) (a : CacheAction) (n : CacheState) → asking ≡ op.Evict → s ≡ I → Cell p s (asked asking) a n → ⊥
+no_row p s asking a n e i row =
+    let P : CacheState → Type 0 = λ x. Cell p x (asked asking) a n in
+    let Q : Op → Type 0 = λ o. Cell p I (asked o) a n in
+    go p (subst Q e (subst P i row))
+  where
+    go : (x : Protocol) → Cell x I (asked op.Evict) a n → ⊥
+    go Msi h = h
+    go Mesi h = h
+
+-- the action of the row that an Ask takes
+abbrev pub act_of : Asked → CacheAction
+act_of Absent = action.None
+act_of (Hit line value) = action.Hit
+act_of (Issue request line) = action.Issue request
+act_of (Drop line) = action.Drop
+
+-- an Ask finds an Evict in I, or its row, which is no stall
+row_found : (p : Protocol) (line : Line) (asking : Op) (way : Asked) → TakesAsk p line asking way
+    → ((asking ≡ op.Evict) × (line.state ≡ I) × (way ≡ Absent)) ⊎ ((next : CacheState) × (Cell p line.state (asked asking) (act_of way) next × (act_of way ≢ action.Stall)))
+row_found p line asking Absent t = inl (t.0, t.1, refl)
+row_found p line asking (Hit new value) t = inr (t.next, (t.row, λ e. cc))
+row_found p line asking (Issue request new) t = inr (t.0, (t.1.0, λ e. cc))
+row_found p line asking (Drop new) t = inr (t.0, (t.1.0, λ e. cc))
+
+-- an Ask that is refused on its line
+pub IsDenied-ask : (s : Situation) (core block : ℕ) (asking : Op) (cause : Refused) → core < s.shape.cores → block < s.shape.blocks
+    → RefusesAsk s.protocol (line_at s.caches core block) asking cause → IsDenied s (step.Ask core block asking) cause
+IsDenied-ask s core block asking (Stalled state) in_cores in_blocks h = ((in_cores, in_blocks), h.0, h.1)
+IsDenied-ask s core block asking Impossible in_cores in_blocks h = (allowed, h)
+  where
+    allowed : (cause : Refused) → ¬ Refuses s (step.Ask core block asking) cause
+    allowed NoCore g = absurd (omega arith)
+    allowed NoBlock g = let k = g.1 in absurd (omega arith)
+    allowed (Stalled state) g = h.1 action.Stall g.2.0 g.2.1
+    allowed NothingWaiting g = g
+    allowed (BusTaken b) g = g
+    allowed NoTransaction g = g
+    allowed NoMemory g = g
+    allowed Impossible g = g
+IsDenied-ask s core block asking NoCore in_cores in_blocks h = absurd h
+IsDenied-ask s core block asking NoBlock in_cores in_blocks h = absurd h
+IsDenied-ask s core block asking NothingWaiting in_cores in_blocks h = absurd h
+IsDenied-ask s core block asking (BusTaken b) in_cores in_blocks h = absurd h
+IsDenied-ask s core block asking NoTransaction in_cores in_blocks h = absurd h
+IsDenied-ask s core block asking NoMemory in_cores in_blocks h = absurd h
+
+-- an Ask that was found is not refused
+module _ (s : Situation) (core block : ℕ) (asking : Op) (way : Asked) (in_cores : core < s.shape.cores) (in_blocks : block < s.shape.blocks)
+    (takes : TakesAsk s.protocol (line_at s.caches core block) asking way) where
+  ask-allowed : (cause : Refused) → ¬ Refuses s (step.Ask core block asking) cause
+  ask-allowed NoCore g = absurd (omega arith)
+  ask-allowed NoBlock g = let k = g.1 in absurd (omega arith)
+  ask-allowed (Stalled state) g = elim (row_found s.protocol (line_at s.caches core block) asking way takes) [
+    | inl absent ↦ no_row s.protocol (state_of s core block) asking action.Stall g.2.0 absent.0 absent.1 g.2.1
+    | inr row ↦ row.1.1 (Cell-one s.protocol (state_of s core block) (asked asking) (act_of way) action.Stall row.0 g.2.0 row.1.0 g.2.1).0
+  ]
+  ask-allowed NothingWaiting g = g
+  ask-allowed (BusTaken b) g = g
+  ask-allowed NoTransaction g = g
+  ask-allowed NoMemory g = g
+  ask-allowed Impossible g = g
+
+  ask-rows : ¬ LacksRow s (step.Ask core block asking)
+  ask-rows lacks = elim (row_found s.protocol (line_at s.caches core block) asking way takes) [
+    | inl absent ↦ lacks.0 (absent.0, absent.1)
+    | inr row ↦ lacks.1 (act_of way) row.0 row.1.0
+  ]
+
+-- an Order of the oldest request, of a block with no open transaction, is not refused
+pub order-allowed : (s : Situation) (core block : ℕ) (request : Request) → core < s.shape.cores → IsHead s core request block → (picture_of s block).transaction ≡ None
+    → (cause : Refused) → ¬ Refuses s (step.Order core) cause
+order-allowed s core block request in_cores head free NoCore h = absurd (omega arith)
+order-allowed s core block request in_cores head free NoBlock h = h
+order-allowed s core block request in_cores head free (Stalled state) h = h
+order-allowed s core block request in_cores head free NothingWaiting h = h.1 block request head.waits
+order-allowed s core block request in_cores head free (BusTaken b) h =
+    let same : block ≡ b = same_Some _ _ (sym head.first ∙ h.1) in
+    let P : ℕ → Type 0 = λ x. IsSome (picture_of s x).transaction in
+    let Q : Option Open → Type 0 = λ o. is_some o ≡ true in
+    let there : is_some (picture_of s block).transaction ≡ true = subst P (sym same) h.2 in
+    let clash : false ≡ true = subst Q free there in
+    cc
+order-allowed s core block request in_cores head free NoTransaction h = h
+order-allowed s core block request in_cores head free NoMemory h = h
+order-allowed s core block request in_cores head free Impossible h = h
+
+order-rows : (s : Situation) (core block : ℕ) (request : Request) (message : Message) (memory : MemState) → IsOrdered s core request block message memory → ¬ LacksRow s (step.Order core)
+order-rows s core block request message memory o h =
+    let same : h.0 ≡ block = same_Some _ _ (sym h.1.1.0 ∙ o.head.first) in
+    let W : ℕ → Type 0 = λ x. Waits s core x h.1.0 in
+    let its : h.1.0 ≡ request = same_Some _ _ (sym (subst W same h.1.1.1) ∙ o.head.waits) in
+    let P : ℕ → Type 0 = λ x. LacksAtOrder s.protocol (picture_of s x) core h.1.0 in
+    let R : Request → Type 0 = λ q. LacksAtOrder s.protocol (picture_of s block) core q in
+    go (subst R its (subst P same h.1.1.2))
+  where
+    go : LacksAtOrder s.protocol (picture_of s block) core request → ⊥
+    go (inl lacks) = let there = o.sent.rows lacks.0 lacks.1.0 in lacks.1.1 there.0 there.1.0 there.1.1
+    go (inr (inl lacks)) = lacks o.memory_row.0 memory o.memory_row.1
+    go (inr (inr lacks)) = lacks (message.from, (message.payload, o.sent.only))
+
+-- a Respond of an open transaction is not refused
+respond-allowed : (s : Situation) (block : ℕ) (closing : Open) → block < s.shape.blocks → (picture_of s block).transaction ≡ Some closing
+    → (cause : Refused) → ¬ Refuses s (step.Respond block) cause
+respond-allowed s block closing in_blocks opened NoCore h = h
+respond-allowed s block closing in_blocks opened NoBlock h = absurd (omega arith)
+respond-allowed s block closing in_blocks opened (Stalled state) h = h
+respond-allowed s block closing in_blocks opened NothingWaiting h = h
+respond-allowed s block closing in_blocks opened (BusTaken b) h = h
+respond-allowed s block closing in_blocks opened NoTransaction h = let clash : ◌≡◌ {A = Option Open} None (Some closing) = sym h.1 ∙ opened in cc
+respond-allowed s block closing in_blocks opened NoMemory h = h
+respond-allowed s block closing in_blocks opened Impossible h = h
+
+-- memory that took the payload lacks no row for it
+memory-rows : (p : Protocol) (payload : Payload) (sent : ℕ) (old new : MemLine) → ArrivesIn p payload sent old new → ¬ LacksAtMemory p old.state payload
+memory-rows p payload sent old new arrives lacks =
+    let P : Bool → Type 0 = λ b. MatchBool b (TakesIn p payload sent old new) (new ≡ old) in
+    let t : TakesIn p payload sent old new = subst P lacks.0 arrives in
+    let Q : Option MemEvent → Type 0 = λ e. MatchOption e ⊤ (IsMemImpossible p old.state) in
+    let none : IsMemImpossible p old.state t.event = subst Q t.arrives lacks.1 in
+    none t.act new.state t.row
+
+-- nor does a requestor that was filled
+requestor-rows : (q : Request) (p : Protocol) (line : Line) (payload : Payload) (sent : ℕ) (filled : Filled) → FillsLine p line payload sent filled → ¬ LacksAtRequestor q p line.state payload
+requestor-rows PutM p line payload sent filled f lacks = lacks
+requestor-rows GetS p line payload sent filled f lacks =
+    let Q : Option CacheEvent → Type 0 = λ e. MatchOption e ⊤ (IsImpossible p line.state) in
+    let none : IsImpossible p line.state f.event = subst Q f.arrives lacks in
+    none f.act f.next f.row
+requestor-rows GetM p line payload sent filled f lacks =
+    let Q : Option CacheEvent → Type 0 = λ e. MatchOption e ⊤ (IsImpossible p line.state) in
+    let none : IsImpossible p line.state f.event = subst Q f.arrives lacks in
+    none f.act f.next f.row
+
+module _ (s : Situation) (block : ℕ) (closing : Open) (memory : MemLine) (is : IsClosing s block closing memory)
+    (requestor : ¬ LacksAtRequestor closing.request s.protocol (held_by (picture_of s block) closing.core).state closing.payload) where
+  respond-rows : ¬ LacksRow s (step.Respond block)
+  respond-rows lacks =
+      let same : lacks.0 ≡ closing = same_Some _ _ (sym lacks.1.0 ∙ is.opened) in
+      let P : Open → Type 0 = λ o. LacksAtRequestor o.request s.protocol (held_by (picture_of s block) o.core).state o.payload ⊎ LacksAtMemory s.protocol (picture_of s block).memory o.payload in
+      elim (subst P same lacks.1.1) [
+        | inl l ↦ requestor l
+        | inr l ↦ memory-rows s.protocol closing.payload closing.value (slice_index_or s.memory block no_memory) memory is.arrives l
+      ]
+
+put-rows : (q : Request) (p : Protocol) (held : CacheState) (payload : Payload) → q ≡ PutM → ¬ LacksAtRequestor q p held payload
+put-rows q p held payload e lacks =
+    let P : Request → Type 0 = λ x. LacksAtRequestor x p held payload in
+    subst P e lacks
+
+pub plan-allowed : (s : Situation) (x : Plan) → IsPlan s x → (cause : Refused) → ¬ Refuses s (step_of x) cause
+plan-allowed s (plan.Ask core block asking way) h = ask-allowed s core block asking way h.0.0 h.0.1 h.1
+plan-allowed s (plan.Order core request block message memory) h = order-allowed s core block request h.0 h.1.head h.1.free
+plan-allowed s (plan.Writeback block closing memory) h = respond-allowed s block closing h.0 h.1.opened
+plan-allowed s (plan.Fill block closing memory filled) h = respond-allowed s block closing h.0 h.1.opened
+
+pub plan-rows : (s : Situation) (x : Plan) → IsPlan s x → ¬ LacksRow s (step_of x)
+plan-rows s (plan.Ask core block asking way) h = ask-rows s core block asking way h.0.0 h.0.1 h.1
+plan-rows s (plan.Order core request block message memory) h = order-rows s core block request message memory h.1
+plan-rows s (plan.Writeback block closing memory) h =
+    respond-rows s block closing memory h.1 (put-rows closing.request s.protocol (held_by (picture_of s block) closing.core).state closing.payload h.2)
+plan-rows s (plan.Fill block closing memory filled) h =
+    respond-rows s block closing memory h.1 (requestor-rows closing.request s.protocol (line_at s.caches closing.core block) closing.payload closing.value filled h.3)
+
+-- an operation on one value loads or stores one value
+performs-one : (asking : Op) (a b v w m n : ℕ) → a ≡ b → Performs asking a v m → Performs asking b w n → v ≡ w
+performs-one op.Load a b v w m n e p q = p.0 ∙ (e ∙ sym q.0)
+performs-one (op.Store stored) a b v w m n e p q = p.0 ∙ sym q.0
+performs-one op.Evict a b v w m n e p q = absurd p
+
+-- an Ask adds the item that was found
+module _ (s : Situation) (core block : ℕ) (asking : Op) (answer : Reply) (new : Situation) (added : Option Item) where
+  ask-adds : (way : Asked) → TakesAsk s.protocol (line_at s.caches core block) asking way → MovesAsk s core block asking answer new added → added ≡ entry_of_ask s.log core block asking way
+  ask-adds Absent t (inl absent) = absent.4
+  ask-adds Absent t (inr asks) = absurd (no_row s.protocol (state_of s core block) asking asks.act asks.next t.0 t.1 asks.row)
+  ask-adds (Hit line value) t (inl absent) = absurd (no_row s.protocol (state_of s core block) asking action.Hit t.next absent.0 absent.1 t.row)
+  ask-adds (Hit line value) t (inr asks) =
+      let same = (Cell-one s.protocol (state_of s core block) (asked asking) asks.act action.Hit asks.next t.next asks.row t.row).0 in
+      let P : CacheAction → Type 0 = λ a. Takes a asks.next s.log core block asking (line_at s.caches core block) asks.held answer added in
+      let h : Hits asks.next s.log core block asking (line_at s.caches core block) asks.held answer added = subst P same asks.taken in
+      let its = performs-one asking h.before t.before h.value value h.after t.after (same_Some _ _ (sym h.kept ∙ t.kept)) h.performed t.performed in
+      h.logged ∙ ap (λ (x : ℕ). let r : Option Item = Some (item.Did (next_did s.log core block asking x true)) in r) its
+  ask-adds (Issue request line) t (inl absent) = absurd (no_row s.protocol (state_of s core block) asking (action.Issue request) t.0 absent.0 absent.1 t.1.0)
+  ask-adds (Issue request line) t (inr asks) =
+      let same = (Cell-one s.protocol (state_of s core block) (asked asking) asks.act (action.Issue request) asks.next t.0 asks.row t.1.0).0 in
+      let P : CacheAction → Type 0 = λ a. Takes a asks.next s.log core block asking (line_at s.caches core block) asks.held answer added in
+      (subst P same asks.taken).2
+  ask-adds (Drop line) t (inl absent) = absurd (no_row s.protocol (state_of s core block) asking action.Drop t.0 absent.0 absent.1 t.1.0)
+  ask-adds (Drop line) t (inr asks) =
+      let same = (Cell-one s.protocol (state_of s core block) (asked asking) asks.act action.Drop asks.next t.0 asks.row t.1.0).0 in
+      let P : CacheAction → Type 0 = λ a. Takes a asks.next s.log core block asking (line_at s.caches core block) asks.held answer added in
+      (subst P same asks.taken).2
+
+fills_of : (q : Request) (closing : Open) (p : Protocol) (log : List Item) (old new : List Line) (did : Option Did) → q ≢ PutM → ArrivesFor q closing p log old new did → Fills closing p log old new did
+fills_of GetS closing p log old new did get fills = fills
+fills_of GetM closing p log old new did get fills = fills
+fills_of PutM closing p log old new did get fills = absurd (get refl)
+
+none_of : (q : Request) (closing : Open) (p : Protocol) (log : List Item) (old new : List Line) (did : Option Did) → q ≡ PutM → ArrivesFor q closing p log old new did → did ≡ None
+none_of q closing p log old new did e arrives = let P : Request → Type 0 = λ x. ArrivesFor x closing p log old new did in (subst P e arrives).1
+
+-- the requestor performs the operation that waits
+fills-adds : (closing : Open) (p : Protocol) (log : List Item) (old new : List Line) (did : Option Did) (filled : Filled)
+    → Fills closing p log old new did → FillsLine p (held_at old closing.core) closing.payload closing.value filled
+    → did ≡ Some (next_did log closing.core closing.block filled.op filled.value false)
+fills-adds closing p log old new did filled f t =
+    let same : f.asking ≡ filled.op = same_Some _ _ (sym f.waited ∙ t.waited) in
+    let P : Op → Type 0 = λ o. Performs o closing.value f.value f.after in
+    let its = performs-one filled.op closing.value closing.value f.value filled.value f.after t.after refl (subst P same f.performed) t.performed in
+    f.logged ∙ (ap (λ (o : Op). let r : Option Did = Some (next_did log closing.core closing.block o f.value false) in r) same
+    ∙ ap (λ (v : ℕ). let r : Option Did = Some (next_did log closing.core closing.block filled.op v false) in r) its)
+
+-- a planned step adds the plan's item, whatever move it is
+pub plan-adds : (s : Situation) (x : Plan) → IsPlan s x → (answer : Reply) (new : Situation) (added : Option Item) → FirstMove s (step_of x) answer new added → added ≡ entry_of s.log x
+plan-adds s (plan.Ask core block asking way) h answer new added m =
+    let P : ℕ → Type 0 = λ x. MovesAsk s core x asking answer new added in
+    ask-adds s core block asking answer new added way h.1 (subst P (sym m.1.1.0) m.1.1.2)
+plan-adds s (plan.Order core request block message memory) h answer new added m =
+    let same : m.0 ≡ block = same_Some _ _ (sym m.1.0 ∙ h.1.head.first) in
+    let orders = m.1.1.1.3 in
+    let W : ℕ → Type 0 = λ x. Waits s core x m.1.1.0 in
+    let its : m.1.1.0 ≡ request = same_Some _ _ (sym (subst W same orders.waits) ∙ h.1.head.waits) in
+    m.1.1.1.2 ∙ (ap (λ (b : ℕ). let r : Option Item = Some (item.Sent (record { core = core; request = m.1.1.0; block = b })) in r) same
+    ∙ ap (λ (q : Request). let r : Option Item = Some (item.Sent (record { core = core; request = q; block = block })) in r) its)
+plan-adds s (plan.Writeback block closing memory) h answer new added m =
+    let responds = m.1.1.1.1.4 in
+    let on : m.0 ≡ block = sym m.1.1.1.1.0 in
+    let P : ℕ → Type 0 = λ b. (picture_of s b).transaction ≡ Some m.1.1.0 in
+    let same : m.1.1.0 ≡ closing = same_Some _ _ (sym (subst P on responds.opened) ∙ h.1.opened) in
+    let none = none_of m.1.1.0.request m.1.1.0 s.protocol s.log (picture_of s m.0).caches responds.next.caches m.1.1.1.0 (ap (λ (o : Open). o.request) same ∙ h.2) responds.requestor in
+    m.1.1.1.1.3 ∙ (ap (λ (o : Open). let r : Option Item = Some (item.Came (came_of o) m.1.1.1.0) in r) same
+    ∙ ap (λ (d : Option Did). let r : Option Item = Some (item.Came (came_of closing) d) in r) none)
+plan-adds s (plan.Fill block closing memory filled) h answer new added m =
+    let responds = m.1.1.1.1.4 in
+    let on : m.0 ≡ block = sym m.1.1.1.1.0 in
+    let P : ℕ → Type 0 = λ b. (picture_of s b).transaction ≡ Some m.1.1.0 in
+    let same : m.1.1.0 ≡ closing = same_Some _ _ (sym (subst P on responds.opened) ∙ h.1.opened) in
+    let Q : Open → Type 0 = λ o. ArrivesFor o.request o s.protocol s.log (picture_of s m.0).caches responds.next.caches m.1.1.1.0 in
+    let fills = fills_of closing.request closing s.protocol s.log (picture_of s m.0).caches responds.next.caches m.1.1.1.0 h.2 (subst Q same responds.requestor) in
+    let R : ℕ → Type 0 = λ b. Fills closing s.protocol s.log (picture_of s b).caches responds.next.caches m.1.1.1.0 in
+    let did = fills-adds closing s.protocol s.log (picture_of s block).caches responds.next.caches m.1.1.1.0 filled (subst R on fills) h.3 in
+    m.1.1.1.1.3 ∙ (ap (λ (o : Open). let r : Option Item = Some (item.Came (came_of o) m.1.1.1.0) in r) same
+    ∙ ap (λ (d : Option Did). let r : Option Item = Some (item.Came (came_of closing) d) in r) did)
+
+-- where the plan has no room the step has none
+pub plan-full : (before : Standing) (x : Plan) → IsPlan before.situation x → room_for before x ≡ 0 → IsFull before (step_of x)
+plan-full before (plan.Ask core block asking Absent) h none = cc
+plan-full before (plan.Ask core block asking (Hit line value)) h none = (action.Hit, (h.1.next, (h.1.row, none)))
+plan-full before (plan.Ask core block asking (Issue request line)) h none = (action.Issue request, (h.1.0, (h.1.1.0, none)))
+plan-full before (plan.Ask core block asking (Drop line)) h none = cc
+plan-full before (plan.Order core request block message memory) h none = none
+plan-full before (plan.Writeback block closing memory) h none = none
+plan-full before (plan.Fill block closing memory filled) h none = none
+
+-- where the plan has room the step has it
+pub plan-room : (before : Standing) (x : Plan) → IsPlan before.situation x → 0 < room_for before x → ¬ IsFull before (step_of x)
+plan-room before (plan.Ask core block asking way) h some full =
+    let s = before.situation in
+    elim (row_found s.protocol (line_at s.caches core block) asking way h.1) [
+      | inl absent ↦ no_row s.protocol (state_of s core block) asking full.0 full.1.0 absent.0 absent.1 full.1.1.0
+      | inr row ↦
+          let same = (Cell-one s.protocol (state_of s core block) (asked asking) full.0 (act_of way) full.1.0 row.0 full.1.1.0 row.1.0).0 in
+          let P : CacheAction → Type 0 = λ a. room_to a before core ≡ 0 in
+          let none : room_to (act_of way) before core ≡ 0 = subst P same full.1.1.1 in
+          clash before core way none some
+    ]
+  where
+    clash : (b : Standing) (k : ℕ) (w : Asked) → room_to (act_of w) b k ≡ 0 → 0 < room_for_ask b k w → ⊥
+    clash b k Absent e l = cc
+    clash b k (Hit line value) e l = absurd (omega arith)
+    clash b k (Issue request line) e l = absurd (omega arith)
+    clash b k (Drop line) e l = cc
+plan-room before (plan.Order core request block message memory) h some full = absurd (omega arith)
+plan-room before (plan.Writeback block closing memory) h some full = absurd (omega arith)
+plan-room before (plan.Fill block closing memory filled) h some full = absurd (omega arith)
+
+-- a planned step is refused for want of memory alone
+pub RefusedFor-memory : (s : Situation) (taking : Step) (x : Plan) → IsPlanFor s taking x → RefusedFor s taking NoMemory
+RefusedFor-memory s taking x h =
+    let P : Step → Type 0 = λ t. RefusedFor s t NoMemory in
+    subst P h.0 (plan-allowed s x h.1, plan-rows s x h.1)
+
+-- a planned step with its room is prepared
+pub IsPrepared-plan : (before : Standing) (taking : Step) (x : Plan) (entry : Option Item) → IsPlanFor before.situation taking x → 0 < room_for before x → entry ≡ entry_of before.situation.log x
+    → IsPrepared before taking entry
+IsPrepared-plan before taking x entry h some is =
+    let P : Step → Type 0 = λ t. IsPrepared before t entry in
+    subst P h.0 (record {
+      allowed = plan-allowed before.situation x h.1;
+      rows = plan-rows before.situation x h.1;
+      room = plan-room before x h.1 some;
+      adds = λ answer new added move. plan-adds before.situation x h.1 answer new added move ∙ sym is;
+    })

@@ -1,0 +1,64 @@
+-- The parts of a machine fit together at reset.
+use Rattle.std.proofs.Common.{◌≡◌, ℕ, List, [], ◌∷◌, length, replicate, Option, Some, None, refl, sym, ◌∙◌, ap, subst, arith, inl, inr, get_or}
+use Rattle.std.specs.Prelude.{slice_index_or, All, Contains}
+use Rattle.std.proofs.lemmas.Bool.{cases_lt}
+use Rattle.std.proofs.lemmas.List.{length-replicate, get_or-replicate, get_or_past}
+use Rattle.std.proofs.lemmas.List.Elements.{All-head, All-tail}
+use Rattle.snoop_trace.specs.Extent.{Extent}
+use Rattle.snoop_rules.specs.declared.names.Request.{Request}
+use Rattle.snoop_bus.specs.declared.transactions.Open.{Open}
+use Rattle.snoop_rules.specs.Waits.{waiting_request}
+use Rattle.snoop_bus.specs.Traffic.{Traffic, Waiting, no_queue, waiting_of, transaction_on}
+use Rattle.snoop_machine.specs.declared.lines.Line.{Line}
+use Rattle.snoop_machine.specs.Picture.{held_at, nothing_held}
+use Rattle.snoop_machine.specs.Sound.{IsSound, IsProper, IsEachOnce, line_at}
+use Rattle.snoop_machine.specs.Standing.{queues_of}
+
+replicated : {X : Type 0} (n i : ℕ) (x : X) → get_or (replicate n x) i x ≡ x
+replicated n i x = elim (cases_lt i n) [
+  | inl lt ↦ get_or-replicate n i x x lt
+  | inr ge ↦ let long = length-replicate n x in get_or_past (replicate n x) i x (omega arith)
+]
+
+pub queues_of-reset : (queues : List Waiting) → All (λ q. q.requests ≡ []) queues → queues_of queues ≡ replicate (length queues) []
+queues_of-reset [] none = refl
+queues_of-reset (q ∷ qs) none =
+    let first : q.requests ≡ [] = All-head (λ (q : Waiting). q.requests ≡ []) q qs none in
+    rw first (ap (λ (l : List (List ℕ)). [] ∷ l) (queues_of-reset qs (All-tail (λ (q : Waiting). q.requests ≡ []) q qs none)))
+
+module _ (shape : Extent) (bus : Traffic) (long : length bus.queues ≡ shape.cores) (idle : All (λ q. q.requests ≡ []) bus.queues) (closed : bus.transactions ≡ replicate shape.blocks None) where
+  caches : List (List Line)
+  caches = replicate shape.blocks (replicate shape.cores nothing_held)
+
+  line_is : (k b : ℕ) → line_at (replicate shape.blocks (replicate shape.cores nothing_held)) k b ≡ nothing_held
+  line_is k b = elim (cases_lt b shape.blocks) [
+    | inl lt ↦ ap (λ (r : List Line). held_at r k) (get_or-replicate shape.blocks b (replicate shape.cores nothing_held) [] lt) ∙ replicated shape.cores k nothing_held
+    | inr ge ↦
+        let n = length-replicate shape.blocks (replicate shape.cores nothing_held) in
+        ap (λ (r : List Line). held_at r k) (get_or_past (replicate shape.blocks (replicate shape.cores nothing_held)) b [] (omega arith))
+  ]
+
+  queue_is : (k : ℕ) → (waiting_of bus k).requests ≡ []
+  queue_is k = elim (cases_lt k (length bus.queues)) [
+    | inl lt ↦ idle k no_queue lt
+    | inr ge ↦ ap (λ (q : Waiting). q.requests) (get_or_past bus.queues k no_queue ge)
+  ]
+
+  transaction_is : (b : ℕ) → transaction_on bus b ≡ None
+  transaction_is b = ap (λ (l : List (Option Open)). slice_index_or l b None) closed ∙ replicated shape.blocks b None
+
+  empty : (r : Request × ℕ) → Contains [] r → ⊥
+  empty r h = let l = h.1 in absurd (omega arith)
+
+  pub IsSound-reset : IsSound shape (replicate shape.blocks (replicate shape.cores nothing_held)) bus
+  IsSound-reset = record {
+    rows = length-replicate shape.blocks (replicate shape.cores nothing_held);
+    row = λ b h. ap length (get_or-replicate shape.blocks b (replicate shape.cores nothing_held) [] h) ∙ length-replicate shape.cores nothing_held;
+    queues = long;
+    transactions = ap length closed ∙ length-replicate shape.blocks None;
+    proper = λ k b. (let P : Line → Type 0 = λ x. IsProper x in subst P (sym (line_is k b)) (record { kept = refl; waiting = refl }));
+    opened = λ b t h. (let clash : ◌≡◌ {A = Option Open} None (Some t) = sym (transaction_is b) ∙ h in cc);
+    queued = λ k b q h. (let P : List (Request × ℕ) → Type 0 = λ x. Contains x (q, b) in absurd (empty (q, b) (subst P (queue_is k) h)));
+    waits = λ k b q h. (let clash : ◌≡◌ {A = Option Request} None (Some q) = sym (ap (λ (x : Line). waiting_request x.state) (line_is k b)) ∙ h in cc);
+    once = λ k. (let P : List (Request × ℕ) → Type 0 = λ x. IsEachOnce x in subst P (sym (queue_is k)) (λ i j d before within. absurd (omega arith)));
+  }

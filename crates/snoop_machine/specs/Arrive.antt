@@ -1,0 +1,42 @@
+-- What a response does to one line, and to memory.
+-- Source: this project's profile.
+use Rattle.std.specs.Prelude.{◌≡◌, ℕ, Some, None, MatchBool}
+use Rattle.snoop_rules.specs.declared.names.Protocol.{Protocol}
+use Rattle.snoop_rules.specs.declared.names.CacheState.{CacheState}
+use Rattle.snoop_rules.specs.declared.names.CacheEvent.{CacheEvent}
+use Rattle.snoop_rules.specs.declared.names.CacheAction.{CacheAction}
+use Rattle.snoop_rules.specs.declared.names.MemEvent.{MemEvent}
+use Rattle.snoop_rules.specs.declared.names.MemAction.{MemAction}
+use Rattle.snoop_rules.specs.declared.names.Payload.{Payload}
+use Rattle.snoop_rules.specs.Cell.{Cell}
+use Rattle.snoop_rules.specs.MemoryCell.{MemoryCell}
+use Rattle.snoop_rules.specs.Takers.{arrival, arrival_at_memory, awaits_payload}
+use Rattle.snoop_machine.specs.declared.lines.Line.{Line}
+use Rattle.snoop_machine.specs.declared.memory.MemLine.{MemLine}
+use Rattle.snoop_machine.specs.declared.respond.Filled.{Filled}
+use Rattle.snoop_machine.specs.Move.{Performs, IsFillFor, written}
+
+-- the data comes to the requestor's line, which performs its waiting operation with it
+pub record FillsLine (protocol : Protocol) (old : Line) (payload : Payload) (sent : ℕ) (filled : Filled) : Type 0 where
+  pub event : CacheEvent
+  pub act : CacheAction
+  pub next : CacheState
+  pub after : ℕ
+  pub arrives : arrival payload ≡ Some event
+  pub row : Cell protocol old.state event act next
+  pub waited : old.waiting ≡ Some filled.op
+  pub fill : IsFillFor act filled.op
+  pub performed : Performs filled.op sent filled.value after
+  pub held : filled.line ≡ record { state = next; kept = Some after; waiting = None }
+
+-- memory takes a payload
+pub record TakesIn (protocol : Protocol) (payload : Payload) (sent : ℕ) (old new : MemLine) : Type 0 where
+  pub event : MemEvent
+  pub act : MemAction
+  pub arrives : arrival_at_memory payload ≡ Some event
+  pub row : MemoryCell protocol old.state event act new.state
+  pub value : new.value ≡ written act sent old.value
+
+-- memory takes the payload where it waits for one
+abbrev pub ArrivesIn : Protocol → Payload → ℕ → MemLine → MemLine → Type 0
+ArrivesIn protocol payload sent old new = MatchBool (awaits_payload old.state) (TakesIn protocol payload sent old new) (new ≡ old)

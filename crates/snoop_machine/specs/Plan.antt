@@ -1,0 +1,89 @@
+-- What a step will do, found before anything changes: a plan, the room that it needs, and the item that it adds.
+-- Source: this project's profile.
+use Rattle.std.specs.Prelude.{◌≡◌, ◌≢◌, ℕ, ◌<◌, true, false, List, Option, Some, None, slice_index, slice_index_or}
+use Rattle.snoop_trace.specs.declared.step.Op.{Op}
+use Rattle.snoop_trace.specs.declared.step.Step.{Step}
+use Rattle.snoop_trace.specs.declared.step.Step.TheVariants as step
+use Rattle.snoop_rules.specs.declared.names.MemState.{MemState}
+use Rattle.snoop_rules.specs.declared.names.Request.{Request}
+use Rattle.snoop_rules.specs.declared.names.Request.TheVariants.{PutM}
+use Rattle.snoop_bus.specs.declared.transactions.Open.{Open}
+use Rattle.snoop_history.specs.declared.items.Item.{Item}
+use Rattle.snoop_history.specs.declared.items.Item.TheVariants as item
+use Rattle.snoop_machine.specs.declared.ask.Asked.{Asked}
+use Rattle.snoop_machine.specs.declared.ask.Asked.TheVariants as asked
+use Rattle.snoop_machine.specs.declared.memory.MemLine.{MemLine}
+use Rattle.snoop_machine.specs.declared.message.Message.{Message}
+use Rattle.snoop_machine.specs.declared.plan.Plan.{Plan}
+use Rattle.snoop_machine.specs.declared.plan.Plan.TheVariants.{Ask, Order, Writeback, Fill}
+use Rattle.snoop_machine.specs.Room.{Standing}
+use Rattle.snoop_machine.specs.Situation.{Situation, picture_of, no_memory}
+use Rattle.snoop_machine.specs.Sound.{IsProper, line_at}
+use Rattle.snoop_machine.specs.Move.{IsWithin, came_of, next_did}
+use Rattle.snoop_machine.specs.Asked.{TakesAsk}
+use Rattle.snoop_machine.specs.Message.{IsMessage}
+use Rattle.snoop_machine.specs.OrderMove.{IsHead, TakesMemRow}
+use Rattle.snoop_machine.specs.Arrive.{FillsLine, ArrivesIn}
+
+-- the step that a plan is for
+abbrev pub step_of : Plan → Step
+step_of (Ask core block asking way) = step.Ask core block asking
+step_of (Order core request block message memory) = step.Order core
+step_of (Writeback block closing memory) = step.Respond block
+step_of (Fill block closing memory filled) = step.Respond block
+
+-- the core's oldest request can be ordered, with this message, and leads memory to this state
+pub record IsOrdered (s : Situation) (core : ℕ) (request : Request) (block : ℕ) (message : Message) (memory : MemState) : Type 0 where
+  pub head : IsHead s core request block
+  pub free : (picture_of s block).transaction ≡ None
+  pub memory_row : TakesMemRow s.protocol (picture_of s block).memory request memory
+  pub sent : IsMessage s.protocol (picture_of s block) core request message
+
+-- the block's transaction is this one, and leaves memory so
+pub record IsClosing (s : Situation) (block : ℕ) (closing : Open) (memory : MemLine) : Type 0 where
+  pub opened : (picture_of s block).transaction ≡ Some closing
+  pub its : closing.block ≡ block
+  pub core : closing.core < s.shape.cores
+  pub arrives : ArrivesIn s.protocol closing.payload closing.value (slice_index_or s.memory block no_memory) memory
+
+-- the rows were found for what the plan says
+abbrev pub IsPlan : Situation → Plan → Type 0
+IsPlan s (Ask core block asking way) = IsWithin s core block × TakesAsk s.protocol (line_at s.caches core block) asking way × IsProper (line_at s.caches core block)
+IsPlan s (Order core request block message memory) = (core < s.shape.cores) × IsOrdered s core request block message memory
+IsPlan s (Writeback block closing memory) = (block < s.shape.blocks) × IsClosing s block closing memory × (closing.request ≡ PutM)
+IsPlan s (Fill block closing memory filled) =
+    (block < s.shape.blocks) × IsClosing s block closing memory × (closing.request ≢ PutM)
+    × FillsLine s.protocol (line_at s.caches closing.core block) closing.payload closing.value filled
+
+-- a plan for this step
+abbrev pub IsPlanFor : Situation → Step → Plan → Type 0
+IsPlanFor s taking plan = (step_of plan ≡ taking) × IsPlan s plan
+
+-- for how many more such Asks of the core there is room; one that adds neither item nor request always has it
+abbrev pub room_for_ask : Standing → ℕ → Asked → ℕ
+room_for_ask before core asked.Absent = 1
+room_for_ask before core (asked.Hit line value) = before.room
+room_for_ask before core (asked.Issue request line) = slice_index before.rooms core
+room_for_ask before core (asked.Drop line) = 1
+
+-- for how many more such steps there is room
+abbrev pub room_for : Standing → Plan → ℕ
+room_for before (Ask core block asking way) = room_for_ask before core way
+room_for before (Order core request block message memory) = before.room
+room_for before (Writeback block closing memory) = before.room
+room_for before (Fill block closing memory filled) = before.room
+
+-- the item that an Ask adds: a hit is performed at once
+abbrev pub entry_of_ask : List Item → ℕ → ℕ → Op → Asked → Option Item
+entry_of_ask log core block asking asked.Absent = None
+entry_of_ask log core block asking (asked.Hit line value) = Some (item.Did (next_did log core block asking value true))
+entry_of_ask log core block asking (asked.Issue request line) = None
+entry_of_ask log core block asking (asked.Drop line) = None
+
+-- the item that a planned step adds, if any
+abbrev pub entry_of : List Item → Plan → Option Item
+entry_of log (Ask core block asking way) = entry_of_ask log core block asking way
+entry_of log (Order core request block message memory) = Some (item.Sent (record { core = core; request = request; block = block }))
+entry_of log (Writeback block closing memory) = Some (item.Came (came_of closing) None)
+entry_of log (Fill block closing memory filled) =
+    Some (item.Came (came_of closing) (Some (next_did log closing.core closing.block filled.op filled.value false)))

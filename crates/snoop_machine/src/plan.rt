@@ -1,0 +1,38 @@
+use crate::ask::Asked;
+use crate::memory::MemLine;
+use crate::message::Message;
+use crate::respond::Filled;
+use snoop_bus::Open;
+use snoop_rules::{MemState, Request};
+use snoop_trace::Op;
+
+/// What a step will do, found before anything changes.
+#[derive(Clone, Copy, Debug)]
+pub enum Plan {
+    Ask {
+        core: u32,
+        block: u32,
+        op: Op,
+        asked: Asked,
+    },
+    Order {
+        core: u32,
+        request: Request,
+        block: u32,
+        message: Message,
+        memory: MemState,
+    },
+    /// Memory takes the message of a PutM.
+    Writeback {
+        block: u32,
+        closing: Open,
+        memory: MemLine,
+    },
+    /// The requestor takes the data that it waits for, and so does memory where it waits too.
+    Fill {
+        block: u32,
+        closing: Open,
+        memory: MemLine,
+        filled: Filled,
+    },
+}

@@ -1,0 +1,4 @@
+pub mod LineLemmas
+pub mod MemRows
+pub mod Rows
+pub mod TextLemmas

@@ -1,0 +1,42 @@
+-- The memory tables as a function, for texts and for computing.
+-- proofs/MemRows.antt shows that it agrees with the relation MemoryCell, which is the definition.
+-- Source: as MemoryCell.antt.
+use Rattle.std.specs.Prelude.{Option, Some, None}
+use Rattle.snoop_rules.specs.declared.names.Protocol.{Protocol}
+use Rattle.snoop_rules.specs.declared.names.Protocol.TheVariants.{Msi, Mesi}
+use Rattle.snoop_rules.specs.declared.names.MemState.{MemState}
+use Rattle.snoop_rules.specs.declared.names.MemState.TheVariants.{IorS, M, IorSD, MD, I, S, EorM, ID, SD, EorMD}
+use Rattle.snoop_rules.specs.declared.names.MemEvent.{MemEvent}
+use Rattle.snoop_rules.specs.declared.names.MemEvent.TheVariants.{GetS, GetM, PutM, Data, NoData, NoDataE}
+use Rattle.snoop_rules.specs.declared.names.MemAction.TheVariants.{None as Nothing, Send, Write}
+use Rattle.snoop_rules.specs.declared.names.MemCell.{MemCell}
+use Rattle.snoop_rules.specs.declared.names.Payload.TheVariants as payload
+
+-- the row of a pair of memory's state and event; None where the pair is impossible
+abbrev pub memory_cell_of : Protocol → MemState → MemEvent → Option MemCell
+memory_cell_of Msi IorS GetS = Some (record { action = Send payload.Data; next = IorS })
+memory_cell_of Msi IorS GetM = Some (record { action = Send payload.Data; next = M })
+memory_cell_of Msi IorS PutM = Some (record { action = Nothing; next = IorSD })
+memory_cell_of Msi M GetS = Some (record { action = Nothing; next = IorSD })
+memory_cell_of Msi M GetM = Some (record { action = Nothing; next = M })
+memory_cell_of Msi M PutM = Some (record { action = Nothing; next = MD })
+memory_cell_of Msi IorSD Data = Some (record { action = Write; next = IorS })
+memory_cell_of Msi IorSD NoData = Some (record { action = Nothing; next = IorS })
+memory_cell_of Msi MD Data = Some (record { action = Write; next = IorS })
+memory_cell_of Msi MD NoData = Some (record { action = Nothing; next = M })
+memory_cell_of Mesi I GetS = Some (record { action = Send payload.DataE; next = EorM })
+memory_cell_of Mesi I GetM = Some (record { action = Send payload.Data; next = EorM })
+memory_cell_of Mesi I PutM = Some (record { action = Nothing; next = ID })
+memory_cell_of Mesi S GetS = Some (record { action = Send payload.Data; next = S })
+memory_cell_of Mesi S GetM = Some (record { action = Send payload.Data; next = EorM })
+memory_cell_of Mesi S PutM = Some (record { action = Nothing; next = SD })
+memory_cell_of Mesi EorM GetS = Some (record { action = Nothing; next = SD })
+memory_cell_of Mesi EorM GetM = Some (record { action = Nothing; next = EorM })
+memory_cell_of Mesi EorM PutM = Some (record { action = Nothing; next = EorMD })
+memory_cell_of Mesi ID NoData = Some (record { action = Nothing; next = I })
+memory_cell_of Mesi SD Data = Some (record { action = Write; next = S })
+memory_cell_of Mesi SD NoData = Some (record { action = Nothing; next = S })
+memory_cell_of Mesi EorMD Data = Some (record { action = Write; next = I })
+memory_cell_of Mesi EorMD NoData = Some (record { action = Nothing; next = EorM })
+memory_cell_of Mesi EorMD NoDataE = Some (record { action = Nothing; next = I })
+memory_cell_of _ _ _ = None

@@ -1,0 +1,296 @@
+use crate::{CacheState, Protocol, Which, may_load, may_store, write_table};
+use snoop_trace::{Plain, WriteFault};
+use std::alloc::Global;
+use std::io;
+use std::test::Fail;
+
+const MSI_CACHE: &str = "\
+I,Load,issue GetS,IS_AD
+I,Store,issue GetM,IM_AD
+I,OtherGetS,none,I
+I,OtherGetM,none,I
+I,OtherPutM,none,I
+IS_AD,Load,stall,IS_AD
+IS_AD,Store,stall,IS_AD
+IS_AD,Evict,stall,IS_AD
+IS_AD,OwnGetS,none,IS_D
+IS_AD,OtherGetS,none,IS_AD
+IS_AD,OtherGetM,none,IS_AD
+IS_AD,OtherPutM,none,IS_AD
+IS_D,Load,stall,IS_D
+IS_D,Store,stall,IS_D
+IS_D,Evict,stall,IS_D
+IS_D,Data,fill load,S
+IM_AD,Load,stall,IM_AD
+IM_AD,Store,stall,IM_AD
+IM_AD,Evict,stall,IM_AD
+IM_AD,OwnGetM,none,IM_D
+IM_AD,OtherGetS,none,IM_AD
+IM_AD,OtherGetM,none,IM_AD
+IM_AD,OtherPutM,none,IM_AD
+IM_D,Load,stall,IM_D
+IM_D,Store,stall,IM_D
+IM_D,Evict,stall,IM_D
+IM_D,Data,fill store,M
+S,Load,hit,S
+S,Store,issue GetM,SM_AD
+S,Evict,drop,I
+S,OtherGetS,none,S
+S,OtherGetM,none,I
+S,OtherPutM,none,S
+SM_AD,Load,hit,SM_AD
+SM_AD,Store,stall,SM_AD
+SM_AD,Evict,stall,SM_AD
+SM_AD,OwnGetM,none,SM_D
+SM_AD,OtherGetS,none,SM_AD
+SM_AD,OtherGetM,none,IM_AD
+SM_AD,OtherPutM,none,SM_AD
+SM_D,Load,hit,SM_D
+SM_D,Store,stall,SM_D
+SM_D,Evict,stall,SM_D
+SM_D,Data,fill store,M
+M,Load,hit,M
+M,Store,hit,M
+M,Evict,issue PutM,MI_A
+M,OtherGetS,Data to requestor and memory,S
+M,OtherGetM,Data to requestor,I
+M,OtherPutM,none,M
+MI_A,Load,hit,MI_A
+MI_A,Store,hit,MI_A
+MI_A,Evict,stall,MI_A
+MI_A,OwnPutM,Data to memory,I
+MI_A,OtherGetS,Data to requestor and memory,II_A
+MI_A,OtherGetM,Data to requestor,II_A
+MI_A,OtherPutM,none,MI_A
+II_A,Load,stall,II_A
+II_A,Store,stall,II_A
+II_A,Evict,stall,II_A
+II_A,OwnPutM,NoData to memory,I
+II_A,OtherGetS,none,II_A
+II_A,OtherGetM,none,II_A
+II_A,OtherPutM,none,II_A
+";
+
+const MESI_CACHE: &str = "\
+I,Load,issue GetS,IS_AD
+I,Store,issue GetM,IM_AD
+I,OtherGetS,none,I
+I,OtherGetM,none,I
+I,OtherPutM,none,I
+IS_AD,Load,stall,IS_AD
+IS_AD,Store,stall,IS_AD
+IS_AD,Evict,stall,IS_AD
+IS_AD,OwnGetS,none,IS_D
+IS_AD,OtherGetS,none,IS_AD
+IS_AD,OtherGetM,none,IS_AD
+IS_AD,OtherPutM,none,IS_AD
+IS_D,Load,stall,IS_D
+IS_D,Store,stall,IS_D
+IS_D,Evict,stall,IS_D
+IS_D,Data,fill load,S
+IS_D,DataE,fill load,E
+IM_AD,Load,stall,IM_AD
+IM_AD,Store,stall,IM_AD
+IM_AD,Evict,stall,IM_AD
+IM_AD,OwnGetM,none,IM_D
+IM_AD,OtherGetS,none,IM_AD
+IM_AD,OtherGetM,none,IM_AD
+IM_AD,OtherPutM,none,IM_AD
+IM_D,Load,stall,IM_D
+IM_D,Store,stall,IM_D
+IM_D,Evict,stall,IM_D
+IM_D,Data,fill store,M
+S,Load,hit,S
+S,Store,issue GetM,SM_AD
+S,Evict,drop,I
+S,OtherGetS,none,S
+S,OtherGetM,none,I
+S,OtherPutM,none,S
+SM_AD,Load,hit,SM_AD
+SM_AD,Store,stall,SM_AD
+SM_AD,Evict,stall,SM_AD
+SM_AD,OwnGetM,none,SM_D
+SM_AD,OtherGetS,none,SM_AD
+SM_AD,OtherGetM,none,IM_AD
+SM_AD,OtherPutM,none,SM_AD
+SM_D,Load,hit,SM_D
+SM_D,Store,stall,SM_D
+SM_D,Evict,stall,SM_D
+SM_D,Data,fill store,M
+E,Load,hit,E
+E,Store,hit,M
+E,Evict,issue PutM,EI_A
+E,OtherGetS,Data to requestor and memory,S
+E,OtherGetM,Data to requestor,I
+E,OtherPutM,none,E
+M,Load,hit,M
+M,Store,hit,M
+M,Evict,issue PutM,MI_A
+M,OtherGetS,Data to requestor and memory,S
+M,OtherGetM,Data to requestor,I
+M,OtherPutM,none,M
+EI_A,Load,hit,EI_A
+EI_A,Store,hit,MI_A
+EI_A,Evict,stall,EI_A
+EI_A,OwnPutM,NoDataE to memory,I
+EI_A,OtherGetS,Data to requestor and memory,II_A
+EI_A,OtherGetM,Data to requestor,II_A
+EI_A,OtherPutM,none,EI_A
+MI_A,Load,hit,MI_A
+MI_A,Store,hit,MI_A
+MI_A,Evict,stall,MI_A
+MI_A,OwnPutM,Data to memory,I
+MI_A,OtherGetS,Data to requestor and memory,II_A
+MI_A,OtherGetM,Data to requestor,II_A
+MI_A,OtherPutM,none,MI_A
+II_A,Load,stall,II_A
+II_A,Store,stall,II_A
+II_A,Evict,stall,II_A
+II_A,OwnPutM,NoData to memory,I
+II_A,OtherGetS,none,II_A
+II_A,OtherGetM,none,II_A
+II_A,OtherPutM,none,II_A
+";
+
+const MSI_MEMORY: &str = "\
+IorS,GetS,send Data,IorS
+IorS,GetM,send Data,M
+IorS,PutM,none,IorS_D
+M,GetS,none,IorS_D
+M,GetM,none,M
+M,PutM,none,M_D
+IorS_D,Data,write,IorS
+IorS_D,NoData,none,IorS
+M_D,Data,write,IorS
+M_D,NoData,none,M
+";
+
+const MESI_MEMORY: &str = "\
+I,GetS,send DataE,EorM
+I,GetM,send Data,EorM
+I,PutM,none,I_D
+S,GetS,send Data,S
+S,GetM,send Data,EorM
+S,PutM,none,S_D
+EorM,GetS,none,S_D
+EorM,GetM,none,EorM
+EorM,PutM,none,EorM_D
+I_D,NoData,none,I
+S_D,Data,write,S
+S_D,NoData,none,S
+EorM_D,Data,write,I
+EorM_D,NoData,none,EorM
+EorM_D,NoDataE,none,I
+";
+
+const TABLES: [(Protocol, Which, &str); 4] = [
+    (Protocol::Msi, Which::Cache, MSI_CACHE),
+    (Protocol::Mesi, Which::Cache, MESI_CACHE),
+    (Protocol::Msi, Which::Memory, MSI_MEMORY),
+    (Protocol::Mesi, Which::Memory, MESI_MEMORY),
+];
+
+#[test]
+fn writes_the_four_tables(rt: HostRuntime) -> Result<(), Fail> {
+    for (protocol, which, table) in TABLES {
+        let mut text = Vec::new(rt.alloc());
+        write_table(rt.alloc(), &mut text, protocol, which)?;
+        assert_eq!(rt; text.as_slice(), table.as_bytes(), "{protocol}, {which:?}");
+    }
+    Ok(())
+}
+
+// A writer that takes so many bytes, and then none.
+#[derive(Drop)]
+struct Narrow {
+    held: Vec<u8>,
+    room: usize,
+}
+
+impl io::Write for Narrow {
+    fn write(&mut self, buf: &[u8]) -> io::Result<usize> {
+        let taken = buf.len().min(self.room);
+        self.room -= taken;
+        self.held.extend_from_slice(&buf[..taken])?;
+        Ok(taken)
+    }
+
+    fn flush(&mut self) -> io::Result<()> {
+        Ok(())
+    }
+}
+
+// What a writer of so much room answers, and what it then holds.
+fn cut_off(
+    alloc: Global,
+    protocol: Protocol,
+    which: Which,
+    room: usize,
+) -> (Result<(), WriteFault>, Vec<u8>) {
+    let mut writer = Plain(Narrow {
+        held: Vec::new(alloc),
+        room,
+    });
+    let written = write_table(alloc, &mut writer, protocol, which);
+    let Plain(Narrow { held, .. }) = writer;
+    (written, held)
+}
+
+#[test]
+fn stops_at_a_failing_writer(rt: HostRuntime) -> Result<(), Fail> {
+    for (protocol, which, table, room) in [
+        (Protocol::Msi, Which::Cache, MSI_CACHE, 0),
+        (Protocol::Msi, Which::Cache, MSI_CACHE, 20),
+        (Protocol::Mesi, Which::Cache, MESI_CACHE, 1000),
+        (Protocol::Msi, Which::Memory, MSI_MEMORY, 1),
+        (Protocol::Mesi, Which::Memory, MESI_MEMORY, 25),
+    ] {
+        let beginning = table.as_bytes().get(..room).unwrap_or(&[]);
+        let (written, held) = cut_off(rt.alloc(), protocol, which, room);
+        assert_eq!(rt; written, Err(WriteFault::Write));
+        assert_eq!(rt; held.as_slice(), beginning);
+    }
+    Ok(())
+}
+
+const STATES: [CacheState; 13] = [
+    CacheState::I,
+    CacheState::IsAd,
+    CacheState::IsD,
+    CacheState::ImAd,
+    CacheState::ImD,
+    CacheState::S,
+    CacheState::SmAd,
+    CacheState::SmD,
+    CacheState::E,
+    CacheState::M,
+    CacheState::EiA,
+    CacheState::MiA,
+    CacheState::IiA,
+];
+
+#[test]
+fn readers_and_writers(rt: HostRuntime) -> Result<(), Fail> {
+    for (protocol, readers, writers) in [
+        (Protocol::Msi, "S SM_AD SM_D M MI_A ", "M MI_A "),
+        (
+            Protocol::Mesi,
+            "S SM_AD SM_D E M EI_A MI_A ",
+            "E M EI_A MI_A ",
+        ),
+    ] {
+        let mut may_read = String::new(rt.alloc());
+        let mut may_write = String::new(rt.alloc());
+        for state in STATES {
+            if may_load(protocol, state) {
+                write!(may_read, "{state} ")?;
+            }
+            if may_store(protocol, state) {
+                write!(may_write, "{state} ")?;
+            }
+        }
+        assert_eq!(rt; may_read.as_str(), readers);
+        assert_eq!(rt; may_write.as_str(), writers);
+    }
+    Ok(())
+}

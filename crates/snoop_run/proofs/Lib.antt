@@ -1,0 +1,13 @@
+pub mod Writes
+pub mod Busy
+pub mod TurnRule
+pub mod Paid
+pub mod Awaiting
+pub mod KeepingAsk
+pub mod KeepingOrder
+pub mod KeepingRespond
+pub mod Keeping
+pub mod Driving
+pub mod Rounds
+pub mod Dealing
+pub mod Journeys

@@ -1,0 +1,101 @@
+-- What a write in one place does to a list of lists, and to sums over it.
+use Rattle.std.proofs.Common.{◌≡◌, ℕ, zero, suc, ◌+◌, ◌<◌, ◌≤◌, List, [], ◌∷◌, ◌++◌, length, filter, not, Bool, false, cond, Option, Some, None, refl, sym, ◌∙◌, ap, subst, arith, inl, inr, ◌⊎◌}
+use Rattle.std.specs.Prelude.{slice_index_or, slice_set, slice_get, All, ◌==◌, sum_by, count_by, is_some}
+use Rattle.std.proofs.lemmas.Bool.{eq-eqb, cases_lt}
+use Rattle.std.proofs.lemmas.Option.{same_Some}
+use Rattle.std.proofs.lemmas.List.{set_past, get_or_past, length_push}
+use Rattle.std.proofs.lemmas.List.Elements.{All-head, All-push, All-filter}
+use Rattle.std.proofs.lemmas.List.Sums.{sum_by-set, sum_by-cons, length-filter, count_by-le-length}
+use Rattle.snoop_bus.specs.Queues.{queue_of, after_issue, after_order}
+
+-- what stands in a place after a write
+pub set_cases : {A : Type 0} (xs : List A) (i k : ℕ) (a d : A) → ((k ≡ i) × (slice_index_or (slice_set xs i a) k d ≡ a)) ⊎ (slice_index_or (slice_set xs i a) k d ≡ slice_index_or xs k d)
+set_cases [] i k a d = inr refl
+set_cases (x ∷ xs) zero zero a d = inl (refl, refl)
+set_cases (x ∷ xs) zero (suc k) a d = inr refl
+set_cases (x ∷ xs) (suc i) zero a d = inr refl
+set_cases (x ∷ xs) (suc i) (suc k) a d = elim (set_cases xs i k a d) [ inl p ↦ inl (ap suc p.0, p.1) | inr e ↦ inr e ]
+
+pub all_first : {A : Type 0} (P : A → Type 0) (xs : List A) (x : A) → All P xs → slice_get xs 0 ≡ Some x → P x
+all_first P [] x a h = cc
+all_first P (y ∷ ys) x a h = subst P (same_Some _ _ h) (All-head P y ys a)
+
+pub first_within : {A : Type 0} (xs : List (List A)) (i : ℕ) (x : A) → slice_get (slice_index_or xs i []) 0 ≡ Some x → i < length xs
+first_within xs i x h = elim (cases_lt i (length xs)) [
+  | inl lt ↦ lt
+  | inr ge ↦
+      let e : slice_index_or xs i [] ≡ [] = get_or_past xs i [] ge in
+      let clash : ◌≡◌ {A = Option _} None (Some x) = sym (ap (λ l. slice_get l 0) e) ∙ h in
+      cc
+]
+
+pub some_within : {A : Type 0} (xs : List (Option A)) (i : ℕ) (x : A) → slice_index_or xs i None ≡ Some x → i < length xs
+some_within xs i x h = elim (cases_lt i (length xs)) [
+  | inl lt ↦ lt
+  | inr ge ↦
+      let clash : ◌≡◌ {A = Option _} None (Some x) = sym (get_or_past xs i None ge) ∙ h in
+      cc
+]
+
+-- what holds of each block of each core's line still holds after an issue and after an Order
+pub all_issued : (P : ℕ → ℕ → Type 0) (lines : List (List ℕ)) (core block : ℕ) → ((k : ℕ) → All (P k) (queue_of lines k)) → P core block → (k : ℕ) → All (P k) (queue_of (after_issue lines core block) k)
+all_issued P lines core block all here k =
+    let Q : List ℕ → Type 0 = λ l. All (P k) l in
+    let R : ℕ → Type 0 = λ j. All (P j) (queue_of lines core ++ block ∷ []) in
+    elim (set_cases lines core k (queue_of lines core ++ block ∷ []) []) [
+      | inl p ↦ subst Q (sym p.1) (subst R (sym p.0) (All-push (P core) (queue_of lines core) block (all core) here))
+      | inr e ↦ subst Q (sym e) (all k)
+    ]
+
+pub all_ordered : (P : ℕ → ℕ → Type 0) (lines : List (List ℕ)) (core block : ℕ) → ((k : ℕ) → All (P k) (queue_of lines k)) → (k : ℕ) → All (P k) (queue_of (after_order lines core block) k)
+all_ordered P lines core block all k =
+    let left : List ℕ = filter (λ b. not (b == block)) (queue_of lines core) in
+    let Q : List ℕ → Type 0 = λ l. All (P k) l in
+    let R : ℕ → Type 0 = λ j. All (P j) left in
+    elim (set_cases lines core k left []) [
+      | inl p ↦ subst Q (sym p.1) (subst R (sym p.0) (All-filter (λ b. not (b == block)) (P core) (queue_of lines core) (all core)))
+      | inr e ↦ subst Q (sym e) (all k)
+    ]
+
+-- an issue adds one to the requests that wait, and an Order takes one away
+pub sum_issued : (lines : List (List ℕ)) (core block : ℕ) → sum_by length (after_issue lines core block) ≤ sum_by length lines + 1
+sum_issued lines core block =
+    let line : List ℕ = queue_of lines core ++ block ∷ [] in
+    elim (cases_lt core (length lines)) [
+      | inl lt ↦ omega (arith, sum_by-set (λ (l : List ℕ). length l) lines core line [] lt, length_push (queue_of lines core) block)
+      | inr ge ↦ let e : sum_by length (after_issue lines core block) ≡ sum_by length lines = ap (λ (l : List (List ℕ)). sum_by length l) (set_past lines core line ge) in omega arith
+    ]
+
+left_shorter : (line : List ℕ) (block : ℕ) → slice_get line 0 ≡ Some block → length (filter (λ b. not (b == block)) line) + 1 ≤ length line
+left_shorter [] block h = cc
+left_shorter (x ∷ xs) block h =
+    let p : ℕ → Bool = λ b. not (b == block) in
+    let off : p x ≡ false = ap not (eq-eqb x block (same_Some _ _ h)) in
+    let one : count_by p (x ∷ xs) ≡ cond (p x) 1 0 + count_by p xs = sum_by-cons (λ y. cond (p y) 1 0) x xs in
+    let none : cond (p x) 1 0 ≡ 0 = ap (λ (b : Bool). cond {A = ℕ} b 1 0) off in
+    omega (arith, length-filter p (x ∷ xs), one, none, count_by-le-length p xs)
+
+pub sum_ordered : (lines : List (List ℕ)) (core block : ℕ) → slice_get (queue_of lines core) 0 ≡ Some block → sum_by length (after_order lines core block) + 1 ≤ sum_by length lines
+sum_ordered lines core block first =
+    let left : List ℕ = filter (λ b. not (b == block)) (queue_of lines core) in
+    omega (arith, sum_by-set (λ (l : List ℕ). length l) lines core left [] (first_within lines core block first), left_shorter (queue_of lines core) block first)
+
+abbrev pub open_one : {A : Type 0} → Option A → ℕ
+open_one t = cond (is_some t) 1 0
+
+open_small : {A : Type 0} (t : Option A) → open_one t ≤ 1
+open_small None = omega arith
+open_small (Some a) = omega arith
+
+-- one more is open at most, and one fewer where one closes
+pub count_opened : {A : Type 0} (ts : List (Option A)) (block : ℕ) (t : Option A) → count_by is_some (slice_set ts block t) ≤ count_by is_some ts + 1
+count_opened ts block t = elim (cases_lt block (length ts)) [
+  | inl lt ↦ omega (arith, sum_by-set (λ x. open_one x) ts block t None lt, open_small t)
+  | inr ge ↦ let e : count_by is_some (slice_set ts block t) ≡ count_by is_some ts = ap (λ l. count_by is_some l) (set_past ts block t ge) in omega arith
+]
+
+pub count_closed : {A : Type 0} (ts : List (Option A)) (block : ℕ) (t : Option A) (x : A) → slice_index_or ts block None ≡ Some x → t ≡ None → count_by is_some (slice_set ts block t) + 1 ≤ count_by is_some ts
+count_closed ts block t x was is =
+    let before : open_one (slice_index_or ts block None) ≡ 1 = ap (λ o. open_one o) was in
+    let after : open_one t ≡ 0 = ap (λ o. open_one o) is in
+    omega (arith, sum_by-set (λ o. open_one o) ts block t None (some_within ts block x was), before, after)

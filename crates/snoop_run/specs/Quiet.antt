@@ -1,0 +1,11 @@
+-- When a machine has come to rest.
+use Rattle.std.specs.Prelude.{◌≡◌, ℕ, None}
+use Rattle.snoop_machine.specs.Picture.{held_by}
+use Rattle.snoop_machine.specs.Situation.{Situation, picture_of}
+use Rattle.snoop_machine.specs.Refuses.{WaitsOnNone}
+
+-- no core waits, no transaction is open, and no operation waits
+pub record IsQuiet (s : Situation) : Type 0 where
+  pub ordered : (core : ℕ) → WaitsOnNone s core
+  pub closed : (block : ℕ) → (picture_of s block).transaction ≡ None
+  pub performed : (core block : ℕ) → (held_by (picture_of s block) core).waiting ≡ None

@@ -1,0 +1,11 @@
+pub mod Deciding
+pub mod Rows
+pub mod MemoryRows
+pub mod Played
+pub mod Once
+pub mod Refusing
+pub mod Asking
+pub mod Ordering
+pub mod Responding
+pub mod Playing
+pub mod Play

@@ -1,0 +1,44 @@
+-- A step played.
+use Rattle.std.proofs.Common.{Option, Some, refl}
+use Rattle.std.specs.Prelude.{slice_get}
+use Rattle.std.proofs.Math.Dec.{ltb}
+use Rattle.std.proofs.lemmas.Bool.{ltb-true, ltb-false}
+use Rattle.snoop_trace.specs.declared.step.Step.{Step}
+use Rattle.snoop_trace.specs.declared.step.Step.TheVariants.{Ask, Order, Respond}
+use Rattle.snoop_rules.specs.Takers.{awaits_payload}
+use Rattle.snoop_rules.specs.Waits.{waiting_request}
+use Rattle.snoop_bus.specs.Queues.{queue_of}
+use Rattle.snoop_machine.specs.Situation.{Situation, picture_of, state_of}
+use Rattle.snoop_scenes.proofs.Deciding.{by_test, by_found, if_some}
+use Rattle.snoop_scenes.proofs.Played.{Played}
+use Rattle.snoop_scenes.proofs.Refusing.{asks_no_core, asks_no_block, waits_on_none, orders_no_core, orders_nothing, responds_no_block, responds_nothing}
+use Rattle.snoop_scenes.proofs.Asking.{asks}
+use Rattle.snoop_scenes.proofs.Ordering.{on_bus}
+use Rattle.snoop_scenes.proofs.Responding.{arrived, remembered, closes}
+
+abbrev pub played : (old : Situation) (step : Step) → Option (Played old step)
+played old (Ask core block asking) =
+    by_test (ltb core old.shape.cores)
+    (λ there. by_test (ltb block old.shape.blocks)
+    (λ here. asks old core block asking (ltb-true core old.shape.cores there, ltb-true block old.shape.blocks here))
+    (λ outside. Some (asks_no_block old core block asking (ltb-false block old.shape.blocks outside) (ltb-true core old.shape.cores there))))
+    (λ outside. Some (asks_no_core old core block asking (ltb-false core old.shape.cores outside)))
+played old (Order core) =
+    by_test (ltb core old.shape.cores)
+    (λ there. by_found (slice_get (queue_of old.queues core) 0)
+    (λ block first.
+    if_some (waiting_request (state_of old core block)) λ request waits.
+    on_bus old core block (ltb-true core old.shape.cores there) first request waits (picture_of old block).transaction refl)
+    (λ empty.
+    if_some (waits_on_none old.caches core) λ none is.
+    Some (orders_nothing old core (ltb-true core old.shape.cores there) empty none)))
+    (λ outside. Some (orders_no_core old core (ltb-false core old.shape.cores outside)))
+played old (Respond block) =
+    by_test (ltb block old.shape.blocks)
+    (λ there. by_found (picture_of old block).transaction
+    (λ closing opened.
+    if_some (arrived closing.request closing old.protocol old.log (picture_of old block).caches) λ came is.
+    if_some (remembered (awaits_payload (picture_of old block).memory) closing old.protocol (picture_of old block)) λ kept is.
+    Some (closes old block (ltb-true block old.shape.blocks there) closing opened came kept))
+    (λ free. Some (responds_nothing old block (ltb-true block old.shape.blocks there) free)))
+    (λ outside. Some (responds_no_block old block (ltb-false block old.shape.blocks outside)))

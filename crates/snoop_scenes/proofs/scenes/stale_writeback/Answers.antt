@@ -1,0 +1,18 @@
+use Rattle.std.proofs.Common.{refl}
+use Rattle.snoop_rules.specs.declared.names.Protocol.TheVariants.{Msi}
+use Rattle.snoop_scenes.specs.Scene.{two_cores}
+use Rattle.snoop_scenes.specs.StaleWriteback.{frames, end}
+use Rattle.snoop_scenes.proofs.Play.{Told, told}
+use Rattle.snoop_scenes.proofs.scenes.stale_writeback.Goals as goal
+
+scene : Told Msi two_cores frames end
+scene = told Msi two_cores frames end tt refl refl
+
+pub returns-clause-run : goal.returns-clause-run
+returns-clause-run c = scene.run
+
+pub returns-clause-only : goal.returns-clause-only
+returns-clause-only c = scene.only
+
+pub returns-clause-states : goal.returns-clause-states
+returns-clause-states c = scene.states

@@ -1,0 +1,10 @@
+-- The faults of a simulation.
+use Rattle.snoop_trace.specs.declared.fault.WriteFault.{WriteFault}
+use Rattle.snoop_trace.specs.declared.fault.WriteFault.TheVariants as write
+use Rattle.snoop_sim.specs.declared.fault.SimFault.{SimFault}
+use Rattle.snoop_sim.specs.declared.fault.SimFault.TheVariants.{NoMemory, Write}
+
+-- a simulation that could not write stops with the same fault
+abbrev pub written : WriteFault → SimFault
+written write.Write = Write
+written write.NoMemory = NoMemory

@@ -1,0 +1,5 @@
+pub mod Fault
+pub mod Line
+pub mod Taken
+pub mod Written
+pub mod Simulated

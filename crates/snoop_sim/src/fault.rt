@@ -1,0 +1,29 @@
+//! Why a simulation stopped.
+
+use snoop_trace::{TextFault, WriteFault};
+use thiserror::Error;
+
+/// Why a simulation stopped; what was written is a beginning of its whole output, after `Text` nothing.
+#[derive(Clone, Copy, Debug, PartialEq, Eq, Error)]
+pub enum SimFault {
+    #[error(transparent)]
+    Text(TextFault),
+    #[error("NoMemory")]
+    NoMemory,
+    #[error("Write")]
+    Write,
+}
+
+impl From<WriteFault> for SimFault {
+    ghost use Rattle.std.specs.Prelude.{◌≡◌};
+    ghost use Rattle.snoop_sim.specs.Fault.{written};
+
+    ghost from_gives = { λ e r. r ≡ written e };
+
+    fn from(fault: WriteFault) -> Self {
+        match fault {
+            WriteFault::Write => SimFault::Write,
+            WriteFault::NoMemory => SimFault::NoMemory,
+        }
+    }
+}

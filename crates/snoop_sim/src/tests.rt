@@ -1,0 +1,10 @@
+mod command_line;
+mod crowd;
+mod failures;
+mod mesi;
+mod msi;
+mod scene;
+mod storm;
+mod streams;
+mod support;
+mod texts;

@@ -1,0 +1,125 @@
+-- How the records of a text follow one another.
+use Rattle.std.proofs.Common.{◌≡◌, ◌≤◌, ◌<◌, ℕ, ◌+◌, List, [], ◌∷◌, ◌++◌, length, Some, None, true, false, refl, sym, ◌∙◌, arith, ap, inl, inr}
+use Rattle.std.specs.Prelude.{zero, suc, Bool, if◌then◌else◌, ◌==◌, ◌&&◌}
+use Rattle.std.proofs.lemmas.Bool.{cases_Bool, false≢true}
+use Rattle.csv.specs.Machine.{Read, next_record, step, is_end, ends_at_end, fields_after, field_after, after_end, in_field, start_field, start_record, ends_with, is_byte, line_feed, carriage_return}
+use Rattle.csv.specs.Reading.{Reached, records_from}
+use Rattle.csv.specs.declared.parser.Action.{Action}
+use Rattle.csv.specs.declared.parser.Action.TheVariants as act
+use Rattle.csv.specs.declared.parser.Config.{Config}
+use Rattle.csv.specs.declared.parser.State.{State}
+use Rattle.csv.specs.declared.parser.State.TheVariants as st
+use Rattle.csv.specs.declared.parser.Terminator.{Terminator}
+use Rattle.csv.specs.declared.parser.Terminator.TheVariants as term
+
+-- rows that were read, and then those from there on
+pub records-reached : (cfg : Config) (m : ℕ) (s : State) (xs : List ℕ) (rows : List (List (List ℕ))) (s2 : State) (ys : List ℕ)
+    → Reached cfg s xs rows s2 ys → (n : ℕ) → n ≡ length rows + m → records_from cfg n s xs ≡ rows ++ records_from cfg m s2 ys
+unfolding Reached records_from
+records-reached cfg m s xs [] s2 ys h n e = let same : n ≡ m = omega arith in rw (same, h.0, h.1) refl
+records-reached cfg m s xs (r ∷ rows) s2 ys h zero e = absurd (omega arith)
+records-reached cfg m s xs (r ∷ rows) s2 ys h (suc n) e =
+    let (p, next, is, later) = h in
+    rw (next, is) (ap (λ (rest : List (List (List ℕ))). p.0 ∷ rest) (records-reached cfg m p.1 p.2 rows s2 ys later n (omega arith)))
+
+pub records-ended : (cfg : Config) (m : ℕ) (s : State) (xs : List ℕ) → next_record cfg s [] [] xs ≡ None → records_from cfg m s xs ≡ []
+unfolding records_from
+records-ended cfg zero s xs h = refl
+records-ended cfg (suc m) s xs h = rw h refl
+
+pub records_first : (cfg : Config) (m : ℕ) (s : State) (xs : List ℕ) (r : Read) → next_record cfg s [] [] xs ≡ Some r → 0 < m
+    → (more : List (List (List ℕ))) × (records_from cfg m s xs ≡ r.0 ∷ more)
+unfolding records_from
+records_first cfg zero s xs r e h = absurd (omega arith)
+records_first cfg (suc m) s xs r e h = (records_from cfg m r.1 r.2, rw e refl)
+
+-- one more row
+pub reached_more : (cfg : Config) (s : State) (xs : List ℕ) (rows : List (List (List ℕ))) (s1 : State) (ys : List ℕ) (f : List (List ℕ)) (s2 : State) (zs : List ℕ)
+    → Reached cfg s xs rows s1 ys → next_record cfg s1 [] [] ys ≡ Some (f, s2, zs) → Reached cfg s xs (rows ++ (f ∷ [])) s2 zs
+unfolding Reached
+reached_more cfg s xs [] s1 ys f s2 zs h e = ((f, s2, zs), rw (h.0, h.1) e, refl, (refl, refl))
+reached_more cfg s xs (r ∷ rows) s1 ys f s2 zs h e =
+    let (p, next, is, later) = h in
+    (p, next, is, reached_more cfg p.1 p.2 rows s1 ys f s2 zs later e)
+
+-- where a byte ends a record, none is begun
+abbrev Fresh : State × Action → Type 0
+Fresh p = is_end p.1 ≡ true → ends_at_end p.0 ≡ false
+
+fresh-if : (b : Bool) (x y : State × Action) → Fresh x → Fresh y → Fresh (if b then x else y)
+fresh-if true x y p q = p
+fresh-if false x y p q = q
+
+fresh-end : (t : Terminator) (c : ℕ) → ends_at_end (after_end t c) ≡ false
+fresh-end term.CRLF c = elim (cases_Bool (c == carriage_return)) [ inl e ↦ rw e refl | inr e ↦ rw e refl ]
+fresh-end (term.Any t) c = refl
+
+fresh-in : (cfg : Config) (c : ℕ) → Fresh (in_field cfg c)
+fresh-in cfg c = fresh-if (c == cfg.delimiter) _ _ (λ e. absurd (false≢true e)) (fresh-if (ends_with cfg.terminator c) _ _ (λ e. fresh-end cfg.terminator c) (λ e. absurd (false≢true e)))
+
+fresh-field : (cfg : Config) (c : ℕ) → Fresh (start_field cfg c)
+fresh-field cfg c = fresh-if (cfg.quoting && (c == cfg.quote)) _ _ (λ e. absurd (false≢true e)) (fresh-in cfg c)
+
+fresh-record : (cfg : Config) (c : ℕ) → Fresh (start_record cfg c)
+fresh-record cfg c = fresh-if (ends_with cfg.terminator c) _ _ (λ e. absurd (false≢true e)) (fresh-if (is_byte cfg.comment c) _ _ (λ e. absurd (false≢true e)) (fresh-field cfg c))
+
+fresh-copy : (s : State) → Fresh (s, act.Copy)
+fresh-copy s e = absurd (false≢true e)
+
+fresh-skip : (s : State) → Fresh (s, act.Skip)
+fresh-skip s e = absurd (false≢true e)
+
+fresh-step : (cfg : Config) (s : State) (c : ℕ) → Fresh (step cfg s c)
+fresh-step cfg st.StartRecord c = fresh-record cfg c
+fresh-step cfg st.StartField c = fresh-field cfg c
+fresh-step cfg st.InField c = fresh-in cfg c
+fresh-step cfg st.InQuoted c =
+    fresh-if (cfg.quoting && (c == cfg.quote)) (st.AfterQuote, act.Skip) (if cfg.quoting && is_byte cfg.escape c then (st.InEscape, act.Skip) else (st.InQuoted, act.Copy))
+    (fresh-skip st.AfterQuote)
+    (fresh-if (cfg.quoting && is_byte cfg.escape c) (st.InEscape, act.Skip) (st.InQuoted, act.Copy) (fresh-skip st.InEscape) (fresh-copy st.InQuoted))
+fresh-step cfg st.InEscape c = fresh-copy st.InQuoted
+fresh-step cfg st.AfterQuote c =
+    fresh-if (cfg.quoting && cfg.double_quote && (c == cfg.quote)) (st.InQuoted, act.Copy) (in_field cfg c) (fresh-copy st.InQuoted) (fresh-in cfg c)
+fresh-step cfg st.InComment c =
+    fresh-if (c == line_feed) (st.StartRecord, act.Skip) (st.InComment, act.Skip) (fresh-skip st.StartRecord) (fresh-skip st.InComment)
+fresh-step cfg st.AfterCr c = fresh-if (c == line_feed) (st.StartRecord, act.Skip) (start_record cfg c) (fresh-skip st.StartRecord) (fresh-record cfg c)
+
+-- what a read leaves: fewer bytes where it began at no record, and no record begun
+pub record Shorter (s : State) (xs : List ℕ) (p : Read) : Type 0 where
+  pub less : ends_at_end s ≡ false → length p.2 < length xs
+  pub most : length p.2 ≤ length xs
+  pub fresh : ends_at_end p.1 ≡ false
+
+pub record-shorter : (cfg : Config) (s : State) (fields : List (List ℕ)) (field : List ℕ) (xs : List ℕ) (p : Read)
+    → next_record cfg s fields field xs ≡ Some p → Shorter s xs p
+unfolding next_record
+record-shorter cfg s fields field [] p h =
+    elim (cases_Bool (ends_at_end s)) [
+      | inl e ↦
+          let found = rw e at h in
+          let is : p ≡ (fields ++ (field ∷ []), st.StartRecord, []) = cc in
+          rw is (record { less = λ n. absurd (false≢true (sym n ∙ e)); most = omega arith; fresh = refl })
+      | inr e ↦ let none = rw e at h in cc
+    ]
+record-shorter cfg s fields field (c ∷ xs) p h =
+    elim (cases_Bool (is_end (step cfg s c).1)) [
+      | inl e ↦
+          let found = rw e at h in
+          let is : p ≡ (fields_after (step cfg s c).1 fields field, (step cfg s c).0, xs) = cc in
+          rw is (record { less = λ n. omega arith; most = omega arith; fresh = fresh-step cfg s c e })
+      | inr e ↦
+          let found = rw e at h in
+          let rest = record-shorter cfg (step cfg s c).0 (fields_after (step cfg s c).1 fields field) (field_after (step cfg s c).1 c field) xs p found in
+          record { less = λ n. omega (arith, rest.most); most = omega (arith, rest.most); fresh = rest.fresh }
+    ]
+
+-- so a text has no more records than bytes
+pub reached-shorter : (cfg : Config) (s : State) (xs : List ℕ) (rows : List (List (List ℕ))) (s2 : State) (ys : List ℕ)
+    → ends_at_end s ≡ false → Reached cfg s xs rows s2 ys → length rows + length ys ≤ length xs
+unfolding Reached
+reached-shorter cfg s xs [] s2 ys e h = omega (arith, ap length h.1)
+reached-shorter cfg s xs (r ∷ rows) s2 ys e h =
+    let (p, next, is, later) = h in
+    let short = record-shorter cfg s [] [] xs p next in
+    let rest = reached-shorter cfg p.1 p.2 rows s2 ys short.fresh later in
+    omega (arith, short.less e, rest)

@@ -1,0 +1,10 @@
+pub mod PowerLemmas
+pub mod NumeralLemmas
+pub mod FieldLemmas
+pub mod RecordLemmas
+pub mod CsvLemmas
+pub mod TextLemmas
+pub mod OutputLemmas
+pub mod GathersLemmas
+pub mod LineLemmas
+pub mod BackLemmas

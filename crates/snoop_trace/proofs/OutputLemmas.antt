@@ -1,0 +1,52 @@
+-- What a writer holds after several writes.
+use Rattle.std.proofs.Common.{◌≡◌, ℕ, ◌+◌, List, [], ◌∷◌, ◌++◌, length, take, drop, Option, Some, None, refl, sym, ap, ◌∙◌, arith, append_assoc}
+use Rattle.std.specs.Prelude.{◌-◌, zero, suc}
+use Rattle.std.specs.Io.KnownBytes.{Appends, Keeps}
+use Rattle.std.proofs.lemmas.List.{append-nil, length-drop, take-append-drop, take_all}
+use Rattle.std.specs.Prelude.{Result, Ok, Err, OnErr}
+use Rattle.snoop_trace.specs.Output.{AppendsFront}
+
+pub appends_more : (a b c : Option (List ℕ)) (x y : List ℕ) → Appends a b x → Appends b c y → Appends a c (x ++ y)
+appends_more None b c x y p q = tt
+appends_more (Some xs) None c x y p q = absurd p
+appends_more (Some xs) (Some ys) None x y p q = absurd q
+appends_more (Some xs) (Some ys) (Some zs) x y p q = q ∙ ap (λ (s : List ℕ). s ++ y) p ∙ append_assoc xs x y
+
+pub appends_same : (a b c : Option (List ℕ)) (x : List ℕ) → Appends a b x → Keeps b c → Appends a c x
+appends_same None b c x p q = tt
+appends_same (Some xs) None c x p q = absurd p
+appends_same (Some xs) (Some ys) None x p q = absurd q
+appends_same (Some xs) (Some ys) (Some zs) x p q = q ∙ p
+
+pub take_split : (at n : ℕ) (xs : List ℕ) → take (at + n) xs ≡ take at xs ++ take n (drop at xs)
+take_split zero n xs = let e : 0 + n ≡ n = omega arith in rw e refl
+take_split (suc at) n [] = take_all (suc at + n) [] (omega arith) ∙ sym (take_all n [] (omega arith))
+take_split (suc at) n (x ∷ xs) = let e : suc at + n ≡ suc (at + n) = omega arith in rw e (ap (λ (s : List ℕ). x ∷ s) (take_split at n xs))
+
+-- n more bytes were taken of those from `at` on
+pub took_more : (a b c : Option (List ℕ)) (text : List ℕ) (at n : ℕ) → Appends a b (take at text) → Appends b c (take n (take (length text - at) (drop at text)))
+    → Appends a c (take (at + n) text)
+took_more a b c text at n p q =
+    let all = take_all (length text - at) (drop at text) (omega (arith, length-drop at text)) in
+    rw (take_split at n text) (appends_more a b c (take at text) (take n (drop at text)) p (rw all at q))
+
+-- none was taken
+pub stopped : (a b c : Option (List ℕ)) (text : List ℕ) (at : ℕ) → Appends a b (take at text) → Keeps b c → AppendsFront a c text
+stopped a b c text at p q =
+    record { front = take at text; rest = drop at text; whole = sym (take-append-drop at text); appends = appends_same a b c (take at text) p q }
+
+pub stopped_empty : (a b c : Option (List ℕ)) (text buf : List ℕ) (at n : ℕ) → n ≡ 0 → Appends a b (take at text) → Appends b c (take n buf) → AppendsFront a c text
+stopped_empty a b c text buf at n none p q =
+    record { front = take at text; rest = drop at text; whole = sym (take-append-drop at text); appends = rw (append-nil (take at text)) at (appends_more a b c (take at text) [] p (rw none at q)) }
+
+pub appends_none : (a : Option (List ℕ)) → Appends a a []
+appends_none None = tt
+appends_none (Some xs) = sym (append-nil xs)
+
+pub on_err : {T E : Type 0} (r : Result T E) (P : Type 0) → P → OnErr r P
+on_err (Ok x) P p = tt
+on_err (Err e) P p = p
+
+pub on_err_at : {T E : Type 0} (r : Result T E) (P Q : Type 0) → (P → Q) → OnErr r P → OnErr r Q
+on_err_at (Ok x) P Q f p = tt
+on_err_at (Err e) P Q f p = f p

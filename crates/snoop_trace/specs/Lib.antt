@@ -1,0 +1,6 @@
+pub mod Extent
+pub mod Shape
+pub mod Grammar
+pub mod Text
+pub mod Progress
+pub mod Output

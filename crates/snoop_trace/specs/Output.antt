@@ -1,0 +1,52 @@
+-- What is written: the text of steps, and what a writer holds after a write.
+use Rattle.std.specs.Prelude.{◌<◌, ◌≡◌, ℕ, ◌*◌, ◌^◌, List, ◌++◌, codes, Option}
+use Rattle.std.specs.Fmt.{decimal}
+use Rattle.std.specs.Io.KnownBytes.{Appends}
+use Rattle.std.specs.List.{flat_map}
+use Rattle.snoop_trace.specs.Extent.{Extent}
+use Rattle.snoop_trace.specs.declared.step.Op.TheVariants.{Load, Store, Evict}
+use Rattle.snoop_trace.specs.declared.step.Step.{Step}
+use Rattle.snoop_trace.specs.declared.step.Step.TheVariants.{Ask, Order, Respond}
+
+-- the first address of a block
+abbrev pub address_of : Extent → ℕ → ℕ
+address_of shape block = block * shape.block_bytes
+
+-- a step as a record
+abbrev pub step_text : Extent → Step → List ℕ
+step_text shape (Ask core block Load) = codes "L," ++ decimal core ++ codes "," ++ decimal (address_of shape block)
+step_text shape (Ask core block (Store value)) = codes "S," ++ decimal core ++ codes "," ++ decimal (address_of shape block) ++ codes "," ++ decimal value
+step_text shape (Ask core block Evict) = codes "E," ++ decimal core ++ codes "," ++ decimal (address_of shape block)
+step_text shape (Order core) = codes "O," ++ decimal core
+step_text shape (Respond block) = codes "R," ++ decimal (address_of shape block)
+
+-- a step of the shape: its core and block are within it, and a stored value is a number
+abbrev pub IsWithin : Extent → Step → Type 0
+IsWithin shape (Ask core block Load) = (core < shape.cores) × (block < shape.blocks)
+IsWithin shape (Ask core block (Store value)) = (core < shape.cores) × (block < shape.blocks) × (value < 2 ^ 64)
+IsWithin shape (Ask core block Evict) = (core < shape.cores) × (block < shape.blocks)
+IsWithin shape (Order core) = core < shape.cores
+IsWithin shape (Respond block) = block < shape.blocks
+
+-- steps, one a line
+abbrev pub steps_text : Extent → List Step → List ℕ
+steps_text shape steps = flat_map (λ step. step_text shape step ++ codes "\n") steps
+
+-- a writer holds what it held, and then a beginning of the text
+pub record AppendsFront (old new : Option (List ℕ)) (text : List ℕ) : Type 0 where
+  pub front : List ℕ
+  pub rest : List ℕ
+  pub whole : text ≡ front ++ rest
+  pub appends : Appends old new front
+
+-- a front of the chunk has moved to the writer, and the chunk keeps the rest
+pub record Spills (old : Option (List ℕ)) (chunk : List ℕ) (new : Option (List ℕ)) (chunk2 : List ℕ) : Type 0 where
+  pub front : List ℕ
+  pub whole : chunk ≡ front ++ chunk2
+  pub appends : Appends old new front
+
+-- the writer has got a front of the text, and the chunk holds the rest
+pub record Gathers (old new : Option (List ℕ)) (chunk text : List ℕ) : Type 0 where
+  pub front : List ℕ
+  pub appends : Appends old new front
+  pub whole : text ≡ front ++ chunk

@@ -1,0 +1,28 @@
+-- One record further in a text.
+use Rattle.std.specs.Prelude.{◌≡◌, ℕ, List, [], Option, Some, None, Result, Ok, Err, IfSome}
+use Rattle.csv.specs.Machine.{Read as Record, next_record}
+use Rattle.csv.specs.Reading.{Ready, default_config, reader_config, reader_state, reader_trim, source_of}
+use Rattle.csv.specs.declared.parser.State.{State}
+use Rattle.csv.specs.declared.reader.Reader.{Reader}
+use Rattle.csv.specs.declared.reader.Trim.TheVariants as trim
+use Rattle.snoop_trace.specs.declared.fault.TextFault.{TextFault}
+use Rattle.snoop_trace.specs.declared.fault.TextFault.TheVariants.{Read, NoMemory}
+
+-- a reader of records with no header row, that trims nothing
+pub record IsPlain {R : Type 0} (r : Reader R) : Type 0 where
+  pub trim : reader_trim r ≡ trim.None
+  pub ready : Ready r
+  pub config : reader_config r ≡ default_config
+
+-- the next record of a text, by what it says, from a state and the bytes before it to those after it
+abbrev pub Takes : {A : Type 0} → (List (List ℕ) → Result A TextFault) → State → List ℕ → Result (Option A) TextFault → State → Option (List ℕ) → Type 0
+Takes says s xs (Ok None) s2 left = next_record default_config s [] [] xs ≡ None
+Takes says s xs (Ok (Some entry)) s2 left = (fields : List (List ℕ)) × (ys : List ℕ)
+    × (next_record default_config s [] [] xs ≡ Some (fields, s2, ys)) × (left ≡ Some ys) × (says fields ≡ Ok entry)
+Takes says s xs (Err Read) s2 left = Unit {0}
+Takes says s xs (Err NoMemory) s2 left = Unit {0}
+Takes says s xs (Err fault) s2 left = (r : Record) × (next_record default_config s [] [] xs ≡ Some r) × (says r.0 ≡ Err fault)
+
+-- what a call does to a reader whose bytes are known
+abbrev pub TakesEntry : {R A : Type 0} → (R → Option (List ℕ)) → (List (List ℕ) → Result A TextFault) → Reader R → Result (Option A) TextFault → Reader R → Type 0
+TakesEntry rem says old r new = IfSome (source_of rem old) (λ xs. Takes says (reader_state old) xs r (reader_state new) (source_of rem new))

@@ -1,0 +1,37 @@
+-- How a whole text is read.
+use Rattle.std.specs.Prelude.{◌≡◌, ℕ, ◌+◌, List, [], ◌∷◌, Result, Ok, Err}
+use Rattle.csv.specs.Reading.{default_config, records, strip_bom}
+use Rattle.snoop_trace.specs.Extent.{Extent}
+use Rattle.snoop_trace.specs.Grammar.{◌>>=◌, row_in, step_in}
+use Rattle.snoop_trace.specs.declared.fault.TextFault.{TextFault}
+use Rattle.snoop_trace.specs.declared.fault.TextFault.TheVariants.{Read, NoMemory}
+use Rattle.snoop_trace.specs.declared.step.Row.{Row}
+use Rattle.snoop_trace.specs.declared.step.Step.{Step}
+
+-- the records of a text: commas, double quotes, any length, no header row, no comment, no trimming
+abbrev pub records_of : List ℕ → List (List (List ℕ))
+records_of bytes = records default_config (strip_bom bytes)
+
+-- what records say that are numbered from n, one after another, or the first fault
+unfoldable pub entries_from :
+    {A : Type 0} → (ℕ → List (List ℕ) → Result A TextFault) → ℕ → List (List (List ℕ)) → Result (List A) TextFault
+entries_from says n [] = Ok []
+entries_from says n (row ∷ rest) = do
+  entry ← says n row
+  entries ← entries_from says (n + 1) rest
+  Ok (entry ∷ entries)
+
+-- the steps of a text, or its first fault
+abbrev pub steps_of : Extent → List ℕ → Result (List Step) TextFault
+steps_of shape bytes = entries_from (step_in shape) 1 (records_of bytes)
+
+-- the rows of a text, or its first fault
+abbrev pub rows_of : Extent → List ℕ → Result (List Row) TextFault
+rows_of shape bytes = entries_from (row_in shape) 1 (records_of bytes)
+
+-- what was answered is what the text says, unless the reader failed or memory ran out
+abbrev pub Gives : {X Y : Type 0} → (X → Y) → Result X TextFault → Result Y TextFault → Type 0
+Gives view (Ok x) said = said ≡ Ok (view x)
+Gives view (Err Read) said = Unit {0}
+Gives view (Err NoMemory) said = Unit {0}
+Gives view (Err fault) said = said ≡ Err fault

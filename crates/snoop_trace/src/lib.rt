@@ -1,0 +1,24 @@
+//! Shapes of machines, rows and steps, and the texts that they are read from and written to.
+#![tactic(auto)]
+
+mod fault;
+mod fields;
+mod number;
+mod output;
+mod record;
+mod shape;
+mod sink;
+mod source;
+mod step;
+mod text;
+
+pub use fault::{NoMemory, TextFault, WriteFault};
+pub use output::{push_step, write_steps};
+pub use shape::{Shape, ShapeFault};
+pub use sink::{CHUNK, Plain, Sink, spill, write_whole};
+pub use source::{Any, Source};
+pub use step::{Op, Row, Step};
+pub use text::{read_rows, read_steps};
+
+#[cfg(test)]
+mod tests;

@@ -1,0 +1,165 @@
+//! From a record to a step or a row.
+ghost use Rattle.std.specs.Prelude.{◌≡◌, ℕ, List, Result, IfErr};
+ghost use Rattle.csv.specs.Records.{fields_of};
+ghost use Rattle.snoop_trace.specs.Extent.{Extent};
+ghost use Rattle.snoop_trace.specs.Grammar as spec;
+ghost use Rattle.snoop_trace.specs.Grammar.{NamesRecord};
+
+use crate::fault::TextFault;
+use crate::fields::{letter_of, one_of, three_of, two_of};
+use crate::number::number;
+use crate::shape::Shape;
+use crate::step::{Op, Row, Step};
+use csv::ByteRecord;
+
+/// What a record of a text says.
+pub trait Entry: Copy {
+    ghost use Rattle.snoop_trace.specs.declared.fault.TextFault.{TextFault};
+
+    // By the shape, the record's number and its fields.
+    ghost says: { Extent → ℕ → List (List ℕ) → Result Self TextFault };
+
+    /// The entry of record n.
+    fn from_record(shape: Shape, n: u64, fields: &ByteRecord) -> Result<Self, TextFault>
+        ensures entry { result ≡ says shape n (fields_of fields.now) }
+        ensures fault { IfErr result NamesRecord };
+}
+
+impl Entry for Step {
+    ghost says = { spec.step_in };
+
+    #[tactic(auto, unfolding(crate::specs::Grammar::step_in))]
+    fn from_record(shape: Shape, n: u64, fields: &ByteRecord) -> Result<Self, TextFault> {
+        match letter_of(fields).ok_or(TextFault::BadKind(n))? {
+            b'O' => order(shape, n, fields),
+            b'R' => respond(shape, n, fields),
+            letter => ask(shape, n, letter, fields),
+        }
+    }
+}
+
+impl Entry for Row {
+    ghost says = { spec.row_in };
+
+    #[tactic(auto, unfolding(crate::specs::Grammar::row_in))]
+    fn from_record(shape: Shape, n: u64, fields: &ByteRecord) -> Result<Self, TextFault> {
+        let letter = letter_of(fields).ok_or(TextFault::BadKind(n))?;
+        let row = asked(shape, n, letter, fields)?;
+        block_in(shape, n, row.address)?;
+        Ok(row)
+    }
+}
+
+fn number_in(n: u64, field: &[u8]) -> Result<u64, TextFault>
+    ensures { result ≡ spec.number_in n field.now }
+{
+    number(field).ok_or(TextFault::BadNumber(n))
+}
+
+fn core_in(shape: Shape, n: u64, core: u64) -> Result<u32, TextFault>
+    ensures { result ≡ spec.core_in shape n core }
+{
+    if core < shape.cores() as u64 {
+        Ok(core as u32)
+    } else {
+        Err(TextFault::NoCore(n))
+    }
+}
+
+fn block_in(shape: Shape, n: u64, address: u64) -> Result<u32, TextFault>
+    ensures { result ≡ spec.block_in shape n address }
+{
+    shape.block_of(address).ok_or(TextFault::NoBlock(n))
+}
+
+#[tactic(auto, unfolding(crate::specs::Grammar::load))]
+fn load(shape: Shape, n: u64, fields: &ByteRecord) -> Result<Row, TextFault>
+    ensures { result ≡ spec.load shape n (fields_of fields.now) }
+{
+    let (core, address) = two_of(fields).ok_or(TextFault::BadFields(n))?;
+    let core = number_in(n, core)?;
+    let address = number_in(n, address)?;
+    let core = core_in(shape, n, core)?;
+    Ok(Row {
+        core,
+        op: Op::Load,
+        address,
+    })
+}
+
+#[tactic(auto, unfolding(crate::specs::Grammar::store))]
+fn store(shape: Shape, n: u64, fields: &ByteRecord) -> Result<Row, TextFault>
+    ensures { result ≡ spec.store shape n (fields_of fields.now) }
+{
+    let (core, address, value) = three_of(fields).ok_or(TextFault::BadFields(n))?;
+    let core = number_in(n, core)?;
+    let address = number_in(n, address)?;
+    let value = number_in(n, value)?;
+    let core = core_in(shape, n, core)?;
+    Ok(Row {
+        core,
+        op: Op::Store(value),
+        address,
+    })
+}
+
+#[tactic(auto, unfolding(crate::specs::Grammar::evict))]
+fn evict(shape: Shape, n: u64, fields: &ByteRecord) -> Result<Row, TextFault>
+    ensures { result ≡ spec.evict shape n (fields_of fields.now) }
+{
+    let (core, address) = two_of(fields).ok_or(TextFault::BadFields(n))?;
+    let core = number_in(n, core)?;
+    let address = number_in(n, address)?;
+    let core = core_in(shape, n, core)?;
+    Ok(Row {
+        core,
+        op: Op::Evict,
+        address,
+    })
+}
+
+// What a core asks for in record n, by its letter.
+#[tactic(auto, unfolding(crate::specs::Grammar::asked))]
+fn asked(shape: Shape, n: u64, letter: u8, fields: &ByteRecord) -> Result<Row, TextFault>
+    ensures { result ≡ spec.asked shape n letter (fields_of fields.now) }
+{
+    match letter {
+        b'L' => load(shape, n, fields),
+        b'S' => store(shape, n, fields),
+        b'E' => evict(shape, n, fields),
+        _ => Err(TextFault::BadKind(n)),
+    }
+}
+
+#[tactic(auto, unfolding(crate::specs::Grammar::ask))]
+fn ask(shape: Shape, n: u64, letter: u8, fields: &ByteRecord) -> Result<Step, TextFault>
+    ensures { result ≡ spec.ask shape n letter (fields_of fields.now) }
+{
+    let row = asked(shape, n, letter, fields)?;
+    let block = block_in(shape, n, row.address)?;
+    Ok(Step::Ask {
+        core: row.core,
+        block,
+        op: row.op,
+    })
+}
+
+#[tactic(auto, unfolding(crate::specs::Grammar::order))]
+fn order(shape: Shape, n: u64, fields: &ByteRecord) -> Result<Step, TextFault>
+    ensures { result ≡ spec.order shape n (fields_of fields.now) }
+{
+    let core = one_of(fields).ok_or(TextFault::BadFields(n))?;
+    let core = number_in(n, core)?;
+    let core = core_in(shape, n, core)?;
+    Ok(Step::Order { core })
+}
+
+#[tactic(auto, unfolding(crate::specs::Grammar::respond))]
+fn respond(shape: Shape, n: u64, fields: &ByteRecord) -> Result<Step, TextFault>
+    ensures { result ≡ spec.respond shape n (fields_of fields.now) }
+{
+    let address = one_of(fields).ok_or(TextFault::BadFields(n))?;
+    let address = number_in(n, address)?;
+    let block = block_in(shape, n, address)?;
+    Ok(Step::Respond { block })
+}

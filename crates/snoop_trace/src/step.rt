@@ -1,0 +1,35 @@
+//! What a core asks of its cache, and the steps that drive a machine.
+
+/// What a core asks of its cache.
+#[derive(Clone, Copy, Debug, PartialEq, Eq)]
+pub enum Op {
+    /// To read the block's value.
+    Load,
+    /// To make this the block's value.
+    Store(u64),
+    /// To give the block up.
+    Evict,
+}
+
+/// One row of a trace: a core's operation at an address, in bytes.
+///
+/// As a record of a text it is `L,core,address`, `S,core,address,value` or `E,core,address`.
+#[derive(Clone, Copy, Debug, PartialEq, Eq)]
+pub struct Row {
+    pub core: u32,
+    pub op: Op,
+    pub address: u64,
+}
+
+/// One step of a machine, by the numbers of its core and block.
+///
+/// In a text, asking is written as a row, and the others are `O,core` and `R,address`.
+#[derive(Clone, Copy, Debug, PartialEq, Eq)]
+pub enum Step {
+    /// The core's cache controller takes the operation.
+    Ask { core: u32, block: u32, op: Op },
+    /// The oldest request of the core is ordered on the bus.
+    Order { core: u32 },
+    /// The response of the block's open transaction comes.
+    Respond { block: u32 },
+}

@@ -1,0 +1,5 @@
+mod reading;
+mod rows;
+mod shapes;
+mod streams;
+mod writing;
