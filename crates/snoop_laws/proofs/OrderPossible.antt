@@ -201,6 +201,6 @@ respond_possible p n flat before o good was_open =
           some_of (mem_row_of p before.memory (arrival_at_memory o.payload)) (implied (awaits_payload before.memory) _ t h);
       requestor = λ no_put.
           let get : not (is_put o.request) ≡ true = rw no_put refl in
-          let t0 = when_at _ _ get (respond_rule RespondTests.has_arrival RespondTests.has_arrival_holds p before.memory o.request o.payload good.claims is_claims) in
-          some_of (row_of p s (arrival o.payload)) (when_at _ _ fit (either-at _ (all_states-at _ t0 s) ow));
+          let test_first = when_at _ _ get (respond_rule RespondTests.has_arrival RespondTests.has_arrival_holds p before.memory o.request o.payload good.claims is_claims) in
+          some_of (row_of p s (arrival o.payload)) (when_at _ _ fit (either-at _ (all_states-at _ test_first s) ow));
     }

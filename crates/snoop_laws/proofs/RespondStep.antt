@@ -211,11 +211,11 @@ arrive p n flat before after o g f row was_open no_put is_row =
     let waits : awaited before.transaction c ≡ Some o.request = ap (λ (t : Option Open). awaited t c) was_open ∙ rw (eq-eqb c c refl) refl in
     let fit : fits p g.claims.shared ow (Some o.request) s ≡ true = ap (λ (w : Option Request). fits p g.claims.shared ow w s) (sym waits) ∙ g.states c f.requestor_in in
     let get : not (is_put o.request) ≡ true = rw no_put refl in
-    let t0 = when_at _ _ get (after_rule RespondTests.arrival_fits RespondTests.arrival_fits_holds p before.memory o.request o.payload g.claims after.memory f.next f.is_claims f.is_memory f.is_next) in
-    let t1 = given_at _ _ row is_row (when_at _ _ fit (either-at _ (all_states-at _ t0 s) ow)) in
+    let test_first = when_at _ _ get (after_rule RespondTests.arrival_fits RespondTests.arrival_fits_holds p before.memory o.request o.payload g.claims after.memory f.next f.is_claims f.is_memory f.is_next) in
+    let test_second = given_at _ _ row is_row (when_at _ _ fit (either-at _ (all_states-at _ test_first s) ow)) in
     let u0 = when_at _ _ get (respond_rule RespondTests.arrival_fills RespondTests.arrival_fills_holds p before.memory o.request o.payload g.claims f.is_claims) in
     let u1 = given_at _ _ row is_row (when_at _ _ fit (either-at _ (all_states-at _ u0 s) ow)) in
-    let a = and_parts (not ow) (fits p f.next.shared (gains o.request o.payload) None row.next && (not (is_clean row.next) || (g.claims.fresh && not (is_get_m o.request)))) t1 in
+    let a = and_parts (not ow) (fits p f.next.shared (gains o.request o.payload) None row.next && (not (is_clean row.next) || (g.claims.fresh && not (is_get_m o.request)))) test_second in
     let b = and_parts (fits p f.next.shared (gains o.request o.payload) None row.next) (not (is_clean row.next) || (g.claims.fresh && not (is_get_m o.request))) a.1 in
     record {
       not_owner = not_true ow a.0;
