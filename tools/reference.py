@@ -5,6 +5,7 @@ It knows no Rattle: its tables are those of docs/PROTOCOL.md, it keeps every blo
 dictionaries, and it recomputes the report from the whole history at the end. Use:
 
     tools/reference.py steps --protocol mesi < examples/silent_upgrade.steps
+    tools/reference.py run --protocol mesi < examples/producer_and_consumer.rows
     tools/reference.py storm --cores 8 --blocks 3 --count 1000 > storm.steps
 """
 import argparse
@@ -147,25 +148,85 @@ def number(text):
     return int(text, 16) if text.startswith("0x") else int(text)
 
 
+def records(text):
+    """The letter and the numbers of each record."""
+    for row in csv.reader(io.StringIO(text)):
+        if row:
+            yield row[0], [number(field) for field in row[1:]]
+
+
+def operation(kind, numbers):
+    """What a record of a row asks for."""
+    return {"L": ("Load", None), "S": ("Store", numbers[-1]), "E": ("Evict", None)}[kind]
+
+
+class Lines:
+    """Takes steps, and writes the line of each."""
+
+    def __init__(self, options):
+        self.machine = Machine(options.protocol, options.cores, options.blocks)
+        self.block_bytes = options.block_bytes
+
+    def ask(self, core, block, op):
+        reply = self.machine.ask(core, block, op)
+        value = f",{op[1]}" if op[0] == "Store" else ""
+        print(f"{op[0][0]},{core},{block * self.block_bytes}{value}: {reply}")
+        return reply
+
+    def order(self, core):
+        print(f"O,{core}: {self.machine.order(core)}")
+
+    def respond(self, block):
+        print(f"R,{block * self.block_bytes}: {self.machine.respond(block)}")
+
+    def report(self):
+        print("\n".join(report(self.machine.items)))
+
+
 def steps(options, text):
     """The lines of each step, then the report."""
-    machine = Machine(options.protocol, options.cores, options.blocks)
-    for row in csv.reader(io.StringIO(text)):
-        if not row:
-            continue
-        kind, numbers = row[0], [number(field) for field in row[1:]]
+    lines = Lines(options)
+    for kind, numbers in records(text):
         if kind == "O":
-            print(f"O,{numbers[0]}: {machine.order(numbers[0])}")
-            continue
-        if kind == "R":
-            block = numbers[0] // options.block_bytes
-            print(f"R,{block * options.block_bytes}: {machine.respond(block)}")
-            continue
-        core, block = numbers[0], numbers[1] // options.block_bytes
-        op = {"L": ("Load", None), "S": ("Store", numbers[-1]), "E": ("Evict", None)}[kind]
-        value = f",{op[1]}" if kind == "S" else ""
-        print(f"{kind},{core},{block * options.block_bytes}{value}: {machine.ask(core, block, op)}")
-    print("\n".join(report(machine.items)))
+            lines.order(numbers[0])
+        elif kind == "R":
+            lines.respond(numbers[0] // options.block_bytes)
+        else:
+            lines.ask(numbers[0], numbers[1] // options.block_bytes, operation(kind, numbers))
+    lines.report()
+
+
+def run(options, text):
+    """The lines of the steps that serve the rows, then the report: in each round each core has one turn, by rising
+    number, and does its rows in the order of the text, one after another."""
+    lines = Lines(options)
+    left = {core: [] for core in range(options.cores)}
+    for kind, numbers in records(text):
+        left[numbers[0]].append((numbers[1] // options.block_bytes, operation(kind, numbers)))
+    asked_for = {}  # by core, the block of the row that was asked for and is not over
+
+    def turn(core):
+        if core in asked_for:
+            block = asked_for[core]
+            waits = lines.machine.line[core, block][0] in WAITING
+            transaction = lines.machine.open.get(block)
+            if waits and transaction is None:
+                return lines.order(core)
+            if waits:
+                return lines.respond(block)  # another core's transaction stands in the way
+            del asked_for[core]
+            if transaction is not None and transaction[0] == core:
+                return lines.respond(block)
+            # another core's turn has brought the answer: the next row comes at once
+        if left[core]:
+            block, op = left[core].pop(0)
+            if lines.ask(core, block, op).startswith("issued"):
+                asked_for[core] = block
+
+    while asked_for or any(left.values()):
+        for core in range(options.cores):
+            turn(core)
+    lines.report()
 
 
 def storm(options):
@@ -181,7 +242,7 @@ def storm(options):
 
 def main():
     parser = argparse.ArgumentParser(description=__doc__, formatter_class=argparse.RawDescriptionHelpFormatter)
-    parser.add_argument("command", choices=("steps", "storm"))
+    parser.add_argument("command", choices=("steps", "run", "storm"))
     parser.add_argument("--protocol", choices=("msi", "mesi"), default="msi")
     parser.add_argument("--cores", type=int, default=2)
     parser.add_argument("--blocks", type=int, default=4)
@@ -189,10 +250,10 @@ def main():
     parser.add_argument("--count", type=int, default=1000)
     parser.add_argument("--seed", type=int, default=1)
     options = parser.parse_args()
-    if options.command == "steps":
-        steps(options, sys.stdin.read())
-    else:
+    if options.command == "storm":
         storm(options)
+    else:
+        {"steps": steps, "run": run}[options.command](options, sys.stdin.read())
 
 
 if __name__ == "__main__":

@@ -1,5 +1,5 @@
 -- The board of a list with one item more.
-use Rattle.std.proofs.Common.{◌≡◌, ◌≢◌, ℕ, zero, suc, ◌+◌, ◌-◌, ◌^◌, ◌<◌, ◌≤◌, min, Bool, true, false, not, ◌&&◌, List, [], ◌∷◌, ◌++◌, length, Option, Some, None, refl, sym, ◌∙◌, ap, arith, map, filter, cond, fold, inl, inr, eqb, subst, zero-add, add-zero, add-suc}
+use Rattle.std.proofs.Common.{◌≡◌, ◌≢◌, ℕ, zero, suc, ◌+◌, ◌<◌, ◌≤◌, Bool, true, false, ◌&&◌, List, [], ◌∷◌, ◌++◌, length, Option, Some, None, refl, sym, ◌∙◌, ap, arith, map, filter, cond, subst, zero-add, add-zero}
 use Rattle.std.specs.Prelude.{All, replicate, option_to_list, slice_index, slice_set, slice_get, ◌==◌, nat_lt, if◌then◌else◌, option_and_then}
 use Rattle.std.specs.List.{range_with_len}
 use Rattle.std.specs.Option.{option_map_or, ForSome}
@@ -11,12 +11,12 @@ use Rattle.std.proofs.lemmas.List.Elements.{filter-append, filter_map-append, Al
 use Rattle.snoop_history.specs.declared.items.Did.{Did}
 use Rattle.snoop_history.specs.declared.items.Item.{Item}
 use Rattle.snoop_history.specs.declared.items.Totals.{Totals}
-use Rattle.snoop_history.specs.History.{operation_of, operations, answers_of, next_number, is_store_to, last_or, flat, last_of}
+use Rattle.snoop_history.specs.History.{operation_of, operations, next_number, is_store_to, last_or, flat, last_of}
 use Rattle.snoop_history.specs.Within.{core_of, block_of, IsWithin, is_within, inside}
 use Rattle.snoop_history.specs.Totals.{totals_of, capped, capped_totals}
 use Rattle.snoop_history.specs.Journal.{counted, tallied}
 use Rattle.snoop_history.specs.Board.{Tables, for_each_below, board_of, operation_within, noted, absorbed, Absorbs}
-use Rattle.snoop_history.proofs.Pushed.{operations-one, operations-push, capped_totals-push, last_or-append}
+use Rattle.snoop_history.proofs.Pushed.{operations-one, capped_totals-push, last_or-append}
 
 -- two functions that agree make one list
 map-same : {A : Type 0} (f g : ℕ → A) (xs : List ℕ) → ((j : ℕ) → g j ≡ f j) → map g xs ≡ map f xs

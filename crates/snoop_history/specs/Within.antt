@@ -1,7 +1,6 @@
 -- Which core and block an item is of, and which items lie within a shape. Source: this project's profile.
-use Rattle.std.specs.Prelude.{◌≡◌, ℕ, ◌<◌, Bool, true, ◌&&◌, List, filter, Option, nat_lt}
+use Rattle.std.specs.Prelude.{ℕ, ◌<◌, Bool, true, ◌&&◌, List, filter, nat_lt}
 use Rattle.std.specs.Option.{option_map_or, ForSome}
-use Rattle.snoop_history.specs.declared.items.Did.{Did}
 use Rattle.snoop_history.specs.declared.items.Item.{Item}
 use Rattle.snoop_history.specs.declared.items.Item.TheVariants as item
 use Rattle.snoop_history.specs.History.{operation_of}

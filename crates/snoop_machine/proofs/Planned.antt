@@ -1,9 +1,7 @@
 -- A planned step is refused for no cause, adds the plan's item, and needs the plan's room.
-use Rattle.std.proofs.Common.{◌≡◌, ◌≢◌, ℕ, ◌<◌, Bool, List, Option, Some, None, true, false, refl, sym, ◌∙◌, ap, subst, arith, ◌⊎◌, inl, inr}
+use Rattle.std.proofs.Common.{◌≡◌, ◌≢◌, ℕ, ◌<◌, List, Option, Some, None, true, false, refl, sym, ◌∙◌, ap, subst, arith, ◌⊎◌, inl, inr}
 use Rattle.std.proofs.lemmas.Option.{same_Some}
-use Rattle.std.specs.Prelude.{slice_index_or, IsSome, is_some, MatchOption, MatchBool, ⊤}
-use Rattle.snoop_rules.specs.declared.names.CacheEvent.{CacheEvent}
-use Rattle.snoop_rules.specs.declared.names.MemEvent.{MemEvent}
+use Rattle.std.specs.Prelude.{IsSome, is_some}
 use Rattle.snoop_trace.specs.declared.step.Op.{Op}
 use Rattle.snoop_trace.specs.declared.step.Op.TheVariants as op
 use Rattle.snoop_trace.specs.declared.step.Step.TheVariants as step
@@ -16,18 +14,13 @@ use Rattle.snoop_rules.specs.declared.names.CacheAction.{CacheAction}
 use Rattle.snoop_rules.specs.declared.names.CacheAction.TheVariants as action
 use Rattle.snoop_rules.specs.declared.names.Request.{Request}
 use Rattle.snoop_rules.specs.declared.names.Request.TheVariants.{GetS, GetM, PutM}
-use Rattle.snoop_rules.specs.declared.names.MemState.{MemState}
-use Rattle.snoop_rules.specs.declared.names.Payload.{Payload}
 use Rattle.snoop_rules.specs.Cell.{Cell}
-use Rattle.snoop_rules.specs.Possible.{IsImpossible, IsMemImpossible}
 use Rattle.snoop_rules.specs.Takers.{asked}
 use Rattle.snoop_bus.specs.declared.transactions.Open.{Open}
 use Rattle.snoop_history.specs.declared.items.Did.{Did}
 use Rattle.snoop_history.specs.declared.items.Item.{Item}
 use Rattle.snoop_history.specs.declared.items.Item.TheVariants as item
 use Rattle.snoop_machine.specs.declared.lines.Line.{Line}
-use Rattle.snoop_machine.specs.declared.memory.MemLine.{MemLine}
-use Rattle.snoop_machine.specs.declared.message.Message.{Message}
 use Rattle.snoop_machine.specs.declared.ask.Asked.{Asked}
 use Rattle.snoop_machine.specs.declared.ask.Asked.TheVariants.{Absent, Hit, Issue, Drop}
 use Rattle.snoop_machine.specs.declared.respond.Filled.{Filled}
@@ -35,25 +28,24 @@ use Rattle.snoop_machine.specs.declared.plan.Plan.{Plan}
 use Rattle.snoop_machine.specs.declared.plan.Plan.TheVariants as plan
 use Rattle.snoop_machine.specs.declared.replies.Reply.{Reply}
 use Rattle.snoop_machine.specs.declared.replies.Refused.{Refused}
-use Rattle.snoop_machine.specs.declared.replies.Refused.TheVariants.{NoCore, NoBlock, Stalled, NothingWaiting, BusTaken, NoTransaction, NoMemory, Impossible}
+use Rattle.snoop_machine.specs.declared.replies.Refused.TheVariants.{NoCore, NoBlock, Stalled, NothingWaiting, BusTaken, NoTransaction, NoMemory}
 use Rattle.snoop_machine.specs.Room.{Standing}
-use Rattle.snoop_machine.specs.Picture.{held_at, held_by}
-use Rattle.snoop_machine.specs.Situation.{Situation, picture_of, state_of, no_memory, Waits}
+use Rattle.snoop_machine.specs.Picture.{held_at}
+use Rattle.snoop_machine.specs.Situation.{Situation, picture_of, state_of, Waits}
 use Rattle.snoop_machine.specs.Sound.{line_at}
 use Rattle.snoop_machine.specs.Asked.{TakesAsk, RefusesAsk}
-use Rattle.snoop_machine.specs.Arrive.{FillsLine, ArrivesIn, TakesIn}
+use Rattle.snoop_machine.specs.Arrive.{FillsLine}
 use Rattle.snoop_machine.specs.Move.{Performs, Hits, Takes, Fills, ArrivesFor, FirstMove, came_of, next_did}
 use Rattle.snoop_machine.specs.AskMove.{MovesAsk}
 use Rattle.snoop_machine.specs.OrderMove.{IsHead}
-use Rattle.snoop_machine.specs.Meets.{LacksRow, LacksAtOrder, LacksAtRequestor, LacksAtMemory}
 use Rattle.snoop_machine.specs.Refuses.{Refuses}
 use Rattle.snoop_machine.specs.StepMove.{IsDenied, RefusedFor}
 use Rattle.snoop_machine.specs.Prepared.{room_to, IsFull, IsPrepared}
-use Rattle.snoop_machine.specs.Plan.{IsPlan, IsPlanFor, IsOrdered, IsClosing, step_of, room_for, room_for_ask, entry_of, entry_of_ask}
+use Rattle.snoop_machine.specs.Plan.{IsPlan, IsPlanFor, step_of, room_for, room_for_ask, entry_of, entry_of_ask}
 use Rattle.snoop_machine.proofs.Rows.{Cell-one}
 
 -- an Evict in I has no row
-no_row : (p : Protocol) (s : CacheState) (asking : Op) (a : CacheAction) (n : CacheState) → asking ≡ op.Evict → s ≡ I → Cell p s (asked asking) a n → ⊥
+pub no_row : (p : Protocol) (s : CacheState) (asking : Op) (a : CacheAction) (n : CacheState) → asking ≡ op.Evict → s ≡ I → Cell p s (asked asking) a n → ⊥
 no_row p s asking a n e i row =
     let P : CacheState → Type 0 = λ x. Cell p x (asked asking) a n in
     let Q : Op → Type 0 = λ o. Cell p I (asked o) a n in
@@ -82,17 +74,6 @@ row_found p line asking (Drop new) t = inr (t.0, (t.1.0, λ e. cc))
 pub IsDenied-ask : (s : Situation) (core block : ℕ) (asking : Op) (cause : Refused) → core < s.shape.cores → block < s.shape.blocks
     → RefusesAsk s.protocol (line_at s.caches core block) asking cause → IsDenied s (step.Ask core block asking) cause
 IsDenied-ask s core block asking (Stalled state) in_cores in_blocks h = ((in_cores, in_blocks), h.0, h.1)
-IsDenied-ask s core block asking Impossible in_cores in_blocks h = (allowed, h)
-  where
-    allowed : (cause : Refused) → ¬ Refuses s (step.Ask core block asking) cause
-    allowed NoCore g = absurd (omega arith)
-    allowed NoBlock g = let k = g.1 in absurd (omega arith)
-    allowed (Stalled state) g = h.1 action.Stall g.2.0 g.2.1
-    allowed NothingWaiting g = g
-    allowed (BusTaken b) g = g
-    allowed NoTransaction g = g
-    allowed NoMemory g = g
-    allowed Impossible g = g
 IsDenied-ask s core block asking NoCore in_cores in_blocks h = absurd h
 IsDenied-ask s core block asking NoBlock in_cores in_blocks h = absurd h
 IsDenied-ask s core block asking NothingWaiting in_cores in_blocks h = absurd h
@@ -114,13 +95,6 @@ module _ (s : Situation) (core block : ℕ) (asking : Op) (way : Asked) (in_core
   ask-allowed (BusTaken b) g = g
   ask-allowed NoTransaction g = g
   ask-allowed NoMemory g = g
-  ask-allowed Impossible g = g
-
-  ask-rows : ¬ LacksRow s (step.Ask core block asking)
-  ask-rows lacks = elim (row_found s.protocol (line_at s.caches core block) asking way takes) [
-    | inl absent ↦ lacks.0 (absent.0, absent.1)
-    | inr row ↦ lacks.1 (act_of way) row.0 row.1.0
-  ]
 
 -- an Order of the oldest request, of a block with no open transaction, is not refused
 pub order-allowed : (s : Situation) (core block : ℕ) (request : Request) → core < s.shape.cores → IsHead s core request block → (picture_of s block).transaction ≡ None
@@ -138,24 +112,9 @@ order-allowed s core block request in_cores head free (BusTaken b) h =
     cc
 order-allowed s core block request in_cores head free NoTransaction h = h
 order-allowed s core block request in_cores head free NoMemory h = h
-order-allowed s core block request in_cores head free Impossible h = h
-
-order-rows : (s : Situation) (core block : ℕ) (request : Request) (message : Message) (memory : MemState) → IsOrdered s core request block message memory → ¬ LacksRow s (step.Order core)
-order-rows s core block request message memory o h =
-    let same : h.0 ≡ block = same_Some _ _ (sym h.1.1.0 ∙ o.head.first) in
-    let W : ℕ → Type 0 = λ x. Waits s core x h.1.0 in
-    let its : h.1.0 ≡ request = same_Some _ _ (sym (subst W same h.1.1.1) ∙ o.head.waits) in
-    let P : ℕ → Type 0 = λ x. LacksAtOrder s.protocol (picture_of s x) core h.1.0 in
-    let R : Request → Type 0 = λ q. LacksAtOrder s.protocol (picture_of s block) core q in
-    go (subst R its (subst P same h.1.1.2))
-  where
-    go : LacksAtOrder s.protocol (picture_of s block) core request → ⊥
-    go (inl lacks) = let there = o.sent.rows lacks.0 lacks.1.0 in lacks.1.1 there.0 there.1.0 there.1.1
-    go (inr (inl lacks)) = lacks o.memory_row.0 memory o.memory_row.1
-    go (inr (inr lacks)) = lacks (message.from, (message.payload, o.sent.only))
 
 -- a Respond of an open transaction is not refused
-respond-allowed : (s : Situation) (block : ℕ) (closing : Open) → block < s.shape.blocks → (picture_of s block).transaction ≡ Some closing
+pub respond-allowed : (s : Situation) (block : ℕ) (closing : Open) → block < s.shape.blocks → (picture_of s block).transaction ≡ Some closing
     → (cause : Refused) → ¬ Refuses s (step.Respond block) cause
 respond-allowed s block closing in_blocks opened NoCore h = h
 respond-allowed s block closing in_blocks opened NoBlock h = absurd (omega arith)
@@ -164,58 +123,12 @@ respond-allowed s block closing in_blocks opened NothingWaiting h = h
 respond-allowed s block closing in_blocks opened (BusTaken b) h = h
 respond-allowed s block closing in_blocks opened NoTransaction h = let clash : ◌≡◌ {A = Option Open} None (Some closing) = sym h.1 ∙ opened in cc
 respond-allowed s block closing in_blocks opened NoMemory h = h
-respond-allowed s block closing in_blocks opened Impossible h = h
-
--- memory that took the payload lacks no row for it
-memory-rows : (p : Protocol) (payload : Payload) (sent : ℕ) (old new : MemLine) → ArrivesIn p payload sent old new → ¬ LacksAtMemory p old.state payload
-memory-rows p payload sent old new arrives lacks =
-    let P : Bool → Type 0 = λ b. MatchBool b (TakesIn p payload sent old new) (new ≡ old) in
-    let t : TakesIn p payload sent old new = subst P lacks.0 arrives in
-    let Q : Option MemEvent → Type 0 = λ e. MatchOption e ⊤ (IsMemImpossible p old.state) in
-    let none : IsMemImpossible p old.state t.event = subst Q t.arrives lacks.1 in
-    none t.act new.state t.row
-
--- nor does a requestor that was filled
-requestor-rows : (q : Request) (p : Protocol) (line : Line) (payload : Payload) (sent : ℕ) (filled : Filled) → FillsLine p line payload sent filled → ¬ LacksAtRequestor q p line.state payload
-requestor-rows PutM p line payload sent filled f lacks = lacks
-requestor-rows GetS p line payload sent filled f lacks =
-    let Q : Option CacheEvent → Type 0 = λ e. MatchOption e ⊤ (IsImpossible p line.state) in
-    let none : IsImpossible p line.state f.event = subst Q f.arrives lacks in
-    none f.act f.next f.row
-requestor-rows GetM p line payload sent filled f lacks =
-    let Q : Option CacheEvent → Type 0 = λ e. MatchOption e ⊤ (IsImpossible p line.state) in
-    let none : IsImpossible p line.state f.event = subst Q f.arrives lacks in
-    none f.act f.next f.row
-
-module _ (s : Situation) (block : ℕ) (closing : Open) (memory : MemLine) (is : IsClosing s block closing memory)
-    (requestor : ¬ LacksAtRequestor closing.request s.protocol (held_by (picture_of s block) closing.core).state closing.payload) where
-  respond-rows : ¬ LacksRow s (step.Respond block)
-  respond-rows lacks =
-      let same : lacks.0 ≡ closing = same_Some _ _ (sym lacks.1.0 ∙ is.opened) in
-      let P : Open → Type 0 = λ o. LacksAtRequestor o.request s.protocol (held_by (picture_of s block) o.core).state o.payload ⊎ LacksAtMemory s.protocol (picture_of s block).memory o.payload in
-      elim (subst P same lacks.1.1) [
-        | inl l ↦ requestor l
-        | inr l ↦ memory-rows s.protocol closing.payload closing.value (slice_index_or s.memory block no_memory) memory is.arrives l
-      ]
-
-put-rows : (q : Request) (p : Protocol) (held : CacheState) (payload : Payload) → q ≡ PutM → ¬ LacksAtRequestor q p held payload
-put-rows q p held payload e lacks =
-    let P : Request → Type 0 = λ x. LacksAtRequestor x p held payload in
-    subst P e lacks
 
 pub plan-allowed : (s : Situation) (x : Plan) → IsPlan s x → (cause : Refused) → ¬ Refuses s (step_of x) cause
 plan-allowed s (plan.Ask core block asking way) h = ask-allowed s core block asking way h.0.0 h.0.1 h.1
 plan-allowed s (plan.Order core request block message memory) h = order-allowed s core block request h.0 h.1.head h.1.free
 plan-allowed s (plan.Writeback block closing memory) h = respond-allowed s block closing h.0 h.1.opened
 plan-allowed s (plan.Fill block closing memory filled) h = respond-allowed s block closing h.0 h.1.opened
-
-pub plan-rows : (s : Situation) (x : Plan) → IsPlan s x → ¬ LacksRow s (step_of x)
-plan-rows s (plan.Ask core block asking way) h = ask-rows s core block asking way h.0.0 h.0.1 h.1
-plan-rows s (plan.Order core request block message memory) h = order-rows s core block request message memory h.1
-plan-rows s (plan.Writeback block closing memory) h =
-    respond-rows s block closing memory h.1 (put-rows closing.request s.protocol (held_by (picture_of s block) closing.core).state closing.payload h.2)
-plan-rows s (plan.Fill block closing memory filled) h =
-    respond-rows s block closing memory h.1 (requestor-rows closing.request s.protocol (line_at s.caches closing.core block) closing.payload closing.value filled h.3)
 
 -- an operation on one value loads or stores one value
 performs-one : (asking : Op) (a b v w m n : ℕ) → a ≡ b → Performs asking a v m → Performs asking b w n → v ≡ w
@@ -333,7 +246,7 @@ plan-room before (plan.Fill block closing memory filled) h some full = absurd (o
 pub RefusedFor-memory : (s : Situation) (taking : Step) (x : Plan) → IsPlanFor s taking x → RefusedFor s taking NoMemory
 RefusedFor-memory s taking x h =
     let P : Step → Type 0 = λ t. RefusedFor s t NoMemory in
-    subst P h.0 (plan-allowed s x h.1, plan-rows s x h.1)
+    subst P h.0 (plan-allowed s x h.1)
 
 -- a planned step with its room is prepared
 pub IsPrepared-plan : (before : Standing) (taking : Step) (x : Plan) (entry : Option Item) → IsPlanFor before.situation taking x → 0 < room_for before x → entry ≡ entry_of before.situation.log x
@@ -342,7 +255,6 @@ IsPrepared-plan before taking x entry h some is =
     let P : Step → Type 0 = λ t. IsPrepared before t entry in
     subst P h.0 (record {
       allowed = plan-allowed before.situation x h.1;
-      rows = plan-rows before.situation x h.1;
       room = plan-room before x h.1 some;
       adds = λ answer new added move. plan-adds before.situation x h.1 answer new added move ∙ sym is;
     })

@@ -8,13 +8,12 @@ use Rattle.snoop_rules.specs.declared.names.CacheState.{CacheState}
 use Rattle.snoop_rules.specs.declared.names.CacheState.TheVariants as state
 use Rattle.snoop_rules.specs.declared.names.CacheAction.TheVariants as action
 use Rattle.snoop_rules.specs.Cell.{Cell}
-use Rattle.snoop_rules.specs.Possible.{IsImpossible}
 use Rattle.snoop_rules.specs.Takers.{asked}
 use Rattle.snoop_machine.specs.declared.lines.Line.{Line}
 use Rattle.snoop_machine.specs.declared.ask.Asked.{Asked}
 use Rattle.snoop_machine.specs.declared.ask.Asked.TheVariants.{Absent, Hit, Issue, Drop}
 use Rattle.snoop_machine.specs.declared.replies.Refused.{Refused}
-use Rattle.snoop_machine.specs.declared.replies.Refused.TheVariants.{Stalled, Impossible}
+use Rattle.snoop_machine.specs.declared.replies.Refused.TheVariants.{Stalled}
 use Rattle.snoop_machine.specs.Picture.{kept_on}
 use Rattle.snoop_machine.specs.Move.{Performs, comes_to, kept_waiting}
 
@@ -39,5 +38,4 @@ TakesAsk protocol old asking (Drop new) = (next : CacheState) × (Cell protocol 
 -- why the Ask is refused on this line
 abbrev pub RefusesAsk : Protocol → Line → Op → Refused → Type 0
 RefusesAsk protocol old asking (Stalled state) = (state ≡ old.state) × ((next : CacheState) × Cell protocol old.state (asked asking) action.Stall next)
-RefusesAsk protocol old asking Impossible = (¬ ((asking ≡ op.Evict) × (old.state ≡ state.I))) × IsImpossible protocol old.state (asked asking)
 RefusesAsk protocol old asking _ = ⊥

@@ -1,6 +1,6 @@
 -- Each Order is a line of the table of senders.
 -- Source: "A Primer on Memory Consistency and Cache Coherence", 2nd edition, chapter 7; MESI's memory is this project's profile.
-use Rattle.std.specs.Prelude.{◌≡◌, ℕ, List, Option, Some, None, option_map, MatchBool}
+use Rattle.std.specs.Prelude.{◌≡◌, ℕ, Option, Some, None, option_map, MatchBool}
 use Rattle.snoop_rules.specs.declared.names.Protocol.{Protocol}
 use Rattle.snoop_rules.specs.declared.names.MemState.{MemState}
 use Rattle.snoop_rules.specs.declared.names.MemEvent.{MemEvent}
@@ -12,6 +12,8 @@ use Rattle.snoop_rules.specs.MemoryCell.{MemoryCell}
 use Rattle.snoop_rules.specs.Takers.{at_memory, awaits_payload, arrival_at_memory}
 use Rattle.snoop_rules.specs.WhoSends.{SentAs}
 use Rattle.snoop_machine.specs.Picture.{Picture, held_by}
+use Rattle.snoop_machine.specs.Situation.{Situation, picture_of, Waits}
+use Rattle.snoop_machine.specs.Meets.{FindsRows}
 use Rattle.snoop_machine.specs.Sends.{IsOnlySender}
 
 -- memory's state after the Respond: it takes the payload where it waits for one
@@ -33,3 +35,9 @@ pub record IsLed (protocol : Protocol) (before : Picture) (core : ℕ) (request 
   pub settled : Settles protocol next payload done
   pub line : SentAs protocol request before.memory (option_map (λ k. (held_by before k).state) from) payload next done
   pub writeback : request ≡ PutM → from ≡ Some core
+
+-- every request that waits on a free block would find all its rows and exactly one sender, and be a line of the table
+abbrev pub OrdersAreLed : Situation → Type 0
+OrdersAreLed s =
+    (core block : ℕ) (request : Request) → Waits s core block request → (picture_of s block).transaction ≡ None →
+    FindsRows s.protocol (picture_of s block) core request × IsLed s.protocol (picture_of s block) core request

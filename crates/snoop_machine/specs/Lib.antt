@@ -19,3 +19,15 @@ pub mod OneWriter
 pub mod Run
 pub mod Once
 pub mod Led
+pub mod Turn
+pub mod WellKept
+pub mod Serving
+pub mod Quiet
+pub mod TurnRule
+pub mod Fits
+pub mod Good
+pub mod Coherent
+pub mod InQueue
+pub mod Parts
+pub mod Runs
+pub mod Row

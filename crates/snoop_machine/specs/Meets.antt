@@ -1,6 +1,7 @@
 -- When a controller meets an impossible cell.
 -- Source: this project's profile.
 use Rattle.std.specs.Prelude.{◌≡◌, ℕ, ◌<◌, length, Option, Some, MatchOption, ◌⊎◌, slice_get, IsTrue, ⊤}
+use Rattle.snoop_trace.specs.declared.step.Op.{Op}
 use Rattle.snoop_trace.specs.declared.step.Op.TheVariants as op
 use Rattle.snoop_trace.specs.declared.step.Step.{Step}
 use Rattle.snoop_trace.specs.declared.step.Step.TheVariants.{Ask, Order, Respond}
@@ -25,6 +26,10 @@ use Rattle.snoop_machine.specs.Situation.{Situation, picture_of, state_of, Waits
 use Rattle.snoop_machine.specs.Sends.{IsOnlySender}
 use Rattle.snoop_machine.specs.Refuses.{Refuses}
 
+-- the core has no row for its operation; an Evict in I needs none
+abbrev pub LacksAtAsk : Protocol → CacheState → Op → Type 0
+LacksAtAsk protocol held asking = (¬ ((asking ≡ op.Evict) × (held ≡ state.I))) × IsImpossible protocol held (asked asking)
+
 -- exactly one controller sends
 abbrev pub HasOneSender : Protocol → Picture → ℕ → Request → Type 0
 HasOneSender protocol before core request = (from : Option ℕ) × ((payload : Payload) × IsOnlySender protocol before core request from payload)
@@ -41,11 +46,15 @@ pub record FindsRows (protocol : Protocol) (before : Picture) (core : ℕ) (requ
   pub memory : (act : MemAction) × ((next : MemState) × MemoryCell protocol before.memory (at_memory request) act next)
   pub sender : HasOneSender protocol before core request
 
--- the requestor has no row for its payload
+-- a core has no row for the payload
+abbrev pub LacksAtArrival : Protocol → CacheState → Payload → Type 0
+LacksAtArrival protocol held payload = MatchOption (arrival payload) ⊤ (IsImpossible protocol held)
+
+-- the requestor has no row for its payload; at a PutM it takes none
 abbrev pub LacksAtRequestor : Request → Protocol → CacheState → Payload → Type 0
 LacksAtRequestor PutM protocol held payload = ⊥
-LacksAtRequestor GetS protocol held payload = MatchOption (arrival payload) ⊤ (IsImpossible protocol held)
-LacksAtRequestor GetM protocol held payload = MatchOption (arrival payload) ⊤ (IsImpossible protocol held)
+LacksAtRequestor GetS protocol held payload = LacksAtArrival protocol held payload
+LacksAtRequestor GetM protocol held payload = LacksAtArrival protocol held payload
 
 -- memory waits for a payload and has no row for this one
 abbrev pub LacksAtMemory : Protocol → MemState → Payload → Type 0
@@ -53,8 +62,7 @@ LacksAtMemory protocol memory payload = IsTrue (awaits_payload memory) × MatchO
 
 -- a controller that the step consults has no row, or an Order has not exactly one sender
 abbrev pub LacksRow : Situation → Step → Type 0
-LacksRow s (Ask core block asking) =
-    (¬ ((asking ≡ op.Evict) × (state_of s core block ≡ state.I))) × IsImpossible s.protocol (state_of s core block) (asked asking)
+LacksRow s (Ask core block asking) = LacksAtAsk s.protocol (state_of s core block) asking
 LacksRow s (Order core) =
     (block : ℕ) × ((request : Request) × ((slice_get (queue_of s.queues core) 0 ≡ Some block) × Waits s core block request × LacksAtOrder s.protocol (picture_of s block) core request))
 LacksRow s (Respond block) =

@@ -1,23 +1,20 @@
 -- The look-up of the sender at an Order, and the rows that the cores take.
 -- Source: this project's profile.
-use Rattle.std.specs.Prelude.{◌≡◌, ℕ, ◌<◌, List, length, Option, Some, None, ⊤, if◌then◌else◌}
+use Rattle.std.specs.Prelude.{◌≡◌, ℕ, ◌<◌, List, length, Option, Some, None, if◌then◌else◌}
 use Rattle.snoop_rules.specs.declared.names.Protocol.{Protocol}
 use Rattle.snoop_rules.specs.declared.names.CacheState.{CacheState}
 use Rattle.snoop_rules.specs.declared.names.CacheEvent.{CacheEvent}
 use Rattle.snoop_rules.specs.declared.names.CacheAction.{CacheAction}
 use Rattle.snoop_rules.specs.declared.names.Request.{Request}
-use Rattle.snoop_rules.specs.declared.names.Payload.{Payload}
 use Rattle.snoop_rules.specs.Cell.{Cell}
-use Rattle.snoop_rules.specs.Takers.{seen_by, at_memory, carries_value}
-use Rattle.snoop_rules.specs.MemoryCell.{MemoryCell}
-use Rattle.snoop_rules.specs.declared.names.MemState.{MemState}
+use Rattle.snoop_rules.specs.Takers.{seen_by, carries_value}
 use Rattle.snoop_rules.specs.declared.names.MemAction.{MemAction}
 use Rattle.snoop_rules.specs.declared.names.MemAction.TheVariants as mem_action
 use Rattle.snoop_machine.specs.declared.lines.Line.{Line}
 use Rattle.snoop_machine.specs.declared.memory.MemLine.{MemLine}
 use Rattle.snoop_machine.specs.declared.message.Message.{Message}
 use Rattle.snoop_machine.specs.Picture.{Picture, held_at, held_by}
-use Rattle.snoop_machine.specs.Sends.{Sends, IsOnlySender, value_sent}
+use Rattle.snoop_machine.specs.Sends.{IsOnlySender, value_sent}
 use Rattle.snoop_machine.specs.Move.{TakesRow}
 
 -- a block on which no transaction is open
@@ -27,19 +24,6 @@ free_picture row memory = record { caches = row; memory = memory.state; value = 
 -- the pair of state and event has a row
 abbrev pub HasRow : Protocol → CacheState → CacheEvent → Type 0
 HasRow protocol state event = (act : CacheAction) × ((next : CacheState) × Cell protocol state event act next)
-
--- memory, or a core below n
-abbrev pub IsBelow : ℕ → Option ℕ → Type 0
-IsBelow n None = ⊤
-IsBelow n (Some core) = core < n
-
--- among memory and the cores below n this message's controller alone sends, or none does
-abbrev pub FoundBelow : Protocol → Picture → ℕ → Request → ℕ → Option Message → Type 0
-FoundBelow protocol before core request n None = (other : Option ℕ) (payload : Payload) → IsBelow n other → ¬ Sends protocol before core request other payload
-FoundBelow protocol before core request n (Some message) =
-    IsBelow n message.from × Sends protocol before core request message.from message.payload
-    × (message.value ≡ value_sent before message.from message.payload)
-    × ((other : Option ℕ) (payload : Payload) → IsBelow n other → Sends protocol before core request other payload → other ≡ message.from)
 
 -- each core has a row for the request, and this message is that of the only sender
 pub record IsMessage (protocol : Protocol) (before : Picture) (core : ℕ) (request : Request) (message : Message) : Type 0 where
@@ -57,9 +41,3 @@ abbrev pub memory_message : MemAction → ℕ → Option Message
 memory_message (mem_action.Send payload) value = Some (record { payload = payload; value = if carries_value payload then value else 0; from = None })
 memory_message mem_action.None value = None
 memory_message mem_action.Write value = None
-
--- the message of the only sender so far, each core below n having a row
-pub record IsFound (protocol : Protocol) (before : Picture) (core : ℕ) (request : Request) (n : ℕ) (message : Option Message) : Type 0 where
-  pub memory : (act : MemAction) × ((next : MemState) × MemoryCell protocol before.memory (at_memory request) act next)
-  pub rows : (k : ℕ) → k < n → HasRow protocol (held_by before k).state (seen_by k core request)
-  pub found : FoundBelow protocol before core request n message

@@ -15,7 +15,6 @@ use Rattle.snoop_machine.specs.Room.{Standing}
 use Rattle.snoop_machine.specs.Situation.{Situation, state_of}
 use Rattle.snoop_machine.specs.Move.{FirstMove}
 use Rattle.snoop_machine.specs.Refuses.{Refuses}
-use Rattle.snoop_machine.specs.Meets.{LacksRow}
 
 -- for how many more Asks of the core by this action there is room: a hit adds an item, an issue adds a request, and no other adds any
 abbrev pub room_to : CacheAction → Standing → ℕ → ℕ
@@ -30,9 +29,8 @@ IsFull before (Ask core block asking) =
 IsFull before (Order core) = before.room ≡ 0
 IsFull before (Respond block) = before.room ≡ 0
 
--- the step is not refused, meets no impossible cell, has its room, and adds this item, if any, whatever move it is
+-- the step is not refused, has its room, and adds this item, if any, whatever move it is
 pub record IsPrepared (before : Standing) (step : Step) (entry : Option Item) : Type 0 where
   pub allowed : (cause : Refused) → ¬ Refuses before.situation step cause
-  pub rows : ¬ LacksRow before.situation step
   pub room : ¬ IsFull before step
   pub adds : (answer : Reply) (new : Situation) (added : Option Item) → FirstMove before.situation step answer new added → added ≡ entry

@@ -56,3 +56,16 @@ abbrev pub EveryRun : (Protocol → List Step → List (Result Reply Refused) �
 EveryRun P =
     (protocol : Protocol) (shape : Extent) (steps : List Step) (outcomes : List (Result Reply Refused)) (new : Situation) →
     Run protocol shape steps outcomes new → P protocol steps outcomes new
+
+-- from where the run of some steps has led, any further steps have a run too
+abbrev pub RunsGoOn : Type 0
+RunsGoOn =
+    (protocol : Protocol) (shape : Extent) (steps further : List Step) (outcomes : List (Result Reply Refused)) (reached : Situation) →
+    TheRun protocol shape steps outcomes reached →
+    (more : List (Result Reply Refused)) × ((final : Situation) × FirstRunFrom reached further more final)
+
+-- the run of some steps is the only one
+abbrev pub RunsAreOne : Type 0
+RunsAreOne =
+    (protocol : Protocol) (shape : Extent) (steps : List Step) (outcomes others : List (Result Reply Refused)) (final end : Situation) →
+    TheRun protocol shape steps outcomes final → TheRun protocol shape steps others end → (outcomes ≡ others) × (final ≡ end)

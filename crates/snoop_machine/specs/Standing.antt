@@ -1,8 +1,8 @@
--- What callers see of a machine, and the view that shows it.
+-- What is seen of a machine's parts, and what holds between them.
 -- Source: this project's profile.
 use Rattle.std.specs.Prelude.{◌≡◌, ◌<◌, ℕ, length, List, map}
 use Rattle.snoop_bus.specs.Traffic.{Waiting}
-use Rattle.snoop_machine.specs.declared.machine.Machine.TheInside.{Inside}
+use Rattle.snoop_machine.specs.declared.parts.Parts.TheInside.{Inside}
 use Rattle.snoop_machine.specs.Sound.{IsSound}
 use Rattle.snoop_machine.specs.Room.{Standing}
 
@@ -10,7 +10,7 @@ use Rattle.snoop_machine.specs.Room.{Standing}
 abbrev pub queues_of : List Waiting → List (List ℕ)
 queues_of queues = map (λ queue. map (λ r. r.1) queue.requests) queues
 
--- the view of a machine
+-- the view of the parts
 abbrev pub standing : Inside → Standing
 standing m =
     record {
@@ -27,7 +27,7 @@ standing m =
       room = m.log.room;
     }
 
--- what every machine keeps
+-- what the parts of every machine keep
 pub record IsWhole (m : Inside) : Type 0 where
   pub few : m.shape.cores < 257
   pub sound : IsSound m.shape m.lines m.bus

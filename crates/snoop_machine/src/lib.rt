@@ -2,16 +2,22 @@
 #![tactic(auto)]
 
 mod ask;
+pub mod laws;
 mod lines;
 mod machine;
 mod memory;
 mod message;
 mod order;
+mod parts;
 mod plan;
 mod replies;
 mod respond;
+mod row;
 #[cfg(test)]
 mod tests;
+mod turn;
+mod turn_rule;
 
-pub use machine::Machine;
+pub use machine::{Machine, run_steps};
 pub use replies::{Refused, Reply};
+pub use turn_rule::turns_are_served;

@@ -1,33 +1,38 @@
-ghost use Rattle.std.specs.Prelude.{◌≡◌, ◌<◌, ◌↔◌, length, is_some, IsTrue, IfOk, IfSome, Some};
+ghost use Rattle.std.specs.Prelude.{◌≡◌, ◌<◌, ◌↔◌, ◌++◌, ℕ, [], ◌∷◌, length, Option, is_some, IsTrue, IsOk, IfOk, IfErr, IfSome, Ok, Err, Some, option_to_list};
+ghost use Rattle.snoop_trace.specs.declared.step.Step.{Step};
 ghost use Rattle.snoop_bus.specs.Queues.{queue_of};
-ghost use Rattle.snoop_machine.specs.Picture.{first_memory, held_by};
+ghost use Rattle.snoop_history.specs.History.{Legal};
+ghost use Rattle.snoop_history.specs.declared.items.Item.{Item};
+ghost use Rattle.snoop_machine.specs.declared.replies.Refused.{Refused};
+ghost use Rattle.snoop_machine.specs.declared.replies.Refused.TheVariants.{NoMemory as WantOfMemory};
+ghost use Rattle.snoop_machine.specs.Picture.{held_by};
 ghost use Rattle.snoop_machine.specs.Situation.{picture_of, reset, state_of};
-ghost use Rattle.snoop_machine.specs.Sound.{IsProper, keeps, line_at};
-ghost use Rattle.snoop_machine.specs.Move.{next_did};
+ghost use Rattle.snoop_machine.specs.Sound.{keeps};
+ghost use Rattle.snoop_machine.specs.Move.{FirstMove};
+ghost use Rattle.snoop_machine.specs.Refuses.{Refuses};
+ghost use Rattle.snoop_machine.specs.StepMove.{RefusedFor};
+ghost use Rattle.snoop_machine.specs.Prepared.{IsFull, IsPrepared};
+ghost use Rattle.snoop_machine.specs.Meets.{Meets};
+ghost use Rattle.snoop_machine.specs.Led.{OrdersAreLed};
+ghost use Rattle.snoop_machine.specs.OneWriter.{OneWriter};
+ghost use Rattle.snoop_machine.specs.Once.{OnceMore};
+ghost use Rattle.snoop_machine.specs.Runs.{HasRun};
 
-mod ask;
-mod order;
-mod respond;
-mod step;
-
-use crate::lines::{Line, Lines};
-use crate::memory::MemLine;
-use snoop_bus::{Bus, Open};
-use snoop_history::{Did, Log};
+use crate::parts::Parts;
+use crate::replies::{Refused, Reply};
+use snoop_bus::Open;
+use snoop_history::{Item, Log};
 use snoop_rules::{CacheState, MemState, Protocol};
-use snoop_trace::{NoMemory, Op, Shape};
+use snoop_trace::{NoMemory, Shape, Step};
 use std::alloc::Global;
 use std::marker::Model;
 
-/// The caches, memory, the bus that joins them, and the history of what they did.
+/// Caches, memory, the bus that joins them, and the history of what they did.
+///
+/// Every machine is coherent: each block has one writer alone, or only readers, and each load read the last value stored.
 #[derive(Debug, Drop)]
 pub struct Machine {
-    protocol: Protocol,
-    shape: Shape,
-    lines: Lines,
-    memory: Vec<MemLine>,
-    bus: Bus,
-    log: Log,
+    parts: Parts,
 }
 
 impl Model for Machine {
@@ -35,49 +40,69 @@ impl Model for Machine {
 
     ghost Value = { Standing };
 
-    ghost use Rattle.snoop_machine.specs.Standing.{standing, IsWhole};
+    ghost use Rattle.snoop_machine.specs.Parts.{as_parts_stand, ArePartsCoherent};
 
-    ghost view = { standing };
+    ghost view = { as_parts_stand };
 
-    ghost invariant = { IsWhole };
+    ghost invariant = { ArePartsCoherent };
 }
 
 impl Machine {
     /// A machine at reset.
     pub fn reset(alloc: Global, protocol: Protocol, shape: Shape) -> Result<Self, NoMemory>
-        ensures { IfOk result (λ machine. machine.situation ≡ reset protocol shape) }
+        ensures at_reset { IfOk result (λ machine. machine.situation ≡ reset protocol shape) }
+        ensures one_writer { IfOk result (λ machine. (block : ℕ) → OneWriter machine.situation.protocol (picture_of machine.situation block)) }
+        ensures legal { IfOk result (λ machine. Legal machine.situation.log) }
+        ensures possible { IfOk result (λ machine. (step : Step) → ¬ Meets machine.situation step) }
+        ensures orders { IfOk result (λ machine. OrdersAreLed machine.situation) }
     {
-        prove!(shape.cores() <= 256);
-        let lines = Lines::new(alloc, shape)?;
-        let bus = Bus::new(alloc, shape)?;
-        let log = Log::new(alloc, shape)?;
-        let first = MemLine {
-            state: first_state(protocol),
-            value: 0,
-        };
-        let memory = vec![in alloc; first; shape.blocks() as usize]?;
-        Ok(Machine {
-            protocol,
-            shape,
-            lines,
-            memory,
-            bus,
-            log,
-        })
+        let parts = Parts::reset(alloc, protocol, shape)?;
+        Ok(Machine { parts })
+    }
+
+    /// Takes one step, or refuses it; a refused step changes nothing.
+    pub fn step(&mut self, step: Step) -> Result<Reply, Refused>
+        ensures taken { IfOk result (λ reply. (entry : Option Item) × FirstMove self.old.situation step reply self.new.situation entry) }
+        ensures refused { IfErr result (λ cause. RefusedFor self.old.situation step cause × (self.new.situation ≡ self.old.situation)) }
+        ensures exactly { (cause : Refused) → Refuses self.old.situation step cause → result ≡ Err cause }
+        ensures full { result ≡ Err WantOfMemory → IsFull self.old step }
+
+        // What `prepare` told comes true.
+        ensures prepared { (entry : Option Item) → IsPrepared self.old step entry → IsOk result × (self.new.situation.log ≡ self.old.situation.log ++ option_to_list entry) }
+
+        // The machine is coherent after every step, taken or refused.
+        ensures one_writer { (block : ℕ) → OneWriter self.new.situation.protocol (picture_of self.new.situation block) }
+        ensures legal { Legal self.new.situation.log }
+        ensures once { IfOk result (λ reply. OnceMore self.old.situation (step ∷ []) (Ok reply ∷ []) self.new.situation) }
+        ensures possible { (next : Step) → ¬ Meets self.new.situation next }
+        ensures orders { OrdersAreLed self.new.situation }
+    {
+        self.parts.step(step)
+    }
+
+    /// Makes the room for a step, and tells the item that it will add. The same step, taken next, is not refused and takes no memory.
+    pub fn prepare(&mut self, step: Step) -> Result<Option<Item>, Refused>
+        ensures prepared { IfOk result (λ entry. IsPrepared self.new step entry) }
+        ensures refused { IfErr result (λ cause. RefusedFor self.old.situation step cause) }
+        ensures exactly { (cause : Refused) → Refuses self.old.situation step cause → result ≡ Err cause }
+        ensures full { result ≡ Err WantOfMemory → IsFull self.old step }
+        ensures unchanged { self.new.situation ≡ self.old.situation }
+    {
+        self.parts.prepare(step)
     }
 
     /// The protocol that all controllers follow.
     pub fn protocol(&self) -> Protocol
         ensures { result ≡ self.now.situation.protocol }
     {
-        self.protocol
+        self.parts.protocol()
     }
 
     /// How many cores and blocks there are, and the bytes of a block.
     pub fn shape(&self) -> Shape
         ensures { result ≡ self.now.situation.shape }
     {
-        self.shape
+        self.parts.shape()
     }
 
     /// The core's state of the block, or `None` outside the shape.
@@ -85,11 +110,7 @@ impl Machine {
         ensures inside { core < self.now.situation.shape.cores → block < self.now.situation.shape.blocks → result ≡ Some (state_of self.now.situation core block) }
         ensures outside { IfSome result (λ _. (core < self.now.situation.shape.cores) × (block < self.now.situation.shape.blocks)) }
     {
-        if core < self.shape.cores() && block < self.shape.blocks() {
-            Some(self.line(core, block).state)
-        } else {
-            None
-        }
+        self.parts.state(core, block)
     }
 
     /// The value that the core keeps of the block, or `None` outside the shape and in a state that may not read.
@@ -98,11 +119,7 @@ impl Machine {
         ensures readable { core < self.now.situation.shape.cores → block < self.now.situation.shape.blocks → is_some result ≡ keeps (state_of self.now.situation core block) }
         ensures outside { IfSome result (λ _. (core < self.now.situation.shape.cores) × (block < self.now.situation.shape.blocks)) }
     {
-        if core < self.shape.cores() && block < self.shape.blocks() {
-            self.line(core, block).kept
-        } else {
-            None
-        }
+        self.parts.kept(core, block)
     }
 
     /// Memory's state of the block, or `None` outside the shape.
@@ -110,8 +127,7 @@ impl Machine {
         ensures inside { block < self.now.situation.shape.blocks → result ≡ Some (picture_of self.now.situation block).memory }
         ensures outside { IfSome result (λ _. block < self.now.situation.shape.blocks) }
     {
-        let line = self.memory.get(block as usize)?;
-        Some(line.state)
+        self.parts.mem_state(block)
     }
 
     /// Memory's value of the block, or `None` outside the shape.
@@ -119,63 +135,44 @@ impl Machine {
         ensures inside { block < self.now.situation.shape.blocks → result ≡ Some (picture_of self.now.situation block).value }
         ensures outside { IfSome result (λ _. block < self.now.situation.shape.blocks) }
     {
-        let line = self.memory.get(block as usize)?;
-        Some(line.value)
+        self.parts.mem_value(block)
     }
 
     /// The block's open transaction, if there is one.
     pub fn open(&self, block: u32) -> Option<Open>
         ensures { result ≡ (picture_of self.now.situation block).transaction }
     {
-        self.bus.open(block)
+        self.parts.open(block)
     }
 
     /// Whether a request of the core waits to be ordered.
     pub fn waiting(&self, core: u32) -> bool
         ensures { IsTrue result ↔ (0 < length (queue_of self.now.situation.queues core)) }
     {
-        self.bus.head(core).is_some()
+        self.parts.waiting(core)
     }
 
     /// The history of all that was performed, ordered and answered.
     pub fn log(&self) -> &Log
         ensures { result.now.items ≡ self.now.situation.log }
     {
-        &self.log
-    }
-
-    /// What the core holds of the block.
-    fn line(&self, core: u32, block: u32) -> Line
-        requires core { core < self.now.situation.shape.cores }
-        requires block { block < self.now.situation.shape.blocks }
-        ensures line { result ≡ line_at self.now.situation.caches core block }
-        ensures proper { IsProper result }
-    {
-        self.lines.get(core, block)
-    }
-
-    /// The core's next operation, as the history will tell it.
-    fn next_did(&self, core: u32, block: u32, op: Op, value: u64, hit: bool) -> Did
-        requires { core < self.now.situation.shape.cores }
-        ensures { result ≡ next_did self.now.situation.log core block op value hit }
-    {
-        Did {
-            core,
-            number: self.log.count(core).unwrap(),
-            block,
-            load: matches!(&op, Op::Load),
-            value,
-            hit,
-        }
+        self.parts.log()
     }
 }
 
-/// Memory's state at reset.
-fn first_state(protocol: Protocol) -> MemState
-    ensures { result ≡ first_memory protocol }
+/// Takes the steps in order, passing over those that are refused. Answers how many were taken.
+pub fn run_steps(machine: &mut Machine, steps: &[Step]) -> usize
+    ensures run { HasRun machine.old steps.now result machine.new }
+    ensures one_writer { (block : ℕ) → OneWriter machine.new.situation.protocol (picture_of machine.new.situation block) }
+    ensures legal { Legal machine.new.situation.log }
+    ensures possible { (next : Step) → ¬ Meets machine.new.situation next }
+    ensures orders { OrdersAreLed machine.new.situation }
 {
-    match protocol {
-        Protocol::Msi => MemState::IorS,
-        Protocol::Mesi => MemState::I,
+    let mut taken = 0;
+    for step in steps {
+        if machine.parts.step(*step).is_ok() {
+            taken += 1;
+        }
     }
+    taken
 }

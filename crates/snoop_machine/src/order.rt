@@ -1,17 +1,18 @@
-ghost use Rattle.std.specs.Prelude.{◌≡◌, ℕ, ◌<◌, List, [], length, IfSome, IfNone, Some, slice_index_or, slice_set, unwrap_or, if◌then◌else◌};
+ghost use Rattle.std.specs.Prelude.{◌≡◌, ◌↔◌, IsTrue, ℕ, ◌<◌, List, [], length, Some, slice_index_or, slice_set, unwrap_or, if◌then◌else◌};
 ghost use Rattle.snoop_rules.specs.Waits.{waiting_request};
 ghost use Rattle.snoop_rules.specs.Takers.{seen_by, at_memory, carries_value};
 ghost use Rattle.snoop_machine.specs.Picture.{held_at};
 ghost use Rattle.snoop_machine.specs.Sends.{value_sent};
-ghost use Rattle.snoop_machine.specs.Meets.{LacksAtOrder};
+ghost use Rattle.snoop_machine.specs.Meets.{FindsRows};
 ghost use Rattle.snoop_machine.specs.Message.{free_picture, HasRow, IsMessage, TakesRows, memory_message};
 
 use crate::lines::{Line, Lines};
 use crate::memory::MemLine;
 use crate::message::Message;
+use crate::row::Row;
 use snoop_rules::{
-    CacheAction, CacheEvent, MemAction, MemCell, MemEvent, Payload, Protocol, Request, cache_cell,
-    mem_cell,
+    CacheAction, CacheEvent, CacheState, MemAction, MemCell, MemEvent, Payload, Protocol, Request,
+    cache_cell, mem_cell,
 };
 
 /// What a core sees of a request, its own or another's.
@@ -52,30 +53,28 @@ pub(crate) fn carries(payload: Payload) -> bool
     }
 }
 
-impl Lines {
+fn is_same(one: CacheState, other: CacheState) -> bool
+    ensures { IsTrue result ↔ (one ≡ other) }
+{
+    one == other
+}
+
+impl Row {
     /// Each core takes its row for the request.
-    pub(crate) fn take_rows(
-        &mut self,
-        protocol: Protocol,
-        requestor: u32,
-        request: Request,
-        block: u32,
-    )
-        requires block { block < length self.old }
-        requires few { length (slice_index_or self.old block []) < 257 }
-        requires rows { (k : ℕ) → k < length (slice_index_or self.old block []) → HasRow protocol (held_at (slice_index_or self.old block []) k).state (seen_by k requestor request) }
-        ensures taken { TakesRows protocol requestor request (slice_index_or self.old block []) (slice_index_or self.new block []) }
-        ensures others { self.new ≡ slice_set self.old block (slice_index_or self.new block []) }
+    pub(crate) fn take_rows(&mut self, protocol: Protocol, requestor: u32, request: Request)
+        requires few { length self.old < 257 }
+        requires rows { (k : ℕ) → k < length self.old → HasRow protocol (held_at self.old k).state (seen_by k requestor request) }
+        ensures { TakesRows protocol requestor request self.old self.new }
     {
         let mut from = 0;
-        while let Some(core) = self.next_holder(block, from) {
-            let line = self.get(core, block);
-            if let Some(cell) = cache_cell(
-                protocol,
-                line.state,
-                event_seen(core, requestor, request),
-            ) {
-                self.set(core, block, line.coming_to(cell.next));
+        while let Some(core) = self.next_holder(from) {
+            let state = self.state(core);
+            let event = event_seen(core, requestor, request);
+            let Some(cell) = cache_cell(protocol, state, event) else {
+                unreachable!();
+            };
+            if !is_same(cell.next, state) {
+                self.come_to(core, cell.next);
             }
             from = core + 1;
         }
@@ -112,7 +111,7 @@ impl MemLine {
 }
 
 impl Lines {
-    /// The message of the one controller that sends, or None where one has no row, or not exactly one sends.
+    /// The message of the one controller that sends.
     pub(crate) fn message(
         &self,
         protocol: Protocol,
@@ -120,31 +119,35 @@ impl Lines {
         requestor: u32,
         request: Request,
         block: u32,
-    ) -> Option<Message>
+    ) -> Message
         requires block { block < length self.now }
         requires few { length (slice_index_or self.now block []) < 257 }
         requires waits { waiting_request (held_at (slice_index_or self.now block []) requestor).state ≡ Some request }
-        ensures some { IfSome result (λ message. IsMessage protocol (free_picture (slice_index_or self.now block []) memory) requestor request message) }
-        ensures none { IfNone result (LacksAtOrder protocol (free_picture (slice_index_or self.now block []) memory) requestor request) }
+        requires finds { FindsRows protocol (free_picture (slice_index_or self.now block []) memory) requestor request }
+        ensures { IsMessage protocol (free_picture (slice_index_or self.now block []) memory) requestor request result }
     {
-        let cell = mem_cell(protocol, memory.state, event_at_memory(request))?;
-        let mut message = memory.message(cell);
+        let Some(cell) = mem_cell(protocol, memory.state, event_at_memory(request)) else {
+            unreachable!();
+        };
+        if let Some(message) = memory.message(cell) {
+            return message;
+        }
         let mut from = 0;
         while let Some(core) = self.next_holder(block, from) {
             let line = self.get(core, block);
-            let cell = cache_cell(protocol, line.state, event_seen(core, requestor, request))?;
+            let Some(cell) = cache_cell(protocol, line.state, event_seen(core, requestor, request))
+            else {
+                unreachable!();
+            };
             if let CacheAction::Send(payload, _) = cell.action {
-                if message.is_some() {
-                    return None;
-                }
-                message = Some(Message {
+                return Message {
                     payload,
                     value: line.value_for(payload),
                     from: Some(core),
-                });
+                };
             }
             from = core + 1;
         }
-        message
+        unreachable!()
     }
 }

@@ -50,9 +50,6 @@ pub enum Refused {
     /// A growth was refused.
     #[error("NoMemory")]
     NoMemory,
-    /// A controller meets an event that its table has no row for.
-    #[error("Impossible")]
-    Impossible,
 }
 
 impl From<NoRoom> for Refused {

@@ -1,8 +1,6 @@
-ghost use Rattle.std.specs.Prelude.{◌≡◌, IfSome, IfNone, MatchOption, ⊤};
-ghost use Rattle.snoop_rules.specs.Takers.{arrival};
-ghost use Rattle.snoop_rules.specs.Possible.{IsImpossible};
+ghost use Rattle.std.specs.Prelude.{◌≡◌};
 ghost use Rattle.snoop_machine.specs.Sound.{IsProper};
-ghost use Rattle.snoop_machine.specs.Meets.{LacksAtMemory};
+ghost use Rattle.snoop_machine.specs.Meets.{LacksAtArrival, LacksAtMemory};
 ghost use Rattle.snoop_machine.specs.Arrive.{FillsLine, ArrivesIn};
 
 use crate::lines::Line;
@@ -20,20 +18,22 @@ pub struct Filled {
     pub value: u64,
 }
 
-/// What the requestor does with a payload; None where it has no row for it.
-pub(crate) fn fill(protocol: Protocol, line: Line, payload: Payload, sent: u64) -> Option<Filled>
-    requires { IsProper line }
-    ensures some { IfSome result (λ filled. FillsLine protocol line payload sent filled) }
-    ensures none { IfNone result (MatchOption (arrival payload) ⊤ (IsImpossible protocol line.state)) }
+/// What the requestor does with a payload.
+pub(crate) fn fill(protocol: Protocol, line: Line, payload: Payload, sent: u64) -> Filled
+    requires proper { IsProper line }
+    requires possible { ¬ LacksAtArrival protocol line.state payload }
+    ensures { FillsLine protocol line payload sent result }
 {
     let event = match payload {
         Payload::Data => CacheEvent::Data,
         Payload::DataE => CacheEvent::DataE,
-        Payload::NoData | Payload::NoDataE => return None,
+        Payload::NoData | Payload::NoDataE => unreachable!(),
     };
-    let cell = cache_cell(protocol, line.state, event)?;
+    let Some(cell) = cache_cell(protocol, line.state, event) else {
+        unreachable!();
+    };
     match (cell.action, line.waiting) {
-        (CacheAction::FillLoad, Some(Op::Load)) => Some(Filled {
+        (CacheAction::FillLoad, Some(Op::Load)) => Filled {
             line: Line {
                 state: cell.next,
                 kept: Some(sent),
@@ -41,8 +41,8 @@ pub(crate) fn fill(protocol: Protocol, line: Line, payload: Payload, sent: u64) 
             },
             op: Op::Load,
             value: sent,
-        }),
-        (CacheAction::FillStore, Some(Op::Store(value))) => Some(Filled {
+        },
+        (CacheAction::FillStore, Some(Op::Store(value))) => Filled {
             line: Line {
                 state: cell.next,
                 kept: Some(value),
@@ -50,37 +50,34 @@ pub(crate) fn fill(protocol: Protocol, line: Line, payload: Payload, sent: u64) 
             },
             op: Op::Store(value),
             value,
-        }),
+        },
         _ => unreachable!(),
     }
 }
 
-/// What memory holds once a payload has come; None where it waits for one and has no row for this.
-pub(crate) fn arrive(
-    protocol: Protocol,
-    memory: MemLine,
-    payload: Payload,
-    sent: u64,
-) -> Option<MemLine>
-    ensures some { IfSome result (λ after. ArrivesIn protocol payload sent memory after) }
-    ensures none { IfNone result (LacksAtMemory protocol memory.state payload) }
+/// What memory holds once a payload has come, which it takes where it waits for one.
+pub(crate) fn arrive(protocol: Protocol, memory: MemLine, payload: Payload, sent: u64) -> MemLine
+    requires { ¬ LacksAtMemory protocol memory.state payload }
+    ensures { ArrivesIn protocol payload sent memory result }
 {
     match memory.state {
         MemState::IorSD | MemState::MD | MemState::ID | MemState::SD | MemState::EorMD => {}
-        _ => return Some(memory),
+        _ => return memory,
     }
     let event = match payload {
         Payload::Data => MemEvent::Data,
         Payload::NoData => MemEvent::NoData,
         Payload::NoDataE => MemEvent::NoDataE,
-        Payload::DataE => return None,
+        Payload::DataE => unreachable!(),
     };
-    let cell = mem_cell(protocol, memory.state, event)?;
-    Some(MemLine {
+    let Some(cell) = mem_cell(protocol, memory.state, event) else {
+        unreachable!();
+    };
+    MemLine {
         state: cell.next,
         value: match cell.action {
             MemAction::Write => sent,
             MemAction::None | MemAction::Send(_) => memory.value,
         },
-    })
+    }
 }

@@ -19,11 +19,12 @@ impl fmt::Display for Protocol {
     }
 }
 
-impl fmt::Display for CacheState {
-    ghost output = { λ state. Some (state_name state) };
-
-    fn fmt<W: fmt::Write>(&self, f: &mut fmt::Formatter<W>) -> fmt::Result {
-        f.write_str(match self {
+impl CacheState {
+    /// The state's name in the tables.
+    pub fn name(self) -> &'static str
+        ensures { result.now ≡ state_name self }
+    {
+        match self {
             CacheState::I => "I",
             CacheState::IsAd => "IS_AD",
             CacheState::IsD => "IS_D",
@@ -37,7 +38,15 @@ impl fmt::Display for CacheState {
             CacheState::EiA => "EI_A",
             CacheState::MiA => "MI_A",
             CacheState::IiA => "II_A",
-        })
+        }
+    }
+}
+
+impl fmt::Display for CacheState {
+    ghost output = { λ state. Some (state_name state) };
+
+    fn fmt<W: fmt::Write>(&self, f: &mut fmt::Formatter<W>) -> fmt::Result {
+        f.write_str(self.name())
     }
 }
 
@@ -95,15 +104,38 @@ impl fmt::Display for MemEvent {
     }
 }
 
+impl Request {
+    /// The request's name.
+    pub fn name(self) -> &'static str
+        ensures { result.now ≡ request_name self }
+    {
+        match self {
+            Request::GetS => "GetS",
+            Request::GetM => "GetM",
+            Request::PutM => "PutM",
+        }
+    }
+}
+
 impl fmt::Display for Request {
     ghost output = { λ request. Some (request_name request) };
 
     fn fmt<W: fmt::Write>(&self, f: &mut fmt::Formatter<W>) -> fmt::Result {
-        f.write_str(match self {
-            Request::GetS => "GetS",
-            Request::GetM => "GetM",
-            Request::PutM => "PutM",
-        })
+        f.write_str(self.name())
+    }
+}
+
+impl Payload {
+    /// The payload's name.
+    pub fn name(self) -> &'static str
+        ensures { result.now ≡ payload_name self }
+    {
+        match self {
+            Payload::Data => "Data",
+            Payload::DataE => "DataE",
+            Payload::NoData => "NoData",
+            Payload::NoDataE => "NoDataE",
+        }
     }
 }
 
@@ -111,12 +143,7 @@ impl fmt::Display for Payload {
     ghost output = { λ payload. Some (payload_name payload) };
 
     fn fmt<W: fmt::Write>(&self, f: &mut fmt::Formatter<W>) -> fmt::Result {
-        f.write_str(match self {
-            Payload::Data => "Data",
-            Payload::DataE => "DataE",
-            Payload::NoData => "NoData",
-            Payload::NoDataE => "NoDataE",
-        })
+        f.write_str(self.name())
     }
 }
 

@@ -1,5 +1,11 @@
 pub mod Fault
 pub mod Line
-pub mod Taken
 pub mod Written
 pub mod Simulated
+pub mod Todo
+pub mod Round
+pub mod Served
+pub mod Journey
+pub mod Driven
+pub mod SimulatedRun
+pub mod Status

@@ -9,7 +9,7 @@ use Rattle.snoop_history.specs.declared.items.Did.{Did}
 use Rattle.snoop_machine.specs.declared.replies.Reply.{Reply}
 use Rattle.snoop_machine.specs.declared.replies.Reply.TheVariants.{Hit, StoreHit, Issued, Gone, Absent, Ordered, Came}
 use Rattle.snoop_machine.specs.declared.replies.Refused.{Refused}
-use Rattle.snoop_machine.specs.declared.replies.Refused.TheVariants.{NoCore, NoBlock, Stalled, NothingWaiting, BusTaken, NoTransaction, NoMemory, Impossible}
+use Rattle.snoop_machine.specs.declared.replies.Refused.TheVariants.{NoCore, NoBlock, Stalled, NothingWaiting, BusTaken, NoTransaction, NoMemory}
 
 -- who sent a response: a core, or memory
 abbrev pub sender_text : Option ℕ → List ℕ
@@ -40,7 +40,6 @@ refusal_name NothingWaiting = codes "NothingWaiting"
 refusal_name (BusTaken block) = codes "BusTaken"
 refusal_name NoTransaction = codes "NoTransaction"
 refusal_name NoMemory = codes "NoMemory"
-refusal_name Impossible = codes "Impossible"
 
 -- the state that stalled, or the block whose transaction is open
 abbrev pub refusal_detail : Refused → List ℕ

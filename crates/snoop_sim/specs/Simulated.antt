@@ -1,5 +1,5 @@
 -- What a simulation leaves, by what it answers (this project's profile).
-use Rattle.std.specs.Prelude.{◌≡◌, ℕ, List, [], ◌∷◌, ◌++◌, Option, Result, Ok, Err, IfSome}
+use Rattle.std.specs.Prelude.{◌≡◌, ℕ, List, ◌++◌, Option, Result, Ok, Err, IfSome}
 use Rattle.std.specs.Io.KnownBytes.{Appends}
 use Rattle.snoop_trace.specs.Extent.{Extent}
 use Rattle.snoop_trace.specs.Output.{AppendsFront}
@@ -7,13 +7,12 @@ use Rattle.snoop_trace.specs.Text.{Gives, steps_of}
 use Rattle.snoop_trace.specs.declared.fault.TextFault.{TextFault}
 use Rattle.snoop_trace.specs.declared.step.Step.{Step}
 use Rattle.snoop_rules.specs.declared.names.Protocol.{Protocol}
-use Rattle.snoop_history.specs.declared.items.Item.{Item}
 use Rattle.snoop_history.specs.Report.{report_of}
 use Rattle.snoop_machine.specs.declared.replies.Reply.{Reply}
 use Rattle.snoop_machine.specs.declared.replies.Refused.{Refused}
-use Rattle.snoop_machine.specs.Situation.{Situation, reset}
+use Rattle.snoop_machine.specs.Situation.{Situation}
 use Rattle.snoop_sim.specs.Line.{line_texts}
-use Rattle.snoop_sim.specs.Taken.{TakesAll}
+use Rattle.snoop_machine.specs.Run.{TheRun}
 use Rattle.snoop_sim.specs.declared.fault.SimFault.{SimFault}
 use Rattle.snoop_sim.specs.declared.fault.SimFault.TheVariants.{Text, NoMemory, Write}
 
@@ -21,27 +20,19 @@ use Rattle.snoop_sim.specs.declared.fault.SimFault.TheVariants.{Text, NoMemory, 
 abbrev pub Reads : Extent → Option (List ℕ) → Result (List Step) TextFault → Type 0
 Reads shape input answer = IfSome input (λ bytes. Gives (λ (steps : List Step). steps) answer (steps_of shape bytes))
 
--- the writer got the lines of all steps, taken in order from reset, and then the report of their history
+-- the writer got the lines of the run of the steps, and then the report of its history
 pub record Reports (protocol : Protocol) (shape : Extent) (steps : List Step) (old new : Option (List ℕ)) : Type 0 where
   pub outcomes : List (Result Reply Refused)
   pub final : Situation
-  pub taken : TakesAll (reset protocol shape) steps outcomes final
+  pub run : TheRun protocol shape steps outcomes final
   pub output : Appends old new (line_texts shape steps outcomes ++ report_of final.log)
 
--- the report, where no step is left
-abbrev pub report_after : List Step → List Item → List ℕ
-report_after [] items = report_of items
-report_after (step ∷ rest) items = []
-
--- the writer got a beginning of the lines of the first steps, and of the report where these are all
+-- the writer got a beginning of that
 pub record Begins (protocol : Protocol) (shape : Extent) (steps : List Step) (old new : Option (List ℕ)) : Type 0 where
-  pub first : List Step
-  pub rest : List Step
-  pub whole : steps ≡ first ++ rest
   pub outcomes : List (Result Reply Refused)
-  pub reached : Situation
-  pub taken : TakesAll (reset protocol shape) first outcomes reached
-  pub output : AppendsFront old new (line_texts shape first outcomes ++ report_after rest reached.log)
+  pub final : Situation
+  pub run : TheRun protocol shape steps outcomes final
+  pub output : AppendsFront old new (line_texts shape steps outcomes ++ report_of final.log)
 
 -- the whole text was read and its whole output written; or nothing was written; or a beginning of the output
 abbrev pub Simulates : Protocol → Extent → Option (List ℕ) → Result (Unit {0}) SimFault → Option (List ℕ) → Option (List ℕ) → Type 0

@@ -8,12 +8,12 @@ use Rattle.snoop_machine.specs.declared.replies.Reply.{Reply}
 use Rattle.snoop_machine.specs.declared.replies.Refused.{Refused}
 use Rattle.snoop_machine.specs.Situation.{Situation}
 use Rattle.snoop_sim.specs.Line.{line_texts}
-use Rattle.snoop_sim.specs.Taken.{TakesAll}
+use Rattle.snoop_machine.specs.Run.{FirstRunFrom}
 
 -- all the steps were taken, and the writer got their lines
 pub record WritesLines (shape : Extent) (from : Situation) (steps : List Step) (to : Situation) (old new : Option (List ℕ)) : Type 0 where
   pub outcomes : List (Result Reply Refused)
-  pub taken : TakesAll from steps outcomes to
+  pub run : FirstRunFrom from steps outcomes to
   pub lines : Appends old new (line_texts shape steps outcomes)
 
 -- the first steps were taken, and the writer got a beginning of their lines
@@ -23,5 +23,5 @@ pub record WritesFront (shape : Extent) (from : Situation) (steps : List Step) (
   pub whole : steps ≡ first ++ rest
   pub outcomes : List (Result Reply Refused)
   pub to : Situation
-  pub taken : TakesAll from first outcomes to
+  pub run : FirstRunFrom from first outcomes to
   pub lines : AppendsFront old new (line_texts shape first outcomes)

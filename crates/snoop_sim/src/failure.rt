@@ -1,4 +1,6 @@
 //! Why the program did not do its task, and the status that it ends with.
+ghost use Rattle.std.specs.Prelude.{◌≡◌};
+ghost use Rattle.snoop_sim.specs.Status.{status_of};
 
 use crate::fault::SimFault;
 use clap::error::ErrorKind;
@@ -14,12 +16,39 @@ pub enum Failure {
     #[error("NoCommand")]
     NoCommand,
     #[error(transparent)]
-    Shape(#[from] ShapeFault),
+    Shape(ShapeFault),
     #[error(transparent)]
-    Simulation(#[from] SimFault),
+    Simulation(SimFault),
+}
+
+impl From<ShapeFault> for Failure {
+    ghost use Rattle.std.specs.Prelude.{◌≡◌};
+    ghost use Rattle.snoop_sim.specs.declared.failure.Failure.TheVariants as failure;
+
+    ghost from_gives = { λ e r. r ≡ failure.Shape e };
+
+    fn from(fault: ShapeFault) -> Self {
+        Failure::Shape(fault)
+    }
+}
+
+impl From<SimFault> for Failure {
+    ghost use Rattle.std.specs.Prelude.{◌≡◌};
+    ghost use Rattle.snoop_sim.specs.declared.failure.Failure.TheVariants as failure;
+
+    ghost from_gives = { λ e r. r ≡ failure.Simulation e };
+
+    fn from(fault: SimFault) -> Self {
+        Failure::Simulation(fault)
+    }
 }
 
 impl From<clap::Error> for Failure {
+    ghost use Rattle.std.specs.Prelude.{◌≢◌};
+    ghost use Rattle.snoop_sim.specs.Status.{status_of};
+
+    ghost from_gives = { λ e r. status_of r ≢ 4 };
+
     fn from(error: clap::Error) -> Self {
         if error.kind() == ErrorKind::OutOfMemory {
             Failure::Simulation(SimFault::NoMemory)
@@ -30,6 +59,11 @@ impl From<clap::Error> for Failure {
 }
 
 impl From<AllocError> for Failure {
+    ghost use Rattle.std.specs.Prelude.{◌≡◌};
+    ghost use Rattle.snoop_sim.specs.Status.{status_of};
+
+    ghost from_gives = { λ e r. status_of r ≡ 3 };
+
     fn from(_: AllocError) -> Self {
         Failure::Simulation(SimFault::NoMemory)
     }
@@ -38,7 +72,9 @@ impl From<AllocError> for Failure {
 impl Failure {
     /// The status that the program ends with: 1 for a refused text, 2 for the command line or the shape,
     /// 3 for want of memory, and 4 for a failed write.
-    pub fn status(&self) -> u8 {
+    pub fn status(&self) -> u8
+        ensures { result ≡ status_of self.now }
+    {
         match self {
             Failure::CommandLine(_) | Failure::NoCommand | Failure::Shape(_) => 2,
             Failure::Simulation(SimFault::Text(TextFault::NoMemory) | SimFault::NoMemory) => 3,

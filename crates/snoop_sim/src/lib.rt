@@ -1,15 +1,21 @@
-//! The commands of the program `snoop`: a text of steps in, the lines of their simulation and its report out.
+//! The commands of the program `snoop`: a text of steps or of rows in, the lines of its simulation and its report out.
 #![tactic(auto)]
 
+mod deal;
+mod driver;
 mod failure;
 mod fault;
+mod lane;
 mod line;
 mod options;
 mod program;
+mod run;
 mod steps;
+mod work;
 
 pub use fault::SimFault;
 pub use program::command;
+pub use run::simulate_run;
 pub use steps::simulate_steps;
 
 #[cfg(test)]

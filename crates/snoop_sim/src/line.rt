@@ -1,38 +1,66 @@
 //! The line of a step: its text and the machine's reply or refusal.
 ghost use Rattle.std.specs.Prelude.{◌≡◌, ◌++◌, codes, OnOk, IfErr};
+ghost use Rattle.std.specs.Fmt.{decimal};
 ghost use Rattle.snoop_trace.specs.Output.{step_text};
+ghost use Rattle.snoop_machine.specs.declared.replies.Reply.TheVariants.{Came};
 ghost use Rattle.snoop_sim.specs.Line.{line_text, outcome_text, performed_text, refusal_detail, refusal_name, reply_text, sender_text};
 
 use snoop_history::Did;
 use snoop_machine::{Refused, Reply};
-use snoop_trace::{Shape, Step, WriteFault, push_step};
-use std::io::Write;
+use snoop_rules::Payload;
+use snoop_trace::{Shape, Step, WriteFault, push_byte, push_decimal, push_step, push_text};
+
+// Puts a text and a number behind it at the end.
+fn push_numbered(out: &mut Vec<u8>, text: &str, number: u64) -> Result<(), WriteFault>
+    ensures ok { OnOk result (out.new.items ≡ out.old.items ++ (text.now ++ decimal number)) }
+    ensures err { IfErr result (λ e. e ≡ WriteFault.NoMemory) }
+{
+    push_text(out, text)?;
+    push_decimal(out, number)
+}
+
+// Puts two texts at the end.
+fn push_both(out: &mut Vec<u8>, first: &str, second: &str) -> Result<(), WriteFault>
+    ensures ok { OnOk result (out.new.items ≡ out.old.items ++ (first.now ++ second.now)) }
+    ensures err { IfErr result (λ e. e ≡ WriteFault.NoMemory) }
+{
+    push_text(out, first)?;
+    push_text(out, second)
+}
 
 fn push_sender(out: &mut Vec<u8>, from: Option<u32>) -> Result<(), WriteFault>
     ensures ok { OnOk result (out.new.items ≡ out.old.items ++ sender_text from) }
     ensures err { IfErr result (λ e. e ≡ WriteFault.NoMemory) }
 {
     match from {
-        None => write!(out, " from memory"),
-        Some(core) => write!(out, " from core {core}"),
+        None => push_text(out, " from memory"),
+        Some(core) => push_numbered(out, " from core ", core as u64),
     }
-    .map_err(|_| WriteFault::NoMemory)
 }
 
 fn push_performed(out: &mut Vec<u8>, did: Option<Did>) -> Result<(), WriteFault>
     ensures ok { OnOk result (out.new.items ≡ out.old.items ++ performed_text did) }
     ensures err { IfErr result (λ e. e ≡ WriteFault.NoMemory) }
 {
-    let Some(did) = did else {
-        return Ok(());
-    };
-    let value = did.value;
-    if did.load {
-        write!(out, ", load {value}")
-    } else {
-        write!(out, ", store {value}")
+    match did {
+        None => Ok(()),
+        Some(did) if did.load => push_numbered(out, ", load ", did.value),
+        Some(did) => push_numbered(out, ", store ", did.value),
     }
-    .map_err(|_| WriteFault::NoMemory)
+}
+
+fn push_came(
+    out: &mut Vec<u8>,
+    payload: Payload,
+    from: Option<u32>,
+    did: Option<Did>,
+) -> Result<(), WriteFault>
+    ensures ok { OnOk result (out.new.items ≡ out.old.items ++ reply_text (Came payload from did)) }
+    ensures err { IfErr result (λ e. e ≡ WriteFault.NoMemory) }
+{
+    push_text(out, payload.name())?;
+    push_sender(out, from)?;
+    push_performed(out, did)
 }
 
 fn push_reply(out: &mut Vec<u8>, reply: Reply) -> Result<(), WriteFault>
@@ -40,33 +68,13 @@ fn push_reply(out: &mut Vec<u8>, reply: Reply) -> Result<(), WriteFault>
     ensures err { IfErr result (λ e. e ≡ WriteFault.NoMemory) }
 {
     match reply {
-        Reply::Hit(value) => write!(out, "hit {value}"),
-        Reply::StoreHit => write!(out, "store hit"),
-        Reply::Issued(request) => write!(out, "issued {request}"),
-        Reply::Gone => write!(out, "gone"),
-        Reply::Absent => write!(out, "absent"),
-        Reply::Ordered(request) => write!(out, "ordered {request}"),
-        Reply::Came { payload, from, did } => {
-            write!(out, "{payload}").map_err(|_| WriteFault::NoMemory)?;
-            push_sender(out, from)?;
-            return push_performed(out, did);
-        }
-    }
-    .map_err(|_| WriteFault::NoMemory)
-}
-
-fn refusal_name(cause: Refused) -> &'static str
-    ensures { result.now ≡ refusal_name cause }
-{
-    match cause {
-        Refused::NoCore => "NoCore",
-        Refused::NoBlock => "NoBlock",
-        Refused::Stalled(_) => "Stalled",
-        Refused::NothingWaiting => "NothingWaiting",
-        Refused::BusTaken(_) => "BusTaken",
-        Refused::NoTransaction => "NoTransaction",
-        Refused::NoMemory => "NoMemory",
-        Refused::Impossible => "Impossible",
+        Reply::Hit(value) => push_numbered(out, "hit ", value),
+        Reply::StoreHit => push_text(out, "store hit"),
+        Reply::Issued(request) => push_both(out, "issued ", request.name()),
+        Reply::Gone => push_text(out, "gone"),
+        Reply::Absent => push_text(out, "absent"),
+        Reply::Ordered(request) => push_both(out, "ordered ", request.name()),
+        Reply::Came { payload, from, did } => push_came(out, payload, from, did),
     }
 }
 
@@ -74,13 +82,15 @@ fn push_refusal(out: &mut Vec<u8>, cause: Refused) -> Result<(), WriteFault>
     ensures ok { OnOk result (out.new.items ≡ out.old.items ++ codes "refused " ++ refusal_name cause ++ refusal_detail cause) }
     ensures err { IfErr result (λ e. e ≡ WriteFault.NoMemory) }
 {
-    write!(out, "refused {}", refusal_name(cause)).map_err(|_| WriteFault::NoMemory)?;
     match cause {
-        Refused::Stalled(state) => write!(out, " {state}"),
-        Refused::BusTaken(block) => write!(out, " {block}"),
-        _ => Ok(()),
+        Refused::NoCore => push_text(out, "refused NoCore"),
+        Refused::NoBlock => push_text(out, "refused NoBlock"),
+        Refused::Stalled(state) => push_both(out, "refused Stalled ", state.name()),
+        Refused::NothingWaiting => push_text(out, "refused NothingWaiting"),
+        Refused::BusTaken(block) => push_numbered(out, "refused BusTaken ", block as u64),
+        Refused::NoTransaction => push_text(out, "refused NoTransaction"),
+        Refused::NoMemory => push_text(out, "refused NoMemory"),
     }
-    .map_err(|_| WriteFault::NoMemory)
 }
 
 fn push_outcome(out: &mut Vec<u8>, outcome: Result<Reply, Refused>) -> Result<(), WriteFault>
@@ -104,8 +114,7 @@ pub fn push_line(
     ensures err { IfErr result (λ e. e ≡ WriteFault.NoMemory) }
 {
     push_step(out, shape, step)?;
-    out.extend_from_slice(b": ")
-        .map_err(|_| WriteFault::NoMemory)?;
+    push_text(out, ": ")?;
     push_outcome(out, outcome)?;
-    out.push(b'\n').map_err(|_| WriteFault::NoMemory)
+    push_byte(out, b'\n')
 }

@@ -1,4 +1,6 @@
 //! The command line: its words and what they ask for.
+ghost use Rattle.std.specs.Prelude.{◌≢◌, IfErr};
+ghost use Rattle.snoop_sim.specs.Status.{status_of};
 
 use crate::failure::Failure;
 use clap::builder::ValueParser;
@@ -12,6 +14,7 @@ use std::alloc::{AllocError, Global};
 pub enum Task {
     Help(Error),
     Steps(Protocol, Shape),
+    Run(Protocol, Shape),
     Table(Protocol, Which),
 }
 
@@ -20,7 +23,10 @@ static PROTOCOLS: [&str; 2] = ["msi", "mesi"];
 static TABLES: [&str; 2] = ["cache", "memory"];
 
 /// The task that the words ask for; the first of them is the program's own name.
-pub fn task_in(alloc: Global, words: &[String]) -> Result<Task, Failure> {
+pub fn task_in(alloc: Global, words: &[String]) -> Result<Task, Failure>
+    // Nothing was written yet that could fail.
+    ensures { IfErr result (λ failure. status_of failure ≢ 4) }
+{
     let parsed = match grammar(alloc) {
         Ok(command) => command.try_get_matches_from(words),
         Err(refused) => return Err(Failure::from(refused)),
@@ -32,9 +38,12 @@ pub fn task_in(alloc: Global, words: &[String]) -> Result<Task, Failure> {
     }
 }
 
-fn task_of(matches: &ArgMatches) -> Result<Task, Failure> {
+fn task_of(matches: &ArgMatches) -> Result<Task, Failure>
+    ensures { IfErr result (λ failure. status_of failure ≢ 4) }
+{
     match matches.subcommand() {
         Some(("table", options)) => Ok(Task::Table(protocol_in(options), which_in(options))),
+        Some(("run", options)) => Ok(Task::Run(protocol_in(options), shape_in(options)?)),
         Some((_, options)) => Ok(Task::Steps(protocol_in(options), shape_in(options)?)),
         None => Err(Failure::NoCommand),
     }
@@ -47,13 +56,23 @@ pub fn grammar<'a>(alloc: Global) -> Result<Command<'a>, AllocError> {
         .version("0.1.0")
         .about("Simulates private caches on a snooping bus, under MSI or MESI")
         .subcommand_required(true)
-        .subcommand(steps(alloc)?)?
+        .subcommand(simulation(
+            alloc,
+            "steps",
+            "Take the steps of standard input, and write each one's reply and a report",
+        )?)?
+        .subcommand(simulation(
+            alloc,
+            "run",
+            "Let each core do its rows of standard input, and write each step's reply and a report",
+        )?)?
         .subcommand(table(alloc)?)
 }
 
-fn steps<'a>(alloc: Global) -> Result<Command<'a>, AllocError> {
-    Command::new(alloc, "steps")
-        .about("Take the steps of standard input, and write each one's reply and a report")
+/// A command that simulates a text on a machine of some shape.
+fn simulation<'a>(alloc: Global, name: &'a str, about: &'a str) -> Result<Command<'a>, AllocError> {
+    Command::new(alloc, name)
+        .about(about)
         .arg(protocol(alloc))?
         .arg(number(alloc, "cores", "2", "How many cores, from 1 to 256"))?
         .arg(number(

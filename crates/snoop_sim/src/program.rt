@@ -1,8 +1,11 @@
 //! The program's testable function.
+ghost use Rattle.std.specs.Prelude.{◌≡◌, ◌≢◌, ◌<◌, ◌⊎◌, true, IfErr};
+ghost use Rattle.snoop_sim.specs.Status.{status_of, status_of_fault};
 
 use crate::failure::Failure;
 use crate::fault::SimFault;
 use crate::options::{Task, task_in};
+use crate::run::simulate_run;
 use crate::steps::simulate_steps;
 use snoop_rules::write_table;
 use snoop_trace::{Sink, Source, write_whole};
@@ -18,7 +21,13 @@ pub fn command<R: Source + Drop, W: Sink, E: Write>(
     reader: R,
     writer: &mut W,
     errors: &mut E,
-) -> u8 {
+) -> u8
+    ensures known { result < 5 }
+    // A text, a command line or a shape is refused before anything is written.
+    ensures unwritten { 0 < result → result < 3 → W.contents writer.new ≡ W.contents writer.old }
+    // A writer whose contract rules failure out is never blamed.
+    ensures blames { W.never_fails ≡ true → result ≢ 4 }
+{
     match perform(alloc, words, reader, writer) {
         Ok(()) => 0,
         Err(failure) => {
@@ -28,22 +37,46 @@ pub fn command<R: Source + Drop, W: Sink, E: Write>(
     }
 }
 
+/// Does what the words ask for.
 fn perform<R: Source + Drop, W: Sink>(
     alloc: Global,
     words: &[String],
     reader: R,
     writer: &mut W,
-) -> Result<(), Failure> {
-    match task_in(alloc, words)? {
-        Task::Help(help) => {
-            let text = format!(in alloc; "{help}")?;
-            write_whole(writer, text.as_bytes()).map_err(SimFault::from)?;
-        }
-        Task::Steps(protocol, shape) => simulate_steps(alloc, reader, writer, protocol, shape)?,
-        Task::Table(protocol, which) => {
-            write_table(alloc, writer, protocol, which).map_err(SimFault::from)?;
-        }
+) -> Result<(), Failure>
+    ensures unwritten { IfErr result (λ failure. status_of failure < 3 → W.contents writer.new ≡ W.contents writer.old) }
+    ensures blames { IfErr result (λ failure. W.never_fails ≡ true → status_of failure ≢ 4) }
+{
+    let task = task_in(alloc, words)?;
+    perform_task(alloc, task, reader, writer)?;
+    Ok(())
+}
+
+fn perform_task<R: Source + Drop, W: Sink>(
+    alloc: Global,
+    task: Task,
+    reader: R,
+    writer: &mut W,
+) -> Result<(), SimFault>
+    ensures unwritten { IfErr result (λ fault. status_of_fault fault < 3 → W.contents writer.new ≡ W.contents writer.old) }
+    ensures blames { IfErr result (λ fault. W.never_fails ≡ true → fault ≢ SimFault.Write) }
+{
+    match task {
+        Task::Help(help) => write_help(alloc, writer, &help),
+        Task::Steps(protocol, shape) => simulate_steps(alloc, reader, writer, protocol, shape),
+        Task::Run(protocol, shape) => simulate_run(alloc, reader, writer, protocol, shape),
+        Task::Table(protocol, which) => Ok(write_table(alloc, writer, protocol, which)?),
     }
+}
+
+fn write_help<W: Sink>(alloc: Global, writer: &mut W, help: &clap::Error) -> Result<(), SimFault>
+    ensures written { IfErr result (λ fault. (fault ≡ SimFault.NoMemory) ⊎ (fault ≡ SimFault.Write)) }
+    ensures blames { IfErr result (λ fault. W.never_fails ≡ true → fault ≢ SimFault.Write) }
+{
+    let Ok(text) = format!(in alloc; "{help}") else {
+        return Err(SimFault::NoMemory);
+    };
+    write_whole(writer, text.as_bytes())?;
     Ok(())
 }
 

@@ -6,11 +6,12 @@ ghost use Rattle.snoop_trace.specs.declared.fault.TextFault.TheVariants as text_
 ghost use Rattle.snoop_sim.specs.Line.{line_text};
 ghost use Rattle.snoop_sim.specs.Simulated.{Begins, Reports, Simulates};
 ghost use Rattle.snoop_sim.specs.Written.{WritesFront, WritesLines};
-ghost use Rattle.snoop_sim.specs.Taken.{Takes};
+ghost use Rattle.snoop_machine.specs.Run.{GoesFirst};
 
 use crate::fault::SimFault;
 use crate::line::push_line;
 use snoop_history::write_report;
+use snoop_machine::laws::runs_go_on;
 use snoop_machine::{Machine, Refused};
 use snoop_rules::Protocol;
 use snoop_trace::{Shape, Sink, Source, Step, WriteFault, read_steps, spill, write_whole};
@@ -55,9 +56,8 @@ fn write_output<W: Sink>(
     // A writer whose contract rules failure out is never blamed.
     ensures blames { W.never_fails ≡ true → result ≢ Err WriteFault.Write }
 {
-    let Ok(mut machine) = Machine::reset(alloc, protocol, shape) else {
-        return Err(WriteFault::NoMemory);
-    };
+    runs_go_on();
+    let mut machine = Machine::reset(alloc, protocol, shape)?;
     write_lines(alloc, writer, shape, &mut machine, steps)?;
     write_report(alloc, writer, machine.log())?;
     Ok(())
@@ -92,7 +92,7 @@ fn push_taken(
     machine: &mut Machine,
     step: Step,
 ) -> Result<(), WriteFault>
-    ensures ok { OnOk result ((outcome : Result Answer Cause) × (Takes machine.old.situation step outcome machine.new.situation × (chunk.new.items ≡ chunk.old.items ++ line_text shape step outcome))) }
+    ensures ok { OnOk result ((outcome : Result Answer Cause) × (GoesFirst machine.old.situation step outcome machine.new.situation × (chunk.new.items ≡ chunk.old.items ++ line_text shape step outcome))) }
     ensures err { IfErr result (λ e. e ≡ WriteFault.NoMemory) }
 {
     let outcome = machine.step(step);

@@ -3,6 +3,8 @@ mod crowd;
 mod failures;
 mod mesi;
 mod msi;
+mod row_texts;
+mod rows;
 mod scene;
 mod storm;
 mod streams;

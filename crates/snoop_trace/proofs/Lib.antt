@@ -8,3 +8,4 @@ pub mod OutputLemmas
 pub mod GathersLemmas
 pub mod LineLemmas
 pub mod BackLemmas
+pub mod WithinLemmas

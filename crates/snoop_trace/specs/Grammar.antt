@@ -1,5 +1,5 @@
 -- How one record of a text is read: its numbers, its fields, and the first fault.
-use Rattle.std.specs.Prelude.{ℕ, ◌/◌, ◌^◌, ◌&&◌, List, [], ◌∷◌, drop, nat_lt, nat_eq, ◌==◌, codes, Option, Some, None, Result, Ok, Err, if◌then◌else◌}
+use Rattle.std.specs.Prelude.{ℕ, ◌<◌, ◌/◌, ◌^◌, ◌&&◌, List, [], ◌∷◌, drop, nat_lt, nat_eq, ◌==◌, codes, Option, Some, None, Result, Ok, Err, if◌then◌else◌}
 use Rattle.std.specs.Char.{is_digit}
 use Rattle.std.specs.List.{list_all, starts_with}
 use Rattle.std.specs.Option.{ok_or}
@@ -149,3 +149,7 @@ step_in shape n fields = do
   if letter == 79 then order shape n fields
       else if letter == 82 then respond shape n fields
       else ask shape n letter fields
+
+-- a row of the shape: its core is there, and its address lies in a block
+abbrev pub IsRowWithin : Extent → Row → Type 0
+IsRowWithin shape row = (row.core < shape.cores) × (row.address / shape.block_bytes < shape.blocks)

@@ -26,3 +26,7 @@ Takes says s xs (Err fault) s2 left = (r : Record) × (next_record default_confi
 -- what a call does to a reader whose bytes are known
 abbrev pub TakesEntry : {R A : Type 0} → (R → Option (List ℕ)) → (List (List ℕ) → Result A TextFault) → Reader R → Result (Option A) TextFault → Reader R → Type 0
 TakesEntry rem says old r new = IfSome (source_of rem old) (λ xs. Takes says (reader_state old) xs r (reader_state new) (source_of rem new))
+
+-- some record of a text says this entry
+abbrev pub IsSaid : {A : Type 0} → (ℕ → List (List ℕ) → Result A TextFault) → A → Type 0
+IsSaid says entry = (n : ℕ) × ((fields : List (List ℕ)) × (says n fields ≡ Ok entry))

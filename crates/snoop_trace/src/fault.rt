@@ -55,3 +55,14 @@ pub enum WriteFault {
     #[error("NoMemory")]
     NoMemory,
 }
+
+impl From<NoMemory> for WriteFault {
+    ghost use Rattle.std.specs.Prelude.{◌≡◌};
+    ghost use Rattle.snoop_trace.specs.declared.fault.WriteFault.TheVariants as write;
+
+    ghost from_gives = { λ e r. r ≡ write.NoMemory };
+
+    fn from(_: NoMemory) -> Self {
+        WriteFault::NoMemory
+    }
+}

@@ -1,6 +1,7 @@
 //! Shapes of machines, rows and steps, and the texts that they are read from and written to.
 #![tactic(auto)]
 
+mod append;
 mod fault;
 mod fields;
 mod number;
@@ -12,6 +13,7 @@ mod source;
 mod step;
 mod text;
 
+pub use append::{push_byte, push_decimal, push_text};
 pub use fault::{NoMemory, TextFault, WriteFault};
 pub use output::{push_step, write_steps};
 pub use shape::{Shape, ShapeFault};

@@ -1,22 +1,73 @@
 //! Steps as text.
-ghost use Rattle.std.specs.Prelude.{◌≡◌, ◌≢◌, ◌++◌, ◌*◌, List, All, Ok, Err, OnOk, OnErr, IfErr, codes, true};
+ghost use Rattle.std.specs.Prelude.{◌≡◌, ◌≢◌, ◌++◌, ◌∷◌, [], List, All, Ok, Err, OnOk, OnErr, IfErr, codes, true};
+ghost use Rattle.std.specs.Fmt.{decimal};
 ghost use Rattle.std.specs.Io.KnownBytes.{Appends};
 ghost use Rattle.snoop_trace.specs.Extent.{Extent};
 ghost use Rattle.snoop_trace.specs.Output.{AppendsFront, IsWithin, address_of, step_text, steps_text};
 ghost use Rattle.snoop_trace.specs.Text.{steps_of};
+ghost use Rattle.snoop_trace.specs.declared.step.Step.TheVariants.{Ask};
 
+use crate::append::{push_byte, push_decimal};
 use crate::fault::WriteFault;
 use crate::shape::Shape;
 use crate::sink::{Sink, spill, write_whole};
 use crate::step::{Op, Step};
 use std::alloc::Global;
-use std::io::Write;
 
 // The first address of a block.
 fn address_of(shape: Shape, block: u32) -> u64
     ensures { result ≡ address_of shape block }
 {
     block as u64 * shape.block_bytes() as u64
+}
+
+// Puts a comma and a number at the end.
+fn push_field(out: &mut Vec<u8>, number: u64) -> Result<(), WriteFault>
+    ensures ok { OnOk result (out.new.items ≡ out.old.items ++ (codes "," ++ decimal number)) }
+    ensures err { IfErr result (λ e. e ≡ WriteFault.NoMemory) }
+{
+    push_byte(out, b',')?;
+    push_decimal(out, number)
+}
+
+// Puts a letter and one field at the end.
+fn push_one(out: &mut Vec<u8>, letter: u8, number: u64) -> Result<(), WriteFault>
+    ensures ok { OnOk result (out.new.items ≡ out.old.items ++ (letter ∷ [] ++ codes "," ++ decimal number)) }
+    ensures err { IfErr result (λ e. e ≡ WriteFault.NoMemory) }
+{
+    push_byte(out, letter)?;
+    push_field(out, number)
+}
+
+// Puts a letter and two fields at the end.
+fn push_two(out: &mut Vec<u8>, letter: u8, core: u32, address: u64) -> Result<(), WriteFault>
+    ensures ok { OnOk result (out.new.items ≡ out.old.items ++ (letter ∷ [] ++ codes "," ++ decimal core ++ codes "," ++ decimal address)) }
+    ensures err { IfErr result (λ e. e ≡ WriteFault.NoMemory) }
+{
+    push_one(out, letter, core as u64)?;
+    push_field(out, address)
+}
+
+// Puts the record of what a core asks for at the end.
+fn push_ask(
+    out: &mut Vec<u8>,
+    shape: Shape,
+    core: u32,
+    block: u32,
+    op: Op,
+) -> Result<(), WriteFault>
+    ensures ok { OnOk result (out.new.items ≡ out.old.items ++ step_text shape (Ask core block op)) }
+    ensures err { IfErr result (λ e. e ≡ WriteFault.NoMemory) }
+{
+    let address = address_of(shape, block);
+    match op {
+        Op::Load => push_two(out, b'L', core, address),
+        Op::Evict => push_two(out, b'E', core, address),
+        Op::Store(value) => {
+            push_two(out, b'S', core, address)?;
+            push_field(out, value)
+        }
+    }
 }
 
 /// Puts the text of a step at the end of `out`, without a line end.
@@ -27,26 +78,11 @@ pub fn push_step(out: &mut Vec<u8>, shape: Shape, step: Step) -> Result<(), Writ
     ensures ok { OnOk result (out.new.items ≡ out.old.items ++ step_text shape step) }
     ensures err { IfErr result (λ e. e ≡ WriteFault.NoMemory) }
 {
-    let written = match step {
-        Step::Ask {
-            core,
-            block,
-            op: Op::Load,
-        } => write!(out, "L,{core},{}", address_of(shape, block)),
-        Step::Ask {
-            core,
-            block,
-            op: Op::Store(value),
-        } => write!(out, "S,{core},{},{value}", address_of(shape, block)),
-        Step::Ask {
-            core,
-            block,
-            op: Op::Evict,
-        } => write!(out, "E,{core},{}", address_of(shape, block)),
-        Step::Order { core } => write!(out, "O,{core}"),
-        Step::Respond { block } => write!(out, "R,{}", address_of(shape, block)),
-    };
-    written.map_err(|_| WriteFault::NoMemory)
+    match step {
+        Step::Ask { core, block, op } => push_ask(out, shape, core, block, op),
+        Step::Order { core } => push_one(out, b'O', core as u64),
+        Step::Respond { block } => push_one(out, b'R', address_of(shape, block)),
+    }
 }
 
 /// Writes steps as a text, one a line, each ended by a line feed: `read_steps` reads them again.
@@ -68,7 +104,9 @@ pub fn write_steps<W: Sink>(
     // What was written is read as the same steps, where they are within the shape.
     ensures read { All (IsWithin shape) steps.now → steps_of shape (steps_text shape steps.now) ≡ Ok steps.now }
 {
-    shape.limits();
+    prove!(shape.cores() <= 256);
+    prove!(shape.blocks() <= 65536);
+    prove!(shape.block_bytes() <= 4096);
     let mut chunk = Vec::new(alloc);
     for step in steps {
         push_line(&mut chunk, shape, *step)?;
@@ -83,5 +121,5 @@ fn push_line(out: &mut Vec<u8>, shape: Shape, step: Step) -> Result<(), WriteFau
     ensures err { IfErr result (λ e. e ≡ WriteFault.NoMemory) }
 {
     push_step(out, shape, step)?;
-    out.push(b'\n').map_err(|_| WriteFault::NoMemory)
+    push_byte(out, b'\n')
 }

@@ -1,7 +1,7 @@
 //! How many cores and blocks there are, and how long a block is.
 ghost use Rattle.std.specs.Prelude.{◌≡◌, ◌≤◌, ◌↔◌, Err, IsTrue};
 ghost use Rattle.std.specs.Result.{OkIff};
-ghost use Rattle.snoop_trace.specs.Extent.{IsBlockCount, IsBlockSize, IsCoreCount, IsWithinLimits};
+ghost use Rattle.snoop_trace.specs.Extent.{IsBlockCount, IsBlockSize, IsCoreCount};
 
 use std::marker::Model;
 use thiserror::Error;
@@ -74,13 +74,6 @@ impl Shape {
             blocks,
             block_bytes,
         })
-    }
-
-    /// For proofs: every shape is within its limits. It does nothing.
-    pub fn limits(&self)
-        ensures { IsWithinLimits self.now }
-    {
-        let _ = &self.cores;
     }
 
     /// How many cores there are, from 1 to 256.

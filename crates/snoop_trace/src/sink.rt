@@ -63,7 +63,7 @@ impl<W: Write> Sink for Plain<W> {
     ghost never_fails = { false };
 
     fn put(&mut self, buf: &[u8]) -> io::Result<usize> {
-        self.0.write(buf)
+        Write::write(self, buf)
     }
 }
 

@@ -57,7 +57,7 @@ impl<R: Read> Source for Any<R> {
     ghost never_fails = { false };
 
     fn pull(&mut self, buf: &mut [u8]) -> io::Result<usize> {
-        self.0.read(buf)
+        Read::read(self, buf)
     }
 }
 

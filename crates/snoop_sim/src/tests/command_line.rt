@@ -4,7 +4,7 @@ use crate::tests::support::run;
 use std::test::Fail;
 
 // Command lines whose shape is refused, and what is told.
-static SHAPES: [(&str, &str); 9] = [
+static SHAPES: [(&str, &str); 13] = [
     ("snoop steps --cores 0", "snoop: BadCores\n"),
     ("snoop steps --cores 257", "snoop: BadCores\n"),
     ("snoop steps --blocks 0", "snoop: BadBlocks\n"),
@@ -20,6 +20,10 @@ static SHAPES: [(&str, &str); 9] = [
         "snoop steps --block-bytes 48 --blocks 0",
         "snoop: BadBlocks\n",
     ),
+    ("snoop run --cores 0", "snoop: BadCores\n"),
+    ("snoop run --blocks 65537", "snoop: BadBlocks\n"),
+    ("snoop run --block-bytes 48", "snoop: BadBytes\n"),
+    ("snoop run --block-bytes 48 --cores 0", "snoop: BadCores\n"),
 ];
 
 #[test]
@@ -48,7 +52,10 @@ fn refused_command_lines(rt: HostRuntime) -> Result<(), Fail> {
         "snoop steps more",
         "snoop table --which bus",
         "snoop table --cores 2",
-        "snoop run",
+        "snoop run --cores x --blocks 0",
+        "snoop run --protocol mosi",
+        "snoop run --which cache",
+        "snoop run more",
         "snoop threads",
         "snoop step",
     ] {
@@ -65,11 +72,16 @@ fn help_and_version(rt: HostRuntime) -> Result<(), Fail> {
     for (line, part) in [
         ("snoop --help", "Usage: snoop <COMMAND>"),
         ("snoop --help", "steps"),
+        ("snoop --help", "run"),
         ("snoop --help", "table"),
         ("snoop help", "Usage: snoop <COMMAND>"),
         ("snoop steps --help", "--protocol <protocol>"),
         ("snoop steps --help", "[possible values: msi, mesi]"),
         ("snoop steps --help", "--block-bytes <block-bytes>"),
+        ("snoop run --help", "--protocol <protocol>"),
+        ("snoop run --help", "--cores <cores>"),
+        ("snoop run --help", "--blocks <blocks>"),
+        ("snoop run --help", "--block-bytes <block-bytes>"),
         ("snoop table --help", "--which <which>"),
         ("snoop --version", "snoop 0.1.0\n"),
         ("snoop -V", "snoop 0.1.0\n"),

@@ -2,15 +2,24 @@
 
 use crate::tests::streams::{FailingReader, FailingWriter, Fault};
 use crate::tests::support::words_of;
-use crate::{SimFault, command, simulate_steps};
+use crate::{SimFault, command, simulate_run, simulate_steps};
 use snoop_rules::Protocol;
-use snoop_trace::{Any, Plain, Shape, TextFault};
+use snoop_trace::{Any, Plain, Shape, Sink, Source, TextFault};
 use std::alloc::Global;
 use std::test::Fail;
 
-static TEXT: &[u8] = b"S,0,64,7\nO,0\nR,64\nL,1,127\nO,1\nR,64\n";
+/// One of the two simulations, with a worked text.
+#[derive(Clone, Copy, Debug, PartialEq, Eq)]
+enum Engine {
+    Steps,
+    Run,
+}
 
-static OUTPUT: &str = "\
+static ENGINES: [Engine; 2] = [Engine::Steps, Engine::Run];
+
+static STEPS: &[u8] = b"S,0,64,7\nO,0\nR,64\nL,1,127\nO,1\nR,64\n";
+
+static STEPS_OUTPUT: &str = "\
 S,0,64,7: issued GetM
 O,0: ordered GetM
 R,64: Data from memory, store 7
@@ -25,27 +34,72 @@ writebacks 0 clean 0 stale 0
 block 1 value 7
 ";
 
-fn shape() -> Result<Shape, Fail> {
-    Ok(Shape::new(2, 4, 64).ok().ok_or("a shape")?)
+static ROWS: &[u8] = b"S,0,0,1\nE,0,0\nS,1,0,2\n";
+
+static ROWS_OUTPUT: &str = "\
+S,0,0,1: issued GetM
+S,1,0,2: issued GetM
+O,0: ordered GetM
+R,0: Data from memory, store 1
+E,0,0: issued PutM
+O,1: ordered GetM
+R,0: Data from core 0, store 2
+O,0: ordered PutM
+R,0: NoData from core 0
+loads 0 hits 0
+stores 2 hits 0
+GetS 0 GetM 2 PutM 1
+from memory 1 from caches 1
+writebacks 0 clean 0 stale 1
+block 0 value 2
+";
+
+impl Engine {
+    fn text(self) -> &'static [u8] {
+        match self {
+            Engine::Steps => STEPS,
+            Engine::Run => ROWS,
+        }
+    }
+
+    fn output(self) -> &'static str {
+        match self {
+            Engine::Steps => STEPS_OUTPUT,
+            Engine::Run => ROWS_OUTPUT,
+        }
+    }
+
+    /// What the simulation answers under MSI, with 2 cores and 4 blocks.
+    fn simulate<R: Source + Drop, W: Sink>(
+        self,
+        alloc: Global,
+        reader: R,
+        writer: &mut W,
+    ) -> Result<Result<(), SimFault>, Fail> {
+        let shape = Shape::new(2, 4, 64).ok().ok_or("a shape")?;
+        Ok(match self {
+            Engine::Steps => simulate_steps(alloc, reader, writer, Protocol::Msi, shape),
+            Engine::Run => simulate_run(alloc, reader, writer, Protocol::Msi, shape),
+        })
+    }
 }
 
 #[test]
 fn reader_fails_after_each_byte(rt: HostRuntime) -> Result<(), Fail> {
     let alloc = rt.alloc();
-    for most in [1, 1000] {
-        for left in 0..TEXT.len() {
-            let reader = Any(FailingReader {
-                text: TEXT,
-                left,
-                most,
-            });
-            let mut written = Vec::new(alloc);
-            let ended = simulate_steps(alloc, reader, &mut written, Protocol::Msi, shape()?);
-            assert!(rt;
-                ended == Err(SimFault::Text(TextFault::Read)),
-                "after {left}"
-            );
-            assert!(rt; written.is_empty(), "after {left}");
+    for engine in ENGINES {
+        let text = engine.text();
+        for most in [1, 1000] {
+            for left in 0..text.len() {
+                let reader = Any(FailingReader { text, left, most });
+                let mut written = Vec::new(alloc);
+                let ended = engine.simulate(alloc, reader, &mut written)?;
+                assert!(rt;
+                    ended == Err(SimFault::Text(TextFault::Read)),
+                    "{engine:?} after {left}"
+                );
+                assert!(rt; written.is_empty(), "{engine:?} after {left}");
+            }
         }
     }
     Ok(())
@@ -54,30 +108,41 @@ fn reader_fails_after_each_byte(rt: HostRuntime) -> Result<(), Fail> {
 #[test]
 fn faulty_record_before_a_failed_read(rt: HostRuntime) -> Result<(), Fail> {
     let alloc = rt.alloc();
-    let reader = Any(FailingReader {
-        text: b"L,0,0\nX,0\nR,0\n",
-        left: 12,
-        most: 1,
-    });
-    let mut written = Vec::new(alloc);
-    let ended = simulate_steps(alloc, reader, &mut written, Protocol::Msi, shape()?);
-    assert!(rt; ended == Err(SimFault::Text(TextFault::BadKind(2))));
-    assert!(rt; written.is_empty());
+    for engine in ENGINES {
+        let reader = Any(FailingReader {
+            text: b"L,0,0\nX,0\nL,0,0\n",
+            left: 12,
+            most: 1,
+        });
+        let mut written = Vec::new(alloc);
+        let ended = engine.simulate(alloc, reader, &mut written)?;
+        assert!(rt;
+            ended == Err(SimFault::Text(TextFault::BadKind(2))),
+            "{engine:?}"
+        );
+        assert!(rt; written.is_empty(), "{engine:?}");
+    }
     Ok(())
 }
 
 #[test]
 fn reader_gives_one_byte_a_call(rt: HostRuntime) -> Result<(), Fail> {
     let alloc = rt.alloc();
-    let reader = Any(FailingReader {
-        text: TEXT,
-        left: 1000,
-        most: 1,
-    });
-    let mut written = Vec::new(alloc);
-    let ended = simulate_steps(alloc, reader, &mut written, Protocol::Msi, shape()?);
-    assert!(rt; ended == Ok(()));
-    assert_eq!(rt; written.as_slice(), OUTPUT.as_bytes());
+    for engine in ENGINES {
+        let reader = Any(FailingReader {
+            text: engine.text(),
+            left: 1000,
+            most: 1,
+        });
+        let mut written = Vec::new(alloc);
+        let ended = engine.simulate(alloc, reader, &mut written)?;
+        assert!(rt; ended == Ok(()), "{engine:?}");
+        assert_eq!(rt;
+            written.as_slice(),
+            engine.output().as_bytes(),
+            "{engine:?}"
+        );
+    }
     Ok(())
 }
 
@@ -96,22 +161,24 @@ fn writer(alloc: Global, calls: usize, most: usize, fault: Fault) -> Plain<Faili
 fn fails_at_each_call(
     rt: &impl std::process::Abort,
     alloc: Global,
+    engine: Engine,
     most: usize,
     fault: Fault,
 ) -> Result<usize, Fail> {
+    let output = engine.output().as_bytes();
     for calls in 0..1000 {
         let mut writer = writer(alloc, calls, most, fault);
-        let ended = simulate_steps(alloc, TEXT, &mut writer, Protocol::Msi, shape()?);
+        let ended = engine.simulate(alloc, engine.text(), &mut writer)?;
         let held = writer.0.held.as_slice();
         if !writer.0.failed {
-            assert!(rt; ended == Ok(()));
-            assert_eq!(rt; held, OUTPUT.as_bytes());
+            assert!(rt; ended == Ok(()), "{engine:?}");
+            assert_eq!(rt; held, output, "{engine:?}");
             return Ok(calls);
         }
-        assert!(rt; ended == Err(SimFault::Write), "at call {calls}");
-        assert!(rt; OUTPUT.as_bytes().starts_with(held), "at call {calls}");
-        assert!(rt; held.len() >= calls, "at call {calls}");
-        assert_eq!(rt; writer.0.calls_after, 0, "at call {calls}");
+        assert!(rt; ended == Err(SimFault::Write), "{engine:?} at call {calls}");
+        assert!(rt; output.starts_with(held), "{engine:?} at call {calls}");
+        assert!(rt; held.len() >= calls, "{engine:?} at call {calls}");
+        assert_eq!(rt; writer.0.calls_after, 0, "{engine:?} at call {calls}");
     }
     Ok(1000)
 }
@@ -119,11 +186,13 @@ fn fails_at_each_call(
 #[test]
 fn writer_fails_at_each_call(rt: HostRuntime) -> Result<(), Fail> {
     let alloc = rt.alloc();
-    for fault in [Fault::Refuses, Fault::TakesNothing] {
-        let calls = fails_at_each_call(&rt, alloc, 1, fault)?;
-        assert_eq!(rt; calls, OUTPUT.len());
-        let calls = fails_at_each_call(&rt, alloc, 1000, fault)?;
-        assert!(rt; calls > 0);
+    for engine in ENGINES {
+        for fault in [Fault::Refuses, Fault::TakesNothing] {
+            let calls = fails_at_each_call(&rt, alloc, engine, 1, fault)?;
+            assert_eq!(rt; calls, engine.output().len(), "{engine:?}");
+            let calls = fails_at_each_call(&rt, alloc, engine, 1000, fault)?;
+            assert!(rt; calls > 0, "{engine:?}");
+        }
     }
     Ok(())
 }
@@ -131,18 +200,21 @@ fn writer_fails_at_each_call(rt: HostRuntime) -> Result<(), Fail> {
 #[test]
 fn failing_writer(rt: HostRuntime) -> Result<(), Fail> {
     let alloc = rt.alloc();
-    for fault in [Fault::Refuses, Fault::TakesNothing] {
-        let mut writer = writer(alloc, 12, 1, fault);
-        let ended = simulate_steps(
-            alloc,
-            b"L,0,0\nO,0\nR,0\n".as_slice(),
-            &mut writer,
-            Protocol::Msi,
-            shape()?,
-        );
-        assert!(rt; ended == Err(SimFault::Write));
-        assert_eq!(rt; writer.0.held.as_slice(), b"L,0,0: issue".as_slice());
-        assert_eq!(rt; writer.0.calls_after, 0);
+    for (engine, text) in [
+        (Engine::Steps, b"L,0,0\nO,0\nR,0\n".as_slice()),
+        (Engine::Run, b"L,0,0\n".as_slice()),
+    ] {
+        for fault in [Fault::Refuses, Fault::TakesNothing] {
+            let mut writer = writer(alloc, 12, 1, fault);
+            let ended = engine.simulate(alloc, text, &mut writer)?;
+            assert!(rt; ended == Err(SimFault::Write), "{engine:?}");
+            assert_eq!(rt;
+                writer.0.held.as_slice(),
+                b"L,0,0: issue".as_slice(),
+                "{engine:?}"
+            );
+            assert_eq!(rt; writer.0.calls_after, 0, "{engine:?}");
+        }
     }
     Ok(())
 }
@@ -150,24 +222,30 @@ fn failing_writer(rt: HostRuntime) -> Result<(), Fail> {
 #[test]
 fn failures_end_the_command(rt: HostRuntime) -> Result<(), Fail> {
     let alloc = rt.alloc();
-    let words = words_of(alloc, "snoop steps")?;
-    let reader = Any(FailingReader {
-        text: TEXT,
-        left: 20,
-        most: 1000,
-    });
-    let mut output = Vec::new(alloc);
-    let mut errors = Vec::new(alloc);
-    let status = command(alloc, words.as_slice(), reader, &mut output, &mut errors);
-    assert_eq!(rt; status, 1);
-    assert_eq!(rt; errors.as_slice(), b"snoop: Read\n".as_slice());
-    assert!(rt; output.is_empty());
-
-    for line in ["snoop steps", "snoop --help", "snoop table"] {
+    for (line, text) in [("snoop steps", STEPS), ("snoop run", ROWS)] {
+        let words = words_of(alloc, line)?;
+        let reader = Any(FailingReader {
+            text,
+            left: 20,
+            most: 1000,
+        });
+        let mut output = Vec::new(alloc);
+        let mut errors = Vec::new(alloc);
+        let status = command(alloc, words.as_slice(), reader, &mut output, &mut errors);
+        assert_eq!(rt; status, 1, "{line}");
+        assert_eq!(rt; errors.as_slice(), b"snoop: Read\n".as_slice(), "{line}");
+        assert!(rt; output.is_empty(), "{line}");
+    }
+    for (line, text) in [
+        ("snoop steps", STEPS),
+        ("snoop run", ROWS),
+        ("snoop --help", STEPS),
+        ("snoop table", STEPS),
+    ] {
         let words = words_of(alloc, line)?;
         let mut full = writer(alloc, 0, 1, Fault::Refuses);
         let mut errors = Vec::new(alloc);
-        let status = command(alloc, words.as_slice(), TEXT, &mut full, &mut errors);
+        let status = command(alloc, words.as_slice(), text, &mut full, &mut errors);
         assert_eq!(rt; status, 4, "{line}");
         assert_eq!(rt; errors.as_slice(), b"snoop: Write\n".as_slice(), "{line}");
         assert_eq!(rt; full.0.calls_after, 0, "{line}");
@@ -181,6 +259,7 @@ fn failing_standard_error(rt: HostRuntime) -> Result<(), Fail> {
     for (line, wanted) in [
         ("snoop steps --cores 0", 2),
         ("snoop steps", 1),
+        ("snoop run", 1),
         ("snoop", 2),
     ] {
         let words = words_of(alloc, line)?;

@@ -1,4 +1,4 @@
-use Rattle.std.proofs.Common.{◌≡◌, ◌<◌, Some, refl, get_or}
+use Rattle.std.proofs.Common.{◌≡◌, ◌<◌, get_or}
 use Rattle.snoop_history.specs.History.{flat}
 use Rattle.snoop_history.proofs.Touching.{blocks_step, flat_found}
 use Rattle.snoop_history.proofs.report.push_blocks.Goals as goal

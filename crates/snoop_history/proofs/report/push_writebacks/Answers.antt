@@ -1,5 +1,4 @@
 use Rattle.std.proofs.Common.{rules, append_assoc}
-use Rattle.std.proofs.lemmas.Result.{IfOk-equal}
 use Rattle.snoop_history.proofs.report.push_writebacks.Goals as goal
 
 pub returns : goal.returns

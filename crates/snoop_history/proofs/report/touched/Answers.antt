@@ -1,7 +1,3 @@
-use Rattle.std.proofs.Common.{◌≡◌, ◌∙◌, ap, get_or, take}
-use Rattle.std.proofs.lemmas.List.{take_more}
-use Rattle.snoop_history.specs.declared.items.Item.{Item}
-use Rattle.snoop_history.specs.Totals.{touched}
 use Rattle.snoop_history.proofs.Touching.{touched_step}
 use Rattle.snoop_history.proofs.report.touched.Goals as goal
 

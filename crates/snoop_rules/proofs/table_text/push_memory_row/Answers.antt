@@ -1,4 +1,4 @@
-use Rattle.std.proofs.Common.{◌++◌, ap, sym, ◌∙◌}
+use Rattle.std.proofs.Common.{sym}
 use Rattle.std.proofs.lemmas.List.{append-nil}
 use Rattle.snoop_rules.proofs.LineLemmas.{memory_line_at-none, memory_line_at-row}
 use Rattle.snoop_rules.proofs.table_text.push_memory_row.Goals as goal

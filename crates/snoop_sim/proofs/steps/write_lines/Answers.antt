@@ -1,4 +1,4 @@
-use Rattle.std.proofs.Common.{take, drop, sym}
+use Rattle.std.proofs.Common.{sym}
 use Rattle.std.specs.Prelude.{◌+◌}
 use Rattle.std.proofs.lemmas.List.{take-append-drop, take_more}
 use Rattle.snoop_trace.proofs.OutputLemmas.{on_err}

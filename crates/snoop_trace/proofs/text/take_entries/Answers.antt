@@ -2,12 +2,17 @@ use Rattle.std.proofs.Common.{◌≡◌, ◌^◌, rules, true, refl, arith}
 use Rattle.std.specs.Prelude.{◌-◌}
 use Rattle.std.specs.Result.{is_ok}
 use Rattle.csv.specs.Reading.{reader_state, source_of}
+use Rattle.std.proofs.lemmas.List.Elements.{All-nil, All-push}
+use Rattle.snoop_trace.specs.Progress.{IsSaid}
 use Rattle.snoop_trace.proofs.TextLemmas.{begin_all, bounded, done, faulty, further, over, within}
 use Rattle.snoop_trace.proofs.text.take_entries.Goals as goal
 
 pub loop-i-init : goal.loop-i-init
-loop-i-init g c =
-    (c.requires.plain, begin_all (g.E.Entry.says c.args.shape) (source_of (λ r. g.R.Read.remaining r.inner) c.args.text.now) (reader_state c.args.text.now) c.args.entries.now.items c.requires.begins c.requires.empty)
+loop-i-init g c = (
+  c.requires.plain,
+  begin_all (g.E.Entry.says c.args.shape) (source_of (λ r. g.R.Read.remaining r.inner) c.args.text.now) (reader_state c.args.text.now) c.args.entries.now.items c.requires.begins c.requires.empty,
+  rw c.requires.empty (All-nil (IsSaid (g.E.Entry.says c.args.shape))),
+)
 
 pub returns-in-Ok-None-clause-read : goal.returns-in-Ok-None-clause-read
 returns-in-Ok-None-clause-read g c =
@@ -29,6 +34,7 @@ pub loop-i-preserved : goal.loop-i-preserved
 loop-i-preserved g c =
     let takes = rw (c.in-Ok-Some.is, c.in-Ok-Some.field-0-is) at c.next_entry.ensures.takes in
     let plain = rw (c.in-Ok-Some.is, c.in-Ok-Some.field-0-is) at c.next_entry.ensures.plain in
+    let said = rw (c.in-Ok-Some.is, c.in-Ok-Some.field-0-is) at c.next_entry.ensures.said in
     let good : is_ok c.push.result ≡ true = search rules in
     let items = rw good at c.push.ensures.items in (
       plain refl,
@@ -36,6 +42,7 @@ loop-i-preserved g c =
           (λ xs far. rw items (further (g.E.Entry.says c.args.shape) xs (reader_state c.loop-i.text) (reader_state c.next_entry.new.text) (source_of (λ r. g.R.Read.remaining r.inner) c.loop-i.text)
           (source_of (λ r. g.R.Read.remaining r.inner) c.next_entry.new.text) c.loop-i.entries.items c.loop-i.i c.in-Ok-Some.entry far takes))
           c.loop-i.invariant.1,
+      rw items (All-push (IsSaid (g.E.Entry.says c.args.shape)) c.loop-i.entries.items c.in-Ok-Some.entry c.loop-i.invariant.2 said),
     )
 
 pub returns-clause-blames : goal.returns-clause-blames

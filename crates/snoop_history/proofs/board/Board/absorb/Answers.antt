@@ -1,4 +1,4 @@
-use Rattle.std.proofs.Common.{rules, ◌≡◌, ◌<◌, arith, sym, ap, ◌∙◌, length, Some, true}
+use Rattle.std.proofs.Common.{rules, ◌≡◌, ◌<◌, arith, ap, length, Some, true}
 use Rattle.std.specs.Prelude.{slice_index, slice_set}
 use Rattle.std.proofs.lemmas.List.{get_or_read}
 use Rattle.snoop_history.specs.Journal.{counted}

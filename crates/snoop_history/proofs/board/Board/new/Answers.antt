@@ -1,7 +1,6 @@
-use Rattle.std.proofs.Common.{◌≡◌, ℕ, List, [], Option, None, Some, refl, ap, ◌∙◌, rules}
+use Rattle.std.proofs.Common.{◌≡◌, [], None, refl, ap, ◌∙◌, rules}
 use Rattle.std.specs.Prelude.{replicate}
-use Rattle.snoop_history.specs.declared.items.Did.{Did}
-use Rattle.snoop_history.specs.Board.{Tables, board_of}
+use Rattle.snoop_history.specs.Board.{board_of}
 use Rattle.snoop_history.proofs.Boards.{table-of, same_tables, value_in, count_in, last_in}
 use Rattle.snoop_history.proofs.board.Board.new.Goals as goal
 

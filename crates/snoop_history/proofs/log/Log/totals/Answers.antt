@@ -1,4 +1,4 @@
-use Rattle.std.proofs.Common.{◌≡◌, ap, ◌∙◌}
+use Rattle.std.proofs.Common.{ap, ◌∙◌}
 use Rattle.snoop_history.specs.Totals.{totals_of}
 use Rattle.snoop_history.proofs.log.Log.totals.Goals as goal
 

@@ -1,32 +1,25 @@
-use Rattle.snoop_machine.specs.Picture.{first_memory}
-use Rattle.snoop_machine.specs.declared.memory.MemLine.{MemLine}
-use Rattle.snoop_rules.specs.declared.names.MemState.{MemState}
-use Rattle.snoop_machine.specs.Situation.{reset}
-use Rattle.std.proofs.Common.{rules, arith, ◌≡◌, ℕ, List, [], replicate, refl, sym, ap, subst, ◌∙◌}
-use Rattle.snoop_history.specs.Journal.{Journal}
-use Rattle.snoop_machine.specs.declared.lines.Line.{Line}
-use Rattle.snoop_machine.specs.Sound.{IsSound}
-use Rattle.snoop_machine.proofs.Reset.{IsSound-reset, queues_of-reset}
-use Rattle.snoop_machine.proofs.Heads.{same_situation}
+use Rattle.std.proofs.Common.{sym, subst}
+use Rattle.snoop_machine.specs.Coherent.{IsCoherent}
+use Rattle.snoop_machine.proofs.Clauses.{has_one_writer, meets_nothing, orders_are_led}
+use Rattle.snoop_machine.proofs.Reached.{reset_coherent}
 use Rattle.snoop_machine.proofs.machine.Machine.reset.Goals as goal
+use Rattle.snoop_machine.proofs.machine.Machine.reset.Goals.{In_ok-parts}
+
+-- a machine at reset is coherent
+coherent : (c : In_ok-parts) → IsCoherent c.in_ok-parts.parts.situation
+coherent c = subst IsCoherent (sym c.in_ok-parts.ensures) (reset_coherent c.args.protocol c.args.shape)
 
 pub invariant_of-result : goal.invariant_of-result
-invariant_of-result c =
-    let S : List (List Line) → Type 0 = λ caches. IsSound c.args.shape caches c.in_ok-bus.bus in
-    record {
-      few = search rules;
-      sound = subst S (sym c.in_ok-lines.ensures) (IsSound-reset c.args.shape c.in_ok-bus.bus c.in_ok-bus.ensures.queues.0 c.in_ok-bus.ensures.queues.1 c.in_ok-bus.ensures.transactions);
-      memory = omega (arith, c.in_ok-memory.memory.ok.0, c.in_ok-memory.ensures.len, c.blocks-2.ensures.value);
-      cores = ap (λ (j : Journal). j.cores) c.in_ok-log.ensures;
-      blocks = ap (λ (j : Journal). j.blocks) c.in_ok-log.ensures;
-    }
+invariant_of-result c = coherent (goal.at.invariant_of-result c).In_ok-parts
 
-pub returns : goal.returns
-returns c =
-    let items : c.in_ok-memory.memory.items ≡ replicate c.args.shape.blocks (record { state = first_memory c.args.protocol; value = 0 }) =
-    c.in_ok-memory.ensures.items_if_clones_equal (λ y h. h)
-    ∙ (ap (λ (n : ℕ). let l : List MemLine = replicate n (record { state = c.first_state.result; value = 0 }) in l) c.blocks-2.ensures.value
-    ∙ ap (λ (x : MemState). let l : List MemLine = replicate c.args.shape.blocks (record { state = x; value = 0 }) in l) c.first_state.ensures) in
-    same_situation _ (reset c.args.protocol c.args.shape) refl refl c.in_ok-lines.ensures items c.in_ok-bus.ensures.transactions
-    (queues_of-reset c.in_ok-bus.bus.queues c.in_ok-bus.ensures.queues.1 ∙ ap (λ (n : ℕ). let l : List (List ℕ) = replicate n [] in l) c.in_ok-bus.ensures.queues.0)
-    (ap (λ (j : Journal). j.items) c.in_ok-log.ensures)
+pub returns-clause-one_writer : goal.returns-clause-one_writer
+returns-clause-one_writer c = has_one_writer c.in_ok-parts.parts.situation (coherent (goal.at.returns-clause-one_writer c).In_ok-parts)
+
+pub returns-clause-legal : goal.returns-clause-legal
+returns-clause-legal c = (coherent (goal.at.returns-clause-legal c).In_ok-parts).legal
+
+pub returns-clause-possible : goal.returns-clause-possible
+returns-clause-possible c = meets_nothing c.in_ok-parts.parts.situation (coherent (goal.at.returns-clause-possible c).In_ok-parts)
+
+pub returns-clause-orders : goal.returns-clause-orders
+returns-clause-orders c = orders_are_led c.in_ok-parts.parts.situation (coherent (goal.at.returns-clause-orders c).In_ok-parts)

@@ -1,23 +1,33 @@
-use Rattle.std.proofs.Common.{refl, subst}
-use Rattle.std.proofs.lemmas.Result.{err_from_is_err_and}
-use Rattle.snoop_trace.specs.declared.step.Step.{Step}
-use Rattle.snoop_machine.specs.Situation.{Situation}
-use Rattle.snoop_machine.specs.Move.{FirstMove}
-use Rattle.snoop_machine.specs.Plan.{step_of, entry_of}
-use Rattle.snoop_machine.proofs.Prepared.{prepared-log}
-use Rattle.snoop_machine.proofs.Planned.{RefusedFor-memory}
+use Rattle.std.proofs.Common.{[], ◌∷◌, Ok, subst}
+use Rattle.std.specs.Prelude.{IfOk}
+use Rattle.snoop_machine.specs.Room.{Standing}
+use Rattle.snoop_machine.specs.Coherent.{IsCoherent}
+use Rattle.snoop_machine.specs.Once.{OnceMore}
+use Rattle.snoop_machine.proofs.StepLaws.{step_coherent, step_once}
+use Rattle.snoop_machine.proofs.Clauses.{has_one_writer, meets_nothing, orders_are_led}
 use Rattle.snoop_machine.proofs.machine.Machine.step.Goals as goal
+use Rattle.snoop_machine.proofs.machine.Machine.step.Goals.{After-step}
 
-pub returns-in_err-make_room-clause-refused : goal.returns-in_err-make_room-clause-refused
-returns-in_err-make_room-clause-refused c =
-    let p = err_from_is_err_and c.from_residual-in_err-make_room.result c.from_residual-in_err-make_room.ensures.1 in
-    rw (p.1, p.2) (RefusedFor-memory c.args.self.now.situation c.args.step c.in_ok-plan.plan c.in_ok-plan.ensures.found, c.make_room.ensures.unchanged)
+-- the parts are coherent after the step
+coherent : (c : After-step) → IsCoherent c.step.new.self.situation
+coherent c = step_coherent c.self.inside.parts.situation c.step.new.self.situation c.args.step c.step.result c.self.invariant c.step.ensures.taken c.step.ensures.refused
 
-pub returns-clause-prepared : goal.returns-clause-prepared
-returns-clause-prepared c =
-    let plan = c.in_ok-plan.plan in
-    let new = c.perform.new.self.situation in
-    let P : Situation → Type 0 = λ s. FirstMove s (step_of plan) c.perform.result new (entry_of s.log plan) in
-    let Q : Step → Type 0 = λ t. FirstMove c.args.self.now.situation t c.perform.result new (entry_of c.args.self.now.situation.log plan) in
-    let move = subst Q c.in_ok-plan.ensures.found.0 (subst P c.make_room.ensures.unchanged c.perform.ensures) in
-    λ entry prepared. (refl, prepared-log c.args.self.now new c.args.step c.perform.result (entry_of c.args.self.now.situation.log plan) entry prepared move)
+pub invariant_of-self : goal.invariant_of-self
+invariant_of-self c = coherent (goal.at.invariant_of-self c).After-step
+
+pub returns-clause-one_writer : goal.returns-clause-one_writer
+returns-clause-one_writer c = has_one_writer c.step.new.self.situation (coherent (goal.at.returns-clause-one_writer c).After-step)
+
+pub returns-clause-legal : goal.returns-clause-legal
+returns-clause-legal c = (coherent (goal.at.returns-clause-legal c).After-step).legal
+
+pub returns-clause-possible : goal.returns-clause-possible
+returns-clause-possible c = meets_nothing c.step.new.self.situation (coherent (goal.at.returns-clause-possible c).After-step)
+
+pub returns-clause-orders : goal.returns-clause-orders
+returns-clause-orders c = orders_are_led c.step.new.self.situation (coherent (goal.at.returns-clause-orders c).After-step)
+
+pub returns-clause-once : goal.returns-clause-once
+returns-clause-once c =
+    let P : Standing → Type 0 = λ s. IfOk c.step.result (λ reply. OnceMore s.situation (c.args.step ∷ []) (Ok reply ∷ []) c.step.new.self.situation) in
+    subst P c.self.view_is (step_once c.self.inside.parts.situation c.step.new.self.situation c.args.step c.step.result c.self.invariant c.step.ensures.taken)

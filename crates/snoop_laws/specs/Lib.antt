@@ -1,4 +1,0 @@
-pub mod Fits
-pub mod Good
-pub mod Coherent
-pub mod InQueue

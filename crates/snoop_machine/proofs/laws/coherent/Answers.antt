@@ -1,0 +1,36 @@
+-- Each clause, from the invariant of every run.
+use Rattle.std.proofs.Common.{subst}
+use Rattle.snoop_rules.specs.declared.names.Protocol.{Protocol}
+use Rattle.snoop_machine.specs.Situation.{picture_of, reset}
+use Rattle.snoop_machine.specs.OneWriter.{OneWriter}
+use Rattle.snoop_machine.specs.Meets.{FindsRows}
+use Rattle.snoop_machine.specs.Led.{IsLed}
+use Rattle.snoop_machine.proofs.Reached.{reset_coherent, run_keeps, run_protocol}
+use Rattle.snoop_machine.proofs.Clauses.{has_one_writer, finds_rows, is_led_order, meets_nothing}
+use Rattle.snoop_machine.proofs.OnceRuns.{run_asked_once}
+use Rattle.snoop_machine.proofs.QueueSteps.{reset_queued, run_queued}
+use Rattle.snoop_machine.proofs.laws.coherent.Goals as goal
+
+pub returns-clause-one_writer : goal.returns-clause-one_writer
+returns-clause-one_writer c p shape steps outcomes new run block =
+    subst (λ (x : Protocol). OneWriter x (picture_of new block)) (run_protocol steps outcomes (reset p shape) new run) (has_one_writer new (run_keeps steps outcomes (reset p shape) new (reset_coherent p shape) run) block)
+
+pub returns-clause-legal : goal.returns-clause-legal
+returns-clause-legal c p shape steps outcomes new run = (run_keeps steps outcomes (reset p shape) new (reset_coherent p shape) run).legal
+
+pub returns-clause-possible : goal.returns-clause-possible
+returns-clause-possible c p shape steps outcomes new run = meets_nothing new (run_keeps steps outcomes (reset p shape) new (reset_coherent p shape) run)
+
+pub returns-clause-any_order : goal.returns-clause-any_order
+returns-clause-any_order c p shape steps outcomes new run core block request waits free =
+    subst (λ (x : Protocol). FindsRows x (picture_of new block) core request) (run_protocol steps outcomes (reset p shape) new run) (finds_rows new (run_keeps steps outcomes (reset p shape) new (reset_coherent p shape) run) core block request waits free)
+
+pub returns-clause-once : goal.returns-clause-once
+returns-clause-once c p shape steps outcomes new run = run_asked_once p shape steps outcomes new run
+
+pub returns-clause-lines : goal.returns-clause-lines
+returns-clause-lines c p shape steps outcomes new run core block request waits free =
+    subst (λ (x : Protocol). IsLed x (picture_of new block) core request) (run_protocol steps outcomes (reset p shape) new run) (is_led_order new (run_keeps steps outcomes (reset p shape) new (reset_coherent p shape) run) core block request waits free)
+
+pub returns-clause-queued : goal.returns-clause-queued
+returns-clause-queued c p shape steps outcomes new run = (run_queued steps outcomes (reset p shape) new (reset_coherent p shape) (reset_queued p shape) run).each

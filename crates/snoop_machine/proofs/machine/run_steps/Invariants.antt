@@ -1,0 +1,7 @@
+-- The steps so far have been taken.
+use Rattle.std.proofs.Common.{◌≤◌, take}
+use Rattle.snoop_machine.proofs.Running.{Going}
+use Rattle.snoop_machine.proofs.machine.run_steps.Given as goal
+
+abbrev pub invariant-loop-step : goal.invariant-loop-step
+invariant-loop-step l = Going l.initial.machine-inside.parts (take l.step-index l.steps) l.taken l.machine-inside.parts × (l.taken ≤ l.step-index)

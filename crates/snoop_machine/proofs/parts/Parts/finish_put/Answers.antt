@@ -1,0 +1,56 @@
+use Rattle.std.proofs.Common.{◌≡◌, ◌<◌, ◌++◌, ◌∷◌, [], Some, None, ◌∙◌, refl, sym, ap, subst}
+use Rattle.std.specs.Prelude.{slice_set, slice_index_or}
+use Rattle.std.proofs.lemmas.List.{length-set, set-get_or}
+use Rattle.snoop_history.specs.Journal.{Journal}
+use Rattle.snoop_history.specs.declared.items.Came.{Came}
+use Rattle.snoop_history.specs.declared.items.Item.TheVariants as item
+use Rattle.snoop_bus.specs.Traffic.{Traffic}
+use Rattle.snoop_machine.specs.Picture.{Picture}
+use Rattle.snoop_machine.specs.Room.{Standing}
+use Rattle.snoop_machine.specs.Situation.{Situation, picture_of, with_picture, no_memory}
+use Rattle.snoop_machine.specs.Sound.{IsSound}
+use Rattle.snoop_machine.specs.Standing.{queues_of}
+use Rattle.snoop_machine.specs.Arrive.{ArrivesIn}
+use Rattle.snoop_machine.specs.Move.{Responds, came_of}
+use Rattle.snoop_machine.proofs.Taking.{row_of}
+use Rattle.snoop_machine.proofs.Queued.{IsSound-close}
+use Rattle.snoop_machine.proofs.Responding.{Arrives-put, ArrivesAtMemory-in}
+use Rattle.snoop_machine.proofs.Heads.{same_situation}
+use Rattle.snoop_machine.proofs.parts.Parts.finish_put.Goals as goal
+
+pub invariant_of-self : goal.invariant_of-self
+invariant_of-self c =
+    let m = c.self.inside in
+    let Q : Standing → Type 0 = λ x. c.args.block < x.situation.shape.blocks in
+    let R : Traffic → Type 0 = λ bus. IsSound m.shape m.lines bus in
+    record {
+      few = c.self.invariant.few;
+      sound = subst R (sym c.finish.ensures.after) (IsSound-close m.shape m.lines m.bus c.args.block (subst Q (sym c.self.view_is) c.requires.block) c.self.invariant.sound);
+      memory = length-set m.memory.items c.args.block c.args.memory ∙ c.self.invariant.memory;
+      cores = ap (λ (j : Journal). j.cores) c.push.ensures ∙ c.self.invariant.cores;
+      blocks = ap (λ (j : Journal). j.blocks) c.push.ensures ∙ c.self.invariant.blocks;
+    }
+
+pub returns : goal.returns
+returns c =
+    let m = c.self.inside in
+    let block = c.args.block in
+    let closing = c.args.closing in
+    let old : Situation = record { protocol = m.protocol; shape = m.shape; caches = m.lines; memory = m.memory.items; transactions = m.bus.transactions; queues = queues_of m.bus.queues; log = m.log.items } in
+    let is : old ≡ c.args.self.now.situation = ap (λ (x : Standing). x.situation) c.self.view_is in
+    let new : Situation = record { protocol = m.protocol; shape = m.shape; caches = m.lines; memory = slice_set m.memory.items block c.args.memory; transactions = c.finish.new.self.transactions; queues = queues_of c.finish.new.self.queues; log = c.push.new.self.items } in
+    let G : Situation → Type 0 = λ x. Responds x block closing None new in
+    let F : Situation → Type 0 = λ x. (picture_of x block).transaction ≡ Some closing in
+    let N : Situation → Type 0 = λ x. ArrivesIn x.protocol closing.payload closing.value (slice_index_or x.memory block no_memory) c.args.memory in
+    let next : Picture = record { caches = row_of m.lines block; memory = c.args.memory.state; value = c.args.memory.value; transaction = None } in
+    subst G is (record {
+      opened = subst F (sym is) c.requires.opened;
+      next = next;
+      requestor = Arrives-put closing m.protocol m.log.items (row_of m.lines block) c.requires.put;
+      memory = ArrivesAtMemory-in closing m.protocol (picture_of old block) next (slice_index_or m.memory.items block no_memory) c.args.memory refl refl refl refl (subst N (sym is) c.requires.memory);
+      closed = refl;
+      after = same_situation new (record (with_picture old block next) { log = m.log.items ++ item.Came (came_of closing) None ∷ [] })
+          refl refl (sym (set-get_or m.lines block [])) refl
+          (ap (λ (b : Traffic). b.transactions) c.finish.ensures.after) (ap (λ (b : Traffic). queues_of b.queues) c.finish.ensures.after)
+          (ap (λ (j : Journal). j.items) c.push.ensures ∙ ap (λ (x : Came). m.log.items ++ item.Came x None ∷ []) c.came.ensures);
+    })

@@ -1,0 +1,25 @@
+use Rattle.std.proofs.Common.{◌≡◌, ◌<◌, ◌∙◌, sym, ap, subst, List}
+use Rattle.snoop_rules.specs.Waits.{waiting_request}
+use Rattle.snoop_machine.specs.declared.lines.Line.{Line}
+use Rattle.snoop_history.specs.Journal.{Journal}
+use Rattle.snoop_machine.specs.Room.{Standing}
+use Rattle.snoop_machine.specs.Sound.{IsSound, line_at}
+use Rattle.snoop_machine.proofs.Kept.{IsSound-line}
+use Rattle.snoop_machine.proofs.parts.Parts.hit_line.Goals as goal
+
+pub invariant_of-self : goal.invariant_of-self
+invariant_of-self c =
+    let m = c.self.inside in
+    let P : Standing → Type 0 = λ s. c.args.core < s.situation.shape.cores in
+    let Q : Standing → Type 0 = λ s. c.args.block < s.situation.shape.blocks in
+    let R : Standing → Type 0 = λ s. waiting_request c.args.line.state ≡ waiting_request (line_at s.situation.caches c.args.core c.args.block).state in
+    let S : List (List Line) → Type 0 = λ caches. IsSound m.shape caches m.bus in
+    record {
+      sound = subst S (sym c.set.ensures)
+          (IsSound-line m.shape m.lines m.bus c.self.invariant.sound c.args.core c.args.block c.args.line
+          (subst P (sym c.self.view_is) c.requires.core) (subst Q (sym c.self.view_is) c.requires.block) c.requires.proper (subst R (sym c.self.view_is) c.requires.same));
+      few = c.self.invariant.few;
+      memory = c.self.invariant.memory;
+      cores = ap (λ (j : Journal). j.cores) c.push.ensures ∙ c.self.invariant.cores;
+      blocks = ap (λ (j : Journal). j.blocks) c.push.ensures ∙ c.self.invariant.blocks;
+    }

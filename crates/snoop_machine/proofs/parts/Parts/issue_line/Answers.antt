@@ -1,0 +1,43 @@
+use Rattle.std.proofs.Common.{◌≡◌, ◌<◌, ◌-◌, ◌++◌, ◌∷◌, [], None, sym, ap, subst, List}
+use Rattle.std.specs.Prelude.{slice_set, slice_index_or}
+use Rattle.snoop_rules.specs.Waits.{waiting_request}
+use Rattle.snoop_bus.specs.Traffic.{Traffic, waiting_of}
+use Rattle.snoop_bus.specs.Queues.{after_issue}
+use Rattle.snoop_machine.specs.declared.lines.Line.{Line}
+use Rattle.snoop_machine.specs.Room.{Standing}
+use Rattle.snoop_machine.specs.Situation.{Situation}
+use Rattle.snoop_machine.specs.Sound.{IsSound, line_at}
+use Rattle.snoop_machine.proofs.Kept.{IsSound-issue}
+use Rattle.snoop_machine.proofs.Placed.{placed}
+use Rattle.snoop_machine.proofs.Queued.{queues_of-issue, same_traffic}
+use Rattle.snoop_machine.proofs.parts.Parts.issue_line.Goals as goal
+
+pub invariant_of-self : goal.invariant_of-self
+invariant_of-self c =
+    let m = c.self.inside in
+    let core = c.args.core in
+    let room = (waiting_of m.bus core).room - 1 in
+    let P : Standing → Type 0 = λ s. core < s.situation.shape.cores in
+    let Q : Standing → Type 0 = λ s. c.args.block < s.situation.shape.blocks in
+    let R : Standing → Type 0 = λ s. waiting_request (line_at s.situation.caches core c.args.block).state ≡ None in
+    let after : Traffic = record m.bus { queues = slice_set m.bus.queues core (record { requests = (waiting_of m.bus core).requests ++ (c.args.request, c.args.block) ∷ []; room = room }) } in
+    let same : c.issue.new.self ≡ after = same_traffic c.issue.new.self after c.issue.ensures.queue c.issue.ensures.transactions in
+    let S : List (List Line) → Type 0 = λ caches. IsSound m.shape caches c.issue.new.self in
+    let T : Traffic → Type 0 = λ bus. IsSound m.shape (placed m.lines core c.args.block c.args.line) bus in
+    record {
+      sound = subst S (sym c.set.ensures) (subst T (sym same)
+          (IsSound-issue m.shape m.lines m.bus c.self.invariant.sound core c.args.block c.args.line
+          (subst P (sym c.self.view_is) c.requires.core) (subst Q (sym c.self.view_is) c.requires.block) c.requires.proper
+          c.args.request room (subst R (sym c.self.view_is) c.requires.idle) c.requires.waits));
+      few = c.self.invariant.few;
+      memory = c.self.invariant.memory;
+      cores = c.self.invariant.cores;
+      blocks = c.self.invariant.blocks;
+    }
+
+pub returns : goal.returns
+returns c =
+    let m = c.self.inside in
+    let room = (waiting_of m.bus c.args.core).room - 1 in
+    rw (c.issue.ensures.queue, queues_of-issue m.bus.queues c.args.core c.args.block room c.args.request, c.issue.ensures.transactions, c.set.ensures)
+    (ap (λ (s : Standing). let t : Situation = record s.situation { caches = slice_set s.situation.caches c.args.block (slice_set (slice_index_or s.situation.caches c.args.block []) c.args.core c.args.line); queues = after_issue s.situation.queues c.args.core c.args.block } in t) c.self.view_is)

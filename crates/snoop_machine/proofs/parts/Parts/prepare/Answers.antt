@@ -1,0 +1,17 @@
+use Rattle.std.proofs.Common.{sym, subst}
+use Rattle.std.proofs.lemmas.Result.{err_from_is_err_and}
+use Rattle.snoop_machine.specs.Situation.{Situation}
+use Rattle.snoop_machine.specs.Plan.{IsPlanFor}
+use Rattle.snoop_machine.proofs.Planned.{RefusedFor-memory, IsPrepared-plan}
+use Rattle.snoop_machine.proofs.parts.Parts.prepare.Goals as goal
+
+pub returns-in_err-make_room-clause-refused : goal.returns-in_err-make_room-clause-refused
+returns-in_err-make_room-clause-refused c =
+    let p = err_from_is_err_and c.from_residual-in_err-make_room.result c.from_residual-in_err-make_room.ensures.1 in
+    rw (p.1, p.2) (RefusedFor-memory c.args.self.now.situation c.args.step c.in_ok-plan.plan c.in_ok-plan.ensures.found)
+
+pub returns-clause-prepared : goal.returns-clause-prepared
+returns-clause-prepared c =
+    let P : Situation → Type 0 = λ s. IsPlanFor s c.args.step c.in_ok-plan.plan in
+    IsPrepared-plan c.make_room.new.self c.args.step c.in_ok-plan.plan c.item.result
+    (subst P (sym c.make_room.ensures.unchanged) c.in_ok-plan.ensures.found) c.in_ok-make_room.ensures.ok c.item.ensures

@@ -1,0 +1,32 @@
+use Rattle.std.proofs.Common.{◌≡◌, ◌<◌, sym, ap, subst, length, arith}
+use Rattle.std.specs.Prelude.{slice_set}
+use Rattle.snoop_bus.specs.Traffic.{Traffic, waiting_of}
+use Rattle.snoop_machine.specs.Room.{Standing}
+use Rattle.snoop_machine.specs.Sound.{IsSound}
+use Rattle.snoop_machine.proofs.Queued.{queues_of-room, same_traffic, IsSound-room}
+use Rattle.snoop_machine.proofs.parts.Parts.reserve_request.Goals as goal
+
+pub invariant_of-self : goal.invariant_of-self
+invariant_of-self c =
+    let bus = c.self.inside.bus in
+    let core = c.args.core in
+    let room = (waiting_of c.reserve.new.self core).room in
+    let P : Standing → Type 0 = λ s. core < s.situation.shape.cores in
+    let in_cores : core < c.self.inside.shape.cores = subst P (sym c.self.view_is) c.requires in
+    let in_queues : core < length bus.queues = omega (arith, c.self.invariant.sound.queues) in
+    let after : Traffic = record bus { queues = slice_set bus.queues core (record { requests = (waiting_of bus core).requests; room = room }) } in
+    let same : c.reserve.new.self ≡ after = same_traffic c.reserve.new.self after c.reserve.ensures.queue c.reserve.ensures.transactions in
+    let Q : Traffic → Type 0 = λ b. IsSound c.self.inside.shape c.self.inside.lines b in
+    record {
+      sound = subst Q (sym same) (IsSound-room c.self.inside.shape c.self.inside.lines bus core room in_queues c.self.invariant.sound);
+      few = c.self.invariant.few;
+      memory = c.self.invariant.memory;
+      cores = c.self.invariant.cores;
+      blocks = c.self.invariant.blocks;
+    }
+
+pub returns-clause-unchanged : goal.returns-clause-unchanged
+returns-clause-unchanged c =
+    let bus = c.self.inside.bus in
+    let room = (waiting_of c.reserve.new.self c.args.core).room in
+    rw (c.reserve.ensures.queue, queues_of-room bus.queues c.args.core room, c.reserve.ensures.transactions) (ap (λ s. s.situation) c.self.view_is)

@@ -1,0 +1,32 @@
+use Rattle.snoop_machine.specs.Picture.{first_memory}
+use Rattle.snoop_machine.specs.declared.memory.MemLine.{MemLine}
+use Rattle.snoop_rules.specs.declared.names.MemState.{MemState}
+use Rattle.snoop_machine.specs.Situation.{reset}
+use Rattle.std.proofs.Common.{rules, arith, ◌≡◌, ℕ, List, [], replicate, refl, sym, ap, subst, ◌∙◌}
+use Rattle.snoop_history.specs.Journal.{Journal}
+use Rattle.snoop_machine.specs.declared.lines.Line.{Line}
+use Rattle.snoop_machine.specs.Sound.{IsSound}
+use Rattle.snoop_machine.proofs.Reset.{IsSound-reset, queues_of-reset}
+use Rattle.snoop_machine.proofs.Heads.{same_situation}
+use Rattle.snoop_machine.proofs.parts.Parts.reset.Goals as goal
+
+pub invariant_of-result : goal.invariant_of-result
+invariant_of-result c =
+    let S : List (List Line) → Type 0 = λ caches. IsSound c.args.shape caches c.in_ok-bus.bus in
+    record {
+      few = search rules;
+      sound = subst S (sym c.in_ok-lines.ensures) (IsSound-reset c.args.shape c.in_ok-bus.bus c.in_ok-bus.ensures.queues.0 c.in_ok-bus.ensures.queues.1 c.in_ok-bus.ensures.transactions);
+      memory = omega (arith, c.in_ok-memory.memory.ok.0, c.in_ok-memory.ensures.len, c.blocks-2.ensures.value);
+      cores = ap (λ (j : Journal). j.cores) c.in_ok-log.ensures;
+      blocks = ap (λ (j : Journal). j.blocks) c.in_ok-log.ensures;
+    }
+
+pub returns : goal.returns
+returns c =
+    let items : c.in_ok-memory.memory.items ≡ replicate c.args.shape.blocks (record { state = first_memory c.args.protocol; value = 0 }) =
+    c.in_ok-memory.ensures.items_if_clones_equal (λ y h. h)
+    ∙ (ap (λ (n : ℕ). let l : List MemLine = replicate n (record { state = c.first_state.result; value = 0 }) in l) c.blocks-2.ensures.value
+    ∙ ap (λ (x : MemState). let l : List MemLine = replicate c.args.shape.blocks (record { state = x; value = 0 }) in l) c.first_state.ensures) in
+    same_situation _ (reset c.args.protocol c.args.shape) refl refl c.in_ok-lines.ensures items c.in_ok-bus.ensures.transactions
+    (queues_of-reset c.in_ok-bus.bus.queues c.in_ok-bus.ensures.queues.1 ∙ ap (λ (n : ℕ). let l : List (List ℕ) = replicate n [] in l) c.in_ok-bus.ensures.queues.0)
+    (ap (λ (j : Journal). j.items) c.in_ok-log.ensures)

@@ -1,0 +1,140 @@
+use Rattle.std.proofs.Common.{◌≡◌, ℕ, ◌<◌, ◌++◌, ◌∷◌, [], length, drop, Option, Some, None, ◌∙◌, refl, sym, ap, subst, arith}
+use Rattle.std.specs.Prelude.{◌==◌, not, filter, slice_set, slice_index_or, IsSome, IfSome}
+use Rattle.std.proofs.lemmas.List.{length-set, get_or_read}
+use Rattle.snoop_rules.specs.declared.names.Request.{Request}
+use Rattle.snoop_rules.specs.Takers.{seen_by}
+use Rattle.snoop_history.specs.Journal.{Journal}
+use Rattle.snoop_history.specs.declared.items.Item.TheVariants as item
+use Rattle.snoop_bus.specs.declared.transactions.Open.{Open}
+use Rattle.snoop_bus.specs.Traffic.{Traffic, waiting_of, head_of, transaction_on, Starts}
+use Rattle.snoop_bus.specs.Queues.{after_order}
+use Rattle.snoop_machine.specs.declared.memory.MemLine.{MemLine}
+use Rattle.snoop_machine.specs.Picture.{Picture, held_by}
+use Rattle.snoop_machine.specs.Room.{Standing}
+use Rattle.snoop_machine.specs.Situation.{Situation, picture_of, no_memory, Waits}
+use Rattle.snoop_machine.specs.Sends.{value_sent}
+use Rattle.snoop_machine.specs.Sound.{IsSound}
+use Rattle.snoop_machine.specs.Standing.{queues_of}
+use Rattle.snoop_machine.specs.Move.{Orders}
+use Rattle.snoop_machine.specs.Message.{HasRow, IsMessage}
+use Rattle.snoop_machine.specs.OrderMove.{IsHead, TakesMemRow}
+use Rattle.snoop_machine.proofs.Taking.{row_of}
+use Rattle.snoop_machine.proofs.Heads.{head_from_line, same_situation}
+use Rattle.snoop_machine.proofs.Ordered.{IsSound-order, blocks_of-rest}
+use Rattle.snoop_machine.proofs.Queued.{queues_of-set, queue_of-queues_of, same_traffic}
+use Rattle.snoop_machine.proofs.parts.Parts.start.Goals as goal
+use Rattle.snoop_machine.proofs.parts.Parts.start.Goals.{After-take_rows, After-index_mut, After-start}
+
+pub take_rows-requires-clause-rows : goal.take_rows-requires-clause-rows
+take_rows-requires-clause-rows c =
+    let P : Standing → Type 0 = λ s. (k : ℕ) → k < length (picture_of s.situation c.args.block).caches → HasRow s.situation.protocol (held_by (picture_of s.situation c.args.block) k).state (seen_by k c.args.core c.args.request) in
+    subst P (sym c.self.view_is) c.requires.message.rows
+
+head : (c : After-take_rows) → head_of c.self.inside.bus c.args.core ≡ Some (c.args.request, c.args.block)
+head c =
+    let m = c.self.inside in
+    let P : Standing → Type 0 = λ s. IsHead s.situation c.args.core c.args.request c.args.block in
+    let h : IsHead _ c.args.core c.args.request c.args.block = subst P (sym c.self.view_is) c.requires.head in
+    head_from_line m.shape m.lines m.bus c.self.invariant.sound c.args.core c.args.request c.args.block h.first h.waits
+
+pub start-requires-clause-head : goal.start-requires-clause-head
+start-requires-clause-head c =
+    let d = (goal.at.start-requires-clause-head c).After-take_rows in
+    let P : Option (Request × ℕ) → Type 0 = λ o. IsSome o in
+    subst P (sym (head d)) refl
+
+pub start-requires-clause-free : goal.start-requires-clause-free
+start-requires-clause-free c =
+    let d = (goal.at.start-requires-clause-free c).After-take_rows in
+    let Q : Standing → Type 0 = λ s. (picture_of s.situation c.args.block).transaction ≡ None in
+    let free : transaction_on c.self.inside.bus c.args.block ≡ None = subst Q (sym c.self.view_is) c.requires.free in
+    let P : Option (Request × ℕ) → Type 0 = λ o. IfSome o (λ head. transaction_on c.self.inside.bus head.1 ≡ None) in
+    subst P (sym (head d)) free
+
+starts : (d : After-take_rows) (c : After-start) → head_of c.self.inside.bus c.args.core ≡ Some (c.args.request, c.args.block) → Starts c.self.inside.bus c.start.new.self c.args.core c.args.request c.args.block c.args.message.payload c.args.message.value c.args.message.from
+starts d c h =
+    let P : Option (Request × ℕ) → Type 0 = λ o. IfSome o (λ head. Starts c.self.inside.bus c.start.new.self c.args.core head.0 head.1 c.args.message.payload c.args.message.value c.args.message.from) in
+    subst P h c.start.ensures
+
+pub invariant_of-self : goal.invariant_of-self
+invariant_of-self c =
+    let m = c.self.inside in
+    let d = (goal.at.invariant_of-self c).After-take_rows in
+    let h = head d in
+    let s = starts d (goal.at.invariant_of-self c).After-start h in
+    let P : Standing → Type 0 = λ x. c.args.core < x.situation.shape.cores in
+    let Q : Standing → Type 0 = λ x. c.args.block < x.situation.shape.blocks in
+    let after : Traffic = record {
+      queues = slice_set m.bus.queues c.args.core (record { requests = drop 1 (waiting_of m.bus c.args.core).requests; room = s.room });
+      transactions = slice_set m.bus.transactions c.args.block (Some (record { core = c.args.core; request = c.args.request; block = c.args.block; payload = c.args.message.payload; value = c.args.message.value; from = c.args.message.from }));
+    } in
+    let same : c.start.new.self ≡ after = same_traffic c.start.new.self after s.queues s.transactions in
+    let R : Traffic → Type 0 = λ bus. IsSound m.shape c.take_rows.new.self bus in
+    record {
+      few = c.self.invariant.few;
+      sound = subst R (sym same)
+          (IsSound-order m.shape m.lines c.take_rows.new.self m.bus m.protocol c.args.core c.args.block c.args.request c.args.message.payload c.args.message.value c.args.message.from
+          c.self.invariant.sound (subst P (sym c.self.view_is) c.requires.core) (subst Q (sym c.self.view_is) c.requires.head.within) h c.take_rows.ensures.others c.take_rows.ensures.taken s.room);
+      memory = length-set m.memory.items c.args.block (record { state = c.args.memory; value = c.index_mut.result.now.value }) ∙ c.self.invariant.memory;
+      cores = ap (λ (j : Journal). j.cores) c.push.ensures ∙ c.self.invariant.cores;
+      blocks = ap (λ (j : Journal). j.blocks) c.push.ensures ∙ c.self.invariant.blocks;
+    }
+
+pub returns : goal.returns
+returns c =
+    let m = c.self.inside in
+    let d = (goal.at.returns c).After-take_rows in
+    let h = head d in
+    let s = starts d (goal.at.returns c).After-start h in
+    let core = c.args.core in
+    let block = c.args.block in
+    let request = c.args.request in
+    let message = c.args.message in
+    let old : Situation = record { protocol = m.protocol; shape = m.shape; caches = m.lines; memory = m.memory.items; transactions = m.bus.transactions; queues = queues_of m.bus.queues; log = m.log.items } in
+    let is : old ≡ c.args.self.now.situation = ap (λ (x : Standing). x.situation) c.self.view_is in
+    let new : Situation = record { protocol = m.protocol; shape = m.shape; caches = c.take_rows.new.self; memory = slice_set m.memory.items block (record { state = c.args.memory; value = c.index_mut.result.now.value }); transactions = c.start.new.self.transactions; queues = queues_of c.start.new.self.queues; log = c.push.new.self.items } in
+    let G : Situation → Type 0 = λ x. Orders x core block request new in
+    let W : Situation → Type 0 = λ x. Waits x core block request in
+    let F : Situation → Type 0 = λ x. (picture_of x block).transaction ≡ None in
+    let M : Situation → Type 0 = λ x. IsMessage x.protocol (picture_of x block) core request message in
+    let N : Situation → Type 0 = λ x. TakesMemRow x.protocol (picture_of x block).memory request c.args.memory in
+    let sent : IsMessage m.protocol (picture_of old block) core request message = subst M (sym is) c.requires.message in
+    let B : Standing → Type 0 = λ x. block < x.situation.shape.blocks in
+    let in_shape : block < m.shape.blocks = subst B (sym c.self.view_is) c.requires.head.within in
+    let in_blocks : block < length m.memory.items = omega (arith, c.self.invariant.memory) in
+    let value : c.index_mut.result.now ≡ slice_index_or m.memory.items block no_memory = get_or_read m.memory.items block c.index_mut.result.now in_blocks c.index_mut.ensures.value no_memory in
+    let next : Picture = record {
+      caches = row_of c.take_rows.new.self block;
+      memory = c.args.memory;
+      value = (picture_of old block).value;
+      transaction = Some (record { core = core; request = request; block = block; payload = message.payload; value = value_sent (picture_of old block) message.from message.payload; from = message.from });
+    } in
+    let long = c.take_rows.ensures.taken.same_length in
+    subst G is (record {
+      waits = subst W (sym is) c.requires.head.waits;
+      free = subst F (sym is) c.requires.free;
+      from = message.from;
+      payload = message.payload;
+      sent = sent.only;
+      next = next;
+      caches = c.take_rows.ensures.taken.same_length;
+      rows = λ k lt. c.take_rows.ensures.taken.rows k (omega arith);
+      memory = subst N (sym is) c.requires.memory;
+      value = refl;
+      opened = refl;
+      after = same_situation new
+          (record old {
+            caches = slice_set m.lines block next.caches;
+            memory = slice_set m.memory.items block (record { state = next.memory; value = next.value });
+            transactions = slice_set m.bus.transactions block next.transaction;
+            queues = after_order old.queues core block;
+            log = m.log.items ++ item.Sent (record { core = core; request = request; block = block }) ∷ [];
+          })
+          refl refl c.take_rows.ensures.others
+          (ap (λ (x : MemLine). slice_set m.memory.items block (let r : MemLine = record { state = c.args.memory; value = x.value } in r)) value)
+          (s.transactions ∙ ap (λ (x : ℕ). slice_set m.bus.transactions block (let o : Option Open = Some (record { core = core; request = request; block = block; payload = message.payload; value = x; from = message.from }) in o)) sent.value)
+          (ap queues_of s.queues ∙ (queues_of-set m.bus.queues core (record { requests = drop 1 (waiting_of m.bus core).requests; room = s.room })
+          ∙ ap (λ l. slice_set (queues_of m.bus.queues) core l)
+          (blocks_of-rest (waiting_of m.bus core).requests request block h (c.self.invariant.sound.once core) ∙ ap (filter (λ x. not (x == block))) (sym (queue_of-queues_of m.bus.queues core)))))
+          (ap (λ (j : Journal). j.items) c.push.ensures);
+    })

@@ -1,0 +1,52 @@
+use Rattle.std.proofs.Common.{◌∙◌, sym, ap, subst}
+use Rattle.snoop_rules.specs.Takers.{asked}
+use Rattle.snoop_rules.specs.Waits.{waiting_request}
+use Rattle.snoop_machine.specs.declared.ask.Asked.{Asked}
+use Rattle.snoop_machine.specs.declared.lines.Line.{Line}
+use Rattle.snoop_machine.specs.Sound.{IsProper, line_at}
+use Rattle.snoop_machine.specs.Asked.{TakesAsk, HitsLine}
+use Rattle.snoop_machine.proofs.Facts.{issue-waits, drop-waits, IsProper-issue, IsProper-hit, IsProper-drop}
+use Rattle.snoop_machine.proofs.parts.Parts.take_ask.Goals as goal
+
+pub hit_line-requires-clause-proper : goal.hit_line-requires-clause-proper
+hit_line-requires-clause-proper c =
+    let s = c.args.self.now.situation in
+    let line = line_at s.caches c.args.core c.args.block in
+    let P : Asked → Type 0 = λ way. TakesAsk s.protocol line c.args.op way in
+    let t : HitsLine s.protocol line c.args.op c.in-Hit.after c.in-Hit.value = subst P c.in-Hit.is c.requires.found in
+    let Q : Line → Type 0 = λ x. IsProper x in
+    subst Q (sym t.held) (IsProper-hit s.protocol line (asked c.args.op) t.next t.after c.requires.proper t.row)
+
+pub issue_line-requires-clause-waits : goal.issue_line-requires-clause-waits
+issue_line-requires-clause-waits c =
+    let s = c.args.self.now.situation in
+    let line = line_at s.caches c.args.core c.args.block in
+    let P : Asked → Type 0 = λ way. TakesAsk s.protocol line c.args.op way in
+    let t = subst P c.in-Issue.is c.requires.found in
+    ap (λ (x : Line). waiting_request x.state) t.1.1 ∙ (issue-waits s.protocol line.state (asked c.args.op) c.in-Issue.request t.0 t.1.0).1
+
+pub issue_line-requires-clause-proper : goal.issue_line-requires-clause-proper
+issue_line-requires-clause-proper c =
+    let s = c.args.self.now.situation in
+    let line = line_at s.caches c.args.core c.args.block in
+    let P : Asked → Type 0 = λ way. TakesAsk s.protocol line c.args.op way in
+    let t = subst P c.in-Issue.is c.requires.found in
+    let Q : Line → Type 0 = λ x. IsProper x in
+    subst Q (sym t.1.1) (IsProper-issue s.protocol line c.args.op c.in-Issue.request t.0 c.requires.proper t.1.0)
+
+pub put_line-requires-clause-proper : goal.put_line-requires-clause-proper
+put_line-requires-clause-proper c =
+    let s = c.args.self.now.situation in
+    let line = line_at s.caches c.args.core c.args.block in
+    let P : Asked → Type 0 = λ way. TakesAsk s.protocol line c.args.op way in
+    let t = subst P c.in-Drop.is c.requires.found in
+    let Q : Line → Type 0 = λ x. IsProper x in
+    subst Q (sym t.1.1) (IsProper-drop s.protocol line (asked c.args.op) t.0 c.requires.proper t.1.0)
+
+pub put_line-requires-clause-same : goal.put_line-requires-clause-same
+put_line-requires-clause-same c =
+    let s = c.args.self.now.situation in
+    let line = line_at s.caches c.args.core c.args.block in
+    let P : Asked → Type 0 = λ way. TakesAsk s.protocol line c.args.op way in
+    let t = subst P c.in-Drop.is c.requires.found in
+    ap (λ (x : Line). waiting_request x.state) t.1.1 ∙ drop-waits s.protocol line.state (asked c.args.op) t.0 t.1.0

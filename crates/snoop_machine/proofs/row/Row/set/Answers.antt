@@ -1,0 +1,20 @@
+use Rattle.std.proofs.Common.{arith}
+use Rattle.snoop_machine.specs.declared.row.Held.{Held}
+use Rattle.snoop_machine.proofs.RowViews.{in_states, in_held, row_set, IsRow-set}
+use Rattle.snoop_machine.proofs.row.Row.set.Goals as goal
+
+pub index_mut-requires : goal.index_mut-requires
+index_mut-requires c = let within = in_states c.self.inside.states.items c.self.inside.held.items c.args.self.now c.self.invariant c.self.view_is c.args.core c.requires.core in omega arith
+
+pub index_mut-requires-2 : goal.index_mut-requires-2
+index_mut-requires-2 c = let within = in_held c.self.inside.states.items c.self.inside.held.items c.args.self.now c.self.invariant c.self.view_is c.args.core c.requires.core in omega arith
+
+pub invariant_of-self : goal.invariant_of-self
+invariant_of-self c =
+    let held : Held = record { kept = c.args.line.kept; waiting = c.args.line.waiting } in
+    IsRow-set c.self.inside.states.items c.self.inside.held.items c.args.self.now c.self.invariant c.self.view_is c.args.core c.requires.core c.args.line.state held c.requires.proper
+
+pub returns : goal.returns
+returns c =
+    let held : Held = record { kept = c.args.line.kept; waiting = c.args.line.waiting } in
+    row_set c.self.inside.states.items c.self.inside.held.items c.args.self.now c.self.invariant c.self.view_is c.args.core c.requires.core c.args.line.state held

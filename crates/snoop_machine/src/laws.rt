@@ -1,0 +1,41 @@
+ghost use Rattle.std.specs.Prelude.{◌≡◌, ℕ, Option, Some, None};
+ghost use Rattle.snoop_trace.specs.declared.step.Step.{Step};
+ghost use Rattle.snoop_rules.specs.declared.names.Request.{Request};
+ghost use Rattle.snoop_history.specs.History.{Legal};
+ghost use Rattle.snoop_machine.specs.Situation.{picture_of, Waits};
+ghost use Rattle.snoop_machine.specs.Run.{EveryRun, RunsAreOne, RunsGoOn};
+ghost use Rattle.snoop_machine.specs.OneWriter.{OneWriter};
+ghost use Rattle.snoop_machine.specs.Once.{Once};
+ghost use Rattle.snoop_machine.specs.Meets.{Meets, FindsRows};
+ghost use Rattle.snoop_machine.specs.Led.{IsLed};
+ghost use Rattle.snoop_machine.specs.InQueue.{IsInQueue};
+
+/// Coherence of every run from reset, for every number of cores and blocks, under MSI and MESI.
+///
+/// Each block has one writer alone, or only readers; the log is legal; each load and store that was asked stands once in it,
+/// or waits; no step meets an impossible cell; a waiting request of any free block would find all its rows and exactly one
+/// sender, and be a line of the table of senders; and each core's queue has the blocks on which it waits, each once.
+///
+/// Source: chapters 2 and 7 of "A Primer on Memory Consistency and Cache Coherence", 2nd edition.
+pub fn coherent()
+    ensures one_writer { EveryRun (λ protocol steps outcomes s. (block : ℕ) → OneWriter protocol (picture_of s block)) }
+    ensures legal { EveryRun (λ protocol steps outcomes s. Legal s.log) }
+    ensures once { EveryRun (λ protocol steps outcomes s. Once steps outcomes s) }
+    ensures possible { EveryRun (λ protocol steps outcomes s. (step : Step) → ¬ Meets s step) }
+    ensures any_order { EveryRun (λ protocol steps outcomes s. (core block : ℕ) (request : Request) → Waits s core block request → (picture_of s block).transaction ≡ None → FindsRows protocol (picture_of s block) core request) }
+    ensures lines { EveryRun (λ protocol steps outcomes s. (core block : ℕ) (request : Request) → Waits s core block request → (picture_of s block).transaction ≡ None → IsLed protocol (picture_of s block) core request) }
+    ensures queued { EveryRun (λ protocol steps outcomes s. (core block : ℕ) → IsInQueue s core block) }
+{}
+
+/// Every run goes on: from where some steps have led, any further steps have a run too.
+///
+/// So every list of steps has a run from reset, and the run of its first steps is the beginning of one of all of them.
+pub fn runs_go_on()
+    ensures { RunsGoOn }
+{}
+
+/// The run of some steps is the only one: steps that are taken in order from reset, with ample memory, have one list of
+/// outcomes and lead to one situation.
+pub fn runs_are_one()
+    ensures { RunsAreOne }
+{}

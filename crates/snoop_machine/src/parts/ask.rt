@@ -1,0 +1,120 @@
+ghost use Rattle.std.specs.Prelude.{◌≡◌, ◌+◌, ◌<◌, [], ◌∷◌, ◌++◌, slice_index, slice_index_or, slice_set, IfOk, IfErr, None, Some, true, Err};
+ghost use Rattle.snoop_trace.specs.declared.step.Step.TheVariants.{Ask};
+ghost use Rattle.snoop_rules.specs.Waits.{waiting_request};
+ghost use Rattle.snoop_bus.specs.Queues.{after_issue};
+ghost use Rattle.snoop_history.specs.declared.items.Item.TheVariants.{Did as ItemDid};
+ghost use Rattle.snoop_machine.specs.Sound.{IsProper, line_at};
+ghost use Rattle.snoop_machine.specs.Move.{next_did, hit_reply as reply_to_hit};
+ghost use Rattle.snoop_machine.specs.Asked.{TakesAsk};
+ghost use Rattle.snoop_machine.specs.AskMove.{MovesAsk};
+ghost use Rattle.snoop_machine.specs.StepMove.{IsDenied};
+ghost use Rattle.snoop_machine.specs.Plan.{IsPlanFor, room_for_ask, entry_of_ask};
+ghost use Rattle.snoop_machine.specs.Refuses.{Refuses};
+ghost use Rattle.snoop_machine.specs.Coherent.{IsCoherent};
+ghost use Rattle.snoop_machine.specs.declared.replies.Refused.{Refused};
+
+use super::Parts;
+use crate::ask::{Asked, ask};
+use crate::lines::Line;
+use crate::plan::Plan;
+use crate::replies::{Refused, Reply};
+use snoop_history::Item;
+use snoop_rules::Request;
+use snoop_trace::Op;
+
+impl Parts {
+    /// What an Ask will do, of a core and a block that there are.
+    pub(super) fn plan_ask(&self, core: u32, block: u32, op: Op) -> Result<Plan, Refused>
+        requires core { core < self.now.situation.shape.cores }
+        requires block { block < self.now.situation.shape.blocks }
+        requires coherent { IsCoherent self.now.situation }
+        ensures found { IfOk result (λ plan. IsPlanFor self.now.situation (Ask core block op) plan) }
+        ensures denied { IfErr result (λ cause. IsDenied self.now.situation (Ask core block op) cause) }
+        ensures exactly { (cause : Refused) → Refuses self.now.situation (Ask core block op) cause → result ≡ Err cause }
+    {
+        let line = self.line(core, block);
+        let asked = ask(self.protocol, line, op)?;
+        Ok(Plan::Ask {
+            core,
+            block,
+            op,
+            asked,
+        })
+    }
+
+    /// Does what was found for an Ask.
+    pub(super) fn take_ask(&mut self, core: u32, block: u32, op: Op, asked: Asked) -> Reply
+        requires core { core < self.old.situation.shape.cores }
+        requires block { block < self.old.situation.shape.blocks }
+        requires found { TakesAsk self.old.situation.protocol (line_at self.old.situation.caches core block) op asked }
+        requires proper { IsProper (line_at self.old.situation.caches core block) }
+        requires room { 0 < room_for_ask self.old core asked }
+        ensures { MovesAsk self.old.situation core block op result self.new.situation (entry_of_ask self.old.situation.log core block op asked) }
+    {
+        match asked {
+            Asked::Absent => Reply::Absent,
+            Asked::Hit(after, value) => {
+                self.hit_line(core, block, op, after, value);
+                hit_reply(op, value)
+            }
+            Asked::Issue(request, after) => {
+                self.issue_line(core, block, after, request);
+                Reply::Issued(request)
+            }
+            Asked::Drop(after) => {
+                self.put_line(core, block, after);
+                Reply::Gone
+            }
+        }
+    }
+
+    /// Writes the line, and puts the request last in the core's queue.
+    fn issue_line(&mut self, core: u32, block: u32, line: Line, request: Request)
+        requires core { core < self.old.situation.shape.cores }
+        requires block { block < self.old.situation.shape.blocks }
+        requires room { 0 < slice_index self.old.rooms core }
+        requires idle { waiting_request (line_at self.old.situation.caches core block).state ≡ None }
+        requires waits { waiting_request line.state ≡ Some request }
+        requires proper { IsProper line }
+        ensures { self.new.situation ≡ record self.old.situation { caches = slice_set self.old.situation.caches block (slice_set (slice_index_or self.old.situation.caches block []) core line); queues = after_issue self.old.situation.queues core block } }
+    {
+        self.lines.set(core, block, line);
+        self.bus.issue(core, request, block);
+    }
+
+    /// Writes the line, which waits as it did.
+    fn put_line(&mut self, core: u32, block: u32, line: Line)
+        requires core { core < self.old.situation.shape.cores }
+        requires block { block < self.old.situation.shape.blocks }
+        requires same { waiting_request line.state ≡ waiting_request (line_at self.old.situation.caches core block).state }
+        requires proper { IsProper line }
+        ensures { self.new.situation ≡ record self.old.situation { caches = slice_set self.old.situation.caches block (slice_set (slice_index_or self.old.situation.caches block []) core line) } }
+    {
+        self.lines.set(core, block, line);
+    }
+
+    /// Writes the line after a hit, and logs the operation.
+    fn hit_line(&mut self, core: u32, block: u32, op: Op, line: Line, value: u64)
+        requires core { core < self.old.situation.shape.cores }
+        requires block { block < self.old.situation.shape.blocks }
+        requires room { 0 < self.old.room }
+        requires same { waiting_request line.state ≡ waiting_request (line_at self.old.situation.caches core block).state }
+        requires proper { IsProper line }
+        ensures { self.new.situation ≡ record self.old.situation { caches = slice_set self.old.situation.caches block (slice_set (slice_index_or self.old.situation.caches block []) core line); log = self.old.situation.log ++ ItemDid (next_did self.old.situation.log core block op value true) ∷ [] } }
+    {
+        let did = self.next_did(core, block, op, value, true);
+        self.lines.set(core, block, line);
+        self.log.push(Item::Did(did));
+    }
+}
+
+/// The reply to a hit.
+fn hit_reply(op: Op, value: u64) -> Reply
+    ensures { result ≡ reply_to_hit op value }
+{
+    match op {
+        Op::Load => Reply::Hit(value),
+        Op::Store(_) => Reply::StoreHit,
+        Op::Evict => Reply::Gone,
+    }
+}

@@ -1,0 +1,90 @@
+ghost use Rattle.std.specs.Prelude.{◌≡◌, ◌<◌, IfOk, IfErr, IfSome, IfNone, None, Err, slice_get};
+ghost use Rattle.snoop_bus.specs.Queues.{queue_of};
+ghost use Rattle.snoop_machine.specs.declared.replies.Refused.{Refused};
+ghost use Rattle.snoop_trace.specs.declared.step.Step.TheVariants.{Order};
+ghost use Rattle.snoop_machine.specs.Situation.{picture_of};
+ghost use Rattle.snoop_machine.specs.Refuses.{Refuses, WaitsOnNone};
+ghost use Rattle.snoop_machine.specs.Message.{IsMessage};
+ghost use Rattle.snoop_machine.specs.Move.{Orders};
+ghost use Rattle.snoop_machine.specs.OrderMove.{IsHead, TakesMemRow};
+ghost use Rattle.snoop_machine.specs.StepMove.{IsDenied};
+ghost use Rattle.snoop_machine.specs.Plan.{IsPlanFor};
+ghost use Rattle.snoop_machine.specs.Coherent.{IsCoherent};
+
+use super::Parts;
+use crate::message::Message;
+use crate::order::event_at_memory;
+use crate::plan::Plan;
+use crate::replies::Refused;
+use snoop_history::{Item, Sent};
+use snoop_rules::{MemState, Request, mem_cell};
+
+impl Parts {
+    /// The core's oldest request.
+    fn head(&self, core: u32) -> Option<(Request, u32)>
+        requires { core < self.now.situation.shape.cores }
+        ensures some { IfSome result (λ head. IsHead self.now.situation core head.0 head.1) }
+        ensures none { IfNone result (WaitsOnNone self.now.situation core) }
+        ensures empty { IfNone result (slice_get (queue_of self.now.situation.queues core) 0 ≡ None) }
+    {
+        self.bus.head(core)
+    }
+
+    /// What an Order will do, of a core that there is.
+    pub(super) fn plan_order(&self, core: u32) -> Result<Plan, Refused>
+        requires core { core < self.now.situation.shape.cores }
+        requires coherent { IsCoherent self.now.situation }
+        ensures found { IfOk result (λ plan. IsPlanFor self.now.situation (Order core) plan) }
+        ensures denied { IfErr result (λ cause. IsDenied self.now.situation (Order core) cause) }
+        ensures exactly { (cause : Refused) → Refuses self.now.situation (Order core) cause → result ≡ Err cause }
+    {
+        let Some((request, block)) = self.head(core) else {
+            return Err(Refused::NothingWaiting);
+        };
+        if self.bus.open(block).is_some() {
+            return Err(Refused::BusTaken(block));
+        }
+        let memory = self.memory[block as usize];
+        let Some(cell) = mem_cell(self.protocol, memory.state, event_at_memory(request)) else {
+            unreachable!();
+        };
+        let message = self
+            .lines
+            .message(self.protocol, memory, core, request, block);
+        Ok(Plan::Order {
+            core,
+            request,
+            block,
+            message,
+            memory: cell.next,
+        })
+    }
+
+    /// Each core and memory take their rows for the core's oldest request, and its transaction opens.
+    pub(super) fn start(
+        &mut self,
+        core: u32,
+        request: Request,
+        block: u32,
+        message: Message,
+        memory: MemState,
+    )
+        requires core { core < self.old.situation.shape.cores }
+        requires head { IsHead self.old.situation core request block }
+        requires room { 0 < self.old.room }
+        requires free { (picture_of self.old.situation block).transaction ≡ None }
+        requires memory { TakesMemRow self.old.situation.protocol (picture_of self.old.situation block).memory request memory }
+        requires message { IsMessage self.old.situation.protocol (picture_of self.old.situation block) core request message }
+        ensures { Orders self.old.situation core block request self.new.situation }
+    {
+        self.lines.take_rows(self.protocol, core, request, block);
+        self.memory[block as usize].state = memory;
+        self.bus
+            .start(core, message.payload, message.value, message.from);
+        self.log.push(Item::Sent(Sent {
+            core,
+            request,
+            block,
+        }));
+    }
+}

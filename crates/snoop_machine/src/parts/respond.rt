@@ -1,0 +1,114 @@
+ghost use Rattle.std.specs.Prelude.{◌≡◌, ◌≢◌, ◌<◌, IfOk, IfErr, IfSome, Some, None, slice_index_or, Err};
+ghost use Rattle.snoop_trace.specs.declared.step.Step.TheVariants.{Respond};
+ghost use Rattle.snoop_rules.specs.declared.names.Request.TheVariants.{PutM};
+ghost use Rattle.snoop_machine.specs.Situation.{picture_of, no_memory};
+ghost use Rattle.snoop_machine.specs.Sound.{line_at};
+ghost use Rattle.snoop_machine.specs.Arrive.{FillsLine, ArrivesIn};
+ghost use Rattle.snoop_machine.specs.Move.{Responds, came_of};
+ghost use Rattle.snoop_machine.specs.StepMove.{IsDenied};
+ghost use Rattle.snoop_machine.specs.Plan.{IsPlanFor};
+ghost use Rattle.snoop_machine.specs.Coherent.{IsCoherent};
+ghost use Rattle.snoop_machine.specs.Refuses.{Refuses};
+ghost use Rattle.snoop_machine.specs.declared.replies.Refused.{Refused};
+
+use super::Parts;
+use crate::memory::MemLine;
+use crate::plan::Plan;
+use crate::replies::Refused;
+use crate::respond::{Filled, arrive, fill};
+use snoop_bus::Open;
+use snoop_history::{Came, Did, Item};
+use snoop_rules::Request;
+
+impl Parts {
+    /// The block's open transaction.
+    fn transaction(&self, block: u32) -> Option<Open>
+        ensures value { result ≡ (picture_of self.now.situation block).transaction }
+        ensures within { IfSome result (λ closing. (closing.block ≡ block) × (closing.core < self.now.situation.shape.cores)) }
+    {
+        self.bus.open(block)
+    }
+
+    /// What a Respond will do, of a block that there is.
+    pub(super) fn plan_respond(&self, block: u32) -> Result<Plan, Refused>
+        requires block { block < self.now.situation.shape.blocks }
+        requires coherent { IsCoherent self.now.situation }
+        ensures found { IfOk result (λ plan. IsPlanFor self.now.situation (Respond block) plan) }
+        ensures denied { IfErr result (λ cause. IsDenied self.now.situation (Respond block) cause) }
+        ensures exactly { (cause : Refused) → Refuses self.now.situation (Respond block) cause → result ≡ Err cause }
+    {
+        let Some(closing) = self.transaction(block) else {
+            return Err(Refused::NoTransaction);
+        };
+        let before = self.memory[block as usize];
+        let memory = arrive(self.protocol, before, closing.payload, closing.value);
+        if matches!(&closing.request, Request::PutM) {
+            return Ok(Plan::Writeback {
+                block,
+                closing,
+                memory,
+            });
+        }
+        let line = self.line(closing.core, block);
+        let filled = fill(self.protocol, line, closing.payload, closing.value);
+        Ok(Plan::Fill {
+            block,
+            closing,
+            memory,
+            filled,
+        })
+    }
+
+    /// Memory takes the message of a PutM, and its transaction closes.
+    pub(super) fn finish_put(&mut self, block: u32, closing: Open, memory: MemLine)
+        requires block { block < self.old.situation.shape.blocks }
+        requires room { 0 < self.old.room }
+        requires opened { (picture_of self.old.situation block).transaction ≡ Some closing }
+        requires put { closing.request ≡ PutM }
+        requires memory { ArrivesIn self.old.situation.protocol closing.payload closing.value (slice_index_or self.old.situation.memory block no_memory) memory }
+        ensures { Responds self.old.situation block closing None self.new.situation }
+    {
+        self.memory[block as usize] = memory;
+        let _ = self.bus.finish(block);
+        self.log.push(Item::Came(came(closing), None));
+    }
+
+    /// The requestor and memory take the message of a GetS or GetM, and its transaction closes.
+    pub(super) fn finish_get(
+        &mut self,
+        block: u32,
+        closing: Open,
+        filled: Filled,
+        memory: MemLine,
+    ) -> Did
+        requires core { closing.core < self.old.situation.shape.cores }
+        requires block { block < self.old.situation.shape.blocks }
+        requires its { closing.block ≡ block }
+        requires room { 0 < self.old.room }
+        requires opened { (picture_of self.old.situation block).transaction ≡ Some closing }
+        requires get { closing.request ≢ PutM }
+        requires filled { FillsLine self.old.situation.protocol (line_at self.old.situation.caches closing.core block) closing.payload closing.value filled }
+        requires memory { ArrivesIn self.old.situation.protocol closing.payload closing.value (slice_index_or self.old.situation.memory block no_memory) memory }
+        ensures { Responds self.old.situation block closing (Some result) self.new.situation }
+    {
+        let did = self.next_did(closing.core, closing.block, filled.op, filled.value, false);
+        self.lines.set(closing.core, block, filled.line);
+        self.memory[block as usize] = memory;
+        let _ = self.bus.finish(block);
+        self.log.push(Item::Came(came(closing), Some(did)));
+        did
+    }
+}
+
+/// The response, as the history tells it.
+pub(super) fn came(closing: Open) -> Came
+    ensures { result ≡ came_of closing }
+{
+    Came {
+        core: closing.core,
+        request: closing.request,
+        block: closing.block,
+        from: closing.from,
+        payload: closing.payload,
+    }
+}

@@ -1,0 +1,219 @@
+ghost use Rattle.std.specs.Prelude.{◌≡◌, ◌<◌, ◌++◌, Option, OnOk, OnErr, IfOk, IfErr, IsOk, Err, slice_index, option_to_list};
+ghost use Rattle.snoop_history.specs.declared.items.Item.{Item};
+ghost use Rattle.snoop_machine.specs.declared.replies.Refused.TheVariants.{NoMemory as WantOfMemory};
+ghost use Rattle.snoop_machine.specs.declared.replies.Reply.TheVariants.{Came as CameReply};
+ghost use Rattle.snoop_machine.specs.Move.{FirstMove};
+ghost use Rattle.snoop_machine.specs.StepMove.{RefusedFor, IsDenied};
+ghost use Rattle.snoop_machine.specs.Prepared.{IsFull, IsPrepared};
+ghost use Rattle.snoop_machine.specs.Plan.{IsPlan, IsPlanFor, step_of, room_for, room_for_ask, entry_of};
+ghost use Rattle.snoop_machine.specs.Refuses.{Refuses};
+ghost use Rattle.snoop_machine.specs.Coherent.{IsCoherent};
+ghost use Rattle.snoop_machine.specs.declared.replies.Refused.{Refused};
+
+use super::Parts;
+use super::respond::came;
+use crate::ask::Asked;
+use crate::plan::Plan;
+use crate::replies::{Refused, Reply};
+use snoop_bus::Open;
+use snoop_history::{Did, Item, Sent};
+use snoop_trace::{NoMemory, Step};
+
+impl Parts {
+    /// Takes one step: finds all that it will do, makes the room, and does it. A refused step changes nothing.
+    pub(crate) fn step(&mut self, step: Step) -> Result<Reply, Refused>
+        requires { IsCoherent self.old.situation }
+        ensures taken { IfOk result (λ reply. (entry : Option Item) × FirstMove self.old.situation step reply self.new.situation entry) }
+        ensures refused { IfErr result (λ cause. RefusedFor self.old.situation step cause × (self.new.situation ≡ self.old.situation)) }
+        ensures exactly { (cause : Refused) → Refuses self.old.situation step cause → result ≡ Err cause }
+        ensures full { result ≡ Err WantOfMemory → IsFull self.old step }
+
+        // What `prepare` told comes true.
+        ensures prepared { (entry : Option Item) → IsPrepared self.old step entry → IsOk result × (self.new.situation.log ≡ self.old.situation.log ++ option_to_list entry) }
+    {
+        let plan = self.planned(step)?;
+        self.make_room(plan)?;
+        Ok(self.perform(plan))
+    }
+
+    /// Makes the room for a step, and tells the item that it will add. The same step, taken next, is not refused and takes no memory.
+    pub(crate) fn prepare(&mut self, step: Step) -> Result<Option<Item>, Refused>
+        requires { IsCoherent self.old.situation }
+        ensures prepared { IfOk result (λ entry. IsPrepared self.new step entry) }
+        ensures refused { IfErr result (λ cause. RefusedFor self.old.situation step cause) }
+        ensures exactly { (cause : Refused) → Refuses self.old.situation step cause → result ≡ Err cause }
+        ensures full { result ≡ Err WantOfMemory → IsFull self.old step }
+        ensures unchanged { self.new.situation ≡ self.old.situation }
+    {
+        let plan = self.planned(step)?;
+        self.make_room(plan)?;
+        Ok(self.item(plan))
+    }
+
+    /// What the step will do, or why it is refused.
+    fn planned(&self, step: Step) -> Result<Plan, Refused>
+        requires { IsCoherent self.now.situation }
+        ensures found { IfOk result (λ plan. IsPlanFor self.now.situation step plan) }
+        ensures denied { IfErr result (λ cause. IsDenied self.now.situation step cause) }
+        ensures exactly { (cause : Refused) → Refuses self.now.situation step cause → result ≡ Err cause }
+    {
+        let cores = self.shape.cores();
+        let blocks = self.shape.blocks();
+        match step {
+            Step::Ask { core, .. } if core >= cores => Err(Refused::NoCore),
+            Step::Order { core } if core >= cores => Err(Refused::NoCore),
+            Step::Ask { block, .. } if block >= blocks => Err(Refused::NoBlock),
+            Step::Respond { block } if block >= blocks => Err(Refused::NoBlock),
+            Step::Ask { core, block, op } => self.plan_ask(core, block, op),
+            Step::Order { core } => self.plan_order(core),
+            Step::Respond { block } => self.plan_respond(block),
+        }
+    }
+
+    /// Makes room for what the plan adds.
+    fn make_room(&mut self, plan: Plan) -> Result<(), NoMemory>
+        requires { IsPlan self.old.situation plan }
+        ensures ok { OnOk result (0 < room_for self.new plan) }
+        ensures full { OnErr result (room_for self.old plan ≡ 0) }
+        ensures unchanged { self.new.situation ≡ self.old.situation }
+    {
+        match plan {
+            Plan::Ask { core, asked, .. } => self.make_room_to_ask(core, asked),
+            Plan::Order { .. } | Plan::Writeback { .. } | Plan::Fill { .. } => self.reserve_item(),
+        }
+    }
+
+    /// Makes room for what an Ask of the core adds.
+    fn make_room_to_ask(&mut self, core: u32, asked: Asked) -> Result<(), NoMemory>
+        requires { core < self.old.situation.shape.cores }
+        ensures ok { OnOk result (0 < room_for_ask self.new core asked) }
+        ensures full { OnErr result (room_for_ask self.old core asked ≡ 0) }
+        ensures unchanged { self.new.situation ≡ self.old.situation }
+    {
+        match asked {
+            Asked::Hit(..) => self.reserve_item(),
+            Asked::Issue(..) => self.reserve_request(core),
+            Asked::Absent | Asked::Drop(_) => Ok(()),
+        }
+    }
+
+    /// Makes room for one more request of the core.
+    fn reserve_request(&mut self, core: u32) -> Result<(), NoMemory>
+        requires { core < self.old.situation.shape.cores }
+        ensures ok { OnOk result (0 < slice_index self.new.rooms core) }
+        ensures full { OnErr result (slice_index self.old.rooms core ≡ 0) }
+        ensures unchanged { self.new.situation ≡ self.old.situation }
+    {
+        if self.bus.has_room(core) {
+            return Ok(());
+        }
+        self.bus.reserve(core)
+    }
+
+    /// Makes room for one more item.
+    fn reserve_item(&mut self) -> Result<(), NoMemory>
+        ensures ok { OnOk result (0 < self.new.room) }
+        ensures full { OnErr result (self.old.room ≡ 0) }
+        ensures unchanged { self.new.situation ≡ self.old.situation }
+    {
+        if self.log.has_room() {
+            return Ok(());
+        }
+        self.log.reserve()
+    }
+
+    /// Does what the plan says.
+    fn perform(&mut self, plan: Plan) -> Reply
+        requires found { IsPlan self.old.situation plan }
+        requires room { 0 < room_for self.old plan }
+        ensures { FirstMove self.old.situation (step_of plan) result self.new.situation (entry_of self.old.situation.log plan) }
+    {
+        match plan {
+            Plan::Ask {
+                core,
+                block,
+                op,
+                asked,
+            } => self.take_ask(core, block, op, asked),
+            Plan::Order {
+                core,
+                request,
+                block,
+                message,
+                memory,
+            } => {
+                self.start(core, request, block, message, memory);
+                Reply::Ordered(request)
+            }
+            Plan::Writeback {
+                block,
+                closing,
+                memory,
+            } => {
+                self.finish_put(block, closing, memory);
+                reply_of(closing, None)
+            }
+            Plan::Fill {
+                block,
+                closing,
+                memory,
+                filled,
+            } => {
+                let did = self.finish_get(block, closing, filled, memory);
+                reply_of(closing, Some(did))
+            }
+        }
+    }
+
+    /// The item that the planned step adds.
+    fn item(&self, plan: Plan) -> Option<Item>
+        requires { IsPlan self.now.situation plan }
+        ensures { result ≡ entry_of self.now.situation.log plan }
+    {
+        match plan {
+            Plan::Ask {
+                core,
+                block,
+                op,
+                asked: Asked::Hit(_, value),
+            } => Some(Item::Did(self.next_did(core, block, op, value, true))),
+            Plan::Ask { .. } => None,
+            Plan::Order {
+                core,
+                request,
+                block,
+                ..
+            } => Some(Item::Sent(Sent {
+                core,
+                request,
+                block,
+            })),
+            Plan::Writeback { closing, .. } => Some(Item::Came(came(closing), None)),
+            Plan::Fill {
+                closing,
+                filled,
+                ..
+            } => {
+                let did = self.next_did(
+                    closing.core,
+                    closing.block,
+                    filled.op,
+                    filled.value,
+                    false,
+                );
+                Some(Item::Came(came(closing), Some(did)))
+            }
+        }
+    }
+}
+
+/// The reply to a Respond.
+fn reply_of(closing: Open, did: Option<Did>) -> Reply
+    ensures { result ≡ CameReply closing.payload closing.from did }
+{
+    Reply::Came {
+        payload: closing.payload,
+        from: closing.from,
+        did,
+    }
+}

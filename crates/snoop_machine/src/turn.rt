@@ -1,0 +1,50 @@
+//! The turn of a core that does one work at a time.
+ghost use Rattle.std.specs.Prelude.{◌≡◌, ◌<◌, is_some};
+ghost use Rattle.snoop_rules.specs.Waits.{waiting_request};
+ghost use Rattle.snoop_machine.specs.Turn.{turn_of};
+
+use crate::machine::Machine;
+use snoop_rules::CacheState;
+use snoop_trace::{Op, Step};
+
+impl Machine {
+    /// The step of a core's turn with a work, by what waits and what is open: `under_way` tells whether the core has asked
+    /// for it already. `None` where another core's turn has closed the work.
+    pub fn turn_step(&self, core: u32, block: u32, op: Op, under_way: bool) -> Option<Step>
+        requires core { core < self.now.situation.shape.cores }
+        requires block { block < self.now.situation.shape.blocks }
+        ensures { result ≡ turn_of self.now.situation core block op under_way }
+    {
+        if !under_way {
+            return Some(Step::Ask { core, block, op });
+        }
+        let waiting = waits(self.state(core, block)?);
+        let Some(transaction) = self.open(block) else {
+            return if waiting {
+                Some(Step::Order { core })
+            } else {
+                None
+            };
+        };
+        if waiting || transaction.core == core {
+            Some(Step::Respond { block })
+        } else {
+            None
+        }
+    }
+}
+
+/// A request waits in this state.
+fn waits(state: CacheState) -> bool
+    ensures { result ≡ is_some (waiting_request state) }
+{
+    matches!(
+        &state,
+        CacheState::IsAd
+            | CacheState::ImAd
+            | CacheState::SmAd
+            | CacheState::MiA
+            | CacheState::EiA
+            | CacheState::IiA
+    )
+}

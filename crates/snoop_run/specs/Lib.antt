@@ -1,9 +1,0 @@
-pub mod Turn
-pub mod WellKept
-pub mod Serving
-pub mod Quiet
-pub mod TurnRule
-pub mod Todo
-pub mod Round
-pub mod Served
-pub mod Journey

@@ -1,0 +1,21 @@
+-- The status that the program ends with (this project's profile).
+use Rattle.std.specs.Prelude.{ℕ}
+use Rattle.snoop_trace.specs.declared.fault.TextFault.TheVariants as text
+use Rattle.snoop_sim.specs.declared.failure.Failure.{Failure}
+use Rattle.snoop_sim.specs.declared.failure.Failure.TheVariants.{CommandLine, NoCommand, Shape, Simulation}
+use Rattle.snoop_sim.specs.declared.fault.SimFault.{SimFault}
+use Rattle.snoop_sim.specs.declared.fault.SimFault.TheVariants.{Text, NoMemory, Write}
+
+-- 1 for a refused text, 3 for want of memory, 4 for a failed write
+abbrev pub status_of_fault : SimFault → ℕ
+status_of_fault (Text text.NoMemory) = 3
+status_of_fault (Text _) = 1
+status_of_fault NoMemory = 3
+status_of_fault Write = 4
+
+-- 2 for the command line or the shape
+abbrev pub status_of : Failure → ℕ
+status_of (CommandLine error) = 2
+status_of NoCommand = 2
+status_of (Shape fault) = 2
+status_of (Simulation fault) = status_of_fault fault

@@ -1,0 +1,87 @@
+-- What a record says as a row is within the shape.
+use Rattle.std.proofs.Common.{◌<◌, ◌/◌, ℕ, List, true, false, inl, inr, subst}
+use Rattle.std.specs.Prelude.{All, Bool, Result, Ok, Err, IfOk, ⊤, ◌==◌, nat_lt, if◌then◌else◌}
+use Rattle.std.specs.Option.{ok_or}
+use Rattle.std.proofs.lemmas.Bool.{cases_Bool, ltb-true}
+use Rattle.std.proofs.lemmas.List.Elements.{All-weaker}
+use Rattle.snoop_trace.specs.Extent.{Extent}
+use Rattle.snoop_trace.specs.Grammar.{◌>>=◌, IsRowWithin, asked, block_in, core_in, evict, letter_of, load, number_in, row_in, store, three_of, two_of}
+use Rattle.snoop_trace.specs.Progress.{IsSaid}
+use Rattle.snoop_trace.specs.declared.fault.TextFault.{TextFault}
+use Rattle.snoop_trace.specs.declared.fault.TextFault.TheVariants.{BadKind, BadFields}
+use Rattle.snoop_trace.specs.declared.step.Row.{Row}
+
+-- a reading that goes on
+if_bind : {A B : Type 0} (r : Result A TextFault) (f : A → Result B TextFault) (P : A → Type 0) (Q : B → Type 0) → IfOk r P → ((x : A) → P x → IfOk (f x) Q) → IfOk (r >>= f) Q
+if_bind (Ok x) f P Q p q = q x p
+if_bind (Err e) f P Q p q = tt
+
+if_any : {A : Type 0} (r : Result A TextFault) → IfOk r (λ x. ⊤)
+if_any (Ok x) = tt
+if_any (Err e) = tt
+
+if_if : {A : Type 0} (b : Bool) (r q : Result A TextFault) (P : A → Type 0) → IfOk r P → IfOk q P → IfOk (if b then r else q) P
+if_if true r q P p p2 = p
+if_if false r q P p p2 = p2
+
+has_core : (shape : Extent) (n core : ℕ) → IfOk (core_in shape n core) (λ c. c < shape.cores)
+has_core shape n core = elim (cases_Bool (nat_lt core shape.cores)) [ inl e ↦ rw e (ltb-true core shape.cores e) | inr e ↦ rw e tt ]
+
+-- the row's core is there
+abbrev HasCore : Extent → Row → Type 0
+HasCore shape row = row.core < shape.cores
+
+core_of_load : (shape : Extent) (n : ℕ) (fs : List (List ℕ)) → IfOk (load shape n fs) (HasCore shape)
+unfolding load
+core_of_load shape n fs =
+    if_bind (ok_or (two_of fs) (BadFields n)) _ _ _ (if_any (ok_or (two_of fs) (BadFields n))) (λ f yes.
+    if_bind (number_in n f.0) _ _ _ (if_any (number_in n f.0)) (λ core yes.
+    if_bind (number_in n f.1) _ _ _ (if_any (number_in n f.1)) (λ address yes.
+    if_bind (core_in shape n core) _ _ _ (has_core shape n core) (λ c has. has))))
+
+core_of_store : (shape : Extent) (n : ℕ) (fs : List (List ℕ)) → IfOk (store shape n fs) (HasCore shape)
+unfolding store
+core_of_store shape n fs =
+    if_bind (ok_or (three_of fs) (BadFields n)) _ _ _ (if_any (ok_or (three_of fs) (BadFields n))) (λ f yes.
+    if_bind (number_in n f.0) _ _ _ (if_any (number_in n f.0)) (λ core yes.
+    if_bind (number_in n f.1) _ _ _ (if_any (number_in n f.1)) (λ address yes.
+    if_bind (number_in n f.2) _ _ _ (if_any (number_in n f.2)) (λ value yes.
+    if_bind (core_in shape n core) _ _ _ (has_core shape n core) (λ c has. has)))))
+
+core_of_evict : (shape : Extent) (n : ℕ) (fs : List (List ℕ)) → IfOk (evict shape n fs) (HasCore shape)
+unfolding evict
+core_of_evict shape n fs =
+    if_bind (ok_or (two_of fs) (BadFields n)) _ _ _ (if_any (ok_or (two_of fs) (BadFields n))) (λ f yes.
+    if_bind (number_in n f.0) _ _ _ (if_any (number_in n f.0)) (λ core yes.
+    if_bind (number_in n f.1) _ _ _ (if_any (number_in n f.1)) (λ address yes.
+    if_bind (core_in shape n core) _ _ _ (has_core shape n core) (λ c has. has))))
+
+core_of_asked : (shape : Extent) (n letter : ℕ) (fs : List (List ℕ)) → IfOk (asked shape n letter fs) (HasCore shape)
+unfolding asked
+core_of_asked shape n letter fs =
+    if_if (letter == 76) (load shape n fs) _ (HasCore shape) (core_of_load shape n fs)
+    (if_if (letter == 83) (store shape n fs) _ (HasCore shape) (core_of_store shape n fs)
+    (if_if (letter == 69) (evict shape n fs) (Err (BadKind n)) (HasCore shape) (core_of_evict shape n fs) tt))
+
+block_there : (shape : Extent) (n address : ℕ) → IfOk (block_in shape n address) (λ block. address / shape.block_bytes < shape.blocks)
+block_there shape n address =
+    elim (cases_Bool (nat_lt (address / shape.block_bytes) shape.blocks)) [
+      | inl e ↦ rw e (ltb-true (address / shape.block_bytes) shape.blocks e)
+      | inr e ↦ rw e tt
+    ]
+
+said_row : (shape : Extent) (n : ℕ) (fs : List (List ℕ)) → IfOk (row_in shape n fs) (IsRowWithin shape)
+unfolding row_in
+said_row shape n fs =
+    if_bind (ok_or (letter_of fs) (BadKind n)) _ _ _ (if_any (ok_or (letter_of fs) (BadKind n))) (λ letter yes.
+    if_bind (asked shape n letter fs) _ _ _ (core_of_asked shape n letter fs) (λ row has.
+    if_bind (block_in shape n row.address) _ _ _ (block_there shape n row.address) (λ block there. (has, there))))
+
+within_said : (shape : Extent) (row : Row) → IsSaid (row_in shape) row → IsRowWithin shape row
+within_said shape row said =
+    let P : Result Row TextFault → Type 0 = λ r. IfOk r (IsRowWithin shape) in
+    subst P said.1.1 (said_row shape said.0 said.1.0)
+
+pub rows_within : {X : Type 0} (shape : Extent) (items : X → List Row) (r : Result X TextFault) → IfOk r (λ x. All (IsSaid (row_in shape)) (items x)) → IfOk r (λ x. All (IsRowWithin shape) (items x))
+rows_within shape items (Ok x) said = All-weaker (IsSaid (row_in shape)) (IsRowWithin shape) (within_said shape) (items x) said
+rows_within shape items (Err e) said = tt
