@@ -1,10 +1,10 @@
 -- What the lists of a row are as lines.
-use Rattle.std.proofs.Common.{◌≡◌, ◌≢◌, ℕ, zero, suc, ◌<◌, List, [], ◌∷◌, length, get_or, replicate, Option, None, Some, false, refl, sym, ap, ◌∙◌, subst, arith, ◌⊎◌, inl, inr}
+use Rattle.std.proofs.Common.{◌≡◌, ◌≢◌, ℕ, zero, suc, ◌<◌, ◌≤◌, List, [], ◌∷◌, length, get_or, replicate, Option, None, Some, false, refl, sym, ap, ◌∙◌, subst, arith, ◌⊎◌, inl, inr}
 use Rattle.std.specs.Prelude.{is_some, slice_set}
 use Rattle.snoop_trace.specs.declared.step.Op.{Op}
 use Rattle.snoop_trace.specs.declared.step.Op.TheVariants as op
 use Rattle.snoop_rules.specs.declared.names.CacheState.{CacheState}
-use Rattle.std.proofs.lemmas.Bool.{cases_eq}
+use Rattle.std.proofs.lemmas.Bool.{cases_eq, cases_lt}
 use Rattle.std.proofs.lemmas.List.{length-set, get_or-set_same, get_or-set_other}
 use Rattle.snoop_rules.specs.declared.names.CacheState.TheVariants as state
 use Rattle.snoop_machine.specs.declared.lines.Line.{Line}
@@ -75,9 +75,15 @@ kept_stays state.EiA kept a b c = refl
 kept_stays state.MiA kept a b c = refl
 
 -- a row whose lines are these
-module _ (states : List CacheState) (held : List Held) (now : List Line) (row : IsRow states held) (view : lines_of states held ≡ now) where
+module _ (states : List CacheState) (held : List Held) (low high : ℕ) (now : List Line) (row : IsRow states held low high) (view : lines_of states held ≡ now) where
   pub row_length : length now ≡ length states
   row_length = sym (ap length view) ∙ length-lines_of states held row.as_many
+
+  pub nothing_below : (k : ℕ) → k < low → held_at now k ≡ nothing_held
+  nothing_below k h = ap (λ (l : List Line). held_at l k) (sym view) ∙ row.below k h
+
+  pub nothing_above : (k : ℕ) → high ≤ k → held_at now k ≡ nothing_held
+  nothing_above k h = ap (λ (l : List Line). held_at l k) (sym view) ∙ row.above k h
 
   module _ (core : ℕ) (within : core < length now) where
     pub in_states : core < length states
@@ -95,8 +101,15 @@ module _ (states : List CacheState) (held : List Held) (now : List Line) (row : 
     pub row_set : (s : CacheState) (h : Held) → lines_of (slice_set states core s) (slice_set held core h) ≡ slice_set now core (line_of s h)
     row_set s h = set-lines_of states held core s h row.as_many ∙ ap (λ (l : List Line). slice_set l core (line_of s h)) view
 
-    pub IsRow-set : (s : CacheState) (h : Held) → IsProper (line_of s h) → IsRow (slice_set states core s) (slice_set held core h)
-    IsRow-set s h proper =
+    -- another core that held nothing holds nothing
+    elsewhere : (s : CacheState) (h : Held) (k : ℕ) → (k ≡ core → ⊥) → held_at (lines_of states held) k ≡ nothing_held → held_at (lines_of (slice_set states core s) (slice_set held core h)) k ≡ nothing_held
+    elsewhere s h k ne none =
+        ap (λ (l : List Line). held_at l k) (row_set s h) ∙ (get_or-set_other now core k (line_of s h) nothing_held ne ∙ (ap (λ (l : List Line). held_at l k) (sym view) ∙ none))
+
+    -- one line is new, and a core that holds something stays within new bounds
+    pub IsRow-set : (s : CacheState) (h : Held) (low' high' : ℕ) → IsProper (line_of s h) → low' ≤ low → low' ≤ core → high ≤ high' → core < high' → high' ≤ length states
+        → IsRow (slice_set states core s) (slice_set held core h) low' high'
+    IsRow-set s h low' high' proper lower below_core higher above_core fits =
         record {
           as_many = length-set held core h ∙ (row.as_many ∙ sym (length-set states core s));
           proper = λ k. subst (λ (l : List Line). IsProper (held_at l k)) (sym (row_set s h)) (elim (cases_eq k core) as (λ _. IsProper (held_at (slice_set now core (line_of s h)) k)) [
@@ -107,7 +120,25 @@ module _ (states : List CacheState) (held : List Held) (now : List Line) (row : 
                 let there : held_at (slice_set now core (line_of s h)) k ≡ held_at now k = get_or-set_other now core k (line_of s h) nothing_held ne in
                 subst IsProper (sym there) (subst (λ (l : List Line). IsProper (held_at l k)) view (row.proper k))
           ]);
+          within = rw (length-set states core s) fits;
+          below = λ k h'. elsewhere s h k (λ e. absurd (omega arith)) (row.below k (omega arith));
+          above = λ k h'. elsewhere s h k (λ e. absurd (omega arith)) (row.above k (omega arith));
         }
+
+    -- a core that holds something is within the bounds
+    pub in_bounds : held_at now core ≢ nothing_held → (low ≤ core) × (core < high)
+    in_bounds holds = (from_low (cases_lt core low), to_high (cases_lt core high))
+      where
+        here : held_at now core ≡ held_at (lines_of states held) core
+        here = ap (λ (l : List Line). held_at l core) (sym view)
+
+        from_low : (core < low) ⊎ (low ≤ core) → low ≤ core
+        from_low (inl h) = absurd (holds (here ∙ row.below core h))
+        from_low (inr h) = h
+
+        to_high : (core < high) ⊎ (high ≤ core) → core < high
+        to_high (inl h) = h
+        to_high (inr h) = absurd (holds (here ∙ row.above core h))
 
 -- the kept value is given up in I, IM_AD and II_A
 pub kept_goes : (next : CacheState) (kept : Option ℕ) → (next ≡ state.I) ⊎ ((next ≡ state.ImAd) ⊎ (next ≡ state.IiA)) → kept_on next kept ≡ None

@@ -29,6 +29,10 @@ impl Held {
 pub(crate) struct Row {
     states: Vec<CacheState>,
     held: Vec<Held>,
+    /// Cores below this one hold nothing.
+    low: usize,
+    /// Cores from this one on hold nothing.
+    high: usize,
 }
 
 impl Model for Row {
@@ -41,7 +45,7 @@ impl Model for Row {
 
     ghost view = { λ r. lines_of r.states.items r.held.items };
 
-    ghost invariant = { λ r. IsRow r.states.items r.held.items };
+    ghost invariant = { λ r. IsRow r.states.items r.held.items r.low r.high };
 }
 
 impl Row {
@@ -50,7 +54,12 @@ impl Row {
     {
         let states = vec![in alloc; CacheState::I; cores]?;
         let held = vec![in alloc; Held::NOTHING; cores]?;
-        Ok(Row { states, held })
+        Ok(Row {
+            states,
+            held,
+            low: cores,
+            high: 0,
+        })
     }
 
     pub(crate) fn get(&self, core: usize) -> Line
@@ -75,6 +84,8 @@ impl Row {
             kept: line.kept,
             waiting: line.waiting,
         };
+        self.low = self.low.min(core);
+        self.high = self.high.max(core + 1);
     }
 
     pub(crate) fn state(&self, core: u32) -> CacheState
@@ -85,9 +96,10 @@ impl Row {
         self.states[core as usize]
     }
 
-    /// The core comes to a state, with nothing performed.
+    /// The core, which holds something, comes to a state with nothing performed.
     pub(crate) fn come_to(&mut self, core: u32, next: CacheState)
         requires core { core < length self.old }
+        requires holds { held_at self.old core ≢ nothing_held }
         requires proper { IsProper (comes_to next (held_at self.old core)) }
         ensures { self.new ≡ slice_set self.old core (comes_to next (held_at self.old core)) }
     {
@@ -107,10 +119,11 @@ impl Row {
         ensures some { IfSome result (λ core. (from ≤ core) × (core < length self.now) × HoldNothing self.now from core × (held_at self.now core ≢ nothing_held)) }
         ensures none { IfNone result (HoldNothing self.now from (length self.now)) }
     {
-        for core in from..self.states.len() as u32 {
-            match self.states[core as usize] {
+        let start = self.low.max(from as usize);
+        for core in start..self.high {
+            match self.states[core] {
                 CacheState::I => {}
-                _ => return Some(core),
+                _ => return Some(core as u32),
             }
         }
         None

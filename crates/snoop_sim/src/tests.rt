@@ -6,7 +6,6 @@ mod msi;
 mod row_texts;
 mod rows;
 mod scene;
-mod storm;
 mod streams;
 mod support;
 mod texts;

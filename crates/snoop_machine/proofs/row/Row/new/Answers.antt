@@ -1,4 +1,4 @@
-use Rattle.std.proofs.Common.{◌≡◌, List, None, replicate, sym, ap, ◌∙◌, subst}
+use Rattle.std.proofs.Common.{arith, ◌≡◌, List, None, replicate, sym, ap, ◌∙◌, subst}
 use Rattle.std.proofs.lemmas.List.{length-replicate}
 use Rattle.snoop_rules.specs.declared.names.CacheState.TheVariants.{I}
 use Rattle.snoop_machine.specs.declared.lines.Line.{Line}
@@ -24,5 +24,8 @@ invariant_of-result c =
     ap (λ s. lines_of s c.in_ok-held.held.items) (c.in_ok-states.ensures.items_if_clones_equal (λ y h. h)) ∙ (ap (λ h. lines_of (replicate c.args.cores I) h) (c.in_ok-held.ensures.items_if_clones_equal (λ y h. h)) ∙ replicate-lines_of c.args.cores I empty) in
     record {
       as_many = rw (c.in_ok-states.ensures.items_if_clones_equal (λ y h. h), c.in_ok-held.ensures.items_if_clones_equal (λ y h. h)) (length-replicate c.args.cores empty ∙ sym (length-replicate c.args.cores I));
+      within = omega arith;
+      below = λ core h. ap (λ (l : List Line). held_at l core) lines ∙ replicated c.args.cores core nothing_held;
+      above = λ core h. ap (λ (l : List Line). held_at l core) lines ∙ replicated c.args.cores core nothing_held;
       proper = λ core. subst (λ (l : List Line). IsProper (held_at l core)) (sym lines) (subst IsProper (sym (replicated c.args.cores core nothing_held)) nothing_proper);
     }
