@@ -2,21 +2,27 @@
 """Writes docs/DEFINITIONS.md: each definition of specs/ with the comment that stands above it.
 
     tools/definitions.py > docs/DEFINITIONS.md
+
+Where a file has no comment at its head, or a definition none above it, these are named and the status is 1.
 """
 import pathlib
 import re
+import sys
+from typing import NamedTuple
 
 TOP = pathlib.Path(__file__).resolve().parent.parent
 CRATES = ["snoop_trace", "snoop_rules", "snoop_history", "snoop_bus", "snoop_machine", "snoop_sim", "snoop_scenes"]
-NAME = re.compile(r"^(?:abbrev |unfoldable )?pub (?:record |data )?([^\s:({]+)|^(?:abbrev|unfoldable) pub ([^\s:({]+)")
+NAME = re.compile(r"(?:(?:abbrev|unfoldable) )?pub (?:(?:record|data) )?([^\s:({]+)")
 
 HEAD = """# Definitions
 
-The words that contracts are written in, by crate and file: what is proved is proved of these. A definition is a formula, never the code's loop: waiting requests are
-read off states, flat values and counts are recomputed from the whole history, cells are a relation by cases, and the code has queues, running tables and packed bytes instead.
+The words that contracts are written in, by crate and file: what is proved is proved of these. Most of them say a thing in another way than the code does it. Which request waits is
+read off a core's state, where the code has queues; flat values and counts are recomputed from the whole history, where it has running numbers; a cell of the tables is a relation by cases, where it has
+packed bytes. Some follow the code closely: how a record is read, field by field (`Grammar.antt`), and how counts grow by one item (`tallied` in `Journal.antt`), where it is proved that what grows
+so is the count of the whole list.
 
-This page is written by `tools/definitions.py` from the comments in `crates/*/specs`. Each file's first line says what it is about and where its rules come from:
-*the Primer* is *A Primer on Memory Consistency and Cache Coherence*, second edition, chapter 7.
+This page is written by `tools/definitions.py` from the comments in `crates/*/specs`. Each file begins with what it is about, and with the source of its rules:
+*the Primer* is *A Primer on Memory Consistency and Cache Coherence*, second edition, and *this project's profile* is what docs/PROTOCOL.md and docs/TEXTS.md lay down themselves.
 
 Three conventions:
 
@@ -28,33 +34,59 @@ Three conventions:
 """
 
 
-def definitions(path):
-    """Each definition of a file with the comment lines above it."""
-    comment = []
-    for line in path.read_text().splitlines()[1:]:
-        if line.startswith("-- "):
-            comment.append(line[3:])
+class Definition(NamedTuple):
+    name: str
+    meaning: str
+
+
+class Page(NamedTuple):
+    path: pathlib.Path
+    head: str
+    definitions: list
+
+
+def page_of(path):
+    """The comment at the head of a file, and each definition with the comment right above it."""
+    head, found, comment, is_at_head = "", [], [], True
+    for line in path.read_text().splitlines():
+        if line.startswith("--"):
+            comment.append(line[2:].strip())
             continue
-        found = NAME.match(line)
-        if found and comment:
-            yield found.group(1) or found.group(2), " ".join(comment)
+        if line.startswith("infix"):  # stands between an operator and its comment
+            continue
+        if is_at_head:
+            head, comment, is_at_head = "\n".join(comment), [], False
+        definition = NAME.match(line)
+        if definition:
+            found.append(Definition(definition.group(1), " ".join(comment)))
         comment = []
+    return Page(path.relative_to(TOP), head, found)
+
+
+def missing_in(page):
+    """What has no comment: the file's head, and definitions."""
+    return ([] if page.head else [f"{page.path}: no comment at its head"]) + [
+        f"{page.path}: {definition.name} has no comment" for definition in page.definitions if not definition.meaning]
+
+
+def section_of(page):
+    """A file as a section of the page."""
+    text = f"### {page.path}\n\n{page.head}\n\n"
+    if page.definitions:
+        rows = "".join(f"| `{name}` | {meaning.replace('|', chr(92) + '|')} |\n" for name, meaning in page.definitions)
+        text += f"| Definition | Meaning |\n|---|---|\n{rows}\n"
+    return text
 
 
 def main():
-    text = HEAD
+    text, missing = HEAD, []
     for crate in CRATES:
         files = sorted((TOP / "crates" / crate / "specs").glob("*.antt"))
-        rows = [(path, list(definitions(path))) for path in files if path.name != "Lib.antt"]
-        if not rows:
-            continue
-        text += f"## {crate}\n\n"
-        for path, found in rows:
-            head = path.read_text().splitlines()[0].removeprefix("-- ").rstrip()
-            text += f"### {path.relative_to(TOP)}\n\n{head}\n\n"
-            if found:
-                text += "| Definition | Meaning |\n|---|---|\n"
-                text += "".join(f"| `{name}` | {meaning.replace('|', chr(92) + '|')} |\n" for name, meaning in found) + "\n"
+        pages = [page_of(path) for path in files if path.name != "Lib.antt"]
+        text += f"## {crate}\n\n" + "".join(map(section_of, pages))
+        missing += [what for page in pages for what in missing_in(page)]
+    if missing:
+        sys.exit("\n".join(missing))
     print(text.rstrip())
 
 

@@ -2,7 +2,8 @@
 """An independent reading of the protocol, to hold the program against.
 
 It knows no Rattle: its tables are those of docs/PROTOCOL.md, it keeps every block of every core in plain
-dictionaries, and it recomputes the report from the whole history at the end. Use:
+dictionaries, and it recomputes the report from the whole history at the end. It takes texts without faults only:
+of a faulty text or shape it tells no more than that (a line on standard error, status 2, nothing on standard output). Use:
 
     tools/reference.py steps --protocol mesi < examples/silent_upgrade.steps
     tools/reference.py run --protocol mesi < examples/producer_and_consumer.rows
@@ -14,6 +15,7 @@ import io
 import pathlib
 import re
 import sys
+from typing import NamedTuple, Optional
 
 PROTOCOL = pathlib.Path(__file__).resolve().parent.parent / "docs" / "PROTOCOL.md"
 READABLE = {"S", "SM_AD", "SM_D", "E", "M", "EI_A", "MI_A"}
@@ -36,22 +38,61 @@ def sent(action):
     return words[0] if action.startswith("send ") or " to " in action else None
 
 
+class Line(NamedTuple):
+    """What a core holds of a block: its state, the value that it keeps and the operation that waits, if any."""
+    state: str
+    kept: Optional[int]
+    waiting: Optional[tuple]
+
+
+class Open(NamedTuple):
+    """An open transaction: the requestor, its request, and the message that is under way; a sender of None is memory."""
+    core: int
+    request: str
+    payload: str
+    value: Optional[int]
+    sender: Optional[int]
+
+
+class Did(NamedTuple):
+    """A load or store that was performed, and the value that it loaded or stored."""
+    core: int
+    block: int
+    load: bool
+    value: int
+    hit: bool
+
+
+class Sent(NamedTuple):
+    """A request that was ordered."""
+    core: int
+    block: int
+    request: str
+
+
+class Came(NamedTuple):
+    """A response to the core's request: its sender (None is memory) and payload, and what it performed, if anything."""
+    core: int
+    block: int
+    request: str
+    sender: Optional[int]
+    payload: str
+    did: Optional[Did]
+
+
 class Machine:
     def __init__(self, protocol, cores, blocks):
         self.cache, self.memory_table = tables()[protocol]
         self.cores, self.blocks = cores, blocks
         first = "IorS" if protocol == "msi" else "I"
-        self.line = {(c, b): ("I", None, None) for c in range(cores) for b in range(blocks)}
+        self.line = {(c, b): Line("I", None, None) for c in range(cores) for b in range(blocks)}
         self.memory = {b: (first, 0) for b in range(blocks)}
         self.open = {}
         self.queues = {c: [] for c in range(cores)}
         self.items = []
 
     def put(self, core, block, state, kept, waiting):
-        self.line[core, block] = (state, kept if state in READABLE else None, waiting)
-
-    def did(self, core, block, load, value, hit):
-        return ("did", core, block, load, value, hit)
+        self.line[core, block] = Line(state, kept if state in READABLE else None, waiting)
 
     def ask(self, core, block, op):
         state, kept, waiting = self.line[core, block]
@@ -64,7 +105,7 @@ class Machine:
         if action == "hit":
             value = kept if event == "Load" else value
             self.put(core, block, after, value, waiting)
-            self.items.append(self.did(core, block, event == "Load", value, True))
+            self.items.append(Did(core, block, event == "Load", value, hit=True))
             return f"hit {value}" if event == "Load" else "store hit"
         if action == "drop":
             self.put(core, block, after, kept, None)
@@ -80,7 +121,7 @@ class Machine:
         block = self.queues[core][0]
         if block in self.open:
             return f"refused BusTaken {block}"
-        request = WAITING[self.line[core, block][0]]
+        request = WAITING[self.line[core, block].state]
         senders, afters = [], {}
         for other in range(self.cores):
             state, kept, _ = self.line[other, block]
@@ -97,8 +138,8 @@ class Machine:
             self.put(other, block, state, kept, waiting)
         self.memory[block] = (after, value)
         self.queues[core].remove(block)
-        self.open[block] = (core, request, payload, carried, sender)
-        self.items.append(("sent", core, block, request))
+        self.open[block] = Open(core, request, payload, carried, sender)
+        self.items.append(Sent(core, block, request))
         return "ordered " + request
 
     def respond(self, block):
@@ -116,43 +157,63 @@ class Machine:
             action, after = self.cache[state, payload]
             value = carried if action == "fill load" else value
             self.put(core, block, after, value, None)
-            did = self.did(core, block, event == "Load", value, False)
+            did = Did(core, block, event == "Load", value, hit=False)
             text += f", {'load' if event == 'Load' else 'store'} {value}"
-        self.items.append(("came", core, block, request, sender, payload, did))
+        self.items.append(Came(core, block, request, sender, payload, did))
         return text
 
 
 def report(items):
     """The counts and the blocks' values, from the whole history."""
-    dids = [i if i[0] == "did" else i[6] for i in items if i[0] == "did" or (i[0] == "came" and i[6])]
-    count = lambda rows: sum(1 for _ in rows)
-    sent_with = lambda request: count(i for i in items if i[0] == "sent" and i[3] == request)
-    came = [i for i in items if i[0] == "came"]
+    responses = [item for item in items if isinstance(item, Came)]
+    dids = [item if isinstance(item, Did) else item.did for item in items if not isinstance(item, Sent)]
+    loads = [did for did in dids if did and did.load]
+    stores = [did for did in dids if did and not did.load]
+    sent_with = lambda request: sum(isinstance(item, Sent) and item.request == request for item in items)
     lines = [
-        "loads %d hits %d" % (count(d for d in dids if d[3]), count(d for d in dids if d[3] and d[5])),
-        "stores %d hits %d" % (count(d for d in dids if not d[3]), count(d for d in dids if not d[3] and d[5])),
+        "loads %d hits %d" % (len(loads), sum(did.hit for did in loads)),
+        "stores %d hits %d" % (len(stores), sum(did.hit for did in stores)),
         "GetS %d GetM %d PutM %d" % tuple(map(sent_with, ("GetS", "GetM", "PutM"))),
-        "from memory %d from caches %d" % (count(i for i in came if i[4] is None),
-                                           count(i for i in came if i[4] is not None and i[3] != "PutM")),
-        "writebacks %d clean %d stale %d" % (count(i for i in came if i[3] == "PutM" and i[5] == "Data"),
-                                             count(i for i in came if i[5] == "NoDataE"),
-                                             count(i for i in came if i[5] == "NoData")),
+        "from memory %d from caches %d" % (sum(came.sender is None for came in responses),
+                                           sum(came.sender is not None and came.request != "PutM" for came in responses)),
+        "writebacks %d clean %d stale %d" % (sum(came.request == "PutM" and came.payload == "Data" for came in responses),
+                                             sum(came.payload == "NoDataE" for came in responses),
+                                             sum(came.payload == "NoData" for came in responses)),
     ]
-    for block in dict.fromkeys(i[2] for i in items):
-        stored = [d[4] for d in dids if d[2] == block and not d[3]]
-        lines.append(f"block {block} value {stored[-1] if stored else 0}")
-    return lines
+    values = dict.fromkeys((item.block for item in items), 0)
+    values.update((did.block, did.value) for did in stores)
+    return lines + [f"block {block} value {value}" for block, value in values.items()]
+
+
+FIELDS = {"L": ("core", "address"), "S": ("core", "address", "value"), "E": ("core", "address"), "O": ("core",), "R": ("address",)}
+
+
+class Faulty(Exception):
+    """A text with a fault, which this reading doesn't take."""
 
 
 def number(text):
-    return int(text, 16) if text.startswith("0x") else int(text)
+    if not re.fullmatch("[0-9]+|0x[0-9A-Fa-f]+", text):
+        raise ValueError(text)
+    return int(text, 16) if text.startswith("0x") else int(text.lstrip("0") or "0")
 
 
-def records(text):
-    """The letter and the numbers of each record."""
-    for row in csv.reader(io.StringIO(text)):
-        if row:
-            yield row[0], [number(field) for field in row[1:]]
+def records(options, text):
+    """The letter and the numbers of each record; a text with a fault is refused whole."""
+    kinds = "LSEOR" if options.command == "steps" else "LSE"
+    limits = {"core": options.cores, "address": options.blocks * options.block_bytes, "value": 2**64}
+    read = []
+    csv.field_size_limit(sys.maxsize)
+    try:
+        for row in filter(None, csv.reader(io.StringIO(text.removeprefix("\ufeff"), newline=None))):
+            kind, numbers = row[0], [number(field) for field in row[1:]]
+            names = FIELDS[kind] if kind in tuple(kinds) else None
+            if names is None or len(numbers) != len(names) or any(n >= limits[name] for n, name in zip(numbers, names)):
+                raise ValueError(row)
+            read.append((kind, numbers))
+    except (ValueError, csv.Error):
+        raise Faulty(f"record {len(read) + 1} has a fault, and only texts without faults are taken") from None
+    return read
 
 
 def operation(kind, numbers):
@@ -186,7 +247,7 @@ class Lines:
 def steps(options, text):
     """The lines of each step, then the report."""
     lines = Lines(options)
-    for kind, numbers in records(text):
+    for kind, numbers in records(options, text):
         if kind == "O":
             lines.order(numbers[0])
         elif kind == "R":
@@ -201,21 +262,21 @@ def run(options, text):
     number, and does its rows in the order of the text, one after another."""
     lines = Lines(options)
     left = {core: [] for core in range(options.cores)}
-    for kind, numbers in records(text):
+    for kind, numbers in records(options, text):
         left[numbers[0]].append((numbers[1] // options.block_bytes, operation(kind, numbers)))
     asked_for = {}  # by core, the block of the row that was asked for and is not over
 
     def turn(core):
         if core in asked_for:
             block = asked_for[core]
-            waits = lines.machine.line[core, block][0] in WAITING
+            waits = lines.machine.line[core, block].state in WAITING
             transaction = lines.machine.open.get(block)
             if waits and transaction is None:
                 return lines.order(core)
             if waits:
                 return lines.respond(block)  # another core's transaction stands in the way
             del asked_for[core]
-            if transaction is not None and transaction[0] == core:
+            if transaction is not None and transaction.core == core:
                 return lines.respond(block)
             # another core's turn has brought the answer: the next row comes at once
         if left[core]:
@@ -250,10 +311,16 @@ def main():
     parser.add_argument("--count", type=int, default=1000)
     parser.add_argument("--seed", type=int, default=1)
     options = parser.parse_args()
+    if not (1 <= options.cores <= 256 and 1 <= options.blocks <= 65536 and options.block_bytes in [2**k for k in range(13)]):
+        parser.error("no such shape: 1 to 256 cores, 1 to 65536 blocks, block bytes a power of two up to 4096")
     if options.command == "storm":
-        storm(options)
-    else:
-        {"steps": steps, "run": run}[options.command](options, sys.stdin.read())
+        return storm(options)
+    try:
+        {"steps": steps, "run": run}[options.command](options, sys.stdin.buffer.read().decode())
+    except UnicodeDecodeError:
+        parser.exit(2, "reference.py: the text is not UTF-8, and only texts without faults are taken\n")
+    except Faulty as fault:
+        parser.exit(2, f"reference.py: {fault}\n")
 
 
 if __name__ == "__main__":

@@ -1,25 +1,23 @@
 //! The program `snoop`.
 #![tactic(auto)]
 
-use snoop_sim::command;
-use snoop_trace::{Any, Plain};
+use snoop_sim::{command, refuse_words};
+use snoop_trace::{AnyReader, AnyWriter};
+use std::io;
 use std::process::ExitCode;
 
+/// The words of the process, the program's own name first.
+fn words(rt: &HostRuntime) -> io::Result<Vec<String>> {
+    Ok(std::env::args(rt)?.collect(rt.alloc())?)
+}
+
 fn main(rt: HostRuntime) -> ExitCode {
-    let alloc = rt.alloc();
-    let words: Vec<String> = match std::env::args(&rt) {
-        Ok(args) => match args.collect(alloc) {
-            Ok(words) => words,
-            Err(_) => return ExitCode::from(3),
-        },
-        Err(_) => return ExitCode::from(3),
+    let reader = AnyReader(rt.stdin());
+    let mut writer = AnyWriter(rt.stdout());
+    let mut errors = AnyWriter(rt.stderr());
+    let status = match words(&rt) {
+        Ok(words) => command(rt.alloc(), &words, reader, &mut writer, &mut errors),
+        Err(cause) => refuse_words(cause, &mut errors),
     };
-    let status = command(
-        alloc,
-        words.as_slice(),
-        Any(rt.stdin()),
-        &mut Plain(rt.stdout()),
-        &mut Plain(rt.stderr()),
-    );
     ExitCode::from(status)
 }

@@ -49,12 +49,13 @@ impl Bus {
         })
     }
 
-    /// Makes room for one more request of the core, where there is none. After a refusal every
-    /// request and transaction is as before.
+    /// Makes room for one more request of the core, where there is none. `NoMemory` leaves all as it
+    /// was, and comes only where there was no room.
     pub fn reserve(&mut self, core: u32) -> Result<(), NoMemory>
         requires { core < length self.old.queues }
         ensures ok { OnOk result (0 < (waiting_of self.new core).room) }
         ensures full { OnErr result ((waiting_of self.old core).room ≡ 0) }
+        ensures refused { OnErr result (self.new ≡ self.old) }
 
         // Nothing but the core's room changes, and it doesn't shrink.
         ensures room { (waiting_of self.old core).room ≤ (waiting_of self.new core).room }

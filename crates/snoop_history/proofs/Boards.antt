@@ -5,7 +5,7 @@ use Rattle.std.specs.List.{range_with_len}
 use Rattle.std.specs.Option.{option_map_or, ForSome}
 use Rattle.std.proofs.lemmas.Bool.{eq-eqb, ne_eqb, ltb-true, lt-ltb, le-ltb}
 use Rattle.std.proofs.lemmas.Bool.Decides.{nat_tests}
-use Rattle.std.proofs.lemmas.List.{map-append, length-append, append-nil, append_assoc}
+use Rattle.std.proofs.lemmas.List.{map-append, length-append, append-nil}
 use Rattle.std.proofs.lemmas.List.FromFn.{length-map-range_with_len, get_or-map-range_with_len}
 use Rattle.std.proofs.lemmas.List.Elements.{filter-append, filter_map-append, All-head, All-tail}
 use Rattle.snoop_history.specs.declared.items.Did.{Did}
@@ -15,8 +15,25 @@ use Rattle.snoop_history.specs.History.{operation_of, operations, next_number, i
 use Rattle.snoop_history.specs.Within.{core_of, block_of, IsWithin, is_within, inside}
 use Rattle.snoop_history.specs.Totals.{totals_of, capped, capped_totals}
 use Rattle.snoop_history.specs.Journal.{counted, tallied}
-use Rattle.snoop_history.specs.Board.{Tables, for_each_below, board_of, operation_within, noted, absorbed, Absorbs}
+use Rattle.snoop_history.specs.Board.{Tables, for_each_below, board_of, operation_within}
 use Rattle.snoop_history.proofs.Pushed.{operations-one, capped_totals-push, last_or-append}
+
+-- the tables of cores and blocks after an operation
+abbrev pub noted : Tables → Option Did → Tables
+noted board None = board
+noted board (Some did) =
+    record board {
+      values = if did.load then board.values else slice_set board.values did.block did.value;
+      counts = slice_set board.counts did.core (counted (slice_index board.counts did.core) true);
+      lasts = slice_set board.lasts did.core (Some did);
+    }
+
+-- a board after one more item
+abbrev pub absorbed : Tables → Item → Tables
+absorbed board entry =
+    record (noted board (operation_within (length board.counts) (length board.values) entry)) {
+      totals = tallied board.totals entry;
+    }
 
 -- two functions that agree make one list
 map-same : {A : Type 0} (f g : ℕ → A) (xs : List ℕ) → ((j : ℕ) → g j ≡ f j) → map g xs ≡ map f xs
@@ -51,11 +68,11 @@ entry-below f a (suc n) zero = let some : nat_lt 0 (suc n) ≡ true = lt-ltb 0 (
 entry-below f a (suc n) (suc k) = let same : nat_lt (suc k) (suc n) ≡ nat_lt k n = ltb-suc k n in rw same (entry-below f (a + 1) n k ∙ ap (λ m. if nat_lt k n then Some (f m) else None) (omega arith))
 
 -- the same lists from 0 on
-map-set_0 : {A : Type 0} (f g : ℕ → A) (n i : ℕ) (v : A) → i < n → g i ≡ v → ((j : ℕ) → j ≢ i → g j ≡ f j) → for_each_below n g ≡ slice_set (for_each_below n f) i v
-map-set_0 f g n i v within here others = map-set f g 0 n i v within (ap g (zero-add i) ∙ here) (λ j h. others j (λ e. h (e ∙ sym (zero-add i))))
+set-for_each_below : {A : Type 0} (f g : ℕ → A) (n i : ℕ) (v : A) → i < n → g i ≡ v → ((j : ℕ) → j ≢ i → g j ≡ f j) → for_each_below n g ≡ slice_set (for_each_below n f) i v
+set-for_each_below f g n i v within here others = map-set f g 0 n i v within (ap g (zero-add i) ∙ here) (λ j h. others j (λ e. h (e ∙ sym (zero-add i))))
 
-pub entry-below_0 : {A : Type 0} (f : ℕ → A) (n k : ℕ) → slice_get (for_each_below n f) k ≡ (if nat_lt k n then Some (f k) else None)
-entry-below_0 f n k = entry-below f 0 n k ∙ ap (λ m. if nat_lt k n then Some (f m) else None) (zero-add k)
+pub get-for_each_below : {A : Type 0} (f : ℕ → A) (n k : ℕ) → slice_get (for_each_below n f) k ≡ (if nat_lt k n then Some (f k) else None)
+get-for_each_below f n k = entry-below f 0 n k ∙ ap (λ m. if nat_lt k n then Some (f m) else None) (zero-add k)
 
 operations-one_if : (here : Bool) (entry : Item) → operations (cond here (entry ∷ []) []) ≡ option_to_list (if here then operation_of entry else None)
 operations-one_if true entry = operations-one entry
@@ -125,7 +142,7 @@ module _ (dids : List Did) (did : Did) where
       (if load then for_each_below blocks (value_in dids) else slice_set (for_each_below blocks (value_in dids)) did.block did.value) ≡ for_each_below blocks (value_in (dids ++ did ∷ []))
   values-after blocks within true e = sym (map-same (value_in dids) (value_in (dids ++ did ∷ [])) (range_with_len 0 blocks) (λ block. value-kept block (rw e)))
   values-after blocks within false e =
-      sym (map-set_0 (value_in dids) (value_in (dids ++ did ∷ [])) blocks did.block did.value within
+      sym (set-for_each_below (value_in dids) (value_in (dids ++ did ∷ [])) blocks did.block did.value within
       (value-stored did.block (rw (e, eq-eqb did.block did.block refl)))
       (λ block other. value-kept block (rw (e, ne_eqb did.block block (λ same. other (sym same))))))
 
@@ -134,12 +151,12 @@ module _ (dids : List Did) (did : Did) where
   counts-after cores within =
       let old : slice_index (for_each_below cores (count_in dids)) did.core ≡ count_in dids did.core = get_or-map-range_with_len (count_in dids) 0 cores did.core did.core 0 within (zero-add did.core) in
       ap (λ (n : ℕ). slice_set (for_each_below cores (count_in dids)) did.core (counted n true)) old
-      ∙ sym (map-set_0 (count_in dids) (count_in (dids ++ did ∷ [])) cores did.core (counted (count_in dids did.core) true) within count-own
+      ∙ sym (set-for_each_below (count_in dids) (count_in (dids ++ did ∷ [])) cores did.core (counted (count_in dids did.core) true) within count-own
       (λ core other. ap (λ (l : List Did). capped (length l)) (others-core core other)))
 
   lasts-after : (cores : ℕ) → did.core < cores → slice_set (for_each_below cores (last_in dids)) did.core (Some did) ≡ for_each_below cores (last_in (dids ++ did ∷ []))
   lasts-after cores within =
-      sym (map-set_0 (last_in dids) (last_in (dids ++ did ∷ [])) cores did.core (Some did) within last-own
+      sym (set-for_each_below (last_in dids) (last_in (dids ++ did ∷ [])) cores did.core (Some did) within last-own
       (λ core other. ap (λ (l : List Did). last_or None (map Some l)) (others-core core other)))
 
 -- a board after an operation that counts for it, and other totals
@@ -203,19 +220,19 @@ board_after view old new entry is_view after cores blocks items is = after ∙ (
 pub board_value : (view board : Tables) (answer : Option ℕ) (block : ℕ) → view ≡ board → answer ≡ slice_get view.values block → (cores blocks : ℕ) (items : List Item) → board ≡ board_of cores blocks items →
     answer ≡ (if nat_lt block blocks then Some (flat (inside cores blocks items) block) else None)
 board_value view board answer block is_view read cores blocks items is =
-    read ∙ (ap (λ (t : Tables). slice_get t.values block) (is_view ∙ is) ∙ entry-below_0 (flat (inside cores blocks items)) blocks block)
+    read ∙ (ap (λ (t : Tables). slice_get t.values block) (is_view ∙ is) ∙ get-for_each_below (flat (inside cores blocks items)) blocks block)
 
 pub board_count : (view board : Tables) (answer : Option ℕ) (core : ℕ) → view ≡ board → answer ≡ slice_get view.counts core → (cores blocks : ℕ) (items : List Item) → board ≡ board_of cores blocks items →
     answer ≡ (if nat_lt core cores then Some (capped (next_number (inside cores blocks items) core)) else None)
 board_count view board answer core is_view read cores blocks items is =
-    read ∙ (ap (λ (t : Tables). slice_get t.counts core) (is_view ∙ is) ∙ entry-below_0 (λ k. capped (next_number (inside cores blocks items) k)) cores core)
+    read ∙ (ap (λ (t : Tables). slice_get t.counts core) (is_view ∙ is) ∙ get-for_each_below (λ k. capped (next_number (inside cores blocks items) k)) cores core)
 
 pub board_last : (view board : Tables) (answer : Option Did) (core : ℕ) → view ≡ board → answer ≡ option_and_then (λ (o : Option Did). o) (slice_get view.lasts core) → (cores blocks : ℕ) (items : List Item) → board ≡ board_of cores blocks items →
     answer ≡ (if nat_lt core cores then last_of (inside cores blocks items) core else None)
 board_last view board answer core is_view read cores blocks items is =
     read
     ∙ (ap (λ (t : Tables). option_and_then (λ (o : Option Did). o) (slice_get t.lasts core)) (is_view ∙ is)
-    ∙ (ap (λ (o : Option (Option Did)). option_and_then (λ (p : Option Did). p) o) (entry-below_0 (last_of (inside cores blocks items)) cores core)
+    ∙ (ap (λ (o : Option (Option Did)). option_and_then (λ (p : Option Did). p) o) (get-for_each_below (last_of (inside cores blocks items)) cores core)
     ∙ flat-if (nat_lt core cores) (last_of (inside cores blocks items) core)))
 
 -- a board after an operation that counts for it, table by table
@@ -227,19 +244,6 @@ pub absorbed_as : (view new : Tables) (entry : Item) (did : Did) → operation_w
 absorbed_as view new entry did is v c l t =
     same_tables new (with_totals view (Some did) (tallied view.totals entry)) v c l t
     ∙ ap (λ (op : Option Did). with_totals view op (tallied view.totals entry)) (sym is)
-
--- absorbing a list gives the board of the list behind what was there
-absorbs-behind : (cores blocks : ℕ) (before items : List Item) (board : Tables) → Absorbs (board_of cores blocks before) items board → board ≡ board_of cores blocks (before ++ items)
-absorbs-behind cores blocks before [] board is = is ∙ ap (board_of cores blocks) (sym (append-nil before))
-absorbs-behind cores blocks before (x ∷ xs) board is =
-    let P : Tables → Type 0 = λ t. Absorbs t xs board in
-    absorbs-behind cores blocks (before ++ x ∷ []) xs board (subst P (absorbed_board cores blocks before x) is) ∙ ap (board_of cores blocks) (append_assoc before (x ∷ []) xs)
-
-pub absorbs_list : (cores blocks : ℕ) (items : List Item) (board : Tables) → Absorbs (board_of cores blocks []) items board → board ≡ board_of cores blocks items
-absorbs_list cores blocks items board is = absorbs-behind cores blocks [] items board is
-
-pub absorbs_equal : (cores blocks : ℕ) (items : List Item) (one two : Tables) → Absorbs (board_of cores blocks []) items one → Absorbs (board_of cores blocks []) items two → one ≡ two
-absorbs_equal cores blocks items one two a b = absorbs_list cores blocks items one a ∙ sym (absorbs_list cores blocks items two b)
 
 -- an item within a shape passes the test
 pub within-passes : (cores blocks : ℕ) (entry : Item) → IsWithin cores blocks entry → is_within cores blocks entry ≡ true

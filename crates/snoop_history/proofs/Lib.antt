@@ -2,3 +2,4 @@ pub mod Pushed
 pub mod Legal
 pub mod Boards
 pub mod Touching
+pub mod Outcomes

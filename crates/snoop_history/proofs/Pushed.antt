@@ -10,7 +10,7 @@ use Rattle.snoop_history.specs.declared.items.Item.{Item}
 use Rattle.snoop_history.specs.declared.items.Item.TheVariants as item
 use Rattle.snoop_history.specs.History.{operation_of, operations, answers_of, next_number, is_store_to, stored_values, last_or, flat}
 use Rattle.snoop_history.specs.Totals.{how_many, totals_of, capped, capped_totals, performed, ordered, responded, is_get_s, is_get_m, is_put_m, is_data, is_no_data, is_no_data_e}
-use Rattle.snoop_history.specs.Journal.{one_if, counted, tallied}
+use Rattle.snoop_history.specs.Journal.{counted, tallied}
 
 pub operations-one : (entry : Item) → operations (entry ∷ []) ≡ option_to_list (operation_of entry)
 operations-one (item.Did did) = refl
@@ -47,6 +47,11 @@ flat-push items entry block =
     ∙ (ap (last_or 0) (map-append (λ did. did.value) (filter (is_store_to block) (operations items)) (filter (is_store_to block) (option_to_list (operation_of entry))))
     ∙ last_or-append 0 (stored_values items block) (stored_in block (operation_of entry))))
 
+-- one where something holds
+abbrev one_if : Bool → ℕ
+one_if true = 1
+one_if false = 0
+
 how_many-one : (test : Item → Bool) (entry : Item) (b : Bool) → test entry ≡ b → how_many test (entry ∷ []) ≡ one_if b
 how_many-one test entry true e = rw e
 how_many-one test entry false e = rw e
@@ -62,16 +67,24 @@ how_many-more : (test : Item → Bool) (items : List Item) (entry : Item) → ho
 how_many-more test items entry =
     ap length (filter-append test items (entry ∷ [])) ∙ (length-append (filter test items) (filter test (entry ∷ [])) ∙ ap (λ n. how_many test items + n) (how_many-one test entry (test entry) refl))
 
+counted-capped : (n : ℕ) (here : Bool) → counted (capped n) here ≡ capped (n + one_if here)
+counted-capped n true = omega arith
+counted-capped n false = omega arith
+
+counted-below : (n : ℕ) (here : Bool) → n + one_if here < 2 ^ 64 → counted n here ≡ n + one_if here
+counted-below n true below = omega arith
+counted-below n false below = omega arith
+
 -- a capped count of a list, and one of a list that is not of the greatest length
 how_many-capped : (test : Item → Bool) (items : List Item) (entry : Item) → counted (capped (how_many test items)) (test entry) ≡ capped (how_many test (items ++ entry ∷ []))
-how_many-capped test items entry = let more = how_many-more test items entry in omega arith
+how_many-capped test items entry = counted-capped (how_many test items) (test entry) ∙ ap capped (sym (how_many-more test items entry))
 
 how_many-push : (test : Item → Bool) (items : List Item) (entry : Item) → length items < 2 ^ 64 - 1 → counted (how_many test items) (test entry) ≡ how_many test (items ++ entry ∷ [])
 how_many-push test items entry few =
     let more = how_many-more test items entry in
     let all : length (items ++ entry ∷ []) ≡ length items + 1 = length-append items (entry ∷ []) in
     let bound_after : how_many test (items ++ entry ∷ []) ≤ length (items ++ entry ∷ []) = length-filter-le test (items ++ entry ∷ []) in
-    omega arith
+    counted-below (how_many test items) (test entry) (omega arith) ∙ sym more
 
 pub totals_of-push : (items : List Item) (entry : Item) → length items < 2 ^ 64 - 1 → tallied (totals_of items) entry ≡ totals_of (items ++ entry ∷ [])
 totals_of-push items entry few =

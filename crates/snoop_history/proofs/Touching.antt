@@ -1,19 +1,21 @@
 -- The blocks that a list mentions, with one item more.
 use Rattle.std.proofs.Common.{◌≡◌, ℕ, Bool, true, false, not, List, [], ◌∷◌, ◌++◌, refl, sym, ◌∙◌, ap, map, filter, take, length, ◌<◌, ◌+◌, get_or, eqb, inl, inr, append-nil, append_assoc}
-use Rattle.std.specs.Prelude.{Option, Some, None, slice_get, suc, nat_lt, ◌==◌, nat_eq, All, if◌then◌else◌}
+use Rattle.std.specs.Prelude.{Option, Some, None, option_to_list, slice_get, suc, nat_lt, ◌==◌, nat_eq, All, if◌then◌else◌}
 use Rattle.std.specs.List.{list_any, flat_map}
+use Rattle.std.specs.Option.{ForSome}
 use Rattle.std.proofs.lemmas.Grind.{flat_map-append}
-use Rattle.snoop_history.specs.History.{flat}
+use Rattle.snoop_history.specs.History.{flat, operation_of}
 use Rattle.snoop_history.specs.Report.{block_text, blocks_text, totals_text, report_of}
 use Rattle.std.proofs.lemmas.Bool.{cases_eq, eq-eqb, ne_eqb, eqb-true, lt-ltb}
-use Rattle.std.proofs.lemmas.List.{map-append, take_more}
-use Rattle.std.proofs.lemmas.List.Elements.{filter-append, All-filter, All-nil, All-cons, All-head, All-tail, All-map, All-weaker}
+use Rattle.std.proofs.lemmas.List.{take_more}
+use Rattle.std.proofs.lemmas.List.Elements.{filter-append, All-filter, All-nil, All-cons, All-head, All-tail, All-append}
 use Rattle.std.proofs.lemmas.Map.Views.{any-filter_same}
 use Rattle.indexmap.specs.IndexSet.{insert_key}
+use Rattle.snoop_history.specs.declared.items.Did.{Did}
 use Rattle.snoop_history.specs.declared.items.Item.{Item}
 use Rattle.snoop_history.specs.declared.items.Item.TheVariants as item
 use Rattle.snoop_history.specs.Within.{block_of, IsWithin}
-use Rattle.snoop_history.specs.Totals.{each_once, touched, totals_of}
+use Rattle.snoop_history.specs.Totals.{each_once, mentioned, touched, totals_of}
 use Rattle.snoop_history.specs.declared.items.Totals.{Totals}
 
 -- the numbers other than y
@@ -56,25 +58,59 @@ each_once-more (y ∷ ys) x =
           ∙ insert-cons x y (but y (each_once ys)) other (list_any (nat_eq x) (but y (each_once ys))) refl)
     ]
 
-pub touched-more : (items : List Item) (entry : Item) → touched (items ++ entry ∷ []) ≡ insert_key nat_eq (touched items) (block_of entry)
-touched-more items entry = ap each_once (map-append block_of items (entry ∷ [])) ∙ each_once-more (map block_of items) (block_of entry)
+-- the keys with the block of an operation, if there is one
+abbrev pub with_operation : List ℕ → Option Did → List ℕ
+with_operation keys None = keys
+with_operation keys (Some did) = insert_key nat_eq keys did.block
+
+-- each_once of a list with an item's blocks behind it
+each_once-blocks : (xs : List ℕ) (block : ℕ) (op : Option Did) →
+    each_once (xs ++ (block ∷ map (λ did. did.block) (option_to_list op))) ≡ with_operation (insert_key nat_eq (each_once xs) block) op
+each_once-blocks xs block None = each_once-more xs block
+each_once-blocks xs block (Some did) =
+    ap each_once (sym (append_assoc xs (block ∷ []) (did.block ∷ [])))
+    ∙ (each_once-more (xs ++ block ∷ []) did.block ∙ ap (λ (l : List ℕ). insert_key nat_eq l did.block) (each_once-more xs block))
+
+pub touched-more : (items : List Item) (entry : Item) → touched (items ++ entry ∷ []) ≡ with_operation (insert_key nat_eq (touched items) (block_of entry)) (operation_of entry)
+touched-more items entry =
+    ap each_once (flat_map-append mentioned items (entry ∷ []) ∙ ap (λ (l : List ℕ). flat_map mentioned items ++ l) (append-nil (mentioned entry)))
+    ∙ each_once-blocks (flat_map mentioned items) (block_of entry) (operation_of entry)
 
 each_once-all : (P : ℕ → Type 0) (xs : List ℕ) → All P xs → All P (each_once xs)
 each_once-all P [] all = All-nil P
 each_once-all P (x ∷ xs) all = All-cons P x (but x (each_once xs)) (All-head P x xs all) (All-filter (λ z. not (z == x)) P (each_once xs) (each_once-all P xs (All-tail P x xs all)))
 
+-- the blocks that an item within a shape mentions are within it
+blocks_within : (cores blocks block : ℕ) (op : Option Did) → block < blocks → ForSome op (λ did. (did.core < cores) × (did.block < blocks)) → All (λ b. b < blocks) (block ∷ map (λ did. did.block) (option_to_list op))
+blocks_within cores blocks block None within lies = All-cons (λ b. b < blocks) block [] within (All-nil (λ b. b < blocks))
+blocks_within cores blocks block (Some did) within lies =
+    All-cons (λ b. b < blocks) block (did.block ∷ []) within (All-cons (λ b. b < blocks) did.block [] (lies did refl).1 (All-nil (λ b. b < blocks)))
+
+mentioned_within : (cores blocks : ℕ) (items : List Item) → All (IsWithin cores blocks) items → All (λ block. block < blocks) (flat_map mentioned items)
+mentioned_within cores blocks [] all = All-nil (λ block. block < blocks)
+mentioned_within cores blocks (x ∷ xs) all =
+    let first = All-head (IsWithin cores blocks) x xs all in
+    All-append (λ block. block < blocks) (mentioned x) (flat_map mentioned xs)
+    (blocks_within cores blocks (block_of x) (operation_of x) first.block first.operation)
+    (mentioned_within cores blocks xs (All-tail (IsWithin cores blocks) x xs all))
+
 -- the touched blocks of a list within a shape are within it
 pub touched_within : (cores blocks : ℕ) (items : List Item) → All (IsWithin cores blocks) items → All (λ block. block < blocks) (touched items)
 touched_within cores blocks items all =
-    each_once-all (λ block. block < blocks) (map block_of items) (All-map (λ block. block < blocks) block_of items (All-weaker (IsWithin cores blocks) (λ entry. block_of entry < blocks) (λ entry within. within.block) items all))
+    each_once-all (λ block. block < blocks) (flat_map mentioned items) (mentioned_within cores blocks items all)
+
+-- what is read past the end of a list
+abbrev some_item : Item
+some_item = item.Did (record { core = 0; number = 0; block = 0; load = false; value = 0; hit = false })
 
 -- a step of the loop over the items
-pub touched_step : (items : List Item) (i : ℕ) (keys keys' : List ℕ) (block : ℕ) (within : i < length items) → keys ≡ touched (take i items) →
-    block ≡ block_of (get_or items i (item.Did (record { core = 0; number = 0; block = 0; load = false; value = 0; hit = false }))) → keys' ≡ insert_key nat_eq keys block → keys' ≡ touched (take (i + 1) items)
-touched_step items i keys keys' block within so_far is inserted =
-    let entry = get_or items i (item.Did (record { core = 0; number = 0; block = 0; load = false; value = 0; hit = false })) in
-    inserted ∙ (ap (λ (l : List ℕ). insert_key nat_eq l block) so_far ∙ (ap (λ (b : ℕ). insert_key nat_eq (touched (take i items)) b) is
-    ∙ (sym (touched-more (take i items) entry) ∙ ap touched (sym (take_more items i _ within)))))
+pub touched_step : (items : List Item) (i : ℕ) (keys keys' : List ℕ) (block : ℕ) (op : Option Did) (within : i < length items) → keys ≡ touched (take i items) →
+    block ≡ block_of (get_or items i some_item) → op ≡ operation_of (get_or items i some_item) → keys' ≡ with_operation (insert_key nat_eq keys block) op → keys' ≡ touched (take (i + 1) items)
+touched_step items i keys keys' block op within so_far is performs inserted =
+    let entry = get_or items i some_item in
+    inserted ∙ (ap (λ (l : List ℕ). with_operation (insert_key nat_eq l block) op) so_far ∙ (ap (λ (b : ℕ). with_operation (insert_key nat_eq (touched (take i items)) b) op) is
+    ∙ (ap (λ (o : Option Did). with_operation (insert_key nat_eq (touched (take i items)) (block_of entry)) o) performs
+    ∙ (sym (touched-more (take i items) entry) ∙ ap touched (sym (take_more items i _ within))))))
 
 -- a step of the loop over the blocks
 pub blocks_step : (items : List Item) (blocks : List ℕ) (i : ℕ) (old before after : List ℕ) (value : ℕ) → i < length blocks → before ≡ old ++ blocks_text items (take i blocks) →

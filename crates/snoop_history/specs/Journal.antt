@@ -1,5 +1,6 @@
--- What callers see of a log, and how it counts on. Source: this project's profile.
-use Rattle.std.specs.Prelude.{ℕ, ◌+◌, Bool, true, false, not, ◌&&◌, is_some, is_none, List}
+-- What callers see of a log, and how it counts on.
+-- Source: this project's profile.
+use Rattle.std.specs.Prelude.{ℕ, ◌+◌, Bool, not, ◌&&◌, is_some, is_none, List, if◌then◌else◌}
 use Rattle.snoop_history.specs.declared.items.Item.{Item}
 use Rattle.snoop_history.specs.declared.items.Totals.{Totals}
 use Rattle.snoop_history.specs.Totals.{capped, performed, ordered, responded, is_get_s, is_get_m, is_put_m, is_data, is_no_data, is_no_data_e}
@@ -11,14 +12,9 @@ pub record Journal : Type 0 where
   pub items : List Item
   pub room : ℕ
 
--- one where something holds
-abbrev pub one_if : Bool → ℕ
-one_if true = 1
-one_if false = 0
-
 -- a counter one up where something is counted; it stops at the largest u64
 abbrev pub counted : ℕ → Bool → ℕ
-counted n here = capped (n + one_if here)
+counted n here = if here then capped (n + 1) else n
 
 -- the counts with one more item
 abbrev pub tallied : Totals → Item → Totals

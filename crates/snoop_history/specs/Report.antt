@@ -1,4 +1,5 @@
--- The report of a list of items. Source: this project's profile.
+-- The report of a list of items.
+-- Source: this project's profile.
 use Rattle.std.specs.Prelude.{ℕ, List, ◌++◌, codes}
 use Rattle.std.specs.Fmt.{decimal}
 use Rattle.std.specs.List.{flat_map}

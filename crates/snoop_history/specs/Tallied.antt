@@ -1,4 +1,5 @@
 -- What a log keeps beside its items.
+-- Source: this project's profile.
 use Rattle.std.specs.Prelude.{◌≡◌, ℕ, ◌<◌, ◌-◌, List, length, take, Some, slice_get, slice_index, vec_len, vec_capacity}
 use Rattle.snoop_history.specs.declared.items.Item.{Item}
 use Rattle.snoop_history.specs.declared.items.Totals.{Totals}

@@ -1,4 +1,5 @@
--- Which core and block an item is of, and which items lie within a shape. Source: this project's profile.
+-- Which core and block an item is of, and which items lie within a shape.
+-- Source: this project's profile.
 use Rattle.std.specs.Prelude.{ℕ, ◌<◌, Bool, true, ◌&&◌, List, filter, nat_lt}
 use Rattle.std.specs.Option.{option_map_or, ForSome}
 use Rattle.snoop_history.specs.declared.items.Item.{Item}
@@ -11,7 +12,7 @@ core_of (item.Did did) = did.core
 core_of (item.Sent sent) = sent.core
 core_of (item.Came came did) = came.core
 
--- the block that an item mentions
+-- the block that an item is of
 abbrev pub block_of : Item → ℕ
 block_of (item.Did did) = did.block
 block_of (item.Sent sent) = sent.block

@@ -1,10 +1,10 @@
-//! What a watcher reads of a history.
+//! The running tables of a history.
 ghost use Rattle.std.specs.Prelude.{◌≡◌, ℕ, List, [], ◌∷◌, ◌++◌, length, Some, None, slice_get, option_and_then, if◌then◌else◌, nat_lt, IfOk};
 ghost use Rattle.snoop_history.specs.declared.items.Item.{Item};
 ghost use Rattle.snoop_history.specs.History.{next_number, flat, last_of};
 ghost use Rattle.snoop_history.specs.Within.{inside};
 ghost use Rattle.snoop_history.specs.Totals.{totals_of, capped, capped_totals};
-ghost use Rattle.snoop_history.specs.Board.{Tables, board_of, absorbed};
+ghost use Rattle.snoop_history.specs.Board.{Tables, board_of};
 
 use crate::items::{Did, Item, Totals};
 use snoop_trace::{NoMemory, Shape};
@@ -51,13 +51,11 @@ impl Board {
 
     /// Takes in one more item, of any kind. It takes no memory and cannot fail.
     pub fn absorb(&mut self, item: Item)
-        ensures after { self.new ≡ absorbed self.old item }
-
         // The board of a list becomes the board of the list with the item behind it.
         ensures board { (cores blocks : ℕ) (items : List Item) → self.old ≡ board_of cores blocks items → self.new ≡ board_of cores blocks (items ++ item ∷ []) }
     {
         let did = item.operation_within(self.counts.len(), self.values.len());
-        self.totals = self.totals.with(item);
+        self.totals.add(item);
         if let Some(did) = did {
             let core = did.core as usize;
             self.counts[core] = self.counts[core].saturating_add(1);

@@ -1,4 +1,9 @@
 //! What happens in a machine, as its history tells it.
+ghost use Rattle.std.specs.Prelude.{◌≡◌};
+ghost use Rattle.snoop_history.specs.History.{operation_of};
+ghost use Rattle.snoop_history.specs.Within.{core_of, block_of, is_within};
+ghost use Rattle.snoop_history.specs.Board.{operation_within};
+
 use snoop_rules::{Payload, Request};
 
 /// A performed operation: the core's operation of this number, counted from 0.
@@ -50,6 +55,60 @@ pub enum Item {
     Came(Came, Option<Did>),
 }
 
+impl Item {
+    /// The operation that the item performed, if any.
+    pub fn did(self) -> Option<Did>
+        ensures { result ≡ operation_of self }
+    {
+        match self {
+            Item::Did(did) => Some(did),
+            Item::Sent(_) => None,
+            Item::Came(_, did) => did,
+        }
+    }
+
+    /// The core that the item is of: it performed, requested or was answered.
+    pub fn core(self) -> u32
+        ensures { result ≡ core_of self }
+    {
+        match self {
+            Item::Did(did) => did.core,
+            Item::Sent(sent) => sent.core,
+            Item::Came(came, _) => came.core,
+        }
+    }
+
+    /// The block that the item is of.
+    pub fn block(self) -> u32
+        ensures { result ≡ block_of self }
+    {
+        match self {
+            Item::Did(did) => did.block,
+            Item::Sent(sent) => sent.block,
+            Item::Came(came, _) => came.block,
+        }
+    }
+
+    /// Whether the item's core and block lie within the shape, and those of its operation.
+    pub(crate) fn is_within(self, cores: usize, blocks: usize) -> bool
+        ensures { result ≡ is_within cores blocks self }
+    {
+        let lies = |core: u32, block: u32| (core as usize) < cores && (block as usize) < blocks;
+        lies(self.core(), self.block()) && self.did().is_none_or(|did| lies(did.core, did.block))
+    }
+
+    /// The operation of an item within the shape.
+    pub(crate) fn operation_within(self, cores: usize, blocks: usize) -> Option<Did>
+        ensures { result ≡ operation_within cores blocks self }
+    {
+        if self.is_within(cores, blocks) {
+            self.did()
+        } else {
+            None
+        }
+    }
+}
+
 /// The counts of a list of items.
 #[derive(Clone, Copy, Debug, PartialEq, Eq, Default)]
 pub struct Totals {
@@ -73,8 +132,8 @@ pub struct Totals {
     pub from_caches: u64,
     /// Responses to PutM that carry the block's data.
     pub writebacks: u64,
-    /// Responses to PutM of a block that was never written: NoDataE.
+    /// Responses with NoDataE: the copy was not written since it came. A machine sends them only for PutM.
     pub clean: u64,
-    /// Responses to PutM from a core that is the owner no more: NoData.
+    /// Responses with NoData: the requestor is the owner no more. A machine sends them only for PutM.
     pub stale: u64,
 }

@@ -2,7 +2,6 @@
 #![tactic(auto)]
 
 mod board;
-mod item;
 mod items;
 pub mod laws;
 mod log;

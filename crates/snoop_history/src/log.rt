@@ -1,5 +1,5 @@
 //! The history of a machine.
-ghost use Rattle.std.specs.Prelude.{All, ◌&&◌, ◌==◌, ◌≡◌, ◌-◌, ◌<◌, ◌↔◌, [], ◌∷◌, ◌++◌, length, take, IsTrue, IfOk, IfSome, OnOk, OnErr, Some, None, slice_get, if◌then◌else◌, nat_lt};
+ghost use Rattle.std.specs.Prelude.{All, ◌&&◌, ◌==◌, ◌≡◌, ◌-◌, ◌<◌, ◌≤◌, ◌↔◌, [], ◌∷◌, ◌++◌, length, take, IsTrue, IfOk, IfSome, OnOk, OnErr, Some, None, slice_get, if◌then◌else◌, nat_lt};
 ghost use Rattle.snoop_history.specs.History.{next_number, flat, answers_of, IsNumbered};
 ghost use Rattle.snoop_history.specs.Within.{IsWithin};
 ghost use Rattle.snoop_history.specs.Totals.{totals_of};
@@ -52,6 +52,7 @@ impl Log {
         ensures same { self.new ≡ record self.old { room = self.new.room } }
         ensures refused { OnErr result (self.new ≡ self.old) }
         ensures full { OnErr result (self.old.room ≡ 0) }
+        ensures room { self.old.room ≤ self.new.room }
     {
         self.items.reserve(1)?;
         Ok(())
@@ -118,7 +119,8 @@ impl Log {
         self.totals
     }
 
-    /// The operations of one core, in order: none for a core outside the shape.
+    /// The operations of one core, in order: none for a core outside the shape. `NoMemory` where the list
+    /// was refused; the log stays as it was.
     pub fn answers(&self, core: u32) -> Result<Vec<Did>, NoMemory>
         ensures { IfOk result (λ dids. dids.items ≡ answers_of self.now.items core) }
     {
@@ -131,7 +133,7 @@ impl Log {
         Ok(dids)
     }
 
-    /// An equal log.
+    /// An equal log. `NoMemory` where a list or a table was refused; this log stays as it was.
     pub fn copy(&self) -> Result<Log, NoMemory>
         ensures { IfOk result (λ log. log ≡ record self.now { room = log.room }) }
     {
@@ -174,7 +176,7 @@ impl Log {
         requires numbered { IsNumbered self.old.items item }
         ensures { self.new ≡ record self.old { items = self.old.items ++ item ∷ []; room = self.old.room - 1 } }
     {
-        self.totals = self.totals.with(item);
+        self.totals.add(item);
         if let Some(did) = item.did() {
             self.counts[did.core as usize] += 1;
             if !did.load {

@@ -8,27 +8,26 @@ ghost use Rattle.snoop_history.specs.Report.{loads_text, stores_text, requests_t
 use crate::items::{Item, Totals};
 use crate::log::Log;
 use indexmap::IndexSet;
-use snoop_trace::{Sink, WriteFault, write_whole};
-use std::alloc::{AllocError, Global};
-use std::io;
+use snoop_trace::{NoMemory, Sink, WriteFault, write_whole};
+use std::alloc::Global;
 use std::io::Write;
 
 // Puts the line of loads at the end.
-fn push_loads(out: &mut Vec<u8>, totals: Totals) -> io::Result<()>
+fn push_loads(out: &mut Vec<u8>, totals: Totals) -> Result<(), NoMemory>
     ensures { OnOk result (out.new.items ≡ out.old.items ++ loads_text totals) }
 {
-    writeln!(out, "loads {} hits {}", totals.loads, totals.load_hits)
+    writeln!(out, "loads {} hits {}", totals.loads, totals.load_hits).map_err(|_| NoMemory)
 }
 
 // Puts the line of stores at the end.
-fn push_stores(out: &mut Vec<u8>, totals: Totals) -> io::Result<()>
+fn push_stores(out: &mut Vec<u8>, totals: Totals) -> Result<(), NoMemory>
     ensures { OnOk result (out.new.items ≡ out.old.items ++ stores_text totals) }
 {
-    writeln!(out, "stores {} hits {}", totals.stores, totals.store_hits)
+    writeln!(out, "stores {} hits {}", totals.stores, totals.store_hits).map_err(|_| NoMemory)
 }
 
 // Puts the line of ordered requests at the end.
-fn push_requests(out: &mut Vec<u8>, totals: Totals) -> io::Result<()>
+fn push_requests(out: &mut Vec<u8>, totals: Totals) -> Result<(), NoMemory>
     ensures { OnOk result (out.new.items ≡ out.old.items ++ requests_text totals) }
 {
     writeln!(
@@ -36,10 +35,11 @@ fn push_requests(out: &mut Vec<u8>, totals: Totals) -> io::Result<()>
         "GetS {} GetM {} PutM {}",
         totals.get_s, totals.get_m, totals.put_m
     )
+    .map_err(|_| NoMemory)
 }
 
 // Puts the line of where data came from at the end.
-fn push_sources(out: &mut Vec<u8>, totals: Totals) -> io::Result<()>
+fn push_sources(out: &mut Vec<u8>, totals: Totals) -> Result<(), NoMemory>
     ensures { OnOk result (out.new.items ≡ out.old.items ++ sources_text totals) }
 {
     writeln!(
@@ -47,10 +47,11 @@ fn push_sources(out: &mut Vec<u8>, totals: Totals) -> io::Result<()>
         "from memory {} from caches {}",
         totals.from_memory, totals.from_caches
     )
+    .map_err(|_| NoMemory)
 }
 
 // Puts the line of writebacks at the end.
-fn push_writebacks(out: &mut Vec<u8>, totals: Totals) -> io::Result<()>
+fn push_writebacks(out: &mut Vec<u8>, totals: Totals) -> Result<(), NoMemory>
     ensures { OnOk result (out.new.items ≡ out.old.items ++ writebacks_text totals) }
 {
     writeln!(
@@ -58,10 +59,11 @@ fn push_writebacks(out: &mut Vec<u8>, totals: Totals) -> io::Result<()>
         "writebacks {} clean {} stale {}",
         totals.writebacks, totals.clean, totals.stale
     )
+    .map_err(|_| NoMemory)
 }
 
 // Puts the five lines of totals at the end.
-fn push_totals(out: &mut Vec<u8>, totals: Totals) -> io::Result<()>
+fn push_totals(out: &mut Vec<u8>, totals: Totals) -> Result<(), NoMemory>
     ensures { OnOk result (out.new.items ≡ out.old.items ++ totals_text totals) }
 {
     push_loads(out, totals)?;
@@ -72,25 +74,28 @@ fn push_totals(out: &mut Vec<u8>, totals: Totals) -> io::Result<()>
 }
 
 // Puts the line of a block at the end.
-fn push_block(out: &mut Vec<u8>, block: u32, value: u64) -> io::Result<()>
+fn push_block(out: &mut Vec<u8>, block: u32, value: u64) -> Result<(), NoMemory>
     ensures { OnOk result (out.new.items ≡ out.old.items ++ block_text block value) }
 {
-    writeln!(out, "block {block} value {value}")
+    writeln!(out, "block {block} value {value}").map_err(|_| NoMemory)
 }
 
 // The blocks that an item mentions, in order of first mention.
-fn touched(alloc: Global, items: &[Item]) -> Result<IndexSet<u32>, AllocError>
+fn touched(alloc: Global, items: &[Item]) -> Result<IndexSet<u32>, NoMemory>
     ensures { IfOk result (λ blocks. blocks.keys ≡ touched items.now) }
 {
     let mut blocks = IndexSet::new(alloc);
     for item in items {
-        blocks.insert(item.block())?;
+        blocks.insert(item.block()).map_err(|_| NoMemory)?;
+        if let Some(did) = item.did() {
+            blocks.insert(did.block).map_err(|_| NoMemory)?;
+        }
     }
     Ok(blocks)
 }
 
 // Puts a line for each of the blocks at the end.
-fn push_blocks(out: &mut Vec<u8>, log: &Log, blocks: &[u32]) -> io::Result<()>
+fn push_blocks(out: &mut Vec<u8>, log: &Log, blocks: &[u32]) -> Result<(), NoMemory>
     requires { All (λ block. block < log.now.blocks) blocks.now }
     ensures { OnOk result (out.new.items ≡ out.old.items ++ blocks_text log.now.items blocks.now) }
 {
@@ -101,7 +106,7 @@ fn push_blocks(out: &mut Vec<u8>, log: &Log, blocks: &[u32]) -> io::Result<()>
 }
 
 // Puts the report at the end, given the blocks that an item mentions.
-fn push_report(out: &mut Vec<u8>, log: &Log, blocks: &[u32]) -> io::Result<()>
+fn push_report(out: &mut Vec<u8>, log: &Log, blocks: &[u32]) -> Result<(), NoMemory>
     requires touched { blocks.now ≡ touched log.now.items }
     requires within { All (λ block. block < log.now.blocks) blocks.now }
     ensures { OnOk result (out.new.items ≡ out.old.items ++ report_of log.now.items) }
@@ -122,15 +127,10 @@ pub fn write_report<W: Sink>(alloc: Global, writer: &mut W, log: &Log) -> Result
     // Want of memory is met before anything is written.
     ensures memory { result ≡ Err WriteFault.NoMemory → W.contents writer.new ≡ W.contents writer.old }
 
-    // A writer whose contract rules failure out is never blamed.
-    ensures blames { W.never_fails ≡ true → result ≢ Err WriteFault.Write }
+    ensures never_blamed { W.never_fails ≡ true → result ≢ Err WriteFault.Write }
 {
-    let Ok(blocks) = touched(alloc, log.items()) else {
-        return Err(WriteFault::NoMemory);
-    };
+    let blocks = touched(alloc, log.items())?;
     let mut report = Vec::new(alloc);
-    let Ok(()) = push_report(&mut report, log, blocks.as_slice()) else {
-        return Err(WriteFault::NoMemory);
-    };
+    push_report(&mut report, log, blocks.as_slice())?;
     write_whole(writer, &report)
 }

@@ -1,6 +1,6 @@
 use crate::{Board, Came, Did, Item, Log, Sent, Totals, write_report};
 use snoop_rules::{Payload, Request};
-use snoop_trace::{NoMemory, Plain, Shape, WriteFault};
+use snoop_trace::{AnyWriter, NoMemory, Shape, WriteFault};
 use std::alloc::Global;
 use std::io;
 use std::io::{ErrorKind, Write};
@@ -200,7 +200,7 @@ fn an_item_outside_the_shape_is_only_counted(rt: HostRuntime) -> Result<(), Fail
     Ok(())
 }
 
-// The responses to writebacks, and what a response from a cache counts.
+// Each response to a writeback counts by its payload, and none as one from memory or a cache.
 #[test]
 fn counts_writebacks(rt: HostRuntime) -> Result<(), Fail> {
     let shape = Shape::new(2, 4, 64)?;
@@ -275,6 +275,16 @@ block 3 value 18446744073709551615
 block 0 value 0
 ";
 
+const OF_ANOTHER_BLOCK: &str = "\
+loads 0 hits 0
+stores 1 hits 0
+GetS 0 GetM 0 PutM 0
+from memory 1 from caches 0
+writebacks 0 clean 0 stale 0
+block 0 value 0
+block 1 value 7
+";
+
 #[test]
 fn reports(rt: HostRuntime) -> Result<(), Fail> {
     let shape = Shape::new(2, 4, 64)?;
@@ -289,11 +299,22 @@ fn reports(rt: HostRuntime) -> Result<(), Fail> {
         })
     };
     let hits = [hit(1, 3, false, u64::MAX), hit(0, 0, true, 0)];
+    let operation_of_another_block = [Item::Came(
+        Came {
+            core: 0,
+            request: Request::GetM,
+            block: 0,
+            from: None,
+            payload: Payload::Data,
+        },
+        Some(did(0, 0, 1, false, 7)),
+    )];
     for (items, text) in [
         ([].as_slice(), EMPTY),
         (block_boundary().as_slice(), BLOCK_BOUNDARY),
         (two_blocks_open().as_slice(), TWO_BLOCKS_OPEN),
         (hits.as_slice(), LATER_BLOCK_FIRST),
+        (operation_of_another_block.as_slice(), OF_ANOTHER_BLOCK),
     ] {
         let log = log_of(rt.alloc(), shape, items)?;
         let mut out = Vec::new(rt.alloc());
@@ -330,7 +351,7 @@ impl Write for Brief {
 fn failing_writer(rt: HostRuntime) -> Result<(), Fail> {
     let shape = Shape::new(2, 4, 64)?;
     let log = log_of(rt.alloc(), shape, block_boundary().as_slice())?;
-    let mut writer = Plain(Brief {
+    let mut writer = AnyWriter(Brief {
         held: Vec::new(rt.alloc()),
         left: 12,
     });

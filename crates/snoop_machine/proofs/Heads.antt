@@ -15,7 +15,7 @@ use Rattle.snoop_bus.specs.Traffic.{Traffic, waiting_of, head_of}
 use Rattle.snoop_bus.specs.Queues.{queue_of}
 use Rattle.snoop_machine.specs.declared.lines.Line.{Line}
 use Rattle.snoop_machine.specs.Sound.{IsSound, line_at}
-use Rattle.snoop_machine.specs.Standing.{queues_of}
+use Rattle.snoop_machine.specs.PartsView.{queues_of}
 use Rattle.snoop_rules.specs.declared.names.Protocol.{Protocol}
 use Rattle.snoop_bus.specs.declared.transactions.Open.{Open}
 use Rattle.snoop_history.specs.declared.items.Item.{Item}

@@ -50,8 +50,11 @@ pub mod OnceRuns
 pub mod QueueCounts
 pub mod QueueSteps
 pub mod StepLaws
+pub mod Capacity
+pub mod Ample
 pub mod Rowed
+pub mod Safety
 pub mod Running
 pub mod Onward
 pub mod OnlyOne
-pub mod RowViews
+pub mod BlockLinesViews

@@ -70,11 +70,6 @@ own_row p n flat before c q l d e = subst (λ (x : ℕ). row_at p (held_by befor
 abbrev pub meant : Request → ℕ → Option ℕ → Option ℕ
 meant q c owner = cond (is_put q) (Some c) owner
 
-not_both : (a b : Bool) → (a && not b) ≡ true → b ≡ true → ⊥
-not_both true true e f = cc
-not_both true false e f = cc
-not_both false b e f = cc
-
 only : (p : Protocol) (n : ℕ) (flat : ℕ) (before : Picture) (c : ℕ) (q : Request) (l : Looked p n flat before c q) → Roles p n flat before c q l → (another : Option ℕ) (sent : Payload) → Sends p n before c q another sent → another ≡ meant q c l.good.owner
 only p n flat before c q l roles None sent sends =
     let e : is_some (sent_by_memory (Some l.mc)) ≡ true = some_true (sent_by_memory (Some l.mc)) sent (ap sent_by_memory (sym l.is_mc) ∙ sends) in

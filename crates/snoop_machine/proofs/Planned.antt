@@ -29,7 +29,7 @@ use Rattle.snoop_machine.specs.declared.plan.Plan.TheVariants as plan
 use Rattle.snoop_machine.specs.declared.replies.Reply.{Reply}
 use Rattle.snoop_machine.specs.declared.replies.Refused.{Refused}
 use Rattle.snoop_machine.specs.declared.replies.Refused.TheVariants.{NoCore, NoBlock, Stalled, NothingWaiting, BusTaken, NoTransaction, NoMemory}
-use Rattle.snoop_machine.specs.Room.{Standing}
+use Rattle.snoop_machine.specs.Standing.{Standing}
 use Rattle.snoop_machine.specs.Picture.{held_at}
 use Rattle.snoop_machine.specs.Situation.{Situation, picture_of, state_of, Waits}
 use Rattle.snoop_machine.specs.Sound.{line_at}
@@ -209,16 +209,6 @@ plan-adds s (plan.Fill block closing memory filled) h answer new added m =
     let did = fills-adds closing s.protocol s.log (picture_of s block).caches responds.next.caches m.1.1.1.0 filled (subst R on fills) h.3 in
     m.1.1.1.1.3 ∙ (ap (λ (o : Open). let r : Option Item = Some (item.Came (came_of o) m.1.1.1.0) in r) same
     ∙ ap (λ (d : Option Did). let r : Option Item = Some (item.Came (came_of closing) d) in r) did)
-
--- where the plan has no room the step has none
-pub plan-full : (before : Standing) (x : Plan) → IsPlan before.situation x → room_for before x ≡ 0 → IsFull before (step_of x)
-plan-full before (plan.Ask core block asking Absent) h none = cc
-plan-full before (plan.Ask core block asking (Hit line value)) h none = (action.Hit, (h.1.next, (h.1.row, none)))
-plan-full before (plan.Ask core block asking (Issue request line)) h none = (action.Issue request, (h.1.0, (h.1.1.0, none)))
-plan-full before (plan.Ask core block asking (Drop line)) h none = cc
-plan-full before (plan.Order core request block message memory) h none = none
-plan-full before (plan.Writeback block closing memory) h none = none
-plan-full before (plan.Fill block closing memory filled) h none = none
 
 -- where the plan has room the step has it
 pub plan-room : (before : Standing) (x : Plan) → IsPlan before.situation x → 0 < room_for before x → ¬ IsFull before (step_of x)

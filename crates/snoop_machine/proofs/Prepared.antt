@@ -6,13 +6,13 @@ use Rattle.snoop_trace.specs.declared.step.Step.{Step}
 use Rattle.snoop_trace.specs.declared.step.Step.TheVariants.{Ask, Order, Respond}
 use Rattle.snoop_history.specs.declared.items.Item.{Item}
 use Rattle.snoop_machine.specs.declared.replies.Reply.{Reply}
-use Rattle.snoop_machine.specs.Room.{Standing}
+use Rattle.snoop_machine.specs.Standing.{Standing}
 use Rattle.snoop_machine.specs.Situation.{Situation}
 use Rattle.snoop_machine.specs.Move.{FirstMove}
 use Rattle.snoop_machine.specs.Prepared.{IsPrepared}
 
 -- a move adds its item to the log
-move-log : (old new : Situation) (step : Step) (answer : Reply) (added : Option Item) → FirstMove old step answer new added → new.log ≡ old.log ++ option_to_list added
+pub move-log : (old new : Situation) (step : Step) (answer : Reply) (added : Option Item) → FirstMove old step answer new added → new.log ≡ old.log ++ option_to_list added
 move-log old new (Ask core block asking) answer added m = elim m.1.1.2 [
   | inl absent ↦ ap (λ (s : Situation). s.log) absent.3 ∙ (sym (append-nil old.log) ∙ ap (λ (e : Option Item). old.log ++ option_to_list e) (sym absent.4))
   | inr asks ↦ ap (λ (s : Situation). s.log) asks.after

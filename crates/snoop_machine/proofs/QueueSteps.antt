@@ -30,16 +30,11 @@ use Rattle.snoop_machine.specs.Move.{Takes, Fills, ArrivesFor, Asks, Orders, Res
 use Rattle.snoop_machine.specs.Run.{Goes, RunFrom}
 use Rattle.snoop_machine.specs.Once.{one_if}
 use Rattle.snoop_machine.proofs.Facts.{issue-waits, hit-waits, drop-waits, own-waits, other-waits, fill-waits}
-use Rattle.snoop_machine.specs.InQueue.{IsInQueue}
+use Rattle.snoop_machine.specs.InQueue.{IsInQueue, AreQueued}
 use Rattle.snoop_machine.specs.Coherent.{IsCoherent}
 use Rattle.snoop_machine.proofs.After.{ask_line, ask_other_core, ask_other_block, order_here, order_other_block, respond_here, respond_other_block}
 use Rattle.snoop_machine.proofs.QueueCounts.{times, times_push, times_without, either_way}
 use Rattle.snoop_machine.proofs.Reached.{goes_keeps, refusal_same, reset_line}
-
--- a queue for each core, and each has the blocks on which its core waits
-pub record AreQueued (s : Situation) : Type 0 where
-  pub many : length s.queues ≡ s.shape.cores
-  pub each : (core block : ℕ) → IsInQueue s core block
 
 abbrev waits : CacheState → ℕ
 waits s = one_if (is_some (waiting_request s))

@@ -11,7 +11,7 @@ use Rattle.snoop_bus.specs.Traffic.{Traffic, Waiting, no_queue, waiting_of}
 use Rattle.snoop_bus.specs.Queues.{queue_of, after_issue}
 use Rattle.snoop_machine.specs.declared.lines.Line.{Line}
 use Rattle.snoop_machine.specs.Sound.{IsSound, IsEachOnce}
-use Rattle.snoop_machine.specs.Standing.{queues_of}
+use Rattle.snoop_machine.specs.PartsView.{queues_of}
 
 abbrev pub blocks_of : List (Request × ℕ) → List ℕ
 blocks_of requests = map (λ (r : Request × ℕ). r.1) requests

@@ -12,7 +12,7 @@ use Rattle.snoop_bus.specs.Traffic.{Traffic, Waiting, no_queue, waiting_of, tran
 use Rattle.snoop_machine.specs.declared.lines.Line.{Line}
 use Rattle.snoop_machine.specs.Picture.{held_at, nothing_held}
 use Rattle.snoop_machine.specs.Sound.{IsSound, IsProper, IsEachOnce, line_at}
-use Rattle.snoop_machine.specs.Standing.{queues_of}
+use Rattle.snoop_machine.specs.PartsView.{queues_of}
 
 replicated : {X : Type 0} (n i : ℕ) (x : X) → get_or (replicate n x) i x ≡ x
 replicated n i x = elim (cases_lt i n) [

@@ -64,13 +64,6 @@ pub after_rule : (k : AfterTest) → responds (after_case k) ≡ true → (p : P
 after_rule k h p m q pl st m2 st2 is_claims is_m2 is_st2 =
     given_at _ _ st2 is_st2 (given_at _ _ m2 is_m2 (respond_rule (after_case k) h p m q pl st is_claims))
 
-abbrev pub has_after : RespondTest
-has_after p m q pl st = is_some (after_respond p m pl)
-
-pub has_after_holds : responds has_after ≡ true
-unfolding responds respond_case all_protocols all_memories all_states all_requests all_payloads all_asks all_waits either given when claims_of fits is_owner is_sharer is_clean is_reader wait_fits in_protocol same row_at mem_row_at
-has_after_holds = refl
-
 abbrev pub has_line_after : RespondTest
 has_line_after p m q pl st = given (after_respond p m pl) (λ m2. is_some (claims_of p m2 None))
 

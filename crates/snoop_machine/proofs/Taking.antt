@@ -1,5 +1,5 @@
 -- The loop in which each core takes its row.
-use Rattle.std.proofs.Common.{◌≡◌, ℕ, ◌+◌, ◌<◌, ◌≤◌, List, [], length, refl, sym, ◌∙◌, ap, subst, arith, inl, inr, ◌⊎◌}
+use Rattle.std.proofs.Common.{◌≡◌, ℕ, ◌+◌, ◌<◌, ◌≤◌, List, [], length, sym, ◌∙◌, ap, subst, arith, inl, inr, ◌⊎◌}
 use Rattle.std.specs.Prelude.{slice_index_or, slice_set}
 use Rattle.std.proofs.lemmas.Bool.{cases_eq, cases_lt}
 use Rattle.std.proofs.lemmas.List.{length-set, get_or-set_same, get_or-set_other}
@@ -23,10 +23,6 @@ pub record Taking (protocol : Protocol) (requestor : ℕ) (request : Request) (o
   pub same_length : length new ≡ length old
   pub taken : (k : ℕ) → k < n → TakesRow protocol (seen_by k requestor request) (held_at old k) (held_at new k)
   pub left : (k : ℕ) → n ≤ k → held_at new k ≡ held_at old k
-
-pub Taking-none : (protocol : Protocol) (requestor : ℕ) (request : Request) (old : List Line) → Taking protocol requestor request old old 0
-Taking-none protocol requestor request old =
-    record { same_length = refl; taken = λ k h. absurd (omega arith); left = λ k h. refl }
 
 pub Taking-more : (protocol : Protocol) (requestor : ℕ) (request : Request) (old new after : List Line) (n : ℕ) (act : CacheAction) (next : CacheState)
     → n < length old → Taking protocol requestor request old new n

@@ -158,9 +158,6 @@ serves_on s t before after (Respond on) answer entry serving move extends its =
           (λ o is. let clash : ◌≡◌ {A = Option Open} None (Some o) = sym responds.closed ∙ is in cc);
     })
 
-pub serving_more : (s : Situation) (before after : ℕ → Option ℕ) → IsServing before s → ((core block : ℕ) → before core ≡ Some block → after core ≡ Some block) → IsServing after s
-serving_more s before after serving extends = record { waits = still_waits s before after serving extends; opened = still_opened s before after serving extends }
-
 pub ends : Ends
 ends s before after core block asking serving kept works none others =
     let left = none_left (waiting_request (state_of s core block)) (picture_of s block).transaction core block none in

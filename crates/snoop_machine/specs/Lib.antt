@@ -7,14 +7,14 @@ pub mod Meets
 pub mod Message
 pub mod Asked
 pub mod Sound
-pub mod Room
+pub mod Standing
 pub mod Arrive
 pub mod AskMove
 pub mod StepMove
 pub mod Plan
 pub mod Prepared
 pub mod OrderMove
-pub mod Standing
+pub mod PartsView
 pub mod OneWriter
 pub mod Run
 pub mod Once
@@ -28,6 +28,7 @@ pub mod Fits
 pub mod Good
 pub mod Coherent
 pub mod InQueue
-pub mod Parts
+pub mod Safe
+pub mod MachineView
 pub mod Runs
-pub mod Row
+pub mod BlockLines

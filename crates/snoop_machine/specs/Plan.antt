@@ -16,7 +16,7 @@ use Rattle.snoop_machine.specs.declared.memory.MemLine.{MemLine}
 use Rattle.snoop_machine.specs.declared.message.Message.{Message}
 use Rattle.snoop_machine.specs.declared.plan.Plan.{Plan}
 use Rattle.snoop_machine.specs.declared.plan.Plan.TheVariants.{Ask, Order, Writeback, Fill}
-use Rattle.snoop_machine.specs.Room.{Standing}
+use Rattle.snoop_machine.specs.Standing.{Standing}
 use Rattle.snoop_machine.specs.Situation.{Situation, picture_of, no_memory}
 use Rattle.snoop_machine.specs.Sound.{IsProper, line_at}
 use Rattle.snoop_machine.specs.Move.{IsWithin, came_of, next_did}

@@ -11,7 +11,7 @@ use Rattle.snoop_rules.specs.Takers.{asked}
 use Rattle.snoop_history.specs.declared.items.Item.{Item}
 use Rattle.snoop_machine.specs.declared.replies.Reply.{Reply}
 use Rattle.snoop_machine.specs.declared.replies.Refused.{Refused}
-use Rattle.snoop_machine.specs.Room.{Standing}
+use Rattle.snoop_machine.specs.Standing.{Standing}
 use Rattle.snoop_machine.specs.Situation.{Situation, state_of}
 use Rattle.snoop_machine.specs.Move.{FirstMove}
 use Rattle.snoop_machine.specs.Refuses.{Refuses}

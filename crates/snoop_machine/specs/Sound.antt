@@ -57,7 +57,7 @@ pub record IsProper (line : Line) : Type 0 where
 abbrev pub line_at : List (List Line) → ℕ → ℕ → Line
 line_at caches core block = held_at (slice_index_or caches block []) core
 
--- no number stands twice
+-- no block stands twice
 abbrev pub IsEachOnce : List (Request × ℕ) → Type 0
 IsEachOnce requests = (j k : ℕ) (d : Request × ℕ) → j < k → k < length requests → (slice_index_or requests j d).1 ≢ (slice_index_or requests k d).1
 

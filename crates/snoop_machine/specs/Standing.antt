@@ -1,36 +1,20 @@
--- What is seen of a machine's parts, and what holds between them.
+-- What callers see of a machine.
 -- Source: this project's profile.
-use Rattle.std.specs.Prelude.{◌≡◌, ◌<◌, ℕ, length, List, map}
-use Rattle.snoop_bus.specs.Traffic.{Waiting}
-use Rattle.snoop_machine.specs.declared.parts.Parts.TheInside.{Inside}
-use Rattle.snoop_machine.specs.Sound.{IsSound}
-use Rattle.snoop_machine.specs.Room.{Standing}
+use Rattle.std.specs.Prelude.{◌≤◌, ℕ, ◌+◌, List, length, slice_index}
+use Rattle.snoop_bus.specs.Queues.{queue_of}
+use Rattle.snoop_machine.specs.Situation.{Situation}
 
--- the queues that the bus shows
-abbrev pub queues_of : List Waiting → List (List ℕ)
-queues_of queues = map (λ queue. map (λ r. r.1) queue.requests) queues
+-- the situation, for how many more requests of each core there is room, and for how many more items
+pub record Standing : Type 0 where
+  pub situation : Situation
+  pub rooms : List ℕ
+  pub room : ℕ
 
--- the view of the parts
-abbrev pub standing : Inside → Standing
-standing m =
-    record {
-      situation = record {
-        protocol = m.protocol;
-        shape = m.shape;
-        caches = m.lines;
-        memory = m.memory.items;
-        transactions = m.bus.transactions;
-        queues = queues_of m.bus.queues;
-        log = m.log.items;
-      };
-      rooms = map (λ queue. queue.room) m.bus.queues;
-      room = m.log.room;
-    }
+-- how many requests of the core find room in all, those that wait included
+abbrev pub capacity_of : Standing → ℕ → ℕ
+capacity_of s core = length (queue_of s.situation.queues core) + slice_index s.rooms core
 
--- what the parts of every machine keep
-pub record IsWhole (m : Inside) : Type 0 where
-  pub few : m.shape.cores < 257
-  pub sound : IsSound m.shape m.lines m.bus
-  pub memory : length m.memory.items ≡ m.shape.blocks
-  pub cores : m.log.cores ≡ m.shape.cores
-  pub blocks : m.log.blocks ≡ m.shape.blocks
+-- no room is lost: as many items in all, and as many requests of each core
+pub record KeepsRoom (old new : Standing) : Type 0 where
+  pub items : length old.situation.log + old.room ≤ length new.situation.log + new.room
+  pub requests : (core : ℕ) → capacity_of old core ≤ capacity_of new core

@@ -60,6 +60,7 @@ Pays =
     (s t : Situation) (step : Step) (answer : Reply) (entry : Option Item)
     → FirstMove s step answer t entry → 1 + owed t ≤ paid step + owed s
 
+-- what holds of every turn that follows the turn rule
 pub record TurnRule : Type 0 where
   pub starts_well : StartsWell
   pub keeps_well : KeepsWell

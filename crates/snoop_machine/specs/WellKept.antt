@@ -45,6 +45,7 @@ pub record IsShaped (s : Situation) : Type 0 where
   pub queues : length s.queues ≡ s.shape.cores
   pub transactions : length s.transactions ≡ s.shape.blocks
 
+-- lists are as long as the shape says, and queues, open transactions and waiting operations are as the states of the lines say
 pub record IsWellKept (s : Situation) : Type 0 where
   pub shaped : IsShaped s
   -- a core's queue has exactly the blocks on which it waits

@@ -2,8 +2,11 @@ ghost use Rattle.std.specs.Prelude.{◌≡◌, ℕ, Option, Some, None};
 ghost use Rattle.snoop_trace.specs.declared.step.Step.{Step};
 ghost use Rattle.snoop_rules.specs.declared.names.Request.{Request};
 ghost use Rattle.snoop_history.specs.History.{Legal};
+ghost use Rattle.snoop_machine.specs.Picture.{held_by};
+ghost use Rattle.snoop_machine.specs.Sound.{IsProper};
 ghost use Rattle.snoop_machine.specs.Situation.{picture_of, Waits};
 ghost use Rattle.snoop_machine.specs.Run.{EveryRun, RunsAreOne, RunsGoOn};
+ghost use Rattle.snoop_machine.specs.Runs.{RoomIsEnough};
 ghost use Rattle.snoop_machine.specs.OneWriter.{OneWriter};
 ghost use Rattle.snoop_machine.specs.Once.{Once};
 ghost use Rattle.snoop_machine.specs.Meets.{Meets, FindsRows};
@@ -14,7 +17,8 @@ ghost use Rattle.snoop_machine.specs.InQueue.{IsInQueue};
 ///
 /// Each block has one writer alone, or only readers; the log is legal; each load and store that was asked stands once in it,
 /// or waits; no step meets an impossible cell; a waiting request of any free block would find all its rows and exactly one
-/// sender, and be a line of the table of senders; and each core's queue has the blocks on which it waits, each once.
+/// sender, and be a line of the table of senders; a core keeps a value of a block exactly where its state may read, and an
+/// operation waits exactly where one has missed; and each core's queue has the blocks on which it waits, each once.
 ///
 /// Source: chapters 2 and 7 of "A Primer on Memory Consistency and Cache Coherence", 2nd edition.
 pub fn coherent()
@@ -24,6 +28,7 @@ pub fn coherent()
     ensures possible { EveryRun (λ protocol steps outcomes s. (step : Step) → ¬ Meets s step) }
     ensures any_order { EveryRun (λ protocol steps outcomes s. (core block : ℕ) (request : Request) → Waits s core block request → (picture_of s block).transaction ≡ None → FindsRows protocol (picture_of s block) core request) }
     ensures lines { EveryRun (λ protocol steps outcomes s. (core block : ℕ) (request : Request) → Waits s core block request → (picture_of s block).transaction ≡ None → IsLed protocol (picture_of s block) core request) }
+    ensures proper { EveryRun (λ protocol steps outcomes s. (core block : ℕ) → IsProper (held_by (picture_of s block) core)) }
     ensures queued { EveryRun (λ protocol steps outcomes s. (core block : ℕ) → IsInQueue s core block) }
 {}
 
@@ -38,4 +43,12 @@ pub fn runs_go_on()
 /// outcomes and lead to one situation.
 pub fn runs_are_one()
     ensures { RunsAreOne }
+{}
+
+/// A machine that has room for all of its steps takes each that is not refused for a cause: `run_steps` then leads where the
+/// one run of the steps leads.
+///
+/// So no step is left out or put off as wanting memory where there was room.
+pub fn room_is_enough()
+    ensures { RoomIsEnough }
 {}

@@ -2,6 +2,7 @@
 #![tactic(auto)]
 
 mod ask;
+mod block_lines;
 pub mod laws;
 mod lines;
 mod machine;
@@ -12,7 +13,6 @@ mod parts;
 mod plan;
 mod replies;
 mod respond;
-mod row;
 #[cfg(test)]
 mod tests;
 mod turn;

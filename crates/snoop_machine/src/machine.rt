@@ -1,7 +1,6 @@
 ghost use Rattle.std.specs.Prelude.{◌≡◌, ◌<◌, ◌↔◌, ◌++◌, ℕ, [], ◌∷◌, length, Option, is_some, IsTrue, IsOk, IfOk, IfErr, IfSome, Ok, Err, Some, option_to_list};
 ghost use Rattle.snoop_trace.specs.declared.step.Step.{Step};
 ghost use Rattle.snoop_bus.specs.Queues.{queue_of};
-ghost use Rattle.snoop_history.specs.History.{Legal};
 ghost use Rattle.snoop_history.specs.declared.items.Item.{Item};
 ghost use Rattle.snoop_machine.specs.declared.replies.Refused.{Refused};
 ghost use Rattle.snoop_machine.specs.declared.replies.Refused.TheVariants.{NoMemory as WantOfMemory};
@@ -11,10 +10,9 @@ ghost use Rattle.snoop_machine.specs.Sound.{keeps};
 ghost use Rattle.snoop_machine.specs.Move.{FirstMove};
 ghost use Rattle.snoop_machine.specs.Refuses.{Refuses};
 ghost use Rattle.snoop_machine.specs.StepMove.{RefusedFor};
+ghost use Rattle.snoop_machine.specs.Standing.{KeepsRoom};
 ghost use Rattle.snoop_machine.specs.Prepared.{IsFull, IsPrepared};
-ghost use Rattle.snoop_machine.specs.Meets.{Meets};
-ghost use Rattle.snoop_machine.specs.Led.{OrdersAreLed};
-ghost use Rattle.snoop_machine.specs.OneWriter.{OneWriter};
+ghost use Rattle.snoop_machine.specs.Safe.{IsSafe};
 ghost use Rattle.snoop_machine.specs.Once.{OnceMore};
 ghost use Rattle.snoop_machine.specs.Runs.{HasRun};
 
@@ -36,11 +34,11 @@ pub struct Machine {
 }
 
 impl Model for Machine {
-    ghost use Rattle.snoop_machine.specs.Room.{Standing};
+    ghost use Rattle.snoop_machine.specs.Standing.{Standing};
 
     ghost Value = { Standing };
 
-    ghost use Rattle.snoop_machine.specs.Parts.{as_parts_stand, ArePartsCoherent};
+    ghost use Rattle.snoop_machine.specs.MachineView.{as_parts_stand, ArePartsCoherent};
 
     ghost view = { as_parts_stand };
 
@@ -48,34 +46,38 @@ impl Model for Machine {
 }
 
 impl Machine {
-    /// A machine at reset.
+    /// A machine at reset: every cache in I, memory with 0, nothing waiting or open, an empty history.
+    ///
+    /// `NoMemory` where a growth was refused.
     pub fn reset(alloc: Global, protocol: Protocol, shape: Shape) -> Result<Self, NoMemory>
         ensures at_reset { IfOk result (λ machine. machine.situation ≡ reset protocol shape) }
-        ensures one_writer { IfOk result (λ machine. (block : ℕ) → OneWriter machine.situation.protocol (picture_of machine.situation block)) }
-        ensures legal { IfOk result (λ machine. Legal machine.situation.log) }
-        ensures possible { IfOk result (λ machine. (step : Step) → ¬ Meets machine.situation step) }
-        ensures orders { IfOk result (λ machine. OrdersAreLed machine.situation) }
+        ensures safe { IfOk result (λ machine. IsSafe machine.situation) }
     {
         let parts = Parts::reset(alloc, protocol, shape)?;
         Ok(Machine { parts })
     }
 
+    /// Every machine is coherent, whatever was done with it. This does nothing: a proof calls it for what it ensures.
+    pub fn coherent(&self)
+        ensures { IsSafe self.now.situation }
+    {
+        let _ = &self.parts;
+    }
+
     /// Takes one step, or refuses it; a refused step changes nothing.
     pub fn step(&mut self, step: Step) -> Result<Reply, Refused>
         ensures taken { IfOk result (λ reply. (entry : Option Item) × FirstMove self.old.situation step reply self.new.situation entry) }
-        ensures refused { IfErr result (λ cause. RefusedFor self.old.situation step cause × (self.new.situation ≡ self.old.situation)) }
+        ensures refused { IfErr result (λ cause. RefusedFor self.old.situation step cause × (self.new ≡ self.old)) }
         ensures exactly { (cause : Refused) → Refuses self.old.situation step cause → result ≡ Err cause }
         ensures full { result ≡ Err WantOfMemory → IsFull self.old step }
+        ensures room { KeepsRoom self.old self.new }
 
         // What `prepare` told comes true.
         ensures prepared { (entry : Option Item) → IsPrepared self.old step entry → IsOk result × (self.new.situation.log ≡ self.old.situation.log ++ option_to_list entry) }
 
-        // The machine is coherent after every step, taken or refused.
-        ensures one_writer { (block : ℕ) → OneWriter self.new.situation.protocol (picture_of self.new.situation block) }
-        ensures legal { Legal self.new.situation.log }
+        // After every step, taken or refused, the machine is coherent, and a load or store stands once in its history or waits.
+        ensures safe { IsSafe self.new.situation }
         ensures once { IfOk result (λ reply. OnceMore self.old.situation (step ∷ []) (Ok reply ∷ []) self.new.situation) }
-        ensures possible { (next : Step) → ¬ Meets self.new.situation next }
-        ensures orders { OrdersAreLed self.new.situation }
     {
         self.parts.step(step)
     }
@@ -83,9 +85,10 @@ impl Machine {
     /// Makes the room for a step, and tells the item that it will add. The same step, taken next, is not refused and takes no memory.
     pub fn prepare(&mut self, step: Step) -> Result<Option<Item>, Refused>
         ensures prepared { IfOk result (λ entry. IsPrepared self.new step entry) }
-        ensures refused { IfErr result (λ cause. RefusedFor self.old.situation step cause) }
+        ensures refused { IfErr result (λ cause. RefusedFor self.old.situation step cause × (self.new ≡ self.old)) }
         ensures exactly { (cause : Refused) → Refuses self.old.situation step cause → result ≡ Err cause }
         ensures full { result ≡ Err WantOfMemory → IsFull self.old step }
+        ensures room { KeepsRoom self.old self.new }
         ensures unchanged { self.new.situation ≡ self.old.situation }
     {
         self.parts.prepare(step)
@@ -154,7 +157,8 @@ impl Machine {
 
     /// The history of all that was performed, ordered and answered.
     pub fn log(&self) -> &Log
-        ensures { result.now.items ≡ self.now.situation.log }
+        ensures items { result.now.items ≡ self.now.situation.log }
+        ensures shape { (result.now.cores ≡ self.now.situation.shape.cores) × (result.now.blocks ≡ self.now.situation.shape.blocks) }
     {
         self.parts.log()
     }
@@ -163,10 +167,7 @@ impl Machine {
 /// Takes the steps in order, passing over those that are refused. Answers how many were taken.
 pub fn run_steps(machine: &mut Machine, steps: &[Step]) -> usize
     ensures run { HasRun machine.old steps.now result machine.new }
-    ensures one_writer { (block : ℕ) → OneWriter machine.new.situation.protocol (picture_of machine.new.situation block) }
-    ensures legal { Legal machine.new.situation.log }
-    ensures possible { (next : Step) → ¬ Meets machine.new.situation next }
-    ensures orders { OrdersAreLed machine.new.situation }
+    ensures safe { IsSafe machine.new.situation }
 {
     let mut taken = 0;
     for step in steps {

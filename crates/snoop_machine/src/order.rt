@@ -6,10 +6,10 @@ ghost use Rattle.snoop_machine.specs.Sends.{value_sent};
 ghost use Rattle.snoop_machine.specs.Meets.{FindsRows};
 ghost use Rattle.snoop_machine.specs.Message.{free_picture, HasRow, IsMessage, TakesRows, memory_message};
 
-use crate::lines::{Line, Lines};
+use crate::block_lines::BlockLines;
+use crate::lines::Line;
 use crate::memory::MemLine;
 use crate::message::Message;
-use crate::row::Row;
 use snoop_rules::{
     CacheAction, CacheEvent, CacheState, MemAction, MemCell, MemEvent, Payload, Protocol, Request,
     cache_cell, mem_cell,
@@ -59,7 +59,7 @@ fn is_same(one: CacheState, other: CacheState) -> bool
     one == other
 }
 
-impl Row {
+impl BlockLines {
     /// Each core takes its row for the request.
     pub(crate) fn take_rows(&mut self, protocol: Protocol, requestor: u32, request: Request)
         requires few { length self.old < 257 }
@@ -110,7 +110,7 @@ impl MemLine {
     }
 }
 
-impl Lines {
+impl BlockLines {
     /// The message of the one controller that sends.
     pub(crate) fn message(
         &self,
@@ -118,13 +118,11 @@ impl Lines {
         memory: MemLine,
         requestor: u32,
         request: Request,
-        block: u32,
     ) -> Message
-        requires block { block < length self.now }
-        requires few { length (slice_index_or self.now block []) < 257 }
-        requires waits { waiting_request (held_at (slice_index_or self.now block []) requestor).state ≡ Some request }
-        requires finds { FindsRows protocol (free_picture (slice_index_or self.now block []) memory) requestor request }
-        ensures { IsMessage protocol (free_picture (slice_index_or self.now block []) memory) requestor request result }
+        requires few { length self.now < 257 }
+        requires waits { waiting_request (held_at self.now requestor).state ≡ Some request }
+        requires finds { FindsRows protocol (free_picture self.now memory) requestor request }
+        ensures { IsMessage protocol (free_picture self.now memory) requestor request result }
     {
         let Some(cell) = mem_cell(protocol, memory.state, event_at_memory(request)) else {
             unreachable!();
@@ -133,13 +131,14 @@ impl Lines {
             return message;
         }
         let mut from = 0;
-        while let Some(core) = self.next_holder(block, from) {
-            let line = self.get(core, block);
-            let Some(cell) = cache_cell(protocol, line.state, event_seen(core, requestor, request))
+        while let Some(core) = self.next_holder(from) {
+            let state = self.state(core);
+            let Some(cell) = cache_cell(protocol, state, event_seen(core, requestor, request))
             else {
                 unreachable!();
             };
             if let CacheAction::Send(payload, _) = cell.action {
+                let line = self.get(core as usize);
                 return Message {
                     payload,
                     value: line.value_for(payload),

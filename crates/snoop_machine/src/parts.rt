@@ -31,11 +31,11 @@ pub(crate) struct Parts {
 }
 
 impl Model for Parts {
-    ghost use Rattle.snoop_machine.specs.Room.{Standing};
+    ghost use Rattle.snoop_machine.specs.Standing.{Standing};
 
     ghost Value = { Standing };
 
-    ghost use Rattle.snoop_machine.specs.Standing.{standing, IsWhole};
+    ghost use Rattle.snoop_machine.specs.PartsView.{standing, IsWhole};
 
     ghost view = { standing };
 
@@ -139,7 +139,8 @@ impl Parts {
 
     /// The history of all that was performed, ordered and answered.
     pub(crate) fn log(&self) -> &Log
-        ensures { result.now.items ≡ self.now.situation.log }
+        ensures items { result.now.items ≡ self.now.situation.log }
+        ensures shape { (result.now.cores ≡ self.now.situation.shape.cores) × (result.now.blocks ≡ self.now.situation.shape.blocks) }
     {
         &self.log
     }

@@ -1,7 +1,5 @@
 //! A writer that counts its bytes and keeps none.
-ghost use Rattle.std.specs.Prelude.{false};
 
-use snoop_trace::Sink;
 use std::io;
 use std::io::Write;
 
@@ -19,13 +17,5 @@ impl Write for Counter {
 
     fn flush(&mut self) -> io::Result<()> {
         Ok(())
-    }
-}
-
-impl Sink for Counter {
-    ghost never_fails = { false };
-
-    fn put(&mut self, buf: &[u8]) -> io::Result<usize> {
-        self.write(buf)
     }
 }

@@ -8,11 +8,10 @@ mod storm;
 
 use anyhow::{Context, Result};
 use counter::Counter;
-use snoop_machine::Machine;
+use snoop_machine::{Machine, run_steps};
 use snoop_rules::Protocol;
 use snoop_sim::simulate_steps;
-use snoop_trace::{Shape, Step, read_steps, write_steps};
-use std::alloc::Global;
+use snoop_trace::{AnyWriter, Shape, read_steps, write_steps};
 use std::time::Instant;
 
 /// The number that the word at a place of the command line is.
@@ -21,18 +20,6 @@ fn number(words: &[String], place: usize) -> Result<u32> {
         .get(place)
         .context("steps, cores and blocks are wanted")?;
     Ok(word.as_str().parse::<u32>()?)
-}
-
-/// How many of the steps a machine at reset takes.
-fn taken(alloc: Global, shape: Shape, steps: &[Step]) -> Result<u64> {
-    let mut machine = Machine::reset(alloc, Protocol::Msi, shape)?;
-    let mut taken: u64 = 0;
-    for step in steps {
-        if machine.step(*step).is_ok() {
-            taken = taken.saturating_add(1);
-        }
-    }
-    Ok(taken)
 }
 
 fn main(rt: HostRuntime) -> Result<()> {
@@ -49,16 +36,17 @@ fn main(rt: HostRuntime) -> Result<()> {
     let read = start.elapsed(&rt)?;
 
     let start = Instant::now(&rt)?;
-    let taken = taken(alloc, shape, &steps)?;
+    let mut machine = Machine::reset(alloc, Protocol::Msi, shape)?;
+    let taken = run_steps(&mut machine, &steps);
     let stepped = start.elapsed(&rt)?;
 
-    let mut output = Counter::default();
+    let mut output = AnyWriter(Counter::default());
     let start = Instant::now(&rt)?;
     simulate_steps(alloc, text.as_slice(), &mut output, Protocol::Msi, shape)?;
     let simulated = start.elapsed(&rt)?;
 
     println!(rt; "steps {} taken {taken}", steps.len())?;
-    println!(rt; "text {} output {}", text.len(), output.bytes)?;
+    println!(rt; "text {} output {}", text.len(), output.0.bytes)?;
     eprintln!(rt; "read {read:?}, taken {stepped:?}, simulated {simulated:?}")?;
     Ok(())
 }

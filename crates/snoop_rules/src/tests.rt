@@ -1,5 +1,6 @@
-use crate::{CacheState, Protocol, Which, may_load, may_store, write_table};
-use snoop_trace::{Plain, WriteFault};
+use crate::table::STATES;
+use crate::{Protocol, Which, may_load, may_store, write_table};
+use snoop_trace::{AnyWriter, WriteFault};
 use std::alloc::Global;
 use std::io;
 use std::test::Fail;
@@ -227,12 +228,12 @@ fn cut_off(
     which: Which,
     room: usize,
 ) -> (Result<(), WriteFault>, Vec<u8>) {
-    let mut writer = Plain(Narrow {
+    let mut writer = AnyWriter(Narrow {
         held: Vec::new(alloc),
         room,
     });
     let written = write_table(alloc, &mut writer, protocol, which);
-    let Plain(Narrow { held, .. }) = writer;
+    let AnyWriter(Narrow { held, .. }) = writer;
     (written, held)
 }
 
@@ -253,22 +254,6 @@ fn stops_at_a_failing_writer(rt: HostRuntime) -> Result<(), Fail> {
     Ok(())
 }
 
-const STATES: [CacheState; 13] = [
-    CacheState::I,
-    CacheState::IsAd,
-    CacheState::IsD,
-    CacheState::ImAd,
-    CacheState::ImD,
-    CacheState::S,
-    CacheState::SmAd,
-    CacheState::SmD,
-    CacheState::E,
-    CacheState::M,
-    CacheState::EiA,
-    CacheState::MiA,
-    CacheState::IiA,
-];
-
 #[test]
 fn readers_and_writers(rt: HostRuntime) -> Result<(), Fail> {
     for (protocol, readers, writers) in [
@@ -281,11 +266,11 @@ fn readers_and_writers(rt: HostRuntime) -> Result<(), Fail> {
     ] {
         let mut may_read = String::new(rt.alloc());
         let mut may_write = String::new(rt.alloc());
-        for state in STATES {
-            if may_load(protocol, state) {
+        for state in &STATES {
+            if may_load(protocol, *state) {
                 write!(may_read, "{state} ")?;
             }
-            if may_store(protocol, state) {
+            if may_store(protocol, *state) {
                 write!(may_write, "{state} ")?;
             }
         }

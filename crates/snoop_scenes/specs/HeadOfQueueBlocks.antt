@@ -1,5 +1,5 @@
--- The head of the queue blocks (MSI). Core 0's requests are ordered in the order of issue, so that its request for the free block 1
--- does not overtake the one for block 0, whose transaction is open.
+-- The head of the queue blocks (MSI). Core 0's requests are ordered in the order of issue.
+-- So its request for the free block 1 does not overtake the one for block 0, whose transaction is open.
 -- Source: the tables of "A Primer on Memory Consistency and Cache Coherence", 2nd edition, chapter 7.
 use Rattle.std.specs.Prelude.{List, [], ◌∷◌}
 use Rattle.snoop_rules.specs.declared.names.Protocol.TheVariants.{Msi}

@@ -1,5 +1,5 @@
--- A load hits while the store waits (MSI). In SM_AD core 0 still reads its copy, so that its load is performed before the store that it asked
--- for earlier. Core 1's GetM is ordered first and takes the copy away: in IM_AD a load is stalled.
+-- A load hits while the store waits (MSI). In SM_AD core 0 still reads its copy: the load is performed before the store, which it asked earlier.
+-- Core 1's GetM is ordered first and takes the copy away: in IM_AD a load is stalled.
 -- Source: the tables of "A Primer on Memory Consistency and Cache Coherence", 2nd edition, chapter 7.
 use Rattle.std.specs.Prelude.{List, [], ◌∷◌}
 use Rattle.snoop_rules.specs.declared.names.Protocol.TheVariants.{Msi}

@@ -1,5 +1,5 @@
--- Refused and repeated (MSI). In II_A the evicting core has lost the block and its PutM still waits: a load is stalled. After the stale
--- writeback the same load misses, and the owner answers it with data, for the requestor and for memory.
+-- Refused and repeated (MSI). In II_A the evicting core has lost the block and its PutM still waits: a load is stalled.
+-- After the stale writeback the same load misses, and the owner answers it with data, for the requestor and for memory.
 -- Source: the tables of "A Primer on Memory Consistency and Cache Coherence", 2nd edition, chapter 7.
 use Rattle.std.specs.Prelude.{List, [], ◌∷◌}
 use Rattle.snoop_rules.specs.declared.names.Protocol.TheVariants.{Msi}

@@ -1,5 +1,5 @@
--- The silent upgrade (MESI). A load that finds no sharer comes to E. The store hits and makes it M with no request on the bus;
--- memory counted on that, and takes the value at the eviction.
+-- The silent upgrade (MESI). A load that finds no sharer comes to E. The store hits and makes it M with no request on the bus.
+-- Memory counted on that, and takes the value at the eviction.
 -- Source: this project's profile of MESI (memory's states, and the eviction of a block in E), and chapter 7 of the Primer for the rest.
 use Rattle.std.specs.Prelude.{List, [], ◌∷◌}
 use Rattle.snoop_rules.specs.declared.names.Protocol.TheVariants.{Mesi}

@@ -1,5 +1,5 @@
--- A store hit while evicting (MSI). Until its PutM is ordered the evicting owner may read and write the block: the store of 8 hits in MI_A,
--- and the writeback brings memory 8, which core 1 then loads.
+-- A store hit while evicting (MSI). Until its PutM is ordered the evicting owner may read and write the block.
+-- The store of 8 hits in MI_A, and the writeback brings memory 8, which core 1 then loads.
 -- Source: the tables of "A Primer on Memory Consistency and Cache Coherence", 2nd edition, chapter 7.
 use Rattle.std.specs.Prelude.{List, [], ◌∷◌}
 use Rattle.snoop_rules.specs.declared.names.Protocol.TheVariants.{Msi}

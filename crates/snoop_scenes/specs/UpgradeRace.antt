@@ -1,5 +1,5 @@
--- The upgrade race (MSI). Two sharers issue a GetM each. Core 1's is ordered first and invalidates core 0 in SM_AD, which goes to IM_AD:
--- its upgrade has become a miss, so that its store is over core 1's value. Meanwhile the block's transaction is open, and the bus is taken.
+-- The upgrade race (MSI). Two sharers issue a GetM each. Core 1's is ordered first and invalidates core 0 in SM_AD, which goes to IM_AD.
+-- Its upgrade has become a miss, so that its store is over core 1's value. Meanwhile the block's transaction is open, and the bus is taken.
 -- Source: the tables of "A Primer on Memory Consistency and Cache Coherence", 2nd edition, chapter 7.
 use Rattle.std.specs.Prelude.{List, [], ◌∷◌}
 use Rattle.snoop_rules.specs.declared.names.Protocol.TheVariants.{Msi}

@@ -1,5 +1,5 @@
--- A writeback after a downgrade (MSI). The evicting owner answers core 1's GetS with data for it and for memory, so that its own PutM,
--- ordered later, finds a memory that waits for nothing and brings it NoData.
+-- A writeback after a downgrade (MSI). The evicting owner answers core 1's GetS with data for it and for memory.
+-- So its own PutM, ordered later, finds a memory that waits for nothing and brings it NoData.
 -- Source: the tables of "A Primer on Memory Consistency and Cache Coherence", 2nd edition, chapter 7.
 use Rattle.std.specs.Prelude.{List, [], ◌∷◌}
 use Rattle.snoop_rules.specs.declared.names.Protocol.TheVariants.{Msi}

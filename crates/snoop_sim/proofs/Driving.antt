@@ -1,6 +1,6 @@
 -- What a turn of a driver gives.
 use Rattle.std.proofs.Common.{◌≡◌, ◌≢◌, ℕ, ◌<◌, Bool, true, false, Option, Some, None, refl, sym, ◌∙◌, ap, subst, inl, inr, cond, eqb, arith}
-use Rattle.std.specs.Prelude.{Contains, All, IfSome, IfNone, slice_set, List, [], ◌∷◌, ◌++◌, length}
+use Rattle.std.specs.Prelude.{Contains, All, IfSome, IfNone, option_to_list, slice_set, List, [], ◌∷◌, ◌++◌, length}
 use Rattle.std.proofs.lemmas.Bool.{cases_eq, eq-eqb, ne_eqb}
 use Rattle.std.proofs.lemmas.Option.{same_Some}
 use Rattle.std.proofs.lemmas.List.{length-set, get_or-set_same, get_or-set_other}
@@ -20,7 +20,8 @@ use Rattle.snoop_machine.specs.Turn.{turn_of}
 use Rattle.snoop_machine.specs.Serving.{IsUnderWay}
 use Rattle.snoop_machine.specs.TurnRule.{TurnRule}
 use Rattle.snoop_sim.specs.Todo.{Todo, todo_of, nothing_to_do, under_way, block_of}
-use Rattle.snoop_sim.specs.Round.{IsOver, IsEnabled, IsFit, IsIdle, IsTodoWithin, TakesUp, asked_of}
+use Rattle.snoop_sim.specs.Round.{IsOver, IsEnabled, IsFit, IsIdle, IsTodoWithin, TakesUp}
+use Rattle.snoop_sim.specs.Served.{ask_of}
 
 within_of : (o : Option Work) (w : Work) (blocks : ℕ) → o ≡ Some w → IfSome o (λ (x : Work). x.block < blocks) → w.block < blocks
 within_of None w blocks e h = cc
@@ -115,7 +116,7 @@ pub takes_first : (lanes : List Todo) (core : ℕ) (next : Todo) (w : Work) → 
     → (r : Option Step) → r ≡ Some (Ask core w.block w.op) → IfSome r (λ step. TakesUp lanes step (slice_set lanes core next))
 takes_first lanes core next w has_lane first None is = tt
 takes_first lanes core next w has_lane first (Some step) is = λ k.
-    (let P : Step → Type 0 = λ x. (todo_of lanes k).left ≡ asked_of k x ++ (todo_of (slice_set lanes core next) k).left in
+    (let P : Step → Type 0 = λ x. (todo_of lanes k).left ≡ option_to_list (ask_of k x) ++ (todo_of (slice_set lanes core next) k).left in
     subst P (sym (same_Some _ _ is)) (elim (cases_eq k core) [
       | inl e ↦
           (let here : (todo_of (slice_set lanes core next) core).left ≡ next.left = ap (λ (t : Todo). t.left) (get_or-set_same lanes core next nothing_to_do has_lane) in

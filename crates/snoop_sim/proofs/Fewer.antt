@@ -1,6 +1,6 @@
 -- Each step of a driver leaves fewer to come.
 use Rattle.std.proofs.Common.{◌≡◌, ◌≢◌, ℕ, zero, suc, ◌+◌, ◌*◌, ◌<◌, Bool, cond, List, [], ◌∷◌, ◌++◌, length, refl, sym, ◌∙◌, ap, arith}
-use Rattle.std.specs.Prelude.{Option}
+use Rattle.std.specs.Prelude.{Option, Some, None, option_to_list}
 use Rattle.std.proofs.lemmas.Bool.{eq-eqb, ne_eqb}
 use Rattle.std.proofs.lemmas.List.Sums.{sum_by-cons}
 use Rattle.snoop_trace.specs.declared.step.Step.{Step}
@@ -59,7 +59,7 @@ left_fewer (x ∷ xs) (y ∷ ys) (suc core) one same =
 -- what a step takes up is what it pays for
 left_paid : (old new : List Todo) (step : Step) → TakesUp old step new → 3 * left_in old ≡ paid step + 3 * left_in new
 left_paid old new (Ask core block asking) takes =
-    let L : Bool → List Work = λ b. cond b (record { block = block; op = asking } ∷ []) [] in
+    let L : Bool → List Work = λ b. option_to_list (cond b (Some (record { block = block; op = asking })) None) in
     let first : length (todo_of old core).left ≡ suc (length (todo_of new core).left) =
     ap length (takes core) ∙ ap (λ b. length (L b ++ (todo_of new core).left)) (eq-eqb core core refl) in
     let own : length (todo_of old core).left ≡ 1 + length (todo_of new core).left = omega (arith, first) in

@@ -1,13 +1,13 @@
 -- A driver on its way, step by step, and at its end.
-use Rattle.std.proofs.Common.{◌≡◌, ℕ, zero, suc, Bool, true, false, cond, Option, Some, None, Result, Ok, List, [], ◌∷◌, ◌++◌, length, refl, sym, ◌∙◌, ap, subst, arith}
-use Rattle.std.specs.Prelude.{◌==◌, IsOk, sum_by, count_by, is_some, filter_map, replicate, if◌then◌else◌}
+use Rattle.std.proofs.Common.{◌≡◌, ℕ, zero, suc, cond, Option, Some, None, Result, Ok, List, [], ◌∷◌, ◌++◌, length, refl, sym, ◌∙◌, ap, subst, arith}
+use Rattle.std.specs.Prelude.{IsOk, sum_by, count_by, is_some, filter_map, option_to_list, replicate}
+use Rattle.std.specs.List.{cons_option}
 use Rattle.std.proofs.lemmas.List.{length_push, append_assoc, append-nil}
 use Rattle.std.proofs.lemmas.List.Elements.{All-nil, All-push, filter_map-append}
 use Rattle.std.proofs.lemmas.List.Sums.{sum_by-cons}
 use Rattle.snoop_trace.specs.Extent.{Extent}
 use Rattle.snoop_trace.specs.declared.step.Row.{Row}
 use Rattle.snoop_trace.specs.declared.step.Step.{Step}
-use Rattle.snoop_trace.specs.declared.step.Step.TheVariants.{Ask, Order, Respond}
 use Rattle.snoop_rules.specs.declared.names.Protocol.{Protocol}
 use Rattle.snoop_bus.specs.declared.transactions.Open.{Open}
 use Rattle.snoop_machine.specs.declared.replies.Reply.{Reply}
@@ -18,19 +18,17 @@ use Rattle.snoop_machine.specs.Serving.{owed}
 use Rattle.snoop_sim.proofs.TakenLemmas.{run_more}
 use Rattle.snoop_sim.specs.declared.work.Work.{Work}
 use Rattle.snoop_sim.specs.Todo.{todo_of, left_in, works_of}
-use Rattle.snoop_sim.specs.Round.{Progress, Follows, IsDone, asked_of}
+use Rattle.snoop_sim.specs.Round.{Progress, Follows, IsDone}
 use Rattle.snoop_sim.specs.Served.{Serves, asks_of, ask_of}
 use Rattle.snoop_sim.specs.Journey.{IsOnTheWay, IsAtTheEnd}
 
 -- the Asks of one step
-asks_one : (core : ℕ) (step : Step) → filter_map (ask_of core) (step ∷ []) ≡ asked_of core step
-asks_one core (Ask c block asking) = go (record { block = block; op = asking }) (c == core)
+asks_one : (core : ℕ) (step : Step) → filter_map (ask_of core) (step ∷ []) ≡ option_to_list (ask_of core step)
+asks_one core step = go (ask_of core step)
   where
-    go : (w : Work) (b : Bool) → filter_map {Y = Work} (λ (s : Step). if b then Some w else None) (Respond 0 ∷ []) ≡ (if b then w ∷ [] else [])
-    go w true = refl
-    go w false = refl
-asks_one core (Order c) = refl
-asks_one core (Respond block) = refl
+    go : (asked : Option Work) → cons_option asked [] ≡ option_to_list asked
+    go None = refl
+    go (Some work) = refl
 
 abbrev the_queue : List ℕ → List ℕ
 the_queue q = q
@@ -63,10 +61,10 @@ module _ (start : Progress) (steps : List Step) (outcomes : List (Result Reply R
     run = run_more steps outcomes start.situation old.situation new.situation step (Ok answer) way.run (follows.entry, follows.move);
     taken = All-push IsOk outcomes (Ok answer) way.taken refl;
     asked = λ core.
-        (let more : asks_of (steps ++ step ∷ []) core ≡ asks_of steps core ++ asked_of core step =
+        (let more : asks_of (steps ++ step ∷ []) core ≡ asks_of steps core ++ option_to_list (ask_of core step) =
         filter_map-append (ask_of core) steps (step ∷ []) ∙ ap (λ l. asks_of steps core ++ l) (asks_one core step) in
         way.asked core ∙ (ap (λ l. asks_of steps core ++ l) (follows.takes_up core)
-        ∙ (sym (append_assoc (asks_of steps core) (asked_of core step) (todo_of new.lanes core).left) ∙ ap (λ l. l ++ (todo_of new.lanes core).left) (sym more))));
+        ∙ (sym (append_assoc (asks_of steps core) (option_to_list (ask_of core step)) (todo_of new.lanes core).left) ∙ ap (λ l. l ++ (todo_of new.lanes core).left) (sym more))));
     few = omega (arith, follows.fewer, length_push steps step, way.few);
   }
 

@@ -1,18 +1,17 @@
 -- The lines of the steps so far: written, or in the chunk.
 use Rattle.std.proofs.Common.{◌≡◌, ℕ, List, [], ◌∷◌, ◌++◌, Option, refl, sym, ap, subst, ◌∙◌, append_assoc}
 use Rattle.std.specs.Prelude.{Result}
-use Rattle.std.specs.Io.KnownBytes.{Appends}
 use Rattle.std.proofs.lemmas.List.{append-nil}
 use Rattle.snoop_trace.specs.Extent.{Extent}
 use Rattle.snoop_trace.specs.Output.{AppendsFront, Gathers, Spills}
 use Rattle.snoop_trace.specs.declared.step.Step.{Step}
-use Rattle.snoop_trace.proofs.GathersLemmas.{gathers_cut, gathers_done, gathers_more, gathers_none, gathers_spilled, gathers_stop}
+use Rattle.snoop_trace.proofs.GathersLemmas.{gathers_cut, gathers_more, gathers_spilled, gathers_stop}
 use Rattle.snoop_machine.specs.declared.replies.Reply.{Reply}
 use Rattle.snoop_machine.specs.declared.replies.Refused.{Refused}
 use Rattle.snoop_machine.specs.Situation.{Situation}
 use Rattle.snoop_sim.specs.Line.{line_text, line_texts}
 use Rattle.snoop_machine.specs.Run.{FirstRunFrom, GoesFirst}
-use Rattle.snoop_sim.specs.Written.{WritesFront, WritesLines}
+use Rattle.snoop_sim.specs.Written.{WritesFront}
 
 -- one more step of a run
 pub run_more : (steps : List Step) (outcomes : List (Result Reply Refused)) (old middle new : Situation) (step : Step) (outcome : Result Reply Refused)
@@ -37,9 +36,6 @@ pub record Gathered (shape : Extent) (from : Situation) (steps : List Step) (to 
   pub outcomes : List (Result Reply Refused)
   pub run : FirstRunFrom from steps outcomes to
   pub lines : Gathers old new chunk (line_texts shape steps outcomes)
-
-pub gathered_none : (shape : Extent) (from : Situation) (a : Option (List ℕ)) (chunk : List ℕ) → chunk ≡ [] → Gathered shape from [] from a a chunk
-gathered_none shape from a chunk e = record { outcomes = []; run = refl; lines = gathers_none a chunk e }
 
 pub gathered_more : (shape : Extent) (from : Situation) (steps next : List Step) (middle to : Situation) (a b : Option (List ℕ)) (chunk chunk2 : List ℕ)
     (step : Step) (outcome : Result Reply Refused) → next ≡ steps ++ step ∷ [] → Gathered shape from steps middle a b chunk → GoesFirst middle step outcome to
@@ -84,9 +80,3 @@ gathered_cut shape from steps first rest to a b c chunk whole far cut =
       run = far.run;
       lines = rw (append-nil (line_texts shape first far.outcomes)) at (gathers_cut a b c chunk (line_texts shape first far.outcomes) [] far.lines cut);
     }
-
--- the chunk was written whole
-pub gathered_done : (shape : Extent) (from : Situation) (steps : List Step) (to : Situation) (a b c : Option (List ℕ)) (chunk : List ℕ)
-    → Gathered shape from steps to a b chunk → Appends b c chunk → WritesLines shape from steps to a c
-gathered_done shape from steps to a b c chunk far p =
-    record { outcomes = far.outcomes; run = far.run; lines = gathers_done a b c chunk (line_texts shape steps far.outcomes) far.lines p }

@@ -1,4 +1,5 @@
 -- The faults of a simulation.
+-- Source: this project's profile.
 use Rattle.snoop_trace.specs.declared.fault.WriteFault.{WriteFault}
 use Rattle.snoop_trace.specs.declared.fault.WriteFault.TheVariants as write
 use Rattle.snoop_sim.specs.declared.fault.SimFault.{SimFault}

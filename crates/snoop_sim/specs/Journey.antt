@@ -1,4 +1,5 @@
--- How far a driver has come with its rows (this project's profile).
+-- How far a driver has come with its rows.
+-- Source: this project's profile.
 use Rattle.std.specs.Prelude.{◌≡◌, ℕ, ◌+◌, ◌≤◌, List, ◌++◌, length, All, IsOk, Result}
 use Rattle.snoop_trace.specs.declared.step.Step.{Step}
 use Rattle.snoop_machine.specs.declared.replies.Reply.{Reply}

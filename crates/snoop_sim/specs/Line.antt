@@ -1,4 +1,5 @@
--- The line of a step: its text and the machine's reply or refusal. Source: this project's profile.
+-- The line of a step: its text and the machine's reply or refusal.
+-- Source: this project's profile.
 use Rattle.std.specs.Prelude.{ℕ, List, [], ◌∷◌, ◌++◌, codes, Option, Some, None, Result, Ok, Err, if◌then◌else◌}
 use Rattle.std.specs.Fmt.{decimal}
 use Rattle.snoop_trace.specs.Extent.{Extent}

@@ -1,18 +1,19 @@
--- What a turn takes up, and what holds of a driver between turns (this project's profile).
-use Rattle.std.specs.Prelude.{◌≡◌, ◌≢◌, ℕ, ◌+◌, ◌*◌, ◌<◌, ◌==◌, List, [], ◌∷◌, ◌++◌, length, All, Contains, Option, None, IfSome, ◌⊎◌, if◌then◌else◌}
+-- What a turn takes up, and what holds of a driver between turns.
+-- Source: this project's profile.
+use Rattle.std.specs.Prelude.{◌≡◌, ◌≢◌, ℕ, ◌+◌, ◌*◌, ◌<◌, List, [], ◌++◌, length, All, Contains, Option, None, IfSome, ◌⊎◌, option_to_list}
 use Rattle.snoop_trace.specs.declared.step.Step.{Step}
-use Rattle.snoop_trace.specs.declared.step.Step.TheVariants.{Ask, Order, Respond}
 use Rattle.snoop_history.specs.declared.items.Item.{Item}
 use Rattle.snoop_machine.specs.declared.replies.Reply.{Reply}
 use Rattle.snoop_machine.specs.declared.replies.Refused.{Refused}
 use Rattle.snoop_machine.specs.Situation.{Situation}
 use Rattle.snoop_machine.specs.Move.{FirstMove}
 use Rattle.snoop_machine.specs.Refuses.{Refuses}
-use Rattle.snoop_sim.specs.declared.work.Work.{Work}
 use Rattle.snoop_machine.specs.Quiet.{IsQuiet}
 use Rattle.snoop_machine.specs.Serving.{IsServing, owed}
-use Rattle.snoop_sim.specs.Todo.{Todo, todo_of, left_in, under_way}
 use Rattle.snoop_machine.specs.WellKept.{IsWellKept}
+use Rattle.snoop_sim.specs.declared.work.Work.{Work}
+use Rattle.snoop_sim.specs.Todo.{Todo, todo_of, left_in, under_way}
+use Rattle.snoop_sim.specs.Served.{ask_of}
 
 -- the value of a driver: the machine's situation, what each core has to do, and the cores that may have a step, in the order of their turns
 pub record Progress : Type 0 where
@@ -20,15 +21,9 @@ pub record Progress : Type 0 where
   pub lanes : List Todo
   pub turns : List ℕ
 
--- the work that a step asks of a core: one or none
-abbrev pub asked_of : ℕ → Step → List Work
-asked_of core (Ask c block asking) = if c == core then record { block = block; op = asking } ∷ [] else []
-asked_of core (Order c) = []
-asked_of core (Respond block) = []
-
 -- the step asks what its core has left first, and nothing else is taken up
 abbrev pub TakesUp : List Todo → Step → List Todo → Type 0
-TakesUp old step new = (core : ℕ) → (todo_of old core).left ≡ asked_of core step ++ (todo_of new core).left
+TakesUp old step new = (core : ℕ) → (todo_of old core).left ≡ option_to_list (ask_of core step) ++ (todo_of new core).left
 
 -- a core has nothing left and nothing under way
 abbrev pub IsIdle : Todo → Type 0

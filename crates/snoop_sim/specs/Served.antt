@@ -1,4 +1,5 @@
--- When the rows of a text have been served by a run (this project's profile).
+-- When the rows of a text have been served by a run.
+-- Source: this project's profile.
 use Rattle.std.specs.Prelude.{◌≡◌, ℕ, ◌*◌, ◌≤◌, ◌==◌, List, length, filter_map, All, IsOk, Option, Some, None, Result, if◌then◌else◌}
 use Rattle.snoop_trace.specs.Extent.{Extent}
 use Rattle.snoop_trace.specs.declared.step.Row.{Row}
@@ -7,8 +8,8 @@ use Rattle.snoop_trace.specs.declared.step.Step.TheVariants.{Ask, Order, Respond
 use Rattle.snoop_machine.specs.declared.replies.Reply.{Reply}
 use Rattle.snoop_machine.specs.declared.replies.Refused.{Refused}
 use Rattle.snoop_machine.specs.Situation.{Situation}
-use Rattle.snoop_sim.specs.declared.work.Work.{Work}
 use Rattle.snoop_machine.specs.Quiet.{IsQuiet}
+use Rattle.snoop_sim.specs.declared.work.Work.{Work}
 use Rattle.snoop_sim.specs.Todo.{works_of}
 
 -- the work that a step asks of the core, if it is that core's Ask

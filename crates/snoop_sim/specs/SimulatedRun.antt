@@ -1,4 +1,5 @@
--- What a simulation of rows leaves, by what it answers (this project's profile).
+-- What a simulation of rows leaves, by what it answers.
+-- Source: this project's profile.
 use Rattle.std.specs.Prelude.{◌≡◌, ℕ, List, ◌++◌, All, IsOk, Option, Result, Ok, Err, IfSome, ◌⊎◌}
 use Rattle.std.specs.Io.KnownBytes.{Appends}
 use Rattle.snoop_trace.specs.Extent.{Extent}

@@ -1,8 +1,9 @@
--- The status that the program ends with (this project's profile).
+-- The status that the program ends with.
+-- Source: this project's profile.
 use Rattle.std.specs.Prelude.{ℕ}
 use Rattle.snoop_trace.specs.declared.fault.TextFault.TheVariants as text
 use Rattle.snoop_sim.specs.declared.failure.Failure.{Failure}
-use Rattle.snoop_sim.specs.declared.failure.Failure.TheVariants.{CommandLine, NoCommand, Shape, Simulation}
+use Rattle.snoop_sim.specs.declared.failure.Failure.TheVariants.{CommandLine, NoCommand, NotUtf8, Shape, Simulation}
 use Rattle.snoop_sim.specs.declared.fault.SimFault.{SimFault}
 use Rattle.snoop_sim.specs.declared.fault.SimFault.TheVariants.{Text, NoMemory, Write}
 
@@ -17,5 +18,6 @@ status_of_fault Write = 4
 abbrev pub status_of : Failure → ℕ
 status_of (CommandLine error) = 2
 status_of NoCommand = 2
+status_of NotUtf8 = 2
 status_of (Shape fault) = 2
 status_of (Simulation fault) = status_of_fault fault

@@ -1,4 +1,5 @@
--- What each core has to do (this project's profile).
+-- What each core has to do.
+-- Source: this project's profile.
 use Rattle.std.specs.Prelude.{ℕ, ◌/◌, ◌==◌, List, [], length, map, filter, sum_by, Option, Some, None, slice_index_or}
 use Rattle.snoop_trace.specs.Extent.{Extent}
 use Rattle.snoop_trace.specs.declared.step.Row.{Row}
@@ -9,12 +10,15 @@ pub record Todo : Type 0 where
   pub left : List Work
   pub work : Option Work
 
+-- no rows are left, and no work is under way
 abbrev pub nothing_to_do : Todo
 nothing_to_do = record { left = []; work = None }
 
+-- what the core has to do: nothing, where there is no such core
 abbrev pub todo_of : List Todo → ℕ → Todo
 todo_of lanes core = slice_index_or lanes core nothing_to_do
 
+-- the block of a work, if there is one
 abbrev pub block_of : Option Work → Option ℕ
 block_of None = None
 block_of (Some work) = Some work.block

@@ -1,4 +1,4 @@
-ghost use Rattle.std.specs.Prelude.{◌≡◌, ◌≢◌, ℕ, ◌<◌, ◌+◌, [], All, Contains, Option, Some, IfOk, IfSome, IfNone, length, slice_get};
+ghost use Rattle.std.specs.Prelude.{◌≡◌, ◌≢◌, ℕ, ◌<◌, ◌+◌, [], All, Contains, Option, Some, None, IfOk, IfSome, IfNone, length, slice_get};
 ghost use Rattle.snoop_history.specs.declared.items.Item.{Item};
 ghost use Rattle.snoop_machine.specs.Move.{FirstMove};
 ghost use Rattle.snoop_machine.specs.Situation.{reset};
@@ -6,7 +6,8 @@ ghost use Rattle.snoop_machine.specs.Quiet.{IsQuiet};
 ghost use Rattle.snoop_machine.specs.Serving.{IsUnderWay};
 ghost use Rattle.snoop_sim.specs.Todo.{todo_of, under_way, left_in, works_of};
 ghost use Rattle.snoop_trace.specs.Grammar.{IsRowWithin};
-ghost use Rattle.snoop_sim.specs.Round.{asked_of, TakesUp, IsIdle, IsOver, IsEnabled, Follows, IsDone};
+ghost use Rattle.snoop_sim.specs.Served.{ask_of};
+ghost use Rattle.snoop_sim.specs.Round.{TakesUp, IsIdle, IsOver, IsEnabled, Follows, IsDone};
 
 use crate::deal::{all_cores, deal};
 use crate::lane::Lane;
@@ -37,20 +38,20 @@ impl Model for Driver {
 }
 
 impl Driver {
-    /// A driver of these rows, with a machine at reset.
+    /// A driver of these rows, with a machine at reset. The rows are let go before the first step.
     pub(crate) fn new(
         alloc: Global,
         protocol: Protocol,
         shape: Shape,
-        rows: &[Row],
+        rows: Vec<Row>,
     ) -> Result<Self, NoMemory>
-        requires { All (IsRowWithin shape) rows.now }
+        requires { All (IsRowWithin shape) rows.items }
         ensures situation { IfOk result (λ driver. driver.situation ≡ reset protocol shape) }
-        ensures left { IfOk result (λ driver. (core : ℕ) → (todo_of driver.lanes core).left ≡ works_of shape rows.now core) }
-        ensures all { IfOk result (λ driver. left_in driver.lanes ≡ length rows.now) }
+        ensures left { IfOk result (λ driver. (core : ℕ) → (todo_of driver.lanes core).left ≡ works_of shape rows.items core) }
+        ensures all { IfOk result (λ driver. left_in driver.lanes ≡ length rows.items) }
     {
         let machine = Machine::reset(alloc, protocol, shape)?;
-        let lanes = deal(alloc, shape, rows)?;
+        let lanes = deal(alloc, shape, &rows)?;
         let turns = all_cores(alloc, shape)?;
         Ok(Driver {
             machine,
@@ -98,7 +99,7 @@ impl Driver {
     /// The next step of the core's work under way.
     fn continued(&self, core: u32) -> Option<Step>
         requires core { core < self.now.situation.shape.cores }
-        ensures asks_nothing { IfSome result (λ step. (k : ℕ) → asked_of k step ≡ []) }
+        ensures asks_nothing { IfSome result (λ step. (k : ℕ) → ask_of k step ≡ None) }
         ensures under_way { IfSome result (IsUnderWay (under_way self.now.lanes)) }
         ensures enabled { IfSome result (IsEnabled self.now.situation) }
         ensures over { IfNone result (IsOver self.now.lanes self.now.situation core) }
@@ -149,11 +150,11 @@ impl Driver {
         ensures taken { IfOk result (λ reply. (entry : Option Item) × FirstMove self.old.situation step reply self.new.situation entry) }
         ensures lanes { self.new.lanes ≡ self.old.lanes }
     {
-        let reply = match self.machine.step(step) {
-            Ok(reply) => reply,
-            Err(cause) => return Err(out_of_memory(cause)),
-        };
-        Ok(reply)
+        match self.machine.step(step) {
+            Ok(reply) => Ok(reply),
+            Err(Refused::NoMemory) => Err(NoMemory),
+            Err(_) => unreachable!(),
+        }
     }
 
     /// Takes the next step, and tells it with its reply; `None` once every row is done. After `NoMemory` the run can't go on.
@@ -171,11 +172,4 @@ impl Driver {
         }
         Ok(None)
     }
-}
-
-/// A step that is enabled is refused for want of memory alone.
-fn out_of_memory(_cause: Refused) -> NoMemory
-    requires { _cause ≡ Refused.NoMemory }
-{
-    NoMemory
 }

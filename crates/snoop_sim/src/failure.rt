@@ -1,20 +1,25 @@
 //! Why the program did not do its task, and the status that it ends with.
-ghost use Rattle.std.specs.Prelude.{◌≡◌};
+ghost use Rattle.std.specs.Prelude.{◌≡◌, ◌≢◌};
+ghost use Rattle.std.specs.IoError.{error_kind};
+ghost use Rattle.std.specs.declared.io.ErrorKind.TheVariants as io_kind;
 ghost use Rattle.snoop_sim.specs.Status.{status_of};
 
 use crate::fault::SimFault;
 use clap::error::ErrorKind;
 use snoop_trace::{ShapeFault, TextFault};
 use std::alloc::AllocError;
+use std::io;
 use thiserror::Error;
 
 /// Why the program did not do its task.
 #[derive(Debug, Drop, Error)]
-pub enum Failure {
+pub(crate) enum Failure {
     #[error(transparent)]
     CommandLine(clap::Error),
     #[error("NoCommand")]
     NoCommand,
+    #[error("NotUtf8")]
+    NotUtf8,
     #[error(transparent)]
     Shape(ShapeFault),
     #[error(transparent)]
@@ -44,10 +49,13 @@ impl From<SimFault> for Failure {
 }
 
 impl From<clap::Error> for Failure {
-    ghost use Rattle.std.specs.Prelude.{◌≢◌};
-    ghost use Rattle.snoop_sim.specs.Status.{status_of};
+    ghost use Rattle.std.specs.Prelude.{◌≡◌, ◌≢◌, ◌⊎◌};
+    ghost use Rattle.clap.specs.Values.{kind_of};
+    ghost use Rattle.clap.specs.declared.error.kind.ErrorKind.TheVariants.{OutOfMemory};
+    ghost use Rattle.snoop_sim.specs.declared.fault.SimFault.TheVariants.{NoMemory};
+    ghost use Rattle.snoop_sim.specs.declared.failure.Failure.TheVariants as failure;
 
-    ghost from_gives = { λ e r. status_of r ≢ 4 };
+    ghost from_gives = { λ e r. ((kind_of e ≡ OutOfMemory) × (r ≡ failure.Simulation NoMemory)) ⊎ ((kind_of e ≢ OutOfMemory) × (r ≡ failure.CommandLine e)) };
 
     fn from(error: clap::Error) -> Self {
         if error.kind() == ErrorKind::OutOfMemory {
@@ -60,9 +68,10 @@ impl From<clap::Error> for Failure {
 
 impl From<AllocError> for Failure {
     ghost use Rattle.std.specs.Prelude.{◌≡◌};
-    ghost use Rattle.snoop_sim.specs.Status.{status_of};
+    ghost use Rattle.snoop_sim.specs.declared.fault.SimFault.TheVariants.{NoMemory};
+    ghost use Rattle.snoop_sim.specs.declared.failure.Failure.TheVariants as failure;
 
-    ghost from_gives = { λ e r. status_of r ≡ 3 };
+    ghost from_gives = { λ e r. r ≡ failure.Simulation NoMemory };
 
     fn from(_: AllocError) -> Self {
         Failure::Simulation(SimFault::NoMemory)
@@ -70,13 +79,26 @@ impl From<AllocError> for Failure {
 }
 
 impl Failure {
+    /// Why the words of the process could not be had: for want of memory, or because one is not UTF-8.
+    pub(crate) fn of_words(cause: io::Error) -> Self
+        ensures memory { error_kind cause ≡ io_kind.OutOfMemory → result ≡ Failure.Simulation SimFault.NoMemory }
+        ensures other { error_kind cause ≢ io_kind.OutOfMemory → result ≡ Failure.NotUtf8 }
+    {
+        if cause.kind() == io::ErrorKind::OutOfMemory {
+            Failure::Simulation(SimFault::NoMemory)
+        } else {
+            Failure::NotUtf8
+        }
+    }
+
     /// The status that the program ends with: 1 for a refused text, 2 for the command line or the shape,
     /// 3 for want of memory, and 4 for a failed write.
-    pub fn status(&self) -> u8
+    pub(crate) fn status(&self) -> u8
         ensures { result ≡ status_of self.now }
     {
         match self {
-            Failure::CommandLine(_) | Failure::NoCommand | Failure::Shape(_) => 2,
+            Failure::CommandLine(_) | Failure::NoCommand | Failure::NotUtf8 | Failure::Shape(_) =>
+                2,
             Failure::Simulation(SimFault::Text(TextFault::NoMemory) | SimFault::NoMemory) => 3,
             Failure::Simulation(SimFault::Text(_)) => 1,
             Failure::Simulation(SimFault::Write) => 4,

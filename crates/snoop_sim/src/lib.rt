@@ -14,7 +14,7 @@ mod steps;
 mod work;
 
 pub use fault::SimFault;
-pub use program::command;
+pub use program::{command, refuse_words};
 pub use run::simulate_run;
 pub use steps::simulate_steps;
 

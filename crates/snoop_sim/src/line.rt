@@ -1,36 +1,32 @@
 //! The line of a step: its text and the machine's reply or refusal.
-ghost use Rattle.std.specs.Prelude.{◌≡◌, ◌++◌, codes, OnOk, IfErr};
+ghost use Rattle.std.specs.Prelude.{◌≡◌, ◌++◌, codes, OnOk};
 ghost use Rattle.std.specs.Fmt.{decimal};
-ghost use Rattle.snoop_trace.specs.Output.{step_text};
 ghost use Rattle.snoop_machine.specs.declared.replies.Reply.TheVariants.{Came};
 ghost use Rattle.snoop_sim.specs.Line.{line_text, outcome_text, performed_text, refusal_detail, refusal_name, reply_text, sender_text};
 
 use snoop_history::Did;
 use snoop_machine::{Refused, Reply};
 use snoop_rules::Payload;
-use snoop_trace::{Shape, Step, WriteFault, push_byte, push_decimal, push_step, push_text};
+use snoop_trace::{NoMemory, Shape, Step, push_byte, push_decimal, push_step, push_text};
 
 // Puts a text and a number behind it at the end.
-fn push_numbered(out: &mut Vec<u8>, text: &str, number: u64) -> Result<(), WriteFault>
+fn push_numbered(out: &mut Vec<u8>, text: &str, number: u64) -> Result<(), NoMemory>
     ensures ok { OnOk result (out.new.items ≡ out.old.items ++ (text.now ++ decimal number)) }
-    ensures err { IfErr result (λ e. e ≡ WriteFault.NoMemory) }
 {
     push_text(out, text)?;
     push_decimal(out, number)
 }
 
 // Puts two texts at the end.
-fn push_both(out: &mut Vec<u8>, first: &str, second: &str) -> Result<(), WriteFault>
+fn push_both(out: &mut Vec<u8>, first: &str, second: &str) -> Result<(), NoMemory>
     ensures ok { OnOk result (out.new.items ≡ out.old.items ++ (first.now ++ second.now)) }
-    ensures err { IfErr result (λ e. e ≡ WriteFault.NoMemory) }
 {
     push_text(out, first)?;
     push_text(out, second)
 }
 
-fn push_sender(out: &mut Vec<u8>, from: Option<u32>) -> Result<(), WriteFault>
+fn push_sender(out: &mut Vec<u8>, from: Option<u32>) -> Result<(), NoMemory>
     ensures ok { OnOk result (out.new.items ≡ out.old.items ++ sender_text from) }
-    ensures err { IfErr result (λ e. e ≡ WriteFault.NoMemory) }
 {
     match from {
         None => push_text(out, " from memory"),
@@ -38,9 +34,8 @@ fn push_sender(out: &mut Vec<u8>, from: Option<u32>) -> Result<(), WriteFault>
     }
 }
 
-fn push_performed(out: &mut Vec<u8>, did: Option<Did>) -> Result<(), WriteFault>
+fn push_performed(out: &mut Vec<u8>, did: Option<Did>) -> Result<(), NoMemory>
     ensures ok { OnOk result (out.new.items ≡ out.old.items ++ performed_text did) }
-    ensures err { IfErr result (λ e. e ≡ WriteFault.NoMemory) }
 {
     match did {
         None => Ok(()),
@@ -54,18 +49,16 @@ fn push_came(
     payload: Payload,
     from: Option<u32>,
     did: Option<Did>,
-) -> Result<(), WriteFault>
+) -> Result<(), NoMemory>
     ensures ok { OnOk result (out.new.items ≡ out.old.items ++ reply_text (Came payload from did)) }
-    ensures err { IfErr result (λ e. e ≡ WriteFault.NoMemory) }
 {
     push_text(out, payload.name())?;
     push_sender(out, from)?;
     push_performed(out, did)
 }
 
-fn push_reply(out: &mut Vec<u8>, reply: Reply) -> Result<(), WriteFault>
+fn push_reply(out: &mut Vec<u8>, reply: Reply) -> Result<(), NoMemory>
     ensures ok { OnOk result (out.new.items ≡ out.old.items ++ reply_text reply) }
-    ensures err { IfErr result (λ e. e ≡ WriteFault.NoMemory) }
 {
     match reply {
         Reply::Hit(value) => push_numbered(out, "hit ", value),
@@ -78,9 +71,8 @@ fn push_reply(out: &mut Vec<u8>, reply: Reply) -> Result<(), WriteFault>
     }
 }
 
-fn push_refusal(out: &mut Vec<u8>, cause: Refused) -> Result<(), WriteFault>
+fn push_refusal(out: &mut Vec<u8>, cause: Refused) -> Result<(), NoMemory>
     ensures ok { OnOk result (out.new.items ≡ out.old.items ++ codes "refused " ++ refusal_name cause ++ refusal_detail cause) }
-    ensures err { IfErr result (λ e. e ≡ WriteFault.NoMemory) }
 {
     match cause {
         Refused::NoCore => push_text(out, "refused NoCore"),
@@ -93,9 +85,8 @@ fn push_refusal(out: &mut Vec<u8>, cause: Refused) -> Result<(), WriteFault>
     }
 }
 
-fn push_outcome(out: &mut Vec<u8>, outcome: Result<Reply, Refused>) -> Result<(), WriteFault>
+fn push_outcome(out: &mut Vec<u8>, outcome: Result<Reply, Refused>) -> Result<(), NoMemory>
     ensures ok { OnOk result (out.new.items ≡ out.old.items ++ outcome_text outcome) }
-    ensures err { IfErr result (λ e. e ≡ WriteFault.NoMemory) }
 {
     match outcome {
         Ok(reply) => push_reply(out, reply),
@@ -104,14 +95,13 @@ fn push_outcome(out: &mut Vec<u8>, outcome: Result<Reply, Refused>) -> Result<()
 }
 
 /// Puts the line of a step and what the machine answered at the end.
-pub fn push_line(
+pub(crate) fn push_line(
     out: &mut Vec<u8>,
     shape: Shape,
     step: Step,
     outcome: Result<Reply, Refused>,
-) -> Result<(), WriteFault>
+) -> Result<(), NoMemory>
     ensures ok { OnOk result (out.new.items ≡ out.old.items ++ line_text shape step outcome) }
-    ensures err { IfErr result (λ e. e ≡ WriteFault.NoMemory) }
 {
     push_step(out, shape, step)?;
     push_text(out, ": ")?;

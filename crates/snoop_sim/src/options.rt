@@ -11,7 +11,7 @@ use std::alloc::{AllocError, Global};
 
 /// What the command line asks for.
 #[derive(Debug, Drop)]
-pub enum Task {
+pub(crate) enum Task {
     Help(Error),
     Steps(Protocol, Shape),
     Run(Protocol, Shape),
@@ -23,15 +23,11 @@ static PROTOCOLS: [&str; 2] = ["msi", "mesi"];
 static TABLES: [&str; 2] = ["cache", "memory"];
 
 /// The task that the words ask for; the first of them is the program's own name.
-pub fn task_in(alloc: Global, words: &[String]) -> Result<Task, Failure>
+pub(crate) fn task_in(alloc: Global, words: &[String]) -> Result<Task, Failure>
     // Nothing was written yet that could fail.
     ensures { IfErr result (λ failure. status_of failure ≢ 4) }
 {
-    let parsed = match grammar(alloc) {
-        Ok(command) => command.try_get_matches_from(words),
-        Err(refused) => return Err(Failure::from(refused)),
-    };
-    match parsed {
+    match grammar(alloc)?.try_get_matches_from(words) {
         Ok(matches) => task_of(&matches),
         Err(error) if error.use_stderr() => Err(Failure::from(error)),
         Err(help) => Ok(Task::Help(help)),
@@ -44,13 +40,13 @@ fn task_of(matches: &ArgMatches) -> Result<Task, Failure>
     match matches.subcommand() {
         Some(("table", options)) => Ok(Task::Table(protocol_in(options), which_in(options))),
         Some(("run", options)) => Ok(Task::Run(protocol_in(options), shape_in(options)?)),
-        Some((_, options)) => Ok(Task::Steps(protocol_in(options), shape_in(options)?)),
-        None => Err(Failure::NoCommand),
+        Some(("steps", options)) => Ok(Task::Steps(protocol_in(options), shape_in(options)?)),
+        _ => Err(Failure::NoCommand),
     }
 }
 
 /// The command line that is understood.
-pub fn grammar<'a>(alloc: Global) -> Result<Command<'a>, AllocError> {
+fn grammar<'a>(alloc: Global) -> Result<Command<'a>, AllocError> {
     Command::new(alloc, "snoop")
         .bin_name("snoop")?
         .version("0.1.0")

@@ -1,5 +1,6 @@
-//! The program's testable function.
+//! What the program does with its words and streams, and the status that it ends with.
 ghost use Rattle.std.specs.Prelude.{◌≡◌, ◌≢◌, ◌<◌, ◌⊎◌, true, IfErr};
+ghost use Rattle.std.specs.IoError.{error_kind};
 ghost use Rattle.snoop_sim.specs.Status.{status_of, status_of_fault};
 
 use crate::failure::Failure;
@@ -13,8 +14,10 @@ use std::alloc::Global;
 use std::io;
 use std::io::{ErrorKind, Write};
 
-/// Does what the words ask for, the first of which is the program's own name, and answers its status. A failure
-/// is told to `errors` in one line, a command line that is not understood in `clap`'s text.
+/// Does what the words ask for, the first of which is the program's own name, and answers the status that the program ends
+/// with: 0 where it was done, 1 for a refused text, 2 for a command line that is not understood or a refused shape, 3 for want
+/// of memory, and 4 for a failed write. A failure is told to `errors` in one line, a command line that is not understood in
+/// `clap`'s text. After 1 and 2 nothing was written, after 3 and 4 a beginning of the output.
 pub fn command<R: Source + Drop, W: Sink, E: Write>(
     alloc: Global,
     words: &[String],
@@ -25,16 +28,21 @@ pub fn command<R: Source + Drop, W: Sink, E: Write>(
     ensures known { result < 5 }
     // A text, a command line or a shape is refused before anything is written.
     ensures unwritten { 0 < result → result < 3 → W.contents writer.new ≡ W.contents writer.old }
-    // A writer whose contract rules failure out is never blamed.
-    ensures blames { W.never_fails ≡ true → result ≢ 4 }
+    ensures never_blamed { W.never_fails ≡ true → result ≢ 4 }
 {
     match perform(alloc, words, reader, writer) {
         Ok(()) => 0,
-        Err(failure) => {
-            tell(errors, &failure);
-            failure.status()
-        }
+        Err(failure) => tell(errors, &failure),
     }
+}
+
+/// Tells `errors` in one line why the words of the process could not be had, and answers the status that the program ends
+/// with: 3 for want of memory, and 2 for a word that is not UTF-8.
+pub fn refuse_words<E: Write>(cause: io::Error, errors: &mut E) -> u8
+    ensures memory { error_kind cause ≡ ErrorKind.OutOfMemory → result ≡ 3 }
+    ensures other { error_kind cause ≢ ErrorKind.OutOfMemory → result ≡ 2 }
+{
+    tell(errors, &Failure::of_words(cause))
 }
 
 /// Does what the words ask for.
@@ -45,7 +53,7 @@ fn perform<R: Source + Drop, W: Sink>(
     writer: &mut W,
 ) -> Result<(), Failure>
     ensures unwritten { IfErr result (λ failure. status_of failure < 3 → W.contents writer.new ≡ W.contents writer.old) }
-    ensures blames { IfErr result (λ failure. W.never_fails ≡ true → status_of failure ≢ 4) }
+    ensures never_blamed { IfErr result (λ failure. W.never_fails ≡ true → status_of failure ≢ 4) }
 {
     let task = task_in(alloc, words)?;
     perform_task(alloc, task, reader, writer)?;
@@ -59,7 +67,7 @@ fn perform_task<R: Source + Drop, W: Sink>(
     writer: &mut W,
 ) -> Result<(), SimFault>
     ensures unwritten { IfErr result (λ fault. status_of_fault fault < 3 → W.contents writer.new ≡ W.contents writer.old) }
-    ensures blames { IfErr result (λ fault. W.never_fails ≡ true → fault ≢ SimFault.Write) }
+    ensures never_blamed { IfErr result (λ fault. W.never_fails ≡ true → fault ≢ SimFault.Write) }
 {
     match task {
         Task::Help(help) => write_help(alloc, writer, &help),
@@ -71,7 +79,7 @@ fn perform_task<R: Source + Drop, W: Sink>(
 
 fn write_help<W: Sink>(alloc: Global, writer: &mut W, help: &clap::Error) -> Result<(), SimFault>
     ensures written { IfErr result (λ fault. (fault ≡ SimFault.NoMemory) ⊎ (fault ≡ SimFault.Write)) }
-    ensures blames { IfErr result (λ fault. W.never_fails ≡ true → fault ≢ SimFault.Write) }
+    ensures never_blamed { IfErr result (λ fault. W.never_fails ≡ true → fault ≢ SimFault.Write) }
 {
     let Ok(text) = format!(in alloc; "{help}") else {
         return Err(SimFault::NoMemory);
@@ -80,13 +88,16 @@ fn write_help<W: Sink>(alloc: Global, writer: &mut W, help: &clap::Error) -> Res
     Ok(())
 }
 
-/// Writes why the program failed; what becomes of the text changes no status.
-fn tell<E: Write>(errors: &mut E, failure: &Failure) {
+/// Writes why the program failed, and answers the status, which what becomes of the text doesn't change.
+fn tell<E: Write>(errors: &mut E, failure: &Failure) -> u8
+    ensures { result ≡ status_of failure.now }
+{
     let mut errors = Once(errors);
     let _ = match failure {
         Failure::CommandLine(error) => write!(errors, "{error}"),
         _ => writeln!(errors, "snoop: {failure}"),
     };
+    failure.status()
 }
 
 /// A stream whose failed write is not tried again.

@@ -29,15 +29,9 @@ pub fn simulate_run<R: Source + Drop, W: Sink>(
     ensures reads { R.never_fails ≡ true → IsSomeAnd (R.remaining reader) (λ bytes. length bytes < 2 ^ 64 - 1) → result ≢ Err (SimFault.Text text_fault.Read) }
     ensures writes { W.never_fails ≡ true → result ≢ Err SimFault.Write }
 {
-    let rows = match read_rows(alloc, reader, shape) {
-        Ok(rows) => rows,
-        Err(fault) => return Err(SimFault::Text(fault)),
-    };
-    match write_run(alloc, writer, protocol, shape, &rows) {
-        Ok(()) => Ok(()),
-        Err(WriteFault::Write) => Err(SimFault::Write),
-        Err(WriteFault::NoMemory) => Err(SimFault::NoMemory),
-    }
+    let rows = read_rows(alloc, reader, shape).map_err(SimFault::Text)?;
+    write_run(alloc, writer, protocol, shape, rows)?;
+    Ok(())
 }
 
 /// Serves the rows on a machine at reset, and writes the lines of the steps and the report.
@@ -46,13 +40,12 @@ fn write_run<W: Sink>(
     writer: &mut W,
     protocol: Protocol,
     shape: Shape,
-    rows: &[Row],
+    rows: Vec<Row>,
 ) -> Result<(), WriteFault>
-    requires { All (IsRowWithin shape) rows.now }
-    ensures ok { OnOk result (ReportsRun protocol shape rows.now (W.contents writer.old) (W.contents writer.new)) }
-    ensures front { OnErr result (BeginsRun protocol shape rows.now (W.contents writer.old) (W.contents writer.new)) }
-    // A writer whose contract rules failure out is never blamed.
-    ensures blames { W.never_fails ≡ true → result ≢ Err WriteFault.Write }
+    requires { All (IsRowWithin shape) rows.items }
+    ensures ok { OnOk result (ReportsRun protocol shape rows.items (W.contents writer.old) (W.contents writer.new)) }
+    ensures front { OnErr result (BeginsRun protocol shape rows.items (W.contents writer.old) (W.contents writer.new)) }
+    ensures never_blamed { W.never_fails ≡ true → result ≢ Err WriteFault.Write }
 {
     let mut driver = Driver::new(alloc, protocol, shape, rows)?;
     write_driven(alloc, writer, shape, &mut driver)?;
@@ -69,8 +62,7 @@ fn write_driven<W: Sink>(
 ) -> Result<(), WriteFault>
     ensures ok { OnOk result (WritesDriven shape driver.old driver.new (W.contents writer.old) (W.contents writer.new)) }
     ensures front { OnErr result (WritesDrivenFront shape driver.old (W.contents writer.old) (W.contents writer.new)) }
-    // A writer whose contract rules failure out is never blamed.
-    ensures blames { W.never_fails ≡ true → result ≢ Err WriteFault.Write }
+    ensures never_blamed { W.never_fails ≡ true → result ≢ Err WriteFault.Write }
 {
     let mut chunk = Vec::new(alloc);
     while let Some((step, reply)) = driver.next()? {

@@ -1,5 +1,5 @@
 //! The command `steps`: the steps of a text, taken one after another.
-ghost use Rattle.std.specs.Prelude.{◌≡◌, ◌≢◌, ◌<◌, ◌++◌, ◌-◌, ◌^◌, true, length, Err, OnOk, OnErr, IfErr, IsSomeAnd, Result};
+ghost use Rattle.std.specs.Prelude.{◌≡◌, ◌≢◌, ◌<◌, ◌++◌, ◌-◌, ◌^◌, true, length, Err, OnOk, OnErr, IsSomeAnd, Result};
 ghost use Rattle.snoop_machine.specs.declared.replies.Reply.{Reply as Answer};
 ghost use Rattle.snoop_machine.specs.declared.replies.Refused.{Refused as Cause};
 ghost use Rattle.snoop_trace.specs.declared.fault.TextFault.TheVariants as text_fault;
@@ -14,7 +14,9 @@ use snoop_history::write_report;
 use snoop_machine::laws::runs_go_on;
 use snoop_machine::{Machine, Refused};
 use snoop_rules::Protocol;
-use snoop_trace::{Shape, Sink, Source, Step, WriteFault, read_steps, spill, write_whole};
+use snoop_trace::{
+    NoMemory, Shape, Sink, Source, Step, WriteFault, read_steps, spill, write_whole,
+};
 use std::alloc::Global;
 
 /// Reads a text of steps to its end, takes them in order on a machine at reset, and writes the line of each
@@ -32,15 +34,9 @@ pub fn simulate_steps<R: Source + Drop, W: Sink>(
     ensures reads { R.never_fails ≡ true → IsSomeAnd (R.remaining reader) (λ bytes. length bytes < 2 ^ 64 - 1) → result ≢ Err (SimFault.Text text_fault.Read) }
     ensures writes { W.never_fails ≡ true → result ≢ Err SimFault.Write }
 {
-    let steps = match read_steps(alloc, reader, shape) {
-        Ok(steps) => steps,
-        Err(fault) => return Err(SimFault::Text(fault)),
-    };
-    match write_output(alloc, writer, protocol, shape, &steps) {
-        Ok(()) => Ok(()),
-        Err(WriteFault::Write) => Err(SimFault::Write),
-        Err(WriteFault::NoMemory) => Err(SimFault::NoMemory),
-    }
+    let steps = read_steps(alloc, reader, shape).map_err(SimFault::Text)?;
+    write_output(alloc, writer, protocol, shape, &steps)?;
+    Ok(())
 }
 
 /// Takes the steps on a machine at reset, and writes their lines and the report.
@@ -53,8 +49,7 @@ fn write_output<W: Sink>(
 ) -> Result<(), WriteFault>
     ensures ok { OnOk result (Reports protocol shape steps.now (W.contents writer.old) (W.contents writer.new)) }
     ensures front { OnErr result (Begins protocol shape steps.now (W.contents writer.old) (W.contents writer.new)) }
-    // A writer whose contract rules failure out is never blamed.
-    ensures blames { W.never_fails ≡ true → result ≢ Err WriteFault.Write }
+    ensures never_blamed { W.never_fails ≡ true → result ≢ Err WriteFault.Write }
 {
     runs_go_on();
     let mut machine = Machine::reset(alloc, protocol, shape)?;
@@ -73,8 +68,7 @@ fn write_lines<W: Sink>(
 ) -> Result<(), WriteFault>
     ensures ok { OnOk result (WritesLines shape machine.old.situation steps.now machine.new.situation (W.contents writer.old) (W.contents writer.new)) }
     ensures front { OnErr result (WritesFront shape machine.old.situation steps.now (W.contents writer.old) (W.contents writer.new)) }
-    // A writer whose contract rules failure out is never blamed.
-    ensures blames { W.never_fails ≡ true → result ≢ Err WriteFault.Write }
+    ensures never_blamed { W.never_fails ≡ true → result ≢ Err WriteFault.Write }
 {
     let mut chunk = Vec::new(alloc);
     for step in steps {
@@ -91,14 +85,12 @@ fn push_taken(
     shape: Shape,
     machine: &mut Machine,
     step: Step,
-) -> Result<(), WriteFault>
+) -> Result<(), NoMemory>
     ensures ok { OnOk result ((outcome : Result Answer Cause) × (GoesFirst machine.old.situation step outcome machine.new.situation × (chunk.new.items ≡ chunk.old.items ++ line_text shape step outcome))) }
-    ensures err { IfErr result (λ e. e ≡ WriteFault.NoMemory) }
 {
     let outcome = machine.step(step);
     if let Err(Refused::NoMemory) = outcome {
-        return Err(WriteFault::NoMemory);
+        return Err(NoMemory);
     }
-    push_line(chunk, shape, step, outcome)?;
-    Ok(())
+    push_line(chunk, shape, step, outcome)
 }

@@ -9,3 +9,4 @@ mod scene;
 mod streams;
 mod support;
 mod texts;
+mod words;

@@ -21,7 +21,7 @@ use Rattle.std.proofs.lemmas.List.Elements.{recursion_from_All}
 use Rattle.std.proofs.lemmas.Nat.{mul-le}
 use Rattle.csv.specs.Writing.{is_blank, read_back}
 use Rattle.csv.specs.Reading.{Reached, records, strip_bom}
-use Rattle.snoop_trace.specs.Grammar.{ask, asked, block_in, evict, load, number, numeral, order, respond, step_in, store}
+use Rattle.snoop_trace.specs.Grammar.{ask, asked, block_in, number, numeral, order, respond, step_in, store, without_value}
 use Rattle.snoop_trace.specs.Output.{IsWithin, address_of, step_text, steps_text}
 use Rattle.snoop_trace.specs.Text.{entries_from, steps_of}
 use Rattle.snoop_trace.specs.Extent.{Extent, IsWithinLimits}
@@ -129,7 +129,7 @@ block_back shape n block limits h =
     rw (back, t) refl
 
 step_back : (shape : Extent) (n : ℕ) (s : Step) → IsWithinLimits shape → IsWithin shape s → step_in shape n (row_of shape s) ≡ Ok s
-unfolding step_in ask asked load store evict order respond
+unfolding step_in ask asked without_value store order respond
 step_back shape n (Ask core block Load) limits h =
     let one = number_decimal core (core_small shape core limits h.0) in
     let two = number_decimal (address_of shape block) (address_small shape block limits h.1) in

@@ -9,8 +9,8 @@ pub gathers_none : (a : Option (List ℕ)) (chunk : List ℕ) → chunk ≡ [] �
 gathers_none a chunk e = record { front = []; appends = appends_none a; whole = sym e }
 
 -- a piece was put at the end of the chunk
-pub gathers_more : (a b : Option (List ℕ)) (chunk chunk2 text piece : List ℕ) → Gathers a b chunk text → chunk2 ≡ chunk ++ piece → Gathers a b chunk2 (text ++ piece)
-gathers_more a b chunk chunk2 text piece far e =
+pub gathers_more : (a b : Option (List ℕ)) (chunk grown text piece : List ℕ) → Gathers a b chunk text → grown ≡ chunk ++ piece → Gathers a b grown (text ++ piece)
+gathers_more a b chunk grown text piece far e =
     record {
       front = far.front;
       appends = far.appends;
@@ -18,12 +18,12 @@ gathers_more a b chunk chunk2 text piece far e =
     }
 
 -- a front of the chunk was written
-pub gathers_spilled : (a b c : Option (List ℕ)) (chunk chunk2 text : List ℕ) → Gathers a b chunk text → Spills b chunk c chunk2 → Gathers a c chunk2 text
-gathers_spilled a b c chunk chunk2 text far spills =
+pub gathers_spilled : (a b c : Option (List ℕ)) (chunk left text : List ℕ) → Gathers a b chunk text → Spills b chunk c left → Gathers a c left text
+gathers_spilled a b c chunk left text far spills =
     record {
       front = far.front ++ spills.front;
       appends = appends_more a b c far.front spills.front far.appends spills.appends;
-      whole = far.whole ∙ ap (λ (t : List ℕ). far.front ++ t) spills.whole ∙ sym (append_assoc far.front spills.front chunk2);
+      whole = far.whole ∙ ap (λ (t : List ℕ). far.front ++ t) spills.whole ∙ sym (append_assoc far.front spills.front left);
     }
 
 -- a stop before a write, whatever was still to come

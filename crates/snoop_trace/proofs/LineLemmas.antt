@@ -1,12 +1,11 @@
 -- The lines of steps: those that were gathered, and those to come.
-use Rattle.std.proofs.Common.{◌≡◌, ◌≤◌, ℕ, ◌+◌, List, [], ◌∷◌, ◌++◌, length, take, drop, Option, refl, sym, ap, ◌∙◌, append_assoc}
+use Rattle.std.proofs.Common.{◌≡◌, ℕ, ◌+◌, List, [], ◌∷◌, ◌++◌, take, drop, Option, refl, sym, ap, ◌∙◌, append_assoc}
 use Rattle.std.specs.Prelude.{codes}
-use Rattle.std.specs.Io.KnownBytes.{Appends}
-use Rattle.std.proofs.lemmas.List.{append-nil, take-append-drop, take_all}
+use Rattle.std.proofs.lemmas.List.{append-nil, take-append-drop}
 use Rattle.snoop_trace.specs.Extent.{Extent}
 use Rattle.snoop_trace.specs.Output.{AppendsFront, Gathers, step_text, steps_text}
 use Rattle.snoop_trace.specs.declared.step.Step.{Step}
-use Rattle.snoop_trace.proofs.GathersLemmas.{gathers_cut, gathers_done, gathers_more, gathers_stop}
+use Rattle.snoop_trace.proofs.GathersLemmas.{gathers_cut, gathers_more, gathers_stop}
 
 steps_text_append : (shape : Extent) (xs ys : List Step) → steps_text shape (xs ++ ys) ≡ steps_text shape xs ++ steps_text shape ys
 steps_text_append shape [] ys = refl
@@ -24,10 +23,10 @@ lines_split : (shape : Extent) (steps : List Step) (i : ℕ) → steps_text shap
 lines_split shape steps i = ap (steps_text shape) (sym (take-append-drop i steps)) ∙ steps_text_append shape (take i steps) (drop i steps)
 
 -- one more line in the chunk
-pub lines_more : (a b : Option (List ℕ)) (chunk chunk2 : List ℕ) (shape : Extent) (steps : List Step) (i : ℕ) (s : Step)
-    → Gathers a b chunk (steps_text shape (take i steps)) → take (i + 1) steps ≡ take i steps ++ (s ∷ []) → chunk2 ≡ chunk ++ (step_text shape s ++ codes "\n")
-    → Gathers a b chunk2 (steps_text shape (take (i + 1) steps))
-lines_more a b chunk chunk2 shape steps i s far more e = rw (line_more shape steps i s more) (gathers_more a b chunk chunk2 (steps_text shape (take i steps)) (step_text shape s ++ codes "\n") far e)
+pub lines_more : (a b : Option (List ℕ)) (chunk grown : List ℕ) (shape : Extent) (steps : List Step) (i : ℕ) (s : Step)
+    → Gathers a b chunk (steps_text shape (take i steps)) → take (i + 1) steps ≡ take i steps ++ (s ∷ []) → grown ≡ chunk ++ (step_text shape s ++ codes "\n")
+    → Gathers a b grown (steps_text shape (take (i + 1) steps))
+lines_more a b chunk grown shape steps i s far more e = rw (line_more shape steps i s more) (gathers_more a b chunk grown (steps_text shape (take i steps)) (step_text shape s ++ codes "\n") far e)
 
 -- a stop before a write
 pub lines_stop : (a b : Option (List ℕ)) (chunk : List ℕ) (shape : Extent) (steps : List Step) (i : ℕ)
@@ -38,8 +37,3 @@ lines_stop a b chunk shape steps i far = rw (lines_split shape steps i) (gathers
 pub lines_cut : (a b c : Option (List ℕ)) (chunk : List ℕ) (shape : Extent) (steps : List Step) (i : ℕ)
     → Gathers a b chunk (steps_text shape (take i steps)) → AppendsFront b c chunk → AppendsFront a c (steps_text shape steps)
 lines_cut a b c chunk shape steps i far cut = rw (lines_split shape steps i) (gathers_cut a b c chunk (steps_text shape (take i steps)) (steps_text shape (drop i steps)) far cut)
-
--- all of it was written
-pub lines_done : (a b c : Option (List ℕ)) (chunk : List ℕ) (shape : Extent) (steps : List Step) (i : ℕ)
-    → Gathers a b chunk (steps_text shape (take i steps)) → length steps ≤ i → Appends b c chunk → Appends a c (steps_text shape steps)
-lines_done a b c chunk shape steps i far h p = let all = take_all i steps h in gathers_done a b c chunk (steps_text shape steps) (rw all at far) p

@@ -2,7 +2,9 @@
 use Rattle.std.specs.Prelude.{◌≡◌, Result, Ok, Err, IfErr, Bool, true, false, ℕ, List, Option, Some, None, if◌then◌else◌, ◌==◌, nat_lt}
 use Rattle.std.specs.Option.{ok_or}
 use Rattle.snoop_trace.specs.Extent.{Extent}
-use Rattle.snoop_trace.specs.Grammar.{◌>>=◌, NamesRecord, ask, asked, block_at, block_in, core_in, evict, load, number, number_in, one_of, order, respond, store, three_of, two_of}
+use Rattle.snoop_trace.specs.Grammar.{◌>>=◌, NamesRecord, ask, asked, block_at, block_in, core_in, number, number_in, one_of, order, respond, store, three_of, two_of, without_value}
+use Rattle.snoop_trace.specs.declared.step.Op.{Op}
+use Rattle.snoop_trace.specs.declared.step.Op.TheVariants.{Load, Evict}
 use Rattle.snoop_trace.specs.declared.fault.TextFault.{TextFault}
 use Rattle.snoop_trace.specs.declared.fault.TextFault.TheVariants.{BadKind, BadFields, BadNumber, NoCore, NoBlock}
 
@@ -28,9 +30,9 @@ names_core shape n core = names_if (nat_lt core shape.cores) (Ok core) (Err (NoC
 names_block : (shape : Extent) (n address : ℕ) → IfErr (block_in shape n address) NamesRecord
 names_block shape n address = names_or (block_at shape address) (NoBlock n) tt
 
-names_load : (shape : Extent) (n : ℕ) (fs : List (List ℕ)) → IfErr (load shape n fs) NamesRecord
-unfolding load
-names_load shape n fs =
+names_without_value : (shape : Extent) (n : ℕ) (op : Op) (fs : List (List ℕ)) → IfErr (without_value shape n op fs) NamesRecord
+unfolding without_value
+names_without_value shape n op fs =
     names_bind (ok_or (two_of fs) (BadFields n)) _ (names_or (two_of fs) (BadFields n) tt) (λ f.
     names_bind (number_in n f.0) _ (names_number n f.0) (λ core.
     names_bind (number_in n f.1) _ (names_number n f.1) (λ address.
@@ -45,20 +47,12 @@ names_store shape n fs =
     names_bind (number_in n f.2) _ (names_number n f.2) (λ value.
     names_bind (core_in shape n core) _ (names_core shape n core) (λ c. tt)))))
 
-names_evict : (shape : Extent) (n : ℕ) (fs : List (List ℕ)) → IfErr (evict shape n fs) NamesRecord
-unfolding evict
-names_evict shape n fs =
-    names_bind (ok_or (two_of fs) (BadFields n)) _ (names_or (two_of fs) (BadFields n) tt) (λ f.
-    names_bind (number_in n f.0) _ (names_number n f.0) (λ core.
-    names_bind (number_in n f.1) _ (names_number n f.1) (λ address.
-    names_bind (core_in shape n core) _ (names_core shape n core) (λ c. tt))))
-
 pub names_asked : (shape : Extent) (n letter : ℕ) (fs : List (List ℕ)) → IfErr (asked shape n letter fs) NamesRecord
 unfolding asked
 names_asked shape n letter fs =
-    names_if (letter == 76) (load shape n fs) _ (names_load shape n fs)
+    names_if (letter == 76) (without_value shape n Load fs) _ (names_without_value shape n Load fs)
     (names_if (letter == 83) (store shape n fs) _ (names_store shape n fs)
-    (names_if (letter == 69) (evict shape n fs) (Err (BadKind n)) (names_evict shape n fs) tt))
+    (names_if (letter == 69) (without_value shape n Evict fs) (Err (BadKind n)) (names_without_value shape n Evict fs) tt))
 
 pub names_ask : (shape : Extent) (n letter : ℕ) (fs : List (List ℕ)) → IfErr (ask shape n letter fs) NamesRecord
 unfolding ask

@@ -5,10 +5,12 @@ use Rattle.std.specs.Option.{ok_or}
 use Rattle.std.proofs.lemmas.Bool.{cases_Bool, ltb-true}
 use Rattle.std.proofs.lemmas.List.Elements.{All-weaker}
 use Rattle.snoop_trace.specs.Extent.{Extent}
-use Rattle.snoop_trace.specs.Grammar.{◌>>=◌, IsRowWithin, asked, block_in, core_in, evict, letter_of, load, number_in, row_in, store, three_of, two_of}
+use Rattle.snoop_trace.specs.Grammar.{◌>>=◌, IsRowWithin, asked, block_in, core_in, letter_of, number_in, row_in, store, three_of, two_of, without_value}
 use Rattle.snoop_trace.specs.Progress.{IsSaid}
 use Rattle.snoop_trace.specs.declared.fault.TextFault.{TextFault}
 use Rattle.snoop_trace.specs.declared.fault.TextFault.TheVariants.{BadKind, BadFields}
+use Rattle.snoop_trace.specs.declared.step.Op.{Op}
+use Rattle.snoop_trace.specs.declared.step.Op.TheVariants.{Load, Evict}
 use Rattle.snoop_trace.specs.declared.step.Row.{Row}
 
 -- a reading that goes on
@@ -31,9 +33,9 @@ has_core shape n core = elim (cases_Bool (nat_lt core shape.cores)) [ inl e ↦ 
 abbrev HasCore : Extent → Row → Type 0
 HasCore shape row = row.core < shape.cores
 
-core_of_load : (shape : Extent) (n : ℕ) (fs : List (List ℕ)) → IfOk (load shape n fs) (HasCore shape)
-unfolding load
-core_of_load shape n fs =
+core_of_without_value : (shape : Extent) (n : ℕ) (op : Op) (fs : List (List ℕ)) → IfOk (without_value shape n op fs) (HasCore shape)
+unfolding without_value
+core_of_without_value shape n op fs =
     if_bind (ok_or (two_of fs) (BadFields n)) _ _ _ (if_any (ok_or (two_of fs) (BadFields n))) (λ f yes.
     if_bind (number_in n f.0) _ _ _ (if_any (number_in n f.0)) (λ core yes.
     if_bind (number_in n f.1) _ _ _ (if_any (number_in n f.1)) (λ address yes.
@@ -48,20 +50,12 @@ core_of_store shape n fs =
     if_bind (number_in n f.2) _ _ _ (if_any (number_in n f.2)) (λ value yes.
     if_bind (core_in shape n core) _ _ _ (has_core shape n core) (λ c has. has)))))
 
-core_of_evict : (shape : Extent) (n : ℕ) (fs : List (List ℕ)) → IfOk (evict shape n fs) (HasCore shape)
-unfolding evict
-core_of_evict shape n fs =
-    if_bind (ok_or (two_of fs) (BadFields n)) _ _ _ (if_any (ok_or (two_of fs) (BadFields n))) (λ f yes.
-    if_bind (number_in n f.0) _ _ _ (if_any (number_in n f.0)) (λ core yes.
-    if_bind (number_in n f.1) _ _ _ (if_any (number_in n f.1)) (λ address yes.
-    if_bind (core_in shape n core) _ _ _ (has_core shape n core) (λ c has. has))))
-
 core_of_asked : (shape : Extent) (n letter : ℕ) (fs : List (List ℕ)) → IfOk (asked shape n letter fs) (HasCore shape)
 unfolding asked
 core_of_asked shape n letter fs =
-    if_if (letter == 76) (load shape n fs) _ (HasCore shape) (core_of_load shape n fs)
+    if_if (letter == 76) (without_value shape n Load fs) _ (HasCore shape) (core_of_without_value shape n Load fs)
     (if_if (letter == 83) (store shape n fs) _ (HasCore shape) (core_of_store shape n fs)
-    (if_if (letter == 69) (evict shape n fs) (Err (BadKind n)) (HasCore shape) (core_of_evict shape n fs) tt))
+    (if_if (letter == 69) (without_value shape n Evict fs) (Err (BadKind n)) (HasCore shape) (core_of_without_value shape n Evict fs) tt))
 
 block_there : (shape : Extent) (n address : ℕ) → IfOk (block_in shape n address) (λ block. address / shape.block_bytes < shape.blocks)
 block_there shape n address =

@@ -1,4 +1,5 @@
 -- What a shape says, and which shapes there are.
+-- Source: this project's profile.
 use Rattle.std.specs.Prelude.{ℕ, ◌≤◌}
 use Rattle.std.specs.Int.{IsPowerOfTwo}
 

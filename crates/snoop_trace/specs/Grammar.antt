@@ -1,4 +1,5 @@
 -- How one record of a text is read: its numbers, its fields, and the first fault.
+-- Source: this project's profile.
 use Rattle.std.specs.Prelude.{ℕ, ◌<◌, ◌/◌, ◌^◌, ◌&&◌, List, [], ◌∷◌, drop, nat_lt, nat_eq, ◌==◌, codes, Option, Some, None, Result, Ok, Err, if◌then◌else◌}
 use Rattle.std.specs.Char.{is_digit}
 use Rattle.std.specs.List.{list_all, starts_with}
@@ -7,6 +8,7 @@ use Rattle.std.specs.Str.Parse.{digits_value}
 use Rattle.snoop_trace.specs.declared.fault.TextFault.{TextFault}
 use Rattle.snoop_trace.specs.declared.fault.TextFault.TheVariants.{BadKind, BadFields, BadNumber, NoCore, NoBlock, Read, NoMemory}
 use Rattle.snoop_trace.specs.Extent.{Extent}
+use Rattle.snoop_trace.specs.declared.step.Op.{Op}
 use Rattle.snoop_trace.specs.declared.step.Op.TheVariants.{Load, Store, Evict}
 use Rattle.snoop_trace.specs.declared.step.Row.{Row}
 use Rattle.snoop_trace.specs.declared.step.Step.{Step}
@@ -33,8 +35,8 @@ NamesRecord (NoBlock n) = Unit {0}
 NamesRecord Read = ⊥
 NamesRecord NoMemory = ⊥
 
--- the first fault ends a reading
 infixl 10 ◌>>=◌
+-- the first fault ends a reading
 abbrev pub ◌>>=◌ : {A B : Type 0} → Result A TextFault → (A → Result B TextFault) → Result B TextFault
 (Ok x) >>= f = f x
 (Err e) >>= f = Err e
@@ -55,17 +57,17 @@ block_at shape address = if nat_lt (address / shape.block_bytes) shape.blocks th
 abbrev pub block_in : Extent → ℕ → ℕ → Result ℕ TextFault
 block_in shape n address = ok_or (block_at shape address) (NoBlock n)
 
--- the fields behind the first, where they are one, two or three
+-- the field behind the first, where there is one alone
 abbrev pub one_of : List (List ℕ) → Option (List ℕ)
 one_of (kind ∷ a ∷ []) = Some a
 one_of _ = None
 
--- the two fields behind the first
+-- the two fields behind the first, where there are two
 abbrev pub two_of : List (List ℕ) → Option (List ℕ × List ℕ)
 two_of (kind ∷ a ∷ b ∷ []) = Some (a, b)
 two_of _ = None
 
--- the three fields behind the first
+-- the three fields behind the first, where there are three
 abbrev pub three_of : List (List ℕ) → Option (List ℕ × List ℕ × List ℕ)
 three_of (kind ∷ a ∷ b ∷ c ∷ []) = Some (a, b, c)
 three_of _ = None
@@ -75,14 +77,14 @@ abbrev pub letter_of : List (List ℕ) → Option ℕ
 letter_of ((letter ∷ []) ∷ fields) = Some letter
 letter_of _ = None
 
--- `L,core,address`
-unfoldable pub load : Extent → ℕ → List (List ℕ) → Result Row TextFault
-load shape n fields = do
+-- `L,core,address` and `E,core,address`, by their operation
+unfoldable pub without_value : Extent → ℕ → Op → List (List ℕ) → Result Row TextFault
+without_value shape n op fields = do
   f ← ok_or (two_of fields) (BadFields n)
   core ← number_in n f.0
   address ← number_in n f.1
   core ← core_in shape n core
-  Ok (record { core = core; op = Load; address = address })
+  Ok (record { core = core; op = op; address = address })
 
 -- `S,core,address,value`
 unfoldable pub store : Extent → ℕ → List (List ℕ) → Result Row TextFault
@@ -93,15 +95,6 @@ store shape n fields = do
   value ← number_in n f.2
   core ← core_in shape n core
   Ok (record { core = core; op = Store value; address = address })
-
--- `E,core,address`
-unfoldable pub evict : Extent → ℕ → List (List ℕ) → Result Row TextFault
-evict shape n fields = do
-  f ← ok_or (two_of fields) (BadFields n)
-  core ← number_in n f.0
-  address ← number_in n f.1
-  core ← core_in shape n core
-  Ok (record { core = core; op = Evict; address = address })
 
 -- `O,core`
 unfoldable pub order : Extent → ℕ → List (List ℕ) → Result Step TextFault
@@ -122,9 +115,9 @@ respond shape n fields = do
 -- what a core asks for in record n, by its letter: L is 76, S 83 and E 69
 unfoldable pub asked : Extent → ℕ → ℕ → List (List ℕ) → Result Row TextFault
 asked shape n letter fields =
-    if letter == 76 then load shape n fields
+    if letter == 76 then without_value shape n Load fields
     else if letter == 83 then store shape n fields
-    else if letter == 69 then evict shape n fields
+    else if letter == 69 then without_value shape n Evict fields
     else Err (BadKind n)
 
 -- the row of record n: its address lies in a block

@@ -1,4 +1,5 @@
 -- What is written: the text of steps, and what a writer holds after a write.
+-- Source: this project's profile.
 use Rattle.std.specs.Prelude.{◌<◌, ◌≡◌, ℕ, ◌*◌, ◌^◌, List, ◌++◌, codes, Option}
 use Rattle.std.specs.Fmt.{decimal}
 use Rattle.std.specs.Io.KnownBytes.{Appends}
@@ -40,9 +41,9 @@ pub record AppendsFront (old new : Option (List ℕ)) (text : List ℕ) : Type 0
   pub appends : Appends old new front
 
 -- a front of the chunk has moved to the writer, and the chunk keeps the rest
-pub record Spills (old : Option (List ℕ)) (chunk : List ℕ) (new : Option (List ℕ)) (chunk2 : List ℕ) : Type 0 where
+pub record Spills (old : Option (List ℕ)) (chunk : List ℕ) (new : Option (List ℕ)) (left : List ℕ) : Type 0 where
   pub front : List ℕ
-  pub whole : chunk ≡ front ++ chunk2
+  pub whole : chunk ≡ front ++ left
   pub appends : Appends old new front
 
 -- the writer has got a front of the text, and the chunk holds the rest

@@ -1,4 +1,5 @@
 -- One record further in a text.
+-- Source: this project's profile, over the records of the crate csv.
 use Rattle.std.specs.Prelude.{◌≡◌, ℕ, List, [], Option, Some, None, Result, Ok, Err, IfSome}
 use Rattle.csv.specs.Machine.{Read as Record, next_record}
 use Rattle.csv.specs.Reading.{Ready, default_config, reader_config, reader_state, reader_trim, source_of}
@@ -16,12 +17,12 @@ pub record IsPlain {R : Type 0} (r : Reader R) : Type 0 where
 
 -- the next record of a text, by what it says, from a state and the bytes before it to those after it
 abbrev pub Takes : {A : Type 0} → (List (List ℕ) → Result A TextFault) → State → List ℕ → Result (Option A) TextFault → State → Option (List ℕ) → Type 0
-Takes says s xs (Ok None) s2 left = next_record default_config s [] [] xs ≡ None
-Takes says s xs (Ok (Some entry)) s2 left = (fields : List (List ℕ)) × (ys : List ℕ)
-    × (next_record default_config s [] [] xs ≡ Some (fields, s2, ys)) × (left ≡ Some ys) × (says fields ≡ Ok entry)
-Takes says s xs (Err Read) s2 left = Unit {0}
-Takes says s xs (Err NoMemory) s2 left = Unit {0}
-Takes says s xs (Err fault) s2 left = (r : Record) × (next_record default_config s [] [] xs ≡ Some r) × (says r.0 ≡ Err fault)
+Takes says before xs (Ok None) after left = next_record default_config before [] [] xs ≡ None
+Takes says before xs (Ok (Some entry)) after left = (fields : List (List ℕ)) × (ys : List ℕ)
+    × (next_record default_config before [] [] xs ≡ Some (fields, after, ys)) × (left ≡ Some ys) × (says fields ≡ Ok entry)
+Takes says before xs (Err Read) after left = Unit {0}
+Takes says before xs (Err NoMemory) after left = Unit {0}
+Takes says before xs (Err fault) after left = (r : Record) × (next_record default_config before [] [] xs ≡ Some r) × (says r.0 ≡ Err fault)
 
 -- what a call does to a reader whose bytes are known
 abbrev pub TakesEntry : {R A : Type 0} → (R → Option (List ℕ)) → (List (List ℕ) → Result A TextFault) → Reader R → Result (Option A) TextFault → Reader R → Type 0

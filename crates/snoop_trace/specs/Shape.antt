@@ -1,4 +1,5 @@
 -- A shape's fields, and what they say.
+-- Source: this project's profile.
 use Rattle.snoop_trace.specs.declared.shape.Shape.TheInside.{Inside}
 use Rattle.snoop_trace.specs.Extent.{Extent}
 

@@ -1,4 +1,5 @@
 -- How a whole text is read.
+-- Source: this project's profile, over the records of the crate csv.
 use Rattle.std.specs.Prelude.{◌≡◌, ℕ, ◌+◌, List, [], ◌∷◌, Result, Ok, Err}
 use Rattle.csv.specs.Reading.{default_config, records, strip_bom}
 use Rattle.snoop_trace.specs.Extent.{Extent}

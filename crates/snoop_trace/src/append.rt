@@ -1,31 +1,27 @@
 //! Texts and numbers at the end of a text.
-ghost use Rattle.std.specs.Prelude.{◌≡◌, ◌++◌, ◌∷◌, [], OnOk, IfErr};
+ghost use Rattle.std.specs.Prelude.{◌≡◌, ◌++◌, ◌∷◌, [], OnOk};
 ghost use Rattle.std.specs.Fmt.{decimal};
 
-use crate::fault::WriteFault;
+use crate::fault::NoMemory;
 use itoa::Buffer;
 
 /// Puts a text at the end. After `NoMemory` nothing is said of what stands there.
-pub fn push_text(out: &mut Vec<u8>, text: &str) -> Result<(), WriteFault>
+pub fn push_text(out: &mut Vec<u8>, text: &str) -> Result<(), NoMemory>
     ensures ok { OnOk result (out.new.items ≡ out.old.items ++ text.now) }
-    ensures err { IfErr result (λ e. e ≡ WriteFault.NoMemory) }
 {
-    out.extend_from_slice(text.as_bytes())
-        .map_err(|_| WriteFault::NoMemory)
+    out.extend_from_slice(text.as_bytes()).map_err(|_| NoMemory)
 }
 
 /// Puts a byte at the end. After `NoMemory` nothing is said of what stands there.
-pub fn push_byte(out: &mut Vec<u8>, byte: u8) -> Result<(), WriteFault>
+pub fn push_byte(out: &mut Vec<u8>, byte: u8) -> Result<(), NoMemory>
     ensures ok { OnOk result (out.new.items ≡ out.old.items ++ byte ∷ []) }
-    ensures err { IfErr result (λ e. e ≡ WriteFault.NoMemory) }
 {
-    out.push(byte).map_err(|_| WriteFault::NoMemory)
+    out.push(byte).map_err(|_| NoMemory)
 }
 
 /// Puts a number in decimal digits at the end. After `NoMemory` nothing is said of what stands there.
-pub fn push_decimal(out: &mut Vec<u8>, number: u64) -> Result<(), WriteFault>
+pub fn push_decimal(out: &mut Vec<u8>, number: u64) -> Result<(), NoMemory>
     ensures ok { OnOk result (out.new.items ≡ out.old.items ++ decimal number) }
-    ensures err { IfErr result (λ e. e ≡ WriteFault.NoMemory) }
 {
     let mut digits = Buffer::new();
     push_text(out, digits.format(number))

@@ -37,10 +37,10 @@ pub enum TextFault {
     /// The address lies in no block of the shape.
     #[error("record {0}: NoBlock")]
     NoBlock(u64),
-    /// The reader failed, or gave no end of the text in 2^64 - 1 turns.
+    /// The reader failed, or the text has 2^64 - 1 records or more.
     #[error("Read")]
     Read,
-    /// Memory for a growth was refused.
+    /// Memory for a growth was refused, or the text went on without end and without a record.
     #[error("NoMemory")]
     NoMemory,
 }
@@ -48,7 +48,7 @@ pub enum TextFault {
 /// Why a text was not written whole.
 #[derive(Clone, Copy, Debug, PartialEq, Eq, Error)]
 pub enum WriteFault {
-    /// A write failed, or took nothing of what was left. It is not tried again.
+    /// A write failed, or took nothing of what was left.
     #[error("Write")]
     Write,
     /// Memory for a growth was refused.

@@ -7,7 +7,7 @@ use csv::ByteRecord;
 
 /// The field behind the kind, where there is one alone.
 #[tactic(auto, using(crate::proofs::FieldLemmas::one_at))]
-pub fn one_of(fields: &ByteRecord) -> Option<&[u8]>
+pub(crate) fn one_of(fields: &ByteRecord) -> Option<&[u8]>
     ensures { option_map (λ f. f.now) result ≡ spec.one_of (fields_of fields.now) }
 {
     if fields.len() == 2 {
@@ -19,7 +19,7 @@ pub fn one_of(fields: &ByteRecord) -> Option<&[u8]>
 
 /// The fields behind the kind, where there are two.
 #[tactic(auto, using(crate::proofs::FieldLemmas::two_at, crate::proofs::FieldLemmas::field_there))]
-pub fn two_of(fields: &ByteRecord) -> Option<(&[u8], &[u8])>
+pub(crate) fn two_of(fields: &ByteRecord) -> Option<(&[u8], &[u8])>
     ensures { option_map (λ f. (f.0.now, f.1.now)) result ≡ spec.two_of (fields_of fields.now) }
 {
     if fields.len() != 3 {
@@ -30,7 +30,7 @@ pub fn two_of(fields: &ByteRecord) -> Option<(&[u8], &[u8])>
 
 /// The fields behind the kind, where there are three.
 #[tactic(auto, using(crate::proofs::FieldLemmas::three_at, crate::proofs::FieldLemmas::field_there))]
-pub fn three_of(fields: &ByteRecord) -> Option<(&[u8], &[u8], &[u8])>
+pub(crate) fn three_of(fields: &ByteRecord) -> Option<(&[u8], &[u8], &[u8])>
     ensures { option_map (λ f. (f.0.now, f.1.now, f.2.now)) result ≡ spec.three_of (fields_of fields.now) }
 {
     if fields.len() != 4 {
@@ -41,7 +41,7 @@ pub fn three_of(fields: &ByteRecord) -> Option<(&[u8], &[u8], &[u8])>
 
 /// The kind, where it is one letter.
 #[tactic(auto, using(crate::proofs::FieldLemmas::no_letter, crate::proofs::FieldLemmas::the_letter, crate::proofs::FieldLemmas::other_letter))]
-pub fn letter_of(fields: &ByteRecord) -> Option<u8>
+pub(crate) fn letter_of(fields: &ByteRecord) -> Option<u8>
     ensures { result ≡ spec.letter_of (fields_of fields.now) }
 {
     match fields.get(0)? {

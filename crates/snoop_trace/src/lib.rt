@@ -17,8 +17,8 @@ pub use append::{push_byte, push_decimal, push_text};
 pub use fault::{NoMemory, TextFault, WriteFault};
 pub use output::{push_step, write_steps};
 pub use shape::{Shape, ShapeFault};
-pub use sink::{CHUNK, Plain, Sink, spill, write_whole};
-pub use source::{Any, Source};
+pub use sink::{AnyWriter, CHUNK, Sink, spill, write_whole};
+pub use source::{AnyReader, Source};
 pub use step::{Op, Row, Step};
 pub use text::{read_rows, read_steps};
 

@@ -1,15 +1,14 @@
 //! Steps as text.
-ghost use Rattle.std.specs.Prelude.{◌≡◌, ◌≢◌, ◌++◌, ◌∷◌, [], List, All, Ok, Err, OnOk, OnErr, IfErr, codes, true};
+ghost use Rattle.std.specs.Prelude.{◌≡◌, ◌≢◌, ◌++◌, ◌∷◌, [], All, Ok, Err, OnOk, OnErr, codes, true};
 ghost use Rattle.std.specs.Fmt.{decimal};
 ghost use Rattle.std.specs.Io.KnownBytes.{Appends};
-ghost use Rattle.snoop_trace.specs.Extent.{Extent};
 ghost use Rattle.snoop_trace.specs.Output.{AppendsFront, IsWithin, address_of, step_text, steps_text};
 ghost use Rattle.snoop_trace.specs.Text.{steps_of};
 ghost use Rattle.snoop_trace.specs.declared.step.Step.TheVariants.{Ask};
 
 use crate::append::{push_byte, push_decimal};
-use crate::fault::WriteFault;
-use crate::shape::Shape;
+use crate::fault::{NoMemory, WriteFault};
+use crate::shape::{MAX_BLOCK_BYTES, MAX_BLOCKS, MAX_CORES, Shape};
 use crate::sink::{Sink, spill, write_whole};
 use crate::step::{Op, Step};
 use std::alloc::Global;
@@ -22,42 +21,32 @@ fn address_of(shape: Shape, block: u32) -> u64
 }
 
 // Puts a comma and a number at the end.
-fn push_field(out: &mut Vec<u8>, number: u64) -> Result<(), WriteFault>
+fn push_field(out: &mut Vec<u8>, number: u64) -> Result<(), NoMemory>
     ensures ok { OnOk result (out.new.items ≡ out.old.items ++ (codes "," ++ decimal number)) }
-    ensures err { IfErr result (λ e. e ≡ WriteFault.NoMemory) }
 {
     push_byte(out, b',')?;
     push_decimal(out, number)
 }
 
 // Puts a letter and one field at the end.
-fn push_one(out: &mut Vec<u8>, letter: u8, number: u64) -> Result<(), WriteFault>
+fn push_one(out: &mut Vec<u8>, letter: u8, number: u64) -> Result<(), NoMemory>
     ensures ok { OnOk result (out.new.items ≡ out.old.items ++ (letter ∷ [] ++ codes "," ++ decimal number)) }
-    ensures err { IfErr result (λ e. e ≡ WriteFault.NoMemory) }
 {
     push_byte(out, letter)?;
     push_field(out, number)
 }
 
 // Puts a letter and two fields at the end.
-fn push_two(out: &mut Vec<u8>, letter: u8, core: u32, address: u64) -> Result<(), WriteFault>
+fn push_two(out: &mut Vec<u8>, letter: u8, core: u32, address: u64) -> Result<(), NoMemory>
     ensures ok { OnOk result (out.new.items ≡ out.old.items ++ (letter ∷ [] ++ codes "," ++ decimal core ++ codes "," ++ decimal address)) }
-    ensures err { IfErr result (λ e. e ≡ WriteFault.NoMemory) }
 {
     push_one(out, letter, core as u64)?;
     push_field(out, address)
 }
 
 // Puts the record of what a core asks for at the end.
-fn push_ask(
-    out: &mut Vec<u8>,
-    shape: Shape,
-    core: u32,
-    block: u32,
-    op: Op,
-) -> Result<(), WriteFault>
+fn push_ask(out: &mut Vec<u8>, shape: Shape, core: u32, block: u32, op: Op) -> Result<(), NoMemory>
     ensures ok { OnOk result (out.new.items ≡ out.old.items ++ step_text shape (Ask core block op)) }
-    ensures err { IfErr result (λ e. e ≡ WriteFault.NoMemory) }
 {
     let address = address_of(shape, block);
     match op {
@@ -74,9 +63,8 @@ fn push_ask(
 ///
 /// It is the step's record, with decimal numbers, and the first address of the block in the block's
 /// place. After `NoMemory` nothing is said of what stands there.
-pub fn push_step(out: &mut Vec<u8>, shape: Shape, step: Step) -> Result<(), WriteFault>
+pub fn push_step(out: &mut Vec<u8>, shape: Shape, step: Step) -> Result<(), NoMemory>
     ensures ok { OnOk result (out.new.items ≡ out.old.items ++ step_text shape step) }
-    ensures err { IfErr result (λ e. e ≡ WriteFault.NoMemory) }
 {
     match step {
         Step::Ask { core, block, op } => push_ask(out, shape, core, block, op),
@@ -85,10 +73,11 @@ pub fn push_step(out: &mut Vec<u8>, shape: Shape, step: Step) -> Result<(), Writ
     }
 }
 
-/// Writes steps as a text, one a line, each ended by a line feed: `read_steps` reads them again.
+/// Writes steps as a text, one a line, each ended by a line feed.
 ///
-/// After `Write` and `NoMemory` the writer holds a beginning of the text behind what it held, the
-/// failed write's own bytes aside.
+/// Where the steps are within the shape, `read_steps` reads the same steps from the text. After
+/// `Write` and `NoMemory` the writer holds a beginning of the text behind what it held, the failed
+/// write's own bytes aside.
 #[tactic(auto, using(crate::proofs::BackLemmas::all_read_again))]
 pub fn write_steps<W: Sink>(
     alloc: Global,
@@ -98,15 +87,13 @@ pub fn write_steps<W: Sink>(
 ) -> Result<(), WriteFault>
     ensures ok { OnOk result (Appends (W.contents writer.old) (W.contents writer.new) (steps_text shape steps.now)) }
     ensures front { OnErr result (AppendsFront (W.contents writer.old) (W.contents writer.new) (steps_text shape steps.now)) }
-
-    // A writer whose contract rules failure out is never blamed.
-    ensures blames { W.never_fails ≡ true → result ≢ Err WriteFault.Write }
-    // What was written is read as the same steps, where they are within the shape.
+    ensures never_blamed { W.never_fails ≡ true → result ≢ Err WriteFault.Write }
     ensures read { All (IsWithin shape) steps.now → steps_of shape (steps_text shape steps.now) ≡ Ok steps.now }
 {
-    prove!(shape.cores() <= 256);
-    prove!(shape.blocks() <= 65536);
-    prove!(shape.block_bytes() <= 4096);
+    // The getters' clauses `within`: `read` needs a shape within the limits.
+    prove!(shape.cores() <= MAX_CORES);
+    prove!(shape.blocks() <= MAX_BLOCKS);
+    prove!(shape.block_bytes() <= MAX_BLOCK_BYTES);
     let mut chunk = Vec::new(alloc);
     for step in steps {
         push_line(&mut chunk, shape, *step)?;
@@ -116,9 +103,8 @@ pub fn write_steps<W: Sink>(
 }
 
 // Puts the line of a step at the end.
-fn push_line(out: &mut Vec<u8>, shape: Shape, step: Step) -> Result<(), WriteFault>
+fn push_line(out: &mut Vec<u8>, shape: Shape, step: Step) -> Result<(), NoMemory>
     ensures ok { OnOk result (out.new.items ≡ out.old.items ++ (step_text shape step ++ codes "\n")) }
-    ensures err { IfErr result (λ e. e ≡ WriteFault.NoMemory) }
 {
     push_step(out, shape, step)?;
     push_byte(out, b'\n')

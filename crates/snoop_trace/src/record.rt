@@ -13,7 +13,7 @@ use crate::step::{Op, Row, Step};
 use csv::ByteRecord;
 
 /// What a record of a text says.
-pub trait Entry: Copy {
+pub(crate) trait Entry: Copy {
     ghost use Rattle.snoop_trace.specs.declared.fault.TextFault.{TextFault};
 
     // By the shape, the record's number and its fields.
@@ -72,19 +72,15 @@ fn block_in(shape: Shape, n: u64, address: u64) -> Result<u32, TextFault>
     shape.block_of(address).ok_or(TextFault::NoBlock(n))
 }
 
-#[tactic(auto, unfolding(crate::specs::Grammar::load))]
-fn load(shape: Shape, n: u64, fields: &ByteRecord) -> Result<Row, TextFault>
-    ensures { result ≡ spec.load shape n (fields_of fields.now) }
+#[tactic(auto, unfolding(crate::specs::Grammar::without_value))]
+fn without_value(shape: Shape, n: u64, op: Op, fields: &ByteRecord) -> Result<Row, TextFault>
+    ensures { result ≡ spec.without_value shape n op (fields_of fields.now) }
 {
     let (core, address) = two_of(fields).ok_or(TextFault::BadFields(n))?;
     let core = number_in(n, core)?;
     let address = number_in(n, address)?;
     let core = core_in(shape, n, core)?;
-    Ok(Row {
-        core,
-        op: Op::Load,
-        address,
-    })
+    Ok(Row { core, op, address })
 }
 
 #[tactic(auto, unfolding(crate::specs::Grammar::store))]
@@ -103,30 +99,15 @@ fn store(shape: Shape, n: u64, fields: &ByteRecord) -> Result<Row, TextFault>
     })
 }
 
-#[tactic(auto, unfolding(crate::specs::Grammar::evict))]
-fn evict(shape: Shape, n: u64, fields: &ByteRecord) -> Result<Row, TextFault>
-    ensures { result ≡ spec.evict shape n (fields_of fields.now) }
-{
-    let (core, address) = two_of(fields).ok_or(TextFault::BadFields(n))?;
-    let core = number_in(n, core)?;
-    let address = number_in(n, address)?;
-    let core = core_in(shape, n, core)?;
-    Ok(Row {
-        core,
-        op: Op::Evict,
-        address,
-    })
-}
-
 // What a core asks for in record n, by its letter.
 #[tactic(auto, unfolding(crate::specs::Grammar::asked))]
 fn asked(shape: Shape, n: u64, letter: u8, fields: &ByteRecord) -> Result<Row, TextFault>
     ensures { result ≡ spec.asked shape n letter (fields_of fields.now) }
 {
     match letter {
-        b'L' => load(shape, n, fields),
+        b'L' => without_value(shape, n, Op::Load, fields),
         b'S' => store(shape, n, fields),
-        b'E' => evict(shape, n, fields),
+        b'E' => without_value(shape, n, Op::Evict, fields),
         _ => Err(TextFault::BadKind(n)),
     }
 }

@@ -1,10 +1,19 @@
 //! How many cores and blocks there are, and how long a block is.
-ghost use Rattle.std.specs.Prelude.{◌≡◌, ◌≤◌, ◌↔◌, Err, IsTrue};
+ghost use Rattle.std.specs.Prelude.{◌≡◌, ◌↔◌, Err, IsTrue};
 ghost use Rattle.std.specs.Result.{OkIff};
 ghost use Rattle.snoop_trace.specs.Extent.{IsBlockCount, IsBlockSize, IsCoreCount};
 
 use std::marker::Model;
 use thiserror::Error;
+
+/// The most cores of a shape.
+pub(crate) const MAX_CORES: u32 = 256;
+
+/// The most blocks of a shape.
+pub(crate) const MAX_BLOCKS: u32 = 65536;
+
+/// The most bytes of a block.
+pub(crate) const MAX_BLOCK_BYTES: u32 = 4096;
 
 /// Why there is no such shape: the first of these that holds.
 #[derive(Clone, Copy, Debug, PartialEq, Eq, Error)]
@@ -60,10 +69,10 @@ impl Shape {
         ensures bad_bytes { (result ≡ Err ShapeFault.BadBytes)
             ↔ (IsCoreCount cores × IsBlockCount blocks × ¬ IsBlockSize block_bytes) }
     {
-        if !(1..=256).contains(&cores) {
+        if !(1..=MAX_CORES).contains(&cores) {
             return Err(ShapeFault::BadCores);
         }
-        if !(1..=65536).contains(&blocks) {
+        if !(1..=MAX_BLOCKS).contains(&blocks) {
             return Err(ShapeFault::BadBlocks);
         }
         if !is_block_size(block_bytes) {
@@ -119,5 +128,5 @@ impl Shape {
 fn is_block_size(bytes: u32) -> bool
     ensures { IsTrue result ↔ IsBlockSize bytes }
 {
-    bytes.is_power_of_two() && bytes <= 4096
+    bytes.is_power_of_two() && bytes <= MAX_BLOCK_BYTES
 }

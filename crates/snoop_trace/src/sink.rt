@@ -1,8 +1,8 @@
 //! Writers that tell whether they can fail, and how a text is written to them.
 //!
-//! A call that writes answers `Write` where a write failed. That it answers so nowhere else is a
-//! clause about the writer: one whose contract rules failure out is never blamed. `std::io::Write`
-//! has no word for that, so `Sink` adds one.
+//! A call that writes answers `Write` where a write failed. That it answers so nowhere else is its
+//! clause `never_blamed`: a writer whose contract rules failure out is never blamed.
+//! `std::io::Write` has no word for that, so `Sink` adds one.
 ghost use Rattle.std.specs.Prelude.{◌≡◌, ◌<◌, ◌≤◌, [], Bool, true, false, IsOk, IsOkAnd, OnOk, OnErr, IfErr, length};
 ghost use Rattle.std.specs.Io.{WritesAtMost};
 ghost use Rattle.std.specs.Io.KnownBytes.{Appends, WriteAppends};
@@ -14,8 +14,8 @@ use std::io::Write;
 
 /// A writer, and whether its contract rules failure out.
 ///
-/// A vector of bytes can fail, since its growth may be refused. For any other writer, put it in
-/// `Plain`.
+/// `io::sink()`, which keeps nothing, cannot fail; a vector of bytes can, since its growth may be
+/// refused. For any other writer, put it in `AnyWriter`.
 pub trait Sink: Write {
     // Its writes never fail, and take a byte at least where there is one.
     ghost never_fails: { Bool };
@@ -35,6 +35,14 @@ impl Sink for Vec<u8> {
     }
 }
 
+impl Sink for io::Sink {
+    ghost never_fails = { true };
+
+    fn put(&mut self, buf: &[u8]) -> io::Result<usize> {
+        <Self as Write>::write(self, buf)
+    }
+}
+
 impl<W: Sink> Sink for &mut W {
     ghost never_fails = { W.never_fails };
 
@@ -45,9 +53,9 @@ impl<W: Sink> Sink for &mut W {
 
 /// Any writer, of which it is not known whether it can fail: a file, a pipe, standard output.
 #[derive(Drop)]
-pub struct Plain<W>(pub W);
+pub struct AnyWriter<W>(pub W);
 
-impl<W: Write> Write for Plain<W> {
+impl<W: Write> Write for AnyWriter<W> {
     ghost contents = { λ w. W.contents w.0 };
 
     fn write(&mut self, buf: &[u8]) -> io::Result<usize> {
@@ -59,7 +67,7 @@ impl<W: Write> Write for Plain<W> {
     }
 }
 
-impl<W: Write> Sink for Plain<W> {
+impl<W: Write> Sink for AnyWriter<W> {
     ghost never_fails = { false };
 
     fn put(&mut self, buf: &[u8]) -> io::Result<usize> {
@@ -69,14 +77,13 @@ impl<W: Write> Sink for Plain<W> {
 
 /// Writes all of a text.
 ///
-/// It stops at the first write that fails or takes nothing, with `Write`, and tries none again. The
-/// writer then holds a beginning of the text behind what it held, the failed write's own bytes
-/// aside.
+/// It stops at the first write that fails or takes nothing, with `Write`. The writer then holds a
+/// beginning of the text behind what it held, the failed write's own bytes aside. That it tries no
+/// write again is tested, and not proved.
 pub fn write_whole<W: Sink>(writer: &mut W, text: &[u8]) -> Result<(), WriteFault>
     ensures ok { OnOk result (Appends (W.contents writer.old) (W.contents writer.new) text.now) }
     ensures front { OnErr result (AppendsFront (W.contents writer.old) (W.contents writer.new) text.now) }
-    // A writer whose contract rules failure out is never blamed.
-    ensures blames { W.never_fails ≡ true → IsOk result }
+    ensures never_blamed { W.never_fails ≡ true → IsOk result }
     ensures err { IfErr result (λ e. e ≡ WriteFault.Write) }
 {
     let mut at = 0;
@@ -110,8 +117,7 @@ pub fn spill<W: Sink>(writer: &mut W, chunk: &mut Vec<u8>) -> Result<(), WriteFa
     ensures front { OnErr result (AppendsFront (W.contents writer.old) (W.contents writer.new) chunk.old.items) }
     ensures kept { OnErr result (chunk.new.items ≡ chunk.old.items) }
 
-    // A writer whose contract rules failure out is never blamed.
-    ensures blames { W.never_fails ≡ true → IsOk result }
+    ensures never_blamed { W.never_fails ≡ true → IsOk result }
     ensures err { IfErr result (λ e. e ≡ WriteFault.Write) }
 {
     if chunk.len() >= CHUNK {

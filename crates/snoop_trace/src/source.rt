@@ -1,18 +1,18 @@
 //! Readers that tell whether they can fail.
 //!
-//! A call that reads answers `Read` where its reader failed. That it answers so nowhere else is a
-//! clause about the reader: one whose contract rules failure out is never blamed. `std::io::Read`
-//! has no word for that, so `Source` adds one.
+//! A call that reads answers `Read` where its reader failed. That it answers so nowhere else is its
+//! clause `never_blamed`: a reader whose contract rules failure out is never blamed, over known
+//! bytes that are fewer than 2^64 - 1. `std::io::Read` has no word for that, so `Source` adds one.
 ghost use Rattle.std.specs.Prelude.{◌≡◌, Bool, true, false, IsOk};
 ghost use Rattle.std.specs.Io.{ReadsAtMost};
 ghost use Rattle.std.specs.Io.KnownBytes.{ReadConsumes};
 
 use std::io;
-use std::io::{ErrorKind, Read};
+use std::io::Read;
 
 /// A reader, and whether its contract rules failure out.
 ///
-/// A slice of bytes cannot fail. For any other reader, put it in `Any`.
+/// A slice of bytes cannot fail. For any other reader, put it in `AnyReader`.
 pub trait Source: Read {
     // Its reads never fail.
     ghost never_fails: { Bool };
@@ -43,9 +43,9 @@ impl<R: Source> Source for &mut R {
 
 /// Any reader, of which it is not known whether it can fail: a file, a pipe, standard input.
 #[derive(Drop)]
-pub struct Any<R>(pub R);
+pub struct AnyReader<R>(pub R);
 
-impl<R: Read> Read for Any<R> {
+impl<R: Read> Read for AnyReader<R> {
     ghost remaining = { λ r. R.remaining r.0 };
 
     fn read(&mut self, buf: &mut [u8]) -> io::Result<usize> {
@@ -53,7 +53,7 @@ impl<R: Read> Read for Any<R> {
     }
 }
 
-impl<R: Read> Source for Any<R> {
+impl<R: Read> Source for AnyReader<R> {
     ghost never_fails = { false };
 
     fn pull(&mut self, buf: &mut [u8]) -> io::Result<usize> {

@@ -1,5 +1,5 @@
 //! Reading a text of steps or of rows.
-ghost use Rattle.std.specs.Prelude.{◌≡◌, ◌≢◌, ◌<◌, ◌+◌, ◌-◌, ◌^◌, ℕ, List, [], length, true, false, All, IfSome, IfOk, IsSome, IsSomeAnd, Err};
+ghost use Rattle.std.specs.Prelude.{◌≡◌, ◌≢◌, ◌<◌, ◌+◌, ◌-◌, ◌^◌, [], length, true, false, All, IfSome, IfOk, IsSome, IsSomeAnd, Err};
 ghost use Rattle.csv.specs.Reading.{default_config, reader_state, records, source_of};
 ghost use Rattle.csv.specs.declared.parser.State.TheVariants as st;
 ghost use Rattle.snoop_trace.specs.Grammar.{IsRowWithin};
@@ -25,7 +25,7 @@ fn next_entry<E: Entry, R: Source>(
     ensures plain { IfOk result (λ entry. IsSome entry → IsPlain text.new) }
     ensures takes { TakesEntry (λ r. R.remaining r.inner) (E.says shape n) text.old result text.new }
     ensures said { IfOk result (λ entry. IfSome entry (IsSaid (E.says shape))) }
-    ensures blames { result ≡ Err TextFault.Read → R.never_fails ≡ false }
+    ensures never_blamed { result ≡ Err TextFault.Read → R.never_fails ≡ false }
 {
     match text.read_byte_record(fields) {
         Ok(true) => match E::from_record(shape, n, fields) {
@@ -51,7 +51,7 @@ fn take_entries<E: Entry, R: Source>(
     ensures read { IfSome (source_of (λ r. R.remaining r.inner) text.old)
         (λ xs. Gives (λ _. entries.new.items) result (entries_from (E.says shape) 1 (records default_config xs))) }
     ensures said { IfOk result (λ _. All (IsSaid (E.says shape)) entries.new.items) }
-    ensures blames { R.never_fails ≡ true
+    ensures never_blamed { R.never_fails ≡ true
         → IsSomeAnd (source_of (λ r. R.remaining r.inner) text.old) (λ xs. length xs < 2 ^ 64 - 1)
         → result ≢ Err TextFault.Read }
 {
@@ -78,7 +78,7 @@ fn read_entries<E: Entry, R: Source + Drop>(
     ensures read { IfSome (R.remaining reader)
         (λ bytes. Gives (λ entries. entries.items) result (entries_from (E.says shape) 1 (records_of bytes))) }
     ensures said { IfOk result (λ entries. All (IsSaid (E.says shape)) entries.items) }
-    ensures blames { R.never_fails ≡ true → IsSomeAnd (R.remaining reader) (λ bytes. length bytes < 2 ^ 64 - 1)
+    ensures never_blamed { R.never_fails ≡ true → IsSomeAnd (R.remaining reader) (λ bytes. length bytes < 2 ^ 64 - 1)
         → result ≢ Err TextFault.Read }
 {
     let mut text = ReaderBuilder::new()
@@ -115,8 +115,7 @@ pub fn read_steps<R: Source + Drop>(
 ) -> Result<Vec<Step>, TextFault>
     ensures read { IfSome (R.remaining reader)
         (λ bytes. Gives (λ steps. steps.items) result (steps_of shape bytes)) }
-    // A reader whose contract rules failure out, over a text with an end, is never blamed.
-    ensures blames { R.never_fails ≡ true → IsSomeAnd (R.remaining reader) (λ bytes. length bytes < 2 ^ 64 - 1)
+    ensures never_blamed { R.never_fails ≡ true → IsSomeAnd (R.remaining reader) (λ bytes. length bytes < 2 ^ 64 - 1)
         → result ≢ Err TextFault.Read }
 {
     read_entries(alloc, reader, shape)
@@ -134,8 +133,7 @@ pub fn read_rows<R: Source + Drop>(
     ensures read { IfSome (R.remaining reader)
         (λ bytes. Gives (λ rows. rows.items) result (rows_of shape bytes)) }
     ensures within { IfOk result (λ rows. All (IsRowWithin shape) rows.items) }
-    // A reader whose contract rules failure out, over a text with an end, is never blamed.
-    ensures blames { R.never_fails ≡ true → IsSomeAnd (R.remaining reader) (λ bytes. length bytes < 2 ^ 64 - 1)
+    ensures never_blamed { R.never_fails ≡ true → IsSomeAnd (R.remaining reader) (λ bytes. length bytes < 2 ^ 64 - 1)
         → result ≢ Err TextFault.Read }
 {
     read_entries(alloc, reader, shape)

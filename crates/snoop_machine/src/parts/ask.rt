@@ -3,6 +3,7 @@ ghost use Rattle.snoop_trace.specs.declared.step.Step.TheVariants.{Ask};
 ghost use Rattle.snoop_rules.specs.Waits.{waiting_request};
 ghost use Rattle.snoop_bus.specs.Queues.{after_issue};
 ghost use Rattle.snoop_history.specs.declared.items.Item.TheVariants.{Did as ItemDid};
+ghost use Rattle.snoop_machine.specs.Standing.{KeepsRoom};
 ghost use Rattle.snoop_machine.specs.Sound.{IsProper, line_at};
 ghost use Rattle.snoop_machine.specs.Move.{next_did, hit_reply as reply_to_hit};
 ghost use Rattle.snoop_machine.specs.Asked.{TakesAsk};
@@ -49,7 +50,8 @@ impl Parts {
         requires found { TakesAsk self.old.situation.protocol (line_at self.old.situation.caches core block) op asked }
         requires proper { IsProper (line_at self.old.situation.caches core block) }
         requires room { 0 < room_for_ask self.old core asked }
-        ensures { MovesAsk self.old.situation core block op result self.new.situation (entry_of_ask self.old.situation.log core block op asked) }
+        ensures moved { MovesAsk self.old.situation core block op result self.new.situation (entry_of_ask self.old.situation.log core block op asked) }
+        ensures room { KeepsRoom self.old self.new }
     {
         match asked {
             Asked::Absent => Reply::Absent,
@@ -76,7 +78,8 @@ impl Parts {
         requires idle { waiting_request (line_at self.old.situation.caches core block).state ≡ None }
         requires waits { waiting_request line.state ≡ Some request }
         requires proper { IsProper line }
-        ensures { self.new.situation ≡ record self.old.situation { caches = slice_set self.old.situation.caches block (slice_set (slice_index_or self.old.situation.caches block []) core line); queues = after_issue self.old.situation.queues core block } }
+        ensures written { self.new.situation ≡ record self.old.situation { caches = slice_set self.old.situation.caches block (slice_set (slice_index_or self.old.situation.caches block []) core line); queues = after_issue self.old.situation.queues core block } }
+        ensures room { KeepsRoom self.old self.new }
     {
         self.lines.set(core, block, line);
         self.bus.issue(core, request, block);
@@ -88,7 +91,8 @@ impl Parts {
         requires block { block < self.old.situation.shape.blocks }
         requires same { waiting_request line.state ≡ waiting_request (line_at self.old.situation.caches core block).state }
         requires proper { IsProper line }
-        ensures { self.new.situation ≡ record self.old.situation { caches = slice_set self.old.situation.caches block (slice_set (slice_index_or self.old.situation.caches block []) core line) } }
+        ensures written { self.new.situation ≡ record self.old.situation { caches = slice_set self.old.situation.caches block (slice_set (slice_index_or self.old.situation.caches block []) core line) } }
+        ensures room { KeepsRoom self.old self.new }
     {
         self.lines.set(core, block, line);
     }
@@ -100,7 +104,8 @@ impl Parts {
         requires room { 0 < self.old.room }
         requires same { waiting_request line.state ≡ waiting_request (line_at self.old.situation.caches core block).state }
         requires proper { IsProper line }
-        ensures { self.new.situation ≡ record self.old.situation { caches = slice_set self.old.situation.caches block (slice_set (slice_index_or self.old.situation.caches block []) core line); log = self.old.situation.log ++ ItemDid (next_did self.old.situation.log core block op value true) ∷ [] } }
+        ensures written { self.new.situation ≡ record self.old.situation { caches = slice_set self.old.situation.caches block (slice_set (slice_index_or self.old.situation.caches block []) core line); log = self.old.situation.log ++ ItemDid (next_did self.old.situation.log core block op value true) ∷ [] } }
+        ensures room { KeepsRoom self.old self.new }
     {
         let did = self.next_did(core, block, op, value, true);
         self.lines.set(core, block, line);

@@ -2,6 +2,7 @@ ghost use Rattle.std.specs.Prelude.{◌≡◌, ◌<◌, IfOk, IfErr, IfSome, IfN
 ghost use Rattle.snoop_bus.specs.Queues.{queue_of};
 ghost use Rattle.snoop_machine.specs.declared.replies.Refused.{Refused};
 ghost use Rattle.snoop_trace.specs.declared.step.Step.TheVariants.{Order};
+ghost use Rattle.snoop_machine.specs.Standing.{KeepsRoom};
 ghost use Rattle.snoop_machine.specs.Situation.{picture_of};
 ghost use Rattle.snoop_machine.specs.Refuses.{Refuses, WaitsOnNone};
 ghost use Rattle.snoop_machine.specs.Message.{IsMessage};
@@ -75,7 +76,8 @@ impl Parts {
         requires free { (picture_of self.old.situation block).transaction ≡ None }
         requires memory { TakesMemRow self.old.situation.protocol (picture_of self.old.situation block).memory request memory }
         requires message { IsMessage self.old.situation.protocol (picture_of self.old.situation block) core request message }
-        ensures { Orders self.old.situation core block request self.new.situation }
+        ensures ordered { Orders self.old.situation core block request self.new.situation }
+        ensures room { KeepsRoom self.old self.new }
     {
         self.lines.take_rows(self.protocol, core, request, block);
         self.memory[block as usize].state = memory;

@@ -1,6 +1,7 @@
 ghost use Rattle.std.specs.Prelude.{◌≡◌, ◌≢◌, ◌<◌, IfOk, IfErr, IfSome, Some, None, slice_index_or, Err};
 ghost use Rattle.snoop_trace.specs.declared.step.Step.TheVariants.{Respond};
 ghost use Rattle.snoop_rules.specs.declared.names.Request.TheVariants.{PutM};
+ghost use Rattle.snoop_machine.specs.Standing.{KeepsRoom};
 ghost use Rattle.snoop_machine.specs.Situation.{picture_of, no_memory};
 ghost use Rattle.snoop_machine.specs.Sound.{line_at};
 ghost use Rattle.snoop_machine.specs.Arrive.{FillsLine, ArrivesIn};
@@ -66,7 +67,8 @@ impl Parts {
         requires opened { (picture_of self.old.situation block).transaction ≡ Some closing }
         requires put { closing.request ≡ PutM }
         requires memory { ArrivesIn self.old.situation.protocol closing.payload closing.value (slice_index_or self.old.situation.memory block no_memory) memory }
-        ensures { Responds self.old.situation block closing None self.new.situation }
+        ensures responded { Responds self.old.situation block closing None self.new.situation }
+        ensures room { KeepsRoom self.old self.new }
     {
         self.memory[block as usize] = memory;
         let _ = self.bus.finish(block);
@@ -89,7 +91,8 @@ impl Parts {
         requires get { closing.request ≢ PutM }
         requires filled { FillsLine self.old.situation.protocol (line_at self.old.situation.caches closing.core block) closing.payload closing.value filled }
         requires memory { ArrivesIn self.old.situation.protocol closing.payload closing.value (slice_index_or self.old.situation.memory block no_memory) memory }
-        ensures { Responds self.old.situation block closing (Some result) self.new.situation }
+        ensures responded { Responds self.old.situation block closing (Some result) self.new.situation }
+        ensures room { KeepsRoom self.old self.new }
     {
         let did = self.next_did(closing.core, closing.block, filled.op, filled.value, false);
         self.lines.set(closing.core, block, filled.line);

@@ -4,6 +4,7 @@ ghost use Rattle.snoop_machine.specs.declared.replies.Refused.TheVariants.{NoMem
 ghost use Rattle.snoop_machine.specs.declared.replies.Reply.TheVariants.{Came as CameReply};
 ghost use Rattle.snoop_machine.specs.Move.{FirstMove};
 ghost use Rattle.snoop_machine.specs.StepMove.{RefusedFor, IsDenied};
+ghost use Rattle.snoop_machine.specs.Standing.{KeepsRoom};
 ghost use Rattle.snoop_machine.specs.Prepared.{IsFull, IsPrepared};
 ghost use Rattle.snoop_machine.specs.Plan.{IsPlan, IsPlanFor, step_of, room_for, room_for_ask, entry_of};
 ghost use Rattle.snoop_machine.specs.Refuses.{Refuses};
@@ -24,9 +25,10 @@ impl Parts {
     pub(crate) fn step(&mut self, step: Step) -> Result<Reply, Refused>
         requires { IsCoherent self.old.situation }
         ensures taken { IfOk result (λ reply. (entry : Option Item) × FirstMove self.old.situation step reply self.new.situation entry) }
-        ensures refused { IfErr result (λ cause. RefusedFor self.old.situation step cause × (self.new.situation ≡ self.old.situation)) }
+        ensures refused { IfErr result (λ cause. RefusedFor self.old.situation step cause × (self.new ≡ self.old)) }
         ensures exactly { (cause : Refused) → Refuses self.old.situation step cause → result ≡ Err cause }
         ensures full { result ≡ Err WantOfMemory → IsFull self.old step }
+        ensures room { KeepsRoom self.old self.new }
 
         // What `prepare` told comes true.
         ensures prepared { (entry : Option Item) → IsPrepared self.old step entry → IsOk result × (self.new.situation.log ≡ self.old.situation.log ++ option_to_list entry) }
@@ -40,9 +42,10 @@ impl Parts {
     pub(crate) fn prepare(&mut self, step: Step) -> Result<Option<Item>, Refused>
         requires { IsCoherent self.old.situation }
         ensures prepared { IfOk result (λ entry. IsPrepared self.new step entry) }
-        ensures refused { IfErr result (λ cause. RefusedFor self.old.situation step cause) }
+        ensures refused { IfErr result (λ cause. RefusedFor self.old.situation step cause × (self.new ≡ self.old)) }
         ensures exactly { (cause : Refused) → Refuses self.old.situation step cause → result ≡ Err cause }
         ensures full { result ≡ Err WantOfMemory → IsFull self.old step }
+        ensures room { KeepsRoom self.old self.new }
         ensures unchanged { self.new.situation ≡ self.old.situation }
     {
         let plan = self.planned(step)?;
@@ -75,6 +78,8 @@ impl Parts {
         requires { IsPlan self.old.situation plan }
         ensures ok { OnOk result (0 < room_for self.new plan) }
         ensures full { OnErr result (room_for self.old plan ≡ 0) }
+        ensures refused { OnErr result (self.new ≡ self.old) }
+        ensures room { KeepsRoom self.old self.new }
         ensures unchanged { self.new.situation ≡ self.old.situation }
     {
         match plan {
@@ -88,6 +93,8 @@ impl Parts {
         requires { core < self.old.situation.shape.cores }
         ensures ok { OnOk result (0 < room_for_ask self.new core asked) }
         ensures full { OnErr result (room_for_ask self.old core asked ≡ 0) }
+        ensures refused { OnErr result (self.new ≡ self.old) }
+        ensures room { KeepsRoom self.old self.new }
         ensures unchanged { self.new.situation ≡ self.old.situation }
     {
         match asked {
@@ -102,8 +109,11 @@ impl Parts {
         requires { core < self.old.situation.shape.cores }
         ensures ok { OnOk result (0 < slice_index self.new.rooms core) }
         ensures full { OnErr result (slice_index self.old.rooms core ≡ 0) }
+        ensures refused { OnErr result (self.new ≡ self.old) }
+        ensures room { KeepsRoom self.old self.new }
         ensures unchanged { self.new.situation ≡ self.old.situation }
     {
+        // The usual case, at no cost.
         if self.bus.has_room(core) {
             return Ok(());
         }
@@ -114,8 +124,11 @@ impl Parts {
     fn reserve_item(&mut self) -> Result<(), NoMemory>
         ensures ok { OnOk result (0 < self.new.room) }
         ensures full { OnErr result (self.old.room ≡ 0) }
+        ensures refused { OnErr result (self.new ≡ self.old) }
+        ensures room { KeepsRoom self.old self.new }
         ensures unchanged { self.new.situation ≡ self.old.situation }
     {
+        // The usual case, at no cost.
         if self.log.has_room() {
             return Ok(());
         }
@@ -126,7 +139,8 @@ impl Parts {
     fn perform(&mut self, plan: Plan) -> Reply
         requires found { IsPlan self.old.situation plan }
         requires room { 0 < room_for self.old plan }
-        ensures { FirstMove self.old.situation (step_of plan) result self.new.situation (entry_of self.old.situation.log plan) }
+        ensures moved { FirstMove self.old.situation (step_of plan) result self.new.situation (entry_of self.old.situation.log plan) }
+        ensures room { KeepsRoom self.old self.new }
     {
         match plan {
             Plan::Ask {

@@ -206,7 +206,11 @@ fn outside_the_shape_there_is_nothing(rt: HostRuntime) -> Result<(), Fail> {
     assert_eq!(rt; machine.mem_state(4), None);
     assert_eq!(rt; machine.mem_value(4), None);
     assert_eq!(rt; machine.open(4), None);
-    assert_eq!(rt; machine.waiting(2), false);
+    assert!(rt; !machine.waiting(2));
+    assert_eq!(rt; machine.log().count(1), Some(0));
+    assert_eq!(rt; machine.log().count(2), None);
+    assert_eq!(rt; machine.log().flat(3), Some(0));
+    assert_eq!(rt; machine.log().flat(4), None);
     assert_eq!(rt; machine.step(ask(0, 0, Op::Evict)), Ok(Reply::Absent));
     assert_eq!(rt; machine.shape().blocks(), 4);
     assert_eq!(rt; machine.protocol(), Protocol::Msi);

@@ -1,18 +1,17 @@
 use crate::Machine;
 use snoop_rules::Protocol;
-use snoop_trace::{NoMemory, Op, Shape, Step};
+use snoop_trace::{Op, Shape, Step};
 use std::alloc::Global;
+use std::test::Fail;
 
 /// So many cores, four blocks of 64 bytes.
-pub fn machine_of(alloc: Global, protocol: Protocol, cores: u32) -> Result<Machine, NoMemory> {
-    let Ok(shape) = Shape::new(cores, 4, 64) else {
-        return Err(NoMemory);
-    };
-    Machine::reset(alloc, protocol, shape)
+pub fn machine_of(alloc: Global, protocol: Protocol, cores: u32) -> Result<Machine, Fail> {
+    let shape = Shape::new(cores, 4, 64)?;
+    Ok(Machine::reset(alloc, protocol, shape)?)
 }
 
 /// Two cores, four blocks of 64 bytes, MSI.
-pub fn two_cores(alloc: Global) -> Result<Machine, NoMemory> {
+pub fn two_cores(alloc: Global) -> Result<Machine, Fail> {
     machine_of(alloc, Protocol::Msi, 2)
 }
 

@@ -1,13 +1,13 @@
 //! Scenes of many cores on one block.
 
 use crate::tests::scene::{Scene, play};
-use crate::tests::support::{output_of, run, steps_of};
+use crate::tests::support::{run, steps_of};
 use std::alloc::Global;
 use std::test::Fail;
 
 static STALE_WRITEBACKS: [Scene; 1] = [Scene {
     name: "stale_writebacks_of_four_cores",
-    lines: b"\
+    output: "\
 S,0,0,1: issued GetM
 O,0: ordered GetM
 R,0: Data from memory, store 1
@@ -32,9 +32,13 @@ O,2: ordered PutM
 R,0: NoData from core 2
 O,3: ordered PutM
 R,0: Data from core 3
+loads 0 hits 0
+stores 4 hits 0
+GetS 0 GetM 4 PutM 4
+from memory 1 from caches 3
+writebacks 1 clean 0 stale 3
+block 0 value 4
 ",
-    totals: [0, 0, 4, 0, 0, 4, 4, 1, 3, 1, 0, 3],
-    blocks: b"block 0 value 4\n",
 }];
 
 #[test]
@@ -54,78 +58,88 @@ fn sender(alloc: Global, core: u32) -> Result<String, Fail> {
     }
 }
 
-/// The lines where each core stores and evicts in turn, and then all writebacks are ordered.
+/// The output where each core stores and evicts in turn, and then all writebacks are ordered.
 fn stale_writebacks(alloc: Global) -> Result<String, Fail> {
-    let mut lines = String::new(alloc);
+    let mut output = String::new(alloc);
     for core in 0..256_u32 {
         let value = core + 1;
         let from = sender(alloc, core)?;
         write!(
-            lines,
+            output,
             "S,{core},0,{value}: issued GetM\nO,{core}: ordered GetM\n"
         )?;
-        write!(lines, "R,0: Data from {}, store {value}\n", from.as_str())?;
-        write!(lines, "E,{core},0: issued PutM\n")?;
+        write!(output, "R,0: Data from {}, store {value}\n", from.as_str())?;
+        write!(output, "E,{core},0: issued PutM\n")?;
     }
     for core in 0..255_u32 {
         write!(
-            lines,
+            output,
             "O,{core}: ordered PutM\nR,0: NoData from core {core}\n"
         )?;
     }
-    write!(lines, "O,255: ordered PutM\nR,0: Data from core 255\n")?;
-    Ok(lines)
+    write!(output, "O,255: ordered PutM\nR,0: Data from core 255\n")?;
+    write!(
+        output,
+        "\
+loads 0 hits 0
+stores 256 hits 0
+GetS 0 GetM 256 PutM 256
+from memory 1 from caches 255
+writebacks 1 clean 0 stale 255
+block 0 value 256
+"
+    )?;
+    Ok(output)
 }
 
 #[test]
 fn stale_writebacks_of_all_cores(rt: HostRuntime) -> Result<(), Fail> {
     let alloc = rt.alloc();
-    let lines = stale_writebacks(alloc)?;
-    let steps = steps_of(alloc, lines.as_bytes())?;
-    let wanted = output_of(
-        alloc,
-        lines.as_bytes(),
-        [0, 0, 256, 0, 0, 256, 256, 1, 255, 1, 0, 255],
-        b"block 0 value 256\n",
-    )?;
+    let wanted = stale_writebacks(alloc)?;
+    let steps = steps_of(alloc, wanted.as_str())?;
     for line in [
         "snoop steps --cores 256",
         "snoop steps --cores 256 --protocol mesi",
     ] {
-        let ran = run(alloc, line, steps.as_slice())?;
+        let ran = run(alloc, line, steps.as_bytes())?;
         assert_eq!(rt; ran.status, 0, "{line}");
-        assert_eq!(rt; ran.output.as_slice(), wanted.as_slice(), "{line}");
+        assert_eq!(rt; ran.output(), wanted.as_str(), "{line}");
     }
     Ok(())
 }
 
-/// The lines where all cores ask to store, and then each is ordered and answered in turn.
-fn all_cores_store_lines(alloc: Global) -> Result<String, Fail> {
-    let mut lines = String::new(alloc);
+/// The output where all cores ask to store, and then each is ordered and answered in turn.
+fn stores_of_all_cores(alloc: Global) -> Result<String, Fail> {
+    let mut output = String::new(alloc);
     for core in 0..256_u32 {
-        write!(lines, "S,{core},0,{core}: issued GetM\n")?;
+        write!(output, "S,{core},0,{core}: issued GetM\n")?;
     }
     for core in 0..256_u32 {
         let from = sender(alloc, core)?;
-        write!(lines, "O,{core}: ordered GetM\n")?;
-        write!(lines, "R,0: Data from {}, store {core}\n", from.as_str())?;
+        write!(output, "O,{core}: ordered GetM\n")?;
+        write!(output, "R,0: Data from {}, store {core}\n", from.as_str())?;
     }
-    Ok(lines)
+    write!(
+        output,
+        "\
+loads 0 hits 0
+stores 256 hits 0
+GetS 0 GetM 256 PutM 0
+from memory 1 from caches 255
+writebacks 0 clean 0 stale 0
+block 0 value 255
+"
+    )?;
+    Ok(output)
 }
 
 #[test]
 fn all_cores_store(rt: HostRuntime) -> Result<(), Fail> {
     let alloc = rt.alloc();
-    let lines = all_cores_store_lines(alloc)?;
-    let steps = steps_of(alloc, lines.as_bytes())?;
-    let wanted = output_of(
-        alloc,
-        lines.as_bytes(),
-        [0, 0, 256, 0, 0, 256, 0, 1, 255, 0, 0, 0],
-        b"block 0 value 255\n",
-    )?;
-    let ran = run(alloc, "snoop steps --cores 256", steps.as_slice())?;
+    let wanted = stores_of_all_cores(alloc)?;
+    let steps = steps_of(alloc, wanted.as_str())?;
+    let ran = run(alloc, "snoop steps --cores 256", steps.as_bytes())?;
     assert_eq!(rt; ran.status, 0);
-    assert_eq!(rt; ran.output.as_slice(), wanted.as_slice());
+    assert_eq!(rt; ran.output(), wanted.as_str());
     Ok(())
 }

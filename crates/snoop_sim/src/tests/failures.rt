@@ -4,7 +4,7 @@ use crate::tests::streams::{FailingReader, FailingWriter, Fault};
 use crate::tests::support::words_of;
 use crate::{SimFault, command, simulate_run, simulate_steps};
 use snoop_rules::Protocol;
-use snoop_trace::{Any, Plain, Shape, Sink, Source, TextFault};
+use snoop_trace::{AnyReader, AnyWriter, Shape, Sink, Source, TextFault};
 use std::alloc::Global;
 use std::test::Fail;
 
@@ -91,11 +91,12 @@ fn reader_fails_after_each_byte(rt: HostRuntime) -> Result<(), Fail> {
         let text = engine.text();
         for most in [1, 1000] {
             for left in 0..text.len() {
-                let reader = Any(FailingReader { text, left, most });
+                let reader = AnyReader(FailingReader { text, left, most });
                 let mut written = Vec::new(alloc);
                 let ended = engine.simulate(alloc, reader, &mut written)?;
-                assert!(rt;
-                    ended == Err(SimFault::Text(TextFault::Read)),
+                assert_eq!(rt;
+                    ended,
+                    Err(SimFault::Text(TextFault::Read)),
                     "{engine:?} after {left}"
                 );
                 assert!(rt; written.is_empty(), "{engine:?} after {left}");
@@ -109,15 +110,16 @@ fn reader_fails_after_each_byte(rt: HostRuntime) -> Result<(), Fail> {
 fn faulty_record_before_a_failed_read(rt: HostRuntime) -> Result<(), Fail> {
     let alloc = rt.alloc();
     for engine in ENGINES {
-        let reader = Any(FailingReader {
+        let reader = AnyReader(FailingReader {
             text: b"L,0,0\nX,0\nL,0,0\n",
             left: 12,
             most: 1,
         });
         let mut written = Vec::new(alloc);
         let ended = engine.simulate(alloc, reader, &mut written)?;
-        assert!(rt;
-            ended == Err(SimFault::Text(TextFault::BadKind(2))),
+        assert_eq!(rt;
+            ended,
+            Err(SimFault::Text(TextFault::BadKind(2))),
             "{engine:?}"
         );
         assert!(rt; written.is_empty(), "{engine:?}");
@@ -129,14 +131,14 @@ fn faulty_record_before_a_failed_read(rt: HostRuntime) -> Result<(), Fail> {
 fn reader_gives_one_byte_a_call(rt: HostRuntime) -> Result<(), Fail> {
     let alloc = rt.alloc();
     for engine in ENGINES {
-        let reader = Any(FailingReader {
+        let reader = AnyReader(FailingReader {
             text: engine.text(),
             left: 1000,
             most: 1,
         });
         let mut written = Vec::new(alloc);
         let ended = engine.simulate(alloc, reader, &mut written)?;
-        assert!(rt; ended == Ok(()), "{engine:?}");
+        assert_eq!(rt; ended, Ok(()), "{engine:?}");
         assert_eq!(rt;
             written.as_slice(),
             engine.output().as_bytes(),
@@ -146,8 +148,8 @@ fn reader_gives_one_byte_a_call(rt: HostRuntime) -> Result<(), Fail> {
     Ok(())
 }
 
-fn writer(alloc: Global, calls: usize, most: usize, fault: Fault) -> Plain<FailingWriter> {
-    Plain(FailingWriter {
+fn writer(alloc: Global, calls: usize, most: usize, fault: Fault) -> AnyWriter<FailingWriter> {
+    AnyWriter(FailingWriter {
         held: Vec::new(alloc),
         calls,
         most,
@@ -171,11 +173,11 @@ fn fails_at_each_call(
         let ended = engine.simulate(alloc, engine.text(), &mut writer)?;
         let held = writer.0.held.as_slice();
         if !writer.0.failed {
-            assert!(rt; ended == Ok(()), "{engine:?}");
+            assert_eq!(rt; ended, Ok(()), "{engine:?}");
             assert_eq!(rt; held, output, "{engine:?}");
             return Ok(calls);
         }
-        assert!(rt; ended == Err(SimFault::Write), "{engine:?} at call {calls}");
+        assert_eq!(rt; ended, Err(SimFault::Write), "{engine:?} at call {calls}");
         assert!(rt; output.starts_with(held), "{engine:?} at call {calls}");
         assert!(rt; held.len() >= calls, "{engine:?} at call {calls}");
         assert_eq!(rt; writer.0.calls_after, 0, "{engine:?} at call {calls}");
@@ -207,7 +209,7 @@ fn failing_writer(rt: HostRuntime) -> Result<(), Fail> {
         for fault in [Fault::Refuses, Fault::TakesNothing] {
             let mut writer = writer(alloc, 12, 1, fault);
             let ended = engine.simulate(alloc, text, &mut writer)?;
-            assert!(rt; ended == Err(SimFault::Write), "{engine:?}");
+            assert_eq!(rt; ended, Err(SimFault::Write), "{engine:?}");
             assert_eq!(rt;
                 writer.0.held.as_slice(),
                 b"L,0,0: issue".as_slice(),
@@ -224,7 +226,7 @@ fn failures_end_the_command(rt: HostRuntime) -> Result<(), Fail> {
     let alloc = rt.alloc();
     for (line, text) in [("snoop steps", STEPS), ("snoop run", ROWS)] {
         let words = words_of(alloc, line)?;
-        let reader = Any(FailingReader {
+        let reader = AnyReader(FailingReader {
             text,
             left: 20,
             most: 1000,

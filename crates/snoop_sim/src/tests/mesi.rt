@@ -6,7 +6,7 @@ use std::test::Fail;
 static SCENES: [Scene; 6] = [
     Scene {
         name: "silent_upgrade",
-        lines: b"\
+        output: "\
 L,0,0: issued GetS
 O,0: ordered GetS
 R,0: DataE from memory, load 0
@@ -14,13 +14,17 @@ S,0,0,3: store hit
 E,0,0: issued PutM
 O,0: ordered PutM
 R,0: Data from core 0
+loads 1 hits 0
+stores 1 hits 1
+GetS 1 GetM 0 PutM 1
+from memory 1 from caches 0
+writebacks 1 clean 0 stale 0
+block 0 value 3
 ",
-        totals: [1, 0, 1, 1, 1, 0, 1, 1, 0, 1, 0, 0],
-        blocks: b"block 0 value 3\n",
     },
     Scene {
         name: "clean_eviction",
-        lines: b"\
+        output: "\
 L,0,0: issued GetS
 O,0: ordered GetS
 R,0: DataE from memory, load 0
@@ -30,26 +34,34 @@ R,0: NoDataE from core 0
 L,1,0: issued GetS
 O,1: ordered GetS
 R,0: DataE from memory, load 0
+loads 2 hits 0
+stores 0 hits 0
+GetS 2 GetM 0 PutM 1
+from memory 2 from caches 0
+writebacks 0 clean 1 stale 0
+block 0 value 0
 ",
-        totals: [2, 0, 0, 0, 2, 0, 1, 2, 0, 0, 1, 0],
-        blocks: b"block 0 value 0\n",
     },
     Scene {
         name: "exclusive_shared",
-        lines: b"\
+        output: "\
 L,0,0: issued GetS
 O,0: ordered GetS
 R,0: DataE from memory, load 0
 L,1,0: issued GetS
 O,1: ordered GetS
 R,0: Data from core 0, load 0
+loads 2 hits 0
+stores 0 hits 0
+GetS 2 GetM 0 PutM 0
+from memory 1 from caches 1
+writebacks 0 clean 0 stale 0
+block 0 value 0
 ",
-        totals: [2, 0, 0, 0, 2, 0, 0, 1, 1, 0, 0, 0],
-        blocks: b"block 0 value 0\n",
     },
     Scene {
         name: "exclusive_shared_while_evicting",
-        lines: b"\
+        output: "\
 L,0,0: issued GetS
 O,0: ordered GetS
 R,0: DataE from memory, load 0
@@ -59,13 +71,17 @@ O,1: ordered GetS
 R,0: Data from core 0, load 0
 O,0: ordered PutM
 R,0: NoData from core 0
+loads 2 hits 0
+stores 0 hits 0
+GetS 2 GetM 0 PutM 1
+from memory 1 from caches 1
+writebacks 0 clean 0 stale 1
+block 0 value 0
 ",
-        totals: [2, 0, 0, 0, 2, 0, 1, 1, 1, 0, 0, 1],
-        blocks: b"block 0 value 0\n",
     },
     Scene {
         name: "ownership_returns",
-        lines: b"\
+        output: "\
 S,0,0,7: issued GetM
 O,0: ordered GetM
 R,0: Data from memory, store 7
@@ -78,13 +94,17 @@ O,1: ordered PutM
 R,0: Data from core 1
 O,0: ordered PutM
 R,0: NoData from core 0
+loads 0 hits 0
+stores 2 hits 0
+GetS 0 GetM 2 PutM 2
+from memory 1 from caches 1
+writebacks 1 clean 0 stale 1
+block 0 value 9
 ",
-        totals: [0, 0, 2, 0, 0, 2, 2, 1, 1, 1, 0, 1],
-        blocks: b"block 0 value 9\n",
     },
     Scene {
         name: "silent_upgrade_while_evicting",
-        lines: b"\
+        output: "\
 L,0,0: issued GetS
 O,0: ordered GetS
 R,0: DataE from memory, load 0
@@ -95,9 +115,13 @@ O,1: ordered GetS
 R,0: Data from core 0, load 4
 O,0: ordered PutM
 R,0: NoData from core 0
+loads 2 hits 0
+stores 1 hits 1
+GetS 2 GetM 0 PutM 1
+from memory 1 from caches 1
+writebacks 0 clean 0 stale 1
+block 0 value 4
 ",
-        totals: [2, 0, 1, 1, 2, 0, 1, 1, 1, 0, 0, 1],
-        blocks: b"block 0 value 4\n",
     },
 ];
 

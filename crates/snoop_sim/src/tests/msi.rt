@@ -6,23 +6,31 @@ use std::test::Fail;
 static LOADS_AND_STORES: [Scene; 6] = [
     Scene {
         name: "empty_text",
-        lines: b"",
-        totals: [0, 0, 0, 0, 0, 0, 0, 0, 0, 0, 0, 0],
-        blocks: b"",
+        output: "\
+loads 0 hits 0
+stores 0 hits 0
+GetS 0 GetM 0 PutM 0
+from memory 0 from caches 0
+writebacks 0 clean 0 stale 0
+",
     },
     Scene {
         name: "first_load",
-        lines: b"\
+        output: "\
 L,0,0: issued GetS
 O,0: ordered GetS
 R,0: Data from memory, load 0
+loads 1 hits 0
+stores 0 hits 0
+GetS 1 GetM 0 PutM 0
+from memory 1 from caches 0
+writebacks 0 clean 0 stale 0
+block 0 value 0
 ",
-        totals: [1, 0, 0, 0, 1, 0, 0, 1, 0, 0, 0, 0],
-        blocks: b"block 0 value 0\n",
     },
     Scene {
         name: "upgrade_race",
-        lines: b"\
+        output: "\
 L,0,0: issued GetS
 O,0: ordered GetS
 R,0: Data from memory, load 0
@@ -36,13 +44,17 @@ O,0: refused BusTaken 0
 R,0: Data from memory, store 6
 O,0: ordered GetM
 R,0: Data from core 1, store 5
+loads 2 hits 0
+stores 2 hits 0
+GetS 2 GetM 2 PutM 0
+from memory 3 from caches 1
+writebacks 0 clean 0 stale 0
+block 0 value 5
 ",
-        totals: [2, 0, 2, 0, 2, 2, 0, 3, 1, 0, 0, 0],
-        blocks: b"block 0 value 5\n",
     },
     Scene {
         name: "load_hits_while_store_waits",
-        lines: b"\
+        output: "\
 L,0,0: issued GetS
 O,0: ordered GetS
 R,0: Data from memory, load 0
@@ -54,26 +66,35 @@ L,0,0: refused Stalled IM_AD
 R,0: Data from memory, store 6
 O,0: ordered GetM
 R,0: Data from core 1, store 5
+loads 2 hits 1
+stores 2 hits 0
+GetS 1 GetM 2 PutM 0
+from memory 2 from caches 1
+writebacks 0 clean 0 stale 0
+block 0 value 5
 ",
-        totals: [2, 1, 2, 0, 1, 2, 0, 2, 1, 0, 0, 0],
-        blocks: b"block 0 value 5\n",
     },
     Scene {
         name: "two_blocks_open",
-        lines: b"\
+        output: "\
 L,0,0: issued GetS
 L,0,64: issued GetS
 O,0: ordered GetS
 O,0: ordered GetS
 R,64: Data from memory, load 0
 R,0: Data from memory, load 0
+loads 2 hits 0
+stores 0 hits 0
+GetS 2 GetM 0 PutM 0
+from memory 2 from caches 0
+writebacks 0 clean 0 stale 0
+block 0 value 0
+block 1 value 0
 ",
-        totals: [2, 0, 0, 0, 2, 0, 0, 2, 0, 0, 0, 0],
-        blocks: b"block 0 value 0\nblock 1 value 0\n",
     },
     Scene {
         name: "head_of_queue_blocks",
-        lines: b"\
+        output: "\
 L,1,0: issued GetS
 O,1: ordered GetS
 L,0,0: issued GetS
@@ -84,16 +105,21 @@ O,0: ordered GetS
 O,0: ordered GetS
 R,0: Data from memory, load 0
 R,64: Data from memory, load 0
+loads 3 hits 0
+stores 0 hits 0
+GetS 3 GetM 0 PutM 0
+from memory 3 from caches 0
+writebacks 0 clean 0 stale 0
+block 0 value 0
+block 1 value 0
 ",
-        totals: [3, 0, 0, 0, 3, 0, 0, 3, 0, 0, 0, 0],
-        blocks: b"block 0 value 0\nblock 1 value 0\n",
     },
 ];
 
 static EVICTIONS: [Scene; 5] = [
     Scene {
         name: "stale_writeback",
-        lines: b"\
+        output: "\
 S,0,0,7: issued GetM
 O,0: ordered GetM
 R,0: Data from memory, store 7
@@ -104,13 +130,17 @@ R,0: Data from core 0, store 9
 O,0: ordered PutM
 L,1,0: hit 9
 R,0: NoData from core 0
+loads 1 hits 1
+stores 2 hits 0
+GetS 0 GetM 2 PutM 1
+from memory 1 from caches 1
+writebacks 0 clean 0 stale 1
+block 0 value 9
 ",
-        totals: [1, 1, 2, 0, 0, 2, 1, 1, 1, 0, 0, 1],
-        blocks: b"block 0 value 9\n",
     },
     Scene {
         name: "store_hit_while_evicting",
-        lines: b"\
+        output: "\
 S,0,0,7: issued GetM
 O,0: ordered GetM
 R,0: Data from memory, store 7
@@ -121,13 +151,17 @@ R,0: Data from core 0
 L,1,0: issued GetS
 O,1: ordered GetS
 R,0: Data from memory, load 8
+loads 1 hits 0
+stores 2 hits 1
+GetS 1 GetM 1 PutM 1
+from memory 2 from caches 0
+writebacks 1 clean 0 stale 0
+block 0 value 8
 ",
-        totals: [1, 0, 2, 1, 1, 1, 1, 2, 0, 1, 0, 0],
-        blocks: b"block 0 value 8\n",
     },
     Scene {
         name: "refused_and_repeated",
-        lines: b"\
+        output: "\
 S,0,0,7: issued GetM
 O,0: ordered GetM
 R,0: Data from memory, store 7
@@ -141,13 +175,17 @@ R,0: NoData from core 0
 L,0,0: issued GetS
 O,0: ordered GetS
 R,0: Data from core 1, load 9
+loads 1 hits 0
+stores 2 hits 0
+GetS 1 GetM 2 PutM 1
+from memory 1 from caches 2
+writebacks 0 clean 0 stale 1
+block 0 value 9
 ",
-        totals: [1, 0, 2, 0, 1, 2, 1, 1, 2, 0, 0, 1],
-        blocks: b"block 0 value 9\n",
     },
     Scene {
         name: "writeback_after_downgrade",
-        lines: b"\
+        output: "\
 S,0,0,7: issued GetM
 O,0: ordered GetM
 R,0: Data from memory, store 7
@@ -157,34 +195,45 @@ O,1: ordered GetS
 R,0: Data from core 0, load 7
 O,0: ordered PutM
 R,0: NoData from core 0
+loads 1 hits 0
+stores 1 hits 0
+GetS 1 GetM 1 PutM 1
+from memory 1 from caches 1
+writebacks 0 clean 0 stale 1
+block 0 value 7
 ",
-        totals: [1, 0, 1, 0, 1, 1, 1, 1, 1, 0, 0, 1],
-        blocks: b"block 0 value 7\n",
     },
     Scene {
         name: "drop_then_absent",
-        lines: b"\
+        output: "\
 L,0,0: issued GetS
 O,0: ordered GetS
 R,0: Data from memory, load 0
 E,0,0: gone
 E,0,0: absent
+loads 1 hits 0
+stores 0 hits 0
+GetS 1 GetM 0 PutM 0
+from memory 1 from caches 0
+writebacks 0 clean 0 stale 0
+block 0 value 0
 ",
-        totals: [1, 0, 0, 0, 1, 0, 0, 1, 0, 0, 0, 0],
-        blocks: b"block 0 value 0\n",
     },
 ];
 
 static NOTHING_ENABLED: [Scene; 1] = [Scene {
     name: "nothing_enabled",
-    lines: b"\
+    output: "\
 O,0: refused NothingWaiting
 O,0: refused NothingWaiting
 R,0: refused NoTransaction
 R,0: refused NoTransaction
+loads 0 hits 0
+stores 0 hits 0
+GetS 0 GetM 0 PutM 0
+from memory 0 from caches 0
+writebacks 0 clean 0 stale 0
 ",
-    totals: [0, 0, 0, 0, 0, 0, 0, 0, 0, 0, 0, 0],
-    blocks: b"",
 }];
 
 #[test]

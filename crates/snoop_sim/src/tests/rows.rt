@@ -1,30 +1,67 @@
 //! Worked texts of rows, which `run` drives.
 
-use crate::tests::support::{output_of, run};
+use crate::tests::support::run;
 use std::alloc::Global;
 use std::process::Abort;
 use std::test::Fail;
 
-/// A text of rows, the lines of the steps that serve it, and what the report then tells.
+/// A text of rows, and the whole output of the steps that serve it.
 #[derive(Clone, Copy)]
 struct Journey {
     name: &'static str,
-    rows: &'static [u8],
-    lines: &'static [u8],
-    totals: [u64; 12],
-    blocks: &'static [u8],
+    rows: &'static str,
+    output: &'static str,
 }
 
 /// Runs the rows, and compares the whole output.
 fn play(rt: &impl Abort, alloc: Global, line: &str, journey: Journey) -> Result<(), Fail> {
     let name = journey.name;
-    let wanted = output_of(alloc, journey.lines, journey.totals, journey.blocks)?;
-    let ran = run(alloc, line, journey.rows)?;
+    let ran = run(alloc, line, journey.rows.as_bytes())?;
     assert_eq!(rt; ran.status, 0, "{name}: {line}");
     assert!(rt; ran.errors.is_empty(), "{name}: {line}");
-    assert!(rt; ran.output == wanted, "{name}: {line}");
+    assert_eq!(rt;
+        ran.output.as_slice(),
+        journey.output.as_bytes(),
+        "{name}: {line}"
+    );
     Ok(())
 }
+
+/// The output where core 0 stores 1 and loads, and core 1 stores 2, all in one block under MSI.
+static RACE: &str = "\
+S,0,0,1: issued GetM
+S,1,0,2: issued GetM
+O,0: ordered GetM
+R,0: Data from memory, store 1
+L,0,0: hit 1
+O,1: ordered GetM
+R,0: Data from core 0, store 2
+loads 1 hits 1
+stores 2 hits 0
+GetS 0 GetM 2 PutM 0
+from memory 1 from caches 1
+writebacks 0 clean 0 stale 0
+block 0 value 2
+";
+
+/// The output where core 0 stores 1 and evicts, and core 1 stores 2, all in one block.
+static STALE_WRITEBACK: &str = "\
+S,0,0,1: issued GetM
+S,1,0,2: issued GetM
+O,0: ordered GetM
+R,0: Data from memory, store 1
+E,0,0: issued PutM
+O,1: ordered GetM
+R,0: Data from core 0, store 2
+O,0: ordered PutM
+R,0: NoData from core 0
+loads 0 hits 0
+stores 2 hits 0
+GetS 0 GetM 2 PutM 1
+from memory 1 from caches 1
+writebacks 0 clean 0 stale 1
+block 0 value 2
+";
 
 static BOTH: [&str; 2] = ["snoop run", "snoop run --protocol mesi"];
 
@@ -38,10 +75,14 @@ fn no_rows(rt: HostRuntime) -> Result<(), Fail> {
             line,
             Journey {
                 name: "no rows",
-                rows: b"",
-                lines: b"",
-                totals: [0; 12],
-                blocks: b"",
+                rows: "",
+                output: "\
+loads 0 hits 0
+stores 0 hits 0
+GetS 0 GetM 0 PutM 0
+from memory 0 from caches 0
+writebacks 0 clean 0 stale 0
+",
             },
         )?;
     }
@@ -58,18 +99,8 @@ fn driven_race(rt: HostRuntime) -> Result<(), Fail> {
         "snoop run",
         Journey {
             name: "driven race",
-            rows: b"S,0,0,1\nS,1,0,2\nL,0,0\n",
-            lines: b"\
-S,0,0,1: issued GetM
-S,1,0,2: issued GetM
-O,0: ordered GetM
-R,0: Data from memory, store 1
-L,0,0: hit 1
-O,1: ordered GetM
-R,0: Data from core 0, store 2
-",
-            totals: [1, 1, 2, 0, 0, 2, 0, 1, 1, 0, 0, 0],
-            blocks: b"block 0 value 2\n",
+            rows: "S,0,0,1\nS,1,0,2\nL,0,0\n",
+            output: RACE,
         },
     )
 }
@@ -84,22 +115,42 @@ fn driven_stale_writeback(rt: HostRuntime) -> Result<(), Fail> {
             line,
             Journey {
                 name: "driven stale writeback",
-                rows: b"S,0,0,1\nE,0,0\nS,1,0,2\n",
-                lines: b"\
-S,0,0,1: issued GetM
-S,1,0,2: issued GetM
-O,0: ordered GetM
-R,0: Data from memory, store 1
-E,0,0: issued PutM
-O,1: ordered GetM
-R,0: Data from core 0, store 2
-O,0: ordered PutM
-R,0: NoData from core 0
-",
-                totals: [0, 0, 2, 0, 0, 2, 1, 1, 1, 0, 0, 1],
-                blocks: b"block 0 value 2\n",
+                rows: "S,0,0,1\nE,0,0\nS,1,0,2\n",
+                output: STALE_WRITEBACK,
             },
         )?;
+    }
+    Ok(())
+}
+
+/// The order of two rows counts on one core alone: each mixture of the cores' rows gives the same bytes.
+#[test]
+fn mixtures_of_the_cores(rt: HostRuntime) -> Result<(), Fail> {
+    for rows in [
+        "S,0,0,1\nL,0,0\nS,1,0,2\n",
+        "S,0,0,1\nS,1,0,2\nL,0,0\n",
+        "S,1,0,2\nS,0,0,1\nL,0,0\n",
+    ] {
+        let journey = Journey {
+            name: rows,
+            rows,
+            output: RACE,
+        };
+        play(&rt, rt.alloc(), "snoop run", journey)?;
+    }
+    for rows in [
+        "S,0,0,1\nE,0,0\nS,1,0,2\n",
+        "S,0,0,1\nS,1,0,2\nE,0,0\n",
+        "S,1,0,2\nS,0,0,1\nE,0,0\n",
+    ] {
+        let journey = Journey {
+            name: rows,
+            rows,
+            output: STALE_WRITEBACK,
+        };
+        for line in BOTH {
+            play(&rt, rt.alloc(), line, journey)?;
+        }
     }
     Ok(())
 }
@@ -114,8 +165,8 @@ fn four_cores_store(rt: HostRuntime) -> Result<(), Fail> {
             line,
             Journey {
                 name: "four cores store",
-                rows: b"S,0,0,10\nS,1,0,11\nS,2,0,12\nS,3,0,13\n",
-                lines: b"\
+                rows: "S,0,0,10\nS,1,0,11\nS,2,0,12\nS,3,0,13\n",
+                output: "\
 S,0,0,10: issued GetM
 S,1,0,11: issued GetM
 S,2,0,12: issued GetM
@@ -128,9 +179,13 @@ O,1: ordered GetM
 R,0: Data from core 2, store 11
 O,3: ordered GetM
 R,0: Data from core 1, store 13
+loads 0 hits 0
+stores 4 hits 0
+GetS 0 GetM 4 PutM 0
+from memory 1 from caches 3
+writebacks 0 clean 0 stale 0
+block 0 value 13
 ",
-                totals: [0, 0, 4, 0, 0, 4, 0, 1, 3, 0, 0, 0],
-                blocks: b"block 0 value 13\n",
             },
         )?;
     }
@@ -148,8 +203,8 @@ fn one_core_alone(rt: HostRuntime) -> Result<(), Fail> {
             line,
             Journey {
                 name: "one core alone",
-                rows: b"S,1,64,4\nL,1,64\nS,1,127,5\nE,1,64\nE,1,64\n",
-                lines: b"\
+                rows: "S,1,64,4\nL,1,64\nS,1,127,5\nE,1,64\nE,1,64\n",
+                output: "\
 S,1,64,4: issued GetM
 O,1: ordered GetM
 R,64: Data from memory, store 4
@@ -159,9 +214,13 @@ E,1,64: issued PutM
 O,1: ordered PutM
 R,64: Data from core 1
 E,1,64: absent
+loads 1 hits 1
+stores 2 hits 1
+GetS 0 GetM 1 PutM 1
+from memory 1 from caches 0
+writebacks 1 clean 0 stale 0
+block 1 value 5
 ",
-                totals: [1, 1, 2, 1, 0, 1, 1, 1, 0, 1, 0, 0],
-                blocks: b"block 1 value 5\n",
             },
         )?;
     }

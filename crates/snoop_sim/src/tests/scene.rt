@@ -1,6 +1,6 @@
-//! A worked scene: the lines of its steps, and what the report then tells.
+//! A worked scene: the whole output of its steps.
 
-use crate::tests::support::{output_of, run, steps_of};
+use crate::tests::support::{run, steps_of};
 use std::alloc::Global;
 use std::process::Abort;
 use std::test::Fail;
@@ -9,9 +9,7 @@ use std::test::Fail;
 #[derive(Clone, Copy)]
 pub struct Scene {
     pub name: &'static str,
-    pub lines: &'static [u8],
-    pub totals: [u64; 12],
-    pub blocks: &'static [u8],
+    pub output: &'static str,
 }
 
 /// Runs each scene, and compares its whole output.
@@ -24,11 +22,10 @@ pub fn play(rt: &impl Abort, alloc: Global, line: &str, scenes: &[Scene]) -> Res
 
 fn play_one(rt: &impl Abort, alloc: Global, line: &str, scene: Scene) -> Result<(), Fail> {
     let name = scene.name;
-    let steps = steps_of(alloc, scene.lines)?;
-    let wanted = output_of(alloc, scene.lines, scene.totals, scene.blocks)?;
-    let ran = run(alloc, line, steps.as_slice())?;
+    let steps = steps_of(alloc, scene.output)?;
+    let ran = run(alloc, line, steps.as_bytes())?;
     assert_eq!(rt; ran.status, 0, "{name}");
     assert!(rt; ran.errors.is_empty(), "{name}");
-    assert!(rt; ran.output == wanted, "{name}");
+    assert_eq!(rt; ran.output.as_slice(), scene.output.as_bytes(), "{name}");
     Ok(())
 }

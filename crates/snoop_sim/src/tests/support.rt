@@ -2,7 +2,6 @@
 
 use crate::command;
 use std::alloc::Global;
-use std::io::Write;
 use std::test::Fail;
 
 /// What a command line ended with and wrote.
@@ -44,37 +43,13 @@ pub fn words_of(alloc: Global, line: &str) -> Result<Vec<String>, Fail> {
     Ok(words)
 }
 
-/// The steps whose lines these are: the text before each colon.
-pub fn steps_of(alloc: Global, lines: &[u8]) -> Result<Vec<u8>, Fail> {
-    let mut steps = Vec::new(alloc);
-    let mut in_step = true;
-    for byte in lines {
-        match *byte {
-            b':' => in_step = false,
-            b'\n' => in_step = true,
-            _ => {}
-        }
-        if in_step {
-            steps.push(*byte)?;
+/// The steps whose lines stand in an output: the texts before the colons.
+pub fn steps_of(alloc: Global, output: &str) -> Result<String, Fail> {
+    let mut steps = String::new(alloc);
+    for line in output.lines() {
+        if let Some((step, _)) = line.split_once(": ") {
+            writeln!(steps, "{step}")?;
         }
     }
     Ok(steps)
-}
-
-/// The lines, and then the report of twelve totals and the lines of the blocks.
-pub fn output_of(
-    alloc: Global,
-    lines: &[u8],
-    totals: [u64; 12],
-    blocks: &[u8],
-) -> Result<Vec<u8>, Fail> {
-    let [a, b, c, d, e, f, g, h, i, j, k, l] = totals;
-    let mut output = Vec::new(alloc);
-    output.extend_from_slice(lines)?;
-    write!(output, "loads {a} hits {b}\nstores {c} hits {d}\n")?;
-    write!(output, "GetS {e} GetM {f} PutM {g}\n")?;
-    write!(output, "from memory {h} from caches {i}\n")?;
-    write!(output, "writebacks {j} clean {k} stale {l}\n")?;
-    output.extend_from_slice(blocks)?;
-    Ok(output)
 }

@@ -2,11 +2,9 @@ use crate::{Op, Shape, Step, TextFault, read_steps};
 use std::alloc::Global;
 use std::test::Fail;
 
-fn read(alloc: Global, text: &str) -> Result<Vec<Step>, TextFault> {
-    match Shape::new(2, 4, 64) {
-        Ok(shape) => read_steps(alloc, text.as_bytes(), shape),
-        Err(_) => Err(TextFault::Read),
-    }
+fn read(alloc: Global, text: &str) -> Result<Result<Vec<Step>, TextFault>, Fail> {
+    let shape = Shape::new(2, 4, 64)?;
+    Ok(read_steps(alloc, text.as_bytes(), shape))
 }
 
 fn ask(core: u32, block: u32, op: Op) -> Step {
@@ -15,7 +13,7 @@ fn ask(core: u32, block: u32, op: Op) -> Step {
 
 #[test]
 fn first_load(rt: HostRuntime) -> Result<(), Fail> {
-    let steps = read(rt.alloc(), "L,0,0\nO,0\nR,0\n")?;
+    let steps = read(rt.alloc(), "L,0,0\nO,0\nR,0\n")??;
     let wanted = [
         ask(0, 0, Op::Load),
         Step::Order { core: 0 },
@@ -27,7 +25,7 @@ fn first_load(rt: HostRuntime) -> Result<(), Fail> {
 
 #[test]
 fn all_kinds_of_record(rt: HostRuntime) -> Result<(), Fail> {
-    let steps = read(rt.alloc(), "L,1,127\nS,0,0x40,7\nE,1,255\nO,1\nR,128\n")?;
+    let steps = read(rt.alloc(), "L,1,127\nS,0,0x40,7\nE,1,255\nO,1\nR,128\n")??;
     let wanted = [
         ask(1, 1, Op::Load),
         ask(0, 1, Op::Store(7)),
@@ -40,7 +38,7 @@ fn all_kinds_of_record(rt: HostRuntime) -> Result<(), Fail> {
 }
 
 #[test]
-fn beginnings_of_a_text(rt: HostRuntime) {
+fn beginnings_of_a_text(rt: HostRuntime) -> Result<(), Fail> {
     for (text, wanted) in [
         ("", Ok(0)),
         ("L", Err(TextFault::BadFields(1))),
@@ -58,13 +56,14 @@ fn beginnings_of_a_text(rt: HostRuntime) {
         ("L,0,0\nO,0\nR,0", Ok(3)),
         ("L,0,0\nO,0\nR,0\n", Ok(3)),
     ] {
-        let told = read(rt.alloc(), text).map(|steps| steps.len());
+        let told = read(rt.alloc(), text)?.map(|steps| steps.len());
         assert_eq!(rt; told, wanted, "{text}");
     }
+    Ok(())
 }
 
 #[test]
-fn refused_records(rt: HostRuntime) {
+fn refused_records(rt: HostRuntime) -> Result<(), Fail> {
     for (text, fault) in [
         ("S,0,0\n", TextFault::BadFields(1)),
         ("X,0\n", TextFault::BadKind(1)),
@@ -101,9 +100,10 @@ fn refused_records(rt: HostRuntime) {
         ("L,0,0\nL,0,256\nX\n", TextFault::NoBlock(2)),
         ("L,0,0\n\nX\n", TextFault::BadKind(2)),
     ] {
-        let told = read(rt.alloc(), text).err();
+        let told = read(rt.alloc(), text)?.err();
         assert_eq!(rt; told, Some(fault), "{text}");
     }
+    Ok(())
 }
 
 #[test]
@@ -132,7 +132,7 @@ fn text_forms(rt: HostRuntime) -> Result<(), Fail> {
         "L,0,000000000000000000000000\nO,0\n",
         "L,00,0x3F\nO,0x0\n",
     ] {
-        assert_eq!(rt; read(rt.alloc(), text)?.as_slice(), wanted.as_slice());
+        assert_eq!(rt; read(rt.alloc(), text)??.as_slice(), wanted.as_slice());
     }
     Ok(())
 }
@@ -146,9 +146,9 @@ fn largest_value(rt: HostRuntime) -> Result<(), Fail> {
         "S,0,0,0xffffffffffffffff",
         "S,0,0,00018446744073709551615",
     ] {
-        assert_eq!(rt; read(rt.alloc(), text)?.as_slice(), wanted.as_slice());
+        assert_eq!(rt; read(rt.alloc(), text)??.as_slice(), wanted.as_slice());
     }
-    let told = read(rt.alloc(), "S,0,0,18446744073709551616").err();
+    let told = read(rt.alloc(), "S,0,0,18446744073709551616")?.err();
     assert_eq!(rt; told, Some(TextFault::BadNumber(1)));
     Ok(())
 }

@@ -2,16 +2,14 @@ use crate::{Op, Row, Shape, TextFault, read_rows};
 use std::alloc::Global;
 use std::test::Fail;
 
-fn read(alloc: Global, text: &str) -> Result<Vec<Row>, TextFault> {
-    match Shape::new(2, 4, 64) {
-        Ok(shape) => read_rows(alloc, text.as_bytes(), shape),
-        Err(_) => Err(TextFault::Read),
-    }
+fn read(alloc: Global, text: &str) -> Result<Result<Vec<Row>, TextFault>, Fail> {
+    let shape = Shape::new(2, 4, 64)?;
+    Ok(read_rows(alloc, text.as_bytes(), shape))
 }
 
 #[test]
 fn rows_keep_their_addresses(rt: HostRuntime) -> Result<(), Fail> {
-    let rows = read(rt.alloc(), "S,0,0,1\nS,1,0x7f,2\n\"L\",0,65\r\nE,1,255")?;
+    let rows = read(rt.alloc(), "S,0,0,1\nS,1,0x7f,2\n\"L\",0,65\r\nE,1,255")??;
     let wanted = [
         Row {
             core: 0,
@@ -35,12 +33,12 @@ fn rows_keep_their_addresses(rt: HostRuntime) -> Result<(), Fail> {
         },
     ];
     assert_eq!(rt; rows.as_slice(), wanted.as_slice());
-    assert!(rt; read(rt.alloc(), "")?.is_empty());
+    assert!(rt; read(rt.alloc(), "")??.is_empty());
     Ok(())
 }
 
 #[test]
-fn refused_rows(rt: HostRuntime) {
+fn refused_rows(rt: HostRuntime) -> Result<(), Fail> {
     for (text, fault) in [
         ("O,0\n", TextFault::BadKind(1)),
         ("R,0\n", TextFault::BadKind(1)),
@@ -56,7 +54,8 @@ fn refused_rows(rt: HostRuntime) {
         ("L,2,256\n", TextFault::NoCore(1)),
         ("L,0,0\nL,0,256\nX\n", TextFault::NoBlock(2)),
     ] {
-        let told = read(rt.alloc(), text).err();
+        let told = read(rt.alloc(), text)?.err();
         assert_eq!(rt; told, Some(fault), "{text}");
     }
+    Ok(())
 }

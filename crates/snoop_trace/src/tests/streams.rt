@@ -1,5 +1,6 @@
 use crate::{
-    Any, Op, Plain, Shape, Step, TextFault, WriteFault, read_rows, read_steps, write_steps,
+    AnyReader, AnyWriter, Op, Shape, Step, TextFault, WriteFault, read_rows, read_steps,
+    write_steps,
 };
 use std::alloc::Global;
 use std::io;
@@ -31,18 +32,30 @@ fn a_reader_that_fails(rt: HostRuntime) -> Result<(), Fail> {
     let alloc = rt.alloc();
     let shape = Shape::new(2, 4, 64)?;
     let text = b"S,0,64,7\nO,0\nR,64\nL,1,127\nO,1\nR,64\n".as_slice();
+    let wanted = [
+        Step::Ask {
+            core: 0,
+            block: 1,
+            op: Op::Store(7),
+        },
+        Step::Order { core: 0 },
+        Step::Respond { block: 1 },
+        Step::Ask {
+            core: 1,
+            block: 1,
+            op: Op::Load,
+        },
+        Step::Order { core: 1 },
+        Step::Respond { block: 1 },
+    ];
     for a_call in [1, 5, 100] {
         for left in 0..text.len() {
-            let told = read_steps(alloc, Any(Failing { text, a_call, left }), shape).err();
+            let told = read_steps(alloc, AnyReader(Failing { text, a_call, left }), shape).err();
             assert_eq!(rt; told, Some(TextFault::Read), "after {left} bytes");
         }
         let left = 100;
-        let steps = read_steps(alloc, Any(Failing { text, a_call, left }), shape)?;
-        assert_eq!(rt;
-            steps.as_slice(),
-            read_steps(alloc, text, shape)?.as_slice()
-        );
-        assert_eq!(rt; steps.len(), 6);
+        let steps = read_steps(alloc, AnyReader(Failing { text, a_call, left }), shape)?;
+        assert_eq!(rt; steps.as_slice(), wanted.as_slice());
     }
     Ok(())
 }
@@ -54,7 +67,7 @@ fn an_earlier_faulty_record_decides(rt: HostRuntime) -> Result<(), Fail> {
     let text = b"L,0,0\nO,0\nL,1,64\n".as_slice();
     for a_call in [1, 100] {
         for left in 0..text.len() {
-            let told = read_rows(alloc, Any(Failing { text, a_call, left }), shape).err();
+            let told = read_rows(alloc, AnyReader(Failing { text, a_call, left }), shape).err();
             let wanted = if left < 10 {
                 TextFault::Read
             } else {
@@ -135,14 +148,14 @@ fn a_writer_that_fails(rt: HostRuntime) -> Result<(), Fail> {
     for failure in [Failure::Refuses, Failure::TakesNothing] {
         for (a_call, calls) in [(1, text.len()), (100, 1)] {
             for call in 0..calls {
-                let mut writer = Plain(Stopping::new(alloc, a_call, call, failure));
+                let mut writer = AnyWriter(Stopping::new(alloc, a_call, call, failure));
                 let told = write_steps(alloc, &mut writer, shape, &some_steps());
                 assert_eq!(rt; told, Err(WriteFault::Write), "at call {call}");
                 assert_eq!(rt; writer.0.held.len(), call, "at call {call}");
                 assert!(rt; text.starts_with(&writer.0.held), "at call {call}");
                 assert_eq!(rt; writer.0.calls_after, 1, "at call {call}");
             }
-            let mut writer = Plain(Stopping::new(alloc, a_call, calls, failure));
+            let mut writer = AnyWriter(Stopping::new(alloc, a_call, calls, failure));
             write_steps(alloc, &mut writer, shape, &some_steps())?;
             assert_eq!(rt; writer.0.held.as_slice(), text);
             assert_eq!(rt; writer.0.calls_after, 0);
@@ -155,7 +168,7 @@ fn a_writer_that_fails(rt: HostRuntime) -> Result<(), Fail> {
 fn no_steps_are_no_calls(rt: HostRuntime) -> Result<(), Fail> {
     let alloc = rt.alloc();
     let shape = Shape::new(2, 4, 64)?;
-    let mut writer = Plain(Stopping::new(alloc, 1, 0, Failure::Refuses));
+    let mut writer = AnyWriter(Stopping::new(alloc, 1, 0, Failure::Refuses));
     write_steps(alloc, &mut writer, shape, &[])?;
     assert_eq!(rt; writer.0.calls_after, 0);
     Ok(())

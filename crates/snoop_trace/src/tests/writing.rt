@@ -1,4 +1,5 @@
 use crate::{CHUNK, Op, Shape, Step, read_steps, spill, write_steps, write_whole};
+use std::io;
 use std::test::Fail;
 
 #[test]
@@ -69,5 +70,14 @@ fn a_full_chunk_is_spilled(rt: HostRuntime) -> Result<(), Fail> {
     spill(&mut held, &mut chunk)?;
     assert_eq!(rt; (held.len(), chunk.len()), (6 + CHUNK, 0));
     assert_eq!(rt; held.last(), Some(&b'y'));
+    Ok(())
+}
+
+#[test]
+fn a_writer_that_keeps_nothing_is_no_failure(rt: HostRuntime) -> Result<(), Fail> {
+    let alloc = rt.alloc();
+    let shape = Shape::new(2, 4, 64)?;
+    let steps = [Step::Order { core: 1 }];
+    assert_eq!(rt; write_steps(alloc, &mut io::sink(), shape, &steps), Ok(()));
     Ok(())
 }

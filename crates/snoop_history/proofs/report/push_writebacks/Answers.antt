@@ -1,5 +1,10 @@
-use Rattle.std.proofs.Common.{rules, append_assoc}
+use Rattle.std.proofs.Common.{◌≡◌, ◌++◌, rules, append_assoc}
+use Rattle.std.specs.Prelude.{OnOk}
+use Rattle.snoop_history.specs.Report.{writebacks_text}
+use Rattle.snoop_history.proofs.Outcomes.{on_ok-reworded}
 use Rattle.snoop_history.proofs.report.push_writebacks.Goals as goal
 
 pub returns : goal.returns
-returns c = simp append_assoc (search rules)
+returns c =
+    let put : OnOk c.writeln.result (c.writeln.new.self.items ≡ c.args.out.now.items ++ writebacks_text c.args.totals) = simp append_assoc (search rules) in
+    on_ok-reworded (c.writeln.new.self.items ≡ c.args.out.now.items ++ writebacks_text c.args.totals) c.writeln.result c.map_err.result c.map_err.ensures.variant put

@@ -7,6 +7,7 @@ use Rattle.snoop_machine.specs.Meets.{FindsRows}
 use Rattle.snoop_machine.specs.Led.{IsLed}
 use Rattle.snoop_machine.proofs.Reached.{reset_coherent, run_keeps, run_protocol}
 use Rattle.snoop_machine.proofs.Clauses.{has_one_writer, finds_rows, is_led_order, meets_nothing}
+use Rattle.snoop_machine.proofs.Safety.{all_proper}
 use Rattle.snoop_machine.proofs.OnceRuns.{run_asked_once}
 use Rattle.snoop_machine.proofs.QueueSteps.{reset_queued, run_queued}
 use Rattle.snoop_machine.proofs.laws.coherent.Goals as goal
@@ -31,6 +32,9 @@ returns-clause-once c p shape steps outcomes new run = run_asked_once p shape st
 pub returns-clause-lines : goal.returns-clause-lines
 returns-clause-lines c p shape steps outcomes new run core block request waits free =
     subst (λ (x : Protocol). IsLed x (picture_of new block) core request) (run_protocol steps outcomes (reset p shape) new run) (is_led_order new (run_keeps steps outcomes (reset p shape) new (reset_coherent p shape) run) core block request waits free)
+
+pub returns-clause-proper : goal.returns-clause-proper
+returns-clause-proper c p shape steps outcomes new run = all_proper new (run_keeps steps outcomes (reset p shape) new (reset_coherent p shape) run)
 
 pub returns-clause-queued : goal.returns-clause-queued
 returns-clause-queued c p shape steps outcomes new run = (run_queued steps outcomes (reset p shape) new (reset_coherent p shape) (reset_queued p shape) run).each

@@ -3,20 +3,20 @@ use Rattle.std.proofs.Common.{◌≡◌, ◌≤◌, ◌+◌, ◌∙◌, ℕ, Lis
 use Rattle.std.specs.Prelude.{is_ok}
 use Rattle.std.proofs.lemmas.List.{take_all}
 use Rattle.snoop_trace.specs.declared.step.Step.{Step}
-use Rattle.snoop_machine.specs.Room.{Standing}
-use Rattle.snoop_machine.specs.Coherent.{IsCoherent}
+use Rattle.snoop_machine.specs.Standing.{Standing}
+use Rattle.snoop_machine.specs.MachineView.{MachineKeeps}
 use Rattle.snoop_machine.specs.Runs.{HasRun}
-use Rattle.snoop_machine.proofs.Clauses.{has_one_writer, meets_nothing, orders_are_led}
-use Rattle.snoop_machine.proofs.Running.{Going, going_coherent, has_run, more_taken, more_refused}
+use Rattle.snoop_machine.proofs.Safety.{is_safe}
+use Rattle.snoop_machine.proofs.Running.{Going, has_run, more_taken, more_refused}
 use Rattle.snoop_machine.proofs.machine.run_steps.Goals.{then-is_ok, else-is_ok, At-loop-step}
 use Rattle.snoop_machine.proofs.machine.run_steps.Goals as goal
 
--- the parts are coherent after the steps so far
-coherent : (c : At-loop-step) → IsCoherent c.loop-step.machine-inside.parts.situation
-coherent c = going_coherent c.machine.inside.parts c.loop-step.machine-inside.parts _ c.loop-step.taken c.machine.invariant c.loop-step.invariant.0
+-- the parts keep what every machine keeps after the steps so far
+keeps : (c : At-loop-step) → MachineKeeps c.loop-step.machine-inside.parts.situation
+keeps c = c.loop-step.invariant.0.keeps
 
 pub step-requires : goal.step-requires
-step-requires c = coherent (goal.at.step-requires c).At-loop-step
+step-requires c = (keeps (goal.at.step-requires c).At-loop-step).coherent
 
 pub loop-step-preserved : goal.loop-step-preserved
 loop-step-preserved c =
@@ -28,30 +28,21 @@ loop-step-preserved c =
     elim c.if-is_ok.branch [
       | then-is_ok w ↦
           let ok : is_ok c.step.result ≡ true = sym c.is_ok.ensures.value ∙ w.if-is_ok.true in
-          let more = more_taken old middle new c.args.steps.now i _ c.loop-step.taken c.step.result c.loop-step-test.true c.loop-step.invariant.0 c.step.ensures.taken c.step.ensures.refused c.step.ensures.full ok in
+          let more = more_taken old middle new c.args.steps.now i _ c.loop-step.taken c.step.result c.loop-step-test.true c.loop-step.invariant.0 c.step.ensures.taken c.step.ensures.refused c.step.ensures.full c.step.ensures.room ok in
           let bound : c.loop-step.taken + 1 ≤ i + 1 = omega arith in
           rw w.taken-is (more, bound)
       | else-is_ok w ↦
           let err : is_ok c.step.result ≡ false = sym c.is_ok.ensures.value ∙ w.if-is_ok.false in
-          let more = more_refused old middle new c.args.steps.now i _ c.loop-step.taken c.step.result c.loop-step-test.true c.loop-step.invariant.0 c.step.ensures.taken c.step.ensures.refused c.step.ensures.full err in
+          let more = more_refused old middle new c.args.steps.now i _ c.loop-step.taken c.step.result c.loop-step-test.true c.loop-step.invariant.0 c.step.ensures.taken c.step.ensures.refused c.step.ensures.full c.step.ensures.room err in
           let bound : c.loop-step.taken ≤ i + 1 = omega arith in
           rw w.taken-is (more, bound)
     ]
 
 pub invariant_of-machine : goal.invariant_of-machine
-invariant_of-machine c = coherent (goal.at.invariant_of-machine c).At-loop-step
+invariant_of-machine c = keeps (goal.at.invariant_of-machine c).At-loop-step
 
-pub returns-clause-one_writer : goal.returns-clause-one_writer
-returns-clause-one_writer c = has_one_writer c.loop-step.machine-inside.parts.situation (coherent (goal.at.returns-clause-one_writer c).At-loop-step)
-
-pub returns-clause-legal : goal.returns-clause-legal
-returns-clause-legal c = (coherent (goal.at.returns-clause-legal c).At-loop-step).legal
-
-pub returns-clause-possible : goal.returns-clause-possible
-returns-clause-possible c = meets_nothing c.loop-step.machine-inside.parts.situation (coherent (goal.at.returns-clause-possible c).At-loop-step)
-
-pub returns-clause-orders : goal.returns-clause-orders
-returns-clause-orders c = orders_are_led c.loop-step.machine-inside.parts.situation (coherent (goal.at.returns-clause-orders c).At-loop-step)
+pub returns-clause-safe : goal.returns-clause-safe
+returns-clause-safe c = is_safe c.loop-step.machine-inside.parts.situation (keeps (goal.at.returns-clause-safe c).At-loop-step)
 
 pub returns-clause-run : goal.returns-clause-run
 returns-clause-run c =
@@ -59,4 +50,4 @@ returns-clause-run c =
     let all : take c.loop-step.step-index c.args.steps.now ≡ c.args.steps.now = take_all _ _ c.loop-step-test.false in
     let so_far = subst (λ (l : List Step). Going c.machine.inside.parts l c.loop-step.taken new) all c.loop-step.invariant.0 in
     let P : Standing → Type 0 = λ s. HasRun s c.args.steps.now c.loop-step.taken new in
-    subst P c.machine.view_is (has_run c.machine.inside.parts new c.args.steps.now c.loop-step.taken c.machine.invariant so_far)
+    subst P c.machine.view_is (has_run c.machine.inside.parts new c.args.steps.now c.loop-step.taken c.machine.invariant.coherent so_far)

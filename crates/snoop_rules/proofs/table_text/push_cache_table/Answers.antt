@@ -10,7 +10,7 @@ loop-state-preserved c =
     piece_more (λ state. flat_map (cache_line_at c.args.protocol state) cache_events) cache_states c.loop-state.state-index I c.args.out.now.items c.loop-state.out.items c.push_cache_rows.new.out.items
     c.loop-state-test.true c.loop-state.invariant c.in_ok-push_cache_rows.ensures.ok
 
-pub returns-clause-ok : goal.returns-clause-ok
+pub returns : goal.returns
 unfolding cache_text
-returns-clause-ok c =
-    pieces_all (λ state. flat_map (cache_line_at c.args.protocol state) cache_events) cache_states c.loop-state.state-index c.args.out.now.items c.loop-state.out.items c.loop-state-test.false c.loop-state.invariant
+returns c =
+    record { ok = pieces_all (λ state. flat_map (cache_line_at c.args.protocol state) cache_events) cache_states c.loop-state.state-index c.args.out.now.items c.loop-state.out.items c.loop-state-test.false c.loop-state.invariant }

@@ -9,6 +9,6 @@ loop-event-preserved c =
     piece_more (memory_line_at c.args.protocol c.args.state) memory_events c.loop-event.event-index GetS c.args.out.now.items c.loop-event.out.items c.push_memory_row.new.out.items
     c.loop-event-test.true c.loop-event.invariant c.in_ok-push_memory_row.ensures.ok
 
-pub returns-clause-ok : goal.returns-clause-ok
-returns-clause-ok c =
-    pieces_all (memory_line_at c.args.protocol c.args.state) memory_events c.loop-event.event-index c.args.out.now.items c.loop-event.out.items c.loop-event-test.false c.loop-event.invariant
+pub returns : goal.returns
+returns c =
+    record { ok = pieces_all (memory_line_at c.args.protocol c.args.state) memory_events c.loop-event.event-index c.args.out.now.items c.loop-event.out.items c.loop-event-test.false c.loop-event.invariant }

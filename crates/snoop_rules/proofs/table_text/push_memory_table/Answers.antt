@@ -10,7 +10,7 @@ loop-state-preserved c =
     piece_more (λ state. flat_map (memory_line_at c.args.protocol state) memory_events) memory_states c.loop-state.state-index IorS c.args.out.now.items c.loop-state.out.items c.push_memory_rows.new.out.items
     c.loop-state-test.true c.loop-state.invariant c.in_ok-push_memory_rows.ensures.ok
 
-pub returns-clause-ok : goal.returns-clause-ok
+pub returns : goal.returns
 unfolding memory_text
-returns-clause-ok c =
-    pieces_all (λ state. flat_map (memory_line_at c.args.protocol state) memory_events) memory_states c.loop-state.state-index c.args.out.now.items c.loop-state.out.items c.loop-state-test.false c.loop-state.invariant
+returns c =
+    record { ok = pieces_all (λ state. flat_map (memory_line_at c.args.protocol state) memory_events) memory_states c.loop-state.state-index c.args.out.now.items c.loop-state.out.items c.loop-state-test.false c.loop-state.invariant }

@@ -45,8 +45,8 @@ loop-i-preserved g c =
       rw items (All-push (IsSaid (g.E.Entry.says c.args.shape)) c.loop-i.entries.items c.in-Ok-Some.entry c.loop-i.invariant.2 said),
     )
 
-pub returns-clause-blames : goal.returns-clause-blames
-returns-clause-blames g c sure small e =
+pub returns-clause-never_blamed : goal.returns-clause-never_blamed
+returns-clause-never_blamed g c sure small e =
     let under = within (source_of (λ r. g.R.Read.remaining r.inner) c.args.text.now) (2 ^ 64 - 1) c.loop-i.i _
     (λ xs far. bounded (g.E.Entry.says c.args.shape) xs (reader_state c.loop-i.text) (source_of (λ r. g.R.Read.remaining r.inner) c.loop-i.text) c.loop-i.entries.items c.loop-i.i far)
     c.loop-i.invariant.1 small in

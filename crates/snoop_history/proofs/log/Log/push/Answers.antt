@@ -19,9 +19,9 @@ few c =
     let room : 0 < vec_capacity c.self.inside.items - vec_len c.self.inside.items = subst P (sym c.self.view_is) c.requires.room in
     omega (arith, c.self.inside.items.ok.0)
 
-totalled : (c : After-did) → c.with-self-inside.result ≡ totals_of (c.self.inside.items.items ++ c.args.item ∷ [])
+totalled : (c : After-did) → c.add.new.self ≡ totals_of (c.self.inside.items.items ++ c.args.item ∷ [])
 totalled c =
-    c.with-self-inside.ensures ∙ (ap (λ t. tallied t c.args.item) c.self.invariant.tallied.totalled ∙ totals_of-push c.self.inside.items.items c.args.item (few c))
+    c.add.ensures ∙ (ap (λ t. tallied t c.args.item) c.self.invariant.tallied.totalled ∙ totals_of-push c.self.inside.items.items c.args.item (few c))
 
 in_counts : (c : After-did) (did : Did) → operation_of c.args.item ≡ Some did → did.core < length c.self.inside.counts.items
 in_counts c did performs =

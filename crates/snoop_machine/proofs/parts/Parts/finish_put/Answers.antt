@@ -6,10 +6,10 @@ use Rattle.snoop_history.specs.declared.items.Came.{Came}
 use Rattle.snoop_history.specs.declared.items.Item.TheVariants as item
 use Rattle.snoop_bus.specs.Traffic.{Traffic}
 use Rattle.snoop_machine.specs.Picture.{Picture}
-use Rattle.snoop_machine.specs.Room.{Standing}
+use Rattle.snoop_machine.specs.Standing.{Standing}
 use Rattle.snoop_machine.specs.Situation.{Situation, picture_of, with_picture, no_memory}
 use Rattle.snoop_machine.specs.Sound.{IsSound}
-use Rattle.snoop_machine.specs.Standing.{queues_of}
+use Rattle.snoop_machine.specs.PartsView.{queues_of}
 use Rattle.snoop_machine.specs.Arrive.{ArrivesIn}
 use Rattle.snoop_machine.specs.Move.{Responds, came_of}
 use Rattle.snoop_machine.proofs.Taking.{row_of}
@@ -31,8 +31,8 @@ invariant_of-self c =
       blocks = ap (λ (j : Journal). j.blocks) c.push.ensures ∙ c.self.invariant.blocks;
     }
 
-pub returns : goal.returns
-returns c =
+pub returns-clause-responded : goal.returns-clause-responded
+returns-clause-responded c =
     let m = c.self.inside in
     let block = c.args.block in
     let closing = c.args.closing in

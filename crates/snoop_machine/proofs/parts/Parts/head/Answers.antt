@@ -3,7 +3,7 @@ use Rattle.std.specs.Prelude.{IfSome, IfNone, slice_get}
 use Rattle.snoop_bus.specs.Queues.{queue_of}
 use Rattle.snoop_rules.specs.declared.names.Request.{Request}
 use Rattle.snoop_bus.specs.Traffic.{head_of}
-use Rattle.snoop_machine.specs.Room.{Standing}
+use Rattle.snoop_machine.specs.Standing.{Standing}
 use Rattle.snoop_machine.specs.Refuses.{WaitsOnNone}
 use Rattle.snoop_machine.specs.OrderMove.{IsHead}
 use Rattle.snoop_machine.proofs.Heads.{line_from_head, waits_from_head, idle_from_head, within_from_waits, empty_from_head}

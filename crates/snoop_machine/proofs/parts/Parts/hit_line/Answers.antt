@@ -2,7 +2,7 @@ use Rattle.std.proofs.Common.{◌≡◌, ◌<◌, ◌∙◌, sym, ap, subst, Lis
 use Rattle.snoop_rules.specs.Waits.{waiting_request}
 use Rattle.snoop_machine.specs.declared.lines.Line.{Line}
 use Rattle.snoop_history.specs.Journal.{Journal}
-use Rattle.snoop_machine.specs.Room.{Standing}
+use Rattle.snoop_machine.specs.Standing.{Standing}
 use Rattle.snoop_machine.specs.Sound.{IsSound, line_at}
 use Rattle.snoop_machine.proofs.Kept.{IsSound-line}
 use Rattle.snoop_machine.proofs.parts.Parts.hit_line.Goals as goal

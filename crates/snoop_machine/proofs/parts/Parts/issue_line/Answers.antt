@@ -1,12 +1,16 @@
-use Rattle.std.proofs.Common.{◌≡◌, ◌<◌, ◌-◌, ◌++◌, ◌∷◌, [], None, sym, ap, subst, List}
+use Rattle.std.proofs.Common.{◌≡◌, ◌<◌, ◌≤◌, ◌+◌, ◌-◌, ◌++◌, ◌∷◌, [], ℕ, length, None, sym, ap, subst, List, arith}
+use Rattle.std.proofs.lemmas.List.{length-append}
 use Rattle.std.specs.Prelude.{slice_set, slice_index_or}
 use Rattle.snoop_rules.specs.Waits.{waiting_request}
-use Rattle.snoop_bus.specs.Traffic.{Traffic, waiting_of}
+use Rattle.snoop_rules.specs.declared.names.Request.{Request}
+use Rattle.snoop_bus.specs.Traffic.{Traffic, Waiting, waiting_of}
+use Rattle.snoop_machine.specs.declared.parts.Parts.TheInside.{Inside}
 use Rattle.snoop_bus.specs.Queues.{after_issue}
 use Rattle.snoop_machine.specs.declared.lines.Line.{Line}
-use Rattle.snoop_machine.specs.Room.{Standing}
+use Rattle.snoop_machine.specs.Standing.{Standing}
 use Rattle.snoop_machine.specs.Situation.{Situation}
 use Rattle.snoop_machine.specs.Sound.{IsSound, line_at}
+use Rattle.snoop_machine.proofs.Capacity.{held_in, held_in-set, keeps_room}
 use Rattle.snoop_machine.proofs.Kept.{IsSound-issue}
 use Rattle.snoop_machine.proofs.Placed.{placed}
 use Rattle.snoop_machine.proofs.Queued.{queues_of-issue, same_traffic}
@@ -35,9 +39,24 @@ invariant_of-self c =
       blocks = c.self.invariant.blocks;
     }
 
-pub returns : goal.returns
-returns c =
+pub returns-clause-written : goal.returns-clause-written
+returns-clause-written c =
     let m = c.self.inside in
     let room = (waiting_of m.bus c.args.core).room - 1 in
     rw (c.issue.ensures.queue, queues_of-issue m.bus.queues c.args.core c.args.block room c.args.request, c.issue.ensures.transactions, c.set.ensures)
     (ap (λ (s : Standing). let t : Situation = record s.situation { caches = slice_set s.situation.caches c.args.block (slice_set (slice_index_or s.situation.caches c.args.block []) c.args.core c.args.line); queues = after_issue s.situation.queues c.args.core c.args.block } in t) c.self.view_is)
+
+pub returns-clause-room : goal.returns-clause-room
+returns-clause-room c =
+    let m = c.self.inside in
+    let core = c.args.core in
+    let before : Waiting = waiting_of m.bus core in
+    let P : Standing → Type 0 = λ s. core < s.situation.shape.cores in
+    let in_cores : core < m.shape.cores = subst P (sym c.self.view_is) c.requires.core in
+    let in_queues : core < length m.bus.queues = omega (arith, c.self.invariant.sound.queues) in
+    let requests : List (Request × ℕ) = before.requests ++ (c.args.request, c.args.block) ∷ [] in
+    let queue : Waiting = record { requests = requests; room = before.room - 1 } in
+    let long : length requests ≡ length before.requests + 1 = length-append before.requests ((c.args.request, c.args.block) ∷ []) in
+    let new : Inside = record m { lines = c.set.new.self; bus = c.issue.new.self } in
+    let Q : List Waiting → Type 0 = λ queues. (k : ℕ) → held_in m.bus.queues k ≤ held_in queues k in
+    keeps_room m new c.args.self.now c.self.view_is (omega arith) (subst Q (sym c.issue.ensures.queue) (held_in-set m.bus.queues core queue in_queues (omega arith)))

@@ -2,7 +2,7 @@ use Rattle.std.proofs.Common.{subst}
 use Rattle.std.proofs.lemmas.Result.{err_from_is_err_and}
 use Rattle.snoop_machine.specs.declared.lines.Line.{Line}
 use Rattle.snoop_machine.specs.declared.plan.Plan.TheVariants as plan
-use Rattle.snoop_machine.specs.Room.{Standing}
+use Rattle.snoop_machine.specs.Standing.{Standing}
 use Rattle.snoop_machine.specs.Sound.{IsProper, line_at}
 use Rattle.snoop_machine.specs.Asked.{TakesAsk, RefusesAsk}
 use Rattle.snoop_machine.specs.Meets.{LacksAtAsk}

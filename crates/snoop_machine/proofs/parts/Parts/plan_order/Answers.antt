@@ -9,7 +9,7 @@ use Rattle.snoop_bus.specs.declared.transactions.Open.{Open}
 use Rattle.snoop_bus.specs.Traffic.{transaction_on}
 use Rattle.snoop_machine.specs.declared.memory.MemLine.{MemLine}
 use Rattle.snoop_machine.specs.Picture.{Picture}
-use Rattle.snoop_machine.specs.Room.{Standing}
+use Rattle.snoop_machine.specs.Standing.{Standing}
 use Rattle.snoop_machine.specs.Situation.{picture_of, no_memory}
 use Rattle.snoop_machine.specs.Meets.{FindsRows}
 use Rattle.snoop_machine.specs.Message.{free_picture, IsMessage}

@@ -4,7 +4,7 @@ use Rattle.std.proofs.lemmas.List.{get_or_read}
 use Rattle.snoop_rules.specs.declared.names.Request.TheVariants.{PutM}
 use Rattle.snoop_machine.specs.declared.lines.Line.{Line}
 use Rattle.snoop_machine.specs.declared.memory.MemLine.{MemLine}
-use Rattle.snoop_machine.specs.Room.{Standing}
+use Rattle.snoop_machine.specs.Standing.{Standing}
 use Rattle.snoop_machine.specs.Situation.{picture_of, no_memory}
 use Rattle.snoop_machine.specs.Sound.{line_at}
 use Rattle.snoop_machine.specs.Meets.{LacksAtArrival, LacksAtMemory}

@@ -8,7 +8,7 @@ use Rattle.snoop_machine.proofs.parts.Parts.prepare.Goals as goal
 pub returns-in_err-make_room-clause-refused : goal.returns-in_err-make_room-clause-refused
 returns-in_err-make_room-clause-refused c =
     let p = err_from_is_err_and c.from_residual-in_err-make_room.result c.from_residual-in_err-make_room.ensures.1 in
-    rw (p.1, p.2) (RefusedFor-memory c.args.self.now.situation c.args.step c.in_ok-plan.plan c.in_ok-plan.ensures.found)
+    rw (p.1, p.2) (RefusedFor-memory c.args.self.now.situation c.args.step c.in_ok-plan.plan c.in_ok-plan.ensures.found, c.in_err-make_room.ensures.refused)
 
 pub returns-clause-prepared : goal.returns-clause-prepared
 returns-clause-prepared c =

@@ -1,23 +1,26 @@
-use Rattle.std.proofs.Common.{◌≡◌, ℕ, ◌<◌, ◌++◌, ◌∷◌, [], length, drop, Option, Some, None, ◌∙◌, refl, sym, ap, subst, arith}
+use Rattle.std.proofs.Common.{◌≡◌, ℕ, List, ◌<◌, ◌≤◌, ◌+◌, ◌++◌, ◌∷◌, [], length, drop, Option, Some, None, ◌∙◌, refl, sym, ap, subst, arith}
 use Rattle.std.specs.Prelude.{◌==◌, not, filter, slice_set, slice_index_or, IsSome, IfSome}
-use Rattle.std.proofs.lemmas.List.{length-set, get_or_read}
+use Rattle.std.proofs.lemmas.List.{length-set, length-append, length-drop, get_or_read}
 use Rattle.snoop_rules.specs.declared.names.Request.{Request}
 use Rattle.snoop_rules.specs.Takers.{seen_by}
 use Rattle.snoop_history.specs.Journal.{Journal}
 use Rattle.snoop_history.specs.declared.items.Item.TheVariants as item
 use Rattle.snoop_bus.specs.declared.transactions.Open.{Open}
-use Rattle.snoop_bus.specs.Traffic.{Traffic, waiting_of, head_of, transaction_on, Starts}
+use Rattle.snoop_machine.specs.declared.parts.Parts.TheInside.{Inside}
+use Rattle.snoop_bus.specs.Traffic.{Traffic, Waiting, waiting_of, head_of, transaction_on, Starts}
 use Rattle.snoop_bus.specs.Queues.{after_order}
 use Rattle.snoop_machine.specs.declared.memory.MemLine.{MemLine}
 use Rattle.snoop_machine.specs.Picture.{Picture, held_by}
-use Rattle.snoop_machine.specs.Room.{Standing}
+use Rattle.snoop_machine.specs.Standing.{Standing}
 use Rattle.snoop_machine.specs.Situation.{Situation, picture_of, no_memory, Waits}
 use Rattle.snoop_machine.specs.Sends.{value_sent}
 use Rattle.snoop_machine.specs.Sound.{IsSound}
-use Rattle.snoop_machine.specs.Standing.{queues_of}
+use Rattle.snoop_machine.specs.PartsView.{queues_of}
+use Rattle.std.specs.Vec.{with_item}
 use Rattle.snoop_machine.specs.Move.{Orders}
 use Rattle.snoop_machine.specs.Message.{HasRow, IsMessage}
 use Rattle.snoop_machine.specs.OrderMove.{IsHead, TakesMemRow}
+use Rattle.snoop_machine.proofs.Capacity.{held_in, held_in-set, keeps_room}
 use Rattle.snoop_machine.proofs.Taking.{row_of}
 use Rattle.snoop_machine.proofs.Heads.{head_from_line, same_situation}
 use Rattle.snoop_machine.proofs.Ordered.{IsSound-order, blocks_of-rest}
@@ -80,12 +83,12 @@ invariant_of-self c =
       blocks = ap (λ (j : Journal). j.blocks) c.push.ensures ∙ c.self.invariant.blocks;
     }
 
-pub returns : goal.returns
-returns c =
+pub returns-clause-ordered : goal.returns-clause-ordered
+returns-clause-ordered c =
     let m = c.self.inside in
-    let d = (goal.at.returns c).After-take_rows in
+    let d = (goal.at.returns-clause-ordered c).After-take_rows in
     let h = head d in
-    let s = starts d (goal.at.returns c).After-start h in
+    let s = starts d (goal.at.returns-clause-ordered c).After-start h in
     let core = c.args.core in
     let block = c.args.block in
     let request = c.args.request in
@@ -138,3 +141,33 @@ returns c =
           (blocks_of-rest (waiting_of m.bus core).requests request block h (c.self.invariant.sound.once core) ∙ ap (filter (λ x. not (x == block))) (sym (queue_of-queues_of m.bus.queues core)))))
           (ap (λ (j : Journal). j.items) c.push.ensures);
     })
+
+pub returns-clause-room : goal.returns-clause-room
+returns-clause-room c =
+    let m = c.self.inside in
+    let d = (goal.at.returns-clause-room c).After-take_rows in
+    let s = starts d (goal.at.returns-clause-room c).After-start (head d) in
+    let core = c.args.core in
+    let before : Waiting = waiting_of m.bus core in
+    let P : Standing → Type 0 = λ x. core < x.situation.shape.cores in
+    let in_cores : core < m.shape.cores = subst P (sym c.self.view_is) c.requires.core in
+    let in_queues : core < length m.bus.queues = omega (arith, c.self.invariant.sound.queues) in
+    let queue : Waiting = record { requests = drop 1 before.requests; room = s.room } in
+    let fewer = length-drop 1 before.requests in
+    let more = s.more in
+    let pushed = c.push.ensures in
+    let long = length-append m.log.items (item.Sent (record { core = core; request = c.args.request; block = c.args.block }) ∷ []) in
+    let kept : (k : ℕ) → held_in m.bus.queues k ≤ held_in c.start.new.self.queues k =
+    (let Q : List Waiting → Type 0 = λ queues. (k : ℕ) → held_in m.bus.queues k ≤ held_in queues k in
+    subst Q (sym s.queues) (held_in-set m.bus.queues core queue in_queues (omega arith))) in
+    let new : Inside = record m {
+      lines = c.take_rows.new.self;
+      memory = with_item m.memory c.args.block (record { state = c.args.memory; value = c.index_mut.result.now.value });
+      bus = c.start.new.self;
+      log = c.push.new.self;
+    } in
+    let room : 0 < m.log.room = (let R : Standing → Type 0 = λ x. 0 < x.room in subst R (sym c.self.view_is) c.requires.room) in
+    let items : length m.log.items + m.log.room ≤ length new.log.items + new.log.room =
+    (let J : Journal → Type 0 = λ j. length m.log.items + m.log.room ≤ length j.items + j.room in
+    subst J (sym pushed) (omega arith)) in
+    keeps_room m new c.args.self.now c.self.view_is items kept

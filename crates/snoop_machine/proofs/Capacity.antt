@@ -1,0 +1,57 @@
+-- The room that a machine has goes on from step to step.
+use Rattle.std.proofs.Common.{◌≡◌, ◌<◌, ◌≤◌, ◌+◌, ℕ, zero, suc, List, [], ◌∷◌, length, map, inl, inr, refl, sym, ap, subst, arith}
+use Rattle.std.specs.Prelude.{slice_index, slice_index_or, slice_set}
+use Rattle.std.proofs.lemmas.Bool.{cases_eq}
+use Rattle.std.proofs.lemmas.List.{length-map, get_or-set_same, get_or-set_other}
+use Rattle.snoop_rules.specs.declared.names.Request.{Request}
+use Rattle.snoop_bus.specs.Traffic.{Waiting, no_queue}
+use Rattle.snoop_bus.specs.Queues.{queue_of}
+use Rattle.snoop_machine.specs.declared.parts.Parts.TheInside.{Inside}
+use Rattle.snoop_machine.specs.Standing.{Standing, KeepsRoom}
+use Rattle.snoop_machine.specs.PartsView.{queues_of, standing}
+use Rattle.snoop_machine.proofs.Queued.{queue_of-queues_of}
+
+-- how many requests of the core find room in all
+abbrev pub held_in : List Waiting → ℕ → ℕ
+held_in queues core = length (slice_index_or queues core no_queue).requests + (slice_index_or queues core no_queue).room
+
+rooms_at : (queues : List Waiting) (core : ℕ) → slice_index (map (λ (q : Waiting). q.room) queues) core ≡ (slice_index_or queues core no_queue).room
+rooms_at [] core = refl
+rooms_at (q ∷ qs) zero = refl
+rooms_at (q ∷ qs) (suc core) = rooms_at qs core
+
+-- it is the capacity that callers see
+pub capacity_held : (queues : List Waiting) (core : ℕ) → length (queue_of (queues_of queues) core) + slice_index (map (λ (q : Waiting). q.room) queues) core ≡ held_in queues core
+capacity_held queues core =
+    let shown = ap (λ (l : List ℕ). length l) (queue_of-queues_of queues core) in
+    let long = length-map (slice_index_or queues core no_queue).requests (λ (r : Request × ℕ). r.1) in
+    let room = rooms_at queues core in
+    omega arith
+
+-- another queue for one core, of no less capacity
+pub held_in-set : (queues : List Waiting) (core : ℕ) (queue : Waiting) → core < length queues → held_in queues core ≤ length queue.requests + queue.room → (k : ℕ) → held_in queues k ≤ held_in (slice_set queues core queue) k
+held_in-set queues core queue within more k = elim (cases_eq k core) [
+  | inl e ↦
+      let same = get_or-set_same queues core queue no_queue within in
+      let P : ℕ → Type 0 = λ n. held_in queues n ≤ held_in (slice_set queues core queue) n in
+      let Q : Waiting → Type 0 = λ w. held_in queues core ≤ length w.requests + w.room in
+      subst P (sym e) (subst Q (sym same) more)
+  | inr ne ↦
+      let other = get_or-set_other queues core k queue no_queue ne in
+      let Q : Waiting → Type 0 = λ w. held_in queues k ≤ length w.requests + w.room in
+      let here : held_in queues k ≤ held_in queues k = omega arith in
+      subst Q (sym other) here
+]
+
+-- as long as neither the log's capacity nor a queue's falls, no room is lost
+pub keeps_room : (old new : Inside) (view : Standing) → standing old ≡ view → length old.log.items + old.log.room ≤ length new.log.items + new.log.room → ((core : ℕ) → held_in old.bus.queues core ≤ held_in new.bus.queues core) → KeepsRoom view (standing new)
+keeps_room old new view is items queues =
+    let P : Standing → Type 0 = λ s. KeepsRoom s (standing new) in
+    subst P is (record {
+      items = items;
+      requests = λ core.
+          let before = capacity_held old.bus.queues core in
+          let after = capacity_held new.bus.queues core in
+          let more = queues core in
+          omega arith;
+    })

@@ -1,0 +1,62 @@
+use Rattle.std.proofs.Common.{◌<◌, length, arith, sym, ap, ◌∙◌, subst, Some}
+use Rattle.std.specs.Prelude.{unwrap_or, if◌then◌else◌}
+use Rattle.snoop_rules.specs.declared.names.CacheState.{CacheState}
+use Rattle.snoop_rules.specs.declared.names.CacheEvent.{CacheEvent}
+use Rattle.snoop_rules.specs.declared.names.CacheAction.{CacheAction}
+use Rattle.snoop_rules.specs.declared.names.MemEvent.{MemEvent}
+use Rattle.snoop_rules.specs.Cell.{Cell}
+use Rattle.snoop_rules.specs.MemoryCell.{MemoryCell}
+use Rattle.snoop_rules.specs.Possible.{IsImpossible}
+use Rattle.snoop_rules.specs.Takers.{seen_by, carries_value}
+use Rattle.snoop_machine.specs.declared.lines.Line.{Line}
+use Rattle.snoop_machine.specs.Picture.{held_at}
+use Rattle.snoop_machine.specs.Message.{free_picture}
+use Rattle.snoop_machine.proofs.Finding.{Silent-more, Silent-past, IsMessage-sent, IsMessage-memory}
+use Rattle.snoop_machine.proofs.block_lines.BlockLines.message.Goals as goal
+use Rattle.snoop_machine.proofs.block_lines.BlockLines.message.Goals.{In-Some-cache_cell}
+
+pub returns-in-Some-message : goal.returns-in-Some-message
+returns-in-Some-message c =
+    let before = free_picture c.args.self.now c.args.memory in
+    let P : MemEvent → Type 0 = λ event. MemoryCell c.args.protocol c.args.memory.state event c.in-Some.cell.action c.in-Some.cell.next in
+    IsMessage-memory c.args.protocol before c.args.requestor c.args.request c.in-Some-message.message c.in-Some.cell.action c.in-Some.cell.next
+    c.requires.finds (subst P c.event_at_memory.ensures c.in-Some.ensures.row) (sym c.message.ensures ∙ c.in-Some-message.is)
+
+-- the row of the core that is looked at, in the picture
+row : (c : In-Some-cache_cell) → Cell c.args.protocol (held_at c.args.self.now c.in-Some-next_holder.core).state (seen_by c.in-Some-next_holder.core c.args.requestor c.args.request) c.in-Some-cache_cell.cell.action c.in-Some-cache_cell.cell.next
+row c =
+    let P : CacheEvent → Type 0 = λ event. Cell c.args.protocol c.state-state.result event c.in-Some-cache_cell.cell.action c.in-Some-cache_cell.cell.next in
+    let Q : CacheState → Type 0 = λ state. Cell c.args.protocol state (seen_by c.in-Some-next_holder.core c.args.requestor c.args.request) c.in-Some-cache_cell.cell.action c.in-Some-cache_cell.cell.next in
+    subst Q c.state-state.ensures.state (subst P c.event_seen.ensures c.in-Some-cache_cell.ensures.row)
+
+pub unreachable-requires-in_default-cache_cell : goal.unreachable-requires-in_default-cache_cell
+unreachable-requires-in_default-cache_cell c =
+    let core = c.in-Some-next_holder.core in
+    let P : CacheEvent → Type 0 = λ event. IsImpossible c.args.protocol c.state-state.result event in
+    let Q : CacheState → Type 0 = λ state. IsImpossible c.args.protocol state (seen_by core c.args.requestor c.args.request) in
+    let none = subst Q c.state-state.ensures.state (subst P c.event_seen.ensures c.in_default-cache_cell.ensures.impossible) in
+    let there = c.requires.finds.rows core c.in-Some-next_holder.ensures.some.1 in
+    none there.0 there.1.0 there.1.1
+
+pub returns-in-Send : goal.returns-in-Send
+returns-in-Send c =
+    let d = (goal.at.returns-in-Send c).In-Some-cache_cell in
+    let before = free_picture c.args.self.now c.args.memory in
+    let core = c.in-Some-next_holder.core in
+    let P : CacheAction → Type 0 = λ act. Cell c.args.protocol (held_at c.args.self.now core).state (seen_by core c.args.requestor c.args.request) act c.in-Some-cache_cell.cell.next in
+    IsMessage-sent c.args.protocol before c.args.requestor c.args.request (record { payload = c.in-Send.payload; value = c.value_for.result; from = Some core })
+    c.requires.finds (c.in-Some-next_holder.ensures.some.1, (c.in-Send.field-1, (c.in-Some-cache_cell.cell.next, subst P c.in-Send.is (row d))))
+    (c.value_for.ensures ∙ ap (λ (line : Line). if carries_value c.in-Send.payload then unwrap_or line.kept 0 else 0) c.get-line.ensures)
+
+pub loop-core-preserved : goal.loop-core-preserved
+loop-core-preserved c =
+    let d = (goal.at.loop-core-preserved c).In-Some-cache_cell in
+    let before = free_picture c.args.self.now c.args.memory in
+    let core = c.in-Some-next_holder.core in
+    let within : core < length c.args.self.now = c.in-Some-next_holder.ensures.some.1 in
+    let silent = Silent-past c.args.protocol before c.args.requestor c.args.request c.requires.waits c.loop-core.from core
+    c.in-Some-next_holder.ensures.some.0 c.in-Some-next_holder.ensures.some.2 c.loop-core.invariant.0 in (
+      Silent-more c.args.protocol before c.args.requestor c.args.request core c.in-Some-cache_cell.cell.action c.in-Some-cache_cell.cell.next
+          silent (row d) c.in_default-action.not-Send,
+      omega arith,
+    )

@@ -1,0 +1,10 @@
+use Rattle.std.proofs.Common.{◌≤◌, ◌-◌, length}
+use Rattle.snoop_machine.specs.Message.{free_picture}
+use Rattle.snoop_machine.proofs.Finding.{SilentBelow}
+use Rattle.snoop_machine.proofs.block_lines.BlockLines.message.Given as goal
+
+abbrev pub invariant-loop-core : goal.invariant-loop-core
+invariant-loop-core l = SilentBelow l.protocol (free_picture l.self l.fn.memory) l.requestor l.request l.from × (l.from ≤ length l.self)
+
+abbrev pub decreases-loop-core : goal.decreases-loop-core
+decreases-loop-core l = length l.self - l.from

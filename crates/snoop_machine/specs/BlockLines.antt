@@ -1,0 +1,26 @@
+-- The lines of one block, by core, as a row keeps them.
+-- Source: this project's profile.
+use Rattle.std.specs.Prelude.{◌≡◌, ℕ, ◌<◌, ◌≤◌, List, [], ◌∷◌, length}
+use Rattle.snoop_rules.specs.declared.names.CacheState.{CacheState}
+use Rattle.snoop_machine.specs.declared.lines.Line.{Line}
+use Rattle.snoop_machine.specs.declared.block_lines.Held.{Held}
+use Rattle.snoop_machine.specs.Picture.{held_at, nothing_held}
+use Rattle.snoop_machine.specs.Sound.{IsProper}
+
+-- the line of a state and what is held in it
+abbrev pub line_of : CacheState → Held → Line
+line_of state held = record { state = state; kept = held.kept; waiting = held.waiting }
+
+-- the lines of states and what is held in each
+abbrev pub lines_of : List CacheState → List Held → List Line
+lines_of (state ∷ states) (held ∷ others) = line_of state held ∷ lines_of states others
+lines_of [] others = []
+lines_of (state ∷ states) [] = []
+
+-- there are as many of both, each line is proper, and the cores below low and from high on hold nothing
+pub record AreBlockLines (states : List CacheState) (held : List Held) (low high : ℕ) : Type 0 where
+  pub as_many : length held ≡ length states
+  pub proper : (core : ℕ) → IsProper (held_at (lines_of states held) core)
+  pub within : high ≤ length states
+  pub below : (core : ℕ) → core < low → held_at (lines_of states held) core ≡ nothing_held
+  pub above : (core : ℕ) → high ≤ core → held_at (lines_of states held) core ≡ nothing_held

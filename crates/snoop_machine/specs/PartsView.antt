@@ -1,0 +1,36 @@
+-- What is seen of a machine's parts, and what holds between them.
+-- Source: this project's profile.
+use Rattle.std.specs.Prelude.{◌≡◌, ◌<◌, ℕ, length, List, map}
+use Rattle.snoop_bus.specs.Traffic.{Waiting}
+use Rattle.snoop_machine.specs.declared.parts.Parts.TheInside.{Inside}
+use Rattle.snoop_machine.specs.Sound.{IsSound}
+use Rattle.snoop_machine.specs.Standing.{Standing}
+
+-- the queues that the bus shows
+abbrev pub queues_of : List Waiting → List (List ℕ)
+queues_of queues = map (λ queue. map (λ r. r.1) queue.requests) queues
+
+-- the view of the parts
+abbrev pub standing : Inside → Standing
+standing m =
+    record {
+      situation = record {
+        protocol = m.protocol;
+        shape = m.shape;
+        caches = m.lines;
+        memory = m.memory.items;
+        transactions = m.bus.transactions;
+        queues = queues_of m.bus.queues;
+        log = m.log.items;
+      };
+      rooms = map (λ queue. queue.room) m.bus.queues;
+      room = m.log.room;
+    }
+
+-- what the parts of every machine keep
+pub record IsWhole (m : Inside) : Type 0 where
+  pub few : m.shape.cores < 257
+  pub sound : IsSound m.shape m.lines m.bus
+  pub memory : length m.memory.items ≡ m.shape.blocks
+  pub cores : m.log.cores ≡ m.shape.cores
+  pub blocks : m.log.blocks ≡ m.shape.blocks
