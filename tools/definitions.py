@@ -1,10 +1,11 @@
 #!/usr/bin/env python3
-"""Writes docs/DEFINITIONS.md: each definition of specs/ with the comment that stands above it.
+"""Prints docs/DEFINITIONS.md, or writes it: each definition of specs/ with the comment that stands above it.
 
-    tools/definitions.py > docs/DEFINITIONS.md
+    tools/definitions.py --write
 
-Where a file has no comment at its head, or a definition none above it, these are named and the status is 1.
+Where a file has no comment at its head, or a definition none above it, these are named, nothing is written and the status is 1.
 """
+import argparse
 import pathlib
 import re
 import sys
@@ -79,6 +80,9 @@ def section_of(page):
 
 
 def main():
+    parser = argparse.ArgumentParser(description=__doc__, formatter_class=argparse.RawDescriptionHelpFormatter)
+    parser.add_argument("--write", action="store_true", help="write the page, in place of printing it")
+    options = parser.parse_args()
     text, missing = HEAD, []
     for crate in CRATES:
         files = sorted((TOP / "crates" / crate / "specs").glob("*.antt"))
@@ -87,7 +91,11 @@ def main():
         missing += [what for page in pages for what in missing_in(page)]
     if missing:
         sys.exit("\n".join(missing))
-    print(text.rstrip())
+    text = text.rstrip() + "\n"
+    if options.write:
+        (TOP / "docs" / "DEFINITIONS.md").write_text(text)
+    else:
+        sys.stdout.write(text)
 
 
 if __name__ == "__main__":

@@ -8,10 +8,12 @@ of a faulty text or shape it tells no more than that (a line on standard error, 
     tools/reference.py steps --protocol mesi < examples/silent_upgrade.steps
     tools/reference.py run --protocol mesi < examples/producer_and_consumer.rows
     tools/reference.py storm --cores 8 --blocks 3 --count 1000 > storm.steps
+    tools/reference.py table --protocol mesi --which memory
 """
 import argparse
 import csv
 import io
+import os
 import pathlib
 import re
 import sys
@@ -22,14 +24,19 @@ READABLE = {"S", "SM_AD", "SM_D", "E", "M", "EI_A", "MI_A"}
 WAITING = {"IS_AD": "GetS", "IM_AD": "GetM", "SM_AD": "GetM", "MI_A": "PutM", "EI_A": "PutM", "II_A": "PutM"}
 
 
-def tables():
-    """The cache and memory tables by protocol, each from (state, event) to (action, next state)."""
+def rows():
+    """The rows of the cache and memory tables by protocol, in the order of the page."""
     texts = re.findall(r"```text\n(.*?)```", PROTOCOL.read_text(), re.S)
     mesi_cache, msi_memory, mesi_memory = ([row.split(",") for row in text.strip().split("\n")] for text in texts)
     msi_cache = [row for row in mesi_cache if row[0] not in ("E", "EI_A") and row[:2] != ["IS_D", "DataE"]]
     assert [len(t) for t in (msi_cache, mesi_cache, msi_memory, mesi_memory)] == [64, 78, 10, 15]
-    index = lambda rows: {(state, event): (action, after) for state, event, action, after in rows}
-    return {"msi": (index(msi_cache), index(msi_memory)), "mesi": (index(mesi_cache), index(mesi_memory))}
+    return {"msi": (msi_cache, msi_memory), "mesi": (mesi_cache, mesi_memory)}
+
+
+def tables():
+    """The cache and memory tables by protocol, each from (state, event) to (action, next state)."""
+    index = lambda table: {(state, event): (action, after) for state, event, action, after in table}
+    return {protocol: tuple(map(index, both)) for protocol, both in rows().items()}
 
 
 def sent(action):
@@ -148,7 +155,7 @@ class Machine:
         core, request, payload, carried, sender = self.open.pop(block)
         text = payload + (" from memory" if sender is None else f" from core {sender}")
         state, value = self.memory[block]
-        if state.endswith("_D"):
+        if request == "PutM" or state.endswith("_D"):
             action, after = self.memory_table[state, payload]
             self.memory[block] = (after, carried if action == "write" else value)
         did = None
@@ -301,22 +308,34 @@ def storm(options):
         print((f"L,{core},{address}", f"S,{core},{address},{n}", f"E,{core},{address}", f"O,{core}", f"R,{address}")[k % 5])
 
 
+def table(options):
+    """The rows of a table, a line each."""
+    for row in rows()[options.protocol][options.which == "memory"]:
+        print(",".join(row))
+
+
 def main():
     parser = argparse.ArgumentParser(description=__doc__, formatter_class=argparse.RawDescriptionHelpFormatter)
-    parser.add_argument("command", choices=("steps", "run", "storm"))
+    parser.add_argument("command", choices=("steps", "run", "storm", "table"))
     parser.add_argument("--protocol", choices=("msi", "mesi"), default="msi")
     parser.add_argument("--cores", type=int, default=2)
     parser.add_argument("--blocks", type=int, default=4)
     parser.add_argument("--block-bytes", type=int, default=64)
+    parser.add_argument("--which", choices=("cache", "memory"), default="cache")
     parser.add_argument("--count", type=int, default=1000)
     parser.add_argument("--seed", type=int, default=1)
     options = parser.parse_args()
     if not (1 <= options.cores <= 256 and 1 <= options.blocks <= 65536 and options.block_bytes in [2**k for k in range(13)]):
         parser.error("no such shape: 1 to 256 cores, 1 to 65536 blocks, block bytes a power of two up to 4096")
-    if options.command == "storm":
-        return storm(options)
     try:
-        {"steps": steps, "run": run}[options.command](options, sys.stdin.buffer.read().decode())
+        if options.command in ("storm", "table"):
+            {"storm": storm, "table": table}[options.command](options)
+        else:
+            {"steps": steps, "run": run}[options.command](options, sys.stdin.buffer.read().decode())
+        sys.stdout.flush()
+    except BrokenPipeError:  # the reader has gone; nothing is left to flush at the end
+        os.dup2(os.open(os.devnull, os.O_WRONLY), sys.stdout.fileno())
+        sys.exit(1)
     except UnicodeDecodeError:
         parser.exit(2, "reference.py: the text is not UTF-8, and only texts without faults are taken\n")
     except Faulty as fault:

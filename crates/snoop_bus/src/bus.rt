@@ -71,10 +71,9 @@ impl Bus {
     pub fn has_room(&self, core: u32) -> bool
         ensures { IsTrue result ↔ (0 < (waiting_of self.now core).room) }
     {
-        match self.queues.get(core as usize) {
-            Some(queue) => queue.has_room(),
-            None => false,
-        }
+        self.queues
+            .get(core as usize)
+            .is_some_and(|queue| queue.has_room())
     }
 
     /// Puts a request for a block last in the core's queue.
@@ -93,20 +92,14 @@ impl Bus {
     pub fn head(&self, core: u32) -> Option<(Request, u32)>
         ensures { result ≡ head_of self.now core }
     {
-        match self.queues.get(core as usize) {
-            Some(queue) => queue.head(),
-            None => None,
-        }
+        self.queues.get(core as usize)?.head()
     }
 
     /// The transaction that is open on the block.
     pub fn open(&self, block: u32) -> Option<Open>
         ensures { result ≡ transaction_on self.now block }
     {
-        match self.transactions.get(block as usize) {
-            Some(transaction) => *transaction,
-            None => None,
-        }
+        *self.transactions.get(block as usize)?
     }
 
     /// Orders the core's oldest request: it leaves the queue, and its transaction opens with the
@@ -135,12 +128,6 @@ impl Bus {
         ensures after { self.new ≡ record self.old { transactions = slice_set self.old.transactions block None } }
         ensures unchanged { IsNone result → self.new ≡ self.old }
     {
-        let place = block as usize;
-        if place >= self.transactions.len() {
-            return None;
-        }
-        let transaction = self.transactions[place];
-        self.transactions[place] = None;
-        transaction
+        self.transactions.get_mut(block as usize)?.take()
     }
 }

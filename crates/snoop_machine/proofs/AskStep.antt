@@ -2,14 +2,16 @@
 use Rattle.std.proofs.Common.{◌≡◌, ◌≢◌, ◌<◌, ◌&&◌, ◌||◌, ◌⊎◌, ◌∙◌, ℕ, Bool, true, false, not, Option, Some, refl, inl, inr, ap, sym, subst}
 use Rattle.std.proofs.lemmas.Bool.Decides.{eqb_tells}
 use Rattle.std.proofs.lemmas.Bool.{and_parts}
+use Rattle.snoop_trace.specs.declared.step.Op.{Op}
+use Rattle.snoop_trace.specs.declared.step.Op.TheVariants as op
 use Rattle.snoop_rules.specs.declared.names.Protocol.{Protocol}
 use Rattle.snoop_rules.specs.declared.names.CacheState.{CacheState}
 use Rattle.snoop_rules.specs.declared.names.CacheAction.{CacheAction}
 use Rattle.snoop_rules.specs.declared.names.CacheAction.TheVariants as action
-use Rattle.snoop_trace.specs.declared.step.Op.{Op}
-use Rattle.snoop_trace.specs.declared.step.Op.TheVariants as op
-use Rattle.snoop_bus.specs.declared.transactions.Open.{Open}
 use Rattle.snoop_rules.specs.Takers.{asked}
+use Rattle.snoop_rules.specs.Cell.{Cell}
+use Rattle.snoop_rules.proofs.Rows.{Cell-found}
+use Rattle.snoop_bus.specs.declared.transactions.Open.{Open}
 use Rattle.snoop_machine.specs.declared.lines.Line.{Line}
 use Rattle.snoop_machine.specs.Picture.{Picture, held_by}
 use Rattle.snoop_machine.specs.Sound.{IsProper}
@@ -18,8 +20,6 @@ use Rattle.snoop_machine.specs.Good.{Good, talk_of, awaited, owns}
 use Rattle.snoop_machine.proofs.OneBlock.{Done, flat_after, IsLawful, Performs, Asks}
 use Rattle.snoop_machine.proofs.Invariant.{implied, Carried, carried_kept, carried_same, not_true, clash, owned_alone, others_blind, owner_owned, owns_one, calm_carries}
 use Rattle.snoop_machine.proofs.Facts.{IsProper-issue, IsProper-hit, IsProper-drop}
-use Rattle.snoop_machine.proofs.Cells.{Cell-row_at}
-use Rattle.snoop_rules.specs.Cell.{Cell}
 use Rattle.snoop_machine.proofs.AskTests.{ask_rule, is_stall, is_store}
 use Rattle.snoop_machine.proofs.StateTests.{is_hit, carries, clean_reads, kept_reader}
 use Rattle.snoop_machine.proofs.AskTests
@@ -110,7 +110,7 @@ ask_states p n flat before c o after made g a state d d_in =
     elim (eqb_tells d c) as (λ _. fits p g.claims.shared (owns g.owner d) (awaited after.transaction d) (held_by after d).state ≡ true) [
       | inl h ↦
           let fit_c = ask_rule AskTests.ask_fits AskTests.ask_fits_holds p g.claims.shared (owns g.owner c) (awaited before.transaction c) (held_by before c).state o a.row (g.states c a.asker_in) a.is_row in
-          let fit : fits p g.claims.shared (owns g.owner c) (awaited before.transaction c) a.row.next ≡ true = right_of (is_stall a.row.act) _ fit_c (not_stall a.row.act o a.row.next (held_by before c) (held_by after c) made a.performs) in
+          let fit : fits p g.claims.shared (owns g.owner c) (awaited before.transaction c) a.row.next ≡ true = right_of (is_stall a.row.action) _ fit_c (not_stall a.row.action o a.row.next (held_by before c) (held_by after c) made a.performs) in
           rw (waits, h.1, state) fit
       | inr h ↦ rw (waits, a.others d d_in h.1) (g.states d d_in)
     ]
@@ -130,7 +130,7 @@ line_proper p (action.Send pl t) o next old new made was row did = absurd did
 
 ask_proper : (p : Protocol) (n : ℕ) (flat : ℕ) (before : Picture) (c : ℕ) (o : Op) (after : Picture) (made : Option Done) → Good p n flat before → Asks p n before c o after made → (d : ℕ) → d < n → IsProper (held_by after d)
 ask_proper p n flat before c o after made g a d d_in = elim (eqb_tells d c) as (λ _. IsProper (held_by after d)) [
-  | inl h ↦ subst (λ (x : ℕ). IsProper (held_by after x)) (sym h.1) (line_proper p a.row.act o a.row.next (held_by before c) (held_by after c) made (g.proper c a.asker_in) (Cell-row_at p (held_by before c).state (asked o) a.row a.is_row) a.performs)
+  | inl h ↦ subst (λ (x : ℕ). IsProper (held_by after x)) (sym h.1) (line_proper p a.row.action o a.row.next (held_by before c) (held_by after c) made (g.proper c a.asker_in) (Cell-found p (held_by before c).state (asked o) a.row a.is_row) a.performs)
   | inr h ↦ subst IsProper (sym (a.others d d_in h.1)) (g.proper d d_in)
 ]
 
@@ -142,7 +142,7 @@ ask_keeps p n flat before c o after made g a =
     let carry = ask_rule AskTests.ask_carries AskTests.ask_carries_holds p g.claims.shared (owns g.owner c) (awaited before.transaction c) (held_by before c).state o a.row fit a.is_row in
     let stores = ask_rule AskTests.ask_store_owns AskTests.ask_store_owns_holds p g.claims.shared (owns g.owner c) (awaited before.transaction c) (held_by before c).state o a.row fit a.is_row in
     let line : claims_of p after.memory (talk_of after.transaction) ≡ Some g.claims = rw (a.memory, a.transaction) g.is_claims in
-    elim (ask_cases flat a.row.act o a.row.next (held_by before c) (held_by after c) made (g.kept c a.asker_in) (implied (is_hit a.row.act) (is_reader (held_by before c).state) hit_reads) carry a.performs) as (λ _. Good p n (flat_after flat made) after × IsLawful flat made) [
+    elim (ask_cases flat a.row.action o a.row.next (held_by before c) (held_by after c) made (g.kept c a.asker_in) (implied (is_hit a.row.action) (is_reader (held_by before c).state) hit_reads) carry a.performs) as (λ _. Good p n (flat_after flat made) after × IsLawful flat made) [
       | inl k ↦
           let carried : (d : ℕ) → d < n → Carried (held_by before d) (held_by after d) = λ d d_in. elim (eqb_tells d c) as (λ _. Carried (held_by before d) (held_by after d)) [
             | inl h ↦ subst (λ (x : ℕ). Carried (held_by before x) (held_by after x)) (sym h.1) k.carried
@@ -165,7 +165,7 @@ ask_keeps p n flat before c o after made g a =
           (rw k.same_flat good, k.lawful)
       | inr k ↦
           let s = k.1 in
-          let owning_and = implied (is_hit a.row.act && is_store (asked o)) (owns g.owner c && not (is_clean a.row.next)) stores k.0 in
+          let owning_and = implied (is_hit a.row.action && is_store (asked o)) (owns g.owner c && not (is_clean a.row.next)) stores k.0 in
           let owning = and_parts (owns g.owner c) (not (is_clean a.row.next)) owning_and in
           let owned = owner_owned p n flat before g c owning.0 in
           let alone = owned_alone p n flat before g owned in

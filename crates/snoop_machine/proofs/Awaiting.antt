@@ -17,10 +17,12 @@ use Rattle.snoop_rules.specs.declared.names.Request.{Request}
 use Rattle.snoop_rules.specs.declared.names.Request.TheVariants.{GetS, GetM, PutM}
 use Rattle.snoop_rules.specs.Cell.{Cell}
 use Rattle.snoop_rules.specs.Takers.{asked, own, other, seen_by, arrival}
+use Rattle.snoop_rules.specs.declared.names.CacheCell.{CacheCell}
+use Rattle.snoop_rules.proofs.Every.{all_protocols, all_states, all_events}
+use Rattle.snoop_rules.proofs.Rows.{each_row, each_row-at}
 use Rattle.snoop_machine.specs.Move.{kept_waiting}
-use Rattle.snoop_machine.proofs.Facts.{same_request, same_request-true}
-use Rattle.snoop_machine.proofs.Rows.{Row, row_at, all_protocols, all_states, all_events, each_row, each_row-at}
 use Rattle.snoop_machine.specs.WellKept.{awaited_request, has_missed}
+use Rattle.snoop_machine.proofs.Facts.{same_request, same_request-true}
 
 -- what a core awaits after an event, where it awaited this before
 abbrev pub awaited_after : CacheEvent → Option Request → Option Request → Bool
@@ -34,11 +36,11 @@ awaited_after event.Data before after = same_request after None
 awaited_after event.DataE before after = same_request after None
 awaited_after _ before after = same_request after before
 
-abbrev pub awaited_test : Protocol → CacheState → CacheEvent → Row → Bool
+abbrev pub awaited_test : Protocol → CacheState → CacheEvent → CacheCell → Bool
 awaited_test p s e row = awaited_after e (awaited_request s) (awaited_request row.next)
 
 awaited_test_holds : each_row awaited_test ≡ true
-unfolding each_row all_protocols all_states all_events row_at
+unfolding each_row all_protocols all_states all_events
 awaited_test_holds = refl
 
 one_of : (a : Option Request) (q r : Request) → (same_request a None || same_request a (Some q)) ≡ true → a ≡ Some r → r ≡ q
@@ -123,11 +125,11 @@ missed_after event.Load act before after = (not before || after) && (not (is_iss
 missed_after event.Store act before after = (not before || after) && (not (is_issue act) || after)
 missed_after _ act before after = not before || after
 
-abbrev pub missed_test : Protocol → CacheState → CacheEvent → Row → Bool
-missed_test p s e row = missed_after e row.act (has_missed s) (has_missed row.next)
+abbrev pub missed_test : Protocol → CacheState → CacheEvent → CacheCell → Bool
+missed_test p s e row = missed_after e row.action (has_missed s) (has_missed row.next)
 
 missed_test_holds : each_row missed_test ≡ true
-unfolding each_row all_protocols all_states all_events row_at
+unfolding each_row all_protocols all_states all_events
 missed_test_holds = refl
 
 lasts : (before after : Bool) → (not before || after) ≡ true → before ≡ true → after ≡ true

@@ -12,6 +12,9 @@ use Rattle.snoop_rules.specs.declared.names.CacheAction.TheVariants as action
 use Rattle.snoop_rules.specs.declared.names.Request.{Request}
 use Rattle.snoop_rules.specs.Cell.{Cell}
 use Rattle.snoop_rules.specs.Takers.{asked}
+use Rattle.snoop_rules.specs.declared.names.CacheCell.{CacheCell}
+use Rattle.snoop_rules.proofs.Every.{all_protocols, all_states, all_events}
+use Rattle.snoop_rules.proofs.Rows.{each_row, each_row-at}
 use Rattle.snoop_history.specs.declared.items.Did.{Did}
 use Rattle.snoop_history.specs.declared.items.Item.{Item}
 use Rattle.snoop_machine.specs.declared.lines.Line.{Line}
@@ -20,7 +23,6 @@ use Rattle.snoop_machine.specs.Sound.{IsProper, awaits, kind_of}
 use Rattle.snoop_machine.specs.Sound.Awaits.{nothing}
 use Rattle.snoop_machine.specs.Move.{Takes, Performs, kept_waiting, is_load, next_did}
 use Rattle.snoop_machine.specs.Once.{same_op, did_op, one_if}
-use Rattle.snoop_machine.proofs.Rows.{Row, row_at, all_protocols, all_states, all_events, each_row, each_row-at}
 use Rattle.snoop_machine.proofs.Facts.{same_awaits, same_awaits-true}
 use Rattle.snoop_machine.proofs.Bridge.{did_in}
 use Rattle.snoop_machine.proofs.Counted.{did_so}
@@ -29,11 +31,11 @@ abbrev pub waits_so : Op → Option Op → ℕ
 waits_so wanted waiting = option_map_or (λ asking. one_if (same_op wanted asking)) waiting 0
 
 -- where a request is issued no operation waited
-abbrev idle_test : Protocol → CacheState → CacheEvent → Row → Bool
-idle_test p s e row = elim row.act [ action.Issue q ↦ same_awaits (awaits s) nothing | _ ↦ true ]
+abbrev idle_test : Protocol → CacheState → CacheEvent → CacheCell → Bool
+idle_test p s e row = elim row.action [ action.Issue q ↦ same_awaits (awaits s) nothing | _ ↦ true ]
 
 issue_idle : (p : Protocol) (s : CacheState) (e : CacheEvent) (q : Request) (n : CacheState) → Cell p s e (action.Issue q) n → awaits s ≡ nothing
-unfolding each_row all_protocols all_states all_events row_at
+unfolding each_row all_protocols all_states all_events
 issue_idle p s e q n row =
     let t : same_awaits (awaits s) nothing ≡ true = each_row-at idle_test refl p s e (action.Issue q) n row in
     same_awaits-true (awaits s) nothing t
@@ -43,11 +45,11 @@ abbrev is_evict : CacheEvent → Bool
 is_evict event.Evict = true
 is_evict _ = false
 
-abbrev drop_test : Protocol → CacheState → CacheEvent → Row → Bool
-drop_test p s e row = elim row.act [ action.Drop ↦ is_evict e | _ ↦ true ]
+abbrev drop_test : Protocol → CacheState → CacheEvent → CacheCell → Bool
+drop_test p s e row = elim row.action [ action.Drop ↦ is_evict e | _ ↦ true ]
 
 drop_evicts : (p : Protocol) (s : CacheState) (e : CacheEvent) (n : CacheState) → Cell p s e action.Drop n → is_evict e ≡ true
-unfolding each_row all_protocols all_states all_events row_at
+unfolding each_row all_protocols all_states all_events
 drop_evicts p s e n row =
     let t : is_evict e ≡ true = each_row-at drop_test refl p s e action.Drop n row in
     t

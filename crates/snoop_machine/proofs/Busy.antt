@@ -12,9 +12,11 @@ use Rattle.snoop_rules.specs.declared.names.Request.{Request}
 use Rattle.snoop_rules.specs.declared.names.Request.TheVariants.{GetS, GetM, PutM}
 use Rattle.snoop_rules.specs.Cell.{Cell}
 use Rattle.snoop_rules.specs.Waits.{waiting_request}
+use Rattle.snoop_rules.specs.declared.names.CacheCell.{CacheCell}
+use Rattle.snoop_rules.proofs.Every.{all_protocols, all_states, all_events}
+use Rattle.snoop_rules.proofs.Rows.{each_row, each_row-at}
 use Rattle.snoop_bus.specs.Queues.{queue_of}
 use Rattle.snoop_machine.specs.Situation.{Situation, state_of}
-use Rattle.snoop_machine.proofs.Rows.{Row, row_at, all_protocols, all_states, all_events, each_row, each_row-at}
 use Rattle.snoop_machine.specs.Serving.{IsServing}
 use Rattle.snoop_machine.specs.WellKept.{IsWellKept, awaited_request, is_busy, has_missed}
 
@@ -22,11 +24,11 @@ abbrev pub stalls : CacheAction → Bool
 stalls action.Stall = true
 stalls _ = false
 
-abbrev pub stall_test : Protocol → CacheState → CacheEvent → Row → Bool
-stall_test p s e row = not (stalls row.act) || is_busy s
+abbrev pub stall_test : Protocol → CacheState → CacheEvent → CacheCell → Bool
+stall_test p s e row = not (stalls row.action) || is_busy s
 
 stall_test_holds : each_row stall_test ≡ true
-unfolding each_row all_protocols all_states all_events row_at
+unfolding each_row all_protocols all_states all_events
 stall_test_holds = refl
 
 -- a stall comes only where the core waits

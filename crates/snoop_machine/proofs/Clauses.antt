@@ -22,7 +22,11 @@ use Rattle.snoop_rules.specs.WhoSends.{SentAs}
 use Rattle.snoop_rules.specs.Possible.{IsImpossible, IsMemImpossible, MayLoad, MayStore}
 use Rattle.snoop_rules.specs.Takers.{asked, arrival, arrival_at_memory}
 use Rattle.snoop_rules.specs.Waits.{waiting_request}
+use Rattle.snoop_rules.specs.Row.{cell_of}
+use Rattle.snoop_rules.proofs.Rows.{cell_of-Cell, Cell-found}
+use Rattle.snoop_rules.proofs.MemRows.{MemoryCell-found}
 use Rattle.snoop_history.specs.History.{flat}
+use Rattle.snoop_history.specs.Totals.{is_put_m}
 use Rattle.snoop_bus.specs.declared.transactions.Open.{Open}
 use Rattle.snoop_machine.specs.declared.lines.Line.{Line}
 use Rattle.snoop_machine.specs.declared.replies.Refused.TheVariants.{NoBlock, BusTaken}
@@ -31,18 +35,17 @@ use Rattle.snoop_machine.specs.Situation.{Situation, picture_of, Waits}
 use Rattle.snoop_machine.specs.Move.{IsWithin}
 use Rattle.snoop_machine.specs.Meets.{Meets, FindsRows, LacksAtRequestor}
 use Rattle.snoop_machine.specs.OneWriter.{OneWriter}
+use Rattle.snoop_machine.specs.Current.{IsCurrent}
 use Rattle.snoop_machine.specs.Led.{IsLed, OrdersAreLed}
-use Rattle.snoop_machine.proofs.Rows.{row_at, row_at-Cell}
 use Rattle.snoop_machine.specs.Fits.{is_owner, is_reader}
 use Rattle.snoop_machine.specs.Coherent.{IsCoherent}
-use Rattle.snoop_machine.proofs.OneBlock.{is_idle_evict, is_put, row_of, mem_row_of}
-use Rattle.snoop_machine.proofs.Cells.{Cell-row_at, MemoryCell-mem_row_at}
+use Rattle.snoop_machine.proofs.Every.{given, given_at}
+use Rattle.snoop_machine.proofs.OneBlock.{is_idle_evict, row_of, mem_row_of}
 use Rattle.snoop_machine.proofs.Bridge.{sends_by_row, sends_by_cell}
 use Rattle.snoop_machine.proofs.Invariant.{one_writer, clash, or_not}
 use Rattle.snoop_machine.proofs.OrderPossible.{Possible, order_possible, ask_possible, respond_possible}
 use Rattle.snoop_machine.proofs.SenderLines.{led_line, sender_state}
 use Rattle.snoop_machine.proofs.StateTests.{is_hit, hit_rule, owner_reads}
-use Rattle.snoop_machine.proofs.Every.{given, given_at}
 
 -- a core and a block within the shape, or a core that holds nothing of it
 pub place : (s : Situation) → IsCoherent s → (core block : ℕ) → IsWithin s core block ⊎ (held_by (picture_of s block) core ≡ nothing_held)
@@ -68,13 +71,13 @@ not_writer p may = let e : action.Hit ≡ action.Issue request.GetM = may.1.0 in
 
 may_load_reads : (p : Protocol) (s : CacheState) → MayLoad p s → is_reader s ≡ true
 may_load_reads p s may =
-    let t = and_parts (given (row_at p s event.Load) (λ r. not (is_hit r.act) || is_reader s)) (given (row_at p s event.Store) (λ r. not (is_hit r.act) || is_owner s)) (hit_rule p s) in
-    given_at (row_at p s event.Load) (λ r. not (is_hit r.act) || is_reader s) (record { act = action.Hit; next = may.0 }) (row_at-Cell p s event.Load action.Hit may.0 may.1) t.0
+    let t = and_parts (given (cell_of p s event.Load) (λ r. not (is_hit r.action) || is_reader s)) (given (cell_of p s event.Store) (λ r. not (is_hit r.action) || is_owner s)) (hit_rule p s) in
+    given_at (cell_of p s event.Load) (λ r. not (is_hit r.action) || is_reader s) (record { action = action.Hit; next = may.0 }) (cell_of-Cell p s event.Load action.Hit may.0 may.1) t.0
 
 may_store_owns : (p : Protocol) (s : CacheState) → MayStore p s → is_owner s ≡ true
 may_store_owns p s may =
-    let t = and_parts (given (row_at p s event.Load) (λ r. not (is_hit r.act) || is_reader s)) (given (row_at p s event.Store) (λ r. not (is_hit r.act) || is_owner s)) (hit_rule p s) in
-    given_at (row_at p s event.Store) (λ r. not (is_hit r.act) || is_owner s) (record { act = action.Hit; next = may.0 }) (row_at-Cell p s event.Store action.Hit may.0 may.1) t.1
+    let t = and_parts (given (cell_of p s event.Load) (λ r. not (is_hit r.action) || is_reader s)) (given (cell_of p s event.Store) (λ r. not (is_hit r.action) || is_owner s)) (hit_rule p s) in
+    given_at (cell_of p s event.Store) (λ r. not (is_hit r.action) || is_owner s) (record { action = action.Hit; next = may.0 }) (cell_of-Cell p s event.Store action.Hit may.0 may.1) t.1
 
 -- beside a writer no other core is a reader or a writer
 pub has_one_writer : (s : Situation) → IsCoherent s → (block : ℕ) → OneWriter s.protocol (picture_of s block)
@@ -93,6 +96,13 @@ has_one_writer s g block core other writes apart =
             (λ h. clash (is_reader t) (may_load_reads p t h) blind, λ h. clash (is_reader t) (owner_reads t (may_store_owns p t h)) blind)
       ]
     ]
+
+-- each reader keeps flat memory's value
+pub readers_current : (s : Situation) → IsCoherent s → (block : ℕ) → IsCurrent s.protocol (picture_of s block) (flat s.log block)
+readers_current s g block core reads = elim (place s g core block) [
+  | inl within ↦ (g.good block within.1).kept core within.0 (may_load_reads s.protocol (held_by (picture_of s block) core).state reads)
+  | inr nothing ↦ let P : Line → Type 0 = λ x. MayLoad s.protocol x.state in absurd (not_reader s.protocol (subst P nothing reads))
+]
 
 -- a core that waits is within the shape, and so is its block
 pub waits_within : (s : Situation) → IsCoherent s → (core block : ℕ) (q : Request) → Waits s core block q → IsWithin s core block
@@ -116,8 +126,8 @@ finds_rows s g core block q waits free =
     let before : Picture = picture_of s block in
     let x = possible_order s g core block q waits free in
     record {
-      rows = λ k k_in. (let r = x.rows k k_in in (r.0.act, (r.0.next, Cell-row_at p (held_by before k).state _ r.0 r.1)));
-      memory = (x.cell_of_memory.act, (x.cell_of_memory.next, MemoryCell-mem_row_at p before.memory _ x.cell_of_memory x.memory_row));
+      rows = λ k k_in. (let r = x.rows k k_in in (r.0.action, (r.0.next, Cell-found p (held_by before k).state _ r.0 r.1)));
+      memory = (x.cell_of_memory.action, (x.cell_of_memory.next, MemoryCell-found p before.memory _ x.cell_of_memory x.memory_row));
       sender = (
         x.from,
         (
@@ -130,8 +140,8 @@ finds_rows s g core block q waits free =
       );
     }
 
-put_is : (q : Request) → q ≡ request.PutM → is_put q ≡ true
-put_is q e = ap is_put e
+put_is : (q : Request) → q ≡ request.PutM → is_put_m q ≡ true
+put_is q e = ap is_put_m e
 
 -- and it is a line of the table of senders
 pub is_led_order : (s : Situation) → IsCoherent s → (core block : ℕ) (q : Request) → Waits s core block q → (picture_of s block).transaction ≡ None → IsLed s.protocol (picture_of s block) core q
@@ -143,14 +153,14 @@ is_led_order s g core block q waits free =
     record {
       from = x.from;
       payload = x.payload;
-      act = x.cell_of_memory.act;
+      act = x.cell_of_memory.action;
       next = x.cell_of_memory.next;
       done = led.done;
       sent = record {
         sends = sends_by_cell p before core q x.from x.payload x.sender.sends;
         alone = λ other message sends. x.sender.alone other message (sends_by_row p before core q other message sends);
       };
-      ordered = MemoryCell-mem_row_at p before.memory _ x.cell_of_memory x.memory_row;
+      ordered = MemoryCell-found p before.memory _ x.cell_of_memory x.memory_row;
       settled = led.settled;
       line = subst (λ (from : Option CacheState). SentAs p q before.memory from x.payload x.cell_of_memory.next led.done) (sender_state before core x.from) led.line;
       writeback = λ e. x.writeback (put_is q e);
@@ -171,13 +181,13 @@ nothing_asked p op.Evict busy lacks = busy (refl, refl)
 
 not_lacking : (p : Protocol) (s : CacheState) (found : Option CacheEvent) (row : (r : _) × (row_of p s found ≡ Some r)) → MatchOption found ⊤ (IsImpossible p s) → ⊥
 not_lacking p s None row lacks = let h = row.1 in cc
-not_lacking p s (Some e) row lacks = lacks row.0.act row.0.next (Cell-row_at p s e row.0 row.1)
+not_lacking p s (Some e) row lacks = lacks row.0.action row.0.next (Cell-found p s e row.0 row.1)
 
 not_lacking_memory : (p : Protocol) (m : MemState) (found : Option MemEvent) (row : (r : _) × (mem_row_of p m found ≡ Some r)) → MatchOption found ⊤ (IsMemImpossible p m) → ⊥
 not_lacking_memory p m None row lacks = let h = row.1 in cc
-not_lacking_memory p m (Some e) row lacks = lacks row.0.act row.0.next (MemoryCell-mem_row_at p m e row.0 row.1)
+not_lacking_memory p m (Some e) row lacks = lacks row.0.action row.0.next (MemoryCell-found p m e row.0 row.1)
 
-lacks_at_requestor : (q : Request) (p : Protocol) (s : CacheState) (sent : Payload) → (is_put q ≡ false → (r : _) × (row_of p s (arrival sent) ≡ Some r)) → LacksAtRequestor q p s sent → ⊥
+lacks_at_requestor : (q : Request) (p : Protocol) (s : CacheState) (sent : Payload) → (is_put_m q ≡ false → (r : _) × (row_of p s (arrival sent) ≡ Some r)) → LacksAtRequestor q p s sent → ⊥
 lacks_at_requestor request.PutM p s sent row lacks = lacks
 lacks_at_requestor request.GetS p s sent row lacks = not_lacking p s (arrival sent) (row refl) lacks
 lacks_at_requestor request.GetM p s sent row lacks = not_lacking p s (arrival sent) (row refl) lacks
@@ -199,7 +209,7 @@ meets_nothing s g (Ask core block asking) meets =
             | inr e ↦ e
           ] in
           let row = ask_possible p s.shape.cores (flat s.log block) (picture_of s block) core asking (g.good block within.1) within.0 not_idle in
-          meets.1.1 row.0.act row.0.next (Cell-row_at p held (asked asking) row.0 row.1)
+          meets.1.1 row.0.action row.0.next (Cell-found p held (asked asking) row.0 row.1)
     ]
 meets_nothing s g (Order core) meets = go (picture_of s block).transaction refl
   where

@@ -1,6 +1,7 @@
 -- What holds of every row, found by trying all.
 use Rattle.std.proofs.Common.{◌≡◌, ℕ, Bool, true, false, not, ◌&&◌, ◌||◌, Option, Some, None, refl, sym, ◌∙◌}
 use Rattle.std.proofs.Common.{inl, inr, subst}
+use Rattle.std.proofs.Math.Bool.{and-true, and-false}
 use Rattle.std.proofs.lemmas.Bool.{and_parts, cases_eq, eq-eqb, ne_eqb}
 use Rattle.std.specs.Prelude.{is_some}
 use Rattle.snoop_trace.specs.declared.step.Op.{Op}
@@ -17,12 +18,14 @@ use Rattle.snoop_rules.specs.declared.names.Request.TheVariants.{GetS, GetM, Put
 use Rattle.snoop_rules.specs.Cell.{Cell}
 use Rattle.snoop_rules.specs.Takers.{asked, own, other, seen_by}
 use Rattle.snoop_rules.specs.Waits.{waiting_request}
+use Rattle.snoop_rules.specs.declared.names.CacheCell.{CacheCell}
+use Rattle.snoop_rules.proofs.Every.{all_protocols, all_states, all_events}
+use Rattle.snoop_rules.proofs.Rows.{each_row, each_row-at}
 use Rattle.snoop_machine.specs.declared.lines.Line.{Line}
 use Rattle.snoop_machine.specs.Picture.{kept_on}
 use Rattle.snoop_machine.specs.Sound.{keeps, awaits, Awaits, kind_of, IsProper}
 use Rattle.snoop_machine.specs.Sound.Awaits.{nothing, load, store, eviction}
 use Rattle.snoop_machine.specs.Move.{comes_to, kept_waiting, IsFillFor}
-use Rattle.snoop_machine.proofs.Rows.{Row, row_at, all_protocols, all_states, all_events, each_row, each_row-at}
 
 -- requests, or none, as numbers that a test compares
 abbrev pub same_request : Option Request → Option Request → Bool
@@ -75,8 +78,8 @@ same_awaits-true eviction load h = cc
 same_awaits-true eviction store h = cc
 same_awaits-true eviction eviction h = refl
 
-abbrev pub issue_test : Protocol → CacheState → CacheEvent → Row → Bool
-issue_test p s e row = elim row.act [ action.Issue q ↦ same_request (waiting_request s) None && same_request (waiting_request row.next) (Some q) | _ ↦ true ]
+abbrev pub issue_test : Protocol → CacheState → CacheEvent → CacheCell → Bool
+issue_test p s e row = elim row.action [ action.Issue q ↦ same_request (waiting_request s) None && same_request (waiting_request row.next) (Some q) | _ ↦ true ]
 
 -- what an Ask's row does to what is kept and to what waits
 abbrev pub given_up : CacheState → Bool
@@ -102,43 +105,35 @@ same_event event.Evict event.Evict = true
 same_event _ _ = false
 
 -- after an issue the kept value is there where it was and is not given up, and the operation asked waits
-abbrev pub issue_line_test : Op → Protocol → CacheState → CacheEvent → Row → Bool
+abbrev pub issue_line_test : Op → Protocol → CacheState → CacheEvent → CacheCell → Bool
 issue_line_test asking p s e row =
-    elim row.act [ action.Issue q ↦ not (same_event e (asked asking)) || (same_bool (keeps row.next) (keeps s && not (given_up row.next)) && same_awaits (kind_of (kept_waiting asking)) (awaits row.next)) | _ ↦ true ]
-
-and_true : (b : Bool) → b ≡ (b && true)
-and_true true = refl
-and_true false = refl
-
-and_false : (b : Bool) → false ≡ (b && false)
-and_false true = refl
-and_false false = refl
+    elim row.action [ action.Issue q ↦ not (same_event e (asked asking)) || (same_bool (keeps row.next) (keeps s && not (given_up row.next)) && same_awaits (kind_of (kept_waiting asking)) (awaits row.next)) | _ ↦ true ]
 
 is_some-kept_on : (next : CacheState) (kept : Option ℕ) (b : Bool) → is_some kept ≡ b → is_some (kept_on next kept) ≡ (b && not (given_up next))
-is_some-kept_on I kept b h = and_false b
-is_some-kept_on IsAd kept b h = h ∙ and_true b
-is_some-kept_on IsD kept b h = h ∙ and_true b
-is_some-kept_on ImAd kept b h = and_false b
-is_some-kept_on ImD kept b h = h ∙ and_true b
-is_some-kept_on S kept b h = h ∙ and_true b
-is_some-kept_on SmAd kept b h = h ∙ and_true b
-is_some-kept_on SmD kept b h = h ∙ and_true b
-is_some-kept_on E kept b h = h ∙ and_true b
-is_some-kept_on M kept b h = h ∙ and_true b
-is_some-kept_on EiA kept b h = h ∙ and_true b
-is_some-kept_on MiA kept b h = h ∙ and_true b
-is_some-kept_on IiA kept b h = and_false b
+is_some-kept_on I kept b h = sym (and-false b)
+is_some-kept_on IsAd kept b h = h ∙ sym (and-true b)
+is_some-kept_on IsD kept b h = h ∙ sym (and-true b)
+is_some-kept_on ImAd kept b h = sym (and-false b)
+is_some-kept_on ImD kept b h = h ∙ sym (and-true b)
+is_some-kept_on S kept b h = h ∙ sym (and-true b)
+is_some-kept_on SmAd kept b h = h ∙ sym (and-true b)
+is_some-kept_on SmD kept b h = h ∙ sym (and-true b)
+is_some-kept_on E kept b h = h ∙ sym (and-true b)
+is_some-kept_on M kept b h = h ∙ sym (and-true b)
+is_some-kept_on EiA kept b h = h ∙ sym (and-true b)
+is_some-kept_on MiA kept b h = h ∙ sym (and-true b)
+is_some-kept_on IiA kept b h = sym (and-false b)
 
 -- an issue makes a core wait that did not
 pub issue-waits : (p : Protocol) (s : CacheState) (e : CacheEvent) (q : Request) (n : CacheState) → Cell p s e (action.Issue q) n → (waiting_request s ≡ None) × (waiting_request n ≡ Some q)
-unfolding each_row all_protocols all_states all_events row_at
+unfolding each_row all_protocols all_states all_events
 issue-waits p s e q n h =
     let t : (same_request (waiting_request s) None && same_request (waiting_request n) (Some q)) ≡ true = each_row-at issue_test refl p s e (action.Issue q) n h in
     let b = and_parts (same_request (waiting_request s) None) (same_request (waiting_request n) (Some q)) t in
     (same_request-true _ _ b.0, same_request-true _ _ b.1)
 
 issue_line_all : (asking : Op) → each_row (issue_line_test asking) ≡ true
-unfolding each_row all_protocols all_states all_events row_at
+unfolding each_row all_protocols all_states all_events
 issue_line_all op.Load = refl
 issue_line_all (op.Store value) = refl
 issue_line_all op.Evict = refl
@@ -162,12 +157,12 @@ IsProper-issue p old asking q n proper row =
     }
 
 -- a hit keeps a value, and what waits goes on waiting
-abbrev pub hit_test : Protocol → CacheState → CacheEvent → Row → Bool
+abbrev pub hit_test : Protocol → CacheState → CacheEvent → CacheCell → Bool
 hit_test p s e row =
-    elim row.act [ action.Hit ↦ same_bool (keeps row.next) true && (same_awaits (awaits s) (awaits row.next) && same_request (waiting_request row.next) (waiting_request s)) | _ ↦ true ]
+    elim row.action [ action.Hit ↦ same_bool (keeps row.next) true && (same_awaits (awaits s) (awaits row.next) && same_request (waiting_request row.next) (waiting_request s)) | _ ↦ true ]
 
 hit_facts : (p : Protocol) (s : CacheState) (e : CacheEvent) (n : CacheState) → Cell p s e action.Hit n → (keeps n ≡ true) × (awaits s ≡ awaits n) × (waiting_request n ≡ waiting_request s)
-unfolding each_row all_protocols all_states all_events row_at
+unfolding each_row all_protocols all_states all_events
 hit_facts p s e n row =
     let a = same_bool (keeps n) true in
     let b = same_awaits (awaits s) (awaits n) in
@@ -187,13 +182,13 @@ pub hit-waits : (p : Protocol) (s : CacheState) (e : CacheEvent) (n : CacheState
 hit-waits p s e n row = (hit_facts p s e n row).2
 
 -- a drop leaves nothing
-abbrev pub drop_test : Protocol → CacheState → CacheEvent → Row → Bool
+abbrev pub drop_test : Protocol → CacheState → CacheEvent → CacheCell → Bool
 drop_test p s e row =
-    elim row.act [ action.Drop ↦ same_bool (keeps row.next) (keeps s && not (given_up row.next)) && (same_awaits (awaits s) (awaits row.next) && same_request (waiting_request row.next) (waiting_request s)) | _ ↦ true ]
+    elim row.action [ action.Drop ↦ same_bool (keeps row.next) (keeps s && not (given_up row.next)) && (same_awaits (awaits s) (awaits row.next) && same_request (waiting_request row.next) (waiting_request s)) | _ ↦ true ]
 
 drop_facts : (p : Protocol) (s : CacheState) (e : CacheEvent) (n : CacheState) → Cell p s e action.Drop n
     → (keeps n ≡ (keeps s && not (given_up n))) × (awaits s ≡ awaits n) × (waiting_request n ≡ waiting_request s)
-unfolding each_row all_protocols all_states all_events row_at
+unfolding each_row all_protocols all_states all_events
 drop_facts p s e n row =
     let a = same_bool (keeps n) (keeps s && not (given_up n)) in
     let b = same_awaits (awaits s) (awaits n) in
@@ -224,24 +219,24 @@ is_other event.OtherGetM = true
 is_other event.OtherPutM = true
 is_other _ = false
 
-abbrev pub own_test : Protocol → CacheState → CacheEvent → Row → Bool
+abbrev pub own_test : Protocol → CacheState → CacheEvent → CacheCell → Bool
 own_test p s e row = not (is_own e) || same_request (waiting_request row.next) None
 
-abbrev pub other_test : Protocol → CacheState → CacheEvent → Row → Bool
+abbrev pub other_test : Protocol → CacheState → CacheEvent → CacheCell → Bool
 other_test p s e row = not (is_other e) || same_request (waiting_request row.next) (waiting_request s)
 
-abbrev pub order_test : Protocol → CacheState → CacheEvent → Row → Bool
+abbrev pub order_test : Protocol → CacheState → CacheEvent → CacheCell → Bool
 order_test p s e row = not (is_own e || is_other e) || (same_bool (keeps row.next) (keeps s && not (given_up row.next)) && same_awaits (awaits s) (awaits row.next))
 
 own-waits_event : (p : Protocol) (s : CacheState) (e : CacheEvent) (a : CacheAction) (n : CacheState) → is_own e ≡ true → Cell p s e a n → waiting_request n ≡ None
-unfolding each_row all_protocols all_states all_events row_at
+unfolding each_row all_protocols all_states all_events
 own-waits_event p s e a n own row =
     let t : (not (is_own e) || same_request (waiting_request n) None) ≡ true = each_row-at own_test refl p s e a n row in
     let u : same_request (waiting_request n) None ≡ true = rw own at t in
     same_request-true _ _ u
 
 other-waits_event : (p : Protocol) (s : CacheState) (e : CacheEvent) (a : CacheAction) (n : CacheState) → is_other e ≡ true → Cell p s e a n → waiting_request n ≡ waiting_request s
-unfolding each_row all_protocols all_states all_events row_at
+unfolding each_row all_protocols all_states all_events
 other-waits_event p s e a n other row =
     let t : (not (is_other e) || same_request (waiting_request n) (waiting_request s)) ≡ true = each_row-at other_test refl p s e a n row in
     let u : same_request (waiting_request n) (waiting_request s) ≡ true = rw other at t in
@@ -249,7 +244,7 @@ other-waits_event p s e a n other row =
 
 order_facts : (p : Protocol) (s : CacheState) (e : CacheEvent) (a : CacheAction) (n : CacheState) → (is_own e || is_other e) ≡ true → Cell p s e a n
     → (keeps n ≡ (keeps s && not (given_up n))) × (awaits s ≡ awaits n)
-unfolding each_row all_protocols all_states all_events row_at
+unfolding each_row all_protocols all_states all_events
 order_facts p s e a n ordered row =
     let x = same_bool (keeps n) (keeps s && not (given_up n)) in
     let y = same_awaits (awaits s) (awaits n) in
@@ -302,8 +297,8 @@ IsProper-order p old k core q a n proper row =
     record { kept = is_some-kept_on n old.kept (keeps old.state) proper.kept ∙ sym f.0; waiting = proper.waiting ∙ f.1 }
 
 -- a fill ends all waiting and keeps a value
-abbrev pub fill_test : Protocol → CacheState → CacheEvent → Row → Bool
-fill_test p s e row = elim row.act [
+abbrev pub fill_test : Protocol → CacheState → CacheEvent → CacheCell → Bool
+fill_test p s e row = elim row.action [
   | action.FillLoad ↦ same_bool (keeps row.next) true && (same_awaits (awaits row.next) nothing && same_request (waiting_request row.next) (waiting_request s))
   | action.FillStore ↦ same_bool (keeps row.next) true && (same_awaits (awaits row.next) nothing && same_request (waiting_request row.next) (waiting_request s))
   | _ ↦ true
@@ -311,7 +306,7 @@ fill_test p s e row = elim row.act [
 
 fill_facts : (p : Protocol) (s : CacheState) (e : CacheEvent) (a : CacheAction) (n : CacheState) (asking : Op) → IsFillFor a asking → Cell p s e a n
     → (keeps n ≡ true) × (awaits n ≡ nothing) × (waiting_request n ≡ waiting_request s)
-unfolding each_row all_protocols all_states all_events row_at
+unfolding each_row all_protocols all_states all_events
 fill_facts p s e action.FillLoad n asking fill row =
     let a = same_bool (keeps n) true in
     let b = same_awaits (awaits n) nothing in

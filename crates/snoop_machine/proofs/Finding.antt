@@ -18,6 +18,8 @@ use Rattle.snoop_rules.specs.Cell.{Cell}
 use Rattle.snoop_rules.specs.MemoryCell.{MemoryCell}
 use Rattle.snoop_rules.specs.Takers.{seen_by, at_memory}
 use Rattle.snoop_rules.specs.Waits.{waiting_request}
+use Rattle.snoop_rules.proofs.Rows.{Cell-one}
+use Rattle.snoop_rules.proofs.MemRows.{MemoryCell-one}
 use Rattle.snoop_machine.specs.declared.lines.Line.{Line}
 use Rattle.snoop_machine.specs.declared.message.Message.{Message}
 use Rattle.snoop_machine.specs.Picture.{Picture, held_by, nothing_held, HoldNothing}
@@ -25,8 +27,6 @@ use Rattle.snoop_machine.specs.Sends.{Sends, value_sent}
 use Rattle.snoop_machine.specs.Meets.{HasOneSender, FindsRows}
 use Rattle.snoop_machine.specs.Message.{IsMessage, memory_message}
 use Rattle.snoop_machine.proofs.Passing.{Cell-nothing}
-use Rattle.snoop_machine.proofs.Rows.{Cell-one}
-use Rattle.snoop_machine.proofs.MemRows.{MemoryCell-one}
 
 -- memory, or a core below n
 abbrev pub IsBelow : ℕ → Option ℕ → Type 0

@@ -6,13 +6,13 @@ use Rattle.std.proofs.lemmas.Bool.{eqb-true, and_parts}
 use Rattle.snoop_rules.specs.declared.names.Protocol.{Protocol}
 use Rattle.snoop_rules.specs.declared.names.CacheState.{CacheState}
 use Rattle.snoop_rules.specs.declared.names.Request.{Request}
-use Rattle.snoop_bus.specs.declared.transactions.Open.{Open}
 use Rattle.snoop_rules.specs.Takers.{carries_value}
+use Rattle.snoop_history.specs.Totals.{is_put_m}
+use Rattle.snoop_bus.specs.declared.transactions.Open.{Open}
 use Rattle.snoop_machine.specs.declared.lines.Line.{Line}
 use Rattle.snoop_machine.specs.Picture.{Picture, held_by}
 use Rattle.snoop_machine.specs.Fits.{is_owner, is_clean, is_reader, fits}
 use Rattle.snoop_machine.specs.Good.{Good, talk_of, awaited, owns}
-use Rattle.snoop_machine.proofs.OneBlock.{is_put}
 use Rattle.snoop_machine.proofs.Every.{same_is}
 use Rattle.snoop_machine.proofs.RespondTests.{writes}
 use Rattle.snoop_machine.proofs.StateTests.{alone_rule, calm_talk, is_calm, owned_rule}
@@ -99,7 +99,7 @@ owned_alone p n flat picture g is_owned =
 pub calm_wait : (t : Option Open) (d : ℕ) → calm_talk (talk_of t) ≡ true → is_calm (awaited t d) ≡ true
 calm_wait None d h = refl
 calm_wait (Some o) d h = elim (or_not (eqb d o.core)) as (λ _. is_calm (cond (eqb d o.core) (Some o.request) None) ≡ true) [
-  | inl e ↦ rw e (and_parts (is_put o.request) (not (carries_value o.payload)) h).0
+  | inl e ↦ rw e (and_parts (is_put_m o.request) (not (carries_value o.payload)) h).0
   | inr e ↦ rw e refl
 ]
 
@@ -130,7 +130,7 @@ one_writer p n flat picture g c d c_in d_in writes apart =
 pub calm_carries : (t : Option Open) (o : Open) → calm_talk (talk_of t) ≡ true → t ≡ Some o → carries_value o.payload ≡ true → ⊥
 calm_carries t o h e carrying =
     let h2 : calm_talk (talk_of (Some o)) ≡ true = ap (λ (x : Option Open). calm_talk (talk_of x)) (sym e) ∙ h in
-    clash (carries_value o.payload) carrying (not_true (carries_value o.payload) (and_parts (is_put o.request) (not (carries_value o.payload)) h2).1)
+    clash (carries_value o.payload) carrying (not_true (carries_value o.payload) (and_parts (is_put_m o.request) (not (carries_value o.payload)) h2).1)
 
 pub none_of : (o : Option ℕ) → is_some o ≡ false → o ≡ None
 none_of None e = refl

@@ -1,5 +1,5 @@
 -- A machine is well kept at reset, and stays so.
-use Rattle.std.proofs.Common.{◌≡◌, ℕ, List, [], length, replicate, Option, Some, None, refl, sym, ◌∙◌, ap, subst, arith, inl, inr, get_or}
+use Rattle.std.proofs.Common.{◌≡◌, ℕ, List, [], length, replicate, Option, Some, None, sym, ◌∙◌, ap, subst, arith, inl, inr}
 use Rattle.std.specs.Prelude.{All, Contains}
 use Rattle.std.proofs.lemmas.Bool.{cases_lt}
 use Rattle.std.proofs.lemmas.List.{length-replicate, get_or-replicate, get_or_past}
@@ -17,6 +17,7 @@ use Rattle.snoop_machine.specs.Situation.{Situation, picture_of, reset}
 use Rattle.snoop_machine.specs.Serving.{IsServing}
 use Rattle.snoop_machine.specs.WellKept.{IsWellKept, awaited_request}
 use Rattle.snoop_machine.specs.TurnRule.{StartsWell, KeepsWell}
+use Rattle.snoop_machine.proofs.Plain.{replicated}
 use Rattle.snoop_machine.proofs.KeepingAsk.{kept_asks}
 use Rattle.snoop_machine.proofs.KeepingOrder.{kept_orders}
 use Rattle.snoop_machine.proofs.KeepingRespond.{kept_responds}
@@ -31,26 +32,20 @@ keeps_well s t (Order core) answer entry kept move =
 keeps_well s t (Respond on) answer entry kept move =
     kept_responds s t kept move.0 move.1.1.0 move.1.1.1.0 move.1.1.1.1.1 move.1.1.1.1.4
 
-replicated : {X : Type 0} (n i : ℕ) (x d : X) → (d ≡ x) → get_or (replicate n x) i d ≡ x
-replicated n i x d same = elim (cases_lt i n) [
-  | inl lt ↦ get_or-replicate n i x d lt
-  | inr ge ↦ (let long = length-replicate n x in get_or_past (replicate n x) i d (omega arith) ∙ same)
-]
-
 module _ (protocol : Protocol) (shape : Extent) where
   line_is : (k b : ℕ) → held_by (picture_of (reset protocol shape) b) k ≡ nothing_held
   line_is k b = elim (cases_lt b shape.blocks) [
-    | inl lt ↦ ap (λ (r : List Line). held_at r k) (get_or-replicate shape.blocks b (replicate shape.cores nothing_held) [] lt) ∙ replicated shape.cores k nothing_held nothing_held refl
+    | inl lt ↦ ap (λ (r : List Line). held_at r k) (get_or-replicate shape.blocks b (replicate shape.cores nothing_held) [] lt) ∙ replicated shape.cores k nothing_held
     | inr ge ↦
         (let n = length-replicate shape.blocks (replicate shape.cores nothing_held) in
         ap (λ (r : List Line). held_at r k) (get_or_past (replicate shape.blocks (replicate shape.cores nothing_held)) b [] (omega arith)))
   ]
 
   queue_is : (k : ℕ) → queue_of (reset protocol shape).queues k ≡ []
-  queue_is k = replicated shape.cores k [] [] refl
+  queue_is k = replicated shape.cores k []
 
   open_is : (b : ℕ) → (picture_of (reset protocol shape) b).transaction ≡ None
-  open_is b = replicated shape.blocks b None None refl
+  open_is b = replicated shape.blocks b None
 
   kept_reset : IsWellKept (reset protocol shape)
   kept_reset = record {

@@ -1,7 +1,6 @@
-pub mod Rows
+pub mod Plain
 pub mod Facts
 pub mod Taking
-pub mod MemRows
 pub mod Finding
 pub mod Placed
 pub mod Kept
@@ -24,7 +23,6 @@ pub mod KeepingRespond
 pub mod Keeping
 pub mod TurnLaws
 pub mod Every
-pub mod Cells
 pub mod OneBlock
 pub mod Senders
 pub mod StateTests

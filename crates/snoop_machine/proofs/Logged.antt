@@ -11,6 +11,7 @@ use Rattle.snoop_history.proofs.Pushed.{flat-push, stored_in}
 use Rattle.snoop_machine.specs.Move.{next_did}
 use Rattle.snoop_machine.proofs.OneBlock.{Loaded, Stored, flat_after, IsLawful}
 use Rattle.snoop_machine.proofs.Bridge.{done_of, made_of, did_in}
+use Rattle.snoop_machine.proofs.Plain.{either_way}
 
 -- the value that one operation leaves in a block
 stored_one : (value block : ℕ) (did : Did) → last_or value (stored_in block (Some did)) ≡ cond (eqb did.block block) (flat_after value (Some (done_of did))) value
@@ -22,10 +23,6 @@ stored_one value block did =
     ]
     in
     go did.load (eqb did.block block)
-
-either_way : (t : Bool) (value : ℕ) → value ≡ cond t value value
-either_way true value = refl
-either_way false value = refl
 
 -- the operation is on this block, if there is one
 abbrev pub IsOn : ℕ → Option Did → Type 0

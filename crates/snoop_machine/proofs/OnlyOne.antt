@@ -18,7 +18,9 @@ use Rattle.snoop_rules.specs.declared.names.Request.TheVariants as request
 use Rattle.snoop_rules.specs.declared.names.Payload.{Payload}
 use Rattle.snoop_rules.specs.Cell.{Cell}
 use Rattle.snoop_rules.specs.MemoryCell.{MemoryCell}
-use Rattle.snoop_rules.specs.Takers.{asked, at_memory, awaits_payload, seen_by}
+use Rattle.snoop_rules.specs.Takers.{asked, at_memory, takes_payload, seen_by}
+use Rattle.snoop_rules.proofs.Rows.{Cell-one}
+use Rattle.snoop_rules.proofs.MemRows.{MemoryCell-one}
 use Rattle.snoop_history.specs.declared.items.Did.{Did}
 use Rattle.snoop_history.specs.declared.items.Item.{Item}
 use Rattle.snoop_history.specs.declared.items.Item.TheVariants as item
@@ -38,8 +40,6 @@ use Rattle.snoop_machine.specs.Refuses.{Refuses, IsStall, WaitsOnNone}
 use Rattle.snoop_machine.specs.Run.{GoesFirst, FirstRunFrom}
 use Rattle.snoop_machine.specs.WellKept.{IsWellKept}
 use Rattle.snoop_machine.specs.TurnRule.{KeepsWell}
-use Rattle.snoop_machine.proofs.Rows.{Cell-one}
-use Rattle.snoop_machine.proofs.MemRows.{MemoryCell-one}
 use Rattle.snoop_machine.proofs.Planned.{no_row}
 use Rattle.snoop_machine.proofs.Pictures.{same_picture}
 use Rattle.snoop_machine.proofs.Onward.{IsSteady, first_in, steady_on}
@@ -333,7 +333,7 @@ responds_one s block o o' did did' new new' a b =
     let requestor : ArrivesFor o.request o p s.log before.caches b.next.caches did' = subst (λ (x : Open). ArrivesFor x.request x p s.log before.caches b.next.caches did') same b.requestor in
     let caches = arrives_one o.request o p s.log before.caches a.next.caches b.next.caches did did' a.requestor requestor in
     let its : ArrivesAtMemory o p before b.next = subst (λ (x : Open). ArrivesAtMemory x p before b.next) same b.memory in
-    let memory = memory_one (awaits_payload before.memory) o p before a.next b.next a.memory its in
+    let memory = memory_one (takes_payload o.request before.memory) o p before a.next b.next a.memory its in
     let next : a.next ≡ b.next = same_picture _ _ _ _ _ _ _ _ caches.0 memory.0 memory.1 (a.closed ∙ sym b.closed) in
     let then : Open → Option Did → Picture → Situation = λ x d n. record (with_picture s block n) { log = s.log ++ item.Came (came_of x) d ∷ [] } in (
       sym same,

@@ -18,11 +18,17 @@ use Rattle.snoop_rules.specs.declared.names.Request.{Request}
 use Rattle.snoop_rules.specs.declared.names.Request.TheVariants as request
 use Rattle.snoop_rules.specs.declared.names.Payload.{Payload}
 use Rattle.snoop_rules.specs.Cell.{Cell}
-use Rattle.snoop_rules.specs.Takers.{asked, seen_by, arrival, arrival_at_memory, awaits_payload}
+use Rattle.snoop_rules.specs.Takers.{asked, seen_by, arrival, arrival_at_memory, takes_payload}
+use Rattle.snoop_rules.specs.declared.names.CacheCell.{CacheCell}
+use Rattle.snoop_rules.specs.declared.names.MemCell.{MemCell}
+use Rattle.snoop_rules.proofs.Every.{all_protocols, all_states, all_events}
+use Rattle.snoop_rules.proofs.Rows.{each_row, each_row-at, Cell-found}
+use Rattle.snoop_rules.proofs.MemRows.{MemoryCell-found}
 use Rattle.snoop_history.specs.declared.items.Did.{Did}
 use Rattle.snoop_history.specs.declared.items.Item.{Item}
 use Rattle.snoop_history.specs.declared.items.Item.TheVariants as item
 use Rattle.snoop_history.specs.History.{flat}
+use Rattle.snoop_history.specs.Totals.{is_put_m}
 use Rattle.snoop_bus.specs.declared.transactions.Open.{Open}
 use Rattle.snoop_bus.specs.Queues.{queue_of, after_order}
 use Rattle.snoop_machine.specs.declared.lines.Line.{Line}
@@ -39,11 +45,8 @@ use Rattle.snoop_machine.specs.Move.{TakesRow, Arrives, ArrivesFor, ArrivesAtMem
 use Rattle.snoop_machine.specs.Run.{GoesFirst, FirstRunFrom}
 use Rattle.snoop_machine.specs.WellKept.{IsWellKept}
 use Rattle.snoop_machine.specs.TurnRule.{KeepsWell}
-use Rattle.snoop_machine.proofs.Rows.{Row, row_at, each_row, each_row-at, all_protocols, all_states, all_events}
-use Rattle.snoop_machine.proofs.MemRows.{MemRow}
 use Rattle.snoop_machine.specs.Coherent.{IsCoherent}
-use Rattle.snoop_machine.proofs.OneBlock.{Answerable, is_idle_evict, is_put, row_of, mem_row_of}
-use Rattle.snoop_machine.proofs.Cells.{Cell-row_at, MemoryCell-mem_row_at}
+use Rattle.snoop_machine.proofs.OneBlock.{Answerable, is_idle_evict, row_of, mem_row_of}
 use Rattle.snoop_machine.proofs.Clauses.{finds_rows, idle_evict, waits_within}
 use Rattle.snoop_machine.proofs.Invariant.{or_not}
 use Rattle.snoop_machine.proofs.StepLaws.{first_keeps}
@@ -75,11 +78,11 @@ abbrev hits : CacheAction → Bool
 hits action.Hit = true
 hits _ = false
 
-abbrev ask_test : Protocol → CacheState → CacheEvent → Row → Bool
-ask_test p s e r = not (is_ask e) || (is_asked r.act e && (not (hits r.act) || keeps s))
+abbrev ask_test : Protocol → CacheState → CacheEvent → CacheCell → Bool
+ask_test p s e r = not (is_ask e) || (is_asked r.action e && (not (hits r.action) || keeps s))
 
 ask_test_holds : each_row ask_test ≡ true
-unfolding each_row all_protocols all_states all_events row_at
+unfolding each_row all_protocols all_states all_events
 ask_test_holds = refl
 
 asked_is : (o : Op) → is_ask (asked o) ≡ true
@@ -188,10 +191,10 @@ ask_within s g core block asking within =
       | inr busy ↦
           let good = g.good block within.1 in
           let row = ask_possible p s.shape.cores (flat s.log block) (picture_of s block) core asking good within.0 busy in
-          let cell = Cell-row_at p line.state (asked asking) row.0 row.1 in
-          let rule = ask_rule p line.state asking row.0.act row.0.next cell in
-          by_row s core block within asking row.0.act row.0.next cell rule.0
-          (λ is_hit. some_kept line.kept ((good.proper core within.0).kept ∙ right_if (hits row.0.act) (keeps line.state) is_hit rule.1))
+          let cell = Cell-found p line.state (asked asking) row.0 row.1 in
+          let rule = ask_rule p line.state asking row.0.action row.0.next cell in
+          by_row s core block within asking row.0.action row.0.next cell rule.0
+          (λ is_hit. some_kept line.kept ((good.proper core within.0).kept ∙ right_if (hits row.0.action) (keeps line.state) is_hit rule.1))
     ]
 
 ask_leads : (s : Situation) → IsCoherent s → (core block : ℕ) (asking : Op) → LeadsOn s (Ask core block asking)
@@ -308,11 +311,11 @@ fills action.FillLoad s = is_load (awaits s)
 fills action.FillStore s = is_store (awaits s)
 fills _ s = false
 
-abbrev data_test : Protocol → CacheState → CacheEvent → Row → Bool
-data_test p s e r = not (is_data e) || fills r.act s
+abbrev data_test : Protocol → CacheState → CacheEvent → CacheCell → Bool
+data_test p s e r = not (is_data e) || fills r.action s
 
 data_test_holds : each_row data_test ≡ true
-unfolding each_row all_protocols all_states all_events row_at
+unfolding each_row all_protocols all_states all_events
 data_test_holds = refl
 
 arrives_as_data : (payload : Payload) (e : CacheEvent) → arrival payload ≡ Some e → is_data e ≡ true
@@ -392,15 +395,15 @@ module _ (p : Protocol) (log : List Item) (old : List Line) (o : Open) where
   fill e arrives action.Drop next row fits proper = cc
   fill e arrives (action.Send payload target) next row fits proper = cc
 
-  fill_found : (found : Option CacheEvent) → arrival o.payload ≡ found → (row : Row) → row_of p (held_at old o.core).state found ≡ Some row → IsProper (held_at old o.core)
+  fill_found : (found : Option CacheEvent) → arrival o.payload ≡ found → (row : CacheCell) → row_of p (held_at old o.core).state found ≡ Some row → IsProper (held_at old o.core)
       → (new : List Line) × ((did : Option Did) × Move.Fills o p log old new did)
   fill_found None arrives row is proper = cc
   fill_found (Some e) arrives row is proper =
-      let cell = Cell-row_at p (held_at old o.core).state e row is in
-      let test = each_row-at data_test data_test_holds p (held_at old o.core).state e row.act row.next cell in
-      fill e arrives row.act row.next cell (right_if (is_data e) _ (arrives_as_data o.payload e arrives) test) proper
+      let cell = Cell-found p (held_at old o.core).state e row is in
+      let test = each_row-at data_test data_test_holds p (held_at old o.core).state e row.action row.next cell in
+      fill e arrives row.action row.next cell (right_if (is_data e) _ (arrives_as_data o.payload e arrives) test) proper
 
-  brings : (q : Request) → (is_put q ≡ false → (r : Row) × (row_of p (held_at old o.core).state (arrival o.payload) ≡ Some r)) → IsProper (held_at old o.core) → Brings p log old o q
+  brings : (q : Request) → (is_put_m q ≡ false → (r : CacheCell) × (row_of p (held_at old o.core).state (arrival o.payload) ≡ Some r)) → IsProper (held_at old o.core) → Brings p log old o q
   brings request.PutM row proper = (old, (None, (refl, refl)))
   brings request.GetS row proper = fill_found (arrival o.payload) refl (row refl).0 (row refl).1 proper
   brings request.GetM row proper = fill_found (arrival o.payload) refl (row refl).0 (row refl).1 proper
@@ -409,24 +412,24 @@ module _ (p : Protocol) (log : List Item) (old : List Line) (o : Open) where
 abbrev BringsToMemory : Protocol → Picture → Open → Type 0
 BringsToMemory p before o = (next : MemState) × ((value : ℕ) × ((caches : List Line) → ArrivesAtMemory o p before (record { caches = caches; memory = next; value = value; transaction = None })))
 
-memory_found : (p : Protocol) (before : Picture) (o : Open) → awaits_payload before.memory ≡ true → (found : Option MemEvent) → arrival_at_memory o.payload ≡ found → (row : MemRow) → mem_row_of p before.memory found ≡ Some row → BringsToMemory p before o
+memory_found : (p : Protocol) (before : Picture) (o : Open) → takes_payload o.request before.memory ≡ true → (found : Option MemEvent) → arrival_at_memory o.payload ≡ found → (row : MemCell) → mem_row_of p before.memory found ≡ Some row → BringsToMemory p before o
 memory_found p before o waits None arrives row is = cc
 memory_found p before o waits (Some e) arrives row is = (
   row.next,
   (
-    written row.act o.value before.value,
+    written row.action o.value before.value,
     λ caches. rw waits (record {
       event = e;
-      act = row.act;
+      act = row.action;
       arrives = arrives;
-      row = MemoryCell-mem_row_at p before.memory e row is;
+      row = MemoryCell-found p before.memory e row is;
       value = refl;
     }),
   ),
 )
 
-brings_to_memory : (p : Protocol) (before : Picture) (o : Open) → (awaits_payload before.memory ≡ true → (r : MemRow) × (mem_row_of p before.memory (arrival_at_memory o.payload) ≡ Some r)) → BringsToMemory p before o
-brings_to_memory p before o row = elim (or_not (awaits_payload before.memory)) as (λ _. BringsToMemory p before o) [
+brings_to_memory : (p : Protocol) (before : Picture) (o : Open) → (takes_payload o.request before.memory ≡ true → (r : MemCell) × (mem_row_of p before.memory (arrival_at_memory o.payload) ≡ Some r)) → BringsToMemory p before o
+brings_to_memory p before o row = elim (or_not (takes_payload o.request before.memory)) as (λ _. BringsToMemory p before o) [
   | inl waits ↦ memory_found p before o waits (arrival_at_memory o.payload) refl (row waits).0 (row waits).1
   | inr idle ↦ (before.memory, (before.value, λ caches. rw idle (refl, refl)))
 ]

@@ -2,6 +2,7 @@
 use Rattle.std.proofs.Common.{◌≡◌, ◌≢◌, ◌<◌, ◌&&◌, ◌||◌, ◌∙◌, ℕ, Bool, true, false, not, cond, eqb, Option, Some, None, refl, inl, inr, ap, sym, subst}
 use Rattle.std.specs.Prelude.{is_some, unwrap_or}
 use Rattle.std.proofs.lemmas.Bool.Decides.{eqb_tells}
+use Rattle.std.proofs.Math.Bool.{and-true, and-false}
 use Rattle.std.proofs.lemmas.Bool.{eq-eqb, and_parts}
 use Rattle.snoop_rules.specs.declared.names.Protocol.{Protocol}
 use Rattle.snoop_rules.specs.declared.names.CacheState.{CacheState}
@@ -9,9 +10,15 @@ use Rattle.snoop_rules.specs.declared.names.CacheEvent.{CacheEvent}
 use Rattle.snoop_rules.specs.declared.names.Request.{Request}
 use Rattle.snoop_rules.specs.declared.names.Payload.{Payload}
 use Rattle.snoop_rules.specs.declared.names.Payload.TheVariants as payload
-use Rattle.snoop_bus.specs.declared.transactions.Open.{Open}
 use Rattle.snoop_rules.specs.Waits.{waiting_request}
 use Rattle.snoop_rules.specs.Takers.{own, other, seen_by, at_memory, carries_value}
+use Rattle.snoop_rules.specs.declared.names.CacheCell.{CacheCell}
+use Rattle.snoop_rules.specs.declared.names.MemCell.{MemCell}
+use Rattle.snoop_rules.specs.Row.{cell_of}
+use Rattle.snoop_rules.specs.MemoryRow.{memory_cell_of}
+use Rattle.snoop_rules.proofs.Rows.{Cell-found}
+use Rattle.snoop_history.specs.Totals.{is_put_m, is_data}
+use Rattle.snoop_bus.specs.declared.transactions.Open.{Open}
 use Rattle.snoop_machine.specs.declared.lines.Line.{Line}
 use Rattle.snoop_machine.specs.Picture.{Picture, held_by}
 use Rattle.snoop_machine.specs.Sends.{value_at, value_sent}
@@ -19,14 +26,11 @@ use Rattle.snoop_machine.specs.Move.{comes_to}
 use Rattle.snoop_machine.specs.Sound.{IsProper}
 use Rattle.snoop_machine.specs.Fits.{Claims, claims_of, is_clean, is_reader, same, fits}
 use Rattle.snoop_machine.specs.Good.{Good, talk_of, awaited, owns}
-use Rattle.snoop_machine.proofs.Rows.{Row, row_at}
-use Rattle.snoop_machine.proofs.MemRows.{MemRow, mem_row_at}
-use Rattle.snoop_machine.proofs.OneBlock.{sent_by, sent_by_memory, Sends, is_put, Takes, message, Orders}
+use Rattle.snoop_machine.proofs.Every.{given_at, same_is, some_of}
+use Rattle.snoop_machine.proofs.OneBlock.{sent_by, sent_by_memory, Sends, Takes, message, Orders}
 use Rattle.snoop_machine.proofs.Invariant.{some_is, not_eqb, or_not, either_of, some_true, owns_owned, owns_apart, fits_is_owner, implied, Carried, carried_kept}
 use Rattle.snoop_machine.proofs.Facts.{IsProper-order}
-use Rattle.snoop_machine.proofs.Cells.{Cell-row_at}
-use Rattle.snoop_machine.proofs.Every.{given_at, same_is, some_of}
-use Rattle.snoop_machine.proofs.OrderTests.{end_rule, is_data, or_else, order_rule, other_rule, payload_of}
+use Rattle.snoop_machine.proofs.OrderTests.{end_rule, or_else, order_rule, other_rule, payload_of}
 use Rattle.snoop_machine.proofs.StateTests.{carries, kept_reader, owner_reads}
 use Rattle.snoop_machine.proofs.OrderTests
 
@@ -39,10 +43,10 @@ pub record Looked (p : Protocol) (n : ℕ) (flat : ℕ) (before : Picture) (c : 
   pub quiet : claims_of p before.memory None ≡ Some good.claims
   pub requestor_fits : fits p good.claims.shared (owns good.owner c) None (held_by before c).state ≡ true
   pub owned : (not (owns good.owner c) || good.claims.owned) ≡ true
-  pub mc : MemRow
-  pub is_mc : mem_row_at p before.memory (at_memory q) ≡ Some mc
-  pub oc : Row
-  pub is_oc : row_at p (held_by before c).state (own q) ≡ Some oc
+  pub mc : MemCell
+  pub is_mc : memory_cell_of p before.memory (at_memory q) ≡ Some mc
+  pub oc : CacheCell
+  pub is_oc : cell_of p (held_by before c).state (own q) ≡ Some oc
   pub pl : Payload
   pub is_pl : payload_of oc mc ≡ Some pl
   pub next : Claims
@@ -57,8 +61,8 @@ look p n flat before c q good c_in waits calm =
     let quiet : claims_of p m None ≡ Some st = ap (λ (t : Option Open). claims_of p m (talk_of t)) (sym calm) ∙ good.is_claims in
     let fit : fits p st.shared ow None sr ≡ true = ap (λ (t : Option Open). fits p st.shared ow (awaited t c) sr) (sym calm) ∙ good.states c c_in in
     let owned : (not ow || st.owned) ≡ true = owns_owned good.owner c st.owned good.is_owned in
-    let some_mc : (a : MemRow) × (mem_row_at p m (at_memory q) ≡ Some a) = some_of _ (order_rule OrderTests.has_mem_row OrderTests.has_mem_row_holds p m st sr ow q quiet fit owned waits) in
-    let some_oc : (a : Row) × (row_at p sr (own q) ≡ Some a) = some_of _ (order_rule OrderTests.has_own_row OrderTests.has_own_row_holds p m st sr ow q quiet fit owned waits) in
+    let some_mc : (a : MemCell) × (memory_cell_of p m (at_memory q) ≡ Some a) = some_of _ (order_rule OrderTests.has_mem_row OrderTests.has_mem_row_holds p m st sr ow q quiet fit owned waits) in
+    let some_oc : (a : CacheCell) × (cell_of p sr (own q) ≡ Some a) = some_of _ (order_rule OrderTests.has_own_row OrderTests.has_own_row_holds p m st sr ow q quiet fit owned waits) in
     let mc = some_mc.0 in
     let oc = some_oc.0 in
     let h1 = order_rule OrderTests.has_payload OrderTests.has_payload_holds p m st sr ow q quiet fit owned waits in
@@ -91,25 +95,25 @@ pub end_of : (p : Protocol) (n : ℕ) (flat : ℕ) (before : Picture) (c : ℕ) 
 end_of p n flat before c q l k h = end_rule k h p before.memory l.good.claims (held_by before c).state (owns l.good.owner c) q l.mc l.oc l.pl l.next l.quiet l.requestor_fits l.owned l.waits l.is_mc l.is_oc l.is_pl l.is_next
 
 -- a test of another core holds there
-pub other_of : (p : Protocol) (n : ℕ) (flat : ℕ) (before : Picture) (c : ℕ) (q : Request) (l : Looked p n flat before c q) (k : OrderTests.OtherTest) → OrderTests.orders (OrderTests.end_case (OrderTests.other_case k)) ≡ true → (d : ℕ) → d < n → d ≢ c → (xc : Row) → row_at p (held_by before d).state (other q) ≡ Some xc → k p before.memory l.good.claims (held_by before c).state (owns l.good.owner c) q l.mc l.oc l.pl l.next (held_by before d).state (owns l.good.owner d) xc ≡ true
+pub other_of : (p : Protocol) (n : ℕ) (flat : ℕ) (before : Picture) (c : ℕ) (q : Request) (l : Looked p n flat before c q) (k : OrderTests.OtherTest) → OrderTests.orders (OrderTests.end_case (OrderTests.other_case k)) ≡ true → (d : ℕ) → d < n → d ≢ c → (xc : CacheCell) → cell_of p (held_by before d).state (other q) ≡ Some xc → k p before.memory l.good.claims (held_by before c).state (owns l.good.owner c) q l.mc l.oc l.pl l.next (held_by before d).state (owns l.good.owner d) xc ≡ true
 other_of p n flat before c q l k h d d_in apart xc is_xc =
     let st = l.good.claims in
     let fit : fits p st.shared (owns l.good.owner d) None (held_by before d).state ≡ true = ap (λ (t : Option Open). fits p st.shared (owns l.good.owner d) (awaited t d) (held_by before d).state) (sym l.calm) ∙ l.good.states d d_in in
     other_rule k p before.memory st (held_by before c).state (owns l.good.owner c) q l.mc l.oc l.pl l.next (end_of p n flat before c q l (OrderTests.other_case k) h) (held_by before d).state (owns l.good.owner d) xc fit (owns_apart l.good.owner c d apart) (owns_owned l.good.owner d st.owned l.good.is_owned) is_xc
 
 -- each other core has its row
-pub other_cell : (p : Protocol) (n : ℕ) (flat : ℕ) (before : Picture) (c : ℕ) (q : Request) (l : Looked p n flat before c q) (d : ℕ) → d < n → (xc : Row) × (row_at p (held_by before d).state (other q) ≡ Some xc)
+pub other_cell : (p : Protocol) (n : ℕ) (flat : ℕ) (before : Picture) (c : ℕ) (q : Request) (l : Looked p n flat before c q) (d : ℕ) → d < n → (xc : CacheCell) × (cell_of p (held_by before d).state (other q) ≡ Some xc)
 other_cell p n flat before c q l d d_in =
     let st = l.good.claims in
     let fit : fits p st.shared (owns l.good.owner d) None (held_by before d).state ≡ true = ap (λ (t : Option Open). fits p st.shared (owns l.good.owner d) (awaited t d) (held_by before d).state) (sym l.calm) ∙ l.good.states d d_in in
     some_of _ (OrderTests.other_row p q (held_by before d).state st.shared (owns l.good.owner d) fit)
 
 -- the row that a core takes is the one that its event names
-pub takes_row : (p : Protocol) (e f : CacheEvent) (old new : Line) (r : Row) → e ≡ f → row_at p old.state f ≡ Some r → Takes p e old new → new ≡ comes_to r.next old
+pub takes_row : (p : Protocol) (e f : CacheEvent) (old new : Line) (r : CacheCell) → e ≡ f → cell_of p old.state f ≡ Some r → Takes p e old new → new ≡ comes_to r.next old
 takes_row p e f old new r is_event is_row took =
-    let same_cell : row_at p old.state e ≡ Some r = ap (λ (x : CacheEvent). row_at p old.state x) is_event ∙ is_row in
-    let is_r : took.0 ≡ r = some_is (row_at p old.state e) took.0 r took.1 same_cell in
-    took.2 ∙ ap (λ (x : Row). comes_to x.next old) is_r
+    let same_cell : cell_of p old.state e ≡ Some r = ap (λ (x : CacheEvent). cell_of p old.state x) is_event ∙ is_row in
+    let is_r : took.0 ≡ r = some_is (cell_of p old.state e) took.0 r took.1 same_cell in
+    took.2 ∙ ap (λ (x : CacheCell). comes_to x.next old) is_r
 
 pub seen_own : (c : ℕ) (q : Request) → seen_by c c q ≡ own q
 seen_own c q = rw (eq-eqb c c refl) refl
@@ -138,16 +142,16 @@ payload_of_requestor (Some x) b pl sent e f = cc
 pub sent_payload : (p : Protocol) (n : ℕ) (flat : ℕ) (before : Picture) (c : ℕ) (q : Request) (l : Looked p n flat before c q) (from : Option ℕ) (sent : Payload) → Sends p n before c q from sent → sent ≡ l.pl
 sent_payload p n flat before c q l None sent sends =
     let e : sent_by_memory (Some l.mc) ≡ Some sent = ap sent_by_memory (sym l.is_mc) ∙ sends in
-    payload_of_memory (sent_by (Some l.oc)) (sent_by_memory (Some l.mc)) (is_put q) l.good.claims.owned l.pl sent (end_of p n flat before c q l OrderTests.requestor_sends OrderTests.requestor_sends_holds) (end_of p n flat before c q l OrderTests.memory_sends OrderTests.memory_sends_holds) l.is_pl e
+    payload_of_memory (sent_by (Some l.oc)) (sent_by_memory (Some l.mc)) (is_put_m q) l.good.claims.owned l.pl sent (end_of p n flat before c q l OrderTests.requestor_sends OrderTests.requestor_sends_holds) (end_of p n flat before c q l OrderTests.memory_sends OrderTests.memory_sends_holds) l.is_pl e
 sent_payload p n flat before c q l (Some d) sent sends =
     elim (eqb_tells d c) as (λ _. sent ≡ l.pl) [
       | inl h ↦
-          let row : row_at p (held_by before d).state (seen_by d c q) ≡ Some l.oc = subst (λ (x : ℕ). row_at p (held_by before x).state (seen_by x c q) ≡ Some l.oc) (sym h.1) (ap (λ (e : CacheEvent). row_at p (held_by before c).state e) (seen_own c q) ∙ l.is_oc) in
+          let row : cell_of p (held_by before d).state (seen_by d c q) ≡ Some l.oc = subst (λ (x : ℕ). cell_of p (held_by before x).state (seen_by x c q) ≡ Some l.oc) (sym h.1) (ap (λ (e : CacheEvent). cell_of p (held_by before c).state e) (seen_own c q) ∙ l.is_oc) in
           let e : sent_by (Some l.oc) ≡ Some sent = ap sent_by (sym row) ∙ sends.1 in
           payload_of_requestor (sent_by (Some l.oc)) (sent_by_memory (Some l.mc)) l.pl sent l.is_pl e
       | inr h ↦
           let x = other_cell p n flat before c q l d sends.0 in
-          let row : row_at p (held_by before d).state (seen_by d c q) ≡ Some x.0 = ap (λ (e : CacheEvent). row_at p (held_by before d).state e) (seen_other d c q h.1) ∙ x.1 in
+          let row : cell_of p (held_by before d).state (seen_by d c q) ≡ Some x.0 = ap (λ (e : CacheEvent). cell_of p (held_by before d).state e) (seen_other d c q h.1) ∙ x.1 in
           let e : sent_by (Some x.0) ≡ Some sent = ap sent_by (sym row) ∙ sends.1 in
           let t = other_of p n flat before c q l OrderTests.other_sends_data OrderTests.other_sends_data_holds d sends.0 h.1 x.0 x.1 in
           let both : (is_data sent && is_data l.pl) ≡ true = given_at (sent_by (Some x.0)) (λ (y : Payload). is_data y && is_data l.pl) sent e t in
@@ -155,17 +159,9 @@ sent_payload p n flat before c q l (Some d) sent sends =
           data_is sent parts.0 ∙ sym (data_is l.pl parts.1)
     ]
 
-and_true : (b : Bool) → b ≡ (b && true)
-and_true true = refl
-and_true false = refl
-
-and_false : (b : Bool) → false ≡ (b && false)
-and_false true = refl
-and_false false = refl
-
 -- who owns after an Order
 abbrev pub next_owner : Request → ℕ → Option ℕ → Option ℕ
-next_owner q c owner = cond (is_put q) (cond (owns owner c) None owner) None
+next_owner q c owner = cond (is_put_m q) (cond (owns owner c) None owner) None
 
 is_owned_next : (put or owned : Bool) (owner : Option ℕ) → is_some owner ≡ owned → is_some (cond put (cond or None owner) None) ≡ (put && (owned && not or))
 is_owned_next true true true owner e = refl
@@ -182,15 +178,15 @@ owns_next_other : (put : Bool) (owner : Option ℕ) (c d : ℕ) → d ≢ c → 
 owns_next_other true None c d apart = refl
 owns_next_other true (Some o) c d apart = elim (eqb_tells c o) as (λ _. owns (cond (eqb c o) None (Some o)) d ≡ (eqb d o && true)) [
   | inl h ↦ rw (h.0, not_eqb d o (λ e. apart (e ∙ sym h.1))) refl
-  | inr h ↦ rw h.0 (and_true (eqb d o))
+  | inr h ↦ rw h.0 (sym (and-true (eqb d o)))
 ]
-owns_next_other false owner c d apart = and_false (owns owner d)
+owns_next_other false owner c d apart = sym (and-false (owns owner d))
 
 -- the states after an Order
 requestor_after : (p : Protocol) (n : ℕ) (flat : ℕ) (before : Picture) (c : ℕ) (q : Request) (after : Picture) (l : Looked p n flat before c q) → Orders p n before c q after → held_by after c ≡ comes_to l.oc.next (held_by before c)
 requestor_after p n flat before c q after l o = takes_row p (seen_by c c q) (own q) (held_by before c) (held_by after c) l.oc (seen_own c q) l.is_oc (o.taken c l.requestor_in)
 
-other_after : (p : Protocol) (n : ℕ) (flat : ℕ) (before : Picture) (c : ℕ) (q : Request) (after : Picture) (l : Looked p n flat before c q) → Orders p n before c q after → (d : ℕ) → d < n → d ≢ c → (xc : Row) → row_at p (held_by before d).state (other q) ≡ Some xc → held_by after d ≡ comes_to xc.next (held_by before d)
+other_after : (p : Protocol) (n : ℕ) (flat : ℕ) (before : Picture) (c : ℕ) (q : Request) (after : Picture) (l : Looked p n flat before c q) → Orders p n before c q after → (d : ℕ) → d < n → d ≢ c → (xc : CacheCell) → cell_of p (held_by before d).state (other q) ≡ Some xc → held_by after d ≡ comes_to xc.next (held_by before d)
 other_after p n flat before c q after l o d d_in apart xc is_xc = takes_row p (seen_by d c q) (other q) (held_by before d) (held_by after d) xc (seen_other d c q apart) is_xc (o.taken d d_in)
 
 -- a row that makes no reader of a core lets its values carry over
@@ -221,14 +217,14 @@ order_states p n flat before c q after l o opened is_core is_request d d_in =
       | inl h ↦
           let fit : fits p l.next.shared false (Some q) l.oc.next ≡ true = end_of p n flat before c q l OrderTests.requestor_fits OrderTests.requestor_fits_holds in
           let state : (held_by after d).state ≡ l.oc.next = ap (λ (x : ℕ). (held_by after x).state) h.1 ∙ ap (λ (x : Line). x.state) (requestor_after p n flat before c q after l o) in
-          let owning : owns (next_owner q c l.good.owner) d ≡ false = ap (owns (next_owner q c l.good.owner)) h.1 ∙ owns_next_self (is_put q) l.good.owner c in
+          let owning : owns (next_owner q c l.good.owner) d ≡ false = ap (owns (next_owner q c l.good.owner)) h.1 ∙ owns_next_self (is_put_m q) l.good.owner c in
           let awaiting : awaited (Some opened) d ≡ Some q = rw (is_core, h.0, is_request) refl in
           rw (state, owning, awaiting) fit
       | inr h ↦
           let x = other_cell p n flat before c q l d d_in in
-          let fit : fits p l.next.shared (owns l.good.owner d && is_put q) None x.0.next ≡ true = other_of p n flat before c q l OrderTests.other_fits OrderTests.other_fits_holds d d_in h.1 x.0 x.1 in
+          let fit : fits p l.next.shared (owns l.good.owner d && is_put_m q) None x.0.next ≡ true = other_of p n flat before c q l OrderTests.other_fits OrderTests.other_fits_holds d d_in h.1 x.0 x.1 in
           let state : (held_by after d).state ≡ x.0.next = ap (λ (y : Line). y.state) (other_after p n flat before c q after l o d d_in h.1 x.0 x.1) in
-          let owning : owns (next_owner q c l.good.owner) d ≡ (owns l.good.owner d && is_put q) = owns_next_other (is_put q) l.good.owner c d h.1 in
+          let owning : owns (next_owner q c l.good.owner) d ≡ (owns l.good.owner d && is_put_m q) = owns_next_other (is_put_m q) l.good.owner c d h.1 in
           let awaiting : awaited (Some opened) d ≡ None = rw (is_core, h.0) refl in
           rw (state, owning, awaiting) fit
     ]
@@ -253,21 +249,21 @@ sender_value p n flat before c q l (Some d) sent sends carrying =
     let reads : is_reader (held_by before d).state ≡ true =
     elim (eqb_tells d c) as (λ _. is_reader (held_by before d).state ≡ true) [
       | inl h ↦
-          let row : row_at p (held_by before d).state (seen_by d c q) ≡ Some l.oc = subst (λ (x : ℕ). row_at p (held_by before x).state (seen_by x c q) ≡ Some l.oc) (sym h.1) (ap (λ (e : CacheEvent). row_at p (held_by before c).state e) (seen_own c q) ∙ l.is_oc) in
+          let row : cell_of p (held_by before d).state (seen_by d c q) ≡ Some l.oc = subst (λ (x : ℕ). cell_of p (held_by before x).state (seen_by x c q) ≡ Some l.oc) (sym h.1) (ap (λ (e : CacheEvent). cell_of p (held_by before c).state e) (seen_own c q) ∙ l.is_oc) in
           let e : sent_by (Some l.oc) ≡ Some sent = ap sent_by (sym row) ∙ sends.1 in
-          let t = same_is (is_some (sent_by (Some l.oc))) (is_put q) (end_of p n flat before c q l OrderTests.requestor_sends OrderTests.requestor_sends_holds) in
-          let put : is_put q ≡ true = sym t ∙ some_true (sent_by (Some l.oc)) sent e in
+          let t = same_is (is_some (sent_by (Some l.oc))) (is_put_m q) (end_of p n flat before c q l OrderTests.requestor_sends OrderTests.requestor_sends_holds) in
+          let put : is_put_m q ≡ true = sym t ∙ some_true (sent_by (Some l.oc)) sent e in
           let carry : carries_value l.pl ≡ true = ap carries_value (sym (sent_payload p n flat before c q l (Some d) sent sends)) ∙ carrying in
           let r = end_of p n flat before c q l OrderTests.requestor_reads OrderTests.requestor_reads_holds in
-          let reads_c : is_reader (held_by before c).state ≡ true = implied (is_put q && carries_value l.pl) (is_reader (held_by before c).state) r (rw (put, carry) refl) in
+          let reads_c : is_reader (held_by before c).state ≡ true = implied (is_put_m q && carries_value l.pl) (is_reader (held_by before c).state) r (rw (put, carry) refl) in
           rw h.1 reads_c
       | inr h ↦
           let x = other_cell p n flat before c q l d sends.0 in
-          let row : row_at p (held_by before d).state (seen_by d c q) ≡ Some x.0 = ap (λ (e : CacheEvent). row_at p (held_by before d).state e) (seen_other d c q h.1) ∙ x.1 in
+          let row : cell_of p (held_by before d).state (seen_by d c q) ≡ Some x.0 = ap (λ (e : CacheEvent). cell_of p (held_by before d).state e) (seen_other d c q h.1) ∙ x.1 in
           let e : sent_by (Some x.0) ≡ Some sent = ap sent_by (sym row) ∙ sends.1 in
-          let t = same_is (is_some (sent_by (Some x.0))) (owns l.good.owner d && not (is_put q)) (other_of p n flat before c q l OrderTests.other_sends OrderTests.other_sends_holds d sends.0 h.1 x.0 x.1) in
-          let both : (owns l.good.owner d && not (is_put q)) ≡ true = sym t ∙ some_true (sent_by (Some x.0)) sent e in
-          let owning : owns l.good.owner d ≡ true = (and_parts (owns l.good.owner d) (not (is_put q)) both).0 in
+          let t = same_is (is_some (sent_by (Some x.0))) (owns l.good.owner d && not (is_put_m q)) (other_of p n flat before c q l OrderTests.other_sends OrderTests.other_sends_holds d sends.0 h.1 x.0 x.1) in
+          let both : (owns l.good.owner d && not (is_put_m q)) ≡ true = sym t ∙ some_true (sent_by (Some x.0)) sent e in
+          let owning : owns l.good.owner d ≡ true = (and_parts (owns l.good.owner d) (not (is_put_m q)) both).0 in
           let fit = l.good.states d sends.0 in
           owner_reads (held_by before d).state (fits_is_owner p l.good.claims.shared (owns l.good.owner d) (awaited before.transaction d) (held_by before d).state fit ∙ owning)
     ] in
@@ -286,16 +282,16 @@ pub order_keeps : (p : Protocol) (n : ℕ) (flat : ℕ) (before : Picture) (c : 
 unfolding look
 order_keeps p n flat before c q after good o =
     let l = look p n flat before c q good o.requestor_in o.waits o.calm in
-    let is_mc : o.cell_of_memory ≡ l.mc = some_is (mem_row_at p before.memory (at_memory q)) o.cell_of_memory l.mc o.is_memory_row l.is_mc in
+    let is_mc : o.cell_of_memory ≡ l.mc = some_is (memory_cell_of p before.memory (at_memory q)) o.cell_of_memory l.mc o.is_memory_row l.is_mc in
     let is_pl : o.payload ≡ l.pl = sent_payload p n flat before c q l o.from o.payload o.sends in
     let opened = message o.block c q o.payload (value_sent before o.from o.payload) o.from in
-    let memory : after.memory ≡ l.mc.next = o.memory ∙ ap (λ (m : MemRow). m.next) is_mc in
+    let memory : after.memory ≡ l.mc.next = o.memory ∙ ap (λ (m : MemCell). m.next) is_mc in
     record {
       claims = l.next;
       is_claims = rw (o.opens, memory, is_pl) l.is_next;
       owner = next_owner q c good.owner;
-      owner_in = next_owner_in (is_put q) c good.owner n good.owner_in;
-      is_owned = is_owned_next (is_put q) (owns good.owner c) good.claims.owned good.owner good.is_owned ∙ sym (same_is _ _ (end_of p n flat before c q l OrderTests.owned_after OrderTests.owned_after_holds));
+      owner_in = next_owner_in (is_put_m q) c good.owner n good.owner_in;
+      is_owned = is_owned_next (is_put_m q) (owns good.owner c) good.claims.owned good.owner good.is_owned ∙ sym (same_is _ _ (end_of p n flat before c q l OrderTests.owned_after OrderTests.owned_after_holds));
       states = λ d d_in. rw o.opens (order_states p n flat before c q after l o opened refl refl d d_in);
       kept = λ d d_in h. carried_kept (held_by before d) (held_by after d) flat (order_carries p n flat before c q after l o d d_in) (good.kept d d_in) h;
       clean = λ d d_in h. o.value ∙ good.clean d d_in ((order_carries p n flat before c q after l o d d_in).cleans h);
@@ -307,6 +303,6 @@ order_keeps p n flat before c q after good o =
           ap (λ (y : Open). y.value) (sym e) ∙ v;
       proper = λ d d_in.
           let t = o.taken d d_in in
-          subst IsProper (sym t.2) (IsProper-order p (held_by before d) d c q t.0.act t.0.next (good.proper d d_in) (Cell-row_at p (held_by before d).state (seen_by d c q) t.0 t.1));
+          subst IsProper (sym t.2) (IsProper-order p (held_by before d) d c q t.0.action t.0.next (good.proper d d_in) (Cell-found p (held_by before d).state (seen_by d c q) t.0 t.1));
       requestor_in = λ x is_x. subst (λ (y : Open). y.core < n) (some_is after.transaction opened x o.opens is_x) o.requestor_in;
     }

@@ -16,10 +16,11 @@ use Rattle.snoop_rules.specs.declared.names.Request.{Request}
 use Rattle.snoop_rules.specs.declared.names.Request.TheVariants.{GetS, GetM, PutM}
 use Rattle.snoop_rules.specs.Cell.{Cell}
 use Rattle.snoop_rules.specs.Takers.{asked}
-use Rattle.snoop_bus.specs.declared.transactions.Open.{Open}
+use Rattle.snoop_rules.proofs.Rows.{Cell-one}
 use Rattle.snoop_history.specs.declared.items.Did.{Did}
 use Rattle.snoop_history.specs.declared.items.Item.{Item}
 use Rattle.snoop_history.specs.declared.items.Item.TheVariants as item
+use Rattle.snoop_bus.specs.declared.transactions.Open.{Open}
 use Rattle.snoop_machine.specs.declared.lines.Line.{Line}
 use Rattle.snoop_machine.specs.declared.ask.Asked.{Asked}
 use Rattle.snoop_machine.specs.declared.ask.Asked.TheVariants.{Absent, Hit, Issue, Drop}
@@ -42,7 +43,6 @@ use Rattle.snoop_machine.specs.Refuses.{Refuses}
 use Rattle.snoop_machine.specs.StepMove.{IsDenied, RefusedFor}
 use Rattle.snoop_machine.specs.Prepared.{room_to, IsFull, IsPrepared}
 use Rattle.snoop_machine.specs.Plan.{IsPlan, IsPlanFor, step_of, room_for, room_for_ask, entry_of, entry_of_ask}
-use Rattle.snoop_machine.proofs.Rows.{Cell-one}
 
 -- an Evict in I has no row
 pub no_row : (p : Protocol) (s : CacheState) (asking : Op) (a : CacheAction) (n : CacheState) → asking ≡ op.Evict → s ≡ I → Cell p s (asked asking) a n → ⊥

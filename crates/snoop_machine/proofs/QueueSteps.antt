@@ -29,11 +29,12 @@ use Rattle.snoop_machine.specs.Situation.{Situation, picture_of, state_of, reset
 use Rattle.snoop_machine.specs.Move.{Takes, Fills, ArrivesFor, Asks, Orders, Responds, IsWithin, MoveOn, queues_after}
 use Rattle.snoop_machine.specs.Run.{Goes, RunFrom}
 use Rattle.snoop_machine.specs.Once.{one_if}
-use Rattle.snoop_machine.proofs.Facts.{issue-waits, hit-waits, drop-waits, own-waits, other-waits, fill-waits}
 use Rattle.snoop_machine.specs.InQueue.{IsInQueue, AreQueued}
 use Rattle.snoop_machine.specs.Coherent.{IsCoherent}
+use Rattle.snoop_machine.proofs.Facts.{issue-waits, hit-waits, drop-waits, own-waits, other-waits, fill-waits}
 use Rattle.snoop_machine.proofs.After.{ask_line, ask_other_core, ask_other_block, order_here, order_other_block, respond_here, respond_other_block}
-use Rattle.snoop_machine.proofs.QueueCounts.{times, times_push, times_without, either_way}
+use Rattle.snoop_machine.proofs.Plain.{either_way}
+use Rattle.snoop_machine.proofs.QueueCounts.{times, times_push, times_without}
 use Rattle.snoop_machine.proofs.Reached.{goes_keeps, refusal_same, reset_line}
 
 abbrev waits : CacheState → ℕ

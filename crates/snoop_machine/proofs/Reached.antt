@@ -8,8 +8,8 @@ use Rattle.snoop_trace.specs.declared.step.Step.{Step}
 use Rattle.snoop_trace.specs.declared.step.Step.TheVariants.{Ask, Order, Respond}
 use Rattle.snoop_rules.specs.declared.names.Protocol.{Protocol}
 use Rattle.snoop_rules.specs.declared.names.Protocol.TheVariants as protocol
-use Rattle.snoop_bus.specs.declared.transactions.Open.{Open}
 use Rattle.snoop_history.specs.declared.items.Item.{Item}
+use Rattle.snoop_bus.specs.declared.transactions.Open.{Open}
 use Rattle.snoop_machine.specs.declared.lines.Line.{Line}
 use Rattle.snoop_machine.specs.declared.replies.Reply.{Reply}
 use Rattle.snoop_machine.specs.declared.replies.Refused.{Refused}
@@ -22,13 +22,8 @@ use Rattle.snoop_machine.specs.Run.{IsRefusal, Goes, RunFrom}
 use Rattle.snoop_machine.specs.Fits.{claims_of, is_owner, is_sharer, is_clean, is_reader, wait_fits, in_protocol, same, fits}
 use Rattle.snoop_machine.specs.Good.{Good}
 use Rattle.snoop_machine.specs.Coherent.{IsCoherent}
+use Rattle.snoop_machine.proofs.Plain.{replicated}
 use Rattle.snoop_machine.proofs.MoveKeeps.{move_keeps}
-
-pub replicated : {X : Type 0} (n i : ℕ) (x : X) → get_or (replicate n x) i x ≡ x
-replicated n i x = elim (cases_lt i n) [
-  | inl lt ↦ get_or-replicate n i x x lt
-  | inr ge ↦ let long = length-replicate n x in get_or_past (replicate n x) i x (omega arith)
-]
 
 -- a block at reset
 abbrev untouched : Protocol → ℕ → Picture

@@ -1,24 +1,19 @@
 -- The parts of a machine fit together at reset.
-use Rattle.std.proofs.Common.{◌≡◌, ℕ, List, [], ◌∷◌, length, replicate, Option, Some, None, refl, sym, ◌∙◌, ap, subst, arith, inl, inr, get_or}
+use Rattle.std.proofs.Common.{◌≡◌, ℕ, List, [], ◌∷◌, length, replicate, Option, Some, None, refl, sym, ◌∙◌, ap, subst, arith, inl, inr}
 use Rattle.std.specs.Prelude.{slice_index_or, All, Contains}
 use Rattle.std.proofs.lemmas.Bool.{cases_lt}
 use Rattle.std.proofs.lemmas.List.{length-replicate, get_or-replicate, get_or_past}
 use Rattle.std.proofs.lemmas.List.Elements.{All-head, All-tail}
 use Rattle.snoop_trace.specs.Extent.{Extent}
 use Rattle.snoop_rules.specs.declared.names.Request.{Request}
-use Rattle.snoop_bus.specs.declared.transactions.Open.{Open}
 use Rattle.snoop_rules.specs.Waits.{waiting_request}
+use Rattle.snoop_bus.specs.declared.transactions.Open.{Open}
 use Rattle.snoop_bus.specs.Traffic.{Traffic, Waiting, no_queue, waiting_of, transaction_on}
 use Rattle.snoop_machine.specs.declared.lines.Line.{Line}
 use Rattle.snoop_machine.specs.Picture.{held_at, nothing_held}
 use Rattle.snoop_machine.specs.Sound.{IsSound, IsProper, IsEachOnce, line_at}
 use Rattle.snoop_machine.specs.PartsView.{queues_of}
-
-replicated : {X : Type 0} (n i : ℕ) (x : X) → get_or (replicate n x) i x ≡ x
-replicated n i x = elim (cases_lt i n) [
-  | inl lt ↦ get_or-replicate n i x x lt
-  | inr ge ↦ let long = length-replicate n x in get_or_past (replicate n x) i x (omega arith)
-]
+use Rattle.snoop_machine.proofs.Plain.{replicated}
 
 pub queues_of-reset : (queues : List Waiting) → All (λ q. q.requests ≡ []) queues → queues_of queues ≡ replicate (length queues) []
 queues_of-reset [] none = refl

@@ -3,6 +3,7 @@ use Rattle.std.proofs.Common.{◌≡◌, ◌≢◌, ◌<◌, ◌&&◌, ◌||◌,
 use Rattle.std.specs.Prelude.{is_some}
 use Rattle.std.proofs.lemmas.Bool.Decides.{eqb_tells}
 use Rattle.std.proofs.lemmas.Bool.{eq-eqb, and_parts}
+use Rattle.snoop_trace.specs.declared.step.Op.TheVariants as op
 use Rattle.snoop_rules.specs.declared.names.Protocol.{Protocol}
 use Rattle.snoop_rules.specs.declared.names.CacheState.{CacheState}
 use Rattle.snoop_rules.specs.declared.names.CacheEvent.{CacheEvent}
@@ -15,26 +16,27 @@ use Rattle.snoop_rules.specs.declared.names.MemAction.TheVariants as mem_action
 use Rattle.snoop_rules.specs.declared.names.Request.{Request}
 use Rattle.snoop_rules.specs.declared.names.Request.TheVariants as request
 use Rattle.snoop_rules.specs.declared.names.Payload.{Payload}
-use Rattle.snoop_trace.specs.declared.step.Op.TheVariants as op
+use Rattle.snoop_rules.specs.Takers.{arrival, arrival_at_memory, takes_payload, carries_value}
+use Rattle.snoop_rules.specs.declared.names.CacheCell.{CacheCell}
+use Rattle.snoop_rules.specs.declared.names.MemCell.{MemCell}
+use Rattle.snoop_rules.specs.Cell.{Cell}
+use Rattle.snoop_rules.proofs.Every.{all_states-at}
+use Rattle.snoop_rules.proofs.Rows.{Cell-found}
+use Rattle.snoop_history.specs.Totals.{is_put_m, is_get_m}
 use Rattle.snoop_bus.specs.declared.transactions.Open.{Open}
-use Rattle.snoop_rules.specs.Takers.{arrival, arrival_at_memory, awaits_payload, carries_value}
 use Rattle.snoop_machine.specs.declared.lines.Line.{Line}
 use Rattle.snoop_machine.specs.Picture.{Picture, held_by}
 use Rattle.snoop_machine.specs.Move.{written}
 use Rattle.snoop_machine.specs.Sound.{IsProper}
 use Rattle.snoop_machine.specs.Fits.{Claims, claims_of, is_clean, is_reader, fits}
 use Rattle.snoop_machine.specs.Good.{Good, talk_of, awaited, owns}
-use Rattle.snoop_machine.proofs.Rows.{Row, all_states-at}
-use Rattle.snoop_machine.proofs.MemRows.{MemRow}
-use Rattle.snoop_machine.proofs.OneBlock.{is_put, Done, flat_after, IsLawful, row_of, mem_row_of, MemoryTakes, Fills, RequestorTakes, Responds}
+use Rattle.snoop_machine.proofs.Every.{either-at, given, given_at, same_is, some_of, when_at}
+use Rattle.snoop_machine.proofs.OneBlock.{Done, flat_after, IsLawful, row_of, mem_row_of, MemoryTakes, Fills, RequestorTakes, Responds}
 use Rattle.snoop_machine.proofs.Senders.{after_respond, next_memory, next_of}
 use Rattle.snoop_machine.proofs.Invariant.{not_eqb, or_not, either_of, owns_owned, implied, carried_kept, carried_same, not_true, clash}
 use Rattle.snoop_machine.proofs.AskStep.{right_of}
 use Rattle.snoop_machine.proofs.Facts.{IsProper-fill}
-use Rattle.snoop_machine.proofs.Cells.{Cell-row_at}
-use Rattle.snoop_rules.specs.Cell.{Cell}
-use Rattle.snoop_machine.proofs.Every.{either-at, given, given_at, same_is, some_of, when_at}
-use Rattle.snoop_machine.proofs.RespondTests.{after_rule, fills_store, gains, is_get_m, respond_rule, writes}
+use Rattle.snoop_machine.proofs.RespondTests.{after_rule, fills_store, gains, respond_rule, writes}
 use Rattle.snoop_machine.proofs.StateTests.{clean_reads, fits_calm, is_calm}
 use Rattle.snoop_machine.proofs.RespondTests
 
@@ -58,23 +60,23 @@ written_now mem_action.None v old flat h e = cc
 written_now (mem_action.Send pl) v old flat h e = cc
 
 -- what memory had of the flat value it keeps
-value_stays : (b : Bool) (p : Protocol) (before : Picture) (opened : Open) (after : Picture) (flat : ℕ) → MemoryTakes b p before opened after → (not b || given (mem_row_of p before.memory (arrival_at_memory opened.payload)) (λ r. not (writes r.act) || carries_value opened.payload)) ≡ true → (carries_value opened.payload ≡ true → opened.value ≡ flat) → before.value ≡ flat → after.value ≡ flat
+value_stays : (b : Bool) (p : Protocol) (before : Picture) (opened : Open) (after : Picture) (flat : ℕ) → MemoryTakes b p before opened after → (not b || given (mem_row_of p before.memory (arrival_at_memory opened.payload)) (λ r. not (writes r.action) || carries_value opened.payload)) ≡ true → (carries_value opened.payload ≡ true → opened.value ≡ flat) → before.value ≡ flat → after.value ≡ flat
 value_stays true p before opened after flat t test carried e =
-    let h = given_at (mem_row_of p before.memory (arrival_at_memory opened.payload)) (λ r. not (writes r.act) || carries_value opened.payload) t.0 t.1 test in
-    t.3 ∙ written_flat t.0.act opened.value before.value flat (λ w. carried (implied (writes t.0.act) (carries_value opened.payload) h w)) e
+    let h = given_at (mem_row_of p before.memory (arrival_at_memory opened.payload)) (λ r. not (writes r.action) || carries_value opened.payload) t.0 t.1 test in
+    t.3 ∙ written_flat t.0.action opened.value before.value flat (λ w. carried (implied (writes t.0.action) (carries_value opened.payload) h w)) e
 value_stays false p before opened after flat t test carried e = t.1 ∙ e
 
-value_written : (b : Bool) (p : Protocol) (before : Picture) (opened : Open) (after : Picture) (flat : ℕ) → MemoryTakes b p before opened after → (b && carries_value opened.payload && given (mem_row_of p before.memory (arrival_at_memory opened.payload)) (λ r. writes r.act)) ≡ true → (carries_value opened.payload ≡ true → opened.value ≡ flat) → after.value ≡ flat
+value_written : (b : Bool) (p : Protocol) (before : Picture) (opened : Open) (after : Picture) (flat : ℕ) → MemoryTakes b p before opened after → (b && carries_value opened.payload && given (mem_row_of p before.memory (arrival_at_memory opened.payload)) (λ r. writes r.action)) ≡ true → (carries_value opened.payload ≡ true → opened.value ≡ flat) → after.value ≡ flat
 value_written true p before opened after flat t test carried =
-    let parts = and_parts (carries_value opened.payload) (given (mem_row_of p before.memory (arrival_at_memory opened.payload)) (λ r. writes r.act)) test in
-    let w : writes t.0.act ≡ true = given_at (mem_row_of p before.memory (arrival_at_memory opened.payload)) (λ r. writes r.act) t.0 t.1 parts.1 in
-    t.3 ∙ written_now t.0.act opened.value before.value flat w (carried parts.0)
+    let parts = and_parts (carries_value opened.payload) (given (mem_row_of p before.memory (arrival_at_memory opened.payload)) (λ r. writes r.action)) test in
+    let w : writes t.0.action ≡ true = given_at (mem_row_of p before.memory (arrival_at_memory opened.payload)) (λ r. writes r.action) t.0 t.1 parts.1 in
+    t.3 ∙ written_now t.0.action opened.value before.value flat w (carried parts.0)
 value_written false p before opened after flat t test carried = cc
 
 -- what a Respond of a good picture looks up
 pub record Found (p : Protocol) (n : ℕ) (flat : ℕ) (before after : Picture) (opened : Open) (g : Good p n flat before) : Type 0 where
   pub is_claims : claims_of p before.memory (Some (opened.request, opened.payload)) ≡ Some g.claims
-  pub is_memory : after_respond p before.memory opened.payload ≡ Some after.memory
+  pub is_memory : after_respond p opened.request before.memory opened.payload ≡ Some after.memory
   pub next : Claims
   pub is_next : claims_of p after.memory None ≡ Some next
   pub carried : carries_value opened.payload ≡ true → opened.value ≡ flat
@@ -90,13 +92,13 @@ find p n flat before after made g r =
     let pl = o.payload in
     let m = before.memory in
     let is_claims : claims_of p m (Some (q, pl)) ≡ Some g.claims = ap (λ (t : Option Open). claims_of p m (talk_of t)) (sym r.was_open) ∙ g.is_claims in
-    let is_memory : after_respond p m pl ≡ Some after.memory = memory_after (awaits_payload m) p before o after r.memory in
+    let is_memory : after_respond p q m pl ≡ Some after.memory = memory_after (takes_payload q m) p before o after r.memory in
     let h1 = respond_rule RespondTests.has_line_after RespondTests.has_line_after_holds p m q pl g.claims is_claims in
     let some_next : (a : Claims) × (claims_of p after.memory None ≡ Some a) = some_of (claims_of p after.memory None) (given_at _ _ after.memory is_memory h1) in
     let carried : carries_value pl ≡ true → o.value ≡ flat = g.carried o r.was_open in
-    let stays : before.value ≡ flat → after.value ≡ flat = value_stays (awaits_payload m) p before o after flat r.memory (respond_rule RespondTests.write_carries RespondTests.write_carries_holds p m q pl g.claims is_claims) carried in
+    let stays : before.value ≡ flat → after.value ≡ flat = value_stays (takes_payload q m) p before o after flat r.memory (respond_rule RespondTests.write_carries RespondTests.write_carries_holds p m q pl g.claims is_claims) carried in
     let fresh_test = after_rule RespondTests.fresh_respond RespondTests.fresh_respond_holds p m q pl g.claims after.memory some_next.0 is_claims is_memory some_next.1 in
-    let written_test = awaits_payload m && carries_value pl && given (mem_row_of p m (arrival_at_memory pl)) (λ (x : MemRow). writes x.act) in
+    let written_test = takes_payload q m && carries_value pl && given (mem_row_of p m (arrival_at_memory pl)) (λ (x : MemCell). writes x.action) in
     record {
       is_claims = is_claims;
       is_memory = is_memory;
@@ -108,7 +110,7 @@ find p n flat before after made g r =
           let h2 = and_parts (not (is_get_m q)) (g.claims.fresh || written_test) (implied some_next.0.fresh (not (is_get_m q) && (g.claims.fresh || written_test)) fresh_test h) in
           let v : after.value ≡ flat = elim (either_of g.claims.fresh written_test h2.1) as (λ _. after.value ≡ flat) [
             | inl f ↦ stays (g.fresh f)
-            | inr w ↦ value_written (awaits_payload m) p before o after flat r.memory w carried
+            | inr w ↦ value_written (takes_payload q m) p before o after flat r.memory w carried
           ] in
           (not_true (is_get_m q) h2.0, v);
       requestor_in = g.requestor_in o r.was_open;
@@ -140,16 +142,16 @@ or_false_is : (b : Bool) → b ≡ (b || false)
 or_false_is true = refl
 or_false_is false = refl
 
-put_gains : (q : Request) (pl : Payload) → is_put q ≡ true → gains q pl ≡ false
+put_gains : (q : Request) (pl : Payload) → is_put_m q ≡ true → gains q pl ≡ false
 put_gains request.PutM pl h = refl
 put_gains request.GetS pl h = cc
 put_gains request.GetM pl h = cc
 
-put_calm : (o : Open) (d : ℕ) → is_put o.request ≡ true → is_calm (awaited (Some o) d) ≡ true
+put_calm : (o : Open) (d : ℕ) → is_put_m o.request ≡ true → is_calm (awaited (Some o) d) ≡ true
 put_calm o d h = elim (or_not (eqb d o.core)) as (λ _. is_calm (cond (eqb d o.core) (Some o.request) None) ≡ true) [ inl e ↦ rw e h | inr e ↦ rw e refl ]
 
 -- a PutM's end
-respond_put : (p : Protocol) (n : ℕ) (flat : ℕ) (before after : Picture) (made : Option Done) (g : Good p n flat before) (r : Responds p n before after made) → is_put r.opened.request ≡ true → ((d : ℕ) → d < n → held_by after d ≡ held_by before d) → made ≡ None → Good p n (flat_after flat made) after × IsLawful flat made
+respond_put : (p : Protocol) (n : ℕ) (flat : ℕ) (before after : Picture) (made : Option Done) (g : Good p n flat before) (r : Responds p n before after made) → is_put_m r.opened.request ≡ true → ((d : ℕ) → d < n → held_by after d ≡ held_by before d) → made ≡ None → Good p n (flat_after flat made) after × IsLawful flat made
 respond_put p n flat before after made g r put same_held nothing =
     let f = find p n flat before after made g r in
     let o = r.opened in
@@ -197,20 +199,20 @@ owns_answered_other true false c d (Some o) apart e h = cc
 owns_answered_other false owned c d owner apart e h = refl
 
 -- what the requestor comes to
-pub record Arrives (p : Protocol) (n : ℕ) (flat : ℕ) (before after : Picture) (o : Open) (g : Good p n flat before) (f : Found p n flat before after o g) (row : Row) : Type 0 where
+pub record Arrives (p : Protocol) (n : ℕ) (flat : ℕ) (before after : Picture) (o : Open) (g : Good p n flat before) (f : Found p n flat before after o g) (row : CacheCell) : Type 0 where
   pub not_owner : owns g.owner o.core ≡ false
   pub fit : fits p f.next.shared (gains o.request o.payload) None row.next ≡ true
   pub clean : is_clean row.next ≡ true → (g.claims.fresh ≡ true) × (is_get_m o.request ≡ false)
-  pub fills : fills_store row.act ≡ is_get_m o.request
+  pub fills : fills_store row.action ≡ is_get_m o.request
 
-arrive : (p : Protocol) (n : ℕ) (flat : ℕ) (before after : Picture) (o : Open) (g : Good p n flat before) (f : Found p n flat before after o g) (row : Row) → before.transaction ≡ Some o → is_put o.request ≡ false → row_of p (held_by before o.core).state (arrival o.payload) ≡ Some row → Arrives p n flat before after o g f row
+arrive : (p : Protocol) (n : ℕ) (flat : ℕ) (before after : Picture) (o : Open) (g : Good p n flat before) (f : Found p n flat before after o g) (row : CacheCell) → before.transaction ≡ Some o → is_put_m o.request ≡ false → row_of p (held_by before o.core).state (arrival o.payload) ≡ Some row → Arrives p n flat before after o g f row
 arrive p n flat before after o g f row was_open no_put is_row =
     let c = o.core in
     let s = (held_by before c).state in
     let ow = owns g.owner c in
     let waits : awaited before.transaction c ≡ Some o.request = ap (λ (t : Option Open). awaited t c) was_open ∙ rw (eq-eqb c c refl) refl in
     let fit : fits p g.claims.shared ow (Some o.request) s ≡ true = ap (λ (w : Option Request). fits p g.claims.shared ow w s) (sym waits) ∙ g.states c f.requestor_in in
-    let get : not (is_put o.request) ≡ true = rw no_put refl in
+    let get : not (is_put_m o.request) ≡ true = rw no_put refl in
     let test_first = when_at _ _ get (after_rule RespondTests.arrival_fits RespondTests.arrival_fits_holds p before.memory o.request o.payload g.claims after.memory f.next f.is_claims f.is_memory f.is_next) in
     let test_second = given_at _ _ row is_row (when_at _ _ fit (either-at _ (all_states-at _ test_first s) ow)) in
     let u0 = when_at _ _ get (respond_rule RespondTests.arrival_fills RespondTests.arrival_fills_holds p before.memory o.request o.payload g.claims f.is_claims) in
@@ -223,17 +225,17 @@ arrive p n flat before after o g f row was_open no_put is_row =
       clean = λ h.
           let e = and_parts g.claims.fresh (not (is_get_m o.request)) (implied (is_clean row.next) (g.claims.fresh && not (is_get_m o.request)) b.1 h) in
           (e.0, not_true (is_get_m o.request) e.1);
-      fills = same_is (fills_store row.act) (is_get_m o.request) u1;
+      fills = same_is (fills_store row.action) (is_get_m o.request) u1;
     }
 
 -- what a fill leaves: the state, the kept value, and the flat value
-pub record Filled (flat : ℕ) (row : Row) (v : ℕ) (new : Line) (made : Option Done) : Type 0 where
+pub record Filled (flat : ℕ) (row : CacheCell) (v : ℕ) (new : Line) (made : Option Done) : Type 0 where
   pub state : new.state ≡ row.next
   pub kept : new.kept ≡ Some (flat_after flat made)
   pub lawful : IsLawful flat made
-  pub load_keeps : fills_store row.act ≡ false → flat_after flat made ≡ flat
+  pub load_keeps : fills_store row.action ≡ false → flat_after flat made ≡ flat
 
-fill : (flat : ℕ) (a : CacheAction) (next : CacheState) (v : ℕ) (old new : Line) (made : Option Done) → v ≡ flat → Fills a next v old new made → Filled flat (record { act = a; next = next }) v new made
+fill : (flat : ℕ) (a : CacheAction) (next : CacheState) (v : ℕ) (old new : Line) (made : Option Done) → v ≡ flat → Fills a next v old new made → Filled flat (record { action = a; next = next }) v new made
 fill flat action.FillLoad next v old new made v_flat did = record {
   state = ap (λ (x : Line). x.state) did.0;
   kept = ap (λ (x : Line). x.kept) did.0 ∙ rw did.1 (ap (λ (x : ℕ). Some x) v_flat);
@@ -264,20 +266,20 @@ fill_proper p s e (action.Issue r) next v old new made row did = absurd did
 fill_proper p s e action.Drop next v old new made row did = absurd did
 fill_proper p s e (action.Send pl t) next v old new made row did = absurd did
 
-arrival_proper : (p : Protocol) (s : CacheState) (e : Option CacheEvent) (row : Row) (v : ℕ) (old new : Line) (made : Option Done) → row_of p s e ≡ Some row → Fills row.act row.next v old new made → IsProper new
+arrival_proper : (p : Protocol) (s : CacheState) (e : Option CacheEvent) (row : CacheCell) (v : ℕ) (old new : Line) (made : Option Done) → row_of p s e ≡ Some row → Fills row.action row.next v old new made → IsProper new
 arrival_proper p s None row v old new made is_row did = cc
-arrival_proper p s (Some e) row v old new made is_row did = fill_proper p s e row.act row.next v old new made (Cell-row_at p s e row is_row) did
+arrival_proper p s (Some e) row v old new made is_row did = fill_proper p s e row.action row.next v old new made (Cell-found p s e row is_row) did
 
 -- the end of a GetS or a GetM
-respond_get : (p : Protocol) (n : ℕ) (flat : ℕ) (before after : Picture) (made : Option Done) (g : Good p n flat before) (r : Responds p n before after made) → is_put r.opened.request ≡ false → (row : Row) → row_of p (held_by before r.opened.core).state (arrival r.opened.payload) ≡ Some row → Fills row.act row.next r.opened.value (held_by before r.opened.core) (held_by after r.opened.core) made → ((d : ℕ) → d < n → d ≢ r.opened.core → held_by after d ≡ held_by before d) → Good p n (flat_after flat made) after × IsLawful flat made
+respond_get : (p : Protocol) (n : ℕ) (flat : ℕ) (before after : Picture) (made : Option Done) (g : Good p n flat before) (r : Responds p n before after made) → is_put_m r.opened.request ≡ false → (row : CacheCell) → row_of p (held_by before r.opened.core).state (arrival r.opened.payload) ≡ Some row → Fills row.action row.next r.opened.value (held_by before r.opened.core) (held_by after r.opened.core) made → ((d : ℕ) → d < n → d ≢ r.opened.core → held_by after d ≡ held_by before d) → Good p n (flat_after flat made) after × IsLawful flat made
 respond_get p n flat before after made g r no_put row is_row fills others =
     let f = find p n flat before after made g r in
     let o = r.opened in
     let c = o.core in
     let gained = gains o.request o.payload in
     let a = arrive p n flat before after o g f row r.was_open no_put is_row in
-    let carries : carries_value o.payload ≡ true = right_of (is_put o.request) (carries_value o.payload) (respond_rule RespondTests.data_of_get RespondTests.data_of_get_holds p before.memory o.request o.payload g.claims f.is_claims) no_put in
-    let l = fill flat row.act row.next o.value (held_by before c) (held_by after c) made (f.carried carries) fills in
+    let carries : carries_value o.payload ≡ true = right_of (is_put_m o.request) (carries_value o.payload) (respond_rule RespondTests.data_of_get RespondTests.data_of_get_holds p before.memory o.request o.payload g.claims f.is_claims) no_put in
+    let l = fill flat row.action row.next o.value (held_by before c) (held_by after c) made (f.carried carries) fills in
     let fit : (d : ℕ) → d < n → d ≢ c → fits p g.claims.shared (owns g.owner d) None (held_by before d).state ≡ true = λ d d_in apart.
     let waits : awaited before.transaction d ≡ None = ap (λ (t : Option Open). awaited t d) r.was_open ∙ rw (not_eqb d c apart) refl in
     ap (λ (w : Option Request). fits p g.claims.shared (owns g.owner d) w (held_by before d).state) (sym waits) ∙ g.states d d_in in
@@ -325,8 +327,8 @@ respond_get p n flat before after made g r no_put row is_row fills others =
 -- a Respond of a good picture leads to a good one, and a load that it performs gives the flat value
 pub respond_keeps : (p : Protocol) (n : ℕ) (flat : ℕ) (before after : Picture) (made : Option Done) → Good p n flat before → Responds p n before after made → Good p n (flat_after flat made) after × IsLawful flat made
 respond_keeps p n flat before after made g r =
-    let step : (b : Bool) → is_put r.opened.request ≡ b → RequestorTakes b p n before r.opened after made → Good p n (flat_after flat made) after × IsLawful flat made = λ b. elim b as (λ x. is_put r.opened.request ≡ x → RequestorTakes x p n before r.opened after made → Good p n (flat_after flat made) after × IsLawful flat made) [
+    let step : (b : Bool) → is_put_m r.opened.request ≡ b → RequestorTakes b p n before r.opened after made → Good p n (flat_after flat made) after × IsLawful flat made = λ b. elim b as (λ x. is_put_m r.opened.request ≡ x → RequestorTakes x p n before r.opened after made → Good p n (flat_after flat made) after × IsLawful flat made) [
       | true ↦ λ e t. respond_put p n flat before after made g r e t.0 t.1
       | false ↦ λ e t. respond_get p n flat before after made g r e t.0 t.1 t.2 t.3
     ] in
-    step (is_put r.opened.request) refl r.requestor
+    step (is_put_m r.opened.request) refl r.requestor

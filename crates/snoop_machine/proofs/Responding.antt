@@ -5,7 +5,7 @@ use Rattle.snoop_rules.specs.declared.names.Protocol.{Protocol}
 use Rattle.snoop_rules.specs.declared.names.Request.{Request}
 use Rattle.snoop_rules.specs.declared.names.Request.TheVariants.{GetS, GetM, PutM}
 use Rattle.snoop_rules.specs.declared.names.MemState.{MemState}
-use Rattle.snoop_rules.specs.Takers.{awaits_payload}
+use Rattle.snoop_rules.specs.Takers.{takes_payload}
 use Rattle.snoop_history.specs.declared.items.Did.{Did}
 use Rattle.snoop_history.specs.declared.items.Item.{Item}
 use Rattle.snoop_bus.specs.declared.transactions.Open.{Open}
@@ -58,7 +58,7 @@ arrives_at false closing p old new m n e f g h t =
 
 pub ArrivesAtMemory-in : (closing : Open) (p : Protocol) (old new : Picture) (m n : MemLine)
     → old.memory ≡ m.state → old.value ≡ m.value → new.memory ≡ n.state → new.value ≡ n.value
-    → ArrivesIn p closing.payload closing.value m n → ArrivesAtMemory closing p old new
+    → ArrivesIn closing.request p closing.payload closing.value m n → ArrivesAtMemory closing p old new
 ArrivesAtMemory-in closing p old new m n e f g h t =
-    let P : MemState → Type 0 = λ x. MatchBool (awaits_payload x) (TakesPayload closing p old new) ((new.memory ≡ old.memory) × (new.value ≡ old.value)) in
-    subst P (sym e) (arrives_at (awaits_payload m.state) closing p old new m n e f g h t)
+    let P : MemState → Type 0 = λ x. MatchBool (takes_payload closing.request x) (TakesPayload closing p old new) ((new.memory ≡ old.memory) × (new.value ≡ old.value)) in
+    subst P (sym e) (arrives_at (takes_payload closing.request m.state) closing p old new m n e f g h t)

@@ -40,7 +40,7 @@ requestor_lacks PutM p held payload get lacks = get refl
 
 -- memory has a row for the message that lies in the open transaction, and so has its requestor
 module _ (s : Situation) (coherent : IsCoherent s) (block : ℕ) (closing : Open) (in_blocks : block < s.shape.blocks) (opened : (picture_of s block).transaction ≡ Some closing) where
-  pub arrival_possible : ¬ LacksAtMemory s.protocol (picture_of s block).memory closing.payload
+  pub arrival_possible : ¬ LacksAtMemory closing.request s.protocol (picture_of s block).memory closing.payload
   arrival_possible lacks = meets_nothing s coherent (Respond block) (respond-allowed s block closing in_blocks opened, (closing, (opened, inr lacks)))
 
   pub fill_possible : closing.request ≢ PutM → ¬ LacksAtArrival s.protocol (held_by (picture_of s block) closing.core).state closing.payload

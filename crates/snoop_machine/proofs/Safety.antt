@@ -1,22 +1,25 @@
 -- What every machine keeps makes it safe, and its steps keep it.
-use Rattle.std.proofs.Common.{ℕ, Option, inl, inr, sym, subst, None}
-use Rattle.std.specs.Prelude.{◌≡◌, Result, Ok, Err, IfOk, IfErr}
+use Rattle.std.proofs.Common.{ℕ, ◌<◌, Option, inl, inr, sym, ◌∙◌, subst, Some, None}
+use Rattle.std.specs.Prelude.{◌≡◌, Result, Ok, Err, IfOk, IfErr, IfSome, is_some}
+use Rattle.std.proofs.lemmas.Option.{same_Some}
 use Rattle.snoop_trace.specs.Extent.{Extent}
 use Rattle.snoop_trace.specs.declared.step.Step.{Step}
 use Rattle.snoop_rules.specs.declared.names.Protocol.{Protocol}
 use Rattle.snoop_history.specs.declared.items.Item.{Item}
+use Rattle.snoop_history.specs.History.{flat}
 use Rattle.snoop_machine.specs.declared.replies.Reply.{Reply}
 use Rattle.snoop_machine.specs.declared.replies.Refused.{Refused}
 use Rattle.snoop_machine.specs.Picture.{held_by}
 use Rattle.snoop_machine.specs.Standing.{Standing}
-use Rattle.snoop_machine.specs.Situation.{Situation, picture_of, reset}
-use Rattle.snoop_machine.specs.Sound.{IsProper}
+use Rattle.snoop_machine.specs.Situation.{Situation, picture_of, state_of, reset}
+use Rattle.snoop_machine.specs.Sound.{IsProper, keeps}
+use Rattle.snoop_machine.specs.Fits.{is_reader}
 use Rattle.snoop_machine.specs.Move.{FirstMove}
 use Rattle.snoop_machine.specs.StepMove.{RefusedFor}
 use Rattle.snoop_machine.specs.Coherent.{IsCoherent}
 use Rattle.snoop_machine.specs.MachineView.{MachineKeeps}
 use Rattle.snoop_machine.specs.Safe.{IsSafe}
-use Rattle.snoop_machine.proofs.Clauses.{has_one_writer, meets_nothing, orders_are_led, place}
+use Rattle.snoop_machine.proofs.Clauses.{has_one_writer, readers_current, meets_nothing, orders_are_led, place}
 use Rattle.snoop_machine.proofs.Reached.{reset_coherent, nothing_proper}
 use Rattle.snoop_machine.proofs.QueueSteps.{reset_queued, move_queued}
 use Rattle.snoop_machine.proofs.Keeping.{starts_well, keeps_well}
@@ -29,10 +32,20 @@ all_proper s g core block = elim (place s g core block) [
   | inr nothing ↦ subst IsProper (sym nothing) nothing_proper
 ]
 
+-- what a core keeps is the block's flat value
+pub kept_is_flat : (s : Situation) → IsCoherent s → (core block : ℕ) → (found : Option ℕ) → IfSome found (λ _. (core < s.shape.cores) × (block < s.shape.blocks))
+    → (core < s.shape.cores → block < s.shape.blocks → found ≡ (held_by (picture_of s block) core).kept)
+    → (core < s.shape.cores → block < s.shape.blocks → is_some found ≡ keeps (state_of s core block)) → IfSome found (λ value. value ≡ flat s.log block)
+unfolding is_reader
+kept_is_flat s g core block None within inside readable = tt
+kept_is_flat s g core block (Some value) within inside readable =
+    same_Some _ _ (inside within.0 within.1 ∙ (g.good block within.1).kept core within.0 (sym (readable within.0 within.1)))
+
 pub is_safe : (s : Situation) → MachineKeeps s → IsSafe s
 is_safe s keeps = record {
   one_writer = has_one_writer s keeps.coherent;
   legal = keeps.coherent.legal;
+  current = readers_current s keeps.coherent;
   possible = meets_nothing s keeps.coherent;
   orders = orders_are_led s keeps.coherent;
   proper = all_proper s keeps.coherent;

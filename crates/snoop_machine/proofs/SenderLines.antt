@@ -14,12 +14,13 @@ use Rattle.snoop_rules.specs.declared.names.Request.TheVariants as request
 use Rattle.snoop_rules.specs.declared.names.Payload.{Payload}
 use Rattle.snoop_rules.specs.declared.names.Payload.TheVariants as payload
 use Rattle.snoop_rules.specs.MemoryCell.{MemoryCell}
-use Rattle.snoop_rules.specs.Takers.{arrival_at_memory, awaits_payload}
+use Rattle.snoop_rules.specs.Takers.{arrival_at_memory, takes_payload}
 use Rattle.snoop_rules.specs.WhoSends.{SentAs}
+use Rattle.snoop_rules.specs.declared.names.MemCell.{MemCell}
+use Rattle.snoop_rules.specs.MemoryRow.{memory_cell_of}
+use Rattle.snoop_rules.proofs.MemRows.{MemoryCell-found}
 use Rattle.snoop_machine.specs.Picture.{Picture, held_by}
 use Rattle.snoop_machine.specs.Led.{Settles}
-use Rattle.snoop_machine.proofs.MemRows.{MemRow, mem_row_at}
-use Rattle.snoop_machine.proofs.Cells.{MemoryCell-mem_row_at}
 use Rattle.snoop_machine.proofs.Senders.{Sender, Memory, Core, Requestor, is_sender_line, is_led, sender_as, is_some_and, after_respond, next_memory, next_of}
 
 -- the sender's state, if it is a core
@@ -71,13 +72,13 @@ sender_state before core (Some d) = either_core (eqb d core) (held_by before d).
 
 memory_settles : (p : Protocol) (m : MemState) (e : Option MemEvent) (done : MemState) → next_memory p m e ≡ Some done → (event : MemEvent) × ((act : MemAction) × ((e ≡ Some event) × MemoryCell p m event act done))
 memory_settles p m None done h = cc
-memory_settles p m (Some event) done h = go (mem_row_at p m event) refl h
+memory_settles p m (Some event) done h = go (memory_cell_of p m event) refl h
   where
-    go : (row : Option MemRow) → mem_row_at p m event ≡ row → next_of row ≡ Some done → (x : MemEvent) × ((act : MemAction) × ((Some event ≡ Some x) × MemoryCell p m x act done))
+    go : (row : Option MemCell) → memory_cell_of p m event ≡ row → next_of row ≡ Some done → (x : MemEvent) × ((act : MemAction) × ((Some event ≡ Some x) × MemoryCell p m x act done))
     go None is k = cc
     go (Some row) is k =
         let e : row.next ≡ done = cc in
-        (event, (row.act, (refl, rw (← e) (MemoryCell-mem_row_at p m event row is))))
+        (event, (row.action, (refl, rw (← e) (MemoryCell-found p m event row is))))
 
 settles_by : (b : Bool) (p : Protocol) (m : MemState) (sent : Payload) (done : MemState) → cond b (next_memory p m (arrival_at_memory sent)) (Some m) ≡ Some done
     → MatchBool b ((event : MemEvent) × ((act : MemAction) × ((arrival_at_memory sent ≡ Some event) × MemoryCell p m event act done))) (done ≡ m)
@@ -87,12 +88,12 @@ settles_by false p m sent done h = cc
 -- what a test that is led says
 pub record Line (p : Protocol) (q : Request) (m : MemState) (sender : Sender) (sent : Payload) (next : MemState) : Type 0 where
   pub done : MemState
-  pub settled : Settles p next sent done
+  pub settled : Settles q p next sent done
   pub line : SentAs p q m (state_as sender) sent next done
 
 pub led_line : (p : Protocol) (q : Request) (m : MemState) (sender : Sender) (sent : Payload) (next : MemState) → is_led p q m sender sent next ≡ true → Line p q m sender sent next
-led_line p q m sender sent next h = go (after_respond p next sent) refl h
+led_line p q m sender sent next h = go (after_respond p q next sent) refl h
   where
-    go : (found : Option MemState) → after_respond p next sent ≡ found → is_some_and found (λ done. is_sender_line p q m sender sent next done) ≡ true → Line p q m sender sent next
+    go : (found : Option MemState) → after_respond p q next sent ≡ found → is_some_and found (λ done. is_sender_line p q m sender sent next done) ≡ true → Line p q m sender sent next
     go None is k = cc
-    go (Some done) is k = record { done = done; settled = settles_by (awaits_payload next) p next sent done is; line = sent_as p q m sender sent next done k }
+    go (Some done) is k = record { done = done; settled = settles_by (takes_payload q next) p next sent done is; line = sent_as p q m sender sent next done k }

@@ -11,9 +11,10 @@ use Rattle.snoop_rules.specs.declared.names.Request.{Request}
 use Rattle.snoop_rules.specs.declared.names.Request.TheVariants as request
 use Rattle.snoop_rules.specs.declared.names.Payload.{Payload}
 use Rattle.snoop_rules.specs.declared.names.Payload.TheVariants as payload
-use Rattle.snoop_rules.specs.Takers.{arrival_at_memory, awaits_payload}
+use Rattle.snoop_rules.specs.Takers.{arrival_at_memory, takes_payload}
+use Rattle.snoop_rules.specs.declared.names.MemCell.{MemCell}
+use Rattle.snoop_rules.specs.MemoryRow.{memory_cell_of}
 use Rattle.snoop_machine.specs.Picture.{Picture, held_by}
-use Rattle.snoop_machine.proofs.MemRows.{MemRow, mem_row_at}
 
 pub data Sender : Type 0 where
   Memory : Sender
@@ -54,21 +55,21 @@ abbrev pub is_some_and : {A : Type 0} → Option A → (A → Bool) → Bool
 is_some_and None f = false
 is_some_and (Some a) f = f a
 
-abbrev pub next_of : Option MemRow → Option MemState
+abbrev pub next_of : Option MemCell → Option MemState
 next_of None = None
 next_of (Some c) = Some c.next
 
 abbrev pub next_memory : Protocol → MemState → Option MemEvent → Option MemState
 next_memory p m None = None
-next_memory p m (Some e) = next_of (mem_row_at p m e)
+next_memory p m (Some e) = next_of (memory_cell_of p m e)
 
 -- the memory state once the transaction of this payload has ended
-abbrev pub after_respond : Protocol → MemState → Payload → Option MemState
-after_respond p m pl = cond (awaits_payload m) (next_memory p m (arrival_at_memory pl)) (Some m)
+abbrev pub after_respond : Protocol → Request → MemState → Payload → Option MemState
+after_respond p q m pl = cond (takes_payload q m) (next_memory p m (arrival_at_memory pl)) (Some m)
 
 -- the memory state after the Respond is the last column
 abbrev pub is_led : Protocol → Request → MemState → Sender → Payload → MemState → Bool
-is_led p q m sender pl m2 = is_some_and (after_respond p m2 pl) (λ m3. is_sender_line p q m sender pl m2 m3)
+is_led p q m sender pl m2 = is_some_and (after_respond p q m2 pl) (λ m3. is_sender_line p q m sender pl m2 m3)
 
 -- the sender as the table of Orders names it
 abbrev pub sender_as : Picture → ℕ → Option ℕ → Sender

@@ -9,12 +9,12 @@ use Rattle.snoop_rules.specs.declared.names.CacheAction.TheVariants as action
 use Rattle.snoop_rules.specs.declared.names.MemState.{MemState}
 use Rattle.snoop_rules.specs.declared.names.Request.{Request}
 use Rattle.snoop_rules.specs.Takers.{carries_value}
+use Rattle.snoop_rules.specs.Row.{cell_of}
+use Rattle.snoop_rules.proofs.Every.{all_protocols, all_protocols-at, all_states, all_states-at, all_memories, all_memories-at, all_requests, all_payloads}
+use Rattle.snoop_history.specs.Totals.{is_put_m}
 use Rattle.snoop_machine.specs.Picture.{kept_on}
 use Rattle.snoop_machine.specs.Fits.{Claims, Talk, claims_of, is_owner, is_sharer, is_clean, is_reader, wait_fits, in_protocol, same, fits}
-use Rattle.snoop_machine.proofs.Rows.{row_at, all_protocols, all_protocols-at, all_states, all_states-at}
-use Rattle.snoop_machine.proofs.MemRows.{mem_row_at}
-use Rattle.snoop_machine.proofs.OneBlock.{is_put}
-use Rattle.snoop_machine.proofs.Every.{all_memories, all_memories-at, all_requests, all_payloads, either, either-at, when, when_at, given, given_at, all_asks, all_waits, all_waits-at, all_talks, all_talks-at}
+use Rattle.snoop_machine.proofs.Every.{either, either-at, when, when_at, given, given_at, all_asks, all_waits, all_waits-at, all_talks, all_talks-at}
 
 -- no row makes a reader, or a clean owner, of a core that was none
 abbrev pub carries : CacheState → CacheState → Bool
@@ -38,18 +38,18 @@ kept_reader _ kept h = refl
 -- an answer that makes no core wait
 abbrev pub is_calm : Option Request → Bool
 is_calm None = true
-is_calm (Some q) = is_put q
+is_calm (Some q) = is_put_m q
 
 abbrev pub calm_talk : Option Talk → Bool
 calm_talk None = true
-calm_talk (Some t) = is_put t.0 && not (carries_value t.1)
+calm_talk (Some t) = is_put_m t.0 && not (carries_value t.1)
 
 -- where a core owns the block, no core may share it, memory isn't fresh, and no data is under way
 abbrev pub owned_case : Protocol → MemState → Option Talk → Bool
 owned_case p m t = given (claims_of p m t) (λ st. when st.owned (λ _. not st.shared && (not st.fresh && calm_talk t)))
 
 owned_holds : all_protocols (λ p. all_memories (λ m. all_talks (λ t. owned_case p m t))) ≡ true
-unfolding all_talks all_protocols all_memories all_states all_requests all_payloads all_asks all_waits either given when claims_of fits is_owner is_sharer is_clean is_reader wait_fits in_protocol same row_at mem_row_at
+unfolding all_talks all_protocols all_memories all_states all_requests all_payloads all_asks all_waits either given when claims_of fits is_owner is_sharer is_clean is_reader wait_fits in_protocol same
 owned_holds = refl
 
 pub owned_rule : (p : Protocol) (m : MemState) (t : Option Talk) (st : Claims) → claims_of p m t ≡ Some st → st.owned ≡ true → (not st.shared && (not st.fresh && calm_talk t)) ≡ true
@@ -61,7 +61,7 @@ abbrev pub alone_case : Protocol → Option Request → CacheState → Bool
 alone_case p w s = when (is_calm w) (λ _. when (fits p false false w s) (λ _. not (is_reader s)))
 
 alone_holds : all_protocols (λ p. all_waits (λ w. all_states (λ s. alone_case p w s))) ≡ true
-unfolding all_protocols all_memories all_states all_requests all_payloads all_asks all_waits either given when claims_of fits is_owner is_sharer is_clean is_reader wait_fits in_protocol same row_at mem_row_at
+unfolding all_protocols all_memories all_states all_requests all_payloads all_asks all_waits either given when claims_of fits is_owner is_sharer is_clean is_reader wait_fits in_protocol same
 alone_holds = refl
 
 pub alone_rule : (p : Protocol) (w : Option Request) (s : CacheState) → is_calm w ≡ true → fits p false false w s ≡ true → not (is_reader s) ≡ true
@@ -70,7 +70,7 @@ alone_rule p w s calm is_fit =
     when_at _ _ is_fit (when_at _ _ calm h0)
 
 clean_owns_holds : all_states (λ s. when (is_clean s) (λ _. is_owner s)) ≡ true
-unfolding all_protocols all_memories all_states all_requests all_payloads all_asks all_waits either given when claims_of fits is_owner is_sharer is_clean is_reader wait_fits in_protocol same row_at mem_row_at
+unfolding all_protocols all_memories all_states all_requests all_payloads all_asks all_waits either given when claims_of fits is_owner is_sharer is_clean is_reader wait_fits in_protocol same
 clean_owns_holds = refl
 
 pub clean_reads : (s : CacheState) → is_clean s ≡ true → is_reader s ≡ true
@@ -80,7 +80,7 @@ abbrev pub calm_case : Protocol → Bool → Bool → Option Request → CacheSt
 calm_case p shared ow w s = when (is_calm w) (λ _. when (fits p shared ow w s) (λ _. fits p shared ow None s))
 
 calm_holds : all_protocols (λ p. either (λ shared. either (λ ow. all_waits (λ w. all_states (λ s. calm_case p shared ow w s))))) ≡ true
-unfolding all_protocols all_memories all_states all_requests all_payloads all_asks all_waits either given when claims_of fits is_owner is_sharer is_clean is_reader wait_fits in_protocol same row_at mem_row_at
+unfolding all_protocols all_memories all_states all_requests all_payloads all_asks all_waits either given when claims_of fits is_owner is_sharer is_clean is_reader wait_fits in_protocol same
 calm_holds = refl
 
 pub fits_calm : (p : Protocol) (shared ow : Bool) (w : Option Request) (s : CacheState) → is_calm w ≡ true → fits p shared ow w s ≡ true → fits p shared ow None s ≡ true
@@ -93,10 +93,10 @@ is_hit action.Hit = true
 is_hit _ = false
 
 abbrev pub hit_test : Protocol → CacheState → Bool
-hit_test p s = given (row_at p s event.Load) (λ r. not (is_hit r.act) || is_reader s) && given (row_at p s event.Store) (λ r. not (is_hit r.act) || is_owner s)
+hit_test p s = given (cell_of p s event.Load) (λ r. not (is_hit r.action) || is_reader s) && given (cell_of p s event.Store) (λ r. not (is_hit r.action) || is_owner s)
 
 hit_holds : all_protocols (λ p. all_states (λ s. hit_test p s)) ≡ true
-unfolding all_protocols all_memories all_states all_requests all_payloads all_asks all_waits either given when claims_of fits is_owner is_sharer is_clean is_reader wait_fits in_protocol same row_at mem_row_at
+unfolding all_protocols all_memories all_states all_requests all_payloads all_asks all_waits either given when claims_of fits is_owner is_sharer is_clean is_reader wait_fits in_protocol same
 hit_holds = refl
 
 pub hit_rule : (p : Protocol) (s : CacheState) → hit_test p s ≡ true

@@ -7,10 +7,11 @@ use Rattle.snoop_rules.specs.declared.names.CacheEvent.{CacheEvent}
 use Rattle.snoop_rules.specs.declared.names.CacheAction.{CacheAction}
 use Rattle.snoop_rules.specs.declared.names.MemEvent.{MemEvent}
 use Rattle.snoop_rules.specs.declared.names.MemAction.{MemAction}
+use Rattle.snoop_rules.specs.declared.names.Request.{Request}
 use Rattle.snoop_rules.specs.declared.names.Payload.{Payload}
 use Rattle.snoop_rules.specs.Cell.{Cell}
 use Rattle.snoop_rules.specs.MemoryCell.{MemoryCell}
-use Rattle.snoop_rules.specs.Takers.{arrival, arrival_at_memory, awaits_payload}
+use Rattle.snoop_rules.specs.Takers.{arrival, arrival_at_memory, takes_payload}
 use Rattle.snoop_machine.specs.declared.lines.Line.{Line}
 use Rattle.snoop_machine.specs.declared.memory.MemLine.{MemLine}
 use Rattle.snoop_machine.specs.declared.respond.Filled.{Filled}
@@ -37,6 +38,6 @@ pub record TakesIn (protocol : Protocol) (payload : Payload) (sent : ℕ) (old n
   pub row : MemoryCell protocol old.state event act new.state
   pub value : new.value ≡ written act sent old.value
 
--- memory takes the payload where it waits for one
-abbrev pub ArrivesIn : Protocol → Payload → ℕ → MemLine → MemLine → Type 0
-ArrivesIn protocol payload sent old new = MatchBool (awaits_payload old.state) (TakesIn protocol payload sent old new) (new ≡ old)
+-- memory takes the message of a PutM, and another's where it waits for one; else it stays
+abbrev pub ArrivesIn : Request → Protocol → Payload → ℕ → MemLine → MemLine → Type 0
+ArrivesIn request protocol payload sent old new = MatchBool (takes_payload request old.state) (TakesIn protocol payload sent old new) (new ≡ old)

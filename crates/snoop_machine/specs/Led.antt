@@ -9,17 +9,17 @@ use Rattle.snoop_rules.specs.declared.names.Request.{Request}
 use Rattle.snoop_rules.specs.declared.names.Request.TheVariants.{PutM}
 use Rattle.snoop_rules.specs.declared.names.Payload.{Payload}
 use Rattle.snoop_rules.specs.MemoryCell.{MemoryCell}
-use Rattle.snoop_rules.specs.Takers.{at_memory, awaits_payload, arrival_at_memory}
+use Rattle.snoop_rules.specs.Takers.{at_memory, takes_payload, arrival_at_memory}
 use Rattle.snoop_rules.specs.WhoSends.{SentAs}
 use Rattle.snoop_machine.specs.Picture.{Picture, held_by}
 use Rattle.snoop_machine.specs.Situation.{Situation, picture_of, Waits}
 use Rattle.snoop_machine.specs.Meets.{FindsRows}
 use Rattle.snoop_machine.specs.Sends.{IsOnlySender}
 
--- memory's state after the Respond: it takes the payload where it waits for one
-abbrev pub Settles : Protocol → MemState → Payload → MemState → Type 0
-Settles protocol memory payload done =
-    MatchBool (awaits_payload memory)
+-- memory's state after the Respond: it takes a PutM's payload, and another's where it waits for one
+abbrev pub Settles : Request → Protocol → MemState → Payload → MemState → Type 0
+Settles request protocol memory payload done =
+    MatchBool (takes_payload request memory)
     ((event : MemEvent) × ((act : MemAction) × ((arrival_at_memory payload ≡ Some event) × MemoryCell protocol memory event act done)))
     (done ≡ memory)
 
@@ -32,7 +32,7 @@ pub record IsLed (protocol : Protocol) (before : Picture) (core : ℕ) (request 
   pub done : MemState
   pub sent : IsOnlySender protocol before core request from payload
   pub ordered : MemoryCell protocol before.memory (at_memory request) act next
-  pub settled : Settles protocol next payload done
+  pub settled : Settles request protocol next payload done
   pub line : SentAs protocol request before.memory (option_map (λ k. (held_by before k).state) from) payload next done
   pub writeback : request ≡ PutM → from ≡ Some core
 

@@ -16,6 +16,7 @@ pub mod Prepared
 pub mod OrderMove
 pub mod PartsView
 pub mod OneWriter
+pub mod Current
 pub mod Run
 pub mod Once
 pub mod Led

@@ -17,7 +17,7 @@ use Rattle.snoop_rules.specs.declared.names.MemAction.{MemAction}
 use Rattle.snoop_rules.specs.Cell.{Cell}
 use Rattle.snoop_rules.specs.MemoryCell.{MemoryCell}
 use Rattle.snoop_rules.specs.Possible.{IsImpossible, IsMemImpossible}
-use Rattle.snoop_rules.specs.Takers.{asked, seen_by, at_memory, arrival, arrival_at_memory, awaits_payload}
+use Rattle.snoop_rules.specs.Takers.{asked, seen_by, at_memory, arrival, arrival_at_memory, takes_payload}
 use Rattle.snoop_bus.specs.declared.transactions.Open.{Open}
 use Rattle.snoop_bus.specs.Queues.{queue_of}
 use Rattle.snoop_machine.specs.declared.replies.Refused.{Refused}
@@ -56,9 +56,9 @@ LacksAtRequestor PutM protocol held payload = ⊥
 LacksAtRequestor GetS protocol held payload = LacksAtArrival protocol held payload
 LacksAtRequestor GetM protocol held payload = LacksAtArrival protocol held payload
 
--- memory waits for a payload and has no row for this one
-abbrev pub LacksAtMemory : Protocol → MemState → Payload → Type 0
-LacksAtMemory protocol memory payload = IsTrue (awaits_payload memory) × MatchOption (arrival_at_memory payload) ⊤ (IsMemImpossible protocol memory)
+-- memory takes the payload of this request's response, and has no row for it
+abbrev pub LacksAtMemory : Request → Protocol → MemState → Payload → Type 0
+LacksAtMemory request protocol memory payload = IsTrue (takes_payload request memory) × MatchOption (arrival_at_memory payload) ⊤ (IsMemImpossible protocol memory)
 
 -- a controller that the step consults has no row, or an Order has not exactly one sender
 abbrev pub LacksRow : Situation → Step → Type 0
@@ -68,7 +68,7 @@ LacksRow s (Order core) =
 LacksRow s (Respond block) =
     (closing : Open) × (((picture_of s block).transaction ≡ Some closing)
     × (LacksAtRequestor closing.request s.protocol (held_by (picture_of s block) closing.core).state closing.payload
-    ⊎ LacksAtMemory s.protocol (picture_of s block).memory closing.payload))
+    ⊎ LacksAtMemory closing.request s.protocol (picture_of s block).memory closing.payload))
 
 -- the step is not refused, and a controller meets an impossible cell
 abbrev pub Meets : Situation → Step → Type 0

@@ -19,7 +19,7 @@ use Rattle.snoop_rules.specs.declared.names.Request.TheVariants.{GetS, GetM, Put
 use Rattle.snoop_rules.specs.declared.names.Payload.{Payload}
 use Rattle.snoop_rules.specs.Cell.{Cell}
 use Rattle.snoop_rules.specs.MemoryCell.{MemoryCell}
-use Rattle.snoop_rules.specs.Takers.{asked, seen_by, at_memory, arrival, arrival_at_memory, awaits_payload}
+use Rattle.snoop_rules.specs.Takers.{asked, seen_by, at_memory, arrival, arrival_at_memory, takes_payload}
 use Rattle.snoop_history.specs.declared.items.Did.{Did}
 use Rattle.snoop_history.specs.declared.items.Came.{Came}
 use Rattle.snoop_history.specs.declared.items.Item.{Item}
@@ -118,7 +118,7 @@ abbrev pub written : MemAction → ℕ → ℕ → ℕ
 written mem_action.Write value before = value
 written _ value before = before
 
--- memory takes the payload where it waits for one
+-- memory takes the payload
 pub record TakesPayload (closing : Open) (protocol : Protocol) (old new : Picture) : Type 0 where
   pub event : MemEvent
   pub act : MemAction
@@ -126,10 +126,10 @@ pub record TakesPayload (closing : Open) (protocol : Protocol) (old new : Pictur
   pub row : MemoryCell protocol old.memory event act new.memory
   pub value : new.value ≡ written act closing.value old.value
 
--- memory takes the payload where it waits for one, else it stays
+-- memory takes the message of a PutM, and another's where it waits for one; else it stays
 abbrev pub ArrivesAtMemory : Open → Protocol → Picture → Picture → Type 0
 ArrivesAtMemory closing protocol old new =
-    MatchBool (awaits_payload old.memory) (TakesPayload closing protocol old new) ((new.memory ≡ old.memory) × (new.value ≡ old.value))
+    MatchBool (takes_payload closing.request old.memory) (TakesPayload closing protocol old new) ((new.memory ≡ old.memory) × (new.value ≡ old.value))
 
 -- the response, as the history tells it
 abbrev pub came_of : Open → Came

@@ -44,7 +44,7 @@ pub record IsClosing (s : Situation) (block : ℕ) (closing : Open) (memory : Me
   pub opened : (picture_of s block).transaction ≡ Some closing
   pub its : closing.block ≡ block
   pub core : closing.core < s.shape.cores
-  pub arrives : ArrivesIn s.protocol closing.payload closing.value (slice_index_or s.memory block no_memory) memory
+  pub arrives : ArrivesIn closing.request s.protocol closing.payload closing.value (slice_index_or s.memory block no_memory) memory
 
 -- the rows were found for what the plan says
 abbrev pub IsPlan : Situation → Plan → Type 0

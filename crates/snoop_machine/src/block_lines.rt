@@ -24,7 +24,7 @@ impl Held {
     };
 }
 
-/// The lines of one block, by core. The states stand apart, since an Order looks at each of them.
+/// The lines of one block, by core. The states stand apart, since an Order looks at those between the first and the last holder.
 #[derive(Debug, Drop)]
 pub(crate) struct BlockLines {
     states: Vec<CacheState>,

@@ -1,13 +1,15 @@
+//! What holds of every run: calls that do nothing, and ensure it.
 ghost use Rattle.std.specs.Prelude.{◌≡◌, ℕ, Option, Some, None};
 ghost use Rattle.snoop_trace.specs.declared.step.Step.{Step};
 ghost use Rattle.snoop_rules.specs.declared.names.Request.{Request};
-ghost use Rattle.snoop_history.specs.History.{Legal};
+ghost use Rattle.snoop_history.specs.History.{flat, Legal};
 ghost use Rattle.snoop_machine.specs.Picture.{held_by};
 ghost use Rattle.snoop_machine.specs.Sound.{IsProper};
 ghost use Rattle.snoop_machine.specs.Situation.{picture_of, Waits};
 ghost use Rattle.snoop_machine.specs.Run.{EveryRun, RunsAreOne, RunsGoOn};
 ghost use Rattle.snoop_machine.specs.Runs.{RoomIsEnough};
 ghost use Rattle.snoop_machine.specs.OneWriter.{OneWriter};
+ghost use Rattle.snoop_machine.specs.Current.{IsCurrent};
 ghost use Rattle.snoop_machine.specs.Once.{Once};
 ghost use Rattle.snoop_machine.specs.Meets.{Meets, FindsRows};
 ghost use Rattle.snoop_machine.specs.Led.{IsLed};
@@ -15,15 +17,17 @@ ghost use Rattle.snoop_machine.specs.InQueue.{IsInQueue};
 
 /// Coherence of every run from reset, for every number of cores and blocks, under MSI and MESI.
 ///
-/// Each block has one writer alone, or only readers; the log is legal; each load and store that was asked stands once in it,
-/// or waits; no step meets an impossible cell; a waiting request of any free block would find all its rows and exactly one
-/// sender, and be a line of the table of senders; a core keeps a value of a block exactly where its state may read, and an
-/// operation waits exactly where one has missed; and each core's queue has the blocks on which it waits, each once.
+/// Each block has one writer alone, or only readers; the log is legal, and each copy that may be read has the value of the
+/// last store in it; each load and store that was asked stands once in it, or waits; no step meets an impossible cell; a
+/// waiting request of any free block would find all its rows and exactly one sender, and be a line of the table of senders;
+/// a core keeps a value of a block exactly where its state may read, and an operation waits exactly where one has missed; and
+/// each core's queue has the blocks on which it waits, each once.
 ///
 /// Source: chapters 2 and 7 of "A Primer on Memory Consistency and Cache Coherence", 2nd edition.
 pub fn coherent()
     ensures one_writer { EveryRun (λ protocol steps outcomes s. (block : ℕ) → OneWriter protocol (picture_of s block)) }
     ensures legal { EveryRun (λ protocol steps outcomes s. Legal s.log) }
+    ensures current { EveryRun (λ protocol steps outcomes s. (block : ℕ) → IsCurrent protocol (picture_of s block) (flat s.log block)) }
     ensures once { EveryRun (λ protocol steps outcomes s. Once steps outcomes s) }
     ensures possible { EveryRun (λ protocol steps outcomes s. (step : Step) → ¬ Meets s step) }
     ensures any_order { EveryRun (λ protocol steps outcomes s. (core block : ℕ) (request : Request) → Waits s core block request → (picture_of s block).transaction ≡ None → FindsRows protocol (picture_of s block) core request) }
@@ -48,7 +52,8 @@ pub fn runs_are_one()
 /// A machine that has room for all of its steps takes each that is not refused for a cause: `run_steps` then leads where the
 /// one run of the steps leads.
 ///
-/// So no step is left out or put off as wanting memory where there was room.
+/// So no step is left out or put off as wanting memory where there was room. (A law about the definitions: of room in hand the
+/// contracts tell what `prepare` has made, for one step at a time.)
 pub fn room_is_enough()
     ensures { RoomIsEnough }
 {}

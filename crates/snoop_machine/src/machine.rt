@@ -1,7 +1,9 @@
+//! The machine, as its users have it.
 ghost use Rattle.std.specs.Prelude.{◌≡◌, ◌<◌, ◌↔◌, ◌++◌, ℕ, [], ◌∷◌, length, Option, is_some, IsTrue, IsOk, IfOk, IfErr, IfSome, Ok, Err, Some, option_to_list};
 ghost use Rattle.snoop_trace.specs.declared.step.Step.{Step};
 ghost use Rattle.snoop_bus.specs.Queues.{queue_of};
 ghost use Rattle.snoop_history.specs.declared.items.Item.{Item};
+ghost use Rattle.snoop_history.specs.History.{flat};
 ghost use Rattle.snoop_machine.specs.declared.replies.Refused.{Refused};
 ghost use Rattle.snoop_machine.specs.declared.replies.Refused.TheVariants.{NoMemory as WantOfMemory};
 ghost use Rattle.snoop_machine.specs.Picture.{held_by};
@@ -116,10 +118,12 @@ impl Machine {
         self.parts.state(core, block)
     }
 
-    /// The value that the core keeps of the block, or `None` outside the shape and in a state that may not read.
+    /// The value that the core keeps of the block, which is that of the last store to it, or `None` outside the shape and in a
+    /// state that may not read.
     pub fn kept(&self, core: u32, block: u32) -> Option<u64>
         ensures inside { core < self.now.situation.shape.cores → block < self.now.situation.shape.blocks → result ≡ (held_by (picture_of self.now.situation block) core).kept }
         ensures readable { core < self.now.situation.shape.cores → block < self.now.situation.shape.blocks → is_some result ≡ keeps (state_of self.now.situation core block) }
+        ensures current { IfSome result (λ value. value ≡ flat self.now.situation.log block) }
         ensures outside { IfSome result (λ _. (core < self.now.situation.shape.cores) × (block < self.now.situation.shape.blocks)) }
     {
         self.parts.kept(core, block)
@@ -141,14 +145,14 @@ impl Machine {
         self.parts.mem_value(block)
     }
 
-    /// The block's open transaction, if there is one.
+    /// The block's open transaction, if there is one; `None` outside the shape.
     pub fn open(&self, block: u32) -> Option<Open>
         ensures { result ≡ (picture_of self.now.situation block).transaction }
     {
         self.parts.open(block)
     }
 
-    /// Whether a request of the core waits to be ordered.
+    /// Whether a request of the core waits to be ordered; false outside the shape.
     pub fn waiting(&self, core: u32) -> bool
         ensures { IsTrue result ↔ (0 < length (queue_of self.now.situation.queues core)) }
     {

@@ -1,3 +1,4 @@
+//! What an Order does to the lines of its block, and who sends.
 ghost use Rattle.std.specs.Prelude.{◌≡◌, ◌↔◌, IsTrue, ℕ, ◌<◌, List, [], length, Some, slice_index_or, slice_set, unwrap_or, if◌then◌else◌};
 ghost use Rattle.snoop_rules.specs.Waits.{waiting_request};
 ghost use Rattle.snoop_rules.specs.Takers.{seen_by, at_memory, carries_value};

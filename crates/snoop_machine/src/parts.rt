@@ -1,3 +1,4 @@
+//! The parts of a machine, which its steps change one after another.
 ghost use Rattle.std.specs.Prelude.{◌≡◌, ◌<◌, ◌↔◌, length, is_some, IsTrue, IfOk, IfSome, Some};
 ghost use Rattle.snoop_bus.specs.Queues.{queue_of};
 ghost use Rattle.snoop_machine.specs.Picture.{first_memory, held_by};

@@ -1,3 +1,4 @@
+//! What a step will do, as it was found.
 use crate::ask::Asked;
 use crate::memory::MemLine;
 use crate::message::Message;

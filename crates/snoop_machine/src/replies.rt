@@ -1,3 +1,4 @@
+//! What a step answers.
 use snoop_history::Did;
 use snoop_rules::{CacheState, Payload, Request};
 use snoop_trace::NoMemory as NoRoom;

@@ -1,3 +1,4 @@
+//! What a response does to one line, and to memory.
 ghost use Rattle.std.specs.Prelude.{◌≡◌};
 ghost use Rattle.snoop_machine.specs.Sound.{IsProper};
 ghost use Rattle.snoop_machine.specs.Meets.{LacksAtArrival, LacksAtMemory};
@@ -6,7 +7,8 @@ ghost use Rattle.snoop_machine.specs.Arrive.{FillsLine, ArrivesIn};
 use crate::lines::Line;
 use crate::memory::MemLine;
 use snoop_rules::{
-    CacheAction, CacheEvent, MemAction, MemEvent, MemState, Payload, Protocol, cache_cell, mem_cell,
+    CacheAction, CacheEvent, MemAction, MemEvent, MemState, Payload, Protocol, Request, cache_cell,
+    mem_cell,
 };
 use snoop_trace::Op;
 
@@ -55,13 +57,21 @@ pub(crate) fn fill(protocol: Protocol, line: Line, payload: Payload, sent: u64) 
     }
 }
 
-/// What memory holds once a payload has come, which it takes where it waits for one.
-pub(crate) fn arrive(protocol: Protocol, memory: MemLine, payload: Payload, sent: u64) -> MemLine
-    requires { ¬ LacksAtMemory protocol memory.state payload }
-    ensures { ArrivesIn protocol payload sent memory result }
+/// What memory holds once the message of a request's transaction has come: it takes that of a PutM, and another where it
+/// waits for one.
+pub(crate) fn arrive(
+    protocol: Protocol,
+    memory: MemLine,
+    request: Request,
+    payload: Payload,
+    sent: u64,
+) -> MemLine
+    requires { ¬ LacksAtMemory request protocol memory.state payload }
+    ensures { ArrivesIn request protocol payload sent memory result }
 {
-    match memory.state {
-        MemState::IorSD | MemState::MD | MemState::ID | MemState::SD | MemState::EorMD => {}
+    match (request, memory.state) {
+        (Request::PutM, _)
+        | (_, MemState::IorSD | MemState::MD | MemState::ID | MemState::SD | MemState::EorMD) => {}
         _ => return memory,
     }
     let event = match payload {

@@ -1,6 +1,8 @@
+//! What holds of turns by the turn rule.
 ghost use Rattle.snoop_machine.specs.TurnRule.{TurnRule};
 
-/// What holds of every turn that follows the turn rule.
+/// Turns by the turn rule serve what the cores ask: no step of a turn is refused, memory aside; a work that needs no more steps
+/// is over; with nothing under way nothing waits and no transaction is open; and each Ask is paid for by three steps at most.
 pub fn turns_are_served()
     ensures { TurnRule }
 {}

@@ -1,3 +1,4 @@
+pub mod Every
 pub mod LineLemmas
 pub mod MemRows
 pub mod Rows

@@ -12,6 +12,7 @@ use Rattle.snoop_rules.specs.declared.names.MemCell.{MemCell}
 use Rattle.snoop_rules.specs.MemoryCell.{MemoryCell}
 use Rattle.snoop_rules.specs.MemoryRow.{memory_cell_of}
 use Rattle.snoop_rules.specs.Possible.{IsMemImpossible}
+use Rattle.snoop_rules.proofs.Rows.{none_unless}
 
 -- each row of the relation is the function's
 pub memory_cell_of-MemoryCell : (p : Protocol) (s : MemState) (e : MemEvent) (a : MemAction) (n : MemState) → MemoryCell p s e a n → memory_cell_of p s e ≡ Some (record { action = a; next = n })
@@ -71,15 +72,15 @@ MemoryCell-memory_cell_of Mesi EorMD NoData = (refl, refl)
 MemoryCell-memory_cell_of Mesi EorMD NoDataE = (refl, refl)
 MemoryCell-memory_cell_of p s e = λ a n h. h
 
-none_unless : (o : Option MemCell) → ((cell : MemCell) → o ≡ Some cell → ⊥) → o ≡ None
-none_unless None h = refl
-none_unless (Some cell) h = absurd (h cell refl)
+-- what the function gives is a row
+pub MemoryCell-found : (p : Protocol) (s : MemState) (e : MemEvent) (cell : MemCell) → memory_cell_of p s e ≡ Some cell → MemoryCell p s e cell.action cell.next
+MemoryCell-found p s e cell is =
+    let P : Option MemCell → Type 0 = λ o. MatchOption o (IsMemImpossible p s e) (λ cell. MemoryCell p s e cell.action cell.next) in
+    subst P is (MemoryCell-memory_cell_of p s e)
 
 -- where the relation has no row, the function gives none
 pub memory_cell_of-impossible : (p : Protocol) (s : MemState) (e : MemEvent) → IsMemImpossible p s e → memory_cell_of p s e ≡ None
-memory_cell_of-impossible p s e h =
-    let P : Option MemCell → Type 0 = λ o. MatchOption o (IsMemImpossible p s e) (λ cell. MemoryCell p s e cell.action cell.next) in
-    none_unless (memory_cell_of p s e) (λ cell is. h cell.action cell.next (subst P is (MemoryCell-memory_cell_of p s e)))
+memory_cell_of-impossible p s e h = none_unless (memory_cell_of p s e) (λ cell is. h cell.action cell.next (MemoryCell-found p s e cell is))
 
 -- a pair has one row at most
 pub MemoryCell-one : (p : Protocol) (s : MemState) (e : MemEvent) (a b : MemAction) (n m : MemState) → MemoryCell p s e a n → MemoryCell p s e b m → (a ≡ b) × (n ≡ m)

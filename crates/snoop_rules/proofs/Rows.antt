@@ -1,12 +1,9 @@
--- The cache table as a function agrees with the table as a relation, and a way to show what holds of every row: by a test that computes.
-use Rattle.std.proofs.Common.{◌≡◌, Bool, true, ◌&&◌, Option, Some, None, refl, sym, ◌∙◌, ap, arith, MatchOption, subst}
-use Rattle.std.specs.List.{list_all}
+-- The cache table as a function agrees with the table as a relation, and what each row passes, any one passes: tests that a computation decides.
+use Rattle.std.proofs.Common.{◌≡◌, Bool, true, Option, Some, None, refl, sym, ◌∙◌, ap, MatchOption, subst}
 use Rattle.std.specs.Option.{option_map_or}
-use Rattle.std.proofs.lemmas.Bool.{and_parts}
-use Rattle.std.proofs.lemmas.List.Sums.{AllPass-from_list_all}
 use Rattle.std.proofs.lemmas.Option.{same_Some}
 use Rattle.snoop_rules.specs.declared.names.Protocol.{Protocol}
-use Rattle.snoop_rules.specs.declared.names.Protocol.TheVariants.{Msi, Mesi}
+use Rattle.snoop_rules.specs.declared.names.Protocol.TheVariants.{Mesi}
 use Rattle.snoop_rules.specs.declared.names.CacheState.{CacheState}
 use Rattle.snoop_rules.specs.declared.names.CacheState.TheVariants.{I, IsAd, IsD, ImAd, ImD, S, SmAd, SmD, E, M, EiA, MiA, IiA}
 use Rattle.snoop_rules.specs.declared.names.CacheEvent.{CacheEvent}
@@ -14,9 +11,9 @@ use Rattle.snoop_rules.specs.declared.names.CacheEvent.TheVariants.{Load, Store,
 use Rattle.snoop_rules.specs.declared.names.CacheAction.{CacheAction}
 use Rattle.snoop_rules.specs.declared.names.CacheCell.{CacheCell}
 use Rattle.snoop_rules.specs.Cell.{Cell}
-use Rattle.snoop_rules.specs.TableOrder.{cache_states, cache_events}
 use Rattle.snoop_rules.specs.Possible.{IsImpossible}
 use Rattle.snoop_rules.specs.Row.{cell_of}
+use Rattle.snoop_rules.proofs.Every.{all_protocols, all_protocols-at, all_states, all_states-at, all_events, all_events-at}
 
 -- each row of the relation is the function's
 pub cell_of-Cell : (p : Protocol) (s : CacheState) (e : CacheEvent) (a : CacheAction) (n : CacheState) → Cell p s e a n → cell_of p s e ≡ Some (record { action = a; next = n })
@@ -182,15 +179,19 @@ Cell-cell_of _ IiA OtherGetM = (refl, refl)
 Cell-cell_of _ IiA OtherPutM = (refl, refl)
 Cell-cell_of p s e = λ a n h. h
 
-none_unless : (o : Option CacheCell) → ((cell : CacheCell) → o ≡ Some cell → ⊥) → o ≡ None
+-- what the function gives is a row
+pub Cell-found : (p : Protocol) (s : CacheState) (e : CacheEvent) (cell : CacheCell) → cell_of p s e ≡ Some cell → Cell p s e cell.action cell.next
+Cell-found p s e cell is =
+    let P : Option CacheCell → Type 0 = λ o. MatchOption o (IsImpossible p s e) (λ cell. Cell p s e cell.action cell.next) in
+    subst P is (Cell-cell_of p s e)
+
+pub none_unless : {A : Type 0} (o : Option A) → ((a : A) → o ≡ Some a → ⊥) → o ≡ None
 none_unless None h = refl
-none_unless (Some cell) h = absurd (h cell refl)
+none_unless (Some a) h = absurd (h a refl)
 
 -- where the relation has no row, the function gives none
 pub cell_of-impossible : (p : Protocol) (s : CacheState) (e : CacheEvent) → IsImpossible p s e → cell_of p s e ≡ None
-cell_of-impossible p s e h =
-    let P : Option CacheCell → Type 0 = λ o. MatchOption o (IsImpossible p s e) (λ cell. Cell p s e cell.action cell.next) in
-    none_unless (cell_of p s e) (λ cell is. h cell.action cell.next (subst P is (Cell-cell_of p s e)))
+cell_of-impossible p s e h = none_unless (cell_of p s e) (λ cell is. h cell.action cell.next (Cell-found p s e cell is))
 
 -- a pair has one row at most
 pub Cell-one : (p : Protocol) (s : CacheState) (e : CacheEvent) (a b : CacheAction) (n m : CacheState) → Cell p s e a n → Cell p s e b m → (a ≡ b) × (n ≡ m)
@@ -198,48 +199,6 @@ Cell-one p s e a b n m h k =
     let same : ◌≡◌ {A = Option CacheCell} (Some (record { action = a; next = n })) (Some (record { action = b; next = m })) = sym (cell_of-Cell p s e a n h) ∙ cell_of-Cell p s e b m k in
     let cell = same_Some _ _ same in
     (ap (λ c. c.action) cell, ap (λ c. c.next) cell)
-
--- a test of each protocol, of each state, and of each event
-abbrev pub all_protocols : (Protocol → Bool) → Bool
-all_protocols test = test Msi && test Mesi
-
-abbrev pub all_states : (CacheState → Bool) → Bool
-all_states test = list_all test cache_states
-
-abbrev pub all_events : (CacheEvent → Bool) → Bool
-all_events test = list_all test cache_events
-
-pub all_protocols-at : (test : Protocol → Bool) → all_protocols test ≡ true → (p : Protocol) → test p ≡ true
-all_protocols-at test h Msi = (and_parts (test Msi) (test Mesi) h).0
-all_protocols-at test h Mesi = (and_parts (test Msi) (test Mesi) h).1
-
-pub all_states-at : (test : CacheState → Bool) → all_states test ≡ true → (s : CacheState) → test s ≡ true
-all_states-at test h I = AllPass-from_list_all test cache_states h 0 I (omega arith)
-all_states-at test h IsAd = AllPass-from_list_all test cache_states h 1 IsAd (omega arith)
-all_states-at test h IsD = AllPass-from_list_all test cache_states h 2 IsD (omega arith)
-all_states-at test h ImAd = AllPass-from_list_all test cache_states h 3 ImAd (omega arith)
-all_states-at test h ImD = AllPass-from_list_all test cache_states h 4 ImD (omega arith)
-all_states-at test h S = AllPass-from_list_all test cache_states h 5 S (omega arith)
-all_states-at test h SmAd = AllPass-from_list_all test cache_states h 6 SmAd (omega arith)
-all_states-at test h SmD = AllPass-from_list_all test cache_states h 7 SmD (omega arith)
-all_states-at test h E = AllPass-from_list_all test cache_states h 8 E (omega arith)
-all_states-at test h M = AllPass-from_list_all test cache_states h 9 M (omega arith)
-all_states-at test h EiA = AllPass-from_list_all test cache_states h 10 EiA (omega arith)
-all_states-at test h MiA = AllPass-from_list_all test cache_states h 11 MiA (omega arith)
-all_states-at test h IiA = AllPass-from_list_all test cache_states h 12 IiA (omega arith)
-
-pub all_events-at : (test : CacheEvent → Bool) → all_events test ≡ true → (e : CacheEvent) → test e ≡ true
-all_events-at test h Load = AllPass-from_list_all test cache_events h 0 Load (omega arith)
-all_events-at test h Store = AllPass-from_list_all test cache_events h 1 Store (omega arith)
-all_events-at test h Evict = AllPass-from_list_all test cache_events h 2 Evict (omega arith)
-all_events-at test h OwnGetS = AllPass-from_list_all test cache_events h 3 OwnGetS (omega arith)
-all_events-at test h OwnGetM = AllPass-from_list_all test cache_events h 4 OwnGetM (omega arith)
-all_events-at test h OwnPutM = AllPass-from_list_all test cache_events h 5 OwnPutM (omega arith)
-all_events-at test h OtherGetS = AllPass-from_list_all test cache_events h 6 OtherGetS (omega arith)
-all_events-at test h OtherGetM = AllPass-from_list_all test cache_events h 7 OtherGetM (omega arith)
-all_events-at test h OtherPutM = AllPass-from_list_all test cache_events h 8 OtherPutM (omega arith)
-all_events-at test h Data = AllPass-from_list_all test cache_events h 9 Data (omega arith)
-all_events-at test h DataE = AllPass-from_list_all test cache_events h 10 DataE (omega arith)
 
 -- a row passes a test, and where there is none nothing is to be passed
 abbrev pub passes : Option CacheCell → (CacheCell → Bool) → Bool

@@ -1,8 +1,6 @@
 pub mod Deciding
 pub mod Rows
-pub mod MemoryRows
 pub mod Played
-pub mod Once
 pub mod Refusing
 pub mod Asking
 pub mod Ordering

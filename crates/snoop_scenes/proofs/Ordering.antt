@@ -1,11 +1,10 @@
 -- An Order played, where there are two cores.
-use Rattle.std.proofs.Common.{◌≡◌, ℕ, zero, suc, ◌<◌, true, false, List, [], ◌∷◌, ◌++◌, length, Option, Some, None, Result, Ok, Err, refl, sym, ◌∙◌, ap, subst, arith}
+use Rattle.std.proofs.Common.{◌≡◌, ℕ, zero, suc, ◌<◌, List, [], ◌∷◌, ◌++◌, length, Option, Some, None, Ok, Err, refl, ap, subst, arith}
 use Rattle.std.specs.Prelude.{slice_get, is_some}
 use Rattle.std.proofs.Math.Dec.{ltb}
 use Rattle.std.proofs.lemmas.Bool.{ltb-true}
 use Rattle.snoop_trace.specs.declared.step.Step.TheVariants.{Order}
 use Rattle.snoop_rules.specs.declared.names.Protocol.{Protocol}
-use Rattle.snoop_rules.specs.declared.names.CacheState.{CacheState}
 use Rattle.snoop_rules.specs.declared.names.CacheAction.{CacheAction}
 use Rattle.snoop_rules.specs.declared.names.CacheAction.TheVariants as action
 use Rattle.snoop_rules.specs.declared.names.MemState.{MemState}
@@ -18,25 +17,23 @@ use Rattle.snoop_rules.specs.Cell.{Cell}
 use Rattle.snoop_rules.specs.MemoryCell.{MemoryCell}
 use Rattle.snoop_rules.specs.Takers.{seen_by, at_memory}
 use Rattle.snoop_rules.specs.Waits.{waiting_request}
+use Rattle.snoop_rules.proofs.Rows.{Cell-one}
+use Rattle.snoop_rules.proofs.MemRows.{MemoryCell-one}
 use Rattle.snoop_history.specs.declared.items.Item.{Item}
 use Rattle.snoop_history.specs.declared.items.Item.TheVariants as item
 use Rattle.snoop_bus.specs.declared.transactions.Open.{Open}
 use Rattle.snoop_bus.specs.Queues.{queue_of, after_order}
 use Rattle.snoop_machine.specs.declared.lines.Line.{Line}
-use Rattle.snoop_machine.specs.declared.replies.Reply.{Reply}
 use Rattle.snoop_machine.specs.declared.replies.Reply.TheVariants as reply
-use Rattle.snoop_machine.specs.declared.replies.Refused.{Refused}
 use Rattle.snoop_machine.specs.declared.replies.Refused.TheVariants.{BusTaken}
 use Rattle.snoop_machine.specs.Picture.{Picture, held_at, held_by}
 use Rattle.snoop_machine.specs.Situation.{Situation, picture_of, with_picture, state_of}
-use Rattle.snoop_machine.specs.Sends.{Sends, value_sent}
-use Rattle.snoop_machine.specs.Move.{comes_to, TakesRow, Orders}
+use Rattle.snoop_machine.specs.Sends.{Sends, IsOnlySender, value_sent}
+use Rattle.snoop_machine.specs.Move.{comes_to, TakesRow}
 use Rattle.snoop_machine.specs.Run.{GoesFirst}
 use Rattle.snoop_scenes.proofs.Deciding.{if_true, if_some}
-use Rattle.snoop_scenes.proofs.Rows.{RowAt, row_at}
-use Rattle.snoop_scenes.proofs.MemoryRows.{MemoryRowAt, memory_row_at}
-use Rattle.snoop_scenes.proofs.Played.{IsOnlyWay, Played}
-use Rattle.snoop_scenes.proofs.Once.{same_picture, order_once}
+use Rattle.snoop_scenes.proofs.Rows.{RowAt, row_at, MemoryRowAt, memory_row_at}
+use Rattle.snoop_scenes.proofs.Played.{Played}
 
 -- whether a cache sends by this action, and what
 pub data Speaks (act : CacheAction) : Type 0 where
@@ -67,23 +64,19 @@ memory_speaks mem_action.Write = quiet (λ payload e. cc)
 pub record Sender (protocol : Protocol) (before : Picture) (core : ℕ) (request : Request) : Type 0 where
   pub from : Option ℕ
   pub payload : Payload
-  pub sends : Sends protocol before core request from payload
-  pub only : (other : Option ℕ) (message : Payload) → Sends protocol before core request other message → (other ≡ from) × (message ≡ payload)
+  pub sent : IsOnlySender protocol before core request from payload
 
--- what an Order does to a block's picture: each controller takes its only row
+-- what an Order does to a block's picture: each controller takes its row
 pub record Ordered (protocol : Protocol) (before : Picture) (core : ℕ) (request : Request) : Type 0 where
   pub caches : List Line
   pub same_length : length caches ≡ length before.caches
   pub rows : (k : ℕ) → k < length caches → TakesRow protocol (seen_by k core request) (held_by before k) (held_at caches k)
-  pub only_caches : (lines : List Line) → length lines ≡ length before.caches
-      → ((k : ℕ) → k < length lines → TakesRow protocol (seen_by k core request) (held_by before k) (held_at lines k)) → lines ≡ caches
   pub act : MemAction
   pub memory : MemState
   pub row : MemoryCell protocol before.memory (at_memory request) act memory
-  pub only_memory : (other : MemAction) (next : MemState) → MemoryCell protocol before.memory (at_memory request) other next → next ≡ memory
   pub sender : Sender protocol before core request
 
--- An Order seen by two caches and memory, each with its only row.
+-- An Order seen by two caches and memory, each with its row.
 module _ (protocol : Protocol) (core : ℕ) (request : Request) (memory : MemState) (value : ℕ) (transaction : Option Open) (a b : Line)
     (first : RowAt protocol a.state (seen_by 0 core request)) (second : RowAt protocol b.state (seen_by 1 core request)) (third : MemoryRowAt protocol memory (at_memory request)) where
   abbrev pub before : Picture
@@ -92,33 +85,33 @@ module _ (protocol : Protocol) (core : ℕ) (request : Request) (memory : MemSta
   abbrev pub Sent : Option ℕ → Payload → Type 0
   Sent from payload = Sends protocol before core request from payload
 
-  -- what holds of each controller's message
-  pub by_sender : (P : Option ℕ → Payload → Type 0) → ((m : Payload) → Sent None m → P None m) → ((m : Payload) → Sent (Some 0) m → P (Some 0) m)
-      → ((m : Payload) → Sent (Some 1) m → P (Some 1) m) → (other : Option ℕ) (m : Payload) → Sent other m → P other m
-  by_sender P memory's core_0's core_1's None m sent = memory's m sent
-  by_sender P memory's core_0's core_1's (Some zero) m sent = core_0's m sent
-  by_sender P memory's core_0's core_1's (Some (suc zero)) m sent = core_1's m sent
-  by_sender P memory's core_0's core_1's (Some (suc (suc k))) m sent = let no : ⊥ = omega (arith, sent.0) in absurd no
+  -- a controller sends where its row does
+  pub memory_says : (m : Payload) → Sent None m → third.act ≡ mem_action.Send m
+  memory_says m sent = (MemoryCell-one protocol memory (at_memory request) third.act (mem_action.Send m) third.next sent.0 third.row sent.1).0
 
-  pub memory_says : (m : Payload) → Sent None m → mem_action.Send m ≡ third.act
-  memory_says m sent = (third.only (mem_action.Send m) sent.0 sent.1).0
+  pub first_says : (m : Payload) (sent : Sent (Some 0) m) → first.act ≡ action.Send m sent.1.0
+  first_says m sent = (Cell-one protocol a.state (seen_by 0 core request) first.act (action.Send m sent.1.0) first.next sent.1.1.0 first.row sent.1.1.1).0
 
-  pub first_says : (m : Payload) (sent : Sent (Some 0) m) → action.Send m sent.1.0 ≡ first.act
-  first_says m sent = (first.only (action.Send m sent.1.0) sent.1.1.0 sent.1.1.1).0
+  pub second_says : (m : Payload) (sent : Sent (Some 1) m) → second.act ≡ action.Send m sent.1.0
+  second_says m sent = (Cell-one protocol b.state (seen_by 1 core request) second.act (action.Send m sent.1.0) second.next sent.1.1.0 second.row sent.1.1.1).0
 
-  pub second_says : (m : Payload) (sent : Sent (Some 1) m) → action.Send m sent.1.0 ≡ second.act
-  second_says m sent = (second.only (action.Send m sent.1.0) sent.1.1.0 sent.1.1.1).0
+  -- what follows from memory's message, and from each core's, follows from any
+  pub by_sender : (from : Option ℕ) → ((m : Payload) → Sent None m → None ≡ from) → ((m : Payload) → Sent (Some 0) m → Some 0 ≡ from)
+      → ((m : Payload) → Sent (Some 1) m → Some 1 ≡ from) → (other : Option ℕ) (m : Payload) → Sent other m → other ≡ from
+  by_sender from memory's core_0's core_1's None m sent = memory's m sent
+  by_sender from memory's core_0's core_1's (Some zero) m sent = core_0's m sent
+  by_sender from memory's core_0's core_1's (Some (suc zero)) m sent = core_1's m sent
+  by_sender from memory's core_0's core_1's (Some (suc (suc k))) m sent = let no : ⊥ = omega (arith, sent.0) in absurd no
 
   abbrev pub from_memory : (payload : Payload) → third.act ≡ mem_action.Send payload → ((p : Payload) (t : Target) → first.act ≡ action.Send p t → ⊥)
       → ((p : Payload) (t : Target) → second.act ≡ action.Send p t → ⊥) → Sender protocol before core request
   from_memory payload is f s = record {
     from = None;
     payload = payload;
-    sends = (let P : MemAction → Type 0 = λ act. MemoryCell protocol memory (at_memory request) act third.next in (third.next, subst P is third.row));
-    only = by_sender (λ from m. (from ≡ None) × (m ≡ payload))
-        (λ m sent. (refl, let e : mem_action.Send m ≡ mem_action.Send payload = memory_says m sent ∙ is in cc))
-        (λ m sent. absurd (f m sent.1.0 (sym (first_says m sent))))
-        (λ m sent. absurd (s m sent.1.0 (sym (second_says m sent))));
+    sent = record {
+      sends = (let P : MemAction → Type 0 = λ act. MemoryCell protocol memory (at_memory request) act third.next in (third.next, subst P is third.row));
+      alone = by_sender None (λ m sent. refl) (λ m sent. absurd (f m sent.1.0 (first_says m sent))) (λ m sent. absurd (s m sent.1.0 (second_says m sent)));
+    };
   }
 
   abbrev pub from_first : (payload : Payload) (target : Target) → first.act ≡ action.Send payload target → ((p : Payload) → third.act ≡ mem_action.Send p → ⊥)
@@ -126,14 +119,13 @@ module _ (protocol : Protocol) (core : ℕ) (request : Request) (memory : MemSta
   from_first payload target is q s = record {
     from = Some 0;
     payload = payload;
-    sends = (
-        let P : CacheAction → Type 0 = λ act. Cell protocol a.state (seen_by 0 core request) act first.next in
-        let there : 0 < 2 = omega arith in
-        (there, (target, (first.next, subst P is first.row))));
-    only = by_sender (λ from m. (from ≡ Some 0) × (m ≡ payload))
-        (λ m sent. absurd (q m (sym (memory_says m sent))))
-        (λ m sent. (refl, let e : action.Send m sent.1.0 ≡ action.Send payload target = first_says m sent ∙ is in cc))
-        (λ m sent. absurd (s m sent.1.0 (sym (second_says m sent))));
+    sent = record {
+      sends = (
+          let P : CacheAction → Type 0 = λ act. Cell protocol a.state (seen_by 0 core request) act first.next in
+          let there : 0 < 2 = omega arith in
+          (there, (target, (first.next, subst P is first.row))));
+      alone = by_sender (Some 0) (λ m sent. absurd (q m (memory_says m sent))) (λ m sent. refl) (λ m sent. absurd (s m sent.1.0 (second_says m sent)));
+    };
   }
 
   abbrev pub from_second : (payload : Payload) (target : Target) → second.act ≡ action.Send payload target → ((p : Payload) → third.act ≡ mem_action.Send p → ⊥)
@@ -141,14 +133,13 @@ module _ (protocol : Protocol) (core : ℕ) (request : Request) (memory : MemSta
   from_second payload target is q f = record {
     from = Some 1;
     payload = payload;
-    sends = (
-        let P : CacheAction → Type 0 = λ act. Cell protocol b.state (seen_by 1 core request) act second.next in
-        let there : 1 < 2 = omega arith in
-        (there, (target, (second.next, subst P is second.row))));
-    only = by_sender (λ from m. (from ≡ Some 1) × (m ≡ payload))
-        (λ m sent. absurd (q m (sym (memory_says m sent))))
-        (λ m sent. absurd (f m sent.1.0 (sym (first_says m sent))))
-        (λ m sent. (refl, let e : action.Send m sent.1.0 ≡ action.Send payload target = second_says m sent ∙ is in cc));
+    sent = record {
+      sends = (
+          let P : CacheAction → Type 0 = λ act. Cell protocol b.state (seen_by 1 core request) act second.next in
+          let there : 1 < 2 = omega arith in
+          (there, (target, (second.next, subst P is second.row))));
+      alone = by_sender (Some 1) (λ m sent. absurd (q m (memory_says m sent))) (λ m sent. absurd (f m sent.1.0 (first_says m sent))) (λ m sent. refl);
+    };
   }
 
   abbrev pub sender : MemorySpeaks third.act → Speaks first.act → Speaks second.act → Option (Sender protocol before core request)
@@ -166,30 +157,14 @@ module _ (protocol : Protocol) (core : ℕ) (request : Request) (memory : MemSta
   rows_after (suc zero) below = (second.act, (second.next, (second.row, refl)))
   rows_after (suc (suc k)) below = let no : ⊥ = omega (arith, below) in absurd no
 
-  pub only_caches_after : (lines : List Line) → length lines ≡ 2
-      → ((k : ℕ) → k < length lines → TakesRow protocol (seen_by k core request) (held_by before k) (held_at lines k)) → lines ≡ caches_after
-  only_caches_after [] long rows = let no : ⊥ = omega (arith, long) in absurd no
-  only_caches_after (x ∷ []) long rows = let no : ⊥ = omega (arith, long) in absurd no
-  only_caches_after (x ∷ y ∷ z ∷ more) long rows = let no : ⊥ = omega (arith, long) in absurd no
-  only_caches_after (x ∷ y ∷ []) long rows =
-      let below_first : 0 < 2 = omega arith in
-      let below_second : 1 < 2 = omega arith in
-      let r = rows 0 below_first in
-      let s = rows 1 below_second in
-      let same_first : x ≡ comes_to first.next a = r.1.1.1 ∙ ap (λ (n : CacheState). comes_to n a) (first.only r.0 r.1.0 r.1.1.0).1 in
-      let same_second : y ≡ comes_to second.next b = s.1.1.1 ∙ ap (λ (n : CacheState). comes_to n b) (second.only s.0 s.1.0 s.1.1.0).1 in
-      ap (λ (l : Line). l ∷ y ∷ []) same_first ∙ ap (λ (l : Line). comes_to first.next a ∷ l ∷ []) same_second
-
   abbrev pub after : Sender protocol before core request → Ordered protocol before core request
   after found = record {
     caches = caches_after;
     same_length = refl;
     rows = rows_after;
-    only_caches = only_caches_after;
     act = third.act;
     memory = third.next;
     row = third.row;
-    only_memory = λ other next row. (third.only other next row).1;
     sender = found;
   }
 
@@ -239,7 +214,7 @@ module _ (old : Situation) (core block : ℕ) (there : core < old.shape.cores) (
                 free = free;
                 from = taken.sender.from;
                 payload = taken.sender.payload;
-                sent = record { sends = taken.sender.sends; alone = λ other message sends. (taken.sender.only other message sends).0 };
+                sent = taken.sender.sent;
                 next = next;
                 caches = taken.same_length;
                 rows = taken.rows;
@@ -254,30 +229,11 @@ module _ (old : Situation) (core block : ℕ) (there : core < old.shape.cores) (
       ),
     )
 
-    only_open : (n : Situation) → Orders old core block request n → (◌≡◌ {A = Result Reply Refused} (Ok (reply.Ordered request)) (Ok (reply.Ordered request))) × (n ≡ goes_to next)
-    only_open n h =
-        let sent = taken.sender.only h.from h.payload h.sent.sends in
-        let same : h.next ≡ next = same_picture h.next next
-        (taken.only_caches h.next.caches h.caches h.rows)
-        (taken.only_memory h.memory.0 h.next.memory h.memory.1)
-        h.value
-        (h.opened ∙ (ap (λ (f : Option ℕ). Some (opening f h.payload)) sent.0 ∙ ap (λ (p : Payload). Some (opening taken.sender.from p)) sent.1)) in
-        (refl, h.after ∙ ap goes_to same)
-
-    pub only_way_open : IsOnlyWay old (Order core) (Ok (reply.Ordered request)) (goes_to next)
-    only_way_open = order_once old core block there first request waits (Ok (reply.Ordered request)) (goes_to next) only_open
-        (λ busy. let clash : true ≡ false = sym busy ∙ ap (λ (t : Option Open). is_some t) free in cc)
-
     abbrev pub opens : Played old (Order core)
-    opens = record { outcome = Ok (reply.Ordered request); new = goes_to next; goes = goes_open; only = only_way_open }
-
-  pub only_way_busy : (busy : Open) → (picture_of old block).transaction ≡ Some busy → IsOnlyWay old (Order core) (Err (BusTaken block)) old
-  only_way_busy busy is = order_once old core block there first request waits (Err (BusTaken block)) old
-      (λ n h. let clash : ◌≡◌ {A = Option Open} None (Some busy) = sym h.free ∙ is in cc)
-      (λ taken. (refl, refl))
+    opens = record { outcome = Ok (reply.Ordered request); new = goes_to next; goes = goes_open }
 
   abbrev pub on_bus : (transaction : Option Open) → (picture_of old block).transaction ≡ transaction → Option (Played old (Order core))
-  on_bus (Some busy) is = Some (record { outcome = Err (BusTaken block); new = old; goes = ((there, first, ap (λ (t : Option Open). is_some t) is), refl); only = only_way_busy busy is })
+  on_bus (Some busy) is = Some (record { outcome = Err (BusTaken block); new = old; goes = ((there, first, ap (λ (t : Option Open). is_some t) is), refl) })
   on_bus None free =
       if_true (ltb block old.shape.blocks) λ within.
       if_some (ordered old.protocol core request (picture_of old block).memory (picture_of old block).value (picture_of old block).transaction (picture_of old block).caches) λ taken is.

@@ -1,5 +1,5 @@
--- A step played: what it is answered and where it leads, with the proof that it goes so and no other way.
-use Rattle.std.proofs.Common.{◌≡◌, ℕ, Option, Some, None, Result, refl}
+-- A step played: what it is answered and where it leads, with the proof that it goes so.
+use Rattle.std.proofs.Common.{ℕ, Option, Some, None, Result, refl}
 use Rattle.snoop_trace.specs.declared.step.Op.{Op}
 use Rattle.snoop_trace.specs.declared.step.Op.TheVariants as op
 use Rattle.snoop_trace.specs.declared.step.Step.{Step}
@@ -9,15 +9,10 @@ use Rattle.snoop_machine.specs.Situation.{Situation}
 use Rattle.snoop_machine.specs.Move.{Performs}
 use Rattle.snoop_machine.specs.Run.{GoesFirst}
 
--- the step has no other outcome, and no other end
-abbrev pub IsOnlyWay : Situation → Step → Result Reply Refused → Situation → Type 0
-IsOnlyWay old step outcome new = (other : Result Reply Refused) (n : Situation) → GoesFirst old step other n → (other ≡ outcome) × (n ≡ new)
-
 pub record Played (old : Situation) (step : Step) : Type 0 where
   pub outcome : Result Reply Refused
   pub new : Situation
   pub goes : GoesFirst old step outcome new
-  pub only : IsOnlyWay old step outcome new
 
 -- what an operation does to a block's value
 pub record Performed (asking : Op) (before : ℕ) : Type 0 where

@@ -5,7 +5,7 @@ use Rattle.std.proofs.Math.Dec.{ltb}
 use Rattle.std.proofs.lemmas.Bool.{ltb-true, ltb-false}
 use Rattle.snoop_trace.specs.declared.step.Step.{Step}
 use Rattle.snoop_trace.specs.declared.step.Step.TheVariants.{Ask, Order, Respond}
-use Rattle.snoop_rules.specs.Takers.{awaits_payload}
+use Rattle.snoop_rules.specs.Takers.{takes_payload}
 use Rattle.snoop_rules.specs.Waits.{waiting_request}
 use Rattle.snoop_bus.specs.Queues.{queue_of}
 use Rattle.snoop_machine.specs.Situation.{Situation, picture_of, state_of}
@@ -31,14 +31,14 @@ played old (Order core) =
     on_bus old core block (ltb-true core old.shape.cores there) first request waits (picture_of old block).transaction refl)
     (λ empty.
     if_some (waits_on_none old.caches core) λ none is.
-    Some (orders_nothing old core (ltb-true core old.shape.cores there) empty none)))
+    Some (orders_nothing old core (ltb-true core old.shape.cores there) none)))
     (λ outside. Some (orders_no_core old core (ltb-false core old.shape.cores outside)))
 played old (Respond block) =
     by_test (ltb block old.shape.blocks)
     (λ there. by_found (picture_of old block).transaction
     (λ closing opened.
     if_some (arrived closing.request closing old.protocol old.log (picture_of old block).caches) λ came is.
-    if_some (remembered (awaits_payload (picture_of old block).memory) closing old.protocol (picture_of old block)) λ kept is.
+    if_some (remembered (takes_payload closing.request (picture_of old block).memory) closing old.protocol (picture_of old block)) λ kept is.
     Some (closes old block (ltb-true block old.shape.blocks there) closing opened came kept))
     (λ free. Some (responds_nothing old block (ltb-true block old.shape.blocks there) free)))
     (λ outside. Some (responds_no_block old block (ltb-false block old.shape.blocks outside)))

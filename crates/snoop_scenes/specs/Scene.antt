@@ -24,7 +24,7 @@ use Rattle.snoop_machine.specs.declared.replies.Reply.TheVariants as reply
 use Rattle.snoop_machine.specs.declared.replies.Refused.{Refused}
 use Rattle.snoop_machine.specs.Picture.{held_at}
 use Rattle.snoop_machine.specs.Situation.{Situation, reset}
-use Rattle.snoop_machine.specs.Run.{GoesFirst, TheRun}
+use Rattle.snoop_machine.specs.Run.{GoesFirst}
 
 -- two cores, and one block of 64 bytes
 abbrev pub two_cores : Extent
@@ -216,8 +216,3 @@ PassesFrom old (frame ∷ frames) new =
 -- from reset, the machine passes through the frames
 abbrev pub PassesThrough : Protocol → Extent → List Frame → Situation → Type 0
 PassesThrough protocol shape frames new = PassesFrom (reset protocol shape) frames new
-
--- the run of these steps has no other outcomes, and no other end
-abbrev pub IsOnlyRun : Protocol → Extent → List Step → List (Result Reply Refused) → Situation → Type 0
-IsOnlyRun protocol shape steps outcomes new =
-    (others : List (Result Reply Refused)) (other : Situation) → TheRun protocol shape steps others other → (others ≡ outcomes) × (other ≡ new)

@@ -4,7 +4,7 @@ ghost use Rattle.snoop_rules.specs.declared.names.Protocol.TheVariants.{Msi, Mes
 ghost use Rattle.snoop_history.specs.History.{answers_of};
 ghost use Rattle.snoop_history.specs.Totals.{totals_of};
 ghost use Rattle.snoop_machine.specs.Run.{TheRun};
-ghost use Rattle.snoop_scenes.specs.Scene.{two_cores, two_blocks, steps_of, outcomes_of, no_totals, values_of, missed_load, hit_load, missed_store, IsOnlyRun, PassesThrough};
+ghost use Rattle.snoop_scenes.specs.Scene.{two_cores, two_blocks, steps_of, outcomes_of, no_totals, values_of, missed_load, hit_load, missed_store, PassesThrough};
 ghost use Rattle.snoop_scenes.specs.FirstLoad;
 ghost use Rattle.snoop_scenes.specs.UpgradeRace;
 ghost use Rattle.snoop_scenes.specs.StaleWriteback;
@@ -26,7 +26,6 @@ ghost use Rattle.snoop_scenes.specs.OutsideTheShape;
 /// A first load: the miss is ordered, memory answers, and the load reads 0.
 pub fn first_load()
     ensures run { TheRun Msi two_cores (steps_of FirstLoad.frames) (outcomes_of FirstLoad.frames) FirstLoad.end }
-    ensures only { IsOnlyRun Msi two_cores (steps_of FirstLoad.frames) (outcomes_of FirstLoad.frames) FirstLoad.end }
     ensures states { PassesThrough Msi two_cores FirstLoad.frames FirstLoad.end }
     ensures totals { totals_of FirstLoad.end.log ≡ record no_totals { loads = 1; get_s = 1; from_memory = 1 } }
     ensures values { values_of FirstLoad.end.log ≡ (0, 0) ∷ [] }
@@ -36,7 +35,6 @@ pub fn first_load()
 /// for data, and takes them from the winner.
 pub fn upgrade_race()
     ensures run { TheRun Msi two_cores (steps_of UpgradeRace.frames) (outcomes_of UpgradeRace.frames) UpgradeRace.end }
-    ensures only { IsOnlyRun Msi two_cores (steps_of UpgradeRace.frames) (outcomes_of UpgradeRace.frames) UpgradeRace.end }
     ensures states { PassesThrough Msi two_cores UpgradeRace.frames UpgradeRace.end }
     ensures totals { totals_of UpgradeRace.end.log ≡ record no_totals { loads = 2; stores = 2; get_s = 2; get_m = 2; from_memory = 3; from_caches = 1 } }
     ensures values { values_of UpgradeRace.end.log ≡ (0, 5) ∷ [] }
@@ -45,7 +43,6 @@ pub fn upgrade_race()
 /// The stale writeback: an owner that evicts is overtaken by another core's store, so that its PutM brings memory no data.
 pub fn stale_writeback()
     ensures run { TheRun Msi two_cores (steps_of StaleWriteback.frames) (outcomes_of StaleWriteback.frames) StaleWriteback.end }
-    ensures only { IsOnlyRun Msi two_cores (steps_of StaleWriteback.frames) (outcomes_of StaleWriteback.frames) StaleWriteback.end }
     ensures states { PassesThrough Msi two_cores StaleWriteback.frames StaleWriteback.end }
     ensures totals { totals_of StaleWriteback.end.log ≡ record no_totals { loads = 1; load_hits = 1; stores = 2; get_m = 2; put_m = 1; from_memory = 1; from_caches = 1; stale = 1 } }
     ensures values { values_of StaleWriteback.end.log ≡ (0, 9) ∷ [] }
@@ -54,7 +51,6 @@ pub fn stale_writeback()
 /// A store hits while the block is being evicted, and the writeback takes the new value to memory.
 pub fn store_hit_while_evicting()
     ensures run { TheRun Msi two_cores (steps_of StoreHitWhileEvicting.frames) (outcomes_of StoreHitWhileEvicting.frames) StoreHitWhileEvicting.end }
-    ensures only { IsOnlyRun Msi two_cores (steps_of StoreHitWhileEvicting.frames) (outcomes_of StoreHitWhileEvicting.frames) StoreHitWhileEvicting.end }
     ensures states { PassesThrough Msi two_cores StoreHitWhileEvicting.frames StoreHitWhileEvicting.end }
     ensures totals { totals_of StoreHitWhileEvicting.end.log ≡ record no_totals { loads = 1; stores = 2; store_hits = 1; get_s = 1; get_m = 1; put_m = 1; from_memory = 2; writebacks = 1 } }
     ensures values { values_of StoreHitWhileEvicting.end.log ≡ (0, 8) ∷ [] }
@@ -63,7 +59,6 @@ pub fn store_hit_while_evicting()
 /// A core whose eviction still waits is stalled when it asks for the block again; once the stale writeback is through, it may.
 pub fn refused_and_repeated()
     ensures run { TheRun Msi two_cores (steps_of RefusedAndRepeated.frames) (outcomes_of RefusedAndRepeated.frames) RefusedAndRepeated.end }
-    ensures only { IsOnlyRun Msi two_cores (steps_of RefusedAndRepeated.frames) (outcomes_of RefusedAndRepeated.frames) RefusedAndRepeated.end }
     ensures states { PassesThrough Msi two_cores RefusedAndRepeated.frames RefusedAndRepeated.end }
     ensures totals { totals_of RefusedAndRepeated.end.log ≡ record no_totals { loads = 1; stores = 2; get_s = 1; get_m = 2; put_m = 1; from_memory = 1; from_caches = 2; stale = 1 } }
     ensures values { values_of RefusedAndRepeated.end.log ≡ (0, 9) ∷ [] }
@@ -72,7 +67,6 @@ pub fn refused_and_repeated()
 /// Another core's load takes the data of an owner that evicts, memory takes them too, and the PutM that comes after it is stale.
 pub fn writeback_after_downgrade()
     ensures run { TheRun Msi two_cores (steps_of WritebackAfterDowngrade.frames) (outcomes_of WritebackAfterDowngrade.frames) WritebackAfterDowngrade.end }
-    ensures only { IsOnlyRun Msi two_cores (steps_of WritebackAfterDowngrade.frames) (outcomes_of WritebackAfterDowngrade.frames) WritebackAfterDowngrade.end }
     ensures states { PassesThrough Msi two_cores WritebackAfterDowngrade.frames WritebackAfterDowngrade.end }
     ensures totals { totals_of WritebackAfterDowngrade.end.log ≡ record no_totals { loads = 1; stores = 1; get_s = 1; get_m = 1; put_m = 1; from_memory = 1; from_caches = 1; stale = 1 } }
     ensures values { values_of WritebackAfterDowngrade.end.log ≡ (0, 7) ∷ [] }
@@ -81,7 +75,6 @@ pub fn writeback_after_downgrade()
 /// A sharer's load hits while its store waits, until another core's store takes the copy away: then a load is stalled.
 pub fn load_hits_while_store_waits()
     ensures run { TheRun Msi two_cores (steps_of LoadHitsWhileStoreWaits.frames) (outcomes_of LoadHitsWhileStoreWaits.frames) LoadHitsWhileStoreWaits.end }
-    ensures only { IsOnlyRun Msi two_cores (steps_of LoadHitsWhileStoreWaits.frames) (outcomes_of LoadHitsWhileStoreWaits.frames) LoadHitsWhileStoreWaits.end }
     ensures states { PassesThrough Msi two_cores LoadHitsWhileStoreWaits.frames LoadHitsWhileStoreWaits.end }
     ensures performed { answers_of LoadHitsWhileStoreWaits.end.log 0 ≡ missed_load 0 0 0 0 ∷ hit_load 0 1 0 0 ∷ missed_store 0 2 0 5 ∷ [] }
     ensures totals { totals_of LoadHitsWhileStoreWaits.end.log ≡ record no_totals { loads = 2; load_hits = 1; stores = 2; get_s = 1; get_m = 2; from_memory = 2; from_caches = 1 } }
@@ -91,7 +84,6 @@ pub fn load_hits_while_store_waits()
 /// MESI's silent upgrade: a core that alone has the block stores without a request, and its eviction is a writeback.
 pub fn silent_upgrade()
     ensures run { TheRun Mesi two_cores (steps_of SilentUpgrade.frames) (outcomes_of SilentUpgrade.frames) SilentUpgrade.end }
-    ensures only { IsOnlyRun Mesi two_cores (steps_of SilentUpgrade.frames) (outcomes_of SilentUpgrade.frames) SilentUpgrade.end }
     ensures states { PassesThrough Mesi two_cores SilentUpgrade.frames SilentUpgrade.end }
     ensures totals { totals_of SilentUpgrade.end.log ≡ record no_totals { loads = 1; stores = 1; store_hits = 1; get_s = 1; put_m = 1; from_memory = 1; writebacks = 1 } }
     ensures values { values_of SilentUpgrade.end.log ≡ (0, 3) ∷ [] }
@@ -100,7 +92,6 @@ pub fn silent_upgrade()
 /// MESI's clean eviction: a block in E is given up without data, and the next load finds it exclusive again.
 pub fn clean_eviction()
     ensures run { TheRun Mesi two_cores (steps_of CleanEviction.frames) (outcomes_of CleanEviction.frames) CleanEviction.end }
-    ensures only { IsOnlyRun Mesi two_cores (steps_of CleanEviction.frames) (outcomes_of CleanEviction.frames) CleanEviction.end }
     ensures states { PassesThrough Mesi two_cores CleanEviction.frames CleanEviction.end }
     ensures totals { totals_of CleanEviction.end.log ≡ record no_totals { loads = 2; get_s = 2; put_m = 1; from_memory = 2; clean = 1 } }
     ensures values { values_of CleanEviction.end.log ≡ (0, 0) ∷ [] }
@@ -109,7 +100,6 @@ pub fn clean_eviction()
 /// MESI: another core's load makes a block in E shared, and memory shares it too.
 pub fn exclusive_shared()
     ensures run { TheRun Mesi two_cores (steps_of ExclusiveShared.frames) (outcomes_of ExclusiveShared.frames) ExclusiveShared.end }
-    ensures only { IsOnlyRun Mesi two_cores (steps_of ExclusiveShared.frames) (outcomes_of ExclusiveShared.frames) ExclusiveShared.end }
     ensures states { PassesThrough Mesi two_cores ExclusiveShared.frames ExclusiveShared.end }
     ensures totals { totals_of ExclusiveShared.end.log ≡ record no_totals { loads = 2; get_s = 2; from_memory = 1; from_caches = 1 } }
     ensures values { values_of ExclusiveShared.end.log ≡ (0, 0) ∷ [] }
@@ -118,7 +108,6 @@ pub fn exclusive_shared()
 /// MESI: the load of another core overtakes the eviction of a block in E, and leaves the block shared.
 pub fn exclusive_shared_while_evicting()
     ensures run { TheRun Mesi two_cores (steps_of ExclusiveSharedWhileEvicting.frames) (outcomes_of ExclusiveSharedWhileEvicting.frames) ExclusiveSharedWhileEvicting.end }
-    ensures only { IsOnlyRun Mesi two_cores (steps_of ExclusiveSharedWhileEvicting.frames) (outcomes_of ExclusiveSharedWhileEvicting.frames) ExclusiveSharedWhileEvicting.end }
     ensures states { PassesThrough Mesi two_cores ExclusiveSharedWhileEvicting.frames ExclusiveSharedWhileEvicting.end }
     ensures totals { totals_of ExclusiveSharedWhileEvicting.end.log ≡ record no_totals { loads = 2; get_s = 2; put_m = 1; from_memory = 1; from_caches = 1; stale = 1 } }
     ensures values { values_of ExclusiveSharedWhileEvicting.end.log ≡ (0, 0) ∷ [] }
@@ -127,7 +116,6 @@ pub fn exclusive_shared_while_evicting()
 /// MESI: the new owner writes back before the old owner's stale PutM is ordered, and ownership stays with memory.
 pub fn ownership_returns()
     ensures run { TheRun Mesi two_cores (steps_of OwnershipReturns.frames) (outcomes_of OwnershipReturns.frames) OwnershipReturns.end }
-    ensures only { IsOnlyRun Mesi two_cores (steps_of OwnershipReturns.frames) (outcomes_of OwnershipReturns.frames) OwnershipReturns.end }
     ensures states { PassesThrough Mesi two_cores OwnershipReturns.frames OwnershipReturns.end }
     ensures totals { totals_of OwnershipReturns.end.log ≡ record no_totals { stores = 2; get_m = 2; put_m = 2; from_memory = 1; from_caches = 1; writebacks = 1; stale = 1 } }
     ensures values { values_of OwnershipReturns.end.log ≡ (0, 9) ∷ [] }
@@ -136,7 +124,6 @@ pub fn ownership_returns()
 /// A sharer drops its copy without a request; a second eviction finds the block absent.
 pub fn drop_then_absent()
     ensures run { TheRun Msi two_cores (steps_of DropThenAbsent.frames) (outcomes_of DropThenAbsent.frames) DropThenAbsent.end }
-    ensures only { IsOnlyRun Msi two_cores (steps_of DropThenAbsent.frames) (outcomes_of DropThenAbsent.frames) DropThenAbsent.end }
     ensures states { PassesThrough Msi two_cores DropThenAbsent.frames DropThenAbsent.end }
     ensures totals { totals_of DropThenAbsent.end.log ≡ record no_totals { loads = 1; get_s = 1; from_memory = 1 } }
     ensures values { values_of DropThenAbsent.end.log ≡ (0, 0) ∷ [] }
@@ -145,7 +132,6 @@ pub fn drop_then_absent()
 /// Two blocks have open transactions at once, and their responses come in the other order: the younger load is performed first.
 pub fn two_blocks_open()
     ensures run { TheRun Msi two_blocks (steps_of TwoBlocksOpen.frames) (outcomes_of TwoBlocksOpen.frames) TwoBlocksOpen.end }
-    ensures only { IsOnlyRun Msi two_blocks (steps_of TwoBlocksOpen.frames) (outcomes_of TwoBlocksOpen.frames) TwoBlocksOpen.end }
     ensures states { PassesThrough Msi two_blocks TwoBlocksOpen.frames TwoBlocksOpen.end }
     ensures performed { answers_of TwoBlocksOpen.end.log 0 ≡ missed_load 0 0 1 0 ∷ missed_load 0 1 0 0 ∷ [] }
     ensures totals { totals_of TwoBlocksOpen.end.log ≡ record no_totals { loads = 2; get_s = 2; from_memory = 2 } }
@@ -155,7 +141,6 @@ pub fn two_blocks_open()
 /// The oldest request holds the queue: while its block's transaction is open, the core's younger request for a free block waits too.
 pub fn head_of_queue_blocks()
     ensures run { TheRun Msi two_blocks (steps_of HeadOfQueueBlocks.frames) (outcomes_of HeadOfQueueBlocks.frames) HeadOfQueueBlocks.end }
-    ensures only { IsOnlyRun Msi two_blocks (steps_of HeadOfQueueBlocks.frames) (outcomes_of HeadOfQueueBlocks.frames) HeadOfQueueBlocks.end }
     ensures states { PassesThrough Msi two_blocks HeadOfQueueBlocks.frames HeadOfQueueBlocks.end }
     ensures totals { totals_of HeadOfQueueBlocks.end.log ≡ record no_totals { loads = 3; get_s = 3; from_memory = 3 } }
     ensures values { values_of HeadOfQueueBlocks.end.log ≡ (0, 0) ∷ (1, 0) ∷ [] }
@@ -164,7 +149,6 @@ pub fn head_of_queue_blocks()
 /// With no request waiting and no transaction open, an Order and a Respond are refused, and nothing changes.
 pub fn nothing_enabled()
     ensures run { TheRun Msi two_cores (steps_of NothingEnabled.frames) (outcomes_of NothingEnabled.frames) NothingEnabled.end }
-    ensures only { IsOnlyRun Msi two_cores (steps_of NothingEnabled.frames) (outcomes_of NothingEnabled.frames) NothingEnabled.end }
     ensures states { PassesThrough Msi two_cores NothingEnabled.frames NothingEnabled.end }
     ensures totals { totals_of NothingEnabled.end.log ≡ no_totals }
     ensures values { values_of NothingEnabled.end.log ≡ [] }
@@ -173,7 +157,6 @@ pub fn nothing_enabled()
 /// A step of a core or a block that there is not is refused, the core being looked at first.
 pub fn outside_the_shape()
     ensures run { TheRun Msi two_cores (steps_of OutsideTheShape.frames) (outcomes_of OutsideTheShape.frames) OutsideTheShape.end }
-    ensures only { IsOnlyRun Msi two_cores (steps_of OutsideTheShape.frames) (outcomes_of OutsideTheShape.frames) OutsideTheShape.end }
     ensures states { PassesThrough Msi two_cores OutsideTheShape.frames OutsideTheShape.end }
     ensures totals { totals_of OutsideTheShape.end.log ≡ no_totals }
     ensures values { values_of OutsideTheShape.end.log ≡ [] }

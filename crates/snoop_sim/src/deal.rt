@@ -1,3 +1,4 @@
+//! Rows, dealt to the cores that they are of.
 ghost use Rattle.std.specs.Prelude.{◌≡◌, ℕ, ◌<◌, All, Contains, None, IfOk, length};
 ghost use Rattle.snoop_sim.specs.Todo.{todo_of, nothing_to_do, left_in, works_of};
 ghost use Rattle.snoop_trace.specs.Grammar.{IsRowWithin};

@@ -1,3 +1,4 @@
+//! The driver of rows: whose turn it is, and which step the turn takes.
 ghost use Rattle.std.specs.Prelude.{◌≡◌, ◌≢◌, ℕ, ◌<◌, ◌+◌, [], All, Contains, Option, Some, None, IfOk, IfSome, IfNone, length, slice_get};
 ghost use Rattle.snoop_history.specs.declared.items.Item.{Item};
 ghost use Rattle.snoop_machine.specs.Move.{FirstMove};

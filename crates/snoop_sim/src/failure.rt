@@ -16,6 +16,7 @@ use thiserror::Error;
 pub(crate) enum Failure {
     #[error(transparent)]
     CommandLine(clap::Error),
+    /// No command of the three was named. `clap` refuses such words before.
     #[error("NoCommand")]
     NoCommand,
     #[error("NotUtf8")]

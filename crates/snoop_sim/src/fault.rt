@@ -3,7 +3,7 @@
 use snoop_trace::{TextFault, WriteFault};
 use thiserror::Error;
 
-/// Why a simulation stopped; what was written is a beginning of its whole output, after `Text` nothing.
+/// Why a simulation stopped. After `Text` nothing was written; what was written at the others, `simulate_steps` and `simulate_run` say.
 #[derive(Clone, Copy, Debug, PartialEq, Eq, Error)]
 pub enum SimFault {
     #[error(transparent)]

@@ -1,3 +1,4 @@
+//! What one core has left to do, and the work that it has under way.
 ghost use Rattle.std.specs.Prelude.{◌≡◌, ◌∷◌, ◌++◌, [], IfNone, OnOk, option_to_list};
 ghost use Rattle.snoop_sim.specs.Todo.{nothing_to_do};
 

@@ -22,6 +22,20 @@ static PROTOCOLS: [&str; 2] = ["msi", "mesi"];
 
 static TABLES: [&str; 2] = ["cache", "memory"];
 
+static STEP_RECORDS: &str = "Each line of standard input is a step:
+  L,core,address        the core loads from the address
+  S,core,address,value  the core stores the value at the address
+  E,core,address        the core evicts the block of the address
+  O,core                the bus orders the core's oldest request
+  R,address             the response for the block of the address comes
+Numbers are decimal, or hexadecimal after 0x. An address is in bytes.";
+
+static ROW_RECORDS: &str = "Each line of standard input is what a core does next:
+  L,core,address        the core loads from the address
+  S,core,address,value  the core stores the value at the address
+  E,core,address        the core evicts the block of the address
+Numbers are decimal, or hexadecimal after 0x. An address is in bytes.";
+
 /// The task that the words ask for; the first of them is the program's own name.
 pub(crate) fn task_in(alloc: Global, words: &[String]) -> Result<Task, Failure>
     // Nothing was written yet that could fail.
@@ -56,19 +70,27 @@ fn grammar<'a>(alloc: Global) -> Result<Command<'a>, AllocError> {
             alloc,
             "steps",
             "Take the steps of standard input, and write each one's reply and a report",
+            STEP_RECORDS,
         )?)?
         .subcommand(simulation(
             alloc,
             "run",
             "Let each core do its rows of standard input, and write each step's reply and a report",
+            ROW_RECORDS,
         )?)?
         .subcommand(table(alloc)?)
 }
 
-/// A command that simulates a text on a machine of some shape.
-fn simulation<'a>(alloc: Global, name: &'a str, about: &'a str) -> Result<Command<'a>, AllocError> {
+/// A command that simulates a text of these records on a machine of some shape.
+fn simulation<'a>(
+    alloc: Global,
+    name: &'a str,
+    about: &'a str,
+    records: &'a str,
+) -> Result<Command<'a>, AllocError> {
     Command::new(alloc, name)
         .about(about)
+        .after_help(records)
         .arg(protocol(alloc))?
         .arg(number(alloc, "cores", "2", "How many cores, from 1 to 256"))?
         .arg(number(

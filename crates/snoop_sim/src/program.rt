@@ -17,7 +17,8 @@ use std::io::{ErrorKind, Write};
 /// Does what the words ask for, the first of which is the program's own name, and answers the status that the program ends
 /// with: 0 where it was done, 1 for a refused text, 2 for a command line that is not understood or a refused shape, 3 for want
 /// of memory, and 4 for a failed write. A failure is told to `errors` in one line, a command line that is not understood in
-/// `clap`'s text. After 1 and 2 nothing was written, after 3 and 4 a beginning of the output.
+/// `clap`'s text. After 1 and 2 nothing was written, after 3 and 4 a beginning of the output. The clauses have some of this; the
+/// rest is tested.
 pub fn command<R: Source + Drop, W: Sink, E: Write>(
     alloc: Global,
     words: &[String],

@@ -94,8 +94,8 @@ fn read_entries<E: Entry, R: Source + Drop>(
 /// The steps that a text gives, or its first fault.
 ///
 /// The text is a list of records as `csv` reads them: fields between commas, in double quotes or
-/// not, no header row, no comments, no trimming; lines end by LF or CRLF, and blank ones are no
-/// records. A step is one of
+/// not, no header row, no comments, no trimming. Lines end by LF, CRLF or CR, and blank ones are no
+/// records; a byte order mark at the head is passed over. A step is one of
 ///
 /// | Record | Step |
 /// |---|---|

@@ -1,3 +1,4 @@
+//! An Ask: found, and made.
 ghost use Rattle.std.specs.Prelude.{◌≡◌, ◌+◌, ◌<◌, [], ◌∷◌, ◌++◌, slice_index, slice_index_or, slice_set, IfOk, IfErr, None, Some, true, Err};
 ghost use Rattle.snoop_trace.specs.declared.step.Step.TheVariants.{Ask};
 ghost use Rattle.snoop_rules.specs.Waits.{waiting_request};
@@ -113,7 +114,7 @@ impl Parts {
     }
 }
 
-/// The reply to a hit.
+/// The reply to a hit. An Evict never hits, and no reply of a hit would be its.
 fn hit_reply(op: Op, value: u64) -> Reply
     ensures { result ≡ reply_to_hit op value }
 {

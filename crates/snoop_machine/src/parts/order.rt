@@ -1,3 +1,4 @@
+//! An Order: found, and made.
 ghost use Rattle.std.specs.Prelude.{◌≡◌, ◌<◌, IfOk, IfErr, IfSome, IfNone, None, Err, slice_get};
 ghost use Rattle.snoop_bus.specs.Queues.{queue_of};
 ghost use Rattle.snoop_machine.specs.declared.replies.Refused.{Refused};

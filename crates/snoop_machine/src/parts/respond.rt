@@ -1,3 +1,4 @@
+//! A Respond: found, and made.
 ghost use Rattle.std.specs.Prelude.{◌≡◌, ◌≢◌, ◌<◌, IfOk, IfErr, IfSome, Some, None, slice_index_or, Err};
 ghost use Rattle.snoop_trace.specs.declared.step.Step.TheVariants.{Respond};
 ghost use Rattle.snoop_rules.specs.declared.names.Request.TheVariants.{PutM};
@@ -42,7 +43,13 @@ impl Parts {
             return Err(Refused::NoTransaction);
         };
         let before = self.memory[block as usize];
-        let memory = arrive(self.protocol, before, closing.payload, closing.value);
+        let memory = arrive(
+            self.protocol,
+            before,
+            closing.request,
+            closing.payload,
+            closing.value,
+        );
         if matches!(&closing.request, Request::PutM) {
             return Ok(Plan::Writeback {
                 block,
@@ -66,7 +73,7 @@ impl Parts {
         requires room { 0 < self.old.room }
         requires opened { (picture_of self.old.situation block).transaction ≡ Some closing }
         requires put { closing.request ≡ PutM }
-        requires memory { ArrivesIn self.old.situation.protocol closing.payload closing.value (slice_index_or self.old.situation.memory block no_memory) memory }
+        requires memory { ArrivesIn closing.request self.old.situation.protocol closing.payload closing.value (slice_index_or self.old.situation.memory block no_memory) memory }
         ensures responded { Responds self.old.situation block closing None self.new.situation }
         ensures room { KeepsRoom self.old self.new }
     {
@@ -90,7 +97,7 @@ impl Parts {
         requires opened { (picture_of self.old.situation block).transaction ≡ Some closing }
         requires get { closing.request ≢ PutM }
         requires filled { FillsLine self.old.situation.protocol (line_at self.old.situation.caches closing.core block) closing.payload closing.value filled }
-        requires memory { ArrivesIn self.old.situation.protocol closing.payload closing.value (slice_index_or self.old.situation.memory block no_memory) memory }
+        requires memory { ArrivesIn closing.request self.old.situation.protocol closing.payload closing.value (slice_index_or self.old.situation.memory block no_memory) memory }
         ensures responded { Responds self.old.situation block closing (Some result) self.new.situation }
         ensures room { KeepsRoom self.old self.new }
     {

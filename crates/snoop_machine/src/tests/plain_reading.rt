@@ -5,6 +5,7 @@ mod memory_rows;
 mod plain;
 
 use crate::Machine;
+use crate::tests::support::{add, ask, next, order, respond};
 use plain::{BLOCKS, CORES, Plain};
 use snoop_history::{Item, Totals};
 use snoop_rules::{Payload, Protocol, Request};
@@ -14,35 +15,15 @@ use std::process::Abort;
 use std::test::Fail;
 
 fn load(core: u32, block: u32) -> Step {
-    Step::Ask {
-        core,
-        block,
-        op: Op::Load,
-    }
+    ask(core, block, Op::Load)
 }
 
 fn store(core: u32, block: u32, value: u64) -> Step {
-    Step::Ask {
-        core,
-        block,
-        op: Op::Store(value),
-    }
+    ask(core, block, Op::Store(value))
 }
 
 fn evict(core: u32, block: u32) -> Step {
-    Step::Ask {
-        core,
-        block,
-        op: Op::Evict,
-    }
-}
-
-fn order(core: u32) -> Step {
-    Step::Order { core }
-}
-
-fn respond(block: u32) -> Step {
-    Step::Respond { block }
+    ask(core, block, Op::Evict)
 }
 
 /// The machine and its plain reading, in step.
@@ -128,10 +109,6 @@ impl Both {
         assert_eq!(rt; self.machine.log().items(), self.plain.items.as_slice());
         assert_eq!(rt; self.machine.log().totals(), totals_of(&self.plain.items));
     }
-}
-
-fn add(count: &mut u64, one_more: bool) {
-    *count = count.saturating_add(u64::from(one_more));
 }
 
 fn totals_of(items: &[Item]) -> Totals {
@@ -362,14 +339,6 @@ fn outside_the_shape(rt: HostRuntime) -> Result<(), Fail> {
         respond(0),
     ];
     play(&rt, rt.alloc(), &steps)
-}
-
-/// The storm's next number: the upper 31 bits of a linear congruential generator.
-fn next(seed: &mut u64) -> u64 {
-    *seed = seed
-        .wrapping_mul(6364136223846793005)
-        .wrapping_add(1442695040888963407);
-    *seed >> 33
 }
 
 #[test]

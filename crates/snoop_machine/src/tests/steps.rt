@@ -1,5 +1,7 @@
+//! Steps taken one at a time, and what is prepared before them.
+
 use crate::tests::support::{ask, order, respond, two_cores};
-use crate::{Refused, Reply};
+use crate::{Machine, Refused, Reply};
 use snoop_bus::Open;
 use snoop_history::{Came, Did, Item, Sent};
 use snoop_rules::{CacheState, MemState, Payload, Protocol, Request};
@@ -16,6 +18,52 @@ fn first_miss(core: u32, block: u32, load: bool, value: u64) -> Option<Did> {
         value,
         hit: false,
     })
+}
+
+/// The core's second operation, a load that hits.
+fn second_hit(core: u32, block: u32, value: u64) -> Did {
+    Did {
+        core,
+        number: 1,
+        block,
+        load: true,
+        value,
+        hit: true,
+    }
+}
+
+/// The core's second operation, a store that misses.
+fn second_miss(core: u32, block: u32, value: u64) -> Option<Did> {
+    Some(Did {
+        core,
+        number: 1,
+        block,
+        load: false,
+        value,
+        hit: false,
+    })
+}
+
+/// What is told of block 1: of two cores, of memory and of the bus.
+#[derive(Drop, PartialEq, Eq)]
+struct Told {
+    states: [Option<CacheState>; 2],
+    kept: [Option<u64>; 2],
+    waiting: [bool; 2],
+    memory: Option<MemState>,
+    value: Option<u64>,
+    open: Option<Open>,
+}
+
+fn picture(machine: &Machine) -> Told {
+    Told {
+        states: [machine.state(0, 1), machine.state(1, 1)],
+        kept: [machine.kept(0, 1), machine.kept(1, 1)],
+        waiting: [machine.waiting(0), machine.waiting(1)],
+        memory: machine.mem_state(1),
+        value: machine.mem_value(1),
+        open: machine.open(1),
+    }
 }
 
 fn came(payload: Payload, from: Option<u32>, did: Option<Did>) -> Reply {
@@ -138,14 +186,14 @@ fn the_loser_of_an_upgrade_race_asks_for_the_whole_block(rt: HostRuntime) -> Res
 fn preparing_tells_the_item_and_changes_nothing(rt: HostRuntime) -> Result<(), Fail> {
     let mut machine = two_cores(rt.alloc())?;
     let sent = |core, request| {
-        Item::Sent(Sent {
+        Some(Item::Sent(Sent {
             core,
             request,
             block: 1,
-        })
+        }))
     };
     let arrived = |core, request, from, did| {
-        Item::Came(
+        Some(Item::Came(
             Came {
                 core,
                 request,
@@ -154,34 +202,46 @@ fn preparing_tells_the_item_and_changes_nothing(rt: HostRuntime) -> Result<(), F
                 payload: Payload::Data,
             },
             did,
-        )
+        ))
     };
     let scene = [
         (ask(0, 1, Op::Store(7)), None),
-        (order(0), Some(sent(0, Request::GetM))),
+        (order(0), sent(0, Request::GetM)),
         (
             respond(1),
-            Some(arrived(0, Request::GetM, None, first_miss(0, 1, false, 7))),
+            arrived(0, Request::GetM, None, first_miss(0, 1, false, 7)),
         ),
         (ask(1, 1, Op::Load), None),
-        (order(1), Some(sent(1, Request::GetS))),
+        (order(1), sent(1, Request::GetS)),
         (
             respond(1),
-            Some(arrived(1, Request::GetS, Some(0), first_miss(1, 1, true, 7))),
+            arrived(1, Request::GetS, Some(0), first_miss(1, 1, true, 7)),
         ),
+        (ask(0, 1, Op::Load), Some(Item::Did(second_hit(0, 1, 7)))),
+        (ask(0, 1, Op::Evict), None),
+        (ask(0, 1, Op::Evict), None),
+        (ask(1, 1, Op::Store(8)), None),
+        (order(1), sent(1, Request::GetM)),
+        (
+            respond(1),
+            arrived(1, Request::GetM, None, second_miss(1, 1, 8)),
+        ),
+        (ask(1, 1, Op::Evict), None),
+        (order(1), sent(1, Request::PutM)),
+        (respond(1), arrived(1, Request::PutM, Some(1), None)),
     ];
     for (step, entry) in scene {
         let before = machine.log().len();
+        let pictured = picture(&machine);
         assert_eq!(rt; machine.prepare(step), Ok(entry), "at {step:?}");
         assert_eq!(rt; machine.log().len(), before, "at {step:?}");
+        assert!(rt; picture(&machine) == pictured, "at {step:?}");
         assert!(rt; machine.step(step).is_ok(), "at {step:?}");
-        if entry.is_some() {
-            assert_eq!(rt; machine.log().item(before), entry, "at {step:?}");
-        }
+        assert_eq!(rt; machine.log().item(before), entry, "at {step:?}");
     }
-    assert_eq!(rt; machine.log().len(), 4);
+    assert_eq!(rt; machine.log().len(), 9);
     assert_eq!(rt; machine.mem_state(1), Some(MemState::IorS));
-    assert_eq!(rt; machine.mem_value(1), Some(7));
+    assert_eq!(rt; machine.mem_value(1), Some(8));
     assert_eq!(rt; machine.prepare(order(0)), Err(Refused::NothingWaiting));
     Ok(())
 }

@@ -1,6 +1,6 @@
 //! A storm: many steps of a few cores on a few blocks, most of them races, with every state looked at on the way.
 
-use crate::tests::support::machine_of;
+use crate::tests::support::{add, machine_of, next};
 use crate::{Machine, run_steps};
 use snoop_history::{Did, Item, Log, Totals};
 use snoop_rules::{CacheState, Payload, Protocol, Request};
@@ -12,14 +12,6 @@ use std::test::Fail;
 const CORES: u32 = 8;
 
 const BLOCKS: u32 = 4;
-
-/// The storm's next number: the upper 31 bits of a linear congruential generator.
-fn next(seed: &mut u64) -> u64 {
-    *seed = seed
-        .wrapping_mul(6364136223846793005)
-        .wrapping_add(1442695040888963407);
-    *seed >> 33
-}
 
 /// The step that a number stands for; a store stores its own place in the storm.
 fn step_of(number: u64, place: u64) -> Step {
@@ -66,10 +58,6 @@ struct Replay {
     flat: [u64; 4],
     numbers: [u64; 8],
     wrong: u64,
-}
-
-fn add(count: &mut u64, one_more: bool) {
-    *count = count.saturating_add(u64::from(one_more));
 }
 
 impl Replay {
@@ -159,6 +147,9 @@ fn storm(rt: &impl Abort, alloc: Global, protocol: Protocol) -> Result<(), Fail>
     let replay = replayed(machine.log());
     assert_eq!(rt; replay.wrong, 0);
     assert!(rt; replay.totals == machine.log().totals());
+    for (block, value) in (0..BLOCKS).zip(replay.flat) {
+        assert_eq!(rt; machine.log().flat(block), Some(value), "of block {block}");
+    }
     assert!(rt; replay.totals.stale > 0 && replay.totals.store_hits > 0);
 
     // Taken whole, the same steps do the same.

@@ -1,6 +1,7 @@
 //! Command lines that are taken, and that are refused.
 
 use crate::tests::support::run;
+use snoop_rules::{Protocol, Which, write_table};
 use std::test::Fail;
 
 // Command lines whose shape is refused, and what is told.
@@ -71,14 +72,25 @@ fn refused_command_lines(rt: HostRuntime) -> Result<(), Fail> {
 fn help_and_version(rt: HostRuntime) -> Result<(), Fail> {
     for (line, part) in [
         ("snoop --help", "Usage: snoop <COMMAND>"),
-        ("snoop --help", "steps"),
-        ("snoop --help", "run"),
-        ("snoop --help", "table"),
+        (
+            "snoop --help",
+            "\n  steps  Take the steps of standard input, and write each one's reply and a report\n",
+        ),
+        (
+            "snoop --help",
+            "\n  run    Let each core do its rows of standard input, and write each step's reply and a report\n",
+        ),
+        (
+            "snoop --help",
+            "\n  table  Write a controller's table: state, event, action and next state\n",
+        ),
         ("snoop help", "Usage: snoop <COMMAND>"),
         ("snoop steps --help", "--protocol <protocol>"),
         ("snoop steps --help", "[possible values: msi, mesi]"),
         ("snoop steps --help", "--block-bytes <block-bytes>"),
+        ("snoop steps --help", "R,address "),
         ("snoop run --help", "--protocol <protocol>"),
+        ("snoop run --help", "S,core,address,value "),
         ("snoop run --help", "--cores <cores>"),
         ("snoop run --help", "--blocks <blocks>"),
         ("snoop run --help", "--block-bytes <block-bytes>"),
@@ -112,15 +124,35 @@ fn shapes_at_their_limits(rt: HostRuntime) -> Result<(), Fail> {
 
 #[test]
 fn tables(rt: HostRuntime) -> Result<(), Fail> {
-    for (line, lines) in [
-        ("snoop table", 64),
-        ("snoop table --which cache", 64),
-        ("snoop table --protocol mesi", 78),
-        ("snoop table --which memory", 10),
-        ("snoop table --protocol mesi --which memory", 15),
+    let alloc = rt.alloc();
+    for (line, protocol, which, lines) in [
+        ("snoop table", Protocol::Msi, Which::Cache, 64),
+        ("snoop table --which cache", Protocol::Msi, Which::Cache, 64),
+        (
+            "snoop table --protocol mesi",
+            Protocol::Mesi,
+            Which::Cache,
+            78,
+        ),
+        (
+            "snoop table --which memory",
+            Protocol::Msi,
+            Which::Memory,
+            10,
+        ),
+        (
+            "snoop table --protocol mesi --which memory",
+            Protocol::Mesi,
+            Which::Memory,
+            15,
+        ),
     ] {
-        let ran = run(rt.alloc(), line, b"X\n")?;
+        let mut table = Vec::new(alloc);
+        write_table(alloc, &mut table, protocol, which)?;
+        let ran = run(alloc, line, b"X\n")?;
         assert_eq!(rt; ran.status, 0, "{line}");
+        assert_eq!(rt; ran.errors(), "", "{line}");
+        assert_eq!(rt; ran.output.as_slice(), table.as_slice(), "{line}");
         assert_eq!(rt; ran.output().lines().count(), lines, "{line}");
     }
     Ok(())

@@ -1,6 +1,6 @@
 //! Scenes of many cores on one block.
 
-use crate::tests::scene::{Scene, play};
+use crate::tests::scene::{Scene, play_scenes};
 use crate::tests::support::{run, steps_of};
 use std::alloc::Global;
 use std::test::Fail;
@@ -45,8 +45,8 @@ block 0 value 4
 fn stale_writebacks_of_four_cores(rt: HostRuntime) -> Result<(), Fail> {
     let alloc = rt.alloc();
     let scenes = STALE_WRITEBACKS.as_slice();
-    play(&rt, alloc, "snoop steps --cores 4", scenes)?;
-    play(&rt, alloc, "snoop steps --cores 4 --protocol mesi", scenes)
+    play_scenes(&rt, alloc, "snoop steps --cores 4", scenes)?;
+    play_scenes(&rt, alloc, "snoop steps --cores 4 --protocol mesi", scenes)
 }
 
 /// Who answers the store of a core, where each core stores after the one before it.

@@ -1,5 +1,6 @@
 //! What is answered and left where a reader or a writer fails.
 
+use crate::tests::scene::{BLOCK_BOUNDARY, Journey, STALE_WRITEBACK};
 use crate::tests::streams::{FailingReader, FailingWriter, Fault};
 use crate::tests::support::words_of;
 use crate::{SimFault, command, simulate_run, simulate_steps};
@@ -17,56 +18,20 @@ enum Engine {
 
 static ENGINES: [Engine; 2] = [Engine::Steps, Engine::Run];
 
-static STEPS: &[u8] = b"S,0,64,7\nO,0\nR,64\nL,1,127\nO,1\nR,64\n";
-
-static STEPS_OUTPUT: &str = "\
-S,0,64,7: issued GetM
-O,0: ordered GetM
-R,64: Data from memory, store 7
-L,1,64: issued GetS
-O,1: ordered GetS
-R,64: Data from core 0, load 7
-loads 1 hits 0
-stores 1 hits 0
-GetS 1 GetM 1 PutM 0
-from memory 1 from caches 1
-writebacks 0 clean 0 stale 0
-block 1 value 7
-";
-
-static ROWS: &[u8] = b"S,0,0,1\nE,0,0\nS,1,0,2\n";
-
-static ROWS_OUTPUT: &str = "\
-S,0,0,1: issued GetM
-S,1,0,2: issued GetM
-O,0: ordered GetM
-R,0: Data from memory, store 1
-E,0,0: issued PutM
-O,1: ordered GetM
-R,0: Data from core 0, store 2
-O,0: ordered PutM
-R,0: NoData from core 0
-loads 0 hits 0
-stores 2 hits 0
-GetS 0 GetM 2 PutM 1
-from memory 1 from caches 1
-writebacks 0 clean 0 stale 1
-block 0 value 2
-";
-
 impl Engine {
-    fn text(self) -> &'static [u8] {
+    fn journey(self) -> Journey<'static> {
         match self {
-            Engine::Steps => STEPS,
-            Engine::Run => ROWS,
+            Engine::Steps => BLOCK_BOUNDARY,
+            Engine::Run => STALE_WRITEBACK,
         }
     }
 
-    fn output(self) -> &'static str {
-        match self {
-            Engine::Steps => STEPS_OUTPUT,
-            Engine::Run => ROWS_OUTPUT,
-        }
+    fn text(self) -> &'static [u8] {
+        self.journey().text.as_bytes()
+    }
+
+    fn output(self) -> &'static [u8] {
+        self.journey().output.as_bytes()
     }
 
     /// What the simulation answers under MSI, with 2 cores and 4 blocks.
@@ -139,11 +104,7 @@ fn reader_gives_one_byte_a_call(rt: HostRuntime) -> Result<(), Fail> {
         let mut written = Vec::new(alloc);
         let ended = engine.simulate(alloc, reader, &mut written)?;
         assert_eq!(rt; ended, Ok(()), "{engine:?}");
-        assert_eq!(rt;
-            written.as_slice(),
-            engine.output().as_bytes(),
-            "{engine:?}"
-        );
+        assert_eq!(rt; written.as_slice(), engine.output(), "{engine:?}");
     }
     Ok(())
 }
@@ -167,7 +128,7 @@ fn fails_at_each_call(
     most: usize,
     fault: Fault,
 ) -> Result<usize, Fail> {
-    let output = engine.output().as_bytes();
+    let output = engine.output();
     for calls in 0..1000 {
         let mut writer = writer(alloc, calls, most, fault);
         let ended = engine.simulate(alloc, engine.text(), &mut writer)?;
@@ -206,16 +167,18 @@ fn failing_writer(rt: HostRuntime) -> Result<(), Fail> {
         (Engine::Steps, b"L,0,0\nO,0\nR,0\n".as_slice()),
         (Engine::Run, b"L,0,0\n".as_slice()),
     ] {
-        for fault in [Fault::Refuses, Fault::TakesNothing] {
-            let mut writer = writer(alloc, 12, 1, fault);
-            let ended = engine.simulate(alloc, text, &mut writer)?;
-            assert_eq!(rt; ended, Err(SimFault::Write), "{engine:?}");
-            assert_eq!(rt;
-                writer.0.held.as_slice(),
-                b"L,0,0: issue".as_slice(),
-                "{engine:?}"
-            );
-            assert_eq!(rt; writer.0.calls_after, 0, "{engine:?}");
+        for (calls, most) in [(12, 1), (1, 12)] {
+            for fault in [Fault::Refuses, Fault::TakesNothing] {
+                let mut writer = writer(alloc, calls, most, fault);
+                let ended = engine.simulate(alloc, text, &mut writer)?;
+                assert_eq!(rt; ended, Err(SimFault::Write), "{engine:?} at call {calls}");
+                assert_eq!(rt;
+                    writer.0.held.as_slice(),
+                    b"L,0,0: issue".as_slice(),
+                    "{engine:?} at call {calls}"
+                );
+                assert_eq!(rt; writer.0.calls_after, 0, "{engine:?} at call {calls}");
+            }
         }
     }
     Ok(())
@@ -224,10 +187,10 @@ fn failing_writer(rt: HostRuntime) -> Result<(), Fail> {
 #[test]
 fn failures_end_the_command(rt: HostRuntime) -> Result<(), Fail> {
     let alloc = rt.alloc();
-    for (line, text) in [("snoop steps", STEPS), ("snoop run", ROWS)] {
+    for (line, engine) in [("snoop steps", Engine::Steps), ("snoop run", Engine::Run)] {
         let words = words_of(alloc, line)?;
         let reader = AnyReader(FailingReader {
-            text,
+            text: engine.text(),
             left: 20,
             most: 1000,
         });
@@ -238,16 +201,22 @@ fn failures_end_the_command(rt: HostRuntime) -> Result<(), Fail> {
         assert_eq!(rt; errors.as_slice(), b"snoop: Read\n".as_slice(), "{line}");
         assert!(rt; output.is_empty(), "{line}");
     }
-    for (line, text) in [
-        ("snoop steps", STEPS),
-        ("snoop run", ROWS),
-        ("snoop --help", STEPS),
-        ("snoop table", STEPS),
+    for (line, engine) in [
+        ("snoop steps", Engine::Steps),
+        ("snoop run", Engine::Run),
+        ("snoop --help", Engine::Steps),
+        ("snoop table", Engine::Steps),
     ] {
         let words = words_of(alloc, line)?;
         let mut full = writer(alloc, 0, 1, Fault::Refuses);
         let mut errors = Vec::new(alloc);
-        let status = command(alloc, words.as_slice(), text, &mut full, &mut errors);
+        let status = command(
+            alloc,
+            words.as_slice(),
+            engine.text(),
+            &mut full,
+            &mut errors,
+        );
         assert_eq!(rt; status, 4, "{line}");
         assert_eq!(rt; errors.as_slice(), b"snoop: Write\n".as_slice(), "{line}");
         assert_eq!(rt; full.0.calls_after, 0, "{line}");

@@ -1,6 +1,6 @@
 //! Worked scenes under MESI, with 2 cores and 4 blocks of 64 bytes.
 
-use crate::tests::scene::{Scene, play};
+use crate::tests::scene::{Scene, play_scenes};
 use std::test::Fail;
 
 static SCENES: [Scene; 6] = [
@@ -127,7 +127,7 @@ block 0 value 4
 
 #[test]
 fn mesi_scenes(rt: HostRuntime) -> Result<(), Fail> {
-    play(
+    play_scenes(
         &rt,
         rt.alloc(),
         "snoop steps --protocol mesi",

@@ -1,6 +1,6 @@
 //! Worked scenes under MSI, with 2 cores and 4 blocks of 64 bytes.
 
-use crate::tests::scene::{Scene, play};
+use crate::tests::scene::{Scene, play_scenes};
 use std::test::Fail;
 
 static LOADS_AND_STORES: [Scene; 6] = [
@@ -238,15 +238,15 @@ writebacks 0 clean 0 stale 0
 
 #[test]
 fn loads_and_stores(rt: HostRuntime) -> Result<(), Fail> {
-    play(&rt, rt.alloc(), "snoop steps", LOADS_AND_STORES.as_slice())
+    play_scenes(&rt, rt.alloc(), "snoop steps", LOADS_AND_STORES.as_slice())
 }
 
 #[test]
 fn evictions(rt: HostRuntime) -> Result<(), Fail> {
-    play(&rt, rt.alloc(), "snoop steps", EVICTIONS.as_slice())
+    play_scenes(&rt, rt.alloc(), "snoop steps", EVICTIONS.as_slice())
 }
 
 #[test]
 fn nothing_enabled(rt: HostRuntime) -> Result<(), Fail> {
-    play(&rt, rt.alloc(), "snoop steps", NOTHING_ENABLED.as_slice())
+    play_scenes(&rt, rt.alloc(), "snoop steps", NOTHING_ENABLED.as_slice())
 }

@@ -1,31 +1,7 @@
 //! Worked texts of rows, which `run` drives.
 
-use crate::tests::support::run;
-use std::alloc::Global;
-use std::process::Abort;
+use crate::tests::scene::{Journey, STALE_WRITEBACK, play};
 use std::test::Fail;
-
-/// A text of rows, and the whole output of the steps that serve it.
-#[derive(Clone, Copy)]
-struct Journey {
-    name: &'static str,
-    rows: &'static str,
-    output: &'static str,
-}
-
-/// Runs the rows, and compares the whole output.
-fn play(rt: &impl Abort, alloc: Global, line: &str, journey: Journey) -> Result<(), Fail> {
-    let name = journey.name;
-    let ran = run(alloc, line, journey.rows.as_bytes())?;
-    assert_eq!(rt; ran.status, 0, "{name}: {line}");
-    assert!(rt; ran.errors.is_empty(), "{name}: {line}");
-    assert_eq!(rt;
-        ran.output.as_slice(),
-        journey.output.as_bytes(),
-        "{name}: {line}"
-    );
-    Ok(())
-}
 
 /// The output where core 0 stores 1 and loads, and core 1 stores 2, all in one block under MSI.
 static RACE: &str = "\
@@ -44,25 +20,6 @@ writebacks 0 clean 0 stale 0
 block 0 value 2
 ";
 
-/// The output where core 0 stores 1 and evicts, and core 1 stores 2, all in one block.
-static STALE_WRITEBACK: &str = "\
-S,0,0,1: issued GetM
-S,1,0,2: issued GetM
-O,0: ordered GetM
-R,0: Data from memory, store 1
-E,0,0: issued PutM
-O,1: ordered GetM
-R,0: Data from core 0, store 2
-O,0: ordered PutM
-R,0: NoData from core 0
-loads 0 hits 0
-stores 2 hits 0
-GetS 0 GetM 2 PutM 1
-from memory 1 from caches 1
-writebacks 0 clean 0 stale 1
-block 0 value 2
-";
-
 static BOTH: [&str; 2] = ["snoop run", "snoop run --protocol mesi"];
 
 /// With no rows there are no steps.
@@ -75,7 +32,7 @@ fn no_rows(rt: HostRuntime) -> Result<(), Fail> {
             line,
             Journey {
                 name: "no rows",
-                rows: "",
+                text: "",
                 output: "\
 loads 0 hits 0
 stores 0 hits 0
@@ -99,7 +56,7 @@ fn driven_race(rt: HostRuntime) -> Result<(), Fail> {
         "snoop run",
         Journey {
             name: "driven race",
-            rows: "S,0,0,1\nS,1,0,2\nL,0,0\n",
+            text: "S,0,0,1\nS,1,0,2\nL,0,0\n",
             output: RACE,
         },
     )
@@ -109,16 +66,7 @@ fn driven_race(rt: HostRuntime) -> Result<(), Fail> {
 #[test]
 fn driven_stale_writeback(rt: HostRuntime) -> Result<(), Fail> {
     for line in BOTH {
-        play(
-            &rt,
-            rt.alloc(),
-            line,
-            Journey {
-                name: "driven stale writeback",
-                rows: "S,0,0,1\nE,0,0\nS,1,0,2\n",
-                output: STALE_WRITEBACK,
-            },
-        )?;
+        play(&rt, rt.alloc(), line, STALE_WRITEBACK)?;
     }
     Ok(())
 }
@@ -126,27 +74,27 @@ fn driven_stale_writeback(rt: HostRuntime) -> Result<(), Fail> {
 /// The order of two rows counts on one core alone: each mixture of the cores' rows gives the same bytes.
 #[test]
 fn mixtures_of_the_cores(rt: HostRuntime) -> Result<(), Fail> {
-    for rows in [
+    for text in [
         "S,0,0,1\nL,0,0\nS,1,0,2\n",
         "S,0,0,1\nS,1,0,2\nL,0,0\n",
         "S,1,0,2\nS,0,0,1\nL,0,0\n",
     ] {
         let journey = Journey {
-            name: rows,
-            rows,
+            name: text,
+            text,
             output: RACE,
         };
         play(&rt, rt.alloc(), "snoop run", journey)?;
     }
-    for rows in [
+    for text in [
         "S,0,0,1\nE,0,0\nS,1,0,2\n",
         "S,0,0,1\nS,1,0,2\nE,0,0\n",
         "S,1,0,2\nS,0,0,1\nE,0,0\n",
     ] {
         let journey = Journey {
-            name: rows,
-            rows,
-            output: STALE_WRITEBACK,
+            name: text,
+            text,
+            output: STALE_WRITEBACK.output,
         };
         for line in BOTH {
             play(&rt, rt.alloc(), line, journey)?;
@@ -165,7 +113,7 @@ fn four_cores_store(rt: HostRuntime) -> Result<(), Fail> {
             line,
             Journey {
                 name: "four cores store",
-                rows: "S,0,0,10\nS,1,0,11\nS,2,0,12\nS,3,0,13\n",
+                text: "S,0,0,10\nS,1,0,11\nS,2,0,12\nS,3,0,13\n",
                 output: "\
 S,0,0,10: issued GetM
 S,1,0,11: issued GetM
@@ -203,7 +151,7 @@ fn one_core_alone(rt: HostRuntime) -> Result<(), Fail> {
             line,
             Journey {
                 name: "one core alone",
-                rows: "S,1,64,4\nL,1,64\nS,1,127,5\nE,1,64\nE,1,64\n",
+                text: "S,1,64,4\nL,1,64\nS,1,127,5\nE,1,64\nE,1,64\n",
                 output: "\
 S,1,64,4: issued GetM
 O,1: ordered GetM

@@ -1,33 +1,13 @@
 //! What is read, and what is refused, in a text of steps.
 
+use crate::tests::scene::{BLOCK_BOUNDARY, play};
 use crate::tests::support::run;
 use std::test::Fail;
 
 #[test]
 fn block_boundary(rt: HostRuntime) -> Result<(), Fail> {
     let alloc = rt.alloc();
-    let ran = run(
-        alloc,
-        "snoop steps",
-        b"S,0,64,7\nO,0\nR,64\nL,1,127\nO,1\nR,64\n",
-    )?;
-    assert_eq!(rt;
-        ran.output(),
-        "\
-S,0,64,7: issued GetM
-O,0: ordered GetM
-R,64: Data from memory, store 7
-L,1,64: issued GetS
-O,1: ordered GetS
-R,64: Data from core 0, load 7
-loads 1 hits 0
-stores 1 hits 0
-GetS 1 GetM 1 PutM 0
-from memory 1 from caches 1
-writebacks 0 clean 0 stale 0
-block 1 value 7
-"
-    );
+    play(&rt, alloc, "snoop steps", BLOCK_BOUNDARY)?;
     let next = run(alloc, "snoop steps", b"S,0,64,7\nO,0\nR,64\nL,1,128\n")?;
     assert_eq!(rt;
         next.output(),

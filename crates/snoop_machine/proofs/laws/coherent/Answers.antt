@@ -1,12 +1,14 @@
 -- Each clause, from the invariant of every run.
 use Rattle.std.proofs.Common.{subst}
 use Rattle.snoop_rules.specs.declared.names.Protocol.{Protocol}
+use Rattle.snoop_history.specs.History.{flat}
 use Rattle.snoop_machine.specs.Situation.{picture_of, reset}
 use Rattle.snoop_machine.specs.OneWriter.{OneWriter}
+use Rattle.snoop_machine.specs.Current.{IsCurrent}
 use Rattle.snoop_machine.specs.Meets.{FindsRows}
 use Rattle.snoop_machine.specs.Led.{IsLed}
 use Rattle.snoop_machine.proofs.Reached.{reset_coherent, run_keeps, run_protocol}
-use Rattle.snoop_machine.proofs.Clauses.{has_one_writer, finds_rows, is_led_order, meets_nothing}
+use Rattle.snoop_machine.proofs.Clauses.{has_one_writer, readers_current, finds_rows, is_led_order, meets_nothing}
 use Rattle.snoop_machine.proofs.Safety.{all_proper}
 use Rattle.snoop_machine.proofs.OnceRuns.{run_asked_once}
 use Rattle.snoop_machine.proofs.QueueSteps.{reset_queued, run_queued}
@@ -18,6 +20,10 @@ returns-clause-one_writer c p shape steps outcomes new run block =
 
 pub returns-clause-legal : goal.returns-clause-legal
 returns-clause-legal c p shape steps outcomes new run = (run_keeps steps outcomes (reset p shape) new (reset_coherent p shape) run).legal
+
+pub returns-clause-current : goal.returns-clause-current
+returns-clause-current c p shape steps outcomes new run block =
+    subst (λ (x : Protocol). IsCurrent x (picture_of new block) (flat new.log block)) (run_protocol steps outcomes (reset p shape) new run) (readers_current new (run_keeps steps outcomes (reset p shape) new (reset_coherent p shape) run) block)
 
 pub returns-clause-possible : goal.returns-clause-possible
 returns-clause-possible c p shape steps outcomes new run = meets_nothing new (run_keeps steps outcomes (reset p shape) new (reset_coherent p shape) run)

@@ -11,8 +11,5 @@ scene = told Mesi two_cores frames end tt refl refl
 pub returns-clause-run : goal.returns-clause-run
 returns-clause-run c = scene.run
 
-pub returns-clause-only : goal.returns-clause-only
-returns-clause-only c = scene.only
-
 pub returns-clause-states : goal.returns-clause-states
 returns-clause-states c = scene.states

@@ -6,7 +6,8 @@ use Rattle.snoop_machine.specs.declared.block_lines.Held.{Held}
 use Rattle.snoop_machine.specs.Picture.{held_at, nothing_held}
 use Rattle.snoop_machine.specs.Sound.{IsProper}
 use Rattle.snoop_machine.specs.BlockLines.{lines_of}
-use Rattle.snoop_machine.proofs.Reached.{nothing_proper, replicated}
+use Rattle.snoop_machine.proofs.Plain.{replicated}
+use Rattle.snoop_machine.proofs.Reached.{nothing_proper}
 use Rattle.snoop_machine.proofs.BlockLinesViews.{replicate-lines_of}
 use Rattle.snoop_machine.proofs.block_lines.BlockLines.new.Goals as goal
 

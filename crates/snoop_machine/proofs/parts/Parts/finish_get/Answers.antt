@@ -69,7 +69,7 @@ returns-clause-responded c =
     let new : Situation = record { protocol = m.protocol; shape = m.shape; caches = c.set.new.self; memory = slice_set m.memory.items block c.args.memory; transactions = c.finish.new.self.transactions; queues = queues_of c.finish.new.self.queues; log = c.push.new.self.items } in
     let G : Situation → Type 0 = λ x. Responds x block closing (Some did) new in
     let F : Situation → Type 0 = λ x. (picture_of x block).transaction ≡ Some closing in
-    let N : Situation → Type 0 = λ x. ArrivesIn x.protocol closing.payload closing.value (slice_index_or x.memory block no_memory) c.args.memory in
+    let N : Situation → Type 0 = λ x. ArrivesIn closing.request x.protocol closing.payload closing.value (slice_index_or x.memory block no_memory) c.args.memory in
     let T : Situation → Type 0 = λ x. FillsLine x.protocol (line_at x.caches core block) closing.payload closing.value filled in
     let next : Picture = record { caches = slice_set (row_of m.lines block) core filled.line; memory = c.args.memory.state; value = c.args.memory.value; transaction = None } in
     let A : Did → Type 0 = λ d. Arrives closing m.protocol m.log.items (row_of m.lines block) (slice_set (row_of m.lines block) core filled.line) (Some d) in

@@ -41,7 +41,7 @@ returns-clause-responded c =
     let new : Situation = record { protocol = m.protocol; shape = m.shape; caches = m.lines; memory = slice_set m.memory.items block c.args.memory; transactions = c.finish.new.self.transactions; queues = queues_of c.finish.new.self.queues; log = c.push.new.self.items } in
     let G : Situation → Type 0 = λ x. Responds x block closing None new in
     let F : Situation → Type 0 = λ x. (picture_of x block).transaction ≡ Some closing in
-    let N : Situation → Type 0 = λ x. ArrivesIn x.protocol closing.payload closing.value (slice_index_or x.memory block no_memory) c.args.memory in
+    let N : Situation → Type 0 = λ x. ArrivesIn closing.request x.protocol closing.payload closing.value (slice_index_or x.memory block no_memory) c.args.memory in
     let next : Picture = record { caches = row_of m.lines block; memory = c.args.memory.state; value = c.args.memory.value; transaction = None } in
     subst G is (record {
       opened = subst F (sym is) c.requires.opened;

@@ -20,8 +20,8 @@ arrive-memory-requires c = λ lacks.
     let within : c.args.block < m.shape.blocks = subst W (sym c.self.view_is) c.requires.block in
     let long = c.self.invariant.memory in
     let held : c.index-before.result.now ≡ slice_index_or m.memory.items c.args.block no_memory = get_or_read m.memory.items c.args.block c.index-before.result.now (omega arith) c.index-before.ensures no_memory in
-    let P : MemLine → Type 0 = λ x. LacksAtMemory m.protocol x.state c.in-Some.closing.payload in
-    let Q : Standing → Type 0 = λ x. LacksAtMemory x.situation.protocol (picture_of x.situation c.args.block).memory c.in-Some.closing.payload in
+    let P : MemLine → Type 0 = λ x. LacksAtMemory c.in-Some.closing.request m.protocol x.state c.in-Some.closing.payload in
+    let Q : Standing → Type 0 = λ x. LacksAtMemory c.in-Some.closing.request x.situation.protocol (picture_of x.situation c.args.block).memory c.in-Some.closing.payload in
     arrival_possible s c.requires.coherent c.args.block c.in-Some.closing c.requires.block (sym c.transaction.ensures.value ∙ c.in-Some.is)
     (subst Q c.self.view_is (subst P held lacks))
 
