@@ -1,5 +1,5 @@
 -- The board of a list with one item more.
-use Rattle.std.proofs.Common.{◌≡◌, ◌≢◌, ℕ, zero, suc, ◌+◌, ◌<◌, ◌≤◌, Bool, true, false, ◌&&◌, List, [], ◌∷◌, ◌++◌, length, Option, Some, None, refl, sym, ◌∙◌, ap, arith, map, filter, cond, subst, zero-add, add-zero}
+use Rattle.std.proofs.Common.{◌≡◌, ◌≢◌, ℕ, zero, suc, ◌+◌, ◌<◌, ◌≤◌, Bool, true, false, ◌&&◌, List, [], ◌∷◌, ◌++◌, length, Option, Some, None, refl, sym, ◌∙◌, ap, arith, map, filter, fold, cond, subst, append_assoc, zero-add, add-zero}
 use Rattle.std.specs.Prelude.{All, replicate, option_to_list, slice_index, slice_set, slice_get, ◌==◌, nat_lt, if◌then◌else◌, option_and_then}
 use Rattle.std.specs.List.{range_with_len}
 use Rattle.std.specs.Option.{option_map_or, ForSome}
@@ -15,25 +15,8 @@ use Rattle.snoop_history.specs.History.{operation_of, operations, next_number, i
 use Rattle.snoop_history.specs.Within.{core_of, block_of, IsWithin, is_within, inside}
 use Rattle.snoop_history.specs.Totals.{totals_of, capped, capped_totals}
 use Rattle.snoop_history.specs.Journal.{counted, tallied}
-use Rattle.snoop_history.specs.Board.{Tables, for_each_below, board_of, operation_within}
+use Rattle.snoop_history.specs.Board.{Tables, for_each_below, board_of, operation_within, noted, absorbed}
 use Rattle.snoop_history.proofs.Pushed.{operations-one, capped_totals-push, last_or-append}
-
--- the tables of cores and blocks after an operation
-abbrev pub noted : Tables → Option Did → Tables
-noted board None = board
-noted board (Some did) =
-    record board {
-      values = if did.load then board.values else slice_set board.values did.block did.value;
-      counts = slice_set board.counts did.core (counted (slice_index board.counts did.core) true);
-      lasts = slice_set board.lasts did.core (Some did);
-    }
-
--- a board after one more item
-abbrev pub absorbed : Tables → Item → Tables
-absorbed board entry =
-    record (noted board (operation_within (length board.counts) (length board.values) entry)) {
-      totals = tallied board.totals entry;
-    }
 
 -- two functions that agree make one list
 map-same : {A : Type 0} (f g : ℕ → A) (xs : List ℕ) → ((j : ℕ) → g j ≡ f j) → map g xs ≡ map f xs
@@ -204,6 +187,16 @@ absorbed_board cores blocks items entry =
     ∙ (noted-board cores blocks dids old new (operation_within cores blocks entry) (operation_within-lies cores blocks entry)
     ∙ ap (λ (l : List Did). board_with cores blocks l new) (sym (operations-inside-push cores blocks items entry)))))
 
+-- absorbing more items, one by one
+absorbed_on : (cores blocks : ℕ) (past items : List Item) → fold absorbed (board_of cores blocks past) items ≡ board_of cores blocks (past ++ items)
+absorbed_on cores blocks past [] = ap (board_of cores blocks) (sym (append-nil past))
+absorbed_on cores blocks past (x ∷ xs) =
+    ap (λ (t : Tables). fold absorbed t xs) (absorbed_board cores blocks past x)
+    ∙ (absorbed_on cores blocks (past ++ x ∷ []) xs ∙ ap (board_of cores blocks) (append_assoc past (x ∷ []) xs))
+
+pub absorbed_all : (cores blocks : ℕ) (items : List Item) → fold absorbed (board_of cores blocks []) items ≡ board_of cores blocks items
+absorbed_all cores blocks items = absorbed_on cores blocks [] items
+
 pub flat-if : (here : Bool) (o : Option Did) → option_and_then (λ (p : Option Did). p) (if here then Some o else None) ≡ (if here then o else None)
 flat-if true o = refl
 flat-if false o = refl
@@ -258,3 +251,16 @@ pub inside_all : (cores blocks : ℕ) (items : List Item) → All (IsWithin core
 inside_all cores blocks [] all = refl
 inside_all cores blocks (x ∷ xs) all =
     rw (within-passes cores blocks x (All-head (IsWithin cores blocks) x xs all)) (ap (λ (l : List Item). x ∷ l) (inside_all cores blocks xs (All-tail (IsWithin cores blocks) x xs all)))
+
+-- the tables of a board have its shape's lengths
+pub board_lengths : (cores blocks : ℕ) (items : List Item) → (length (board_of cores blocks items).counts ≡ cores) × (length (board_of cores blocks items).values ≡ blocks)
+board_lengths cores blocks items =
+    let dids = operations (inside cores blocks items) in
+    (length-map-range_with_len (count_in dids) 0 cores, length-map-range_with_len (value_in dids) 0 blocks)
+
+-- two boards that are one have one shape
+pub same_shape : (cores blocks cores' blocks' : ℕ) (items items' : List Item) → board_of cores blocks items ≡ board_of cores' blocks' items' → (cores ≡ cores') × (blocks ≡ blocks')
+same_shape cores blocks cores' blocks' items items' same =
+    let l = board_lengths cores blocks items in
+    let r = board_lengths cores' blocks' items' in
+    (sym l.0 ∙ (ap (λ (t : Tables). length t.counts) same ∙ r.0), sym l.1 ∙ (ap (λ (t : Tables). length t.values) same ∙ r.1))

@@ -1,14 +1,15 @@
 -- One more item: the operations, counts, flat values and totals of the longer list.
 use Rattle.std.proofs.Common.{◌≡◌, ℕ, suc, ◌+◌, ◌-◌, ◌^◌, ◌<◌, ◌≤◌, Bool, true, false, not, ◌&&◌, List, [], ◌∷◌, ◌++◌, length, Option, Some, None, refl, sym, ◌∙◌, ap, arith, map, filter, cond}
-use Rattle.std.specs.Prelude.{option_to_list, slice_index, slice_set, ◌==◌, is_some, is_none}
+use Rattle.std.specs.Prelude.{option_to_list, slice_get, slice_index, slice_set, ◌==◌, is_some, is_none}
 use Rattle.std.proofs.Common.{eqb, get_or, inl, inr}
 use Rattle.std.proofs.lemmas.Bool.{cases_eq, eq-eqb, ne_eqb}
 use Rattle.std.proofs.lemmas.List.{map-append, length-append, length-set, get_or-set_same, get_or-set_other, get_or_read}
+use Rattle.std.proofs.lemmas.Option.{slice_get-get_or, get_or_from_slice_get}
 use Rattle.std.proofs.lemmas.List.Elements.{filter-append, filter_map-append}
 use Rattle.snoop_history.specs.declared.items.Did.{Did}
 use Rattle.snoop_history.specs.declared.items.Item.{Item}
 use Rattle.snoop_history.specs.declared.items.Item.TheVariants as item
-use Rattle.snoop_history.specs.History.{operation_of, operations, answers_of, next_number, is_store_to, stored_values, last_or, flat}
+use Rattle.snoop_history.specs.History.{operation_of, operations, answers_of, next_number, is_store_to, stored_values, last_or, flat, last_of}
 use Rattle.snoop_history.specs.Totals.{how_many, totals_of, capped, capped_totals, performed, ordered, responded, is_get_s, is_get_m, is_put_m, is_data, is_no_data, is_no_data_e}
 use Rattle.snoop_history.specs.Journal.{counted, tallied}
 
@@ -35,6 +36,12 @@ next_number-push items entry core = ap length (answers_of-push items entry core)
 pub last_or-append : {A : Type 0} (value : A) (xs ys : List A) → last_or value (xs ++ ys) ≡ last_or (last_or value xs) ys
 last_or-append value [] ys = refl
 last_or-append value (x ∷ xs) ys = last_or-append x xs ys
+
+pub last_of-push : (items : List Item) (entry : Item) (core : ℕ) → last_of (items ++ entry ∷ []) core ≡ last_or (last_of items core) (map Some (of_core core (operation_of entry)))
+last_of-push items entry core =
+    ap (λ l. last_or None (map Some l)) (answers_of-push items entry core)
+    ∙ (ap (last_or None) (map-append Some (answers_of items core) (of_core core (operation_of entry)))
+    ∙ last_or-append None (map Some (answers_of items core)) (map Some (of_core core (operation_of entry))))
 
 -- the value that an operation stores in the block, if it does
 abbrev pub stored_in : ℕ → Option Did → List ℕ
@@ -147,6 +154,27 @@ module _ (items : List Item) (entry : Item) (did : Did) (performs : operation_of
             omega arith
       ]
 
+  pub latest-did : (lasts : List (Option Did)) (cores after : ℕ) → length lasts ≡ cores → after ≡ cores → ((core : ℕ) → core < cores → slice_get lasts core ≡ Some (last_of items core))
+      → did.core < cores → (core : ℕ) → core < after → slice_get (slice_set lasts did.core (Some did)) core ≡ Some (last_of (items ++ entry ∷ []) core)
+  latest-did lasts cores after as_many same latest within core inside =
+      let same_length : length (slice_set lasts did.core (Some did)) ≡ length lasts = length-set lasts did.core (Some did) in
+      let more : last_of (items ++ entry ∷ []) core ≡ last_or (last_of items core) (map Some (of_core core (Some did))) = rw performs at (last_of-push items entry core) in
+      let there : slice_get (slice_set lasts did.core (Some did)) core ≡ Some (get_or (slice_set lasts did.core (Some did)) core None) = slice_get-get_or (slice_set lasts did.core (Some did)) core None (omega arith) in
+      there ∙ ap Some (elim (cases_eq did.core core) [
+        | inl e ↦
+            let t : eqb did.core core ≡ true = eq-eqb _ _ e in
+            let new : get_or (slice_set lasts did.core (Some did)) did.core None ≡ Some did = get_or-set_same lasts did.core (Some did) None (omega arith) in
+            let one : last_or (last_of items core) (map Some (of_core core (Some did))) ≡ Some did = rw t refl in
+            let here : get_or (slice_set lasts did.core (Some did)) core None ≡ Some did = rw (← e) new in
+            here ∙ sym (more ∙ one)
+        | inr ne ↦
+            let t : eqb did.core core ≡ false = ne_eqb _ _ ne in
+            let none : last_or (last_of items core) (map Some (of_core core (Some did))) ≡ last_of items core = rw t refl in
+            let kept : get_or (slice_set lasts did.core (Some did)) core None ≡ get_or lasts core None = get_or-set_other lasts did.core core (Some did) None (λ e. ne (sym e)) in
+            let was : get_or lasts core None ≡ last_of items core = get_or_from_slice_get lasts core (last_of items core) None (latest core (omega arith)) in
+            kept ∙ was ∙ sym (more ∙ none)
+      ])
+
   pub flat-load : (flats : List ℕ) → ((block : ℕ) → block < length flats → slice_index flats block ≡ flat items block)
       → did.load ≡ true → (block : ℕ) → block < length flats → slice_index flats block ≡ flat (items ++ entry ∷ []) block
   flat-load flats flattened loads block inside =
@@ -176,6 +204,9 @@ module _ (items : List Item) (entry : Item) (did : Did) (performs : operation_of
 module _ (items : List Item) (entry : Item) (performs : operation_of entry ≡ None) where
   pub numbered-none : (core : ℕ) → next_number (items ++ entry ∷ []) core ≡ next_number items core
   numbered-none core = let more : next_number (items ++ entry ∷ []) core ≡ next_number items core + length (of_core core None) = rw performs at (next_number-push items entry core) in omega arith
+
+  pub last-none : (core : ℕ) → last_of (items ++ entry ∷ []) core ≡ last_of items core
+  last-none core = rw performs at (last_of-push items entry core)
 
   pub flat-none : (block : ℕ) → flat (items ++ entry ∷ []) block ≡ flat items block
   flat-none block = rw performs at (flat-push items entry block)

@@ -1,12 +1,13 @@
 -- What a board shows: the tables of the items that it has absorbed.
 -- Source: this project's profile.
-use Rattle.std.specs.Prelude.{ℕ, List, map, Option, None, if◌then◌else◌}
+use Rattle.std.specs.Prelude.{ℕ, true, List, length, map, Option, Some, None, slice_index, slice_set, if◌then◌else◌}
 use Rattle.std.specs.List.{range_with_len}
 use Rattle.snoop_history.specs.declared.items.Did.{Did}
 use Rattle.snoop_history.specs.declared.items.Item.{Item}
 use Rattle.snoop_history.specs.declared.items.Totals.{Totals}
 use Rattle.snoop_history.specs.History.{operation_of, next_number, flat, last_of}
 use Rattle.snoop_history.specs.Within.{is_within, inside}
+use Rattle.snoop_history.specs.Journal.{counted, tallied}
 use Rattle.snoop_history.specs.Totals.{totals_of, capped, capped_totals}
 
 -- values by block, counts and last operations by core, and totals
@@ -33,3 +34,20 @@ board_of cores blocks items =
 -- the operation that counts for a board of this shape: that of an item within it
 abbrev pub operation_within : ℕ → ℕ → Item → Option Did
 operation_within cores blocks entry = if is_within cores blocks entry then operation_of entry else None
+
+-- the tables of cores and blocks after an operation
+abbrev pub noted : Tables → Option Did → Tables
+noted board None = board
+noted board (Some did) =
+    record board {
+      values = if did.load then board.values else slice_set board.values did.block did.value;
+      counts = slice_set board.counts did.core (counted (slice_index board.counts did.core) true);
+      lasts = slice_set board.lasts did.core (Some did);
+    }
+
+-- a board after one more item
+abbrev pub absorbed : Tables → Item → Tables
+absorbed board entry =
+    record (noted board (operation_within (length board.counts) (length board.values) entry)) {
+      totals = tallied board.totals entry;
+    }

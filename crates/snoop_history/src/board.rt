@@ -1,10 +1,10 @@
 //! The running tables of a history.
-ghost use Rattle.std.specs.Prelude.{◌≡◌, ℕ, List, [], ◌∷◌, ◌++◌, length, Some, None, slice_get, option_and_then, if◌then◌else◌, nat_lt, IfOk};
+ghost use Rattle.std.specs.Prelude.{◌≡◌, ℕ, List, [], ◌∷◌, ◌++◌, length, Some, None, slice_get, option_and_then, if◌then◌else◌, nat_lt, IsTrue, ◌↔◌, IfOk};
 ghost use Rattle.snoop_history.specs.declared.items.Item.{Item};
 ghost use Rattle.snoop_history.specs.History.{next_number, flat, last_of};
 ghost use Rattle.snoop_history.specs.Within.{inside};
 ghost use Rattle.snoop_history.specs.Totals.{totals_of, capped, capped_totals};
-ghost use Rattle.snoop_history.specs.Board.{Tables, board_of};
+ghost use Rattle.snoop_history.specs.Board.{Tables, board_of, absorbed};
 
 use crate::items::{Did, Item, Totals};
 use snoop_trace::{NoMemory, Shape};
@@ -49,8 +49,18 @@ impl Board {
         })
     }
 
+    /// Whether the board is one for this shape.
+    pub fn has_shape(&self, shape: Shape) -> bool
+        ensures value { IsTrue result ↔ ((length self.now.counts ≡ shape.cores) × (length self.now.values ≡ shape.blocks)) }
+        ensures board { (cores blocks : ℕ) (items : List Item) → self.now ≡ board_of cores blocks items → (IsTrue result ↔ ((cores ≡ shape.cores) × (blocks ≡ shape.blocks))) }
+    {
+        self.counts.len() == shape.cores() as usize && self.values.len() == shape.blocks() as usize
+    }
+
     /// Takes in one more item, of any kind. It takes no memory and cannot fail.
     pub fn absorb(&mut self, item: Item)
+        ensures value { self.new ≡ absorbed self.old item }
+
         // The board of a list becomes the board of the list with the item behind it.
         ensures board { (cores blocks : ℕ) (items : List Item) → self.old ≡ board_of cores blocks items → self.new ≡ board_of cores blocks (items ++ item ∷ []) }
     {

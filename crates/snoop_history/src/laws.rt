@@ -1,8 +1,9 @@
 //! Laws of histories and boards, for the proofs of callers.
-ghost use Rattle.std.specs.Prelude.{◌≡◌, ℕ, List, [], ◌∷◌, ◌++◌, All};
+ghost use Rattle.std.specs.Prelude.{◌≡◌, ℕ, List, [], ◌∷◌, ◌++◌, fold, All};
 ghost use Rattle.snoop_history.specs.declared.items.Item.{Item};
 ghost use Rattle.snoop_history.specs.History.{Legal, Follows, flat, stores};
 ghost use Rattle.snoop_history.specs.Within.{IsWithin, inside};
+ghost use Rattle.snoop_history.specs.Board.{board_of, absorbed};
 
 /// A legal history stays legal when an item that may come next is added.
 pub fn legal_grows()
@@ -22,4 +23,14 @@ pub fn flat_grows()
 /// A board takes in the whole of a history that lies within its shape.
 pub fn inside_whole()
     ensures { (cores blocks : ℕ) (items : List Item) → All (IsWithin cores blocks) items → inside cores blocks items ≡ items }
+{}
+
+/// The board of a list with one item more.
+pub fn board_grows()
+    ensures { (cores blocks : ℕ) (items : List Item) (entry : Item) → board_of cores blocks (items ++ entry ∷ []) ≡ absorbed (board_of cores blocks items) entry }
+{}
+
+/// Items that are absorbed one by one, from the board of no items on, give the board of their list. So boards that absorb the same list are equal.
+pub fn boards_are_one()
+    ensures { (cores blocks : ℕ) (items : List Item) → fold absorbed (board_of cores blocks []) items ≡ board_of cores blocks items }
 {}

@@ -1,6 +1,6 @@
 //! The history of a machine.
 ghost use Rattle.std.specs.Prelude.{All, ◌&&◌, ◌==◌, ◌≡◌, ◌-◌, ◌<◌, ◌≤◌, ◌↔◌, [], ◌∷◌, ◌++◌, length, take, IsTrue, IfOk, IfSome, OnOk, OnErr, Some, None, slice_get, if◌then◌else◌, nat_lt};
-ghost use Rattle.snoop_history.specs.History.{next_number, flat, answers_of, IsNumbered};
+ghost use Rattle.snoop_history.specs.History.{next_number, flat, answers_of, last_of, IsNumbered};
 ghost use Rattle.snoop_history.specs.Within.{IsWithin};
 ghost use Rattle.snoop_history.specs.Totals.{totals_of};
 
@@ -9,13 +9,14 @@ use snoop_trace::{NoMemory, Shape};
 use std::alloc::Global;
 use std::marker::Model;
 
-/// The history of a machine: the items of its steps in order, with running totals, counts by core
-/// and values of flat memory by block, so that none is worked out anew.
+/// The history of a machine: the items of its steps in order, with running totals, counts and last
+/// operations by core, and values of flat memory by block, so that none is worked out anew.
 #[derive(Debug, Drop)]
 pub struct Log {
     items: Vec<Item>,
     totals: Totals,
     counts: Vec<u64>,
+    lasts: Vec<Option<Did>>,
     flat: Vec<u64>,
 }
 
@@ -37,11 +38,13 @@ impl Log {
         ensures { IfOk result (λ log. log ≡ record { cores = shape.cores; blocks = shape.blocks; items = []; room = 0 }) }
     {
         let counts = vec![in alloc; 0; shape.cores() as usize]?;
+        let lasts = vec![in alloc; None; shape.cores() as usize]?;
         let flat = vec![in alloc; 0; shape.blocks() as usize]?;
         Ok(Log {
             items: Vec::new(alloc),
             totals: Totals::default(),
             counts,
+            lasts,
             flat,
         })
     }
@@ -105,6 +108,13 @@ impl Log {
         self.counts.get(core as usize).copied()
     }
 
+    /// The core's last operation; `None` where it has none, and outside the shape. It takes no memory.
+    pub fn last(&self, core: u32) -> Option<Did>
+        ensures { result ≡ (if nat_lt core self.now.cores then last_of self.now.items core else None) }
+    {
+        self.lasts.get(core as usize).copied().flatten()
+    }
+
     /// The block's value in flat memory: the last one stored, 0 if there is none; `None` outside the shape.
     pub fn flat(&self, block: u32) -> Option<u64>
         ensures { result ≡ (if nat_lt block self.now.blocks then Some (flat self.now.items block) else None) }
@@ -142,6 +152,7 @@ impl Log {
             items: Vec::from_slice(alloc, self.items())?,
             totals: self.totals,
             counts: Vec::from_slice(alloc, &self.counts)?,
+            lasts: Vec::from_slice(alloc, &self.lasts)?,
             flat: Vec::from_slice(alloc, &self.flat)?,
         })
     }
@@ -179,6 +190,7 @@ impl Log {
         self.totals.add(item);
         if let Some(did) = item.did() {
             self.counts[did.core as usize] += 1;
+            self.lasts[did.core as usize] = Some(did);
             if !did.load {
                 self.flat[did.block as usize] = did.value;
             }

@@ -111,6 +111,9 @@ fn log_of_the_block_boundary(rt: HostRuntime) -> Result<(), Fail> {
     assert_eq!(rt; log.flat(4), None);
     assert_eq!(rt; log.count(0), Some(1));
     assert_eq!(rt; log.count(2), None);
+    assert_eq!(rt; log.last(0), Some(did(0, 0, 1, false, 7)));
+    assert_eq!(rt; log.last(1), Some(did(1, 0, 1, true, 7)));
+    assert_eq!(rt; log.last(2), None);
     assert!(rt; log.totals() == boundary_totals());
     Ok(())
 }
@@ -133,7 +136,19 @@ fn answers_and_copy(rt: HostRuntime) -> Result<(), Fail> {
     assert_eq!(rt; copy.items(), block_boundary().as_slice());
     assert_eq!(rt; copy.flat(1), Some(7));
     assert_eq!(rt; copy.count(1), Some(1));
+    assert_eq!(rt; copy.last(1), Some(did(1, 0, 1, true, 7)));
     assert!(rt; copy.totals() == boundary_totals());
+    Ok(())
+}
+
+// Of the operations of a core that performed two, the later one; of a core that performed none, nothing.
+#[test]
+fn last_of_two(rt: HostRuntime) -> Result<(), Fail> {
+    let shape = Shape::new(2, 4, 64)?;
+    let log = log_of(rt.alloc(), shape, two_blocks_open().as_slice())?;
+    assert_eq!(rt; log.count(0), Some(2));
+    assert_eq!(rt; log.last(0), Some(did(0, 1, 0, true, 0)));
+    assert_eq!(rt; log.last(1), None);
     Ok(())
 }
 

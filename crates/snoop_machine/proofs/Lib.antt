@@ -21,6 +21,9 @@ pub mod KeepingAsk
 pub mod KeepingOrder
 pub mod KeepingRespond
 pub mod Keeping
+pub mod Owed
+pub mod Closed
+pub mod AskedOnce
 pub mod TurnLaws
 pub mod Every
 pub mod OneBlock
@@ -53,6 +56,9 @@ pub mod Ample
 pub mod Rowed
 pub mod Safety
 pub mod Running
+pub mod Stays
+pub mod Replied
+pub mod AllTaken
 pub mod Onward
 pub mod OnlyOne
 pub mod BlockLinesViews

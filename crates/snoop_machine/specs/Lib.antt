@@ -2,6 +2,7 @@ pub mod Picture
 pub mod Situation
 pub mod Sends
 pub mod Move
+pub mod Replies
 pub mod Refuses
 pub mod Meets
 pub mod Message
@@ -19,11 +20,13 @@ pub mod OneWriter
 pub mod Current
 pub mod Run
 pub mod Once
+pub mod Tallied
 pub mod Led
 pub mod Turn
 pub mod WellKept
 pub mod Serving
 pub mod Quiet
+pub mod Owed
 pub mod TurnRule
 pub mod Fits
 pub mod Good

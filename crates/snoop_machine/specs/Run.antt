@@ -1,6 +1,6 @@
 -- Whole runs from reset.
 -- Source: this project's profile.
-use Rattle.std.specs.Prelude.{◌≡◌, List, [], ◌∷◌, Option, Result, Ok, Err}
+use Rattle.std.specs.Prelude.{◌≡◌, List, [], ◌∷◌, ◌++◌, map, Option, Result, Ok, Err}
 use Rattle.snoop_trace.specs.Extent.{Extent}
 use Rattle.snoop_trace.specs.declared.step.Step.{Step}
 use Rattle.snoop_rules.specs.declared.names.Protocol.{Protocol}
@@ -51,6 +51,10 @@ FirstRunFrom old (step ∷ steps) [] new = ⊥
 abbrev pub TheRun : Protocol → Extent → List Step → List (Result Reply Refused) → Situation → Type 0
 TheRun protocol shape steps outcomes new = FirstRunFrom (reset protocol shape) steps outcomes new
 
+-- the run of these steps from reset, each of them taken
+abbrev pub AllTaken : Protocol → Extent → List Step → Situation → Type 0
+AllTaken protocol shape steps new = (replies : List Reply) × TheRun protocol shape steps (map (λ reply. Ok reply) replies) new
+
 -- a fact about every run from reset: the protocol, the steps, their outcomes, and where they lead
 abbrev pub EveryRun : (Protocol → List Step → List (Result Reply Refused) → Situation → Type 0) → Type 0
 EveryRun P =
@@ -69,3 +73,13 @@ abbrev pub RunsAreOne : Type 0
 RunsAreOne =
     (protocol : Protocol) (shape : Extent) (steps : List Step) (outcomes others : List (Result Reply Refused)) (final end : Situation) →
     TheRun protocol shape steps outcomes final → TheRun protocol shape steps others end → (outcomes ≡ others) × (final ≡ end)
+
+-- a run begins at reset, with no steps
+abbrev pub TakenBegins : Type 0
+TakenBegins = (protocol : Protocol) (shape : Extent) → AllTaken protocol shape [] (reset protocol shape)
+
+-- one more step that is taken
+abbrev pub TakenGoesOn : Type 0
+TakenGoesOn =
+    (protocol : Protocol) (shape : Extent) (steps : List Step) (step : Step) (answer : Reply) (entry : Option Item) (middle new : Situation)
+    → AllTaken protocol shape steps middle → FirstMove middle step answer new entry → AllTaken protocol shape (steps ++ step ∷ []) new

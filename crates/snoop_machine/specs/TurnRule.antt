@@ -15,6 +15,7 @@ use Rattle.snoop_machine.specs.Turn.{turn_of}
 use Rattle.snoop_machine.specs.Serving.{IsServing, IsUnderWay, owed, paid}
 use Rattle.snoop_machine.specs.WellKept.{IsWellKept}
 use Rattle.snoop_machine.specs.Quiet.{IsQuiet}
+use Rattle.snoop_machine.specs.Owed.{Owes, ClosedIsLast, AskedOnce}
 
 -- a machine at reset is well kept, and serves nothing
 abbrev pub StartsWell : Type 0
@@ -69,3 +70,6 @@ pub record TurnRule : Type 0 where
   pub ends : Ends
   pub comes_to_rest : ComesToRest
   pub pays : Pays
+  pub owes : Owes
+  pub closed_is_last : ClosedIsLast
+  pub asked_once : AskedOnce

@@ -6,8 +6,9 @@ ghost use Rattle.snoop_history.specs.History.{flat, Legal};
 ghost use Rattle.snoop_machine.specs.Picture.{held_by};
 ghost use Rattle.snoop_machine.specs.Sound.{IsProper};
 ghost use Rattle.snoop_machine.specs.Situation.{picture_of, Waits};
-ghost use Rattle.snoop_machine.specs.Run.{EveryRun, RunsAreOne, RunsGoOn};
+ghost use Rattle.snoop_machine.specs.Run.{EveryRun, RunsAreOne, RunsGoOn, TakenBegins, TakenGoesOn};
 ghost use Rattle.snoop_machine.specs.Runs.{RoomIsEnough};
+ghost use Rattle.snoop_machine.specs.Tallied.{AskedAreTallied};
 ghost use Rattle.snoop_machine.specs.OneWriter.{OneWriter};
 ghost use Rattle.snoop_machine.specs.Current.{IsCurrent};
 ghost use Rattle.snoop_machine.specs.Once.{Once};
@@ -56,4 +57,16 @@ pub fn runs_are_one()
 /// contracts tell what `prepare` has made, for one step at a time.)
 pub fn room_is_enough()
     ensures { RoomIsEnough }
+{}
+
+/// Steps that were all taken from reset, and one more that is taken, were all taken.
+pub fn taken_goes_on()
+    ensures begins { TakenBegins }
+    ensures goes_on { TakenGoesOn }
+{}
+
+/// Where steps were all taken from reset, each load and store that they ask stands in the history or waits, as often as it was
+/// asked.
+pub fn asked_are_tallied()
+    ensures { AskedAreTallied }
 {}

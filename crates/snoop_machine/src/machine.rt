@@ -6,10 +6,12 @@ ghost use Rattle.snoop_history.specs.declared.items.Item.{Item};
 ghost use Rattle.snoop_history.specs.History.{flat};
 ghost use Rattle.snoop_machine.specs.declared.replies.Refused.{Refused};
 ghost use Rattle.snoop_machine.specs.declared.replies.Refused.TheVariants.{NoMemory as WantOfMemory};
+ghost use Rattle.snoop_machine.specs.declared.replies.Reply.TheVariants.{Hit};
 ghost use Rattle.snoop_machine.specs.Picture.{held_by};
 ghost use Rattle.snoop_machine.specs.Situation.{picture_of, reset, state_of};
 ghost use Rattle.snoop_machine.specs.Sound.{keeps};
 ghost use Rattle.snoop_machine.specs.Move.{FirstMove};
+ghost use Rattle.snoop_machine.specs.Replies.{IsReplyTo, IsLoadHit};
 ghost use Rattle.snoop_machine.specs.Refuses.{Refuses};
 ghost use Rattle.snoop_machine.specs.StepMove.{RefusedFor};
 ghost use Rattle.snoop_machine.specs.Standing.{KeepsRoom};
@@ -73,6 +75,9 @@ impl Machine {
         ensures exactly { (cause : Refused) → Refuses self.old.situation step cause → result ≡ Err cause }
         ensures full { result ≡ Err WantOfMemory → IsFull self.old step }
         ensures room { KeepsRoom self.old self.new }
+        ensures stays { (self.new.situation.protocol ≡ self.old.situation.protocol) × (self.new.situation.shape ≡ self.old.situation.shape) }
+        ensures replied { IfOk result (λ reply. IsReplyTo step reply) }
+        ensures hit { IfOk result (λ reply. (value : ℕ) → reply ≡ Hit value → IsLoadHit step value self.old.situation.log self.new.situation.log) }
 
         // What `prepare` told comes true.
         ensures prepared { (entry : Option Item) → IsPrepared self.old step entry → IsOk result × (self.new.situation.log ≡ self.old.situation.log ++ option_to_list entry) }
@@ -172,6 +177,7 @@ impl Machine {
 pub fn run_steps(machine: &mut Machine, steps: &[Step]) -> usize
     ensures run { HasRun machine.old steps.now result machine.new }
     ensures safe { IsSafe machine.new.situation }
+    ensures stays { (machine.new.situation.protocol ≡ machine.old.situation.protocol) × (machine.new.situation.shape ≡ machine.old.situation.shape) }
 {
     let mut taken = 0;
     for step in steps {

@@ -7,6 +7,7 @@ use Rattle.snoop_machine.specs.Standing.{Standing}
 use Rattle.snoop_machine.specs.MachineView.{MachineKeeps}
 use Rattle.snoop_machine.specs.Runs.{HasRun}
 use Rattle.snoop_machine.proofs.Safety.{is_safe}
+use Rattle.snoop_machine.proofs.Stays.{IsAlike, steps_stay}
 use Rattle.snoop_machine.proofs.Running.{Going, has_run, more_taken, more_refused}
 use Rattle.snoop_machine.proofs.machine.run_steps.Goals.{then-is_ok, else-is_ok, At-loop-step}
 use Rattle.snoop_machine.proofs.machine.run_steps.Goals as goal
@@ -51,3 +52,11 @@ returns-clause-run c =
     let so_far = subst (λ (l : List Step). Going c.machine.inside.parts l c.loop-step.taken new) all c.loop-step.invariant.0 in
     let P : Standing → Type 0 = λ s. HasRun s c.args.steps.now c.loop-step.taken new in
     subst P c.machine.view_is (has_run c.machine.inside.parts new c.args.steps.now c.loop-step.taken c.machine.invariant.coherent so_far)
+
+pub returns-clause-stays : goal.returns-clause-stays
+returns-clause-stays c =
+    let old : Standing = c.machine.inside.parts in
+    let new : Standing = c.loop-step.machine-inside.parts in
+    let so_far = c.loop-step.invariant.0 in
+    let P : Standing → Type 0 = λ s. IsAlike s.situation new.situation in
+    subst P c.machine.view_is (steps_stay (take c.loop-step.step-index c.args.steps.now) so_far.outcomes old new so_far.run)

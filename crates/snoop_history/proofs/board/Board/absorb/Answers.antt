@@ -1,8 +1,8 @@
-use Rattle.std.proofs.Common.{rules, ◌≡◌, ◌<◌, arith, ap, length, Some, true}
+use Rattle.std.proofs.Common.{rules, ◌≡◌, ◌∙◌, ◌<◌, arith, ap, length, Some, true}
 use Rattle.std.specs.Prelude.{slice_index, slice_set}
 use Rattle.std.proofs.lemmas.List.{get_or_read}
 use Rattle.snoop_history.specs.Journal.{counted}
-use Rattle.snoop_history.specs.Board.{operation_within}
+use Rattle.snoop_history.specs.Board.{Tables, operation_within, absorbed}
 use Rattle.snoop_history.proofs.Boards.{board_after, absorbed_as, operation_within-lies}
 use Rattle.snoop_history.proofs.board.Board.absorb.Goals as goal
 
@@ -15,6 +15,7 @@ returns-then-not-did c =
     let read : c.index.result.now ≡ slice_index counts core = get_or_read _ _ _ within c.index.ensures 0 in
     let one_more : c.saturating_add.result ≡ counted (slice_index counts core) true = omega arith in
     record {
+      value = (absorbed_as _ _ c.args.item c.in-Some.did own (search rules) (ap (λ n. slice_set counts core n) one_more) (search rules) (search rules)) ∙ ap (λ (t : Tables). absorbed t c.args.item) c.self.view_is;
       board = board_after _ _ _ c.args.item c.self.view_is
           (absorbed_as _ _ c.args.item c.in-Some.did own (search rules) (ap (λ n. slice_set counts core n) one_more) (search rules) (search rules));
     }
@@ -28,9 +29,10 @@ returns-else-not-did c =
     let read : c.index.result.now ≡ slice_index counts core = get_or_read _ _ _ within c.index.ensures 0 in
     let one_more : c.saturating_add.result ≡ counted (slice_index counts core) true = omega arith in
     record {
+      value = (absorbed_as _ _ c.args.item c.in-Some.did own (search rules) (ap (λ n. slice_set counts core n) one_more) (search rules) (search rules)) ∙ ap (λ (t : Tables). absorbed t c.args.item) c.self.view_is;
       board = board_after _ _ _ c.args.item c.self.view_is
           (absorbed_as _ _ c.args.item c.in-Some.did own (search rules) (ap (λ n. slice_set counts core n) one_more) (search rules) (search rules));
     }
 
 pub returns-in_default : goal.returns-in_default
-returns-in_default c = record { board = board_after _ _ _ c.args.item c.self.view_is (search rules) }
+returns-in_default c = record { value = search rules ∙ ap (λ (t : Tables). absorbed t c.args.item) c.self.view_is; board = board_after _ _ _ c.args.item c.self.view_is (search rules) }

@@ -9,7 +9,7 @@ use Rattle.snoop_history.specs.Tallied.{IsKeptList}
 use Rattle.snoop_history.specs.Totals.{totals_of}
 use Rattle.snoop_history.proofs.Legal.{listed-push, listed-same}
 use Rattle.snoop_history.specs.Journal.{Journal, tallied}
-use Rattle.snoop_history.proofs.Pushed.{totals_of-push, numbered-did, flat-load, flat-store, numbered-none, flat-none, next_number_le, none_from_not_some}
+use Rattle.snoop_history.proofs.Pushed.{totals_of-push, numbered-did, latest-did, flat-load, flat-store, numbered-none, last-none, flat-none, next_number_le, none_from_not_some}
 use Rattle.snoop_history.proofs.log.Log.push.Goals as goal
 use Rattle.snoop_history.proofs.log.Log.push.Goals.{in-Some+then-not-did, in-Some+else-not-did, in_default, After-push_reserved, After-did}
 
@@ -65,6 +65,8 @@ invariant_of-self c =
             tallied = rw (c.push_reserved.ensures.items, w.self-inside-is) (record {
               totalled = totalled d;
               numbered = numbered-did items c.args.item w.in-Some.did performs _ _ c.self.invariant.tallied.numbered (in_counts d _ performs) w.index_mut.ensures.value;
+              as_many = length-set c.self.inside.lasts.items w.in-Some.did.core _ ∙ c.self.invariant.tallied.as_many ∙ sym (length-set c.self.inside.counts.items w.in-Some.did.core _);
+              latest = latest-did items c.args.item w.in-Some.did performs c.self.inside.lasts.items _ _ c.self.invariant.tallied.as_many (length-set c.self.inside.counts.items w.in-Some.did.core _) c.self.invariant.tallied.latest (in_counts d _ performs);
               flattened = flat-store items c.args.item w.in-Some.did performs _ c.self.invariant.tallied.flattened (not-true _ w.if-not-did.true) (in_flat d _ performs);
             });
             listed = rw (c.push_reserved.ensures.items, w.self-inside-is) (listed d (sym (length-set c.self.inside.counts.items w.in-Some.did.core _)) (sym (length-set c.self.inside.flat.items w.in-Some.did.block _)));
@@ -75,6 +77,8 @@ invariant_of-self c =
             tallied = rw (c.push_reserved.ensures.items, w.self-inside-is) (record {
               totalled = totalled d;
               numbered = numbered-did items c.args.item w.in-Some.did performs _ _ c.self.invariant.tallied.numbered (in_counts d _ performs) w.index_mut.ensures.value;
+              as_many = length-set c.self.inside.lasts.items w.in-Some.did.core _ ∙ c.self.invariant.tallied.as_many ∙ sym (length-set c.self.inside.counts.items w.in-Some.did.core _);
+              latest = latest-did items c.args.item w.in-Some.did performs c.self.inside.lasts.items _ _ c.self.invariant.tallied.as_many (length-set c.self.inside.counts.items w.in-Some.did.core _) c.self.invariant.tallied.latest (in_counts d _ performs);
               flattened = flat-load items c.args.item w.in-Some.did performs _ c.self.invariant.tallied.flattened (not-false _ w.if-not-did.false);
             });
             listed = rw (c.push_reserved.ensures.items, w.self-inside-is) (listed d (sym (length-set c.self.inside.counts.items w.in-Some.did.core _)) refl);
@@ -85,6 +89,8 @@ invariant_of-self c =
             tallied = rw (c.push_reserved.ensures.items, w.self-inside-is) (record {
               totalled = totalled d;
               numbered = λ core inside. c.self.invariant.tallied.numbered core inside ∙ sym (numbered-none items c.args.item performs core);
+              as_many = c.self.invariant.tallied.as_many;
+              latest = λ core inside. c.self.invariant.tallied.latest core inside ∙ ap Some (sym (last-none items c.args.item performs core));
               flattened = λ block inside. c.self.invariant.tallied.flattened block inside ∙ sym (flat-none items c.args.item performs block);
             });
             listed = rw (c.push_reserved.ensures.items, w.self-inside-is) (listed d refl refl);

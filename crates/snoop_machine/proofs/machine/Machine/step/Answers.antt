@@ -5,6 +5,8 @@ use Rattle.snoop_machine.specs.MachineView.{MachineKeeps}
 use Rattle.snoop_machine.specs.Once.{OnceMore}
 use Rattle.snoop_machine.proofs.Safety.{step_keeps, is_safe}
 use Rattle.snoop_machine.proofs.StepLaws.{step_once}
+use Rattle.snoop_machine.proofs.Stays.{step_stays, IsAlike}
+use Rattle.snoop_machine.proofs.Replied.{Hits, step_replies, step_hits}
 use Rattle.snoop_machine.proofs.machine.Machine.step.Goals as goal
 use Rattle.snoop_machine.proofs.machine.Machine.step.Goals.{After-step}
 
@@ -22,3 +24,16 @@ pub returns-clause-once : goal.returns-clause-once
 returns-clause-once c =
     let P : Standing → Type 0 = λ s. IfOk c.step.result (λ reply. OnceMore s.situation (c.args.step ∷ []) (Ok reply ∷ []) c.step.new.self.situation) in
     subst P c.self.view_is (step_once c.self.inside.parts.situation c.step.new.self.situation c.args.step c.step.result c.self.invariant.coherent c.step.ensures.taken)
+
+pub returns-clause-stays : goal.returns-clause-stays
+returns-clause-stays c =
+    let P : Standing → Type 0 = λ s. IsAlike s.situation c.step.new.self.situation in
+    subst P c.self.view_is (step_stays c.self.inside.parts c.step.new.self c.args.step c.step.result c.step.ensures.taken c.step.ensures.refused)
+
+pub returns-clause-replied : goal.returns-clause-replied
+returns-clause-replied c = step_replies c.self.inside.parts.situation c.step.new.self.situation c.args.step c.step.result c.step.ensures.taken
+
+pub returns-clause-hit : goal.returns-clause-hit
+returns-clause-hit c =
+    let P : Standing → Type 0 = λ s. Hits s.situation.log c.step.new.self.situation.log c.args.step c.step.result in
+    subst P c.self.view_is (step_hits c.self.inside.parts.situation c.step.new.self.situation c.args.step c.step.result c.step.ensures.taken)
