@@ -175,6 +175,9 @@ fn takes_only_the_next_number_within_the_shape(rt: HostRuntime) -> Result<(), Fa
 fn board_of_the_block_boundary(rt: HostRuntime) -> Result<(), Fail> {
     let shape = Shape::new(2, 4, 64)?;
     let mut board = board_of(rt.alloc(), shape, block_boundary().as_slice())?;
+    assert!(rt; board.has_shape(shape));
+    assert!(rt; !board.has_shape(Shape::new(3, 4, 64)?));
+    assert!(rt; !board.has_shape(Shape::new(2, 5, 64)?));
     for get_s in [1, 2] {
         assert_eq!(rt; board.value(1), Some(7));
         assert_eq!(rt; board.value(0), Some(0));

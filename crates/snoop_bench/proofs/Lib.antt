@@ -1,0 +1,6 @@
+pub mod Recorded
+pub mod Places
+pub mod Waiting
+pub mod Turning
+pub mod Closing
+pub mod Outcomes

@@ -1,0 +1,25 @@
+-- A recorded run after one more step.
+use Rattle.std.proofs.Common.{◌≡◌, ℕ, List, [], ◌∷◌, ◌++◌, Option, refl, sym, ap, ◌∙◌, subst}
+use Rattle.std.specs.Prelude.{option_to_list}
+use Rattle.snoop_trace.specs.Extent.{Extent}
+use Rattle.snoop_trace.specs.declared.step.Step.{Step}
+use Rattle.snoop_rules.specs.declared.names.Protocol.{Protocol}
+use Rattle.snoop_history.specs.declared.items.Item.{Item}
+use Rattle.snoop_machine.specs.declared.replies.Reply.{Reply}
+use Rattle.snoop_machine.specs.Situation.{Situation}
+use Rattle.snoop_machine.specs.Move.{FirstMove}
+use Rattle.snoop_machine.specs.Run.{AllTaken}
+use Rattle.snoop_machine.proofs.AllTaken.{taken_goes_on}
+
+-- `prepare` leaves the situation as it is, so the step is a move from the one before it
+pub moved : (s prepared t : Situation) (step : Step) (answer : Reply) (entry told : Option Item) → prepared ≡ s → entry ≡ told → FirstMove prepared step answer t entry → FirstMove s step answer t told
+moved s prepared t step answer entry told same is move =
+    subst (λ (x : Situation). FirstMove x step answer t told) same (subst (λ (e : Option Item). FirstMove prepared step answer t e) is move)
+
+pub run_on : (s t : Situation) (steps after : List Step) (step : Step) (answer : Reply) (entry : Option Item) → AllTaken s.protocol s.shape steps s → FirstMove s step answer t entry
+    → t.protocol ≡ s.protocol → t.shape ≡ s.shape → after ≡ steps ++ step ∷ [] → AllTaken t.protocol t.shape after t
+run_on s t steps after step answer entry run move protocol shape is =
+    let on : AllTaken s.protocol s.shape (steps ++ step ∷ []) t = taken_goes_on s.protocol s.shape steps step answer entry s t run move in
+    let one : AllTaken s.protocol s.shape after t = subst (λ (l : List Step). AllTaken s.protocol s.shape l t) (sym is) on in
+    let two : AllTaken s.protocol t.shape after t = subst (λ (e : Extent). AllTaken s.protocol e after t) (sym shape) one in
+    subst (λ (p : Protocol). AllTaken p t.shape after t) (sym protocol) two

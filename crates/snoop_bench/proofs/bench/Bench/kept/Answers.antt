@@ -1,0 +1,22 @@
+use Rattle.std.proofs.Common.{◌≡◌, ◌∙◌, sym, ap, subst}
+use Rattle.snoop_machine.specs.Situation.{Situation}
+use Rattle.snoop_machine.specs.WellKept.{IsWellKept}
+use Rattle.snoop_bench.specs.Locked.{Locked, IsKept}
+use Rattle.snoop_bench.specs.Keeps.{locked}
+use Rattle.snoop_bench.proofs.Outcomes.{ends_with, closed_turn}
+use Rattle.snoop_bench.proofs.bench.Bench.kept.Goals as goal
+
+pub returns-clause-kept : goal.returns-clause-kept
+returns-clause-kept c =
+    let s = c.self.inside.recorder.situation in
+    let u = c.self.invariant in
+    let r = c.recorded.ensures in
+    let well : IsWellKept s = subst IsWellKept c.machine.ensures c.coherent.ensures.well_kept in
+    let kept : IsKept (locked c.self.inside) = record {
+      run = r.run;
+      places = u.places;
+      serving = u.serving;
+      closed = λ core work its isnt closed. ends_with s core work (c.turns_are_served.ensures.closed_is_last s core work.block work.op work.op well (u.owed core work its isnt) (closed_turn s core work.block work.op closed));
+      published = r.published;
+    } in
+    subst IsKept c.self.view_is kept

@@ -1,0 +1,28 @@
+-- Why a turn is refused.
+-- Source: this project's profile.
+use Rattle.std.specs.Prelude.{◌≡◌, ◌≢◌, ℕ, ◌<◌, ◌≤◌, Some}
+use Rattle.snoop_bench.specs.declared.work.Work.{Work}
+use Rattle.snoop_bench.specs.declared.work.AdvanceFault.{AdvanceFault}
+use Rattle.snoop_bench.specs.declared.work.AdvanceFault.TheVariants.{NoCore, NoBlock, Other, NoMemory}
+use Rattle.snoop_bench.specs.Works.{work_at}
+use Rattle.snoop_bench.specs.Locked.{Locked}
+
+-- the core and the block are within the shape
+abbrev pub IsInside : ℕ → Work → Locked → Type 0
+IsInside core work b = (core < b.situation.shape.cores) × (work.block < b.situation.shape.blocks)
+
+-- the core has another work under way
+abbrev pub HasOther : ℕ → Work → Work → Locked → Type 0
+HasOther core work other b = (work_at b.works core ≡ Some other) × (other ≢ work)
+
+-- when each fault is answered; out of memory only where no other fault holds
+abbrev pub Denied : AdvanceFault → ℕ → Work → Locked → Type 0
+Denied NoCore core work b = b.situation.shape.cores ≤ core
+Denied NoBlock core work b = (core < b.situation.shape.cores) × (b.situation.shape.blocks ≤ work.block)
+Denied (Other other) core work b = IsInside core work b × HasOther core work other b
+Denied NoMemory core work b = IsInside core work b × ((other : Work) → ¬ HasOther core work other b)
+
+-- the fault, where there is one beside memory, is answered
+abbrev pub IsDenied : AdvanceFault → ℕ → Work → Locked → Type 0
+IsDenied NoMemory core work b = ⊥
+IsDenied fault core work b = Denied fault core work b

@@ -1,0 +1,31 @@
+-- What the type of a bench keeps.
+-- Source: this project's profile.
+use Rattle.std.specs.Prelude.{◌≡◌, ◌≢◌, ℕ, List, length, Option, Some}
+use Rattle.snoop_trace.specs.declared.step.Op.{Op}
+use Rattle.snoop_trace.specs.declared.step.Op.TheVariants as op
+use Rattle.snoop_machine.specs.Situation.{Situation}
+use Rattle.snoop_machine.specs.Once.{waits_for}
+use Rattle.snoop_machine.specs.Serving.{IsServing}
+use Rattle.snoop_machine.specs.Owed.{IsOwed}
+use Rattle.snoop_bench.specs.declared.work.Work.{Work}
+use Rattle.snoop_bench.specs.declared.bench.Bench.TheInside.{Inside}
+use Rattle.snoop_bench.specs.Works.{work_at, under_way}
+use Rattle.snoop_bench.specs.Locked.{Locked}
+
+-- a bench as callers see it
+abbrev pub locked : Inside → Locked
+locked b = record { situation = b.recorder.situation; steps = b.recorder.steps; works = b.works.items; published = b.recorder.published }
+
+-- works under way fit a situation
+pub record AreUnderWay (works : List (Option Work)) (s : Situation) : Type 0 where
+  pub places : length works ≡ s.shape.cores
+  -- a core waits, and has a transaction open, on no block but that of its work under way
+  pub serving : IsServing (under_way works) s
+  -- an operation that waits is that of the core's work under way
+  pub waiting : (core block : ℕ) (wanted : Op) → waits_for s core block wanted ≡ 1 → work_at works core ≡ Some (record { block = block; op = wanted })
+  -- the load or store of a work under way waits, or is the core's last operation
+  pub owed : (core : ℕ) (work : Work) → work_at works core ≡ Some work → work.op ≢ op.Evict → IsOwed s core work.block work.op
+
+-- what every bench keeps
+abbrev pub Keeps : Inside → Type 0
+Keeps b = AreUnderWay b.works.items b.recorder.situation

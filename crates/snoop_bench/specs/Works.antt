@@ -1,0 +1,25 @@
+-- A core's work under way, and the operation that does it.
+-- Source: this project's profile.
+use Rattle.std.specs.Prelude.{◌≡◌, ℕ, List, Option, true, false, slice_get, option_map, option_and_then}
+use Rattle.snoop_trace.specs.declared.step.Op.{Op}
+use Rattle.snoop_trace.specs.declared.step.Op.TheVariants as op
+use Rattle.snoop_history.specs.declared.items.Did.{Did}
+use Rattle.snoop_bench.specs.declared.work.Work.{Work}
+
+-- the core's work under way, if any
+abbrev pub work_at : List (Option Work) → ℕ → Option Work
+work_at works core = option_and_then (λ work. work) (slice_get works core)
+
+-- the block of the core's work under way
+abbrev pub under_way : List (Option Work) → ℕ → Option ℕ
+under_way works core = option_map (λ work. work.block) (work_at works core)
+
+-- the operation is a load, or a store of the value; an eviction is none
+abbrev pub IsOp : Op → Did → Type 0
+IsOp op.Load did = did.load ≡ true
+IsOp (op.Store value) did = (did.load ≡ false) × (did.value ≡ value)
+IsOp op.Evict did = ⊥
+
+-- the operation does the work
+abbrev pub Does : Did → Work → Type 0
+Does did work = (did.block ≡ work.block) × IsOp work.op did

@@ -1,0 +1,255 @@
+//! The value under the lock.
+ghost use Rattle.std.specs.Prelude.{◌≡◌, ◌≢◌, ◌<◌, ◌^◌, true, false, is_some, length, IsOk, IfOk, IfErr, OnOk, OnErr, Err, Some, None, slice_set};
+ghost use Rattle.snoop_rules.specs.Waits.{waiting_request};
+ghost use Rattle.snoop_machine.specs.declared.replies.Reply.{Reply};
+ghost use Rattle.snoop_machine.specs.Situation.{state_of};
+ghost use Rattle.snoop_machine.specs.Safe.{IsSafe};
+ghost use Rattle.snoop_machine.specs.Turn.{turn_of};
+ghost use Rattle.snoop_bench.specs.declared.work.AdvanceFault.{AdvanceFault};
+ghost use Rattle.snoop_bench.specs.Works.{work_at};
+ghost use Rattle.snoop_bench.specs.Locked.{opened, record_of, IsKept};
+ghost use Rattle.snoop_bench.specs.Turns.{Turns, TurnsIn};
+ghost use Rattle.snoop_bench.specs.Turns.Case.{asks, ends, over};
+ghost use Rattle.snoop_bench.specs.Recording.{Takes};
+ghost use Rattle.snoop_bench.specs.Faults.{IsInside, Denied, IsDenied};
+
+use crate::outcome::{asked, note, over, set_work};
+use crate::recorder::Recorder;
+use crate::work::{AdvanceFault, Turn, Work};
+use snoop_history::Log;
+use snoop_machine::turns_are_served;
+use snoop_rules::Protocol;
+use snoop_trace::{NoMemory, Shape, Step};
+use snoop_versions::Readers;
+use std::alloc::Global;
+use std::marker::Model;
+use std::sync::Wait;
+
+/// What lies under the lock: a machine with the steps that it has taken, each core's work under way, and the writer of versions.
+///
+/// It is not `Drop`: end it by `end`.
+pub struct Bench {
+    recorder: Recorder,
+    works: Vec<Option<Work>>,
+}
+
+impl Model for Bench {
+    ghost use Rattle.snoop_bench.specs.Locked.{Locked};
+    ghost use Rattle.snoop_bench.specs.Keeps.{locked, Keeps};
+
+    ghost Value = { Locked };
+
+    ghost view = { locked };
+
+    ghost invariant = { Keeps };
+}
+
+impl Bench {
+    /// A bench with a machine at reset, no work under way, and places for so many readers of its versions.
+    ///
+    /// `NoMemory` where a growth was refused.
+    pub fn new(
+        alloc: Global,
+        protocol: Protocol,
+        shape: Shape,
+        readers: usize,
+    ) -> Result<Bench, NoMemory>
+        requires { (0 < readers) × (readers < 2 ^ 32) }
+        ensures { IfOk result (λ bench. bench ≡ opened protocol shape) }
+    {
+        turns_are_served();
+        let works = vec![in alloc; None; shape.cores() as usize]?;
+        let recorder = Recorder::new(alloc, protocol, shape, readers)?;
+        Ok(Bench { recorder, works })
+    }
+
+    /// What makes readers of the published versions. `NoMemory` where a growth was refused.
+    pub fn readers(&self) -> Result<Readers, NoMemory> {
+        self.recorder.readers()
+    }
+
+    /// The machine's protocol.
+    pub fn protocol(&self) -> Protocol
+        ensures { result ≡ self.now.situation.protocol }
+    {
+        self.recorder.machine().protocol()
+    }
+
+    /// The machine's shape.
+    pub fn shape(&self) -> Shape
+        ensures { result ≡ self.now.situation.shape }
+    {
+        self.recorder.machine().shape()
+    }
+
+    /// What every bench keeps, whatever was done with it: its situation and log are those of the run of its steps from reset, all
+    /// taken; a core waits only for its work under way; and the published list is the log. This does nothing: a proof calls it for
+    /// what it ensures.
+    pub fn kept(&self)
+        ensures kept { IsKept self.now }
+        ensures safe { IsSafe self.now.situation }
+    {
+        let _ = &self.works;
+        self.recorder.recorded();
+        self.recorder.machine().coherent();
+        turns_are_served();
+    }
+
+    /// The history of all that was performed, ordered and answered.
+    pub fn log(&self) -> &Log
+        ensures items { result.now.items ≡ self.now.situation.log }
+        ensures shape { (result.now.cores ≡ self.now.situation.shape.cores) × (result.now.blocks ≡ self.now.situation.shape.blocks) }
+    {
+        self.recorder.machine().log()
+    }
+
+    /// The steps that were taken, in order, from reset on.
+    pub fn steps(&self) -> &[Step]
+        ensures { result.now ≡ self.now.steps }
+    {
+        self.recorder.steps()
+    }
+
+    /// The core's work under way; `None` where there is none, and outside the shape.
+    pub fn work(&self, core: u32) -> Option<Work>
+        ensures { result ≡ work_at self.now.works core }
+    {
+        self.works.get(core as usize).copied().flatten()
+    }
+
+    /// One turn of the core with a work: at most one step, whose item is published before this returns.
+    ///
+    /// With no work under way the core asks for it. If its request waits, the request is ordered where the block is free; otherwise
+    /// the block's open transaction gets its response. If the open transaction is its own, or another core's turn closed it, the
+    /// work is over. A fault changes nothing. `Other` where the core has another work under way; `NoMemory` where a growth was
+    /// refused.
+    pub fn advance<R: Wait>(&mut self, rt: &R, core: u32, work: Work) -> Result<Turn, AdvanceFault>
+        ensures ok { IfOk result (λ given. Turns core work given self.old self.new) }
+        ensures err { IfErr result (λ fault. Denied fault core work self.old × (self.new ≡ self.old)) }
+        ensures exactly { (fault : AdvanceFault) → IsDenied fault core work self.old → result ≡ Err fault }
+
+        // A turn that takes no step takes no memory.
+        ensures closed { IsInside core work self.old → work_at self.old.works core ≡ Some work → turn_of self.old.situation core work.block work.op true ≡ None → IsOk result }
+    {
+        let shape = self.shape();
+        if core >= shape.cores() {
+            return Err(AdvanceFault::NoCore);
+        }
+        if work.block >= shape.blocks() {
+            return Err(AdvanceFault::NoBlock);
+        }
+        let Some(under_way) = self.work(core) else {
+            let Ok(turn) = self.begin(rt, core, work) else {
+                return Err(AdvanceFault::NoMemory);
+            };
+            return Ok(turn);
+        };
+        if under_way != work {
+            return Err(AdvanceFault::Other(under_way));
+        }
+        let Ok(turn) = self.go_on(rt, core, work) else {
+            return Err(AdvanceFault::NoMemory);
+        };
+        Ok(turn)
+    }
+
+    // The core, which has no work under way, asks.
+    fn begin<R: Wait>(&mut self, rt: &R, core: u32, work: Work) -> Result<Turn, NoMemory>
+        requires inside { IsInside core work self.old }
+        requires idle { work_at self.old.works core ≡ None }
+        ensures ok { IfOk result (λ given. TurnsIn asks core work given self.old self.new) }
+        ensures err { OnErr result (self.new ≡ self.old) }
+    {
+        turns_are_served();
+        self.recorder.machine().coherent();
+        let step = Step::Ask {
+            core,
+            block: work.block,
+            op: work.op,
+        };
+        let reply = self.recorder.take(rt, step)?;
+        self.recorder.machine().coherent();
+        note(&mut self.works, core, work, reply);
+        Ok(asked(reply))
+    }
+
+    // The core goes on with its work under way.
+    fn go_on<R: Wait>(&mut self, rt: &R, core: u32, work: Work) -> Result<Turn, NoMemory>
+        requires inside { IsInside core work self.old }
+        requires its { work_at self.old.works core ≡ Some work }
+        ensures ok { IfOk result (λ given. Turns core work given self.old self.new) }
+        ensures err { OnErr result (self.new ≡ self.old) }
+        ensures closed { turn_of self.old.situation core work.block work.op true ≡ None → IsOk result }
+    {
+        let machine = self.recorder.machine();
+        let Some(step) = machine.turn_step(core, work.block, work.op, true) else {
+            return Ok(self.close(core, work));
+        };
+        if machine.waits_on(core, work.block) {
+            self.serve(rt, core, work, step)?;
+            return Ok(Turn::Going);
+        }
+        let turn = self.finish(rt, core, work, step)?;
+        Ok(turn)
+    }
+
+    // Takes the step of a core whose request waits.
+    fn serve<R: Wait>(&mut self, rt: &R, core: u32, work: Work, step: Step) -> Result<(), NoMemory>
+        requires inside { IsInside core work self.old }
+        requires its { work_at self.old.works core ≡ Some work }
+        requires step { turn_of self.old.situation core work.block work.op true ≡ Some step }
+        requires waits { is_some (waiting_request (state_of self.old.situation core work.block)) ≡ true }
+        ensures ok { OnOk result ((answer : Reply) × (Takes step answer (record_of self.old) (record_of self.new) × (self.new.works ≡ self.old.works))) }
+        ensures err { OnErr result (self.new ≡ self.old) }
+    {
+        turns_are_served();
+        self.recorder.machine().coherent();
+        self.recorder.take(rt, step)?;
+        self.recorder.machine().coherent();
+        Ok(())
+    }
+
+    // Takes the response for the core's own transaction.
+    fn finish<R: Wait>(
+        &mut self,
+        rt: &R,
+        core: u32,
+        work: Work,
+        step: Step,
+    ) -> Result<Turn, NoMemory>
+        requires inside { IsInside core work self.old }
+        requires its { work_at self.old.works core ≡ Some work }
+        requires step { turn_of self.old.situation core work.block work.op true ≡ Some step }
+        requires waits { is_some (waiting_request (state_of self.old.situation core work.block)) ≡ false }
+        ensures ok { IfOk result (λ given. TurnsIn ends core work given self.old self.new) }
+        ensures err { OnErr result (self.new ≡ self.old) }
+    {
+        turns_are_served();
+        self.recorder.machine().coherent();
+        self.recorder.take(rt, step)?;
+        self.recorder.machine().coherent();
+        let last = self.recorder.machine().log().last(core);
+        set_work(&mut self.works, core, None);
+        Ok(over(work.op, last))
+    }
+
+    // Another core's turn has closed the work.
+    fn close(&mut self, core: u32, work: Work) -> Turn
+        requires inside { IsInside core work self.old }
+        requires its { work_at self.old.works core ≡ Some work }
+        requires closed { turn_of self.old.situation core work.block work.op true ≡ None }
+        ensures { TurnsIn over core work result self.old self.new }
+    {
+        turns_are_served();
+        self.recorder.machine().coherent();
+        let last = self.recorder.machine().log().last(core);
+        set_work(&mut self.works, core, None);
+        over(work.op, last)
+    }
+
+    /// Waits for the readers that are inside, and gives the versions up.
+    pub fn end<R: Wait>(self, rt: &R) {
+        let Bench { recorder, works: _ } = self;
+        recorder.end(rt);
+    }
+}

@@ -1,0 +1,12 @@
+//! What lies under the lock of a shared machine: the machine, its steps, each core's work under way, and the writer of versions.
+#![tactic(auto)]
+
+mod bench;
+mod outcome;
+mod recorder;
+#[cfg(test)]
+mod tests;
+mod work;
+
+pub use bench::Bench;
+pub use work::{AdvanceFault, Evicted, Turn, Work};

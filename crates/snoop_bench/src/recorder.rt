@@ -1,0 +1,145 @@
+//! A machine whose steps are recorded, and whose items are published as they come.
+ghost use Rattle.std.specs.Prelude.{◌≡◌, ◌<◌, ◌^◌, ℕ, [], ◌∷◌, ◌++◌, IfOk, OnOk, OnErr, Ok, Option, option_to_list};
+ghost use Rattle.snoop_machine.specs.declared.replies.Refused.{Refused};
+ghost use Rattle.snoop_machine.specs.declared.replies.Reply.TheVariants.{Hit};
+ghost use Rattle.snoop_machine.specs.Situation.{Situation, reset};
+ghost use Rattle.snoop_machine.specs.Refuses.{Refuses};
+ghost use Rattle.snoop_machine.specs.Replies.{IsReplyTo, IsLoadHit};
+ghost use Rattle.snoop_machine.specs.Once.{OnceMore};
+ghost use Rattle.snoop_machine.specs.Standing.{Standing};
+ghost use Rattle.snoop_machine.specs.Prepared.{IsPrepared};
+ghost use Rattle.snoop_bench.specs.Recording.{IsRecorded, Takes};
+
+use snoop_history::Item;
+use snoop_machine::{Machine, Refused, Reply};
+use snoop_rules::Protocol;
+use snoop_trace::{NoMemory, Shape, Step};
+use snoop_versions::{Readers, VersionWriter};
+use std::alloc::Global;
+use std::marker::Model;
+use std::sync::Wait;
+
+/// A machine at the end of the run of its recorded steps, and the writer that has published its log.
+pub(crate) struct Recorder {
+    machine: Machine,
+    steps: Vec<Step>,
+    writer: VersionWriter,
+}
+
+impl Model for Recorder {
+    ghost use Rattle.snoop_bench.specs.Recording.{Recording, Records, recording};
+
+    ghost Value = { Recording };
+
+    ghost view = { recording };
+
+    ghost invariant = { Records };
+}
+
+impl Recorder {
+    /// A machine at reset, with places for so many readers.
+    pub(crate) fn new(
+        alloc: Global,
+        protocol: Protocol,
+        shape: Shape,
+        readers: usize,
+    ) -> Result<Recorder, NoMemory>
+        requires { (0 < readers) × (readers < 2 ^ 32) }
+        ensures { IfOk result (λ recorder. recorder ≡ record { situation = reset protocol shape; steps = []; published = [] }) }
+    {
+        let machine = Machine::reset(alloc, protocol, shape)?;
+        let writer = VersionWriter::new(alloc, shape, readers)?;
+        Ok(Recorder {
+            machine,
+            steps: Vec::new(alloc),
+            writer,
+        })
+    }
+
+    /// What makes readers of the published versions.
+    pub(crate) fn readers(&self) -> Result<Readers, NoMemory> {
+        self.writer.readers()
+    }
+
+    pub(crate) fn machine(&self) -> &Machine
+        ensures { result.now.situation ≡ self.now.situation }
+    {
+        &self.machine
+    }
+
+    pub(crate) fn steps(&self) -> &[Step]
+        ensures { result.now ≡ self.now.steps }
+    {
+        self.steps.as_slice()
+    }
+
+    /// Every recorder is the run of its steps. This does nothing: a proof calls it for what it ensures.
+    pub(crate) fn recorded(&self)
+        ensures { IsRecorded self.now }
+    {
+        let _ = &self.machine;
+    }
+
+    /// Takes a step that no cause refuses, and publishes its item. `NoMemory` changes nothing: all growths come before the step.
+    pub(crate) fn take<R: Wait>(&mut self, rt: &R, step: Step) -> Result<Reply, NoMemory>
+        requires { (cause : Refused) → ¬ Refuses self.old.situation step cause }
+        ensures takes { IfOk result (λ answer. Takes step answer self.old self.new) }
+        ensures replied { IfOk result (λ answer. IsReplyTo step answer) }
+        ensures hit { IfOk result (λ answer. (value : ℕ) → answer ≡ Hit value → IsLoadHit step value self.old.situation.log self.new.situation.log) }
+        ensures once { IfOk result (λ answer. OnceMore self.old.situation (step ∷ []) (Ok answer ∷ []) self.new.situation) }
+        ensures stays { (self.new.situation.protocol ≡ self.old.situation.protocol) × (self.new.situation.shape ≡ self.old.situation.shape) }
+        ensures err { OnErr result (self.new ≡ self.old) }
+    {
+        let Ok(()) = self.steps.reserve(1) else {
+            return Err(NoMemory);
+        };
+        let Ok(item) = prepared(&mut self.machine, step) else {
+            return Err(NoMemory);
+        };
+        let Ok(()) = ready(&mut self.writer, item) else {
+            return Err(NoMemory);
+        };
+        let Ok(reply) = self.machine.step(step) else {
+            unreachable!()
+        };
+        let _ = self.machine.log().items();
+        self.steps.push_reserved(step);
+        self.writer.publish(rt);
+        Ok(reply)
+    }
+
+    /// Waits for the readers that are inside, and gives the versions up.
+    pub(crate) fn end<R: Wait>(self, rt: &R) {
+        let Recorder {
+            machine: _,
+            steps: _,
+            writer,
+        } = self;
+        writer.end(rt);
+    }
+}
+
+/// Makes the room for a step that no cause refuses, and reports the item that it will add.
+fn prepared(machine: &mut Machine, step: Step) -> Result<Option<Item>, NoMemory>
+    requires { (cause : Refused) → ¬ Refuses machine.old.situation step cause }
+    ensures ok { IfOk result (λ item. IsPrepared machine.new step item) }
+    ensures unchanged { machine.new.situation ≡ machine.old.situation }
+{
+    match machine.prepare(step) {
+        Ok(item) => Ok(item),
+        Err(Refused::NoMemory) => Err(NoMemory),
+        Err(_) => unreachable!(),
+    }
+}
+
+/// Appends the item, if there is one, for the next publication.
+fn ready(writer: &mut VersionWriter, item: Option<Item>) -> Result<(), NoMemory>
+    requires { writer.old.ready ≡ [] }
+    ensures ok { OnOk result (writer.new ≡ record writer.old { ready = option_to_list item }) }
+    ensures err { OnErr result (writer.new ≡ writer.old) }
+{
+    match item {
+        Some(item) => writer.prepare(item),
+        None => Ok(()),
+    }
+}

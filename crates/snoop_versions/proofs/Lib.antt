@@ -1,0 +1,4 @@
+pub mod Versions
+pub mod Published
+pub mod Shown
+pub mod Followed

@@ -1,0 +1,6 @@
+use Rattle.snoop_versions.specs.Knows.{knows}
+use Rattle.snoop_versions.proofs.Versions.{sees}
+use Rattle.snoop_versions.proofs.enter.enter_shape.Goals as goal
+
+pub enter_as-requires : goal.enter_as-requires
+enter_as-requires c = sees c.args.reader.place.id (knows c.args.reader.place)

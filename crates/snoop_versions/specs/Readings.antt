@@ -1,0 +1,28 @@
+-- What a writer shows and a reader sees of the published versions.
+-- Source: this project's profile.
+use Rattle.std.specs.Prelude.{◌≡◌, ℕ, List, ◌++◌}
+use Rattle.snoop_history.specs.declared.items.Item.{Item}
+use Rattle.snoop_history.specs.History.{Legal}
+
+-- what the writer shows: the shape, the list whose board is published, and the item that is appended and not published yet
+pub record Publishing : Type 0 where
+  pub cores : ℕ
+  pub blocks : ℕ
+  pub list : List Item
+  pub ready : List Item
+
+-- what a reader shows: the shape, and the list that it has seen last
+pub record Viewing : Type 0 where
+  pub cores : ℕ
+  pub blocks : ℕ
+  pub seen : List Item
+
+-- the list begins with the other
+abbrev pub StartsWith : List Item → List Item → Type 0
+StartsWith list first = (rest : List Item) × (list ≡ first ++ rest)
+
+-- the reader has entered a version: its list is legal, begins with what was seen before, and is of the same shape
+pub record Enters (s t : Viewing) : Type 0 where
+  pub legal : Legal t.seen
+  pub begins : StartsWith t.seen s.seen
+  pub shape : (t.cores ≡ s.cores) × (t.blocks ≡ s.blocks)

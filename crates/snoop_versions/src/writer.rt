@@ -1,0 +1,87 @@
+//! What publishes versions.
+ghost use Rattle.std.specs.Prelude.{◌≡◌};
+
+use crate::publish::publish;
+use crate::reader::Readers;
+use crate::rule::RuledWriter;
+use crate::version::Version;
+use core::mem::replace_with;
+use snoop_history::Item;
+use snoop_trace::{NoMemory, Shape};
+use std::alloc::Global;
+use std::marker::Model;
+use std::mem::ManuallyDrop;
+use std::sync::Wait;
+
+/// The writer of the versions that readers see. It is not `Drop`: end it by `end`. It may lie under a lock.
+pub struct VersionWriter {
+    shape: Shape,
+    // A guard of a lock needs a way to drop what it guards, and a writer has none.
+    writer: ManuallyDrop<RuledWriter>,
+}
+
+impl Model for VersionWriter {
+    ghost use Rattle.std.specs.Prelude.{drop};
+    ghost use Rattle.std.specs.Mem.{manually_drop_value};
+    ghost use Rattle.snoop_versions.specs.Readings.{Publishing};
+
+    ghost Value = { Publishing };
+
+    ghost use Rattle.snoop_versions.specs.Knows.{knows};
+    ghost use Rattle.snoop_versions.specs.Rule.{IsPublishing};
+
+    ghost view = { λ w. record { cores = w.shape.cores; blocks = w.shape.blocks; list = (knows (manually_drop_value w.writer).desk.place).seen; ready = drop (manually_drop_value w.writer).behind (manually_drop_value w.writer).log.items } };
+
+    ghost invariant = { λ w. IsPublishing w.shape.cores w.shape.blocks (knows (manually_drop_value w.writer).desk.place) (manually_drop_value w.writer).desk.shown.value (drop (manually_drop_value w.writer).behind (manually_drop_value w.writer).log.items) };
+}
+
+impl VersionWriter {
+    ghost use Rattle.std.specs.Prelude.{◌≡◌, ◌<◌, ◌^◌, [], ◌∷◌, ◌++◌, All, IfOk, OnOk, OnErr};
+    ghost use Rattle.snoop_history.specs.History.{Legal};
+    ghost use Rattle.snoop_history.specs.Within.{IsWithin};
+
+    /// The writer of the version of no items, for this shape, with places for so many readers. `NoMemory` where it was refused.
+    pub fn new(alloc: Global, shape: Shape, readers: usize) -> Result<VersionWriter, NoMemory>
+        requires { (0 < readers) × (readers < 2 ^ 32) }
+        ensures { IfOk result (λ writer. writer ≡ record { cores = shape.cores; blocks = shape.blocks; list = []; ready = [] }) }
+    {
+        let first = Version::new(alloc, shape)?;
+        let second = Version::new(alloc, shape)?;
+        let writer = RuledWriter::new(alloc, first, second, readers)?;
+        // SAFETY: whoever has the writer of versions ends it, by `end`.
+        let writer = unsafe { ManuallyDrop::new_unchecked(writer) };
+        Ok(VersionWriter { shape, writer })
+    }
+
+    /// What makes readers. `NoMemory` where the count of its owners is full.
+    pub fn readers(&self) -> Result<Readers, NoMemory> {
+        Ok(Readers::over(self.writer.factory().another()?))
+    }
+
+    /// Appends the item that `publish` will show. `NoMemory` leaves all as it was.
+    pub fn prepare(&mut self, item: Item) -> Result<(), NoMemory>
+        requires { self.old.ready ≡ [] }
+        ensures ok { OnOk result (self.new ≡ record self.old { ready = item ∷ [] }) }
+        ensures err { OnErr result (self.new ≡ self.old) }
+    {
+        self.writer.append(item).map_err(|_| NoMemory)
+    }
+
+    /// Shows readers the item that is ready. It waits for those that still read the version before the last. With nothing
+    /// ready it does nothing. It takes no memory.
+    pub fn publish<R: Wait>(&mut self, rt: &R)
+        requires legal { Legal (self.old.list ++ self.old.ready) }
+        requires within { All (IsWithin self.old.cores self.old.blocks) (self.old.list ++ self.old.ready) }
+        ensures { self.new ≡ record self.old { list = self.old.list ++ self.old.ready; ready = [] } }
+    {
+        if self.writer.has_pending_operations() {
+            replace_with(&mut *self.writer, rt, publish);
+        }
+    }
+
+    /// Ends the versions: readers find none from then on. It waits for those that still read.
+    pub fn end<R: Wait>(self, rt: &R) {
+        let VersionWriter { shape: _, writer } = self;
+        drop(ManuallyDrop::into_inner(writer).take(rt));
+    }
+}
