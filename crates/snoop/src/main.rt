@@ -16,7 +16,7 @@ fn main(rt: HostRuntime) -> ExitCode {
     let mut writer = AnyWriter(rt.stdout());
     let mut errors = AnyWriter(rt.stderr());
     let status = match words(&rt) {
-        Ok(words) => command(rt.alloc(), &words, reader, &mut writer, &mut errors),
+        Ok(words) => command(&rt, rt.alloc(), &words, reader, &mut writer, &mut errors),
         Err(cause) => refuse_words(cause, &mut errors),
     };
     ExitCode::from(status)

@@ -45,7 +45,7 @@ impl Model for Bench {
 }
 
 impl Bench {
-    /// A bench with a machine at reset, no work under way, and places for so many readers of its versions.
+    /// A bench with a machine at reset, no work under way, and `readers` reading places.
     ///
     /// `NoMemory` where a growth was refused.
     pub fn new(
@@ -63,7 +63,7 @@ impl Bench {
         Ok(Bench { recorder, works })
     }
 
-    /// What makes readers of the published versions. `NoMemory` where a growth was refused.
+    /// What makes readers of the published versions. `NoMemory` where the count of its owners is full.
     pub fn readers(&self) -> Result<Readers, NoMemory> {
         self.recorder.readers()
     }

@@ -37,7 +37,7 @@ impl Model for Recorder {
 }
 
 impl Recorder {
-    /// A machine at reset, with places for so many readers.
+    /// A machine at reset, with `readers` reading places.
     pub(crate) fn new(
         alloc: Global,
         protocol: Protocol,

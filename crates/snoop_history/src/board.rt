@@ -49,7 +49,7 @@ impl Board {
         })
     }
 
-    /// Whether the board is one for this shape.
+    /// Whether the board has this shape's numbers of cores and blocks.
     pub fn has_shape(&self, shape: Shape) -> bool
         ensures value { IsTrue result ↔ ((length self.now.counts ≡ shape.cores) × (length self.now.values ≡ shape.blocks)) }
         ensures board { (cores blocks : ℕ) (items : List Item) → self.now ≡ board_of cores blocks items → (IsTrue result ↔ ((cores ≡ shape.cores) × (blocks ≡ shape.blocks))) }
@@ -61,7 +61,7 @@ impl Board {
     pub fn absorb(&mut self, item: Item)
         ensures value { self.new ≡ absorbed self.old item }
 
-        // The board of a list becomes the board of the list with the item behind it.
+        // The board of a list becomes the board of the list with the item appended.
         ensures board { (cores blocks : ℕ) (items : List Item) → self.old ≡ board_of cores blocks items → self.new ≡ board_of cores blocks (items ++ item ∷ []) }
     {
         let did = item.operation_within(self.counts.len(), self.values.len());

@@ -8,4 +8,6 @@ pub mod Served
 pub mod Journey
 pub mod Driven
 pub mod SimulatedRun
+pub mod ThreadsFault
+pub mod Threaded
 pub mod Status

@@ -3,16 +3,26 @@
 use Rattle.std.specs.Prelude.{ℕ}
 use Rattle.snoop_trace.specs.declared.fault.TextFault.TheVariants as text
 use Rattle.snoop_sim.specs.declared.failure.Failure.{Failure}
-use Rattle.snoop_sim.specs.declared.failure.Failure.TheVariants.{CommandLine, NoCommand, NotUtf8, Shape, Simulation}
+use Rattle.snoop_sim.specs.declared.failure.Failure.TheVariants.{CommandLine, NoCommand, NotUtf8, Shape, Simulation, Threads}
 use Rattle.snoop_sim.specs.declared.fault.SimFault.{SimFault}
 use Rattle.snoop_sim.specs.declared.fault.SimFault.TheVariants.{Text, NoMemory, Write}
+use Rattle.snoop_sim.specs.declared.fault.ThreadsFault.{ThreadsFault}
+use Rattle.snoop_sim.specs.declared.fault.ThreadsFault.TheVariants as threads
 
--- 1 for a refused text, 3 for want of memory, 4 for a failed write
+-- 1 for a refused text, 3 for out of memory, 4 for a failed write
 abbrev pub status_of_fault : SimFault → ℕ
 status_of_fault (Text text.NoMemory) = 3
 status_of_fault (Text _) = 1
 status_of_fault NoMemory = 3
 status_of_fault Write = 4
+
+-- the same for a simulation in threads, and 5 for what else the threads were refused
+abbrev pub status_of_threads : ThreadsFault → ℕ
+status_of_threads (threads.Text text.NoMemory) = 3
+status_of_threads (threads.Text _) = 1
+status_of_threads threads.NoMemory = 3
+status_of_threads threads.Write = 4
+status_of_threads _ = 5
 
 -- 2 for the command line or the shape
 abbrev pub status_of : Failure → ℕ
@@ -21,3 +31,4 @@ status_of NoCommand = 2
 status_of NotUtf8 = 2
 status_of (Shape fault) = 2
 status_of (Simulation fault) = status_of_fault fault
+status_of (Threads fault) = status_of_threads fault

@@ -4,7 +4,7 @@ ghost use Rattle.std.specs.IoError.{error_kind};
 ghost use Rattle.std.specs.declared.io.ErrorKind.TheVariants as io_kind;
 ghost use Rattle.snoop_sim.specs.Status.{status_of};
 
-use crate::fault::SimFault;
+use crate::fault::{SimFault, ThreadsFault};
 use clap::error::ErrorKind;
 use snoop_trace::{ShapeFault, TextFault};
 use std::alloc::AllocError;
@@ -16,7 +16,7 @@ use thiserror::Error;
 pub(crate) enum Failure {
     #[error(transparent)]
     CommandLine(clap::Error),
-    /// No command of the three was named. `clap` refuses such words before.
+    /// No command of the four was named. `clap` refuses such words before.
     #[error("NoCommand")]
     NoCommand,
     #[error("NotUtf8")]
@@ -25,6 +25,8 @@ pub(crate) enum Failure {
     Shape(ShapeFault),
     #[error(transparent)]
     Simulation(SimFault),
+    #[error(transparent)]
+    Threads(ThreadsFault),
 }
 
 impl From<ShapeFault> for Failure {
@@ -46,6 +48,17 @@ impl From<SimFault> for Failure {
 
     fn from(fault: SimFault) -> Self {
         Failure::Simulation(fault)
+    }
+}
+
+impl From<ThreadsFault> for Failure {
+    ghost use Rattle.std.specs.Prelude.{◌≡◌};
+    ghost use Rattle.snoop_sim.specs.declared.failure.Failure.TheVariants as failure;
+
+    ghost from_gives = { λ e r. r ≡ failure.Threads e };
+
+    fn from(fault: ThreadsFault) -> Self {
+        Failure::Threads(fault)
     }
 }
 
@@ -93,7 +106,7 @@ impl Failure {
     }
 
     /// The status that the program ends with: 1 for a refused text, 2 for the command line or the shape,
-    /// 3 for want of memory, and 4 for a failed write.
+    /// 3 for out of memory, 4 for a failed write, and 5 for what else the threads were refused.
     pub(crate) fn status(&self) -> u8
         ensures { result ≡ status_of self.now }
     {
@@ -103,6 +116,10 @@ impl Failure {
             Failure::Simulation(SimFault::Text(TextFault::NoMemory) | SimFault::NoMemory) => 3,
             Failure::Simulation(SimFault::Text(_)) => 1,
             Failure::Simulation(SimFault::Write) => 4,
+            Failure::Threads(ThreadsFault::Text(TextFault::NoMemory) | ThreadsFault::NoMemory) => 3,
+            Failure::Threads(ThreadsFault::Text(_)) => 1,
+            Failure::Threads(ThreadsFault::Write) => 4,
+            Failure::Threads(_) => 5,
         }
     }
 }

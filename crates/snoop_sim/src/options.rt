@@ -15,6 +15,7 @@ pub(crate) enum Task {
     Help(Error),
     Steps(Protocol, Shape),
     Run(Protocol, Shape),
+    Threads(Protocol, Shape),
     Table(Protocol, Which),
 }
 
@@ -54,6 +55,7 @@ fn task_of(matches: &ArgMatches) -> Result<Task, Failure>
     match matches.subcommand() {
         Some(("table", options)) => Ok(Task::Table(protocol_in(options), which_in(options))),
         Some(("run", options)) => Ok(Task::Run(protocol_in(options), shape_in(options)?)),
+        Some(("threads", options)) => Ok(Task::Threads(protocol_in(options), shape_in(options)?)),
         Some(("steps", options)) => Ok(Task::Steps(protocol_in(options), shape_in(options)?)),
         _ => Err(Failure::NoCommand),
     }
@@ -76,6 +78,12 @@ fn grammar<'a>(alloc: Global) -> Result<Command<'a>, AllocError> {
             alloc,
             "run",
             "Let each core do its rows of standard input, and write each step's reply and a report",
+            ROW_RECORDS,
+        )?)?
+        .subcommand(simulation(
+            alloc,
+            "threads",
+            "Let a thread for each core do its rows of standard input, and write the steps that were taken",
             ROW_RECORDS,
         )?)?
         .subcommand(table(alloc)?)

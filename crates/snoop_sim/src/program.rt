@@ -1,37 +1,43 @@
 //! What the program does with its words and streams, and the status that it ends with.
 ghost use Rattle.std.specs.Prelude.{◌≡◌, ◌≢◌, ◌<◌, ◌⊎◌, true, IfErr};
 ghost use Rattle.std.specs.IoError.{error_kind};
-ghost use Rattle.snoop_sim.specs.Status.{status_of, status_of_fault};
+ghost use Rattle.snoop_sim.specs.Status.{status_of};
 
 use crate::failure::Failure;
 use crate::fault::SimFault;
 use crate::options::{Task, task_in};
 use crate::run::simulate_run;
 use crate::steps::simulate_steps;
+use crate::threads::simulate_threads;
 use snoop_rules::write_table;
 use snoop_trace::{Sink, Source, write_whole};
 use std::alloc::Global;
 use std::io;
 use std::io::{ErrorKind, Write};
+use std::sync::Wait;
+use std::thread::Threads;
 
 /// Does what the words ask for, the first of which is the program's own name, and answers the status that the program ends
-/// with: 0 where it was done, 1 for a refused text, 2 for a command line that is not understood or a refused shape, 3 for want
-/// of memory, and 4 for a failed write. A failure is told to `errors` in one line, a command line that is not understood in
-/// `clap`'s text. After 1 and 2 nothing was written, after 3 and 4 a beginning of the output. The clauses have some of this; the
-/// rest is tested.
-pub fn command<R: Source + Drop, W: Sink, E: Write>(
+/// with: 0 where it was done, 1 for a refused text, 2 for a command line that is not understood or a refused shape, 3 for out
+/// of memory, 4 for a failed write, and 5 where the threads of `threads` were refused for another cause. A failure is reported
+/// to `errors` in one line, a command line that is not understood in `clap`'s text. After 1, 2 and 5 nothing was written, after
+/// 3 and 4 a beginning of the output. The clauses have some of this; the rest is tested.
+pub fn command<T: Threads + Wait + Sync, R: Source + Drop, W: Sink, E: Write>(
+    rt: &T,
     alloc: Global,
     words: &[String],
     reader: R,
     writer: &mut W,
     errors: &mut E,
 ) -> u8
-    ensures known { result < 5 }
+    ensures known { result < 6 }
     // A text, a command line or a shape is refused before anything is written.
     ensures unwritten { 0 < result → result < 3 → W.contents writer.new ≡ W.contents writer.old }
+    // Refused threads have written nothing.
+    ensures refused { result ≡ 5 → W.contents writer.new ≡ W.contents writer.old }
     ensures never_blamed { W.never_fails ≡ true → result ≢ 4 }
 {
-    match perform(alloc, words, reader, writer) {
+    match perform(rt, alloc, words, reader, writer) {
         Ok(()) => 0,
         Err(failure) => tell(errors, &failure),
     }
@@ -47,35 +53,44 @@ pub fn refuse_words<E: Write>(cause: io::Error, errors: &mut E) -> u8
 }
 
 /// Does what the words ask for.
-fn perform<R: Source + Drop, W: Sink>(
+fn perform<T: Threads + Wait + Sync, R: Source + Drop, W: Sink>(
+    rt: &T,
     alloc: Global,
     words: &[String],
     reader: R,
     writer: &mut W,
 ) -> Result<(), Failure>
     ensures unwritten { IfErr result (λ failure. status_of failure < 3 → W.contents writer.new ≡ W.contents writer.old) }
+    ensures refused { IfErr result (λ failure. status_of failure ≡ 5 → W.contents writer.new ≡ W.contents writer.old) }
     ensures never_blamed { IfErr result (λ failure. W.never_fails ≡ true → status_of failure ≢ 4) }
 {
     let task = task_in(alloc, words)?;
-    perform_task(alloc, task, reader, writer)?;
-    Ok(())
+    perform_task(rt, alloc, task, reader, writer)
 }
 
-fn perform_task<R: Source + Drop, W: Sink>(
+fn perform_task<T: Threads + Wait + Sync, R: Source + Drop, W: Sink>(
+    rt: &T,
     alloc: Global,
     task: Task,
     reader: R,
     writer: &mut W,
-) -> Result<(), SimFault>
-    ensures unwritten { IfErr result (λ fault. status_of_fault fault < 3 → W.contents writer.new ≡ W.contents writer.old) }
-    ensures never_blamed { IfErr result (λ fault. W.never_fails ≡ true → fault ≢ SimFault.Write) }
+) -> Result<(), Failure>
+    ensures unwritten { IfErr result (λ failure. status_of failure < 3 → W.contents writer.new ≡ W.contents writer.old) }
+    ensures refused { IfErr result (λ failure. status_of failure ≡ 5 → W.contents writer.new ≡ W.contents writer.old) }
+    ensures never_blamed { IfErr result (λ failure. W.never_fails ≡ true → status_of failure ≢ 4) }
 {
     match task {
-        Task::Help(help) => write_help(alloc, writer, &help),
-        Task::Steps(protocol, shape) => simulate_steps(alloc, reader, writer, protocol, shape),
-        Task::Run(protocol, shape) => simulate_run(alloc, reader, writer, protocol, shape),
-        Task::Table(protocol, which) => Ok(write_table(alloc, writer, protocol, which)?),
+        Task::Help(help) => write_help(alloc, writer, &help)?,
+        Task::Steps(protocol, shape) => simulate_steps(alloc, reader, writer, protocol, shape)?,
+        Task::Run(protocol, shape) => simulate_run(alloc, reader, writer, protocol, shape)?,
+        Task::Threads(protocol, shape) => simulate_threads(
+            rt, alloc, reader, writer, protocol, shape,
+        )?,
+        Task::Table(protocol, which) => write_table(alloc, writer, protocol, which).map_err(
+            SimFault::from,
+        )?,
     }
+    Ok(())
 }
 
 fn write_help<W: Sink>(alloc: Global, writer: &mut W, help: &clap::Error) -> Result<(), SimFault>

@@ -9,4 +9,5 @@ mod scene;
 mod streams;
 mod support;
 mod texts;
+mod threads;
 mod words;

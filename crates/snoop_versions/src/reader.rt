@@ -22,8 +22,8 @@ impl Readers {
         Readers { factory }
     }
 
-    /// A reader of versions of this shape, which has seen the version of now. `None` where there is no place left, where the
-    /// writer has ended, and where the versions are of another shape.
+    /// A reader of versions of this shape, which has read the current version. `None` where there is no place left, where the
+    /// writer has ended, and where the versions are of another number of cores or blocks.
     pub fn reader(&self, shape: Shape) -> Option<VersionReader>
         ensures shape { IfSome result (λ reader. (reader.cores ≡ shape.cores) × (reader.blocks ≡ shape.blocks)) }
         ensures legal { IfSome result (λ reader. Legal reader.seen) }

@@ -40,7 +40,7 @@ impl VersionWriter {
     ghost use Rattle.snoop_history.specs.History.{Legal};
     ghost use Rattle.snoop_history.specs.Within.{IsWithin};
 
-    /// The writer of the version of no items, for this shape, with places for so many readers. `NoMemory` where it was refused.
+    /// The writer of the version of no items, for this shape, with `readers` reading places. `NoMemory` where a growth was refused.
     pub fn new(alloc: Global, shape: Shape, readers: usize) -> Result<VersionWriter, NoMemory>
         requires { (0 < readers) × (readers < 2 ^ 32) }
         ensures { IfOk result (λ writer. writer ≡ record { cores = shape.cores; blocks = shape.blocks; list = []; ready = [] }) }

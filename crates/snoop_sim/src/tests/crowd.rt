@@ -101,7 +101,7 @@ fn stale_writebacks_of_all_cores(rt: HostRuntime) -> Result<(), Fail> {
         "snoop steps --cores 256",
         "snoop steps --cores 256 --protocol mesi",
     ] {
-        let ran = run(alloc, line, steps.as_bytes())?;
+        let ran = run(&rt, alloc, line, steps.as_bytes())?;
         assert_eq!(rt; ran.status, 0, "{line}");
         assert_eq!(rt; ran.output(), wanted.as_str(), "{line}");
     }
@@ -138,7 +138,7 @@ fn all_cores_store(rt: HostRuntime) -> Result<(), Fail> {
     let alloc = rt.alloc();
     let wanted = stores_of_all_cores(alloc)?;
     let steps = steps_of(alloc, wanted.as_str())?;
-    let ran = run(alloc, "snoop steps --cores 256", steps.as_bytes())?;
+    let ran = run(&rt, alloc, "snoop steps --cores 256", steps.as_bytes())?;
     assert_eq!(rt; ran.status, 0);
     assert_eq!(rt; ran.output(), wanted.as_str());
     Ok(())

@@ -187,7 +187,11 @@ fn failing_writer(rt: HostRuntime) -> Result<(), Fail> {
 #[test]
 fn failures_end_the_command(rt: HostRuntime) -> Result<(), Fail> {
     let alloc = rt.alloc();
-    for (line, engine) in [("snoop steps", Engine::Steps), ("snoop run", Engine::Run)] {
+    for (line, engine) in [
+        ("snoop steps", Engine::Steps),
+        ("snoop run", Engine::Run),
+        ("snoop threads", Engine::Run),
+    ] {
         let words = words_of(alloc, line)?;
         let reader = AnyReader(FailingReader {
             text: engine.text(),
@@ -196,7 +200,14 @@ fn failures_end_the_command(rt: HostRuntime) -> Result<(), Fail> {
         });
         let mut output = Vec::new(alloc);
         let mut errors = Vec::new(alloc);
-        let status = command(alloc, words.as_slice(), reader, &mut output, &mut errors);
+        let status = command(
+            &rt,
+            alloc,
+            words.as_slice(),
+            reader,
+            &mut output,
+            &mut errors,
+        );
         assert_eq!(rt; status, 1, "{line}");
         assert_eq!(rt; errors.as_slice(), b"snoop: Read\n".as_slice(), "{line}");
         assert!(rt; output.is_empty(), "{line}");
@@ -204,6 +215,7 @@ fn failures_end_the_command(rt: HostRuntime) -> Result<(), Fail> {
     for (line, engine) in [
         ("snoop steps", Engine::Steps),
         ("snoop run", Engine::Run),
+        ("snoop threads", Engine::Run),
         ("snoop --help", Engine::Steps),
         ("snoop table", Engine::Steps),
     ] {
@@ -211,6 +223,7 @@ fn failures_end_the_command(rt: HostRuntime) -> Result<(), Fail> {
         let mut full = writer(alloc, 0, 1, Fault::Refuses);
         let mut errors = Vec::new(alloc);
         let status = command(
+            &rt,
             alloc,
             words.as_slice(),
             engine.text(),
@@ -231,12 +244,14 @@ fn failing_standard_error(rt: HostRuntime) -> Result<(), Fail> {
         ("snoop steps --cores 0", 2),
         ("snoop steps", 1),
         ("snoop run", 1),
+        ("snoop threads", 1),
         ("snoop", 2),
     ] {
         let words = words_of(alloc, line)?;
         let mut output = Vec::new(alloc);
         let mut errors = writer(alloc, 0, 1, Fault::Refuses);
         let status = command(
+            &rt,
             alloc,
             words.as_slice(),
             b"X\n".as_slice(),

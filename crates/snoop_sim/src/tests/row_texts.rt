@@ -46,7 +46,7 @@ static REFUSED: [(&[u8], &[u8]); 30] = [
 #[test]
 fn refused_rows(rt: HostRuntime) -> Result<(), Fail> {
     for (input, told) in REFUSED {
-        let ran = run(rt.alloc(), "snoop run", input)?;
+        let ran = run(&rt, rt.alloc(), "snoop run", input)?;
         assert_eq!(rt; ran.errors.as_slice(), told, "{input:?}");
         assert_eq!(rt; ran.status, 1, "{input:?}");
         assert_eq!(rt; ran.output(), "", "{input:?}");
@@ -78,7 +78,12 @@ static BEGINNINGS: [(usize, &str); 15] = [
 fn beginnings_of_a_text_with_bus_steps(rt: HostRuntime) -> Result<(), Fail> {
     let text = b"L,0,0\nO,0\nR,0\n";
     for (bytes, told) in BEGINNINGS {
-        let ran = run(rt.alloc(), "snoop run", text.get(..bytes).unwrap_or(b""))?;
+        let ran = run(
+            &rt,
+            rt.alloc(),
+            "snoop run",
+            text.get(..bytes).unwrap_or(b""),
+        )?;
         assert_eq!(rt; ran.errors(), told, "{bytes}");
         assert_eq!(rt; ran.output().is_empty(), !told.is_empty(), "{bytes}");
     }
@@ -96,7 +101,7 @@ fn row_forms(rt: HostRuntime) -> Result<(), Fail> {
         b"L,0,0x0000000000000000000003f\n".as_slice(),
         b"L,0,000000000000000000000000\n".as_slice(),
     ] {
-        let ran = run(alloc, "snoop run", input)?;
+        let ran = run(&rt, alloc, "snoop run", input)?;
         assert_eq!(rt; ran.status, 0, "{input:?}");
         assert_eq!(rt;
             ran.output(),
@@ -120,6 +125,7 @@ block 0 value 0
 #[test]
 fn rows_at_the_limits(rt: HostRuntime) -> Result<(), Fail> {
     let ran = run(
+        &rt,
         rt.alloc(),
         "snoop run --cores 256 --blocks 65536 --block-bytes 4096",
         b"S,255,268435455,18446744073709551615\n",

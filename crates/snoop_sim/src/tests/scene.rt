@@ -3,7 +3,9 @@
 use crate::tests::support::{run, steps_of};
 use std::alloc::Global;
 use std::process::Abort;
+use std::sync::Wait;
 use std::test::Fail;
+use std::thread::Threads;
 
 /// A text, and the whole output of the command that reads it.
 #[derive(Clone, Copy)]
@@ -64,9 +66,14 @@ block 0 value 2
 };
 
 /// Runs the text, and compares the whole output.
-pub fn play(rt: &impl Abort, alloc: Global, line: &str, journey: Journey<'_>) -> Result<(), Fail> {
+pub fn play<T: Abort + Threads + Wait + Sync>(
+    rt: &T,
+    alloc: Global,
+    line: &str,
+    journey: Journey<'_>,
+) -> Result<(), Fail> {
     let name = journey.name;
-    let ran = run(alloc, line, journey.text.as_bytes())?;
+    let ran = run(rt, alloc, line, journey.text.as_bytes())?;
     assert_eq!(rt; ran.status, 0, "{name}: {line}");
     assert!(rt; ran.errors.is_empty(), "{name}: {line}");
     assert_eq!(rt;
@@ -78,8 +85,8 @@ pub fn play(rt: &impl Abort, alloc: Global, line: &str, journey: Journey<'_>) ->
 }
 
 /// Runs the steps of each scene, and compares its whole output.
-pub fn play_scenes(
-    rt: &impl Abort,
+pub fn play_scenes<T: Abort + Threads + Wait + Sync>(
+    rt: &T,
     alloc: Global,
     line: &str,
     scenes: &[Scene],

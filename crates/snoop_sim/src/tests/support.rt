@@ -2,7 +2,9 @@
 
 use crate::command;
 use std::alloc::Global;
+use std::sync::Wait;
 use std::test::Fail;
+use std::thread::Threads;
 
 /// What a command line ended with and wrote.
 #[derive(Debug, Drop)]
@@ -23,11 +25,16 @@ impl Ran {
 }
 
 /// Runs a command line, its words parted by one space, over standard input.
-pub fn run(alloc: Global, line: &str, input: &[u8]) -> Result<Ran, Fail> {
+pub fn run<T: Threads + Wait + Sync>(
+    rt: &T,
+    alloc: Global,
+    line: &str,
+    input: &[u8],
+) -> Result<Ran, Fail> {
     let words = words_of(alloc, line)?;
     let mut output = Vec::new(alloc);
     let mut errors = Vec::new(alloc);
-    let status = command(alloc, words.as_slice(), input, &mut output, &mut errors);
+    let status = command(rt, alloc, words.as_slice(), input, &mut output, &mut errors);
     Ok(Ran {
         status,
         output,

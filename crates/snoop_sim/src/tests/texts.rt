@@ -8,7 +8,7 @@ use std::test::Fail;
 fn block_boundary(rt: HostRuntime) -> Result<(), Fail> {
     let alloc = rt.alloc();
     play(&rt, alloc, "snoop steps", BLOCK_BOUNDARY)?;
-    let next = run(alloc, "snoop steps", b"S,0,64,7\nO,0\nR,64\nL,1,128\n")?;
+    let next = run(&rt, alloc, "snoop steps", b"S,0,64,7\nO,0\nR,64\nL,1,128\n")?;
     assert_eq!(rt;
         next.output(),
         "\
@@ -34,7 +34,7 @@ fn largest_value(rt: HostRuntime) -> Result<(), Fail> {
         b"S,0,0,18446744073709551615\nO,0\nR,0\nL,0,0x3f\n".as_slice(),
         b"S,0,0,0xFFFFFFFFFFFFFFFF\nO,0\nR,0\nL,0,0x3f\n".as_slice(),
     ] {
-        let ran = run(alloc, "snoop steps", input)?;
+        let ran = run(&rt, alloc, "snoop steps", input)?;
         assert_eq!(rt;
             ran.output(),
             "\
@@ -63,7 +63,7 @@ fn text_forms(rt: HostRuntime) -> Result<(), Fail> {
         b"L,0,0\n\nO,0\n".as_slice(),
         b"\"L\",0,0\nO,0\n".as_slice(),
     ] {
-        let ran = run(alloc, "snoop steps", input)?;
+        let ran = run(&rt, alloc, "snoop steps", input)?;
         assert_eq!(rt; ran.status, 0);
         assert_eq!(rt;
             ran.output(),
@@ -89,7 +89,7 @@ fn long_numbers(rt: HostRuntime) -> Result<(), Fail> {
         b"L,0,0x0000000000000000000003f\n".as_slice(),
         b"L,0,000000000000000000000000\n".as_slice(),
     ] {
-        let ran = run(alloc, "snoop steps", input)?;
+        let ran = run(&rt, alloc, "snoop steps", input)?;
         assert_eq!(rt; ran.status, 0);
         assert_eq!(rt;
             ran.output(),
@@ -147,7 +147,7 @@ static REFUSED: [(&[u8], &[u8]); 28] = [
 #[test]
 fn refused_texts(rt: HostRuntime) -> Result<(), Fail> {
     for (input, told) in REFUSED {
-        let ran = run(rt.alloc(), "snoop steps", input)?;
+        let ran = run(&rt, rt.alloc(), "snoop steps", input)?;
         assert_eq!(rt; ran.errors.as_slice(), told, "{input:?}");
         assert_eq!(rt; ran.status, 1, "{input:?}");
         assert_eq!(rt; ran.output(), "", "{input:?}");
@@ -170,7 +170,12 @@ static BEGINNINGS: [(usize, usize); 7] = [
 fn beginnings_of_a_text(rt: HostRuntime) -> Result<(), Fail> {
     let text = b"L,0,0\nO,0\nR,0\n";
     for (bytes, records) in BEGINNINGS {
-        let ran = run(rt.alloc(), "snoop steps", text.get(..bytes).unwrap_or(b""))?;
+        let ran = run(
+            &rt,
+            rt.alloc(),
+            "snoop steps",
+            text.get(..bytes).unwrap_or(b""),
+        )?;
         let lines = ran
             .output()
             .lines()

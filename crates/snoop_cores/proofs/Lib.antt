@@ -1,0 +1,5 @@
+mod Beginnings
+mod Shown
+mod Performed
+mod Joining
+mod Resting

@@ -1,0 +1,78 @@
+-- A bench with nothing under way joins the seats.
+use Rattle.std.proofs.Common.{◌≡◌, ℕ, ◌+◌, ◌<◌, ◌≤◌, ◌⊎◌, List, length, All, Option, Some, None, refl, sym, ap, ◌∙◌, subst, arith, inl, inr, count_by}
+use Rattle.std.specs.Prelude.{slice_get, slice_index_or, option_map, option_and_then}
+use Rattle.std.specs.Option.{option_map_or}
+use Rattle.std.proofs.lemmas.Bool.{cases_order}
+use Rattle.std.proofs.lemmas.Option.{slice_get_past}
+use Rattle.snoop_trace.specs.Extent.{Extent}
+use Rattle.snoop_trace.specs.declared.step.Op.{Op}
+use Rattle.snoop_trace.specs.declared.step.Step.{Step}
+use Rattle.snoop_rules.specs.declared.names.Protocol.{Protocol}
+use Rattle.snoop_bus.specs.Queues.{queue_of}
+use Rattle.snoop_history.specs.declared.items.Item.{Item}
+use Rattle.snoop_history.specs.History.{answers_of}
+use Rattle.snoop_machine.specs.Picture.{held_by}
+use Rattle.snoop_machine.specs.Situation.{Situation, picture_of}
+use Rattle.snoop_machine.specs.Safe.{IsSafe}
+use Rattle.snoop_machine.specs.Serving.{IsServing}
+use Rattle.snoop_machine.specs.Quiet.{IsQuiet}
+use Rattle.snoop_machine.specs.TurnRule.{ComesToRest}
+use Rattle.snoop_machine.specs.Once.{asks, did_it, waits_for, same_op, one_if, tally}
+use Rattle.snoop_machine.specs.Run.{AllTaken}
+use Rattle.snoop_bench.specs.declared.work.Work.{Work}
+use Rattle.snoop_bench.specs.Works.{work_at, under_way}
+use Rattle.snoop_bench.specs.Locked.{Locked, IsKept}
+use Rattle.snoop_cores.specs.Seats.{Seating}
+use Rattle.snoop_cores.specs.Joined.{OneForEach, IsIdle, IsFree, IsAnswered, IsJoined}
+
+-- no core has work under way, inside the shape or outside
+nothing_under_way : (works : List (Option Work)) (cores : ℕ) → length works ≡ cores → ((core : ℕ) → core < cores → work_at works core ≡ None) → (core : ℕ) → work_at works core ≡ None
+nothing_under_way works cores size free core = by_order (cases_order core cores)
+  where
+    past : cores ≤ core → work_at works core ≡ None
+    past le = ap (λ (o : Option (Option Work)). option_and_then (λ work. work) o) (slice_get_past works core (omega (arith, le, size)))
+
+    by_order : ((core ≡ cores) ⊎ ((core < cores) ⊎ (cores < core))) → work_at works core ≡ None
+    by_order (inl e) = past (omega (arith, e))
+    by_order (inr (inl l)) = free core l
+    by_order (inr (inr g)) = past (omega (arith, g))
+
+-- so nothing is served
+serves_nothing : (works : List (Option Work)) (s : Situation) → ((core : ℕ) → work_at works core ≡ None) → IsServing (under_way works) s → IsServing (λ _. None) s
+serves_nothing works s none serving = record {
+  waits = λ core k d lt. never core (slice_index_or (queue_of s.queues core) k d) (serving.waits core k d lt);
+  opened = λ block transaction is. never transaction.core block (serving.opened block transaction is);
+}
+  where
+    never : (core block : ℕ) → under_way works core ≡ Some block → None ≡ Some block
+    never core block is = sym (ap (λ (o : Option Work). option_map (λ work. work.block) o) (none core)) ∙ is
+
+-- at rest no operation waits, so those asked are those performed
+asked_once : (s : Situation) (steps : List Step) → IsQuiet s → ((core block : ℕ) (wanted : Op) → tally s core block wanted ≡ count_by (asks core block wanted) steps)
+    → (core block : ℕ) (wanted : Op) → count_by (did_it block wanted) (answers_of s.log core) ≡ count_by (asks core block wanted) steps
+asked_once s steps quiet tallied core block wanted =
+    let none : waits_for s core block wanted ≡ 0 = ap (λ (o : Option Op). option_map_or (λ asking. one_if (same_op wanted asking)) o 0) (quiet.performed core block) in
+    let t = tallied core block wanted in omega (arith, none, t)
+
+pub joins : (b : Locked) (seats : List Seating) (items : List Item) (steps : List Step) → IsKept b → IsSafe b.situation → ComesToRest
+    → ((protocol : Protocol) (shape : Extent) (taken : List Step) (s : Situation) → AllTaken protocol shape taken s → (core block : ℕ) (wanted : Op) → tally s core block wanted ≡ count_by (asks core block wanted) taken)
+    → OneForEach b.situation.shape.cores seats → ((core : ℕ) → core < b.situation.shape.cores → IsFree b seats core)
+    → ((core : ℕ) → core < b.situation.shape.cores → IsAnswered b.situation.log seats core)
+    → items ≡ b.situation.log → steps ≡ b.steps → IsJoined b.situation.protocol b.situation.shape seats items steps
+joins b seats items steps kept safe rests tallied one_each free answered items_are steps_are =
+    subst (λ (l : List Item). IsJoined b.situation.protocol b.situation.shape seats l steps) (sym items_are)
+    (subst (λ (l : List Step). IsJoined b.situation.protocol b.situation.shape seats b.situation.log l) (sym steps_are)
+    (record {
+      at = b.situation;
+      taken = kept.run;
+      log_is = refl;
+      legal = safe.legal;
+      quiet = quiet;
+      one_each = one_each;
+      idle = λ k d lt. (free (slice_index_or seats k d).core (one_each.known k d lt)).1 k d lt refl;
+      answered = λ k d lt. answered (slice_index_or seats k d).core (one_each.known k d lt) k d lt refl;
+      once = asked_once b.situation b.steps quiet (tallied b.situation.protocol b.situation.shape b.steps b.situation kept.run);
+    }))
+  where
+    quiet : IsQuiet b.situation
+    quiet = rests b.situation (serves_nothing b.works b.situation (nothing_under_way b.works b.situation.shape.cores kept.places (λ core lt. (free core lt).0)) kept.serving) safe.well_kept

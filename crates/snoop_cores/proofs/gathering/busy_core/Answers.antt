@@ -1,0 +1,15 @@
+use Rattle.std.proofs.Common.{ℕ, ◌≡◌, ◌∙◌, ap, arith, sym, refl}
+use Rattle.snoop_trace.specs.Extent.{Extent}
+use Rattle.snoop_cores.specs.Joined.{IsFree}
+use Rattle.snoop_cores.proofs.Joining.{below_next, is_none}
+use Rattle.snoop_cores.proofs.gathering.busy_core.Goals as goal
+
+pub loop-core-preserved : goal.loop-core-preserved
+loop-core-preserved c =
+    below_next (IsFree c.args.bench.now c.args.seats.now) c.loop-core.core c.loop-core.invariant (sym c.work.ensures ∙ is_none c.work.result (sym c.is_some.ensures ∙ c.if-is_some.false), c.if-not-is_idle.ensures.sound refl)
+
+pub returns-clause-none : goal.returns-clause-none
+returns-clause-none c =
+    let t = c.loop-core-test.false in
+    let end : c.cores-core-end.result ≡ c.args.bench.now.situation.shape.cores = c.cores-core-end.ensures.value ∙ ap (λ (s : Extent). s.cores) c.shape.ensures in
+    λ k lt. c.loop-core.invariant k (omega (arith, t, end, lt))

@@ -1,0 +1,6 @@
+use Rattle.std.proofs.Common.{◌<◌, ℕ}
+use Rattle.snoop_cores.specs.Joined.{IsAnswered}
+use Rattle.snoop_cores.proofs.gathering.difference.Given as goal
+
+abbrev pub invariant-loop-core : goal.invariant-loop-core
+invariant-loop-core l = (core : ℕ) → core < l.core → IsAnswered l.items l.seats core

@@ -1,0 +1,16 @@
+use Rattle.std.proofs.Common.{◌≡◌, ◌∙◌, ℕ, ap, subst, Err}
+use Rattle.snoop_trace.specs.Extent.{Extent}
+use Rattle.snoop_cores.specs.Joined.{IsOdd, OneForEach}
+use Rattle.snoop_cores.specs.declared.fault.GatherFault.TheVariants.{NotAllSeats}
+use Rattle.snoop_cores.proofs.Joining.{odd_one, not_odd}
+use Rattle.snoop_cores.proofs.gathering.gather.Goals as goal
+
+pub returns-in-Some-clause-not_all : goal.returns-in-Some-clause-not_all
+returns-in-Some-clause-not_all g c = λ core odd.
+    let cores : c.cores.result ≡ c.args.shared.now.shape.cores = c.cores.ensures.value ∙ ap (λ (e : Extent). e.cores) c.shape.ensures in
+    ap (λ (k : ℕ). Err (NotAllSeats k)) (odd_one c.args.shared.now.shape.cores c.args.seats.now c.in-Some.core core (subst (λ (n : ℕ). IsOdd n c.args.seats.now c.in-Some.core) cores c.in-Some.ensures.some) odd)
+
+pub returns-clause-not_all : goal.returns-clause-not_all
+returns-clause-not_all g c = λ core odd.
+    let cores : c.cores.result ≡ c.args.shared.now.shape.cores = c.cores.ensures.value ∙ ap (λ (e : Extent). e.cores) c.shape.ensures in
+    absurd (not_odd c.args.shared.now.shape.cores c.args.seats.now core (subst (λ (n : ℕ). OneForEach n c.args.seats.now) cores c.in_default.ensures.none) odd)

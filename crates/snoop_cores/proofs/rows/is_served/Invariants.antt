@@ -1,0 +1,11 @@
+use Rattle.std.proofs.Common.{◌≡◌, ◌<◌, ℕ, true, false, length}
+use Rattle.std.specs.Prelude.{slice_index_or, IsSome}
+use Rattle.snoop_trace.specs.Grammar.{block_at}
+use Rattle.snoop_cores.specs.Seats.{Seating}
+use Rattle.snoop_cores.proofs.rows.is_served.Given as goal
+
+abbrev pub invariant-loop-seat : goal.invariant-loop-seat
+invariant-loop-seat l =
+    ((k : ℕ) (d : Seating) → k < l.seat-index → (slice_index_or l.seats k d).core ≡ l.row.core → IsSome (block_at (slice_index_or l.seats k d).shape l.row.address))
+    × (l.found ≡ true → (i : ℕ) × (i < length l.seats) × ((d : Seating) → (slice_index_or l.seats i d).core ≡ l.row.core))
+    × (l.found ≡ false → (k : ℕ) (d : Seating) → k < l.seat-index → (slice_index_or l.seats k d).core ≡ l.row.core → ⊥)

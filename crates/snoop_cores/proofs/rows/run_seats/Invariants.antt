@@ -1,0 +1,9 @@
+use Rattle.std.proofs.Common.{◌≡◌, ℕ, ◌<◌, length, None}
+use Rattle.std.specs.Prelude.{slice_index_or}
+use Rattle.snoop_cores.specs.Seats.{Seating}
+use Rattle.snoop_cores.proofs.rows.run_seats.Given as goal
+
+abbrev pub invariant-loop-i : goal.invariant-loop-i
+invariant-loop-i g l =
+    (length l.stops.items ≡ length l.seats)
+    × ((k : ℕ) (d : Seating) → k < l.i → slice_index_or l.stops.items k None ≡ (slice_index_or l.seats k d).stop)

@@ -1,0 +1,7 @@
+use Rattle.std.proofs.Common.{◌≡◌, ◌<◌, ℕ, length}
+use Rattle.std.specs.Prelude.{slice_index_or}
+use Rattle.snoop_cores.specs.Seats.{Seating, IsNew}
+use Rattle.snoop_cores.proofs.shared.Shared.add_seats.Given as goal
+
+abbrev pub invariant-loop-core : goal.invariant-loop-core
+invariant-loop-core g l = (length l.seats.items ≡ l.core) × ((core : ℕ) (d : Seating) → core < l.core → IsNew core l.self.shape (slice_index_or l.seats.items core d))

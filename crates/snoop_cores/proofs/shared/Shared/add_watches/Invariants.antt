@@ -1,0 +1,5 @@
+use Rattle.snoop_cores.specs.Seats.{AreWatches}
+use Rattle.snoop_cores.proofs.shared.Shared.add_watches.Given as goal
+
+abbrev pub invariant-loop : goal.invariant-loop
+invariant-loop g l = AreWatches l.counter l.self.shape l.watches.items

@@ -1,0 +1,50 @@
+-- What a call of a seat leaves: after it is over, and after each fault.
+-- Source: this project's profile.
+use Rattle.std.specs.Prelude.{◌≡◌, ◌≢◌, ◌⊎◌, ℕ, ◌<◌, ◌≤◌, List, [], ◌∷◌, ◌++◌, map, Option, Some, None}
+use Rattle.snoop_history.specs.declared.items.Did.{Did}
+use Rattle.snoop_history.specs.History.{Legal, answers_of, last_or}
+use Rattle.snoop_bench.specs.declared.work.Work.{Work}
+use Rattle.snoop_bench.specs.Works.{Does}
+use Rattle.snoop_versions.specs.Readings.{StartsWith}
+use Rattle.snoop_cores.specs.declared.fault.SeatFault.{SeatFault}
+use Rattle.snoop_cores.specs.declared.fault.SeatFault.TheVariants.{NoBlock, NoMemory, Busy, Stranger}
+use Rattle.snoop_cores.specs.Seats.{Seating}
+
+-- it is the same seat, and what it has seen begins with what it had seen
+pub record Stays (s t : Seating) : Type 0 where
+  pub core : t.core ≡ s.core
+  pub shape : t.shape ≡ s.shape
+  pub begins : StartsWith t.seen s.seen
+
+-- the call is over: what is seen is legal and begins with what was seen; the core's operations in it are the answers from before and then these, and are the answers now; nothing is pending
+pub record Completes (dids : List Did) (s t : Seating) : Type 0 where
+  pub stays : Stays s t
+  pub legal : Legal t.seen
+  pub answers : t.answers ≡ s.answers ++ dids
+  pub shown : answers_of t.seen s.core ≡ t.answers
+  pub pending : t.pending ≡ None
+  pub strange : t.strange ≡ None
+
+-- no answer was added
+pub record Keeps (s t : Seating) : Type 0 where
+  pub stays : Stays s t
+  pub answers : t.answers ≡ s.answers
+
+-- the operation is the last of these, which are neither the answers nor those and then the work's operation
+pub record IsStranger (did : Did) (work : Work) (dids answers : List Did) : Type 0 where
+  pub last : last_or None (map Some dids) ≡ Some did
+  pub more : dids ≢ answers
+  pub other : (own : Did) → Does own work → dids ≢ answers ++ own ∷ []
+
+-- when each fault comes, and what it leaves
+abbrev pub Fails : SeatFault → Work → Seating → Seating → Type 0
+Fails NoBlock work s t = (s.shape.blocks ≤ work.block) × (t ≡ s)
+Fails (Busy other) work s t = (s.pending ≡ Some other) × (other ≢ work) × (t ≡ s)
+Fails NoMemory work s t = Keeps s t × (t.pending ≡ Some work) × (t.strange ≡ None)
+Fails (Stranger did) work s t = Keeps s t × (t.strange ≡ Some did) × ((s.strange ≡ Some did) ⊎ IsStranger did work (answers_of t.seen s.core) s.answers)
+
+-- the fault that is answered before any turn
+pub record Foretold (work : Work) (s : Seating) (answered : SeatFault → Type 0) : Type 0 where
+  pub outside : s.shape.blocks ≤ work.block → answered NoBlock
+  pub stranger : (did : Did) → work.block < s.shape.blocks → s.strange ≡ Some did → answered (Stranger did)
+  pub busy : (other : Work) → work.block < s.shape.blocks → s.strange ≡ None → s.pending ≡ Some other → other ≢ work → answered (Busy other)

@@ -1,0 +1,101 @@
+-- What a gathering says of the seats and of the lock.
+-- Source: this project's profile.
+use Rattle.std.specs.Prelude.{◌≡◌, ◌≢◌, ◌⊎◌, ℕ, ◌<◌, ◌≤◌, ◌==◌, List, length, take, filter, count_by, All, None, slice_get, slice_index_or}
+use Rattle.snoop_trace.specs.Extent.{Extent}
+use Rattle.snoop_trace.specs.declared.step.Op.{Op}
+use Rattle.snoop_trace.specs.declared.step.Step.{Step}
+use Rattle.snoop_rules.specs.declared.names.Protocol.{Protocol}
+use Rattle.snoop_history.specs.declared.items.Did.{Did}
+use Rattle.snoop_history.specs.declared.items.Item.{Item}
+use Rattle.snoop_history.specs.History.{Legal, answers_of}
+use Rattle.snoop_machine.specs.Situation.{Situation}
+use Rattle.snoop_machine.specs.Run.{AllTaken}
+use Rattle.snoop_machine.specs.Quiet.{IsQuiet}
+use Rattle.snoop_machine.specs.Once.{asks, did_it}
+use Rattle.snoop_bench.specs.Locked.{Locked, IsKept}
+use Rattle.snoop_bench.specs.Works.{work_at}
+use Rattle.snoop_cores.specs.Seats.{Seating}
+use Rattle.snoop_cores.specs.declared.fault.GatherFault.{GatherFault}
+use Rattle.snoop_cores.specs.declared.fault.GatherFault.TheVariants.{Mismatch, Pending, NoMemory, NotAllSeats}
+
+-- how many seats the core has
+abbrev pub seats_of : List Seating → ℕ → ℕ
+seats_of seats core = length (filter (λ (seat : Seating). seat.core == core) seats)
+
+-- one seat for each core, and no other
+pub record OneForEach (cores : ℕ) (seats : List Seating) : Type 0 where
+  pub each : (core : ℕ) → core < cores → seats_of seats core ≡ 1
+  pub known : All (λ seat. seat.core < cores) seats
+
+-- the least core with no seat or with several
+abbrev pub IsLeastOdd : ℕ → List Seating → ℕ → Type 0
+IsLeastOdd cores seats core = (core < cores) × (seats_of seats core ≢ 1) × ((lower : ℕ) → lower < core → seats_of seats lower ≡ 1)
+
+-- the first seat's core that is outside the shape
+pub record IsFirstStrange (cores : ℕ) (seats : List Seating) (core : ℕ) : Type 0 where
+  pub outside : cores ≤ core
+  pub place : ℕ
+  pub inside : place < length seats
+  pub there : (d : Seating) → (slice_index_or seats place d).core ≡ core
+  pub first : (before : ℕ) (d : Seating) → before < place → (slice_index_or seats before d).core < cores
+
+-- the least core with no seat or with several; or, where there is none such, the first strange one
+abbrev pub IsOdd : ℕ → List Seating → ℕ → Type 0
+IsOdd cores seats core = IsLeastOdd cores seats core ⊎ (IsFirstStrange cores seats core × ((each : ℕ) → each < cores → seats_of seats each ≡ 1))
+
+-- the core's seats have no pending operation
+abbrev pub IsIdle : List Seating → ℕ → Type 0
+IsIdle seats core = All (λ seat. seat.core ≡ core → seat.pending ≡ None) seats
+
+-- the core has no work under way, and its seats have no pending operation
+abbrev pub IsFree : Locked → List Seating → ℕ → Type 0
+IsFree b seats core = (work_at b.works core ≡ None) × IsIdle seats core
+
+-- the core's operations in the list are its seats' answers
+abbrev pub IsAnswered : List Item → List Seating → ℕ → Type 0
+IsAnswered items seats core = All (λ seat. seat.core ≡ core → answers_of items core ≡ seat.answers) seats
+
+-- the first place where two lists differ
+pub record IsFirst (xs ys : List Did) (place : ℕ) : Type 0 where
+  pub same : take place xs ≡ take place ys
+  pub differs : slice_get xs place ≢ slice_get ys place
+
+-- a seat of the core, whose answers differ at first at this place from the core's operations in the list
+pub record DiffersAt (items : List Item) (seats : List Seating) (core place : ℕ) : Type 0 where
+  pub which : ℕ
+  pub inside : which < length seats
+  pub of_core : (d : Seating) → (slice_index_or seats which d).core ≡ core
+  pub differs : (d : Seating) → IsFirst (answers_of items core) (slice_index_or seats which d).answers place
+
+-- what the lock held: a bench of this protocol and shape
+pub record IsHeld (protocol : Protocol) (shape : Extent) (b : Locked) : Type 0 where
+  pub kept : IsKept b
+  pub protocol_is : b.situation.protocol ≡ protocol
+  pub shape_is : b.situation.shape ≡ shape
+
+-- a log and steps of one moment at which nothing is under way or pending; they join the seats
+pub record IsJoined (protocol : Protocol) (shape : Extent) (seats : List Seating) (items : List Item) (steps : List Step) : Type 0 where
+  -- the steps were all taken, lead there from reset, and made this log
+  pub at : Situation
+  pub taken : AllTaken protocol shape steps at
+  pub log_is : items ≡ at.log
+  pub legal : Legal items
+  -- no core waits, and no transaction is open
+  pub quiet : IsQuiet at
+  -- the seats are one for each core, none has a pending operation, and each was answered exactly its core's operations
+  pub one_each : OneForEach shape.cores seats
+  pub idle : All (λ seat. seat.pending ≡ None) seats
+  pub answered : All (λ seat. answers_of items seat.core ≡ seat.answers) seats
+  -- the loads and stores that the steps ask are the operations of the log, each as often
+  pub once : (core block : ℕ) (wanted : Op) → count_by (did_it block wanted) (answers_of items core) ≡ count_by (asks core block wanted) steps
+
+-- why nothing was gathered
+abbrev pub IsParted : Protocol → Extent → List Seating → GatherFault → Type 0
+IsParted protocol shape seats (NotAllSeats core) = IsOdd shape.cores seats core
+IsParted protocol shape seats (Pending core) =
+    OneForEach shape.cores seats × (core < shape.cores)
+    × ((b : Locked) × IsHeld protocol shape b × ((lower : ℕ) → lower < core → IsFree b seats lower) × ¬ IsFree b seats core)
+IsParted protocol shape seats (Mismatch core place) =
+    OneForEach shape.cores seats × (core < shape.cores) × ((each : ℕ) → each < shape.cores → IsIdle seats each)
+    × ((b : Locked) × IsHeld protocol shape b × ((lower : ℕ) → lower < core → IsAnswered b.situation.log seats lower) × DiffersAt b.situation.log seats core place)
+IsParted protocol shape seats NoMemory = OneForEach shape.cores seats × ((each : ℕ) → each < shape.cores → IsIdle seats each)

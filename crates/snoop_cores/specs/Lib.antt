@@ -1,0 +1,5 @@
+pub mod Seats
+pub mod Calls
+pub mod Own
+pub mod Rows
+pub mod Joined

@@ -1,0 +1,69 @@
+-- What a seat has done of its rows.
+-- Source: this project's profile.
+use Rattle.std.specs.Prelude.{◌≡◌, ℕ, ◌<◌, ◌==◌, List, ◌++◌, length, take, filter, Option, Some, None, Bool, true, false, All, IsSome, slice_index_or}
+use Rattle.std.specs.List.{AllZip}
+use Rattle.snoop_trace.specs.Extent.{Extent}
+use Rattle.snoop_trace.specs.Grammar.{block_at}
+use Rattle.snoop_trace.specs.declared.step.Op.{Op}
+use Rattle.snoop_trace.specs.declared.step.Op.TheVariants as op
+use Rattle.snoop_trace.specs.declared.step.Row.{Row}
+use Rattle.snoop_history.specs.declared.items.Did.{Did}
+use Rattle.snoop_bench.specs.declared.work.Work.{Work}
+use Rattle.snoop_bench.specs.Works.{Does}
+use Rattle.snoop_cores.specs.declared.fault.RunFault.{RunFault}
+use Rattle.snoop_cores.specs.declared.fault.RunFault.TheVariants.{NoSeat, NoMemory}
+use Rattle.snoop_cores.specs.declared.stop.Stop.{Stop}
+use Rattle.snoop_cores.specs.declared.stop.Stop.TheVariants.{Late, Fault}
+use Rattle.snoop_cores.specs.Seats.{Seating}
+use Rattle.snoop_cores.specs.Calls.{Stays}
+
+-- the operation adds an answer: a load or a store
+abbrev pub is_answered : Op → Bool
+is_answered op.Load = true
+is_answered (op.Store value) = true
+is_answered op.Evict = false
+
+-- the operation does the row, at the block of its address
+abbrev pub DoesRow : Extent → Row → Did → Type 0
+DoesRow shape row did = (block : ℕ) × (block_at shape row.address ≡ Some block) × Does did (record { block = block; op = row.op })
+
+-- the core's rows, in order
+abbrev pub rows_of : ℕ → List Row → List Row
+rows_of core rows = filter (λ (row : Row). row.core == core) rows
+
+-- one operation for each load and store among the rows, in order
+abbrev pub Answers : Extent → List Row → List Did → Type 0
+Answers shape rows dids = AllZip (DoesRow shape) (filter (λ (row : Row). is_answered row.op) rows) dids
+
+-- the seat's answers have grown by these rows
+pub record Grows (rows : List Row) (s t : Seating) : Type 0 where
+  pub stays : Stays s t
+  pub added : (dids : List Did) × (t.answers ≡ s.answers ++ dids) × Answers s.shape rows dids
+
+-- the seat stopped before its row of this number
+abbrev pub StoppedAt : ℕ → List Row → Seating → Seating → Type 0
+StoppedAt number rows s t = (number < length (rows_of s.core rows)) × Grows (take number (rows_of s.core rows)) s t
+
+-- the seat has done all its rows; or it stopped at a row, and has done those before it
+abbrev pub RanTo : Option Stop → List Row → Seating → Seating → Type 0
+RanTo None rows s t = Grows (rows_of s.core rows) s t
+RanTo (Some (Late number)) rows s t = StoppedAt number rows s t
+RanTo (Some (Fault number fault)) rows s t = StoppedAt number rows s t
+
+-- the core has a seat, and the row's address lies within the shape of each of its seats
+pub record IsServed (seats : List Seating) (row : Row) : Type 0 where
+  pub has : (place : ℕ) × (place < length seats) × ((d : Seating) → (slice_index_or seats place d).core ≡ row.core)
+  pub within : All (λ seat. seat.core ≡ row.core → IsSome (block_at seat.shape row.address)) seats
+
+-- the first row that is not served
+pub record IsUnserved (seats : List Seating) (rows : List Row) (row : Row) : Type 0 where
+  pub place : ℕ
+  pub inside : place < length rows
+  pub there : (d : Row) → slice_index_or rows place d ≡ row
+  pub unserved : ¬ IsServed seats row
+  pub first : (before : ℕ) (d : Row) → before < place → IsServed seats (slice_index_or rows before d)
+
+-- why no row was performed
+abbrev pub IsRunDenied : List Seating → List Row → RunFault → Type 0
+IsRunDenied seats rows (NoSeat core) = (row : Row) × IsUnserved seats rows row × (row.core ≡ core)
+IsRunDenied seats rows NoMemory = All (IsServed seats) rows

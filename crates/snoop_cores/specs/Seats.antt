@@ -1,0 +1,56 @@
+-- What a seat and a watch show, and which are new.
+-- Source: this project's profile.
+use Rattle.std.specs.Prelude.{◌≡◌, ℕ, ◌<◌, List, [], ◌++◌, length, All, Option, None, slice_index_or}
+use Rattle.snoop_trace.specs.Extent.{Extent}
+use Rattle.snoop_rules.specs.declared.names.Protocol.{Protocol}
+use Rattle.snoop_history.specs.declared.items.Did.{Did}
+use Rattle.snoop_history.specs.declared.items.Item.{Item}
+use Rattle.snoop_history.specs.History.{Legal}
+use Rattle.snoop_bench.specs.declared.work.Work.{Work}
+use Rattle.snoop_versions.specs.Readings.{StartsWith}
+use Rattle.snoop_cores.specs.declared.stop.Stop.{Stop}
+
+-- the machine that is shared: its protocol and its shape
+pub record Setup : Type 0 where
+  pub protocol : Protocol
+  pub shape : Extent
+
+-- a seat: its core, the shape, the list that it has seen, its answers, its pending operation, the operation that it reported as a stranger's, and where its rows stopped
+pub record Seating : Type 0 where
+  pub core : ℕ
+  pub shape : Extent
+  pub seen : List Item
+  pub answers : List Did
+  pub pending : Option Work
+  pub strange : Option Did
+  pub stop : Option Stop
+
+-- a watch: the shape, and the list that it has seen
+pub record Watching : Type 0 where
+  pub shape : Extent
+  pub seen : List Item
+
+-- a version was read: its list is legal, and begins with what was seen before
+pub record Sees (before after : List Item) : Type 0 where
+  pub legal : Legal after
+  pub begins : StartsWith after before
+
+-- the operations begin with these
+abbrev pub BeginsWith : List Did → List Did → Type 0
+BeginsWith dids first = (rest : List Did) × (dids ≡ first ++ rest)
+
+-- a seat that has done nothing
+pub record IsNew (core : ℕ) (shape : Extent) (seat : Seating) : Type 0 where
+  pub core_is : seat.core ≡ core
+  pub shape_is : seat.shape ≡ shape
+  pub answers : seat.answers ≡ []
+  pub pending : seat.pending ≡ None
+  pub strange : seat.strange ≡ None
+
+-- one new seat for each core, in order of core
+abbrev pub AreSeats : Extent → List Seating → Type 0
+AreSeats shape seats = (length seats ≡ shape.cores) × ((core : ℕ) (d : Seating) → core < shape.cores → IsNew core shape (slice_index_or seats core d))
+
+-- so many watches, of this shape
+abbrev pub AreWatches : ℕ → Extent → List Watching → Type 0
+AreWatches count shape watches = (length watches ≡ count) × All (λ watch. watch.shape ≡ shape) watches

@@ -1,0 +1,24 @@
+//! What a row waits for.
+
+use thiserror::Error;
+
+/// A row waited for too long.
+#[derive(Clone, Copy, Debug, PartialEq, Eq, Error)]
+#[error("Late")]
+pub struct Late;
+
+/// What each row waits for before it is performed.
+pub trait Gate {
+    /// Returns when the core's row of this number, counted from 0, may be performed. `Late` stops the core's rows there.
+    fn before(&self, core: u32, number: u64) -> Result<(), Late>;
+}
+
+/// A gate that holds no row.
+#[derive(Clone, Copy, Debug)]
+pub struct Free;
+
+impl Gate for Free {
+    fn before(&self, _core: u32, _number: u64) -> Result<(), Late> {
+        Ok(())
+    }
+}

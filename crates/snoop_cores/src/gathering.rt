@@ -1,0 +1,202 @@
+//! The log of the lock, joined with what the seats were answered.
+ghost use Rattle.std.specs.Prelude.{◌≡◌, ℕ, ◌<◌, Err, IfOk, IfErr, IfSome, IfNone, IsTrue, [], ◌∷◌, option_to_list, Some, slice_get};
+ghost use Rattle.snoop_history.specs.History.{answers_of};
+ghost use Rattle.snoop_cores.specs.Joined.{seats_of, OneForEach, IsOdd, IsIdle, IsFree, IsAnswered, IsFirst, DiffersAt, IsJoined, IsParted};
+ghost use Rattle.snoop_cores.specs.declared.fault.GatherFault.TheVariants.{NotAllSeats};
+
+use crate::fault::GatherFault;
+use crate::seat::Seat;
+use crate::shared::Shared;
+use snoop_bench::Bench;
+use snoop_history::{Did, Item, Log};
+use snoop_machine::laws::asked_are_tallied;
+use snoop_machine::turns_are_served;
+use snoop_trace::{NoMemory, Step};
+use std::alloc::Global;
+use std::sync::Wait;
+
+/// A log that joins what the seats were answered, and the steps that made it from reset.
+#[derive(Debug, Drop)]
+pub struct Gathered {
+    pub log: Log,
+    pub steps: Vec<Step>,
+}
+
+/// Joins the log under the lock with what the seats were answered; it changes nothing, and may be called again.
+///
+/// `NotAllSeats` where the seats are not one for each core; `Pending` where a core has work under way, or a seat a pending
+/// operation; `Mismatch` where a seat's answers are not its core's operations in the log; `NoMemory` where a growth was refused.
+pub fn gather<R: Wait>(
+    rt: &R,
+    alloc: Global,
+    shared: &Shared,
+    seats: &[Seat],
+) -> Result<Gathered, GatherFault>
+    ensures ok { IfOk result (λ gathered. IsJoined shared.now.protocol shared.now.shape seats.now gathered.log.items gathered.steps.items) }
+    ensures err { IfErr result (λ fault. IsParted shared.now.protocol shared.now.shape seats.now fault) }
+    ensures not_all { (core : ℕ) → IsOdd shared.now.shape.cores seats.now core → result ≡ Err (NotAllSeats core) }
+{
+    if let Some(core) = odd_core(seats, shared.shape().cores()) {
+        return Err(GatherFault::NotAllSeats { core });
+    }
+    let bench = shared.lock(rt);
+    join(alloc, &bench, seats)
+}
+
+// Joins what the bench holds with the seats' answers.
+fn join(alloc: Global, bench: &Bench, seats: &[Seat]) -> Result<Gathered, GatherFault>
+    requires { OneForEach bench.now.situation.shape.cores seats.now }
+    ensures ok { IfOk result (λ gathered. IsJoined bench.now.situation.protocol bench.now.situation.shape seats.now gathered.log.items gathered.steps.items) }
+    ensures err { IfErr result (λ fault. IsParted bench.now.situation.protocol bench.now.situation.shape seats.now fault) }
+{
+    bench.kept();
+    asked_are_tallied();
+    turns_are_served();
+    if let Some(core) = busy_core(bench, seats) {
+        return Err(GatherFault::Pending { core });
+    }
+    if let Some((core, place)) = difference(bench.log().items(), seats, bench.shape().cores()) {
+        return Err(GatherFault::Mismatch { core, place });
+    }
+    let Ok(gathered) = copy(alloc, bench) else {
+        return Err(GatherFault::NoMemory);
+    };
+    Ok(gathered)
+}
+
+fn copy(alloc: Global, bench: &Bench) -> Result<Gathered, NoMemory>
+    ensures log { IfOk result (λ gathered. gathered.log.items ≡ bench.now.situation.log) }
+    ensures steps { IfOk result (λ gathered. gathered.steps.items ≡ bench.now.steps) }
+{
+    let log = bench.log().copy()?;
+    let steps = Vec::from_slice(alloc, bench.steps())?;
+    Ok(Gathered { log, steps })
+}
+
+// The least core with no seat or several, or else the first strange one.
+fn odd_core(seats: &[Seat], cores: u32) -> Option<u32>
+    ensures some { IfSome result (λ core. IsOdd cores seats.now core) }
+    ensures none { IfNone result (OneForEach cores seats.now) }
+{
+    for core in 0..cores {
+        if count_seats(seats, core) != 1 {
+            return Some(core);
+        }
+    }
+    for seat in seats {
+        if seat.core() >= cores {
+            return Some(seat.core());
+        }
+    }
+    None
+}
+
+// How many seats the core has.
+fn count_seats(seats: &[Seat], core: u32) -> usize
+    ensures { result ≡ seats_of seats.now core }
+{
+    let mut count = 0;
+    for seat in seats {
+        if seat.core() == core {
+            count += 1;
+        }
+    }
+    count
+}
+
+// The least core with work under way or a pending operation.
+fn busy_core(bench: &Bench, seats: &[Seat]) -> Option<u32>
+    ensures some { IfSome result (λ core. (core < bench.now.situation.shape.cores) × ((lower : ℕ) → lower < core → IsFree bench.now seats.now lower) × ¬ IsFree bench.now seats.now core) }
+    ensures none { IfNone result ((core : ℕ) → core < bench.now.situation.shape.cores → IsFree bench.now seats.now core) }
+{
+    for core in 0..bench.shape().cores() {
+        if bench.work(core).is_some() || !is_idle(seats, core) {
+            return Some(core);
+        }
+    }
+    None
+}
+
+// Whether the core's seats have no pending operation.
+fn is_idle(seats: &[Seat], core: u32) -> bool
+    ensures sound { IsTrue result → IsIdle seats.now core }
+    ensures whole { IsIdle seats.now core → IsTrue result }
+{
+    for seat in seats {
+        if seat.core() == core && seat.pending().is_some() {
+            return false;
+        }
+    }
+    true
+}
+
+// The least core whose operations among the items differ from the answers of its seat, and where.
+fn difference(items: &[Item], seats: &[Seat], cores: u32) -> Option<(u32, u64)>
+    ensures none { IfNone result ((core : ℕ) → core < cores → IsAnswered items.now seats.now core) }
+    ensures some { IfSome result (λ at. (at.0 < cores) × ((lower : ℕ) → lower < at.0 → IsAnswered items.now seats.now lower) × DiffersAt items.now seats.now at.0 at.1) }
+{
+    for core in 0..cores {
+        if let Some(place) = difference_of(items, seats, core) {
+            return Some((core, place));
+        }
+    }
+    None
+}
+
+// Where the answers of a seat of the core differ from its operations.
+fn difference_of(items: &[Item], seats: &[Seat], core: u32) -> Option<u64>
+    ensures none { IfNone result (IsAnswered items.now seats.now core) }
+    ensures some { IfSome result (λ place. DiffersAt items.now seats.now core place) }
+{
+    for seat in seats {
+        if seat.core() == core {
+            if let Some(place) = first_difference(items, core, seat.answers()) {
+                return Some(place);
+            }
+        }
+    }
+    None
+}
+
+// The first place where the core's operations among the items differ from the answers.
+fn first_difference(items: &[Item], core: u32, answers: &[Did]) -> Option<u64>
+    ensures none { IfNone result (answers_of items.now core ≡ answers.now) }
+    ensures some { IfSome result (λ place. IsFirst (answers_of items.now core) answers.now place) }
+{
+    let mut next = 0usize;
+    for item in items {
+        if let Some(did) = own_did(item, core) {
+            if !stands_at(answers, next, did) {
+                return Some(next as u64);
+            }
+            next += 1;
+        }
+    }
+    if next < answers.len() {
+        return Some(next as u64);
+    }
+    None
+}
+
+// Whether the operation stands at this place of the answers.
+fn stands_at(answers: &[Did], place: usize, did: Did) -> bool
+    ensures sound { IsTrue result → slice_get answers.now place ≡ Some did }
+    ensures whole { slice_get answers.now place ≡ Some did → IsTrue result }
+{
+    place < answers.len() && is_same(answers[place], did)
+}
+
+// Whether two operations are one.
+fn is_same(one: Did, other: Did) -> bool
+    ensures sound { IsTrue result → one ≡ other }
+    ensures whole { one ≡ other → IsTrue result }
+{
+    one == other
+}
+
+// The item's operation, if it is the core's.
+fn own_did(item: &Item, core: u32) -> Option<Did>
+    ensures { option_to_list result ≡ answers_of (item.now ∷ []) core }
+{
+    item.did().filter(|did| did.core == core)
+}

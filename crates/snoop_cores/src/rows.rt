@@ -1,0 +1,102 @@
+//! Rows that threads perform, one thread for each seat.
+ghost use Rattle.std.specs.Prelude.{◌≡◌, ℕ, ◌<◌, length, IfOk, IfErr, IfSome, IfNone, OnOk, OnErr, All, IsTrue, None, slice_index_or};
+ghost use Rattle.snoop_cores.specs.Seats.{Seating};
+ghost use Rattle.snoop_cores.specs.Rows.{RanTo, IsServed, IsUnserved, IsRunDenied};
+
+use crate::fault::RunFault;
+use crate::gate::Gate;
+use crate::seat::Seat;
+use crate::stop::Stop;
+use snoop_trace::Row;
+use std::alloc::Global;
+use std::sync::Wait;
+use std::thread;
+use std::thread::Threads;
+
+/// Performs each core's rows in order, with a thread for each seat, and reports where each seat stopped: `None` where it has done
+/// all its rows.
+///
+/// Before each row it waits for the gate. Where a thread cannot be made, seats share one. A fault leaves all as it was: `NoSeat` names
+/// the core of the first row that has no seat, or whose address is outside the shape of a seat of its core; `NoMemory` where the list
+/// of stops was refused.
+pub fn run_seats<R: Threads + Wait + Sync, G: Gate + Sync>(
+    rt: &R,
+    alloc: Global,
+    seats: &mut [Seat],
+    rows: &[Row],
+    gate: &G,
+) -> Result<Vec<Option<Stop>>, RunFault>
+    ensures stops { IfOk result (λ stops. length stops.items ≡ length seats.old) }
+    ensures ran { IfOk result (λ stops. (place : ℕ) (d : Seating) → place < length seats.old → RanTo (slice_index_or stops.items place None) rows.now (slice_index_or seats.old place d) (slice_index_or seats.new place d)) }
+    ensures len { length seats.new ≡ length seats.old }
+    ensures served { OnOk result (All (IsServed seats.old) rows.now) }
+    ensures denied { IfErr result (λ fault. IsRunDenied seats.old rows.now fault) }
+    ensures err { OnErr result (seats.new ≡ seats.old) }
+{
+    if let Some(row) = unserved(seats, rows) {
+        return Err(RunFault::NoSeat { core: row.core });
+    }
+    let Ok(mut stops) = vec![in alloc; None; seats.len()] else {
+        return Err(RunFault::NoMemory);
+    };
+    if seats.is_empty() {
+        return Ok(stops);
+    }
+    run_all(rt, seats, rows, gate);
+    for i in 0..seats.len() {
+        stops[i] = seats[i].stop();
+    }
+    Ok(stops)
+}
+
+// The first row that is not served.
+fn unserved(seats: &[Seat], rows: &[Row]) -> Option<Row>
+    ensures some { IfSome result (λ row. IsUnserved seats.now rows.now row) }
+    ensures none { IfNone result (All (IsServed seats.now) rows.now) }
+{
+    for row in rows {
+        if !is_served(seats, row) {
+            return Some(*row);
+        }
+    }
+    None
+}
+
+// Whether the row's core has a seat, and the row's address lies within the shape of each of its seats.
+fn is_served(seats: &[Seat], row: &Row) -> bool
+    ensures sound { IsTrue result → IsServed seats.now row.now }
+    ensures whole { IsServed seats.now row.now → IsTrue result }
+{
+    let mut found = false;
+    for seat in seats {
+        if seat.core() == row.core {
+            if seat.shape().block_of(row.address).is_none() {
+                return false;
+            }
+            found = true;
+        }
+    }
+    found
+}
+
+// Each seat runs its rows, in a thread of its own where one can be made.
+fn run_all<R: Threads + Wait + Sync, G: Gate + Sync>(
+    rt: &R,
+    seats: &mut [Seat],
+    rows: &[Row],
+    gate: &G,
+)
+    requires { 0 < length seats.old }
+    ensures len { length seats.new ≡ length seats.old }
+    ensures ran { (place : ℕ) (d : Seating) → place < length seats.old → RanTo (slice_index_or seats.new place d).stop rows.now (slice_index_or seats.old place d) (slice_index_or seats.new place d) }
+{
+    let threads = seats.len();
+    thread::for_each_mut(
+        rt,
+        seats,
+        threads,
+        &|_, seat: &mut Seat|
+            ensures { RanTo seat.exit.now.stop rows.entry.now seat.entry.now seat.exit.now }
+        { seat.run(rt, rows, gate) },
+    );
+}

@@ -1,0 +1,306 @@
+//! The right to a core's operations.
+ghost use Rattle.std.specs.Prelude.{◌≡◌, ◌<◌, ◌≤◌, ◌↔◌, ◌∷◌, [], Err, Some, None, IfOk, IfErr, OnOk, OnErr};
+ghost use Rattle.snoop_trace.specs.declared.step.Op.TheVariants.{Load, Store, Evict};
+ghost use Rattle.snoop_history.specs.declared.items.Did.{Did};
+ghost use Rattle.snoop_history.specs.History.{answers_of, flat};
+ghost use Rattle.snoop_history.specs.Totals.{capped_totals, totals_of};
+ghost use Rattle.snoop_bench.specs.Works.{Does};
+ghost use Rattle.snoop_cores.specs.Seats.{IsNew, Sees};
+ghost use Rattle.snoop_cores.specs.Calls.{Completes, Fails, Foretold, Keeps};
+ghost use Rattle.snoop_cores.specs.Rows.{Grows, RanTo};
+ghost use Rattle.snoop_cores.specs.declared.fault.ViewFault.TheVariants.{NoBlock, NoVersion};
+
+use crate::fault::{SeatFault, ViewFault};
+use crate::gate::Gate;
+use crate::own::{find_own, find_same};
+use crate::share::Share;
+use crate::stop::Stop;
+use crate::view::{read_totals, read_value};
+use snoop_bench::{Evicted, Turn, Work};
+use snoop_history::{Did, Totals};
+use snoop_trace::{Op, Row, Shape};
+use snoop_versions::VersionReader;
+use std::alloc::Global;
+use std::marker::Model;
+use std::sync::Wait;
+
+/// The right to a core's operations: a share of the lock, and a reader of the published versions.
+///
+/// An operation takes turns under the lock until it is over. What a seat then reports it has read in a published version, whose
+/// history is legal and has the core's operations exactly as the seat was answered them. It is not `Drop`: end it by `end`.
+pub struct Seat {
+    core: u32,
+    share: Share,
+    reader: VersionReader,
+    answers: Vec<Did>,
+    pending: Option<Work>,
+    strange: Option<Did>,
+    stop: Option<Stop>,
+}
+
+impl Model for Seat {
+    ghost use Rattle.std.specs.Prelude.{◌≡◌, ◌<◌};
+    ghost use Rattle.snoop_history.specs.History.{answers_of};
+    ghost use Rattle.snoop_cores.specs.Seats.{BeginsWith, Seating};
+
+    ghost Value = { Seating };
+
+    ghost view = { λ s. record { core = s.core; shape = s.share.shape; seen = s.reader.seen; answers = s.answers.items; pending = s.pending; strange = s.strange; stop = s.stop } };
+
+    ghost invariant = { λ s. ((s.reader.cores ≡ s.share.shape.cores) × (s.reader.blocks ≡ s.share.shape.blocks))
+        × (s.core < s.share.shape.cores) × BeginsWith (answers_of s.reader.seen s.core) s.answers.items };
+}
+
+impl Seat {
+    // A seat that has done nothing.
+    pub(crate) fn new(alloc: Global, share: Share, reader: VersionReader, core: u32) -> Seat
+        requires core { core < share.shape.cores }
+        requires reader { (reader.cores ≡ share.shape.cores) × (reader.blocks ≡ share.shape.blocks) }
+        ensures { IsNew core share.shape result }
+    {
+        Seat {
+            core,
+            share,
+            reader,
+            answers: Vec::new(alloc),
+            pending: None,
+            strange: None,
+            stop: None,
+        }
+    }
+
+    /// The core's number.
+    pub fn core(&self) -> u32
+        ensures { result ≡ self.now.core }
+    {
+        self.core
+    }
+
+    /// The shape of the machine.
+    pub fn shape(&self) -> Shape
+        ensures { result ≡ self.now.shape }
+    {
+        self.share.shape()
+    }
+
+    /// What the seat was answered: its loads and stores, in order.
+    pub fn answers(&self) -> &[Did]
+        ensures { result.now ≡ self.now.answers }
+    {
+        &self.answers
+    }
+
+    /// The operation that out of memory has left pending.
+    pub fn pending(&self) -> Option<Work>
+        ensures { result ≡ self.now.pending }
+    {
+        self.pending
+    }
+
+    // Where the seat's rows stopped, when it ran them last.
+    pub(crate) fn stop(&self) -> Option<Stop>
+        ensures { result ≡ self.now.stop }
+    {
+        self.stop
+    }
+
+    /// Loads the block, and reports its value.
+    ///
+    /// `NoBlock` outside the shape. `Stranger` where the published versions show an operation of this core that the seat did not
+    /// make; then always. `Busy` where another operation is pending. `NoMemory` leaves this one pending: the same call, made again,
+    /// goes on with it and does it once.
+    pub fn load<R: Wait>(&mut self, rt: &R, block: u32) -> Result<u64, SeatFault>
+        ensures ok { IfOk result (λ value. (did : Did) × Completes (did ∷ []) self.old self.new × Does did (record { block = block; op = Load }) × (did.value ≡ value)) }
+        ensures err { IfErr result (λ fault. Fails fault (record { block = block; op = Load }) self.old self.new) }
+        ensures foretold { Foretold (record { block = block; op = Load }) self.old (λ fault. result ≡ Err fault) }
+    {
+        let work = Work {
+            block,
+            op: Op::Load,
+        };
+        let did = self.perform(rt, work)?;
+        Ok(did.value)
+    }
+
+    /// Stores a value in the block.
+    ///
+    /// `NoBlock` outside the shape. `Stranger` where the published versions show an operation of this core that the seat did not
+    /// make; then always. `Busy` where another operation is pending. `NoMemory` leaves this one pending: the same call, made again,
+    /// goes on with it and does it once.
+    pub fn store<R: Wait>(&mut self, rt: &R, block: u32, value: u64) -> Result<(), SeatFault>
+        ensures ok { OnOk result ((did : Did) × Completes (did ∷ []) self.old self.new × Does did (record { block = block; op = Store value })) }
+        ensures err { IfErr result (λ fault. Fails fault (record { block = block; op = Store value }) self.old self.new) }
+        ensures foretold { Foretold (record { block = block; op = Store value }) self.old (λ fault. result ≡ Err fault) }
+    {
+        let work = Work {
+            block,
+            op: Op::Store(value),
+        };
+        self.perform(rt, work)?;
+        Ok(())
+    }
+
+    /// Gives the block up, and reports how. It adds no answer.
+    ///
+    /// `NoBlock` outside the shape. `Stranger` where the published versions show an operation of this core that the seat did not
+    /// make; then always. `Busy` where another operation is pending. `NoMemory` leaves this one pending: the same call, made again,
+    /// goes on with it and does it once.
+    pub fn evict<R: Wait>(&mut self, rt: &R, block: u32) -> Result<Evicted, SeatFault>
+        ensures ok { OnOk result (Completes [] self.old self.new) }
+        ensures err { IfErr result (λ fault. Fails fault (record { block = block; op = Evict }) self.old self.new) }
+        ensures foretold { Foretold (record { block = block; op = Evict }) self.old (λ fault. result ≡ Err fault) }
+    {
+        let work = Work {
+            block,
+            op: Op::Evict,
+        };
+        self.begin(work)?;
+        let Ok(turn) = self.share.finish(rt, self.core, work) else {
+            return Err(SeatFault::NoMemory);
+        };
+        let Turn::Evicted(evicted) = turn else {
+            unreachable!()
+        };
+        let found = find_same(rt, &mut self.reader, self.core, &self.answers, work);
+        if let Err(did) = found {
+            self.strange = Some(did);
+            return Err(SeatFault::Stranger(did));
+        }
+        self.pending = None;
+        Ok(evicted)
+    }
+
+    /// The block's value in one published version, which has all of the seat's operations. It does not wait.
+    ///
+    /// `NoBlock` outside the shape; `NoVersion` where there is none to enter.
+    pub fn value(&mut self, block: u32) -> Result<u64, ViewFault>
+        ensures value { IfOk result (λ value. value ≡ flat self.new.seen block) }
+        ensures sees { OnOk result (Sees self.old.seen self.new.seen) }
+        ensures outside { (result ≡ Err NoBlock) ↔ (self.old.shape.blocks ≤ block) }
+        ensures same { self.new ≡ record self.old { seen = self.new.seen } }
+        ensures err { OnErr result (self.new ≡ self.old) }
+    {
+        read_value(&mut self.reader, self.share.shape().blocks(), block)
+    }
+
+    /// The counts of one published version, which has all of the seat's operations. It does not wait.
+    ///
+    /// `NoVersion` where there is none to enter.
+    pub fn totals(&mut self) -> Result<Totals, ViewFault>
+        ensures totals { IfOk result (λ totals. totals ≡ capped_totals (totals_of self.new.seen)) }
+        ensures sees { OnOk result (Sees self.old.seen self.new.seen) }
+        ensures same { self.new ≡ record self.old { seen = self.new.seen } }
+        ensures err { IfErr result (λ fault. (fault ≡ NoVersion) × (self.new ≡ self.old)) }
+    {
+        read_totals(&mut self.reader)
+    }
+
+    /// Gives the share up. The last one to end waits for the readers that are inside, and ends the versions.
+    pub fn end<R: Wait>(self, rt: &R) {
+        let Seat {
+            core: _,
+            share,
+            reader,
+            answers: _,
+            pending: _,
+            strange: _,
+            stop: _,
+        } = self;
+        drop(reader);
+        share.end(rt);
+    }
+
+    // Takes the work up, which is not pending yet or is the pending one.
+    fn begin(&mut self, work: Work) -> Result<(), SeatFault>
+        ensures ok { OnOk result ((self.new ≡ record self.old { pending = Some work; strange = None }) × (self.old.strange ≡ None)) }
+        ensures err { IfErr result (λ fault. Fails fault work self.old self.new) }
+        ensures foretold { Foretold work self.old (λ fault. result ≡ Err fault) }
+    {
+        if work.block >= self.share.shape().blocks() {
+            return Err(SeatFault::NoBlock);
+        }
+        if let Some(did) = self.strange {
+            return Err(SeatFault::Stranger(did));
+        }
+        if let Some(other) = self.pending {
+            if other != work {
+                return Err(SeatFault::Busy(other));
+            }
+        }
+        self.pending = Some(work);
+        Ok(())
+    }
+
+    // Performs a load or a store, and adds its answer.
+    fn perform<R: Wait>(&mut self, rt: &R, work: Work) -> Result<Did, SeatFault>
+        ensures ok { IfOk result (λ did. Completes (did ∷ []) self.old self.new × Does did work) }
+        ensures err { IfErr result (λ fault. Fails fault work self.old self.new) }
+        ensures foretold { Foretold work self.old (λ fault. result ≡ Err fault) }
+    {
+        self.begin(work)?;
+        let Ok(()) = self.answers.reserve(1) else {
+            return Err(SeatFault::NoMemory);
+        };
+        let Ok(_) = self.share.finish(rt, self.core, work) else {
+            return Err(SeatFault::NoMemory);
+        };
+        let did = match find_own(rt, &mut self.reader, self.core, &self.answers, work) {
+            Ok(did) => did,
+            Err(did) => {
+                self.strange = Some(did);
+                return Err(SeatFault::Stranger(did));
+            }
+        };
+        self.answers.push_reserved(did);
+        self.pending = None;
+        Ok(did)
+    }
+
+    /// Performs the core's rows, in order, and keeps where it stopped.
+    pub(crate) fn run<R: Wait, G: Gate>(&mut self, rt: &R, rows: &[Row], gate: &G)
+        ensures { RanTo self.new.stop rows.now self.old self.new }
+    {
+        let stop = self.run_rows(rt, rows, gate);
+        self.stop = stop;
+    }
+
+    // Performs the core's rows, in order, and reports where it stopped.
+    fn run_rows<R: Wait, G: Gate>(&mut self, rt: &R, rows: &[Row], gate: &G) -> Option<Stop>
+        ensures { RanTo result rows.now self.old self.new }
+    {
+        let core = self.core();
+        let mut number = 0usize;
+        for row in rows {
+            if row.core == core {
+                if gate.before(core, number as u64).is_err() {
+                    return Some(Stop::Late(number as u64));
+                }
+                if let Err(fault) = self.perform_row(rt, row) {
+                    return Some(Stop::Fault(number as u64, fault));
+                }
+                number += 1;
+            }
+        }
+        None
+    }
+
+    // Performs one row of the core. A row outside the shape is refused as its block.
+    fn perform_row<R: Wait>(&mut self, rt: &R, row: &Row) -> Result<(), SeatFault>
+        ensures ok { OnOk result (Grows (row.now ∷ []) self.old self.new) }
+        ensures err { OnErr result (Keeps self.old self.new) }
+    {
+        let Some(block) = self.share.shape().block_of(row.address) else {
+            return Err(SeatFault::NoBlock);
+        };
+        match row.op {
+            Op::Load => {
+                self.load(rt, block)?;
+            }
+            Op::Store(value) => self.store(rt, block, value)?,
+            Op::Evict => {
+                self.evict(rt, block)?;
+            }
+        }
+        Ok(())
+    }
+}

@@ -1,0 +1,106 @@
+//! A share of the lock.
+ghost use Rattle.std.specs.Prelude.{◌≡◌, IfOk};
+ghost use Rattle.std.specs.Sync.Mutex.{mutex_guard_value};
+ghost use Rattle.snoop_cores.specs.Own.{IsOver};
+
+use snoop_bench::{AdvanceFault, Bench, Turn, Work};
+use snoop_rules::Protocol;
+use snoop_trace::{NoMemory, Shape};
+use std::alloc::Global;
+use std::sync::{Arc, Mutex, MutexGuard, Wait};
+
+/// A share of the lock, with the protocol and the shape of the machine behind it. The last share to end also ends the bench.
+pub(crate) struct Share {
+    protocol: Protocol,
+    shape: Shape,
+    bench: Arc<Mutex<Bench>, Global>,
+}
+
+impl Share {
+    /// The first share of a lock round this bench. `NoMemory` also ends the bench.
+    pub(crate) fn new<R: Wait>(rt: &R, alloc: Global, bench: Bench) -> Result<Share, NoMemory>
+        ensures { IfOk result (λ share. (share.protocol ≡ bench.situation.protocol) × (share.shape ≡ bench.situation.shape)) }
+    {
+        let protocol = bench.protocol();
+        let shape = bench.shape();
+        match Arc::new(alloc, Mutex::new(bench)) {
+            Ok(bench) => Ok(Share {
+                protocol,
+                shape,
+                bench,
+            }),
+            Err(failed) => {
+                failed.value.into_inner().end(rt);
+                Err(NoMemory)
+            }
+        }
+    }
+
+    /// Another share of the lock.
+    pub(crate) fn another(&self) -> Result<Share, NoMemory>
+        ensures { IfOk result (λ share. (share.protocol ≡ self.now.protocol) × (share.shape ≡ self.now.shape)) }
+    {
+        let bench = Arc::try_clone(&self.bench)?;
+        Ok(Share {
+            protocol: self.protocol,
+            shape: self.shape,
+            bench,
+        })
+    }
+
+    /// The machine's protocol.
+    pub(crate) fn protocol(&self) -> Protocol
+        ensures { result ≡ self.now.protocol }
+    {
+        self.protocol
+    }
+
+    /// The machine's shape.
+    pub(crate) fn shape(&self) -> Shape
+        ensures { result ≡ self.now.shape }
+    {
+        self.shape
+    }
+
+    /// Takes the lock, again and again until the bench under it is of this protocol and shape.
+    pub(crate) fn lock<R: Wait>(&self, rt: &R) -> MutexGuard<'_, Bench>
+        ensures protocol { (mutex_guard_value result).situation.protocol ≡ self.now.protocol }
+        ensures shape { (mutex_guard_value result).situation.shape ≡ self.now.shape }
+    {
+        for _ in rt.forever() {
+            let bench = self.bench.lock(rt);
+            if bench.protocol() == self.protocol && bench.shape() == self.shape {
+                return bench;
+            }
+        }
+        unreachable!()
+    }
+
+    /// Takes turns of the core until its work is over, each under the lock, and reports the last of them.
+    pub(crate) fn finish<R: Wait>(&self, rt: &R, core: u32, work: Work) -> Result<Turn, NoMemory>
+        ensures { IfOk result (λ turn. IsOver work.op turn) }
+    {
+        for _ in rt.forever() {
+            let turn = self.lock(rt).advance(rt, core, work);
+            match turn {
+                Ok(Turn::Going) => {}
+                Ok(turn) => return Ok(turn),
+                Err(AdvanceFault::NoMemory) => return Err(NoMemory),
+                Err(_) => {}
+            }
+        }
+        unreachable!()
+    }
+
+    /// Gives the share up. The last one to end waits for the readers that are inside, and ends the versions.
+    pub(crate) fn end<R: Wait>(self, rt: &R) {
+        let Share {
+            protocol: _,
+            shape: _,
+            bench,
+        } = self;
+        if let Some(lock) = Arc::into_inner(bench) {
+            lock.into_inner().end(rt);
+        }
+    }
+}

@@ -1,0 +1,198 @@
+//! The shared machine, its seats and its watches.
+ghost use Rattle.std.specs.Prelude.{◌≡◌, ◌+◌, ◌^◌, ◌<◌, ◌≤◌, [], Err, IfOk, OnOk};
+ghost use Rattle.std.specs.Sync.Mutex.{mutex_guard_value};
+ghost use Rattle.snoop_cores.specs.Seats.{AreSeats, AreWatches, IsNew};
+ghost use Rattle.snoop_cores.specs.declared.fault.MakeFault.TheVariants.{NoPlace};
+
+use crate::fault::MakeFault;
+use crate::seat::Seat;
+use crate::share::Share;
+use crate::watch::Watch;
+use snoop_bench::Bench;
+use snoop_rules::Protocol;
+use snoop_trace::{NoMemory, Shape};
+use snoop_versions::{Readers, VersionReader};
+use std::alloc::Global;
+use std::marker::Model;
+use std::sync::{MutexGuard, Wait};
+
+/// A machine under a lock.
+///
+/// It is not `Drop`: end it by `end`.
+pub struct Shared {
+    share: Share,
+}
+
+impl Model for Shared {
+    ghost use Rattle.snoop_cores.specs.Seats.{Setup};
+
+    ghost Value = { Setup };
+
+    ghost view = { λ s. record { protocol = s.share.protocol; shape = s.share.shape } };
+}
+
+impl Shared {
+    /// A machine at reset under a lock, with a seat for each core, in order of core, and so many watches.
+    ///
+    /// `NoPlace` where cores and watches are 2^32 or more together, or a reader of versions found no place; `NoMemory` where a
+    /// growth was refused.
+    pub fn new<R: Wait>(
+        rt: &R,
+        alloc: Global,
+        protocol: Protocol,
+        shape: Shape,
+        watches: u32,
+    ) -> Result<(Shared, Vec<Seat>, Vec<Watch>), MakeFault>
+        ensures setup { IfOk result (λ made. made.0 ≡ record { protocol = protocol; shape = shape }) }
+        ensures seats { IfOk result (λ made. AreSeats shape made.1.items) }
+        ensures watches { IfOk result (λ made. AreWatches watches shape made.2.items) }
+        ensures too_many { 2 ^ 32 ≤ shape.cores + watches → result ≡ Err NoPlace }
+    {
+        let places = shape.cores() as usize + watches as usize;
+        if places >= 1 << 32 {
+            return Err(MakeFault::NoPlace);
+        }
+        let Ok(bench) = Bench::new(alloc, protocol, shape, places) else {
+            return Err(MakeFault::NoMemory);
+        };
+        let Ok(readers) = bench.readers() else {
+            bench.end(rt);
+            return Err(MakeFault::NoMemory);
+        };
+        let Ok(share) = Share::new(rt, alloc, bench) else {
+            return Err(MakeFault::NoMemory);
+        };
+        let shared = Shared { share };
+        let mut seats = Vec::new(alloc);
+        let mut all = Vec::new(alloc);
+        match shared.fill(rt, alloc, &readers, watches, &mut seats, &mut all) {
+            Ok(()) => Ok((shared, seats, all)),
+            Err(fault) => {
+                end_seats(rt, seats);
+                end_watches(rt, all);
+                shared.end(rt);
+                Err(fault)
+            }
+        }
+    }
+
+    // Adds the seats and the watches, or reports why one cannot be made.
+    fn fill<R: Wait>(
+        &self,
+        rt: &R,
+        alloc: Global,
+        readers: &Readers,
+        count: u32,
+        seats: &mut Vec<Seat>,
+        watches: &mut Vec<Watch>,
+    ) -> Result<(), MakeFault>
+        requires { (seats.old.items ≡ []) × (watches.old.items ≡ []) }
+        ensures seats { OnOk result (AreSeats self.now.shape seats.new.items) }
+        ensures watches { OnOk result (AreWatches count self.now.shape watches.new.items) }
+    {
+        self.add_seats(rt, alloc, readers, seats)?;
+        self.add_watches(rt, readers, count, watches)
+    }
+
+    // Adds a seat for each core, or reports why one cannot be made.
+    fn add_seats<R: Wait>(
+        &self,
+        rt: &R,
+        alloc: Global,
+        readers: &Readers,
+        seats: &mut Vec<Seat>,
+    ) -> Result<(), MakeFault>
+        requires { seats.old.items ≡ [] }
+        ensures { OnOk result (AreSeats self.now.shape seats.new.items) }
+    {
+        for core in 0..self.share.shape().cores() {
+            let (share, reader) = self.entrance(readers)?;
+            let seat = Seat::new(alloc, share, reader, core);
+            if let Err(failed) = seats.push(seat) {
+                failed.value.end(rt);
+                return Err(MakeFault::NoMemory);
+            }
+        }
+        Ok(())
+    }
+
+    // Adds so many watches, or reports why one cannot be made.
+    fn add_watches<R: Wait>(
+        &self,
+        rt: &R,
+        readers: &Readers,
+        count: u32,
+        watches: &mut Vec<Watch>,
+    ) -> Result<(), MakeFault>
+        requires { watches.old.items ≡ [] }
+        ensures { OnOk result (AreWatches count self.now.shape watches.new.items) }
+    {
+        for _ in 0..count {
+            let (share, reader) = self.entrance(readers)?;
+            let watch = Watch::new(share, reader);
+            if let Err(failed) = watches.push(watch) {
+                failed.value.end(rt);
+                return Err(MakeFault::NoMemory);
+            }
+        }
+        Ok(())
+    }
+
+    // A share of the lock and a reader of versions, for a seat or a watch.
+    fn entrance(&self, readers: &Readers) -> Result<(Share, VersionReader), MakeFault>
+        ensures share { IfOk result (λ entrance. entrance.0.shape ≡ self.now.shape) }
+        ensures reader { IfOk result (λ entrance. (entrance.1.cores ≡ self.now.shape.cores) × (entrance.1.blocks ≡ self.now.shape.blocks)) }
+    {
+        let Some(reader) = readers.reader(self.share.shape()) else {
+            return Err(MakeFault::NoPlace);
+        };
+        let Ok(share) = self.share.another() else {
+            return Err(MakeFault::NoMemory);
+        };
+        Ok((share, reader))
+    }
+
+    /// The machine's protocol.
+    pub fn protocol(&self) -> Protocol
+        ensures { result ≡ self.now.protocol }
+    {
+        self.share.protocol()
+    }
+
+    /// The machine's shape.
+    pub fn shape(&self) -> Shape
+        ensures { result ≡ self.now.shape }
+    {
+        self.share.shape()
+    }
+
+    /// Takes the lock.
+    pub(crate) fn lock<R: Wait>(&self, rt: &R) -> MutexGuard<'_, Bench>
+        ensures protocol { (mutex_guard_value result).situation.protocol ≡ self.now.protocol }
+        ensures shape { (mutex_guard_value result).situation.shape ≡ self.now.shape }
+    {
+        self.share.lock(rt)
+    }
+
+    /// Gives the share up. The last one to end waits for the readers that are inside, and ends the versions.
+    pub fn end<R: Wait>(self, rt: &R) {
+        let Shared { share } = self;
+        share.end(rt);
+    }
+}
+
+/// Ends the seats.
+pub fn end_seats<R: Wait>(rt: &R, mut seats: Vec<Seat>) {
+    while let Some(seat) = seats.pop() {
+        seat.end(rt);
+    }
+    seats.destroy_empty();
+}
+
+/// Ends the watches.
+pub fn end_watches<R: Wait>(rt: &R, mut watches: Vec<Watch>) {
+    while let Some(watch) = watches.pop() {
+        watch.end(rt);
+    }
+    watches.destroy_empty();
+}

@@ -1,0 +1,49 @@
+-- What a simulation of rows in threads leaves, by what it answers.
+-- Source: this project's profile.
+use Rattle.std.specs.Prelude.{◌≡◌, ℕ, ◌<◌, List, Option, Result, Ok, Err, ◌⊎◌}
+use Rattle.std.specs.Io.KnownBytes.{Appends}
+use Rattle.snoop_trace.specs.Extent.{Extent}
+use Rattle.snoop_trace.specs.Output.{AppendsFront, steps_text}
+use Rattle.snoop_trace.specs.declared.step.Row.{Row}
+use Rattle.snoop_trace.specs.declared.step.Step.{Step}
+use Rattle.snoop_rules.specs.declared.names.Protocol.{Protocol}
+use Rattle.snoop_history.specs.History.{answers_of}
+use Rattle.snoop_machine.specs.Situation.{Situation}
+use Rattle.snoop_machine.specs.Quiet.{IsQuiet}
+use Rattle.snoop_machine.specs.Run.{AllTaken}
+use Rattle.snoop_cores.specs.Rows.{Answers, rows_of}
+use Rattle.snoop_sim.specs.SimulatedRun.{ReadsRows}
+use Rattle.snoop_sim.specs.ThreadsFault.{IsOfThreads}
+use Rattle.snoop_sim.specs.declared.fault.ThreadsFault.{ThreadsFault}
+use Rattle.snoop_sim.specs.declared.fault.ThreadsFault.TheVariants.{Text, NoMemory, Write}
+
+-- the steps, each of them taken, lead from reset to rest, and each core's operations are the loads and stores of its rows, in order
+pub record Threaded (protocol : Protocol) (shape : Extent) (rows : List Row) (steps : List Step) : Type 0 where
+  pub final : Situation
+  pub taken : AllTaken protocol shape steps final
+  pub quiet : IsQuiet final
+  pub answered : (core : ℕ) → core < shape.cores → Answers shape (rows_of core rows) (answers_of final.log core)
+
+-- the writer got the texts of such steps
+pub record WritesThreaded (protocol : Protocol) (shape : Extent) (rows : List Row) (old new : Option (List ℕ)) : Type 0 where
+  pub steps : List Step
+  pub threaded : Threaded protocol shape rows steps
+  pub output : Appends old new (steps_text shape steps)
+
+-- the writer got a beginning of them
+pub record BeginsThreaded (protocol : Protocol) (shape : Extent) (rows : List Row) (old new : Option (List ℕ)) : Type 0 where
+  pub steps : List Step
+  pub threaded : Threaded protocol shape rows steps
+  pub output : AppendsFront old new (steps_text shape steps)
+
+-- what was written for the rows that were read: all the steps; a beginning of them; or nothing, where there were none to write
+abbrev pub Leaves : Protocol → Extent → List Row → Result (Unit {0}) ThreadsFault → Option (List ℕ) → Option (List ℕ) → Type 0
+Leaves protocol shape rows (Ok u) old new = WritesThreaded protocol shape rows old new
+Leaves protocol shape rows (Err Write) old new = BeginsThreaded protocol shape rows old new
+Leaves protocol shape rows (Err NoMemory) old new = (new ≡ old) ⊎ BeginsThreaded protocol shape rows old new
+Leaves protocol shape rows (Err fault) old new = IsOfThreads fault × (new ≡ old)
+
+-- the text was refused, and nothing written; or its rows were read, and this was written
+abbrev pub SimulatesThreads : Protocol → Extent → Option (List ℕ) → Result (Unit {0}) ThreadsFault → Option (List ℕ) → Option (List ℕ) → Type 0
+SimulatesThreads protocol shape input (Err (Text fault)) old new = ReadsRows shape input (Err fault) × (new ≡ old)
+SimulatesThreads protocol shape input answer old new = (rows : List Row) × (ReadsRows shape input (Ok rows) × Leaves protocol shape rows answer old new)

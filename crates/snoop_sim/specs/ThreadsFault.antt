@@ -1,0 +1,52 @@
+-- The faults of a simulation in threads.
+-- Source: this project's profile.
+use Rattle.std.specs.Prelude.{⊤}
+use Rattle.snoop_trace.specs.declared.fault.WriteFault.{WriteFault}
+use Rattle.snoop_trace.specs.declared.fault.WriteFault.TheVariants as write
+use Rattle.snoop_cores.specs.declared.fault.MakeFault.{MakeFault}
+use Rattle.snoop_cores.specs.declared.fault.MakeFault.TheVariants as make
+use Rattle.snoop_cores.specs.declared.fault.RunFault.{RunFault}
+use Rattle.snoop_cores.specs.declared.fault.RunFault.TheVariants as run
+use Rattle.snoop_cores.specs.declared.fault.SeatFault.TheVariants as seat
+use Rattle.snoop_cores.specs.declared.fault.GatherFault.{GatherFault}
+use Rattle.snoop_cores.specs.declared.fault.GatherFault.TheVariants as joining
+use Rattle.snoop_cores.specs.declared.stop.Stop.{Stop}
+use Rattle.snoop_cores.specs.declared.stop.Stop.TheVariants as stop
+use Rattle.snoop_sim.specs.declared.fault.ThreadsFault.{ThreadsFault}
+use Rattle.snoop_sim.specs.declared.fault.ThreadsFault.TheVariants.{Text, NoMemory, Write, Make, Run, Late, Seat, Gather}
+
+-- where the steps could not be written
+abbrev pub unwritten : WriteFault → ThreadsFault
+unwritten write.Write = Write
+unwritten write.NoMemory = NoMemory
+
+-- where the shared machine was not made
+abbrev pub unmade : MakeFault → ThreadsFault
+unmade make.NoMemory = NoMemory
+unmade fault = Make fault
+
+-- where the rows were not begun
+abbrev pub not_run : RunFault → ThreadsFault
+not_run run.NoMemory = NoMemory
+not_run fault = Run fault
+
+-- where a seat stopped at a row
+abbrev pub stopped : Stop → ThreadsFault
+stopped (stop.Late row) = Late
+stopped (stop.Fault row seat.NoMemory) = NoMemory
+stopped (stop.Fault row fault) = Seat fault
+
+-- where the steps were not gathered
+abbrev pub ungathered : GatherFault → ThreadsFault
+ungathered joining.NoMemory = NoMemory
+ungathered fault = Gather fault
+
+-- a fault of the threads, and none of the text or the writer; out of memory has one name
+abbrev pub IsOfThreads : ThreadsFault → Type 0
+IsOfThreads (Text fault) = ⊥
+IsOfThreads Write = ⊥
+IsOfThreads (Make make.NoMemory) = ⊥
+IsOfThreads (Run run.NoMemory) = ⊥
+IsOfThreads (Seat seat.NoMemory) = ⊥
+IsOfThreads (Gather joining.NoMemory) = ⊥
+IsOfThreads _ = ⊤

@@ -1,0 +1,98 @@
+//! The command `threads`: the rows of a text, each core's in a thread of its own.
+ghost use Rattle.std.specs.Prelude.{◌≡◌, ◌≢◌, ◌<◌, ◌-◌, ◌^◌, true, length, All, Err, None, IfErr, IfOk, OnErr, OnOk, IsSomeAnd};
+ghost use Rattle.snoop_cores.specs.Seats.{AreSeats};
+ghost use Rattle.snoop_trace.specs.Grammar.{IsRowWithin};
+ghost use Rattle.snoop_trace.specs.declared.fault.TextFault.TheVariants as text_fault;
+ghost use Rattle.snoop_sim.specs.Threaded.{SimulatesThreads, Threaded};
+ghost use Rattle.snoop_sim.specs.ThreadsFault.{IsOfThreads};
+
+use crate::fault::ThreadsFault;
+use snoop_cores::{Free, Seat, Shared, Stop, gather, run_seats};
+use snoop_rules::Protocol;
+use snoop_trace::{Row, Shape, Sink, Source, Step, read_rows, write_steps};
+use std::alloc::Global;
+use std::sync::Wait;
+use std::thread::Threads;
+
+/// Reads a text of rows to its end, and lets each core do its rows in a thread of its own, in the order of the text, on a shared
+/// machine at reset. Writes the steps that were taken as a text, one a line. In which order the threads took them is open.
+///
+/// After `Text` nothing was written. After `Write` the writer holds a beginning of the steps. After `NoMemory` it holds a
+/// beginning too, or nothing new. At every other fault the threads were refused, and nothing was written.
+pub fn simulate_threads<T: Threads + Wait + Sync, R: Source + Drop, W: Sink>(
+    rt: &T,
+    alloc: Global,
+    reader: R,
+    writer: &mut W,
+    protocol: Protocol,
+    shape: Shape,
+) -> Result<(), ThreadsFault>
+    ensures does { SimulatesThreads protocol shape (R.remaining reader) result (W.contents writer.old) (W.contents writer.new) }
+
+    // A reader or a writer whose contract rules failure out is never blamed.
+    ensures reads { R.never_fails ≡ true → IsSomeAnd (R.remaining reader) (λ bytes. length bytes < 2 ^ 64 - 1) → result ≢ Err (ThreadsFault.Text text_fault.Read) }
+    ensures writes { W.never_fails ≡ true → result ≢ Err ThreadsFault.Write }
+{
+    let rows = read_rows(alloc, reader, shape).map_err(ThreadsFault::Text)?;
+    let steps = take_rows(rt, alloc, protocol, shape, rows)?;
+    write_steps(alloc, writer, shape, &steps)?;
+    Ok(())
+}
+
+/// The steps that threads take for the rows.
+fn take_rows<T: Threads + Wait + Sync>(
+    rt: &T,
+    alloc: Global,
+    protocol: Protocol,
+    shape: Shape,
+    rows: Vec<Row>,
+) -> Result<Vec<Step>, ThreadsFault>
+    requires { All (IsRowWithin shape) rows.items }
+    ensures ok { IfOk result (λ steps. Threaded protocol shape rows.items steps.items) }
+    ensures err { IfErr result IsOfThreads }
+{
+    let (shared, mut seats, watches) = Shared::new(rt, alloc, protocol, shape, 0)?;
+    watches.destroy_empty();
+    let steps = take_seated(rt, alloc, &shared, &mut seats, &rows);
+    end_seats(rt, seats);
+    shared.end(rt);
+    steps
+}
+
+/// Lets each seat do its rows, and gathers the steps that were taken.
+fn take_seated<T: Threads + Wait + Sync>(
+    rt: &T,
+    alloc: Global,
+    shared: &Shared,
+    seats: &mut [Seat],
+    rows: &[Row],
+) -> Result<Vec<Step>, ThreadsFault>
+    requires { AreSeats shared.now.shape seats.old }
+    ensures ok { IfOk result (λ steps. Threaded shared.now.protocol shared.now.shape rows.now steps.items) }
+    ensures err { IfErr result IsOfThreads }
+{
+    let stops = run_seats(rt, alloc, seats, rows, &Free)?;
+    check_stops(&stops)?;
+    let gathered = gather(rt, alloc, shared, seats)?;
+    Ok(gathered.steps)
+}
+
+/// The fault of the first seat that stopped at one of its rows.
+fn check_stops(stops: &[Option<Stop>]) -> Result<(), ThreadsFault>
+    ensures ok { OnOk result (All (λ stop. stop ≡ None) stops.now) }
+    ensures err { IfErr result IsOfThreads }
+{
+    for stop in stops {
+        if let Some(stop) = *stop {
+            return Err(ThreadsFault::from(stop));
+        }
+    }
+    Ok(())
+}
+
+fn end_seats<T: Wait>(rt: &T, mut seats: Vec<Seat>) {
+    while let Some(seat) = seats.pop() {
+        seat.end(rt);
+    }
+    seats.destroy_empty();
+}
