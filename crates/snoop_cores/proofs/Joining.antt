@@ -22,11 +22,11 @@ below_next P n h p c lt = ⊎_elim (λ (l : c < n). h c l) (λ (e : c ≡ n). su
     by_order (inr (inl l)) = inl l
     by_order (inr (inr g)) = absurd (omega (arith, lt, g))
 
-at_seam : (before : List Did) (did : Did) (rest : List Did) (n : ℕ) → length before ≡ n → slice_get (before ++ did ∷ rest) n ≡ Some did
-at_seam before did rest n e = slice_get-get_or (before ++ did ∷ rest) n did (let l = length-append before (did ∷ rest) in omega (arith, l, e)) ∙ ap Some (read before did rest n e)
+pub at_seam : {A : Type 0} (before : List A) (x : A) (rest : List A) (n : ℕ) → length before ≡ n → slice_get (before ++ x ∷ rest) n ≡ Some x
+at_seam before x rest n e = slice_get-get_or (before ++ x ∷ rest) n x (let l = length-append before (x ∷ rest) in omega (arith, l, e)) ∙ ap Some (read before x rest n e)
   where
-    read : (before : List Did) (did : Did) (rest : List Did) (n : ℕ) → length before ≡ n → get_or (before ++ did ∷ rest) n did ≡ did
-    read before did rest n e = grind (arith, common_steps)
+    read : {A : Type 0} (before : List A) (x : A) (rest : List A) (n : ℕ) → length before ≡ n → get_or (before ++ x ∷ rest) n x ≡ x
+    read before x rest n e = grind (arith, common_steps)
 
 length_take : (dids : List Did) (n : ℕ) → n ≤ length dids → length (take n dids) ≡ n
 length_take dids n h = grind (arith, common_steps)

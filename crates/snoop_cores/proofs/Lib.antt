@@ -1,5 +1,6 @@
 mod Beginnings
 mod Shown
-mod Performed
 mod Joining
+mod Performed
+mod Stopping
 mod Resting

@@ -1,5 +1,6 @@
 -- What a seat has done of its rows.
 use Rattle.std.proofs.Common.{◌≡◌, ℕ, ◌+◌, ◌<◌, ◌≤◌, ◌≢◌, ◌==◌, List, [], ◌∷◌, ◌++◌, length, take, drop, filter, Option, Some, None, Bool, true, false, get_or, refl, sym, ap, ◌∙◌, subst, arith, append-nil, append_assoc, length-append}
+use Rattle.std.specs.Prelude.{slice_get}
 use Rattle.std.specs.List.{AllZip}
 use Rattle.std.proofs.lemmas.List.{take_more, drop_more, take-append-drop}
 use Rattle.std.proofs.Math.Seq.{take-append_seam}
@@ -9,9 +10,11 @@ use Rattle.snoop_trace.specs.Extent.{Extent}
 use Rattle.snoop_trace.specs.declared.step.Row.{Row}
 use Rattle.snoop_history.specs.declared.items.Did.{Did}
 use Rattle.snoop_cores.specs.Seats.{Seating}
-use Rattle.snoop_cores.specs.Calls.{Stays, Keeps}
-use Rattle.snoop_cores.specs.Rows.{is_answered, DoesRow, Answers, Grows, StoppedAt, rows_of}
+use Rattle.snoop_cores.specs.declared.fault.SeatFault.{SeatFault}
+use Rattle.snoop_cores.specs.Calls.{Stays}
+use Rattle.snoop_cores.specs.Rows.{is_answered, DoesRow, Answers, Leaves, Grows, FailsRow, IsRefused, rows_of}
 use Rattle.snoop_cores.proofs.Beginnings.{starts_on, starts_same}
+use Rattle.snoop_cores.proofs.Joining.{at_seam}
 
 pub AllZip-append : {A B : Type 0} (R : A → B → Type 0) (xs us : List A) (ys vs : List B) → AllZip R xs ys → AllZip R us vs → AllZip R (xs ++ us) (ys ++ vs)
 AllZip-append R [] us [] vs h k = k
@@ -27,8 +30,14 @@ answers-append shape rows more dids also h k =
 pub stays_on : (s t u : Seating) → Stays s t → Stays t u → Stays s u
 stays_on s t u h k = record { core = k.core ∙ h.core; shape = k.shape ∙ h.shape; begins = starts_on u.seen t.seen s.seen k.begins h.begins }
 
+leaves_more : (rows more : List Row) (s t u : Seating) → Leaves rows s t → Leaves more t u → Leaves (rows ++ more) s u
+leaves_more [] [] s t u h k = (k.0 ∙ h.0, k.1 ∙ h.1)
+leaves_more [] (row ∷ more) s t u h k = k
+leaves_more (row ∷ rows) [] s t u h k = (k.0 ∙ h.0, k.1 ∙ h.1)
+leaves_more (row ∷ rows) (other ∷ more) s t u h k = k
+
 pub grows_none : (s : Seating) → Grows [] s s
-grows_none s = record { stays = record { core = refl; shape = refl; begins = starts_same s.seen }; added = ([], sym (append-nil s.answers), tt) }
+grows_none s = record { stays = record { core = refl; shape = refl; begins = starts_same s.seen }; added = ([], sym (append-nil s.answers), tt); leaves = (refl, refl) }
 
 pub grows_more : (rows more : List Row) (s t u : Seating) → Grows rows s t → Grows more t u → Grows (rows ++ more) s u
 grows_more rows more s t u h k = record {
@@ -38,10 +47,8 @@ grows_more rows more s t u h k = record {
     k.added.1 ∙ ap (λ (l : List Did). l ++ k.added.0) h.added.1 ∙ append_assoc s.answers h.added.0 k.added.0,
     answers-append s.shape rows more h.added.0 k.added.0 h.added.2 (subst (λ (shape : Extent). Answers shape more k.added.0) h.stays.shape k.added.2),
   );
+  leaves = leaves_more rows more s t u h.leaves k.leaves;
 }
-
-pub grows_kept : (rows : List Row) (s t u : Seating) → Grows rows s t → Keeps t u → Grows rows s u
-grows_kept rows s t u h k = record { stays = stays_on s t u h.stays k.stays; added = (h.added.0, k.answers ∙ h.added.1, h.added.2) }
 
 tests_true : (core : ℕ) (row : Row) → row.core ≡ core → (row.core == core) ≡ true
 tests_true core row e = grind (arith, nat_tests)
@@ -65,23 +72,27 @@ rows_other core rows i d h other =
     one : (row : Row) → (row.core == core) ≡ false → rows_of core (row ∷ []) ≡ []
     one row e = rw e refl
 
+-- the core's rows up to a row, that row, and those after it
+rows_whole : (core : ℕ) (rows : List Row) (i : ℕ) (d : Row) → i < length rows → (get_or rows i d).core ≡ core → rows_of core rows ≡ rows_of core (take i rows) ++ get_or rows i d ∷ rows_of core (drop (i + 1) rows)
+rows_whole core rows i d h mine =
+    let before : List Row = rows_of core (take i rows) in
+    ap (rows_of core) (sym (take-append-drop i rows)) ∙ filter-append (λ (r : Row). r.core == core) (take i rows) (drop i rows)
+    ∙ ap (λ (l : List Row). before ++ rows_of core l) (drop_more rows i d h) ∙ ap (λ (l : List Row). before ++ l) (one (get_or rows i d) (drop (i + 1) rows) (tests_true core (get_or rows i d) mine))
+  where
+    one : (row : Row) (rest : List Row) → (row.core == core) ≡ true → rows_of core (row ∷ rest) ≡ row ∷ rows_of core rest
+    one row rest e = rw e refl
+
 -- the rows before a row of the core are the first so many of its rows
 pub rows_before : (core : ℕ) (rows : List Row) (i : ℕ) (d : Row) → i < length rows → (get_or rows i d).core ≡ core
     → (take (length (rows_of core (take i rows))) (rows_of core rows) ≡ rows_of core (take i rows)) × (length (rows_of core (take i rows)) < length (rows_of core rows))
 rows_before core rows i d h mine =
     let before : List Row = rows_of core (take i rows) in
-    let row : Row = get_or rows i d in
-    let rest : List Row = rows_of core (drop (i + 1) rows) in
-    let whole : rows_of core rows ≡ before ++ (row ∷ rest) =
-    ap (rows_of core) (sym (take-append-drop i rows)) ∙ filter-append (λ (r : Row). r.core == core) (take i rows) (drop i rows)
-    ∙ ap (λ (l : List Row). before ++ rows_of core l) (drop_more rows i d h) ∙ ap (λ (l : List Row). before ++ l) (one row (drop (i + 1) rows) (tests_true core row mine)) in
-    let long = ap length whole ∙ length-append before (row ∷ rest) in (
-      ap (take (length before)) whole ∙ take-append_seam before (row ∷ rest),
-      omega arith,
+    let rest : List Row = get_or rows i d ∷ rows_of core (drop (i + 1) rows) in
+    let whole = rows_whole core rows i d h mine in
+    let long = ap length whole ∙ length-append before rest in (
+      ap (take (length before)) whole ∙ take-append_seam before rest,
+      omega (arith, long),
     )
-  where
-    one : (row : Row) (rest : List Row) → (row.core == core) ≡ true → rows_of core (row ∷ rest) ≡ row ∷ rows_of core rest
-    one row rest e = rw e refl
 
 pub few_rows : (core : ℕ) (rows : List Row) → length (rows_of core rows) ≤ length rows
 few_rows core [] = omega arith
@@ -117,3 +128,14 @@ pub passed_row : (core k : ℕ) (rows : List Row) (i : ℕ) (d : Row) (s t : Sea
     → Grows (rows_of core (take (i + 1) rows)) s t × (k ≡ length (rows_of core (take (i + 1) rows)))
 passed_row core k rows i d s t h other is grows =
     let m = rows_other core rows i d h other in (subst (λ (l : List Row). Grows l s t) (sym m) grows, is ∙ ap length (sym m))
+
+-- it was refused this row
+pub refused : (k : ℕ) (rows : List Row) (i : ℕ) (d : Row) (s t u : Seating) (fault : SeatFault) → i < length rows → (get_or rows i d).core ≡ s.core → k ≡ length (rows_of s.core (take i rows)) → Grows (rows_of s.core (take i rows)) s t → FailsRow fault (get_or rows i d) t u
+    → IsRefused k fault rows s u
+refused k rows i d s t u fault h mine is grows fails = record {
+  row = get_or rows i d;
+  there = ap (λ (l : List Row). slice_get l k) (rows_whole s.core rows i d h mine) ∙ at_seam (rows_of s.core (take i rows)) (get_or rows i d) (rows_of s.core (drop (i + 1) rows)) k (sym is);
+  between = t;
+  grown = (stopped s.core k rows i d s t h mine is grows).1;
+  fails = fails;
+}

@@ -67,7 +67,7 @@ pub record DiffersAt (items : List Item) (seats : List Seating) (core place : �
   pub of_core : (d : Seating) → (slice_index_or seats which d).core ≡ core
   pub differs : (d : Seating) → IsFirst (answers_of items core) (slice_index_or seats which d).answers place
 
--- what the lock held: a bench of this protocol and shape
+-- a bench of this protocol and shape
 pub record IsHeld (protocol : Protocol) (shape : Extent) (b : Locked) : Type 0 where
   pub kept : IsKept b
   pub protocol_is : b.situation.protocol ≡ protocol
@@ -96,6 +96,9 @@ IsParted protocol shape seats (Pending core) =
     OneForEach shape.cores seats × (core < shape.cores)
     × ((b : Locked) × IsHeld protocol shape b × ((lower : ℕ) → lower < core → IsFree b seats lower) × ¬ IsFree b seats core)
 IsParted protocol shape seats (Mismatch core place) =
-    OneForEach shape.cores seats × (core < shape.cores) × ((each : ℕ) → each < shape.cores → IsIdle seats each)
-    × ((b : Locked) × IsHeld protocol shape b × ((lower : ℕ) → lower < core → IsAnswered b.situation.log seats lower) × DiffersAt b.situation.log seats core place)
-IsParted protocol shape seats NoMemory = OneForEach shape.cores seats × ((each : ℕ) → each < shape.cores → IsIdle seats each)
+    OneForEach shape.cores seats × (core < shape.cores)
+    × ((b : Locked) × IsHeld protocol shape b × ((each : ℕ) → each < shape.cores → IsFree b seats each)
+    × ((lower : ℕ) → lower < core → IsAnswered b.situation.log seats lower) × DiffersAt b.situation.log seats core place)
+IsParted protocol shape seats NoMemory =
+    OneForEach shape.cores seats
+    × ((b : Locked) × IsHeld protocol shape b × ((each : ℕ) → each < shape.cores → IsFree b seats each) × ((each : ℕ) → each < shape.cores → IsAnswered b.situation.log seats each))

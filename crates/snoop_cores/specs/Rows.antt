@@ -1,6 +1,6 @@
 -- What a seat has done of its rows.
 -- Source: this project's profile.
-use Rattle.std.specs.Prelude.{◌≡◌, ℕ, ◌<◌, ◌==◌, List, ◌++◌, length, take, filter, Option, Some, None, Bool, true, false, All, IsSome, slice_index_or}
+use Rattle.std.specs.Prelude.{◌≡◌, ℕ, ◌<◌, ◌==◌, List, [], ◌∷◌, ◌++◌, length, take, filter, Option, Some, None, Bool, true, false, All, IsSome, slice_get, slice_index_or}
 use Rattle.std.specs.List.{AllZip}
 use Rattle.snoop_trace.specs.Extent.{Extent}
 use Rattle.snoop_trace.specs.Grammar.{block_at}
@@ -10,12 +10,14 @@ use Rattle.snoop_trace.specs.declared.step.Row.{Row}
 use Rattle.snoop_history.specs.declared.items.Did.{Did}
 use Rattle.snoop_bench.specs.declared.work.Work.{Work}
 use Rattle.snoop_bench.specs.Works.{Does}
+use Rattle.snoop_cores.specs.declared.fault.SeatFault.{SeatFault}
+use Rattle.snoop_cores.specs.declared.fault.SeatFault.TheVariants.{NoBlock}
 use Rattle.snoop_cores.specs.declared.fault.RunFault.{RunFault}
 use Rattle.snoop_cores.specs.declared.fault.RunFault.TheVariants.{NoSeat, NoMemory}
 use Rattle.snoop_cores.specs.declared.stop.Stop.{Stop}
 use Rattle.snoop_cores.specs.declared.stop.Stop.TheVariants.{Late, Fault}
 use Rattle.snoop_cores.specs.Seats.{Seating}
-use Rattle.snoop_cores.specs.Calls.{Stays}
+use Rattle.snoop_cores.specs.Calls.{Stays, Fails}
 
 -- the operation adds an answer: a load or a store
 abbrev pub is_answered : Op → Bool
@@ -35,20 +37,43 @@ rows_of core rows = filter (λ (row : Row). row.core == core) rows
 abbrev pub Answers : Extent → List Row → List Did → Type 0
 Answers shape rows dids = AllZip (DoesRow shape) (filter (λ (row : Row). is_answered row.op) rows) dids
 
--- the seat's answers have grown by these rows
+-- what is left pending or reported as a stranger's: nothing after a row that was done; where there was none, what it was before
+abbrev pub Leaves : List Row → Seating → Seating → Type 0
+Leaves [] s t = (t.pending ≡ s.pending) × (t.strange ≡ s.strange)
+Leaves (row ∷ rows) s t = (t.pending ≡ None) × (t.strange ≡ None)
+
+-- the seat has done these rows: its answers have grown by their loads and stores
 pub record Grows (rows : List Row) (s t : Seating) : Type 0 where
   pub stays : Stays s t
   pub added : (dids : List Did) × (t.answers ≡ s.answers ++ dids) × Answers s.shape rows dids
+  pub leaves : Leaves rows s t
 
--- the seat stopped before its row of this number
-abbrev pub StoppedAt : ℕ → List Row → Seating → Seating → Type 0
-StoppedAt number rows s t = (number < length (rows_of s.core rows)) × Grows (take number (rows_of s.core rows)) s t
+-- the row was refused: as its operation on its block is, or as outside the shape
+abbrev pub FailsOn : Option ℕ → SeatFault → Op → Seating → Seating → Type 0
+FailsOn (Some block) fault wanted s t = Fails fault (record { block = block; op = wanted }) s t
+FailsOn None fault wanted s t = (fault ≡ NoBlock) × (t ≡ s)
+
+-- the seat refused the row
+abbrev pub FailsRow : SeatFault → Row → Seating → Seating → Type 0
+FailsRow fault row s t = FailsOn (block_at s.shape row.address) fault row.op s t
+
+-- the gate stopped the seat before its row of this number
+abbrev pub IsLate : ℕ → List Row → Seating → Seating → Type 0
+IsLate number rows s t = (number < length (rows_of s.core rows)) × Grows (take number (rows_of s.core rows)) s t
+
+-- the seat refused its row of this number, after it had done those before
+pub record IsRefused (number : ℕ) (fault : SeatFault) (rows : List Row) (s t : Seating) : Type 0 where
+  pub row : Row
+  pub there : slice_get (rows_of s.core rows) number ≡ Some row
+  pub between : Seating
+  pub grown : Grows (take number (rows_of s.core rows)) s between
+  pub fails : FailsRow fault row between t
 
 -- the seat has done all its rows; or it stopped at a row, and has done those before it
 abbrev pub RanTo : Option Stop → List Row → Seating → Seating → Type 0
 RanTo None rows s t = Grows (rows_of s.core rows) s t
-RanTo (Some (Late number)) rows s t = StoppedAt number rows s t
-RanTo (Some (Fault number fault)) rows s t = StoppedAt number rows s t
+RanTo (Some (Late number)) rows s t = IsLate number rows s t
+RanTo (Some (Fault number fault)) rows s t = IsRefused number fault rows s t
 
 -- the core has a seat, and the row's address lies within the shape of each of its seats
 pub record IsServed (seats : List Seating) (row : Row) : Type 0 where

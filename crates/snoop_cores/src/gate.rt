@@ -1,4 +1,5 @@
 //! What a row waits for.
+ghost use Rattle.std.specs.Prelude.{IsOk};
 
 use thiserror::Error;
 
@@ -18,7 +19,9 @@ pub trait Gate {
 pub struct Free;
 
 impl Gate for Free {
-    fn before(&self, _core: u32, _number: u64) -> Result<(), Late> {
+    fn before(&self, _core: u32, _number: u64) -> Result<(), Late>
+        ensures { IsOk result }
+    {
         Ok(())
     }
 }

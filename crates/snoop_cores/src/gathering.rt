@@ -33,6 +33,7 @@ pub fn gather<R: Wait>(
     seats: &[Seat],
 ) -> Result<Gathered, GatherFault>
     ensures ok { IfOk result (λ gathered. IsJoined shared.now.protocol shared.now.shape seats.now gathered.log.items gathered.steps.items) }
+    ensures shape { IfOk result (λ gathered. (gathered.log.cores ≡ shared.now.shape.cores) × (gathered.log.blocks ≡ shared.now.shape.blocks)) }
     ensures err { IfErr result (λ fault. IsParted shared.now.protocol shared.now.shape seats.now fault) }
     ensures not_all { (core : ℕ) → IsOdd shared.now.shape.cores seats.now core → result ≡ Err (NotAllSeats core) }
 {
@@ -47,6 +48,7 @@ pub fn gather<R: Wait>(
 fn join(alloc: Global, bench: &Bench, seats: &[Seat]) -> Result<Gathered, GatherFault>
     requires { OneForEach bench.now.situation.shape.cores seats.now }
     ensures ok { IfOk result (λ gathered. IsJoined bench.now.situation.protocol bench.now.situation.shape seats.now gathered.log.items gathered.steps.items) }
+    ensures shape { IfOk result (λ gathered. (gathered.log.cores ≡ bench.now.situation.shape.cores) × (gathered.log.blocks ≡ bench.now.situation.shape.blocks)) }
     ensures err { IfErr result (λ fault. IsParted bench.now.situation.protocol bench.now.situation.shape seats.now fault) }
 {
     bench.kept();
@@ -67,6 +69,7 @@ fn join(alloc: Global, bench: &Bench, seats: &[Seat]) -> Result<Gathered, Gather
 fn copy(alloc: Global, bench: &Bench) -> Result<Gathered, NoMemory>
     ensures log { IfOk result (λ gathered. gathered.log.items ≡ bench.now.situation.log) }
     ensures steps { IfOk result (λ gathered. gathered.steps.items ≡ bench.now.steps) }
+    ensures shape { IfOk result (λ gathered. (gathered.log.cores ≡ bench.now.situation.shape.cores) × (gathered.log.blocks ≡ bench.now.situation.shape.blocks)) }
 {
     let log = bench.log().copy()?;
     let steps = Vec::from_slice(alloc, bench.steps())?;

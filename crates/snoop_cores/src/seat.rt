@@ -5,9 +5,9 @@ ghost use Rattle.snoop_history.specs.declared.items.Did.{Did};
 ghost use Rattle.snoop_history.specs.History.{answers_of, flat};
 ghost use Rattle.snoop_history.specs.Totals.{capped_totals, totals_of};
 ghost use Rattle.snoop_bench.specs.Works.{Does};
-ghost use Rattle.snoop_cores.specs.Seats.{IsNew, Sees};
-ghost use Rattle.snoop_cores.specs.Calls.{Completes, Fails, Foretold, Keeps};
-ghost use Rattle.snoop_cores.specs.Rows.{Grows, RanTo};
+ghost use Rattle.snoop_cores.specs.Seats.{BeginsWith, IsNew, Sees};
+ghost use Rattle.snoop_cores.specs.Calls.{Completes, Fails, Foretold};
+ghost use Rattle.snoop_cores.specs.Rows.{FailsRow, Grows, RanTo};
 ghost use Rattle.snoop_cores.specs.declared.fault.ViewFault.TheVariants.{NoBlock, NoVersion};
 
 use crate::fault::{SeatFault, ViewFault};
@@ -90,7 +90,7 @@ impl Seat {
         &self.answers
     }
 
-    /// The operation that out of memory has left pending.
+    /// The operation that was taken up and is not over, if any.
     pub fn pending(&self) -> Option<Work>
         ensures { result ≡ self.now.pending }
     {
@@ -107,8 +107,8 @@ impl Seat {
     /// Loads the block, and reports its value.
     ///
     /// `NoBlock` outside the shape. `Stranger` where the published versions show an operation of this core that the seat did not
-    /// make; then always. `Busy` where another operation is pending. `NoMemory` leaves this one pending: the same call, made again,
-    /// goes on with it and does it once.
+    /// make; from then on `load`, `store` and `evict` answer the same wherever `NoBlock` does not come. `Busy` where another
+    /// operation is pending. `NoMemory` leaves this one pending: the same call, made again, goes on with it and does it once.
     pub fn load<R: Wait>(&mut self, rt: &R, block: u32) -> Result<u64, SeatFault>
         ensures ok { IfOk result (λ value. (did : Did) × Completes (did ∷ []) self.old self.new × Does did (record { block = block; op = Load }) × (did.value ≡ value)) }
         ensures err { IfErr result (λ fault. Fails fault (record { block = block; op = Load }) self.old self.new) }
@@ -125,8 +125,8 @@ impl Seat {
     /// Stores a value in the block.
     ///
     /// `NoBlock` outside the shape. `Stranger` where the published versions show an operation of this core that the seat did not
-    /// make; then always. `Busy` where another operation is pending. `NoMemory` leaves this one pending: the same call, made again,
-    /// goes on with it and does it once.
+    /// make; from then on `load`, `store` and `evict` answer the same wherever `NoBlock` does not come. `Busy` where another
+    /// operation is pending. `NoMemory` leaves this one pending: the same call, made again, goes on with it and does it once.
     pub fn store<R: Wait>(&mut self, rt: &R, block: u32, value: u64) -> Result<(), SeatFault>
         ensures ok { OnOk result ((did : Did) × Completes (did ∷ []) self.old self.new × Does did (record { block = block; op = Store value })) }
         ensures err { IfErr result (λ fault. Fails fault (record { block = block; op = Store value }) self.old self.new) }
@@ -143,8 +143,8 @@ impl Seat {
     /// Gives the block up, and reports how. It adds no answer.
     ///
     /// `NoBlock` outside the shape. `Stranger` where the published versions show an operation of this core that the seat did not
-    /// make; then always. `Busy` where another operation is pending. `NoMemory` leaves this one pending: the same call, made again,
-    /// goes on with it and does it once.
+    /// make; from then on `load`, `store` and `evict` answer the same wherever `NoBlock` does not come. `Busy` where another
+    /// operation is pending. `NoMemory` leaves this one pending: the same call, made again, goes on with it and does it once.
     pub fn evict<R: Wait>(&mut self, rt: &R, block: u32) -> Result<Evicted, SeatFault>
         ensures ok { OnOk result (Completes [] self.old self.new) }
         ensures err { IfErr result (λ fault. Fails fault (record { block = block; op = Evict }) self.old self.new) }
@@ -177,6 +177,7 @@ impl Seat {
         ensures value { IfOk result (λ value. value ≡ flat self.new.seen block) }
         ensures sees { OnOk result (Sees self.old.seen self.new.seen) }
         ensures outside { (result ≡ Err NoBlock) ↔ (self.old.shape.blocks ≤ block) }
+        ensures own { BeginsWith (answers_of self.new.seen self.new.core) self.new.answers }
         ensures same { self.new ≡ record self.old { seen = self.new.seen } }
         ensures err { OnErr result (self.new ≡ self.old) }
     {
@@ -189,13 +190,14 @@ impl Seat {
     pub fn totals(&mut self) -> Result<Totals, ViewFault>
         ensures totals { IfOk result (λ totals. totals ≡ capped_totals (totals_of self.new.seen)) }
         ensures sees { OnOk result (Sees self.old.seen self.new.seen) }
+        ensures own { BeginsWith (answers_of self.new.seen self.new.core) self.new.answers }
         ensures same { self.new ≡ record self.old { seen = self.new.seen } }
         ensures err { IfErr result (λ fault. (fault ≡ NoVersion) × (self.new ≡ self.old)) }
     {
         read_totals(&mut self.reader)
     }
 
-    /// Gives the share up. The last one to end waits for the readers that are inside, and ends the versions.
+    /// Drops this share of the lock. The last one to end waits for the readers that are inside, and ends the versions.
     pub fn end<R: Wait>(self, rt: &R) {
         let Seat {
             core: _,
@@ -287,7 +289,7 @@ impl Seat {
     // Performs one row of the core. A row outside the shape is refused as its block.
     fn perform_row<R: Wait>(&mut self, rt: &R, row: &Row) -> Result<(), SeatFault>
         ensures ok { OnOk result (Grows (row.now ∷ []) self.old self.new) }
-        ensures err { OnErr result (Keeps self.old self.new) }
+        ensures err { IfErr result (λ fault. FailsRow fault row.now self.old self.new) }
     {
         let Some(block) = self.share.shape().block_of(row.address) else {
             return Err(SeatFault::NoBlock);

@@ -92,7 +92,7 @@ impl Share {
         unreachable!()
     }
 
-    /// Gives the share up. The last one to end waits for the readers that are inside, and ends the versions.
+    /// Drops this share of the lock. The last one to end waits for the readers that are inside, and ends the versions.
     pub(crate) fn end<R: Wait>(self, rt: &R) {
         let Share {
             protocol: _,

@@ -174,7 +174,7 @@ impl Shared {
         self.share.lock(rt)
     }
 
-    /// Gives the share up. The last one to end waits for the readers that are inside, and ends the versions.
+    /// Drops this share of the lock. The last one to end waits for the readers that are inside, and ends the versions.
     pub fn end<R: Wait>(self, rt: &R) {
         let Shared { share } = self;
         share.end(rt);

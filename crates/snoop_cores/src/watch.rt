@@ -62,7 +62,7 @@ impl Watch {
         read_totals(&mut self.reader)
     }
 
-    /// Gives the share up. The last one to end waits for the readers that are inside, and ends the versions.
+    /// Drops this share of the lock. The last one to end waits for the readers that are inside, and ends the versions.
     pub fn end<R: Wait>(self, rt: &R) {
         let Watch { share, reader } = self;
         drop(reader);

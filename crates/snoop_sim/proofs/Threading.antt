@@ -1,5 +1,5 @@
 -- From the threads' answers and the gathered log to the rows.
-use Rattle.std.proofs.Common.{◌≡◌, ℕ, ◌<◌, List, [], ◌++◌, length, All, Option, None, sym, ap, subst, ◌∙◌, get_or, arith, inr}
+use Rattle.std.proofs.Common.{◌≡◌, ℕ, ◌<◌, List, [], ◌++◌, length, All, Option, None, sym, ap, subst, ◌∙◌, arith, inr}
 use Rattle.std.specs.Prelude.{slice_index_or, Result, Ok, Err}
 use Rattle.std.specs.Result.{IsErrAnd}
 use Rattle.std.proofs.lemmas.List.Elements.{All-get_or}

@@ -37,13 +37,13 @@ pub record BeginsThreaded (protocol : Protocol) (shape : Extent) (rows : List Ro
   pub output : AppendsFront old new (steps_text shape steps)
 
 -- what was written for the rows that were read: all the steps; a beginning of them; or nothing, where there were none to write
-abbrev pub Leaves : Protocol → Extent → List Row → Result (Unit {0}) ThreadsFault → Option (List ℕ) → Option (List ℕ) → Type 0
-Leaves protocol shape rows (Ok u) old new = WritesThreaded protocol shape rows old new
-Leaves protocol shape rows (Err Write) old new = BeginsThreaded protocol shape rows old new
-Leaves protocol shape rows (Err NoMemory) old new = (new ≡ old) ⊎ BeginsThreaded protocol shape rows old new
-Leaves protocol shape rows (Err fault) old new = IsOfThreads fault × (new ≡ old)
+abbrev pub Outputs : Protocol → Extent → List Row → Result (Unit {0}) ThreadsFault → Option (List ℕ) → Option (List ℕ) → Type 0
+Outputs protocol shape rows (Ok u) old new = WritesThreaded protocol shape rows old new
+Outputs protocol shape rows (Err Write) old new = BeginsThreaded protocol shape rows old new
+Outputs protocol shape rows (Err NoMemory) old new = (new ≡ old) ⊎ BeginsThreaded protocol shape rows old new
+Outputs protocol shape rows (Err fault) old new = IsOfThreads fault × (new ≡ old)
 
 -- the text was refused, and nothing written; or its rows were read, and this was written
 abbrev pub SimulatesThreads : Protocol → Extent → Option (List ℕ) → Result (Unit {0}) ThreadsFault → Option (List ℕ) → Option (List ℕ) → Type 0
 SimulatesThreads protocol shape input (Err (Text fault)) old new = ReadsRows shape input (Err fault) × (new ≡ old)
-SimulatesThreads protocol shape input answer old new = (rows : List Row) × (ReadsRows shape input (Ok rows) × Leaves protocol shape rows answer old new)
+SimulatesThreads protocol shape input answer old new = (rows : List Row) × (ReadsRows shape input (Ok rows) × Outputs protocol shape rows answer old new)

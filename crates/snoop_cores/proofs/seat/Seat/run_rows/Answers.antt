@@ -2,7 +2,7 @@ use Rattle.std.proofs.Common.{◌≡◌, ℕ, ◌∙◌, ◌+◌, ◌<◌, ◌�
 use Rattle.snoop_trace.specs.declared.step.Op.TheVariants.{Load}
 use Rattle.snoop_trace.specs.declared.step.Row.{Row}
 use Rattle.snoop_cores.specs.Rows.{rows_of}
-use Rattle.snoop_cores.proofs.Performed.{stopped, did_row, passed_row, grows_kept, few_done}
+use Rattle.snoop_cores.proofs.Performed.{stopped, did_row, passed_row, refused, few_done}
 use Rattle.snoop_cores.proofs.seat.Seat.run_rows.Goals.{then-row-core+else-is_err+in_default, else-row-core}
 use Rattle.snoop_cores.proofs.seat.Seat.run_rows.Goals as goal
 
@@ -14,8 +14,7 @@ returns-then-is_err g c = stopped c.args.self.now.core c.loop-row.number c.args.
 
 pub returns-in-Err : goal.returns-in-Err
 returns-in-Err g c =
-    stopped c.args.self.now.core c.loop-row.number c.args.rows.now c.loop-row.row-index none c.args.self.now c.perform_row.new.self c.loop-row-test.true (c.if-row-core.true ∙ c.core-core.ensures) c.loop-row.invariant.1
-    (grows_kept (rows_of c.args.self.now.core (take c.loop-row.row-index c.args.rows.now)) c.args.self.now c.loop-row.self c.perform_row.new.self c.loop-row.invariant.0 c.in-Err.ensures.err)
+    refused c.loop-row.number c.args.rows.now c.loop-row.row-index none c.args.self.now c.loop-row.self c.perform_row.new.self c.in-Err.fault c.loop-row-test.true (c.if-row-core.true ∙ c.core-core.ensures) c.loop-row.invariant.1 c.loop-row.invariant.0 c.in-Err.ensures.err
 
 pub overflow_add-number : goal.overflow_add-number
 overflow_add-number g c =

@@ -10,3 +10,6 @@ invariant_of-self c =
       kept.1,
       begins_on c.self.inside.core c.read_value.new.reader.seen c.self.inside.reader.seen c.self.inside.answers.items on.begins kept.2,
     )
+
+pub returns-clause-own : goal.returns-clause-own
+returns-clause-own c = begins_on c.self.inside.core c.read_value.new.reader.seen c.self.inside.reader.seen c.self.inside.answers.items c.read_value.ensures.goes_on.begins c.self.invariant.2

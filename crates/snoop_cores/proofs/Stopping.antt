@@ -1,0 +1,50 @@
+-- A seat that notes where its rows stopped has done no more.
+use Rattle.std.proofs.Common.{◌≡◌, ℕ, List, [], ◌∷◌, take, Option, Some, None, ap}
+use Rattle.snoop_trace.specs.declared.step.Op.{Op}
+use Rattle.snoop_trace.specs.declared.step.Row.{Row}
+use Rattle.snoop_bench.specs.declared.work.Work.{Work}
+use Rattle.snoop_cores.specs.declared.fault.SeatFault.{SeatFault}
+use Rattle.snoop_cores.specs.declared.fault.SeatFault.TheVariants.{NoBlock, NoMemory, Busy, Stranger}
+use Rattle.snoop_cores.specs.declared.stop.Stop.{Stop}
+use Rattle.snoop_cores.specs.declared.stop.Stop.TheVariants.{Late, Fault}
+use Rattle.snoop_cores.specs.Seats.{Seating}
+use Rattle.snoop_cores.specs.Calls.{Stays, Keeps, Fails}
+use Rattle.snoop_cores.specs.Rows.{Leaves, Grows, FailsOn, IsRefused, RanTo, rows_of}
+
+-- the seat, with another note
+abbrev noted : Option Stop → Seating → Seating
+noted stop s = record s { stop = stop }
+
+stays_noted : (stop : Option Stop) (s t : Seating) → Stays s t → Stays s (noted stop t)
+stays_noted stop s t h = record { core = h.core; shape = h.shape; begins = h.begins }
+
+keeps_noted : (stop : Option Stop) (s t : Seating) → Keeps s t → Keeps (noted stop s) (noted stop t)
+keeps_noted stop s t h = record { stays = record { core = h.stays.core; shape = h.stays.shape; begins = h.stays.begins }; answers = h.answers }
+
+leaves_noted : (stop : Option Stop) (rows : List Row) (s t : Seating) → Leaves rows s t → Leaves rows s (noted stop t)
+leaves_noted stop [] s t h = h
+leaves_noted stop (row ∷ rows) s t h = h
+
+grows_noted : (stop : Option Stop) (rows : List Row) (s t : Seating) → Grows rows s t → Grows rows s (noted stop t)
+grows_noted stop rows s t h = record { stays = stays_noted stop s t h.stays; added = h.added; leaves = leaves_noted stop rows s t h.leaves }
+
+fails_noted : (stop : Option Stop) (fault : SeatFault) (work : Work) (s t : Seating) → Fails fault work s t → Fails fault work (noted stop s) (noted stop t)
+fails_noted stop NoBlock work s t h = (h.0, ap (noted stop) h.1)
+fails_noted stop NoMemory work s t h = (keeps_noted stop s t h.0, h.1, h.2)
+fails_noted stop (Busy other) work s t h = (h.0, h.1, ap (noted stop) h.2)
+fails_noted stop (Stranger did) work s t h = (keeps_noted stop s t h.0, h.1, h.2)
+
+fails_on_noted : (stop : Option Stop) (block : Option ℕ) (fault : SeatFault) (wanted : Op) (s t : Seating) → FailsOn block fault wanted s t → FailsOn block fault wanted (noted stop s) (noted stop t)
+fails_on_noted stop None fault wanted s t h = (h.0, ap (noted stop) h.1)
+fails_on_noted stop (Some block) fault wanted s t h = fails_noted stop fault (record { block = block; op = wanted }) s t h
+
+pub ran_noted : (note stop : Option Stop) (rows : List Row) (s t : Seating) → RanTo stop rows s t → RanTo stop rows s (noted note t)
+ran_noted note None rows s t h = grows_noted note (rows_of s.core rows) s t h
+ran_noted note (Some (Late number)) rows s t h = (h.0, grows_noted note (take number (rows_of s.core rows)) s t h.1)
+ran_noted note (Some (Fault number fault)) rows s t h = record {
+  row = h.row;
+  there = h.there;
+  between = noted note h.between;
+  grown = grows_noted note (take number (rows_of s.core rows)) s h.between h.grown;
+  fails = fails_on_noted note (Rattle.snoop_trace.specs.Grammar.block_at h.between.shape h.row.address) fault h.row.op h.between t h.fails;
+}
