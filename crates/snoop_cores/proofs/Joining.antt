@@ -1,5 +1,5 @@
 -- A log beside the answers of seats, and seats beside cores.
-use Rattle.std.proofs.Common.{◌≡◌, ◌≢◌, ◌⊎◌, ℕ, ◌+◌, ◌<◌, ◌≤◌, ◌==◌, List, [], ◌∷◌, ◌++◌, length, take, drop, Option, Some, None, Bool, true, false, get_or, refl, sym, ap, ◌∙◌, subst, arith, length-append, append-nil, ⊎_elim, true≢false, inl, inr}
+use Rattle.std.proofs.Common.{◌≡◌, ◌≢◌, ◌⊎◌, ℕ, ◌+◌, ◌<◌, ◌≤◌, List, [], ◌∷◌, ◌++◌, length, take, drop, Option, Some, None, Bool, true, false, get_or, refl, sym, ap, ◌∙◌, subst, arith, length-append, append-nil, ⊎_elim, true≢false, inl, inr}
 use Rattle.std.specs.Prelude.{slice_get, slice_index_or, is_some}
 use Rattle.std.proofs.lemmas.Grind.{common_steps}
 use Rattle.std.proofs.lemmas.Bool.{cases_order}

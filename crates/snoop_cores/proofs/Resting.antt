@@ -1,6 +1,6 @@
 -- A bench with nothing under way joins the seats.
-use Rattle.std.proofs.Common.{◌≡◌, ℕ, ◌+◌, ◌<◌, ◌≤◌, ◌⊎◌, List, length, All, Option, Some, None, refl, sym, ap, ◌∙◌, subst, arith, inl, inr, count_by}
-use Rattle.std.specs.Prelude.{slice_get, slice_index_or, option_map, option_and_then}
+use Rattle.std.proofs.Common.{◌≡◌, ℕ, ◌<◌, ◌≤◌, ◌⊎◌, List, length, Option, Some, None, refl, sym, ap, ◌∙◌, subst, arith, inl, inr, count_by}
+use Rattle.std.specs.Prelude.{slice_index_or, option_map, option_and_then}
 use Rattle.std.specs.Option.{option_map_or}
 use Rattle.std.proofs.lemmas.Bool.{cases_order}
 use Rattle.std.proofs.lemmas.Option.{slice_get_past}
@@ -11,8 +11,7 @@ use Rattle.snoop_rules.specs.declared.names.Protocol.{Protocol}
 use Rattle.snoop_bus.specs.Queues.{queue_of}
 use Rattle.snoop_history.specs.declared.items.Item.{Item}
 use Rattle.snoop_history.specs.History.{answers_of}
-use Rattle.snoop_machine.specs.Picture.{held_by}
-use Rattle.snoop_machine.specs.Situation.{Situation, picture_of}
+use Rattle.snoop_machine.specs.Situation.{Situation}
 use Rattle.snoop_machine.specs.Safe.{IsSafe}
 use Rattle.snoop_machine.specs.Serving.{IsServing}
 use Rattle.snoop_machine.specs.Quiet.{IsQuiet}
@@ -23,7 +22,7 @@ use Rattle.snoop_bench.specs.declared.work.Work.{Work}
 use Rattle.snoop_bench.specs.Works.{work_at, under_way}
 use Rattle.snoop_bench.specs.Locked.{Locked, IsKept}
 use Rattle.snoop_cores.specs.Seats.{Seating}
-use Rattle.snoop_cores.specs.Joined.{OneForEach, IsIdle, IsFree, IsAnswered, IsJoined}
+use Rattle.snoop_cores.specs.Joined.{OneForEach, IsFree, IsAnswered, IsJoined}
 
 -- no core has work under way, inside the shape or outside
 nothing_under_way : (works : List (Option Work)) (cores : ℕ) → length works ≡ cores → ((core : ℕ) → core < cores → work_at works core ≡ None) → (core : ℕ) → work_at works core ≡ None

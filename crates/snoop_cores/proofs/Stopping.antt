@@ -1,5 +1,5 @@
 -- A seat that notes where its rows stopped has done no more.
-use Rattle.std.proofs.Common.{◌≡◌, ℕ, List, [], ◌∷◌, take, Option, Some, None, ap}
+use Rattle.std.proofs.Common.{ℕ, List, [], ◌∷◌, take, Option, Some, None, ap}
 use Rattle.snoop_trace.specs.declared.step.Op.{Op}
 use Rattle.snoop_trace.specs.declared.step.Row.{Row}
 use Rattle.snoop_bench.specs.declared.work.Work.{Work}
@@ -9,7 +9,7 @@ use Rattle.snoop_cores.specs.declared.stop.Stop.{Stop}
 use Rattle.snoop_cores.specs.declared.stop.Stop.TheVariants.{Late, Fault}
 use Rattle.snoop_cores.specs.Seats.{Seating}
 use Rattle.snoop_cores.specs.Calls.{Stays, Keeps, Fails}
-use Rattle.snoop_cores.specs.Rows.{Leaves, Grows, FailsOn, IsRefused, RanTo, rows_of}
+use Rattle.snoop_cores.specs.Rows.{Leaves, Grows, FailsOn, RanTo, rows_of}
 
 -- the seat, with another note
 abbrev noted : Option Stop → Seating → Seating

@@ -1,6 +1,6 @@
 -- What one version shows of a core's operations, beside those that its seat was answered.
 -- Source: this project's profile.
-use Rattle.std.specs.Prelude.{◌≡◌, ◌≢◌, ℕ, ◌+◌, ◌-◌, ◌^◌, ◌<◌, List, [], ◌∷◌, ◌++◌, length, Option, Some, None, ⊤}
+use Rattle.std.specs.Prelude.{◌≡◌, ◌≢◌, ℕ, ◌+◌, ◌-◌, ◌^◌, ◌<◌, List, [], ◌∷◌, ◌++◌, length, Option, Some, ⊤}
 use Rattle.snoop_trace.specs.declared.step.Op.{Op}
 use Rattle.snoop_trace.specs.declared.step.Op.TheVariants as op
 use Rattle.snoop_history.specs.declared.items.Did.{Did}
@@ -12,7 +12,7 @@ use Rattle.snoop_versions.specs.Readings.{Viewing, StartsWith}
 use Rattle.snoop_cores.specs.declared.own.Own.{Own}
 use Rattle.snoop_cores.specs.declared.own.Own.TheVariants.{Unseen, Same, More, Strange}
 
--- the largest count that a `u64` tells; it tells no more than that there are so many
+-- the largest count that a `u64` holds: it says only that there are so many or more
 abbrev pub most : ℕ
 most = 2 ^ 64 - 1
 

@@ -8,7 +8,6 @@ use Rattle.snoop_trace.specs.declared.step.Op.{Op}
 use Rattle.snoop_trace.specs.declared.step.Op.TheVariants as op
 use Rattle.snoop_trace.specs.declared.step.Row.{Row}
 use Rattle.snoop_history.specs.declared.items.Did.{Did}
-use Rattle.snoop_bench.specs.declared.work.Work.{Work}
 use Rattle.snoop_bench.specs.Works.{Does}
 use Rattle.snoop_cores.specs.declared.fault.SeatFault.{SeatFault}
 use Rattle.snoop_cores.specs.declared.fault.SeatFault.TheVariants.{NoBlock}

@@ -1,5 +1,5 @@
 //! What a version shows of a core's operations, beside those that its seat was answered.
-ghost use Rattle.std.specs.Prelude.{◌≡◌, ◌<◌, ◌++◌, ◌∷◌, [], IfOk, IfErr, OnOk, true, IsTrue, ◌↔◌};
+ghost use Rattle.std.specs.Prelude.{◌≡◌, ◌<◌, ◌++◌, ◌∷◌, [], IfOk, IfErr, OnOk, IsTrue};
 ghost use Rattle.snoop_trace.specs.declared.step.Op.TheVariants as op;
 ghost use Rattle.snoop_history.specs.History.{answers_of, Legal};
 ghost use Rattle.snoop_bench.specs.Works.{Does};

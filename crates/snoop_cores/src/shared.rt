@@ -1,7 +1,7 @@
 //! The shared machine, its seats and its watches.
 ghost use Rattle.std.specs.Prelude.{◌≡◌, ◌+◌, ◌^◌, ◌<◌, ◌≤◌, [], Err, IfOk, OnOk};
 ghost use Rattle.std.specs.Sync.Mutex.{mutex_guard_value};
-ghost use Rattle.snoop_cores.specs.Seats.{AreSeats, AreWatches, IsNew};
+ghost use Rattle.snoop_cores.specs.Seats.{AreSeats, AreWatches};
 ghost use Rattle.snoop_cores.specs.declared.fault.MakeFault.TheVariants.{NoPlace};
 
 use crate::fault::MakeFault;

@@ -1,6 +1,6 @@
-//! Storms: steps of which most race with others.
+//! Storms: steps of which most race with others, and rows that share blocks.
 
-use snoop_trace::{NoMemory, Op, Shape, Step};
+use snoop_trace::{NoMemory, Op, Row, Shape, Step};
 use std::alloc::Global;
 
 /// The storm's next number: the upper bits of a linear congruential generator.
@@ -11,12 +11,20 @@ fn next(seed: &mut u64) -> u64 {
     *seed >> 33
 }
 
+/// The core that a number stands for.
+fn core_of(number: u64, shape: Shape) -> u32 {
+    (number / 5 % shape.cores() as u64) as u32
+}
+
+/// The block that a number stands for.
+fn block_of(number: u64, shape: Shape) -> u32 {
+    (number / 5 / shape.cores() as u64 % shape.blocks() as u64) as u32
+}
+
 /// The step that a number stands for; a store stores its own place in the storm.
 fn step_of(number: u64, place: u64, shape: Shape) -> Step {
-    let cores = shape.cores() as u64;
-    let blocks = shape.blocks() as u64;
-    let core = (number / 5 % cores) as u32;
-    let block = (number / 5 / cores % blocks) as u32;
+    let core = core_of(number, shape);
+    let block = block_of(number, shape);
     match number % 5 {
         0 => Step::Ask {
             core,
@@ -38,6 +46,20 @@ fn step_of(number: u64, place: u64, shape: Shape) -> Step {
     }
 }
 
+/// The row that a number stands for; a store stores its own place among the rows.
+fn row_of(number: u64, place: u64, shape: Shape) -> Row {
+    let op = match number % 5 {
+        0 | 1 => Op::Load,
+        2 | 3 => Op::Store(place),
+        _ => Op::Evict,
+    };
+    Row {
+        core: core_of(number, shape),
+        op,
+        address: block_of(number, shape) as u64 * shape.block_bytes() as u64,
+    }
+}
+
 /// A storm of so many steps over the cores and blocks of the shape.
 pub fn storm(alloc: Global, count: u64, shape: Shape) -> Result<Vec<Step>, NoMemory> {
     let mut seed = 1;
@@ -48,4 +70,15 @@ pub fn storm(alloc: Global, count: u64, shape: Shape) -> Result<Vec<Step>, NoMem
             .map_err(|_| NoMemory)?;
     }
     Ok(steps)
+}
+
+/// So many rows over the cores and blocks of the shape: of five, two load, two store and one evicts.
+pub fn rows(alloc: Global, count: u64, shape: Shape) -> Result<Vec<Row>, NoMemory> {
+    let mut seed = 1;
+    let mut rows = Vec::new(alloc);
+    for place in 1..=count {
+        rows.push(row_of(next(&mut seed), place, shape))
+            .map_err(|_| NoMemory)?;
+    }
+    Ok(rows)
 }

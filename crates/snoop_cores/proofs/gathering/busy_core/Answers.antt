@@ -1,4 +1,4 @@
-use Rattle.std.proofs.Common.{ℕ, ◌≡◌, ◌∙◌, ap, arith, sym, refl}
+use Rattle.std.proofs.Common.{◌≡◌, ◌∙◌, ap, arith, sym, refl}
 use Rattle.snoop_trace.specs.Extent.{Extent}
 use Rattle.snoop_cores.specs.Joined.{IsFree}
 use Rattle.snoop_cores.proofs.Joining.{below_next, is_none}

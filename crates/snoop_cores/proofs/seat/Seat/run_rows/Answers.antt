@@ -1,7 +1,6 @@
-use Rattle.std.proofs.Common.{◌≡◌, ℕ, ◌∙◌, ◌+◌, ◌<◌, ◌≤◌, sym, ap, subst, arith, length, take, get_or}
+use Rattle.std.proofs.Common.{◌∙◌, sym, arith}
 use Rattle.snoop_trace.specs.declared.step.Op.TheVariants.{Load}
 use Rattle.snoop_trace.specs.declared.step.Row.{Row}
-use Rattle.snoop_cores.specs.Rows.{rows_of}
 use Rattle.snoop_cores.proofs.Performed.{stopped, did_row, passed_row, refused, few_done}
 use Rattle.snoop_cores.proofs.seat.Seat.run_rows.Goals.{then-row-core+else-is_err+in_default, else-row-core}
 use Rattle.snoop_cores.proofs.seat.Seat.run_rows.Goals as goal
