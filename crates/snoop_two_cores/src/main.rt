@@ -26,7 +26,7 @@ fn play<R: Threads + Wait + Print + Sync>(
     ensure!(stops.iter().all(|stop| stop.is_none()), "a seat stopped");
     for seat in seats.iter() {
         if let Some(did) = seat.answers().last() {
-            println!(rt; "core {}: the last load gets {}", did.core, did.value)?;
+            println!(rt; "core {}: the last answer is {}", did.core, did.value)?;
         }
     }
     for watch in watches.iter_mut() {
