@@ -30,7 +30,7 @@ grows_noted stop rows s t h = record { stays = stays_noted stop s t h.stays; add
 
 fails_noted : (stop : Option Stop) (fault : SeatFault) (work : Work) (s t : Seating) → Fails fault work s t → Fails fault work (noted stop s) (noted stop t)
 fails_noted stop NoBlock work s t h = (h.0, ap (noted stop) h.1)
-fails_noted stop NoMemory work s t h = (keeps_noted stop s t h.0, h.1, h.2)
+fails_noted stop NoMemory work s t h = (keeps_noted stop s t h.0, h.1, h.2, h.3)
 fails_noted stop (Busy other) work s t h = (h.0, h.1, ap (noted stop) h.2)
 fails_noted stop (Stranger did) work s t h = (keeps_noted stop s t h.0, h.1, h.2)
 

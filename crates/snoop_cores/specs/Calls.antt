@@ -40,7 +40,7 @@ pub record IsStranger (did : Did) (work : Work) (dids answers : List Did) : Type
 abbrev pub Fails : SeatFault → Work → Seating → Seating → Type 0
 Fails NoBlock work s t = (s.shape.blocks ≤ work.block) × (t ≡ s)
 Fails (Busy other) work s t = (s.pending ≡ Some other) × (other ≢ work) × (t ≡ s)
-Fails NoMemory work s t = Keeps s t × (t.pending ≡ Some work) × (t.strange ≡ None)
+Fails NoMemory work s t = Keeps s t × (t.pending ≡ Some work) × (t.strange ≡ None) × (t.seen ≡ s.seen)
 Fails (Stranger did) work s t = Keeps s t × (t.strange ≡ Some did) × ((s.strange ≡ Some did) ⊎ IsStranger did work (answers_of t.seen s.core) s.answers)
 
 -- the fault that is answered before any turn
