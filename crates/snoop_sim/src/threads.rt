@@ -1,10 +1,11 @@
 //! The command `threads`: the rows of a text, each core's in a thread of its own.
-ghost use Rattle.std.specs.Prelude.{◌≡◌, ◌≢◌, ◌<◌, ◌-◌, ◌^◌, true, length, All, Err, None, IfErr, IfOk, OnErr, OnOk, IsSomeAnd};
+ghost use Rattle.std.specs.Prelude.{◌≡◌, ◌≢◌, ◌<◌, ◌-◌, ◌^◌, true, length, All, Contains, Err, Some, None, IfErr, IfOk, OnErr, OnOk, IsSomeAnd};
 ghost use Rattle.snoop_cores.specs.Seats.{AreSeats};
 ghost use Rattle.snoop_trace.specs.Grammar.{IsRowWithin};
 ghost use Rattle.snoop_trace.specs.declared.fault.TextFault.TheVariants as text_fault;
 ghost use Rattle.snoop_sim.specs.Threaded.{SimulatesThreads, Threaded};
-ghost use Rattle.snoop_sim.specs.ThreadsFault.{IsOfThreads};
+ghost use Rattle.snoop_cores.specs.declared.stop.Stop.{Stop};
+ghost use Rattle.snoop_sim.specs.ThreadsFault.{IsOfThreads, stopped};
 
 use crate::fault::ThreadsFault;
 use snoop_cores::{Free, Seat, Shared, Stop, gather, run_seats};
@@ -81,6 +82,7 @@ fn take_seated<T: Threads + Wait + Sync>(
 fn check_stops(stops: &[Option<Stop>]) -> Result<(), ThreadsFault>
     ensures ok { OnOk result (All (λ stop. stop ≡ None) stops.now) }
     ensures err { IfErr result IsOfThreads }
+    ensures which { IfErr result (λ fault. (stop : Stop) × Contains stops.now (Some stop) × (fault ≡ stopped stop)) }
 {
     for stop in stops {
         if let Some(stop) = *stop {
