@@ -16,13 +16,13 @@ abbrev pub HasOther : ℕ → Work → Work → Locked → Type 0
 HasOther core work other b = (work_at b.works core ≡ Some other) × (other ≢ work)
 
 -- when each fault is answered; out of memory only where no other fault holds
-abbrev pub Denied : AdvanceFault → ℕ → Work → Locked → Type 0
-Denied NoCore core work b = b.situation.shape.cores ≤ core
-Denied NoBlock core work b = (core < b.situation.shape.cores) × (b.situation.shape.blocks ≤ work.block)
-Denied (Other other) core work b = IsInside core work b × HasOther core work other b
-Denied NoMemory core work b = IsInside core work b × ((other : Work) → ¬ HasOther core work other b)
+abbrev pub RefusesTurn : AdvanceFault → ℕ → Work → Locked → Type 0
+RefusesTurn NoCore core work b = b.situation.shape.cores ≤ core
+RefusesTurn NoBlock core work b = (core < b.situation.shape.cores) × (b.situation.shape.blocks ≤ work.block)
+RefusesTurn (Other other) core work b = IsInside core work b × HasOther core work other b
+RefusesTurn NoMemory core work b = IsInside core work b × ((other : Work) → ¬ HasOther core work other b)
 
 -- the fault, where there is one beside memory, is answered
-abbrev pub IsDenied : AdvanceFault → ℕ → Work → Locked → Type 0
-IsDenied NoMemory core work b = ⊥
-IsDenied fault core work b = Denied fault core work b
+abbrev pub MustRefuse : AdvanceFault → ℕ → Work → Locked → Type 0
+MustRefuse NoMemory core work b = ⊥
+MustRefuse fault core work b = RefusesTurn fault core work b

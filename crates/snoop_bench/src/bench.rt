@@ -11,7 +11,7 @@ ghost use Rattle.snoop_bench.specs.Locked.{opened, record_of, IsKept};
 ghost use Rattle.snoop_bench.specs.Turns.{Turns, TurnsIn};
 ghost use Rattle.snoop_bench.specs.Turns.Case.{asks, ends, over};
 ghost use Rattle.snoop_bench.specs.Recording.{Takes};
-ghost use Rattle.snoop_bench.specs.Faults.{IsInside, Denied, IsDenied};
+ghost use Rattle.snoop_bench.specs.Faults.{IsInside, RefusesTurn, MustRefuse};
 
 use crate::outcome::{asked, note, over, set_work};
 use crate::recorder::Recorder;
@@ -125,8 +125,8 @@ impl Bench {
     /// refused.
     pub fn advance<R: Wait>(&mut self, rt: &R, core: u32, work: Work) -> Result<Turn, AdvanceFault>
         ensures ok { IfOk result (λ given. Turns core work given self.old self.new) }
-        ensures err { IfErr result (λ fault. Denied fault core work self.old × (self.new ≡ self.old)) }
-        ensures exactly { (fault : AdvanceFault) → IsDenied fault core work self.old → result ≡ Err fault }
+        ensures err { IfErr result (λ fault. RefusesTurn fault core work self.old × (self.new ≡ self.old)) }
+        ensures exactly { (fault : AdvanceFault) → MustRefuse fault core work self.old → result ≡ Err fault }
 
         // A turn that takes no step takes no memory.
         ensures closed { IsInside core work self.old → work_at self.old.works core ≡ Some work → turn_of self.old.situation core work.block work.op true ≡ None → IsOk result }

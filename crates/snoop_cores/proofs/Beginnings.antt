@@ -7,7 +7,6 @@ use Rattle.snoop_history.specs.declared.items.Item.{Item}
 use Rattle.snoop_history.specs.History.{operation_of, operations, answers_of, last_or}
 use Rattle.snoop_history.proofs.Pushed.{last_or-append}
 use Rattle.snoop_versions.specs.Readings.{StartsWith}
-use Rattle.snoop_cores.specs.Seats.{BeginsWith}
 
 -- a core's operations in a list and then another
 pub answers_of-append : (items more : List Item) (core : ℕ) → answers_of (items ++ more) core ≡ answers_of items core ++ answers_of more core
@@ -22,7 +21,7 @@ pub starts_on : (last middle first : List Item) → StartsWith last middle → S
 starts_on last middle first new old = (old.0 ++ new.0, new.1 ∙ ap (λ (l : List Item). l ++ new.0) old.1 ∙ append_assoc first old.0 new.0)
 
 -- the core's operations in what is seen still begin with these
-pub begins_on : (core : ℕ) (now was : List Item) (dids : List Did) → StartsWith now was → BeginsWith (answers_of was core) dids → BeginsWith (answers_of now core) dids
+pub begins_on : (core : ℕ) (now was : List Item) (dids : List Did) → StartsWith now was → StartsWith (answers_of was core) dids → StartsWith (answers_of now core) dids
 begins_on core now was dids new old = (
   old.0 ++ answers_of new.0 core,
   ap (λ (l : List Item). answers_of l core) new.1 ∙ answers_of-append was new.0 core ∙ ap (λ (l : List Did). l ++ answers_of new.0 core) old.1 ∙ append_assoc dids old.0 (answers_of new.0 core),

@@ -11,7 +11,7 @@ use Rattle.snoop_history.specs.declared.items.Item.{Item}
 use Rattle.snoop_history.specs.History.{answers_of}
 use Rattle.snoop_bench.specs.declared.work.Work.{Work}
 use Rattle.snoop_cores.specs.Seats.{Seating}
-use Rattle.snoop_cores.specs.Joined.{IsFirst, IsFirstStrange, IsOdd, OneForEach}
+use Rattle.snoop_cores.specs.Joined.{IsFirst, IsFirstOutside, IsNotAllSeats, OneForEach}
 use Rattle.snoop_cores.proofs.Beginnings.{answers_of-append}
 
 pub below_next : (P : ℕ → Type 0) (n : ℕ) → ((c : ℕ) → c < n → P c) → P n → (c : ℕ) → c < n + 1 → P c
@@ -112,7 +112,7 @@ abbrev pub no_seat : Seating
 no_seat = record { core = 0; shape = record { cores = 0; blocks = 0; block_bytes = 0 }; seen = []; answers = []; pending = None; strange = None; stop = None }
 
 -- two first strange cores are one
-strange_one : (cores : ℕ) (seats : List Seating) (a b : ℕ) → IsFirstStrange cores seats a → IsFirstStrange cores seats b → a ≡ b
+strange_one : (cores : ℕ) (seats : List Seating) (a b : ℕ) → IsFirstOutside cores seats a → IsFirstOutside cores seats b → a ≡ b
 strange_one cores seats a b x y =
     let same : x.place ≡ y.place =
     apart x.place y.place (λ lt. strange (slice_index_or seats x.place no_seat).core a x.outside (x.there no_seat) (y.first x.place no_seat lt))
@@ -122,13 +122,13 @@ strange_one cores seats a b x y =
     strange : (n a : ℕ) → cores ≤ a → n ≡ a → n < cores → ⊥
     strange n a h e lt = omega (arith, h, e, lt)
 
-pub odd_one : (cores : ℕ) (seats : List Seating) (a b : ℕ) → IsOdd cores seats a → IsOdd cores seats b → a ≡ b
+pub odd_one : (cores : ℕ) (seats : List Seating) (a b : ℕ) → IsNotAllSeats cores seats a → IsNotAllSeats cores seats b → a ≡ b
 odd_one cores seats a b (inl x) (inl y) = apart a b (λ lt. x.1 (y.2 a lt)) (λ lt. y.1 (x.2 b lt))
 odd_one cores seats a b (inl x) (inr y) = absurd (x.1 (y.1 a x.0))
 odd_one cores seats a b (inr x) (inl y) = absurd (y.1 (x.1 b y.0))
 odd_one cores seats a b (inr x) (inr y) = strange_one cores seats a b x.0 y.0
 
-pub not_odd : (cores : ℕ) (seats : List Seating) (core : ℕ) → OneForEach cores seats → IsOdd cores seats core → ⊥
+pub not_odd : (cores : ℕ) (seats : List Seating) (core : ℕ) → OneForEach cores seats → IsNotAllSeats cores seats core → ⊥
 not_odd cores seats core all (inl x) = x.1 (all.each core x.0)
 not_odd cores seats core all (inr x) = strange (slice_index_or seats x.0.place no_seat).core (x.0.there no_seat) (all.known x.0.place no_seat x.0.inside)
   where

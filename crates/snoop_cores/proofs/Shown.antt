@@ -9,7 +9,7 @@ use Rattle.snoop_bench.specs.Works.{Does}
 use Rattle.snoop_versions.specs.Readings.{Viewing, Enters}
 use Rattle.snoop_cores.specs.declared.own.Own.{Own}
 use Rattle.snoop_cores.specs.declared.own.Own.TheVariants.{Unseen, Same, More, Strange}
-use Rattle.snoop_cores.specs.Seats.{BeginsWith}
+use Rattle.snoop_versions.specs.Readings.{StartsWith}
 use Rattle.snoop_cores.specs.Own.{most, Shows, Judged}
 use Rattle.snoop_cores.specs.Calls.{IsStranger}
 use Rattle.snoop_cores.proofs.Beginnings.{begins_on, last_in, last_push}
@@ -19,15 +19,15 @@ single [] dids did n last = absurd (omega arith)
 single (x ∷ []) dids did n last = let k = last_push dids x in let s : Some x ≡ Some did = sym k ∙ last in cc
 single (x ∷ y ∷ rest) dids did n last = absurd (omega arith)
 
-long : (all dids : List Did) (b : BeginsWith all dids) → length all ≡ length dids + length b.0
+long : (all dids : List Did) (b : StartsWith all dids) → length all ≡ length dids + length b.0
 long all dids b = ap length b.1 ∙ length-append dids b.0
 
-one_more : (all dids : List Did) (did : Did) → BeginsWith all dids → capped (length all) ≡ length dids + 1 → length dids + 1 < most → last_in all ≡ Some did → all ≡ dids ++ did ∷ []
+one_more : (all dids : List Did) (did : Did) → StartsWith all dids → capped (length all) ≡ length dids + 1 → length dids + 1 < most → last_in all ≡ Some did → all ≡ dids ++ did ∷ []
 one_more all dids did b count below last =
     let len = long all dids b in
     b.1 ∙ ap (λ (l : List Did). dids ++ l) (single b.0 dids did (omega (arith, len, count, below)) (ap last_in (sym b.1) ∙ last))
 
-none_more : (all dids : List Did) → BeginsWith all dids → capped (length all) ≡ length dids → length dids < most → all ≡ dids
+none_more : (all dids : List Did) → StartsWith all dids → capped (length all) ≡ length dids → length dids < most → all ≡ dids
 none_more all dids b count below =
     let len = long all dids b in
     b.1 ∙ ap (λ (l : List Did). dids ++ l) (empty b.0 (omega (arith, len, count, below))) ∙ append-nil dids
@@ -50,7 +50,7 @@ inside core cores o here lt is = is ∙ ap (λ (b : Bool). if b then here else N
 
 -- what is judged is shown
 pub own_shown : (own : Own) (core : ℕ) (v w : Viewing) (answers : List Did) (count : Option ℕ) (last : Option Did)
-    → Enters v w → core < v.cores → BeginsWith (answers_of v.seen core) answers
+    → Enters v w → core < v.cores → StartsWith (answers_of v.seen core) answers
     → count ≡ (if nat_lt core w.cores then Some (capped (next_number w.seen core)) else None)
     → last ≡ (if nat_lt core w.cores then last_of w.seen core else None)
     → Judged own count last (length answers) → Shows own core answers w.seen
@@ -69,7 +69,7 @@ own_shown own core v w answers count last e lt b counted lasts =
     all : List Did
     all = answers_of w.seen core
 
-    begins : BeginsWith (answers_of w.seen core) answers
+    begins : StartsWith (answers_of w.seen core) answers
     begins = begins_on core w.seen v.seen answers e.begins b
 
     by_case : (own : Own) → Judged own count last (length answers) → Shows own core answers w.seen

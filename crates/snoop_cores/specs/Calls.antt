@@ -44,7 +44,7 @@ Fails NoMemory work s t = Keeps s t × (t.pending ≡ Some work) × (t.strange �
 Fails (Stranger did) work s t = Keeps s t × (t.strange ≡ Some did) × ((s.strange ≡ Some did) ⊎ IsStranger did work (answers_of t.seen s.core) s.answers)
 
 -- the fault that is answered before any turn
-pub record Foretold (work : Work) (s : Seating) (answered : SeatFault → Type 0) : Type 0 where
+pub record RefusedAtOnce (work : Work) (s : Seating) (answered : SeatFault → Type 0) : Type 0 where
   pub outside : s.shape.blocks ≤ work.block → answered NoBlock
   pub stranger : (did : Did) → work.block < s.shape.blocks → s.strange ≡ Some did → answered (Stranger did)
   pub busy : (other : Work) → work.block < s.shape.blocks → s.strange ≡ None → s.pending ≡ Some other → other ≢ work → answered (Busy other)

@@ -28,11 +28,11 @@ pub record OneForEach (cores : ℕ) (seats : List Seating) : Type 0 where
   pub known : All (λ seat. seat.core < cores) seats
 
 -- the least core with no seat or with several
-abbrev pub IsLeastOdd : ℕ → List Seating → ℕ → Type 0
-IsLeastOdd cores seats core = (core < cores) × (seats_of seats core ≢ 1) × ((lower : ℕ) → lower < core → seats_of seats lower ≡ 1)
+abbrev pub IsLeastNotSeated : ℕ → List Seating → ℕ → Type 0
+IsLeastNotSeated cores seats core = (core < cores) × (seats_of seats core ≢ 1) × ((lower : ℕ) → lower < core → seats_of seats lower ≡ 1)
 
 -- the first seat's core that is outside the shape
-pub record IsFirstStrange (cores : ℕ) (seats : List Seating) (core : ℕ) : Type 0 where
+pub record IsFirstOutside (cores : ℕ) (seats : List Seating) (core : ℕ) : Type 0 where
   pub outside : cores ≤ core
   pub place : ℕ
   pub inside : place < length seats
@@ -40,8 +40,8 @@ pub record IsFirstStrange (cores : ℕ) (seats : List Seating) (core : ℕ) : Ty
   pub first : (before : ℕ) (d : Seating) → before < place → (slice_index_or seats before d).core < cores
 
 -- the least core with no seat or with several; or, where there is none such, the first strange one
-abbrev pub IsOdd : ℕ → List Seating → ℕ → Type 0
-IsOdd cores seats core = IsLeastOdd cores seats core ⊎ (IsFirstStrange cores seats core × ((each : ℕ) → each < cores → seats_of seats each ≡ 1))
+abbrev pub IsNotAllSeats : ℕ → List Seating → ℕ → Type 0
+IsNotAllSeats cores seats core = IsLeastNotSeated cores seats core ⊎ (IsFirstOutside cores seats core × ((each : ℕ) → each < cores → seats_of seats each ≡ 1))
 
 -- the core's seats have no pending operation
 abbrev pub IsIdle : List Seating → ℕ → Type 0
@@ -90,15 +90,15 @@ pub record IsJoined (protocol : Protocol) (shape : Extent) (seats : List Seating
   pub once : (core block : ℕ) (wanted : Op) → count_by (did_it block wanted) (answers_of items core) ≡ count_by (asks core block wanted) steps
 
 -- why nothing was gathered
-abbrev pub IsParted : Protocol → Extent → List Seating → GatherFault → Type 0
-IsParted protocol shape seats (NotAllSeats core) = IsOdd shape.cores seats core
-IsParted protocol shape seats (Pending core) =
+abbrev pub RefusesGather : Protocol → Extent → List Seating → GatherFault → Type 0
+RefusesGather protocol shape seats (NotAllSeats core) = IsNotAllSeats shape.cores seats core
+RefusesGather protocol shape seats (Pending core) =
     OneForEach shape.cores seats × (core < shape.cores)
     × ((b : Locked) × IsHeld protocol shape b × ((lower : ℕ) → lower < core → IsFree b seats lower) × ¬ IsFree b seats core)
-IsParted protocol shape seats (Mismatch core place) =
+RefusesGather protocol shape seats (Mismatch core place) =
     OneForEach shape.cores seats × (core < shape.cores)
     × ((b : Locked) × IsHeld protocol shape b × ((each : ℕ) → each < shape.cores → IsFree b seats each)
     × ((lower : ℕ) → lower < core → IsAnswered b.situation.log seats lower) × DiffersAt b.situation.log seats core place)
-IsParted protocol shape seats NoMemory =
+RefusesGather protocol shape seats NoMemory =
     OneForEach shape.cores seats
     × ((b : Locked) × IsHeld protocol shape b × ((each : ℕ) → each < shape.cores → IsFree b seats each) × ((each : ℕ) → each < shape.cores → IsAnswered b.situation.log seats each))

@@ -88,6 +88,6 @@ pub record IsUnserved (seats : List Seating) (rows : List Row) (row : Row) : Typ
   pub first : (before : ℕ) (d : Row) → before < place → IsServed seats (slice_index_or rows before d)
 
 -- why no row was performed
-abbrev pub IsRunDenied : List Seating → List Row → RunFault → Type 0
-IsRunDenied seats rows (NoSeat core) = (row : Row) × IsUnserved seats rows row × (row.core ≡ core)
-IsRunDenied seats rows NoMemory = All (IsServed seats) rows
+abbrev pub RefusesRows : List Seating → List Row → RunFault → Type 0
+RefusesRows seats rows (NoSeat core) = (row : Row) × IsUnserved seats rows row × (row.core ≡ core)
+RefusesRows seats rows NoMemory = All (IsServed seats) rows

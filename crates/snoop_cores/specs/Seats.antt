@@ -35,10 +35,6 @@ pub record Sees (before after : List Item) : Type 0 where
   pub legal : Legal after
   pub begins : StartsWith after before
 
--- the operations begin with these
-abbrev pub BeginsWith : List Did → List Did → Type 0
-BeginsWith dids first = (rest : List Did) × (dids ≡ first ++ rest)
-
 -- a seat that has done nothing
 pub record IsNew (core : ℕ) (shape : Extent) (seat : Seating) : Type 0 where
   pub core_is : seat.core ≡ core

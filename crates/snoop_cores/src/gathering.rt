@@ -1,7 +1,7 @@
 //! The log of the lock, joined with what the seats were answered.
 ghost use Rattle.std.specs.Prelude.{◌≡◌, ℕ, ◌<◌, Err, IfOk, IfErr, IfSome, IfNone, IsTrue, [], ◌∷◌, option_to_list, Some, slice_get};
 ghost use Rattle.snoop_history.specs.History.{answers_of};
-ghost use Rattle.snoop_cores.specs.Joined.{seats_of, OneForEach, IsOdd, IsIdle, IsFree, IsAnswered, IsFirst, DiffersAt, IsJoined, IsParted};
+ghost use Rattle.snoop_cores.specs.Joined.{seats_of, OneForEach, IsNotAllSeats, IsIdle, IsFree, IsAnswered, IsFirst, DiffersAt, IsJoined, RefusesGather};
 ghost use Rattle.snoop_cores.specs.declared.fault.GatherFault.TheVariants.{NotAllSeats};
 
 use crate::fault::GatherFault;
@@ -34,8 +34,8 @@ pub fn gather<R: Wait>(
 ) -> Result<Gathered, GatherFault>
     ensures ok { IfOk result (λ gathered. IsJoined shared.now.protocol shared.now.shape seats.now gathered.log.items gathered.steps.items) }
     ensures shape { IfOk result (λ gathered. (gathered.log.cores ≡ shared.now.shape.cores) × (gathered.log.blocks ≡ shared.now.shape.blocks)) }
-    ensures err { IfErr result (λ fault. IsParted shared.now.protocol shared.now.shape seats.now fault) }
-    ensures not_all { (core : ℕ) → IsOdd shared.now.shape.cores seats.now core → result ≡ Err (NotAllSeats core) }
+    ensures err { IfErr result (λ fault. RefusesGather shared.now.protocol shared.now.shape seats.now fault) }
+    ensures not_all { (core : ℕ) → IsNotAllSeats shared.now.shape.cores seats.now core → result ≡ Err (NotAllSeats core) }
 {
     if let Some(core) = odd_core(seats, shared.shape().cores()) {
         return Err(GatherFault::NotAllSeats { core });
@@ -49,7 +49,7 @@ fn join(alloc: Global, bench: &Bench, seats: &[Seat]) -> Result<Gathered, Gather
     requires { OneForEach bench.now.situation.shape.cores seats.now }
     ensures ok { IfOk result (λ gathered. IsJoined bench.now.situation.protocol bench.now.situation.shape seats.now gathered.log.items gathered.steps.items) }
     ensures shape { IfOk result (λ gathered. (gathered.log.cores ≡ bench.now.situation.shape.cores) × (gathered.log.blocks ≡ bench.now.situation.shape.blocks)) }
-    ensures err { IfErr result (λ fault. IsParted bench.now.situation.protocol bench.now.situation.shape seats.now fault) }
+    ensures err { IfErr result (λ fault. RefusesGather bench.now.situation.protocol bench.now.situation.shape seats.now fault) }
 {
     bench.kept();
     asked_are_tallied();
@@ -78,7 +78,7 @@ fn copy(alloc: Global, bench: &Bench) -> Result<Gathered, NoMemory>
 
 // The least core with no seat or several, or else the first strange one.
 fn odd_core(seats: &[Seat], cores: u32) -> Option<u32>
-    ensures some { IfSome result (λ core. IsOdd cores seats.now core) }
+    ensures some { IfSome result (λ core. IsNotAllSeats cores seats.now core) }
     ensures none { IfNone result (OneForEach cores seats.now) }
 {
     for core in 0..cores {

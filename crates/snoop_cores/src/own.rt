@@ -3,7 +3,7 @@ ghost use Rattle.std.specs.Prelude.{◌≡◌, ◌<◌, ◌++◌, ◌∷◌, [],
 ghost use Rattle.snoop_trace.specs.declared.step.Op.TheVariants as op;
 ghost use Rattle.snoop_history.specs.History.{answers_of, Legal};
 ghost use Rattle.snoop_bench.specs.Works.{Does};
-ghost use Rattle.snoop_cores.specs.Seats.{BeginsWith};
+ghost use Rattle.snoop_versions.specs.Readings.{StartsWith};
 ghost use Rattle.snoop_cores.specs.Own.{GoesOn, Shows, Judged};
 ghost use Rattle.snoop_cores.specs.Calls.{IsStranger};
 
@@ -28,9 +28,9 @@ enum Own {
 // Enters one version.
 fn look(reader: &mut VersionReader, core: u32, answers: &[Did]) -> Own
     requires core { core < reader.old.cores }
-    requires begins { BeginsWith (answers_of reader.old.seen core) answers.now }
+    requires begins { StartsWith (answers_of reader.old.seen core) answers.now }
     ensures goes_on { GoesOn reader.old reader.new }
-    ensures begins { BeginsWith (answers_of reader.new.seen core) answers.now }
+    ensures begins { StartsWith (answers_of reader.new.seen core) answers.now }
     ensures shows { Shows result core answers.now reader.new.seen }
 {
     match reader.own(core) {
@@ -80,9 +80,9 @@ pub(crate) fn find_own<R: Wait>(
     work: Work,
 ) -> Result<Did, Did>
     requires core { core < reader.old.cores }
-    requires begins { BeginsWith (answers_of reader.old.seen core) answers.now }
+    requires begins { StartsWith (answers_of reader.old.seen core) answers.now }
     ensures goes_on { GoesOn reader.old reader.new }
-    ensures begins { BeginsWith (answers_of reader.new.seen core) answers.now }
+    ensures begins { StartsWith (answers_of reader.new.seen core) answers.now }
     ensures ok { IfOk result (λ did. (answers_of reader.new.seen core ≡ answers.now ++ did ∷ []) × Legal reader.new.seen × Does did work) }
     ensures err { IfErr result (λ did. IsStranger did work (answers_of reader.new.seen core) answers.now) }
 {
@@ -106,10 +106,10 @@ pub(crate) fn find_same<R: Wait>(
     work: Work,
 ) -> Result<(), Did>
     requires core { core < reader.old.cores }
-    requires begins { BeginsWith (answers_of reader.old.seen core) answers.now }
+    requires begins { StartsWith (answers_of reader.old.seen core) answers.now }
     requires evicts { work.op ≡ op.Evict }
     ensures goes_on { GoesOn reader.old reader.new }
-    ensures begins { BeginsWith (answers_of reader.new.seen core) answers.now }
+    ensures begins { StartsWith (answers_of reader.new.seen core) answers.now }
     ensures ok { OnOk result ((answers_of reader.new.seen core ≡ answers.now) × Legal reader.new.seen) }
     ensures err { IfErr result (λ did. IsStranger did work (answers_of reader.new.seen core) answers.now) }
 {

@@ -1,7 +1,7 @@
 //! Rows that threads perform, one thread for each seat.
 ghost use Rattle.std.specs.Prelude.{◌≡◌, ℕ, ◌<◌, length, IfOk, IfErr, IfSome, IfNone, OnOk, OnErr, All, IsTrue, None, slice_index_or};
 ghost use Rattle.snoop_cores.specs.Seats.{Seating};
-ghost use Rattle.snoop_cores.specs.Rows.{RanTo, IsServed, IsUnserved, IsRunDenied};
+ghost use Rattle.snoop_cores.specs.Rows.{RanTo, IsServed, IsUnserved, RefusesRows};
 
 use crate::fault::RunFault;
 use crate::gate::Gate;
@@ -30,7 +30,7 @@ pub fn run_seats<R: Threads + Wait + Sync, G: Gate + Sync>(
     ensures ran { IfOk result (λ stops. (place : ℕ) (d : Seating) → place < length seats.old → RanTo (slice_index_or stops.items place None) rows.now (slice_index_or seats.old place d) (slice_index_or seats.new place d)) }
     ensures len { length seats.new ≡ length seats.old }
     ensures served { OnOk result (All (IsServed seats.old) rows.now) }
-    ensures denied { IfErr result (λ fault. IsRunDenied seats.old rows.now fault) }
+    ensures denied { IfErr result (λ fault. RefusesRows seats.old rows.now fault) }
     ensures err { OnErr result (seats.new ≡ seats.old) }
 {
     if let Some(row) = unserved(seats, rows) {

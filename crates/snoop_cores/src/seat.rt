@@ -5,8 +5,9 @@ ghost use Rattle.snoop_history.specs.declared.items.Did.{Did};
 ghost use Rattle.snoop_history.specs.History.{answers_of, flat};
 ghost use Rattle.snoop_history.specs.Totals.{capped_totals, totals_of};
 ghost use Rattle.snoop_bench.specs.Works.{Does};
-ghost use Rattle.snoop_cores.specs.Seats.{BeginsWith, IsNew, Sees};
-ghost use Rattle.snoop_cores.specs.Calls.{Completes, Fails, Foretold};
+ghost use Rattle.snoop_versions.specs.Readings.{StartsWith};
+ghost use Rattle.snoop_cores.specs.Seats.{IsNew, Sees};
+ghost use Rattle.snoop_cores.specs.Calls.{Completes, Fails, RefusedAtOnce};
 ghost use Rattle.snoop_cores.specs.Rows.{FailsRow, Grows, RanTo};
 ghost use Rattle.snoop_cores.specs.declared.fault.ViewFault.TheVariants.{NoBlock, NoVersion};
 
@@ -41,14 +42,15 @@ pub struct Seat {
 impl Model for Seat {
     ghost use Rattle.std.specs.Prelude.{◌≡◌, ◌<◌};
     ghost use Rattle.snoop_history.specs.History.{answers_of};
-    ghost use Rattle.snoop_cores.specs.Seats.{BeginsWith, Seating};
+    ghost use Rattle.snoop_versions.specs.Readings.{StartsWith};
+    ghost use Rattle.snoop_cores.specs.Seats.{Seating};
 
     ghost Value = { Seating };
 
     ghost view = { λ s. record { core = s.core; shape = s.share.shape; seen = s.reader.seen; answers = s.answers.items; pending = s.pending; strange = s.strange; stop = s.stop } };
 
     ghost invariant = { λ s. ((s.reader.cores ≡ s.share.shape.cores) × (s.reader.blocks ≡ s.share.shape.blocks))
-        × (s.core < s.share.shape.cores) × BeginsWith (answers_of s.reader.seen s.core) s.answers.items };
+        × (s.core < s.share.shape.cores) × StartsWith (answers_of s.reader.seen s.core) s.answers.items };
 }
 
 impl Seat {
@@ -112,7 +114,7 @@ impl Seat {
     pub fn load<R: Wait>(&mut self, rt: &R, block: u32) -> Result<u64, SeatFault>
         ensures ok { IfOk result (λ value. (did : Did) × Completes (did ∷ []) self.old self.new × Does did (record { block = block; op = Load }) × (did.value ≡ value)) }
         ensures err { IfErr result (λ fault. Fails fault (record { block = block; op = Load }) self.old self.new) }
-        ensures foretold { Foretold (record { block = block; op = Load }) self.old (λ fault. result ≡ Err fault) }
+        ensures at_once { RefusedAtOnce (record { block = block; op = Load }) self.old (λ fault. result ≡ Err fault) }
     {
         let work = Work {
             block,
@@ -130,7 +132,7 @@ impl Seat {
     pub fn store<R: Wait>(&mut self, rt: &R, block: u32, value: u64) -> Result<(), SeatFault>
         ensures ok { OnOk result ((did : Did) × Completes (did ∷ []) self.old self.new × Does did (record { block = block; op = Store value })) }
         ensures err { IfErr result (λ fault. Fails fault (record { block = block; op = Store value }) self.old self.new) }
-        ensures foretold { Foretold (record { block = block; op = Store value }) self.old (λ fault. result ≡ Err fault) }
+        ensures at_once { RefusedAtOnce (record { block = block; op = Store value }) self.old (λ fault. result ≡ Err fault) }
     {
         let work = Work {
             block,
@@ -148,7 +150,7 @@ impl Seat {
     pub fn evict<R: Wait>(&mut self, rt: &R, block: u32) -> Result<Evicted, SeatFault>
         ensures ok { OnOk result (Completes [] self.old self.new) }
         ensures err { IfErr result (λ fault. Fails fault (record { block = block; op = Evict }) self.old self.new) }
-        ensures foretold { Foretold (record { block = block; op = Evict }) self.old (λ fault. result ≡ Err fault) }
+        ensures at_once { RefusedAtOnce (record { block = block; op = Evict }) self.old (λ fault. result ≡ Err fault) }
     {
         let work = Work {
             block,
@@ -177,7 +179,7 @@ impl Seat {
         ensures value { IfOk result (λ value. value ≡ flat self.new.seen block) }
         ensures sees { OnOk result (Sees self.old.seen self.new.seen) }
         ensures outside { (result ≡ Err NoBlock) ↔ (self.old.shape.blocks ≤ block) }
-        ensures own { BeginsWith (answers_of self.new.seen self.new.core) self.new.answers }
+        ensures own { StartsWith (answers_of self.new.seen self.new.core) self.new.answers }
         ensures same { self.new ≡ record self.old { seen = self.new.seen } }
         ensures err { OnErr result (self.new ≡ self.old) }
     {
@@ -190,7 +192,7 @@ impl Seat {
     pub fn totals(&mut self) -> Result<Totals, ViewFault>
         ensures totals { IfOk result (λ totals. totals ≡ capped_totals (totals_of self.new.seen)) }
         ensures sees { OnOk result (Sees self.old.seen self.new.seen) }
-        ensures own { BeginsWith (answers_of self.new.seen self.new.core) self.new.answers }
+        ensures own { StartsWith (answers_of self.new.seen self.new.core) self.new.answers }
         ensures same { self.new ≡ record self.old { seen = self.new.seen } }
         ensures err { IfErr result (λ fault. (fault ≡ NoVersion) × (self.new ≡ self.old)) }
     {
@@ -216,7 +218,7 @@ impl Seat {
     fn begin(&mut self, work: Work) -> Result<(), SeatFault>
         ensures ok { OnOk result ((self.new ≡ record self.old { pending = Some work; strange = None }) × (self.old.strange ≡ None)) }
         ensures err { IfErr result (λ fault. Fails fault work self.old self.new) }
-        ensures foretold { Foretold work self.old (λ fault. result ≡ Err fault) }
+        ensures at_once { RefusedAtOnce work self.old (λ fault. result ≡ Err fault) }
     {
         if work.block >= self.share.shape().blocks() {
             return Err(SeatFault::NoBlock);
@@ -237,7 +239,7 @@ impl Seat {
     fn perform<R: Wait>(&mut self, rt: &R, work: Work) -> Result<Did, SeatFault>
         ensures ok { IfOk result (λ did. Completes (did ∷ []) self.old self.new × Does did work) }
         ensures err { IfErr result (λ fault. Fails fault work self.old self.new) }
-        ensures foretold { Foretold work self.old (λ fault. result ≡ Err fault) }
+        ensures at_once { RefusedAtOnce work self.old (λ fault. result ≡ Err fault) }
     {
         self.begin(work)?;
         let Ok(()) = self.answers.reserve(1) else {

@@ -4,5 +4,6 @@ mod memory;
 mod one_thread;
 mod readings;
 mod refusals;
+mod rows;
 mod scene;
 mod turns;

@@ -18,8 +18,8 @@ pub record Viewing : Type 0 where
   pub seen : List Item
 
 -- the list begins with the other
-abbrev pub StartsWith : List Item → List Item → Type 0
-StartsWith list first = (rest : List Item) × (list ≡ first ++ rest)
+abbrev pub StartsWith : {A : Type 0} → List A → List A → Type 0
+StartsWith {A} list first = (rest : List A) × (list ≡ first ++ rest)
 
 -- the reader has entered a version: its list is legal, begins with what was seen before, and is of the same shape
 pub record Enters (s t : Viewing) : Type 0 where

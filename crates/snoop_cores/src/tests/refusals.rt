@@ -70,6 +70,15 @@ fn an_operation_that_the_seat_did_not_make(rt: HostRuntime) -> Result<(), Fail> 
 }
 
 #[test]
+fn places_for_the_most_cores_and_a_watch(rt: HostRuntime) -> Result<(), Fail> {
+    let scene = Scene::new(&rt, rt.alloc(), 256)?;
+    let (seats, watches) = (scene.seats.len(), scene.watches.len());
+    scene.end(&rt);
+    assert_eq!(rt; (seats, watches), (256, 1));
+    Ok(())
+}
+
+#[test]
 fn too_many_watches(rt: HostRuntime) -> Result<(), Fail> {
     let Ok(shape) = Shape::new(2, 4, 64) else {
         return Err(Fail::from("a shape"));

@@ -4,7 +4,7 @@ use crate::tests::streams::{FailingReader, FailingWriter, Fault};
 use crate::tests::support::{Ran, run};
 use crate::{ThreadsFault, simulate_steps, simulate_threads};
 use snoop_rules::Protocol;
-use snoop_trace::{AnyReader, AnyWriter, Shape, TextFault};
+use snoop_trace::{AnyReader, AnyWriter, Shape, Step, TextFault, read_rows, read_steps};
 use std::alloc::Global;
 use std::sync::Wait;
 use std::test::Fail;
@@ -134,8 +134,34 @@ fn replay<T: Threads + Wait + Sync>(
     Ok(String::from_utf8(output).ok().ok_or("a text")?)
 }
 
-/// Whatever order the threads take, the steps that were written replay: none is refused, and the report has the rows' loads and
-/// stores.
+/// The rows of a core as it asks for them.
+fn rows_of(alloc: Global, core: u32) -> Result<Vec<Step>, Fail> {
+    let shape = Shape::new(2, 4, 64).ok().ok_or("a shape")?;
+    let mut asks = Vec::new(alloc);
+    for row in &read_rows(alloc, TWO_CORES, shape).ok().ok_or("rows")? {
+        if row.core == core {
+            let block = shape.block_of(row.address).ok_or("a block")?;
+            let op = row.op;
+            asks.push(Step::Ask { core, block, op })?;
+        }
+    }
+    Ok(asks)
+}
+
+/// What a core asks for in a text of steps.
+fn asks_of(alloc: Global, text: &[u8], core: u32) -> Result<Vec<Step>, Fail> {
+    let shape = Shape::new(2, 4, 64).ok().ok_or("a shape")?;
+    let mut asks = Vec::new(alloc);
+    for step in &read_steps(alloc, text, shape).ok().ok_or("steps")? {
+        if let Step::Ask { core: asking, .. } = *step && asking == core {
+            asks.push(*step)?;
+        }
+    }
+    Ok(asks)
+}
+
+/// Whatever order the threads take, the steps that were written replay: each core asks for its rows in their order, none is refused,
+/// and the report has the rows' loads and stores.
 #[test]
 fn two_cores_replay(rt: HostRuntime) -> Result<(), Fail> {
     let alloc = rt.alloc();
@@ -143,6 +169,10 @@ fn two_cores_replay(rt: HostRuntime) -> Result<(), Fail> {
         let ran = run(&rt, alloc, line, TWO_CORES)?;
         assert_eq!(rt; ran.status, 0, "{line}");
         assert_eq!(rt; ran.errors(), "", "{line}");
+        for core in 0..2 {
+            let asks = asks_of(alloc, ran.output.as_slice(), core)?;
+            assert_eq!(rt; asks.as_slice(), rows_of(alloc, core)?.as_slice(), "{line}");
+        }
         let replayed = replay(&rt, alloc, line, &ran)?;
         let replayed = replayed.as_str();
         assert!(rt; !replayed.contains("refused"), "{line}: {replayed}");
