@@ -13,14 +13,14 @@ use Rattle.snoop_rules.specs.Waits.{waiting_request}
 use Rattle.snoop_bus.specs.declared.transactions.Open.{Open}
 use Rattle.snoop_history.specs.declared.items.Did.{Did}
 use Rattle.snoop_history.specs.declared.items.Item.{Item}
-use Rattle.snoop_machine.specs.declared.lines.Line.{Line}
-use Rattle.snoop_machine.specs.declared.replies.Reply.{Reply}
-use Rattle.snoop_machine.specs.Picture.{held_at, nothing_held}
-use Rattle.snoop_machine.specs.Situation.{Situation, picture_of, state_of}
-use Rattle.snoop_machine.specs.Move.{FirstMove, ArrivesFor, Fills, Responds}
-use Rattle.snoop_machine.specs.WellKept.{IsWellKept}
-use Rattle.snoop_machine.specs.Turn.{turn_of, step_under_way}
-use Rattle.snoop_machine.proofs.Facts.{fill-waits}
+use Rattle.snoop_model.specs.declared.line.Line.{Line}
+use Rattle.snoop_model.specs.declared.replies.Reply.{Reply}
+use Rattle.snoop_model.specs.Pictures.Picture.{held_at, nothing_held}
+use Rattle.snoop_model.specs.Pictures.Situation.{Situation, picture_of, state_of}
+use Rattle.snoop_model.specs.Moves.Move.{FirstMove, ArrivesFor, Fills, Responds}
+use Rattle.snoop_model.specs.Invariant.WellKept.{IsWellKept}
+use Rattle.snoop_model.specs.Turns.Turn.{turn_of, step_under_way}
+use Rattle.snoop_model.proofs.Tables.Rows.{fill-waits}
 
 same_some : (o : Option Open) (a b : Open) → o ≡ Some a → o ≡ Some b → a ≡ b
 same_some o a b e f = cc

@@ -15,15 +15,15 @@ use Rattle.snoop_history.specs.declared.items.Item.{Item}
 use Rattle.snoop_history.specs.declared.items.Item.TheVariants as item
 use Rattle.snoop_history.specs.History.{last_of, last_or}
 use Rattle.snoop_history.proofs.Pushed.{last_of-push, of_core}
-use Rattle.snoop_machine.specs.declared.replies.Reply.{Reply}
-use Rattle.snoop_machine.specs.declared.replies.Reply.TheVariants as reply
-use Rattle.snoop_machine.specs.Replies.{IsReplyTo, IsLoadHit}
-use Rattle.snoop_machine.specs.Situation.{Situation, picture_of, state_of}
-use Rattle.snoop_machine.specs.Move.{next_did}
-use Rattle.snoop_machine.specs.Once.{did_it, did_op, op_of, same_op}
-use Rattle.snoop_machine.specs.Owed.{IsLast, IsOwed}
-use Rattle.snoop_machine.specs.Turn.{turn_of, step_under_way}
-use Rattle.snoop_machine.specs.TurnRule.{TurnRule}
+use Rattle.snoop_model.specs.declared.replies.Reply.{Reply}
+use Rattle.snoop_model.specs.declared.replies.Reply.TheVariants as reply
+use Rattle.snoop_model.specs.Moves.Replies.{IsReplyTo, IsLoadHit}
+use Rattle.snoop_model.specs.Pictures.Situation.{Situation, picture_of, state_of}
+use Rattle.snoop_model.specs.Moves.Move.{next_did}
+use Rattle.snoop_model.specs.Runs.Once.{did_it, did_op, op_of, same_op}
+use Rattle.snoop_model.specs.Runs.Owed.{IsLast, IsOwed}
+use Rattle.snoop_model.specs.Turns.Turn.{turn_of, step_under_way}
+use Rattle.snoop_model.specs.Turns.TurnRule.{TurnRule}
 use Rattle.snoop_bench.specs.declared.work.Work.{Work}
 use Rattle.snoop_bench.specs.declared.work.Turn.{Turn}
 use Rattle.snoop_bench.specs.declared.work.Turn.TheVariants as turn

@@ -5,11 +5,11 @@ use Rattle.snoop_trace.specs.Extent.{Extent}
 use Rattle.snoop_trace.specs.declared.step.Step.{Step}
 use Rattle.snoop_rules.specs.declared.names.Protocol.{Protocol}
 use Rattle.snoop_history.specs.declared.items.Item.{Item}
-use Rattle.snoop_machine.specs.declared.replies.Reply.{Reply}
-use Rattle.snoop_machine.specs.Situation.{Situation}
-use Rattle.snoop_machine.specs.Move.{FirstMove}
-use Rattle.snoop_machine.specs.Run.{AllTaken}
-use Rattle.snoop_machine.proofs.AllTaken.{taken_goes_on}
+use Rattle.snoop_model.specs.declared.replies.Reply.{Reply}
+use Rattle.snoop_model.specs.Pictures.Situation.{Situation}
+use Rattle.snoop_model.specs.Moves.Move.{FirstMove}
+use Rattle.snoop_model.specs.Runs.Run.{AllTaken}
+use Rattle.snoop_model.proofs.Runs.AllTaken.{taken_goes_on}
 
 -- `prepare` leaves the situation as it is, so the step is a move from the one before it
 pub moved : (s prepared t : Situation) (step : Step) (answer : Reply) (entry told : Option Item) → prepared ≡ s → entry ≡ told → FirstMove prepared step answer t entry → FirstMove s step answer t told

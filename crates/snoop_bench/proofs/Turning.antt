@@ -8,9 +8,9 @@ use Rattle.std.proofs.lemmas.Option.{slice_get-get_or, slice_get_past}
 use Rattle.std.specs.Option.{option_map_or}
 use Rattle.snoop_trace.specs.Extent.{Extent}
 use Rattle.snoop_rules.specs.declared.names.Protocol.{Protocol}
-use Rattle.snoop_machine.specs.declared.lines.Line.{Line}
-use Rattle.snoop_machine.specs.Picture.{held_by}
-use Rattle.snoop_machine.proofs.Reached.{reset_line}
+use Rattle.snoop_model.specs.declared.line.Line.{Line}
+use Rattle.snoop_model.specs.Pictures.Picture.{held_by}
+use Rattle.snoop_model.proofs.Invariant.Runs.{reset_line}
 use Rattle.snoop_trace.specs.declared.step.Op.{Op}
 use Rattle.snoop_trace.specs.declared.step.Op.TheVariants as op
 use Rattle.snoop_trace.specs.declared.step.Step.{Step}
@@ -21,19 +21,19 @@ use Rattle.snoop_bus.specs.declared.transactions.Open.{Open}
 use Rattle.snoop_history.specs.declared.items.Did.{Did}
 use Rattle.snoop_history.specs.declared.items.Item.{Item}
 use Rattle.snoop_history.specs.History.{last_of}
-use Rattle.snoop_machine.specs.declared.replies.Reply.{Reply}
-use Rattle.snoop_machine.specs.declared.replies.Reply.TheVariants as reply
-use Rattle.snoop_machine.specs.Situation.{Situation, reset, picture_of, state_of}
-use Rattle.snoop_machine.specs.Move.{FirstMove}
-use Rattle.snoop_machine.specs.Once.{did_it, did_op, op_of, waits_for, asks, same_op, one_if, OnceMore}
-use Rattle.snoop_machine.specs.Owed.{IsOwed}
-use Rattle.snoop_machine.specs.Serving.{IsServing, IsUnderWay}
-use Rattle.snoop_machine.specs.WellKept.{IsWellKept}
-use Rattle.snoop_machine.specs.Turn.{turn_of, step_under_way}
-use Rattle.snoop_machine.specs.TurnRule.{TurnRule}
-use Rattle.snoop_machine.specs.Refuses.{Refuses}
-use Rattle.snoop_machine.specs.declared.replies.Refused.{Refused}
-use Rattle.snoop_machine.proofs.Closed.{has_step}
+use Rattle.snoop_model.specs.declared.replies.Reply.{Reply}
+use Rattle.snoop_model.specs.declared.replies.Reply.TheVariants as reply
+use Rattle.snoop_model.specs.Pictures.Situation.{Situation, reset, picture_of, state_of}
+use Rattle.snoop_model.specs.Moves.Move.{FirstMove}
+use Rattle.snoop_model.specs.Runs.Once.{did_it, did_op, op_of, waits_for, asks, same_op, one_if, OnceMore}
+use Rattle.snoop_model.specs.Runs.Owed.{IsOwed}
+use Rattle.snoop_model.specs.Turns.Serving.{IsServing, IsUnderWay}
+use Rattle.snoop_model.specs.Invariant.WellKept.{IsWellKept}
+use Rattle.snoop_model.specs.Turns.Turn.{turn_of, step_under_way}
+use Rattle.snoop_model.specs.Turns.TurnRule.{TurnRule}
+use Rattle.snoop_model.specs.Moves.Refuses.{Refuses}
+use Rattle.snoop_model.specs.declared.replies.Refused.{Refused}
+use Rattle.snoop_model.proofs.Turns.ClosedWorks.{has_step}
 use Rattle.snoop_bench.specs.declared.work.Work.{Work}
 use Rattle.snoop_bench.specs.Works.{work_at, under_way, IsOp, Does}
 use Rattle.snoop_bench.specs.Outcomes.{works_asked}

@@ -9,13 +9,13 @@ use Rattle.snoop_history.specs.declared.items.Did.{Did}
 use Rattle.snoop_history.specs.declared.items.Item.{Item}
 use Rattle.snoop_history.specs.History.{answers_of, last_of, last_or}
 use Rattle.snoop_history.proofs.Pushed.{of_core}
-use Rattle.snoop_machine.specs.declared.replies.Reply.{Reply}
-use Rattle.snoop_machine.specs.Situation.{Situation}
-use Rattle.snoop_machine.specs.Move.{FirstMove}
-use Rattle.snoop_machine.specs.Once.{did_it, did_op, op_of, waits_for, asks, same_op, OnceMore}
-use Rattle.snoop_machine.specs.Owed.{IsOwed}
-use Rattle.snoop_machine.proofs.Prepared.{move-log}
-use Rattle.snoop_machine.proofs.Owed.{entry_op, answers_are, one_or_none, one_waits, owes}
+use Rattle.snoop_model.specs.declared.replies.Reply.{Reply}
+use Rattle.snoop_model.specs.Pictures.Situation.{Situation}
+use Rattle.snoop_model.specs.Moves.Move.{FirstMove}
+use Rattle.snoop_model.specs.Runs.Once.{did_it, did_op, op_of, waits_for, asks, same_op, OnceMore}
+use Rattle.snoop_model.specs.Runs.Owed.{IsOwed}
+use Rattle.snoop_model.proofs.Runs.Prepared.{move-log}
+use Rattle.snoop_model.proofs.Once.Owed.{entry_op, answers_are, one_or_none, one_waits, owes}
 use Rattle.snoop_bench.specs.declared.work.Work.{Work}
 use Rattle.snoop_bench.specs.Works.{work_at}
 

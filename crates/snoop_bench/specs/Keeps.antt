@@ -3,10 +3,10 @@
 use Rattle.std.specs.Prelude.{◌≡◌, ◌≢◌, ℕ, List, length, Option, Some}
 use Rattle.snoop_trace.specs.declared.step.Op.{Op}
 use Rattle.snoop_trace.specs.declared.step.Op.TheVariants as op
-use Rattle.snoop_machine.specs.Situation.{Situation}
-use Rattle.snoop_machine.specs.Once.{waits_for}
-use Rattle.snoop_machine.specs.Serving.{IsServing}
-use Rattle.snoop_machine.specs.Owed.{IsOwed}
+use Rattle.snoop_model.specs.Pictures.Situation.{Situation}
+use Rattle.snoop_model.specs.Runs.Once.{waits_for}
+use Rattle.snoop_model.specs.Turns.Serving.{IsServing}
+use Rattle.snoop_model.specs.Runs.Owed.{IsOwed}
 use Rattle.snoop_bench.specs.declared.work.Work.{Work}
 use Rattle.snoop_bench.specs.declared.bench.Bench.TheInside.{Inside}
 use Rattle.snoop_bench.specs.Works.{work_at, under_way}

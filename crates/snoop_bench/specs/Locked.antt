@@ -10,9 +10,9 @@ use Rattle.snoop_bus.specs.declared.transactions.Open.{Open}
 use Rattle.snoop_history.specs.declared.items.Did.{Did}
 use Rattle.snoop_history.specs.declared.items.Item.{Item}
 use Rattle.snoop_history.specs.History.{last_of}
-use Rattle.snoop_machine.specs.Situation.{Situation, reset, picture_of, Waits}
-use Rattle.snoop_machine.specs.Run.{AllTaken}
-use Rattle.snoop_machine.specs.Serving.{IsServing}
+use Rattle.snoop_model.specs.Pictures.Situation.{Situation, reset, picture_of, Waits}
+use Rattle.snoop_model.specs.Runs.Run.{AllTaken}
+use Rattle.snoop_model.specs.Turns.Serving.{IsServing}
 use Rattle.snoop_bench.specs.declared.work.Work.{Work}
 use Rattle.snoop_bench.specs.Recording.{Recording}
 use Rattle.snoop_bench.specs.Works.{work_at, under_way, Does}

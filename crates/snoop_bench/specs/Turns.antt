@@ -9,9 +9,9 @@ use Rattle.snoop_rules.specs.declared.names.Request.{Request}
 use Rattle.snoop_rules.specs.Waits.{waiting_request}
 use Rattle.snoop_bus.specs.declared.transactions.Open.{Open}
 use Rattle.snoop_history.specs.declared.items.Did.{Did}
-use Rattle.snoop_machine.specs.declared.replies.Reply.{Reply}
-use Rattle.snoop_machine.specs.declared.replies.Reply.TheVariants as reply
-use Rattle.snoop_machine.specs.Situation.{Situation, picture_of, state_of}
+use Rattle.snoop_model.specs.declared.replies.Reply.{Reply}
+use Rattle.snoop_model.specs.declared.replies.Reply.TheVariants as reply
+use Rattle.snoop_model.specs.Pictures.Situation.{Situation, picture_of, state_of}
 use Rattle.snoop_bench.specs.declared.work.Work.{Work}
 use Rattle.snoop_bench.specs.declared.work.Evicted.{Evicted}
 use Rattle.snoop_bench.specs.declared.work.Evicted.TheVariants as evicted

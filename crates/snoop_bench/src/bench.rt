@@ -1,10 +1,10 @@
 //! The value under the lock.
 ghost use Rattle.std.specs.Prelude.{◌≡◌, ◌≢◌, ◌<◌, ◌^◌, true, false, is_some, length, IsOk, IfOk, IfErr, OnOk, OnErr, Err, Some, None, slice_set};
 ghost use Rattle.snoop_rules.specs.Waits.{waiting_request};
-ghost use Rattle.snoop_machine.specs.declared.replies.Reply.{Reply};
-ghost use Rattle.snoop_machine.specs.Situation.{state_of};
-ghost use Rattle.snoop_machine.specs.Safe.{IsSafe};
-ghost use Rattle.snoop_machine.specs.Turn.{turn_of};
+ghost use Rattle.snoop_model.specs.declared.replies.Reply.{Reply};
+ghost use Rattle.snoop_model.specs.Pictures.Situation.{state_of};
+ghost use Rattle.snoop_model.specs.Runs.Safe.{IsSafe};
+ghost use Rattle.snoop_model.specs.Turns.Turn.{turn_of};
 ghost use Rattle.snoop_bench.specs.declared.work.AdvanceFault.{AdvanceFault};
 ghost use Rattle.snoop_bench.specs.Works.{work_at};
 ghost use Rattle.snoop_bench.specs.Locked.{opened, record_of, IsKept};

@@ -1,13 +1,13 @@
 //! A machine whose steps are recorded, and whose items are published as they come.
 ghost use Rattle.std.specs.Prelude.{◌≡◌, ◌<◌, ◌^◌, ℕ, [], ◌∷◌, ◌++◌, IfOk, OnOk, OnErr, Ok, Option, option_to_list};
-ghost use Rattle.snoop_machine.specs.declared.replies.Refused.{Refused};
-ghost use Rattle.snoop_machine.specs.declared.replies.Reply.TheVariants.{Hit};
-ghost use Rattle.snoop_machine.specs.Situation.{Situation, reset};
-ghost use Rattle.snoop_machine.specs.Refuses.{Refuses};
-ghost use Rattle.snoop_machine.specs.Replies.{IsReplyTo, IsLoadHit};
-ghost use Rattle.snoop_machine.specs.Once.{OnceMore};
-ghost use Rattle.snoop_machine.specs.Standing.{Standing};
-ghost use Rattle.snoop_machine.specs.Prepared.{IsPrepared};
+ghost use Rattle.snoop_model.specs.declared.replies.Refused.{Refused};
+ghost use Rattle.snoop_model.specs.declared.replies.Reply.TheVariants.{Hit};
+ghost use Rattle.snoop_model.specs.Pictures.Situation.{Situation, reset};
+ghost use Rattle.snoop_model.specs.Moves.Refuses.{Refuses};
+ghost use Rattle.snoop_model.specs.Moves.Replies.{IsReplyTo, IsLoadHit};
+ghost use Rattle.snoop_model.specs.Runs.Once.{OnceMore};
+ghost use Rattle.snoop_model.specs.Moves.Standing.{Standing};
+ghost use Rattle.snoop_model.specs.Moves.Prepared.{IsPrepared};
 ghost use Rattle.snoop_bench.specs.Recording.{IsRecorded, Takes};
 
 use snoop_history::Item;

@@ -11,13 +11,13 @@ use Rattle.snoop_rules.specs.declared.names.Protocol.{Protocol}
 use Rattle.snoop_bus.specs.Queues.{queue_of}
 use Rattle.snoop_history.specs.declared.items.Item.{Item}
 use Rattle.snoop_history.specs.History.{answers_of}
-use Rattle.snoop_machine.specs.Situation.{Situation}
-use Rattle.snoop_machine.specs.Safe.{IsSafe}
-use Rattle.snoop_machine.specs.Serving.{IsServing}
-use Rattle.snoop_machine.specs.Quiet.{IsQuiet}
-use Rattle.snoop_machine.specs.TurnRule.{ComesToRest}
-use Rattle.snoop_machine.specs.Once.{asks, did_it, waits_for, same_op, one_if, tally}
-use Rattle.snoop_machine.specs.Run.{AllTaken}
+use Rattle.snoop_model.specs.Pictures.Situation.{Situation}
+use Rattle.snoop_model.specs.Runs.Safe.{IsSafe}
+use Rattle.snoop_model.specs.Turns.Serving.{IsServing}
+use Rattle.snoop_model.specs.Turns.Quiet.{IsQuiet}
+use Rattle.snoop_model.specs.Turns.TurnRule.{ComesToRest}
+use Rattle.snoop_model.specs.Runs.Once.{asks, did_it, waits_for, same_op, one_if, tally}
+use Rattle.snoop_model.specs.Runs.Run.{AllTaken}
 use Rattle.snoop_bench.specs.declared.work.Work.{Work}
 use Rattle.snoop_bench.specs.Works.{work_at, under_way}
 use Rattle.snoop_bench.specs.Locked.{Locked, IsKept}

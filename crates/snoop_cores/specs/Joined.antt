@@ -8,10 +8,10 @@ use Rattle.snoop_rules.specs.declared.names.Protocol.{Protocol}
 use Rattle.snoop_history.specs.declared.items.Did.{Did}
 use Rattle.snoop_history.specs.declared.items.Item.{Item}
 use Rattle.snoop_history.specs.History.{Legal, answers_of}
-use Rattle.snoop_machine.specs.Situation.{Situation}
-use Rattle.snoop_machine.specs.Run.{AllTaken}
-use Rattle.snoop_machine.specs.Quiet.{IsQuiet}
-use Rattle.snoop_machine.specs.Once.{asks, did_it}
+use Rattle.snoop_model.specs.Pictures.Situation.{Situation}
+use Rattle.snoop_model.specs.Runs.Run.{AllTaken}
+use Rattle.snoop_model.specs.Turns.Quiet.{IsQuiet}
+use Rattle.snoop_model.specs.Runs.Once.{asks, did_it}
 use Rattle.snoop_bench.specs.Locked.{Locked, IsKept}
 use Rattle.snoop_bench.specs.Works.{work_at}
 use Rattle.snoop_cores.specs.Seats.{Seating}

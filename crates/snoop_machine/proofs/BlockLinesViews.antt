@@ -7,11 +7,11 @@ use Rattle.snoop_rules.specs.declared.names.CacheState.{CacheState}
 use Rattle.std.proofs.lemmas.Bool.{cases_eq, cases_lt}
 use Rattle.std.proofs.lemmas.List.{length-set, get_or-set_same, get_or-set_other}
 use Rattle.snoop_rules.specs.declared.names.CacheState.TheVariants as state
-use Rattle.snoop_machine.specs.declared.lines.Line.{Line}
+use Rattle.snoop_model.specs.declared.line.Line.{Line}
 use Rattle.snoop_machine.specs.declared.block_lines.Held.{Held}
-use Rattle.snoop_machine.specs.Picture.{held_at, nothing_held, kept_on}
-use Rattle.snoop_machine.specs.Sound.{IsProper, keeps, kind_of, nothing}
-use Rattle.snoop_machine.specs.Move.{comes_to}
+use Rattle.snoop_model.specs.Pictures.Picture.{held_at, nothing_held, kept_on}
+use Rattle.snoop_model.specs.Pictures.Sound.{IsProper, keeps, kind_of, nothing}
+use Rattle.snoop_model.specs.Moves.Move.{comes_to}
 use Rattle.snoop_machine.specs.BlockLines.{line_of, lines_of, AreBlockLines}
 
 less : (a b : ℕ) → suc a ≡ suc b → a ≡ b

@@ -7,7 +7,7 @@ use Rattle.snoop_rules.specs.declared.names.Request.{Request}
 use Rattle.snoop_bus.specs.Traffic.{Waiting, no_queue}
 use Rattle.snoop_bus.specs.Queues.{queue_of}
 use Rattle.snoop_machine.specs.declared.parts.Parts.TheInside.{Inside}
-use Rattle.snoop_machine.specs.Standing.{Standing, KeepsRoom}
+use Rattle.snoop_model.specs.Moves.Standing.{Standing, KeepsRoom}
 use Rattle.snoop_machine.specs.PartsView.{queues_of, standing}
 use Rattle.snoop_machine.proofs.Queued.{queue_of-queues_of}
 

@@ -11,12 +11,12 @@ use Rattle.snoop_rules.specs.declared.names.Payload.{Payload}
 use Rattle.snoop_rules.specs.Waits.{waiting_request}
 use Rattle.snoop_bus.specs.declared.transactions.Open.{Open}
 use Rattle.snoop_bus.specs.Traffic.{Traffic, Waiting, no_queue, waiting_of, head_of, transaction_on}
-use Rattle.snoop_machine.specs.declared.lines.Line.{Line}
-use Rattle.snoop_machine.specs.Picture.{held_at, nothing_held}
-use Rattle.snoop_machine.specs.Sound.{IsSound, IsProper, IsEachOnce, line_at}
-use Rattle.snoop_machine.specs.Message.{TakesRows}
-use Rattle.snoop_machine.proofs.Taking.{row_of}
-use Rattle.snoop_machine.proofs.Facts.{own-waits, other-waits, IsProper-order}
+use Rattle.snoop_model.specs.declared.line.Line.{Line}
+use Rattle.snoop_model.specs.Pictures.Picture.{held_at, nothing_held}
+use Rattle.snoop_model.specs.Pictures.Sound.{IsSound, IsProper, IsEachOnce, line_at}
+use Rattle.snoop_model.specs.Pictures.Message.{TakesRows}
+use Rattle.snoop_model.proofs.Lines.EachRow.{row_of}
+use Rattle.snoop_model.proofs.Tables.Rows.{own-waits, other-waits, IsProper-order}
 use Rattle.snoop_machine.proofs.Queued.{blocks_of}
 
 -- the first of a list that has one

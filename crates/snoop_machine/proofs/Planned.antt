@@ -21,39 +21,29 @@ use Rattle.snoop_history.specs.declared.items.Did.{Did}
 use Rattle.snoop_history.specs.declared.items.Item.{Item}
 use Rattle.snoop_history.specs.declared.items.Item.TheVariants as item
 use Rattle.snoop_bus.specs.declared.transactions.Open.{Open}
-use Rattle.snoop_machine.specs.declared.lines.Line.{Line}
+use Rattle.snoop_model.specs.declared.line.Line.{Line}
 use Rattle.snoop_machine.specs.declared.ask.Asked.{Asked}
 use Rattle.snoop_machine.specs.declared.ask.Asked.TheVariants.{Absent, Hit, Issue, Drop}
 use Rattle.snoop_machine.specs.declared.respond.Filled.{Filled}
 use Rattle.snoop_machine.specs.declared.plan.Plan.{Plan}
 use Rattle.snoop_machine.specs.declared.plan.Plan.TheVariants as plan
-use Rattle.snoop_machine.specs.declared.replies.Reply.{Reply}
-use Rattle.snoop_machine.specs.declared.replies.Refused.{Refused}
-use Rattle.snoop_machine.specs.declared.replies.Refused.TheVariants.{NoCore, NoBlock, Stalled, NothingWaiting, BusTaken, NoTransaction, NoMemory}
-use Rattle.snoop_machine.specs.Standing.{Standing}
-use Rattle.snoop_machine.specs.Picture.{held_at}
-use Rattle.snoop_machine.specs.Situation.{Situation, picture_of, state_of, Waits}
-use Rattle.snoop_machine.specs.Sound.{line_at}
+use Rattle.snoop_model.specs.declared.replies.Reply.{Reply}
+use Rattle.snoop_model.specs.declared.replies.Refused.{Refused}
+use Rattle.snoop_model.specs.declared.replies.Refused.TheVariants.{NoCore, NoBlock, Stalled, NothingWaiting, BusTaken, NoTransaction, NoMemory}
+use Rattle.snoop_model.specs.Moves.Standing.{Standing}
+use Rattle.snoop_model.specs.Pictures.Picture.{held_at}
+use Rattle.snoop_model.specs.Pictures.Situation.{Situation, picture_of, state_of, Waits}
+use Rattle.snoop_model.specs.Pictures.Sound.{line_at}
 use Rattle.snoop_machine.specs.Asked.{TakesAsk, RefusesAsk}
 use Rattle.snoop_machine.specs.Arrive.{FillsLine}
-use Rattle.snoop_machine.specs.Move.{Performs, Hits, Takes, Fills, ArrivesFor, FirstMove, came_of, next_did}
-use Rattle.snoop_machine.specs.AskMove.{MovesAsk}
-use Rattle.snoop_machine.specs.OrderMove.{IsHead}
-use Rattle.snoop_machine.specs.Refuses.{Refuses}
-use Rattle.snoop_machine.specs.StepMove.{IsDenied, RefusedFor}
-use Rattle.snoop_machine.specs.Prepared.{room_to, IsFull, IsPrepared}
+use Rattle.snoop_model.specs.Moves.Move.{Performs, Hits, Takes, Fills, ArrivesFor, FirstMove, came_of, next_did}
+use Rattle.snoop_model.specs.Moves.AskMove.{MovesAsk}
+use Rattle.snoop_model.specs.Moves.OrderMove.{IsHead}
+use Rattle.snoop_model.specs.Moves.Refuses.{Refuses}
+use Rattle.snoop_model.specs.Moves.StepMove.{IsDenied, RefusedFor}
+use Rattle.snoop_model.specs.Moves.Prepared.{room_to, IsFull, IsPrepared}
+use Rattle.snoop_model.proofs.Tables.EvictInI.{no_row}
 use Rattle.snoop_machine.specs.Plan.{IsPlan, IsPlanFor, step_of, room_for, room_for_ask, entry_of, entry_of_ask}
-
--- an Evict in I has no row
-pub no_row : (p : Protocol) (s : CacheState) (asking : Op) (a : CacheAction) (n : CacheState) → asking ≡ op.Evict → s ≡ I → Cell p s (asked asking) a n → ⊥
-no_row p s asking a n e i row =
-    let P : CacheState → Type 0 = λ x. Cell p x (asked asking) a n in
-    let Q : Op → Type 0 = λ o. Cell p I (asked o) a n in
-    go p (subst Q e (subst P i row))
-  where
-    go : (x : Protocol) → Cell x I (asked op.Evict) a n → ⊥
-    go Msi h = h
-    go Mesi h = h
 
 -- the action of the row that an Ask takes
 abbrev pub act_of : Asked → CacheAction

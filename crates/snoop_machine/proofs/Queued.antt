@@ -9,8 +9,8 @@ use Rattle.snoop_bus.specs.declared.transactions.Open.{Open}
 use Rattle.std.proofs.Common.{Option, Some, None, arith}
 use Rattle.snoop_bus.specs.Traffic.{Traffic, Waiting, no_queue, waiting_of}
 use Rattle.snoop_bus.specs.Queues.{queue_of, after_issue}
-use Rattle.snoop_machine.specs.declared.lines.Line.{Line}
-use Rattle.snoop_machine.specs.Sound.{IsSound, IsEachOnce}
+use Rattle.snoop_model.specs.declared.line.Line.{Line}
+use Rattle.snoop_model.specs.Pictures.Sound.{IsSound, IsEachOnce}
 use Rattle.snoop_machine.specs.PartsView.{queues_of}
 
 abbrev pub blocks_of : List (Request × ℕ) → List ℕ

@@ -9,11 +9,11 @@ use Rattle.snoop_rules.specs.declared.names.Request.{Request}
 use Rattle.snoop_rules.specs.Waits.{waiting_request}
 use Rattle.snoop_bus.specs.declared.transactions.Open.{Open}
 use Rattle.snoop_bus.specs.Traffic.{Traffic, Waiting, no_queue, waiting_of, transaction_on}
-use Rattle.snoop_machine.specs.declared.lines.Line.{Line}
-use Rattle.snoop_machine.specs.Picture.{held_at, nothing_held}
-use Rattle.snoop_machine.specs.Sound.{IsSound, IsProper, IsEachOnce, line_at}
+use Rattle.snoop_model.specs.declared.line.Line.{Line}
+use Rattle.snoop_model.specs.Pictures.Picture.{held_at, nothing_held}
+use Rattle.snoop_model.specs.Pictures.Sound.{IsSound, IsProper, IsEachOnce, line_at}
 use Rattle.snoop_machine.specs.PartsView.{queues_of}
-use Rattle.snoop_machine.proofs.Plain.{replicated}
+use Rattle.snoop_model.proofs.Lists.Facts.{replicated}
 
 pub queues_of-reset : (queues : List Waiting) → All (λ q. q.requests ≡ []) queues → queues_of queues ≡ replicate (length queues) []
 queues_of-reset [] none = refl

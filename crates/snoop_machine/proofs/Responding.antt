@@ -9,11 +9,11 @@ use Rattle.snoop_rules.specs.Takers.{takes_payload}
 use Rattle.snoop_history.specs.declared.items.Did.{Did}
 use Rattle.snoop_history.specs.declared.items.Item.{Item}
 use Rattle.snoop_bus.specs.declared.transactions.Open.{Open}
-use Rattle.snoop_machine.specs.declared.lines.Line.{Line}
-use Rattle.snoop_machine.specs.declared.memory.MemLine.{MemLine}
+use Rattle.snoop_model.specs.declared.line.Line.{Line}
+use Rattle.snoop_model.specs.declared.memory.MemLine.{MemLine}
 use Rattle.snoop_machine.specs.declared.respond.Filled.{Filled}
-use Rattle.snoop_machine.specs.Picture.{Picture, held_at}
-use Rattle.snoop_machine.specs.Move.{Fills, ArrivesFor, Arrives, TakesPayload, ArrivesAtMemory, next_did}
+use Rattle.snoop_model.specs.Pictures.Picture.{Picture, held_at}
+use Rattle.snoop_model.specs.Moves.Move.{Fills, ArrivesFor, Arrives, TakesPayload, ArrivesAtMemory, next_did}
 use Rattle.snoop_machine.specs.Arrive.{FillsLine, TakesIn, ArrivesIn}
 
 pub Arrives-put : (closing : Open) (p : Protocol) (log : List Item) (caches : List Line) → closing.request ≡ PutM → Arrives closing p log caches caches None

@@ -9,14 +9,14 @@ use Rattle.snoop_rules.specs.declared.names.Request.{Request}
 use Rattle.snoop_rules.specs.declared.names.Request.TheVariants.{GetS, GetM, PutM}
 use Rattle.snoop_rules.specs.declared.names.Payload.{Payload}
 use Rattle.snoop_bus.specs.declared.transactions.Open.{Open}
-use Rattle.snoop_machine.specs.declared.replies.Refused.{Refused}
-use Rattle.snoop_machine.specs.declared.replies.Refused.TheVariants.{NoCore, NoBlock, Stalled, NothingWaiting, BusTaken, NoTransaction, NoMemory}
-use Rattle.snoop_machine.specs.Picture.{held_by}
-use Rattle.snoop_machine.specs.Situation.{Situation, picture_of, state_of}
-use Rattle.snoop_machine.specs.Meets.{LacksAtAsk, LacksAtArrival, LacksAtRequestor, LacksAtMemory}
-use Rattle.snoop_machine.specs.Refuses.{Refuses}
-use Rattle.snoop_machine.specs.Coherent.{IsCoherent}
-use Rattle.snoop_machine.proofs.Clauses.{meets_nothing}
+use Rattle.snoop_model.specs.declared.replies.Refused.{Refused}
+use Rattle.snoop_model.specs.declared.replies.Refused.TheVariants.{NoCore, NoBlock, Stalled, NothingWaiting, BusTaken, NoTransaction, NoMemory}
+use Rattle.snoop_model.specs.Pictures.Picture.{held_by}
+use Rattle.snoop_model.specs.Pictures.Situation.{Situation, picture_of, state_of}
+use Rattle.snoop_model.specs.Moves.Meets.{LacksAtAsk, LacksAtArrival, LacksAtRequestor, LacksAtMemory}
+use Rattle.snoop_model.specs.Moves.Refuses.{Refuses}
+use Rattle.snoop_model.specs.Invariant.Coherent.{IsCoherent}
+use Rattle.snoop_model.proofs.Invariant.Coherence.{meets_nothing}
 use Rattle.snoop_machine.proofs.Planned.{respond-allowed}
 
 -- the core has a row for what it is asked

@@ -5,21 +5,21 @@ use Rattle.std.proofs.lemmas.List.Sums.{sum_by-append}
 use Rattle.std.proofs.lemmas.List.{take_more}
 use Rattle.snoop_trace.specs.declared.step.Step.{Step}
 use Rattle.snoop_history.specs.declared.items.Item.{Item}
-use Rattle.snoop_machine.specs.declared.replies.Reply.{Reply}
-use Rattle.snoop_machine.specs.declared.replies.Refused.{Refused}
-use Rattle.snoop_machine.specs.declared.replies.Refused.TheVariants.{NoMemory}
-use Rattle.snoop_machine.specs.Situation.{Situation}
-use Rattle.snoop_machine.specs.Standing.{Standing, KeepsRoom}
-use Rattle.snoop_machine.specs.Prepared.{IsFull}
-use Rattle.snoop_machine.specs.Move.{FirstMove}
-use Rattle.snoop_machine.specs.StepMove.{RefusedFor}
-use Rattle.snoop_machine.specs.Run.{IsRefusal, RunFrom}
-use Rattle.snoop_machine.specs.Coherent.{IsCoherent}
-use Rattle.snoop_machine.specs.MachineView.{MachineKeeps}
-use Rattle.snoop_machine.specs.Safe.{IsSafe}
-use Rattle.snoop_machine.proofs.Safety.{is_safe, step_keeps}
-use Rattle.snoop_machine.proofs.OnceRuns.{run_once}
-use Rattle.snoop_machine.specs.Runs.{Answers, RunsOn, HasRun}
+use Rattle.snoop_model.specs.declared.replies.Reply.{Reply}
+use Rattle.snoop_model.specs.declared.replies.Refused.{Refused}
+use Rattle.snoop_model.specs.declared.replies.Refused.TheVariants.{NoMemory}
+use Rattle.snoop_model.specs.Pictures.Situation.{Situation}
+use Rattle.snoop_model.specs.Moves.Standing.{Standing, KeepsRoom}
+use Rattle.snoop_model.specs.Moves.Prepared.{IsFull}
+use Rattle.snoop_model.specs.Moves.Move.{FirstMove}
+use Rattle.snoop_model.specs.Moves.StepMove.{RefusedFor}
+use Rattle.snoop_model.specs.Runs.Run.{IsRefusal, RunFrom}
+use Rattle.snoop_model.specs.Invariant.Coherent.{IsCoherent}
+use Rattle.snoop_model.specs.Invariant.MachineKeeps.{MachineKeeps}
+use Rattle.snoop_model.specs.Runs.Safe.{IsSafe}
+use Rattle.snoop_model.proofs.Invariant.Safety.{is_safe, step_keeps}
+use Rattle.snoop_model.proofs.Once.Runs.{run_once}
+use Rattle.snoop_model.specs.Runs.Runs.{Answers, RunsOn, HasRun}
 
 -- what a machine's step answers
 pub answers : (old new : Standing) (step : Step) (result : Result Reply Refused) → IfOk result (λ reply. (entry : Option Item) × FirstMove old.situation step reply new.situation entry)

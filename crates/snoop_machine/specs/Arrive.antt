@@ -12,10 +12,10 @@ use Rattle.snoop_rules.specs.declared.names.Payload.{Payload}
 use Rattle.snoop_rules.specs.Cell.{Cell}
 use Rattle.snoop_rules.specs.MemoryCell.{MemoryCell}
 use Rattle.snoop_rules.specs.Takers.{arrival, arrival_at_memory, takes_payload}
-use Rattle.snoop_machine.specs.declared.lines.Line.{Line}
-use Rattle.snoop_machine.specs.declared.memory.MemLine.{MemLine}
+use Rattle.snoop_model.specs.declared.line.Line.{Line}
+use Rattle.snoop_model.specs.declared.memory.MemLine.{MemLine}
 use Rattle.snoop_machine.specs.declared.respond.Filled.{Filled}
-use Rattle.snoop_machine.specs.Move.{Performs, IsFillFor, written}
+use Rattle.snoop_model.specs.Moves.Move.{Performs, IsFillFor, written}
 
 -- the data comes to the requestor's line, which performs its waiting operation with it
 pub record FillsLine (protocol : Protocol) (old : Line) (payload : Payload) (sent : ℕ) (filled : Filled) : Type 0 where

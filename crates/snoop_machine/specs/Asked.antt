@@ -9,13 +9,13 @@ use Rattle.snoop_rules.specs.declared.names.CacheState.TheVariants as state
 use Rattle.snoop_rules.specs.declared.names.CacheAction.TheVariants as action
 use Rattle.snoop_rules.specs.Cell.{Cell}
 use Rattle.snoop_rules.specs.Takers.{asked}
-use Rattle.snoop_machine.specs.declared.lines.Line.{Line}
+use Rattle.snoop_model.specs.declared.line.Line.{Line}
 use Rattle.snoop_machine.specs.declared.ask.Asked.{Asked}
 use Rattle.snoop_machine.specs.declared.ask.Asked.TheVariants.{Absent, Hit, Issue, Drop}
-use Rattle.snoop_machine.specs.declared.replies.Refused.{Refused}
-use Rattle.snoop_machine.specs.declared.replies.Refused.TheVariants.{Stalled}
-use Rattle.snoop_machine.specs.Picture.{kept_on}
-use Rattle.snoop_machine.specs.Move.{Performs, comes_to, kept_waiting}
+use Rattle.snoop_model.specs.declared.replies.Refused.{Refused}
+use Rattle.snoop_model.specs.declared.replies.Refused.TheVariants.{Stalled}
+use Rattle.snoop_model.specs.Pictures.Picture.{kept_on}
+use Rattle.snoop_model.specs.Moves.Move.{Performs, comes_to, kept_waiting}
 
 -- a hit on one line
 pub record HitsLine (protocol : Protocol) (old : Line) (asking : Op) (new : Line) (value : ℕ) : Type 0 where

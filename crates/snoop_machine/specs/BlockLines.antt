@@ -2,10 +2,10 @@
 -- Source: this project's profile.
 use Rattle.std.specs.Prelude.{◌≡◌, ℕ, ◌<◌, ◌≤◌, List, [], ◌∷◌, length}
 use Rattle.snoop_rules.specs.declared.names.CacheState.{CacheState}
-use Rattle.snoop_machine.specs.declared.lines.Line.{Line}
+use Rattle.snoop_model.specs.declared.line.Line.{Line}
 use Rattle.snoop_machine.specs.declared.block_lines.Held.{Held}
-use Rattle.snoop_machine.specs.Picture.{held_at, nothing_held}
-use Rattle.snoop_machine.specs.Sound.{IsProper}
+use Rattle.snoop_model.specs.Pictures.Picture.{held_at, nothing_held}
+use Rattle.snoop_model.specs.Pictures.Sound.{IsProper}
 
 -- the line of a state and what is held in it
 abbrev pub line_of : CacheState → Held → Line

@@ -3,8 +3,8 @@
 use Rattle.std.specs.Prelude.{◌≡◌, ◌<◌, ℕ, length, List, map}
 use Rattle.snoop_bus.specs.Traffic.{Waiting}
 use Rattle.snoop_machine.specs.declared.parts.Parts.TheInside.{Inside}
-use Rattle.snoop_machine.specs.Sound.{IsSound}
-use Rattle.snoop_machine.specs.Standing.{Standing}
+use Rattle.snoop_model.specs.Pictures.Sound.{IsSound}
+use Rattle.snoop_model.specs.Moves.Standing.{Standing}
 
 -- the queues that the bus shows
 abbrev pub queues_of : List Waiting → List (List ℕ)

@@ -12,17 +12,17 @@ use Rattle.snoop_history.specs.declared.items.Item.{Item}
 use Rattle.snoop_history.specs.declared.items.Item.TheVariants as item
 use Rattle.snoop_machine.specs.declared.ask.Asked.{Asked}
 use Rattle.snoop_machine.specs.declared.ask.Asked.TheVariants as asked
-use Rattle.snoop_machine.specs.declared.memory.MemLine.{MemLine}
-use Rattle.snoop_machine.specs.declared.message.Message.{Message}
+use Rattle.snoop_model.specs.declared.memory.MemLine.{MemLine}
+use Rattle.snoop_model.specs.declared.message.Message.{Message}
 use Rattle.snoop_machine.specs.declared.plan.Plan.{Plan}
 use Rattle.snoop_machine.specs.declared.plan.Plan.TheVariants.{Ask, Order, Writeback, Fill}
-use Rattle.snoop_machine.specs.Standing.{Standing}
-use Rattle.snoop_machine.specs.Situation.{Situation, picture_of, no_memory}
-use Rattle.snoop_machine.specs.Sound.{IsProper, line_at}
-use Rattle.snoop_machine.specs.Move.{IsWithin, came_of, next_did}
+use Rattle.snoop_model.specs.Moves.Standing.{Standing}
+use Rattle.snoop_model.specs.Pictures.Situation.{Situation, picture_of, no_memory}
+use Rattle.snoop_model.specs.Pictures.Sound.{IsProper, line_at}
+use Rattle.snoop_model.specs.Moves.Move.{IsWithin, came_of, next_did}
 use Rattle.snoop_machine.specs.Asked.{TakesAsk}
-use Rattle.snoop_machine.specs.Message.{IsMessage}
-use Rattle.snoop_machine.specs.OrderMove.{IsHead, TakesMemRow}
+use Rattle.snoop_model.specs.Pictures.Message.{IsMessage}
+use Rattle.snoop_model.specs.Moves.OrderMove.{IsHead, TakesMemRow}
 use Rattle.snoop_machine.specs.Arrive.{FillsLine, ArrivesIn}
 
 -- the step that a plan is for

@@ -1,10 +1,10 @@
 //! The lines of one block, by core.
 ghost use Rattle.std.specs.Prelude.{◌≡◌, ◌≢◌, ℕ, ◌<◌, ◌≤◌, length, replicate, IfOk, IfSome, IfNone, slice_index_or, slice_set};
-ghost use Rattle.snoop_machine.specs.Picture.{HoldNothing, held_at, nothing_held};
-ghost use Rattle.snoop_machine.specs.Sound.{IsProper};
-ghost use Rattle.snoop_machine.specs.Move.{comes_to};
+ghost use Rattle.snoop_model.specs.Pictures.Picture.{HoldNothing, held_at, nothing_held};
+ghost use Rattle.snoop_model.specs.Pictures.Sound.{IsProper};
+ghost use Rattle.snoop_model.specs.Moves.Move.{comes_to};
 
-use crate::lines::Line;
+use snoop_model::Line;
 use snoop_rules::CacheState;
 use snoop_trace::{NoMemory, Op};
 use std::alloc::Global;
@@ -37,7 +37,7 @@ pub(crate) struct BlockLines {
 
 impl Model for BlockLines {
     ghost use Rattle.std.specs.Prelude.{List};
-    ghost use Rattle.snoop_machine.specs.declared.lines.Line.{Line};
+    ghost use Rattle.snoop_model.specs.declared.line.Line.{Line};
 
     ghost Value = { List Line };
 

@@ -3,21 +3,15 @@
 
 mod ask;
 mod block_lines;
-pub mod laws;
 mod lines;
 mod machine;
-mod memory;
-mod message;
 mod order;
 mod parts;
 mod plan;
-mod replies;
 mod respond;
 #[cfg(test)]
 mod tests;
 mod turn;
-mod turn_rule;
 
 pub use machine::{Machine, run_steps};
-pub use replies::{Refused, Reply};
-pub use turn_rule::turns_are_served;
+pub use snoop_model::{Refused, Reply, laws, turns_are_served};

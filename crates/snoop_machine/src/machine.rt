@@ -4,24 +4,24 @@ ghost use Rattle.snoop_trace.specs.declared.step.Step.{Step};
 ghost use Rattle.snoop_bus.specs.Queues.{queue_of};
 ghost use Rattle.snoop_history.specs.declared.items.Item.{Item};
 ghost use Rattle.snoop_history.specs.History.{flat};
-ghost use Rattle.snoop_machine.specs.declared.replies.Refused.{Refused};
-ghost use Rattle.snoop_machine.specs.declared.replies.Refused.TheVariants.{NoMemory as WantOfMemory};
-ghost use Rattle.snoop_machine.specs.declared.replies.Reply.TheVariants.{Hit};
-ghost use Rattle.snoop_machine.specs.Picture.{held_by};
-ghost use Rattle.snoop_machine.specs.Situation.{picture_of, reset, state_of};
-ghost use Rattle.snoop_machine.specs.Sound.{keeps};
-ghost use Rattle.snoop_machine.specs.Move.{FirstMove};
-ghost use Rattle.snoop_machine.specs.Replies.{IsReplyTo, IsLoadHit};
-ghost use Rattle.snoop_machine.specs.Refuses.{Refuses};
-ghost use Rattle.snoop_machine.specs.StepMove.{RefusedFor};
-ghost use Rattle.snoop_machine.specs.Standing.{KeepsRoom};
-ghost use Rattle.snoop_machine.specs.Prepared.{IsFull, IsPrepared};
-ghost use Rattle.snoop_machine.specs.Safe.{IsSafe};
-ghost use Rattle.snoop_machine.specs.Once.{OnceMore};
-ghost use Rattle.snoop_machine.specs.Runs.{HasRun};
+ghost use Rattle.snoop_model.specs.declared.replies.Refused.{Refused};
+ghost use Rattle.snoop_model.specs.declared.replies.Refused.TheVariants.{NoMemory as WantOfMemory};
+ghost use Rattle.snoop_model.specs.declared.replies.Reply.TheVariants.{Hit};
+ghost use Rattle.snoop_model.specs.Pictures.Picture.{held_by};
+ghost use Rattle.snoop_model.specs.Pictures.Situation.{picture_of, reset, state_of};
+ghost use Rattle.snoop_model.specs.Pictures.Sound.{keeps};
+ghost use Rattle.snoop_model.specs.Moves.Move.{FirstMove};
+ghost use Rattle.snoop_model.specs.Moves.Replies.{IsReplyTo, IsLoadHit};
+ghost use Rattle.snoop_model.specs.Moves.Refuses.{Refuses};
+ghost use Rattle.snoop_model.specs.Moves.StepMove.{RefusedFor};
+ghost use Rattle.snoop_model.specs.Moves.Standing.{KeepsRoom};
+ghost use Rattle.snoop_model.specs.Moves.Prepared.{IsFull, IsPrepared};
+ghost use Rattle.snoop_model.specs.Runs.Safe.{IsSafe};
+ghost use Rattle.snoop_model.specs.Runs.Once.{OnceMore};
+ghost use Rattle.snoop_model.specs.Runs.Runs.{HasRun};
 
 use crate::parts::Parts;
-use crate::replies::{Refused, Reply};
+use snoop_model::{Refused, Reply};
 use snoop_bus::Open;
 use snoop_history::{Item, Log};
 use snoop_rules::{CacheState, MemState, Protocol};
@@ -38,7 +38,7 @@ pub struct Machine {
 }
 
 impl Model for Machine {
-    ghost use Rattle.snoop_machine.specs.Standing.{Standing};
+    ghost use Rattle.snoop_model.specs.Moves.Standing.{Standing};
 
     ghost Value = { Standing };
 

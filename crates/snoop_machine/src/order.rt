@@ -2,15 +2,15 @@
 ghost use Rattle.std.specs.Prelude.{◌≡◌, ◌↔◌, IsTrue, ℕ, ◌<◌, List, [], length, Some, slice_index_or, slice_set, unwrap_or, if◌then◌else◌};
 ghost use Rattle.snoop_rules.specs.Waits.{waiting_request};
 ghost use Rattle.snoop_rules.specs.Takers.{seen_by, at_memory, carries_value};
-ghost use Rattle.snoop_machine.specs.Picture.{held_at};
-ghost use Rattle.snoop_machine.specs.Sends.{value_sent};
-ghost use Rattle.snoop_machine.specs.Meets.{FindsRows};
-ghost use Rattle.snoop_machine.specs.Message.{free_picture, HasRow, IsMessage, TakesRows, memory_message};
+ghost use Rattle.snoop_model.specs.Pictures.Picture.{held_at};
+ghost use Rattle.snoop_model.specs.Pictures.Sends.{value_sent};
+ghost use Rattle.snoop_model.specs.Moves.Meets.{FindsRows};
+ghost use Rattle.snoop_model.specs.Pictures.Message.{free_picture, HasRow, IsMessage, TakesRows, memory_message};
 
 use crate::block_lines::BlockLines;
-use crate::lines::Line;
-use crate::memory::MemLine;
-use crate::message::Message;
+use snoop_model::Line;
+use snoop_model::MemLine;
+use snoop_model::Message;
 use snoop_rules::{
     CacheAction, CacheEvent, CacheState, MemAction, MemCell, MemEvent, Payload, Protocol, Request,
     cache_cell, mem_cell,
@@ -82,32 +82,28 @@ impl BlockLines {
     }
 }
 
-impl Line {
-    /// The value that the line's cache puts into a message.
-    fn value_for(self, payload: Payload) -> u64
-        ensures { result ≡ (if carries_value payload then unwrap_or self.kept 0 else 0) }
-    {
-        if carries(payload) {
-            self.kept.unwrap_or(0)
-        } else {
-            0
-        }
+/// The value that the line's cache puts into a message.
+fn value_for(line: Line, payload: Payload) -> u64
+    ensures { result ≡ (if carries_value payload then unwrap_or line.kept 0 else 0) }
+{
+    if carries(payload) {
+        line.kept.unwrap_or(0)
+    } else {
+        0
     }
 }
 
-impl MemLine {
-    /// Memory's message for the request, if it sends one.
-    fn message(self, cell: MemCell) -> Option<Message>
-        ensures { result ≡ memory_message cell.action self.value }
-    {
-        match cell.action {
-            MemAction::Send(payload) => Some(Message {
-                payload,
-                value: if carries(payload) { self.value } else { 0 },
-                from: None,
-            }),
-            MemAction::None | MemAction::Write => None,
-        }
+/// Memory's message for the request, if it sends one.
+fn message_of_memory(memory: MemLine, cell: MemCell) -> Option<Message>
+    ensures { result ≡ memory_message cell.action memory.value }
+{
+    match cell.action {
+        MemAction::Send(payload) => Some(Message {
+            payload,
+            value: if carries(payload) { memory.value } else { 0 },
+            from: None,
+        }),
+        MemAction::None | MemAction::Write => None,
     }
 }
 
@@ -128,7 +124,7 @@ impl BlockLines {
         let Some(cell) = mem_cell(protocol, memory.state, event_at_memory(request)) else {
             unreachable!();
         };
-        if let Some(message) = memory.message(cell) {
+        if let Some(message) = message_of_memory(memory, cell) {
             return message;
         }
         let mut from = 0;
@@ -142,7 +138,7 @@ impl BlockLines {
                 let line = self.get(core as usize);
                 return Message {
                     payload,
-                    value: line.value_for(payload),
+                    value: value_for(line, payload),
                     from: Some(core),
                 };
             }

@@ -1,18 +1,19 @@
 //! The parts of a machine, which its steps change one after another.
 ghost use Rattle.std.specs.Prelude.{◌≡◌, ◌<◌, ◌↔◌, length, is_some, IsTrue, IfOk, IfSome, Some};
 ghost use Rattle.snoop_bus.specs.Queues.{queue_of};
-ghost use Rattle.snoop_machine.specs.Picture.{first_memory, held_by};
-ghost use Rattle.snoop_machine.specs.Situation.{picture_of, reset, state_of};
-ghost use Rattle.snoop_machine.specs.Sound.{IsProper, keeps, line_at};
-ghost use Rattle.snoop_machine.specs.Move.{next_did};
+ghost use Rattle.snoop_model.specs.Pictures.Picture.{first_memory, held_by};
+ghost use Rattle.snoop_model.specs.Pictures.Situation.{picture_of, reset, state_of};
+ghost use Rattle.snoop_model.specs.Pictures.Sound.{IsProper, keeps, line_at};
+ghost use Rattle.snoop_model.specs.Moves.Move.{next_did};
 
 mod ask;
 mod order;
 mod respond;
 mod step;
 
-use crate::lines::{Line, Lines};
-use crate::memory::MemLine;
+use crate::lines::Lines;
+use snoop_model::Line;
+use snoop_model::MemLine;
 use snoop_bus::{Bus, Open};
 use snoop_history::{Did, Log};
 use snoop_rules::{CacheState, MemState, Protocol};
@@ -32,7 +33,7 @@ pub(crate) struct Parts {
 }
 
 impl Model for Parts {
-    ghost use Rattle.snoop_machine.specs.Standing.{Standing};
+    ghost use Rattle.snoop_model.specs.Moves.Standing.{Standing};
 
     ghost Value = { Standing };
 

@@ -1,7 +1,7 @@
 //! What a step will do, as it was found.
 use crate::ask::Asked;
-use crate::memory::MemLine;
-use crate::message::Message;
+use snoop_model::MemLine;
+use snoop_model::Message;
 use crate::respond::Filled;
 use snoop_bus::Open;
 use snoop_rules::{MemState, Request};

@@ -1,11 +1,11 @@
 //! What a response does to one line, and to memory.
 ghost use Rattle.std.specs.Prelude.{◌≡◌};
-ghost use Rattle.snoop_machine.specs.Sound.{IsProper};
-ghost use Rattle.snoop_machine.specs.Meets.{LacksAtArrival, LacksAtMemory};
+ghost use Rattle.snoop_model.specs.Pictures.Sound.{IsProper};
+ghost use Rattle.snoop_model.specs.Moves.Meets.{LacksAtArrival, LacksAtMemory};
 ghost use Rattle.snoop_machine.specs.Arrive.{FillsLine, ArrivesIn};
 
-use crate::lines::Line;
-use crate::memory::MemLine;
+use snoop_model::Line;
+use snoop_model::MemLine;
 use snoop_rules::{
     CacheAction, CacheEvent, MemAction, MemEvent, MemState, Payload, Protocol, Request, cache_cell,
     mem_cell,

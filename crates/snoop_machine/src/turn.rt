@@ -1,8 +1,8 @@
 //! The turn of a core that does one work at a time.
 ghost use Rattle.std.specs.Prelude.{◌≡◌, ◌<◌, true, is_some};
 ghost use Rattle.snoop_rules.specs.Waits.{waiting_request};
-ghost use Rattle.snoop_machine.specs.Situation.{state_of};
-ghost use Rattle.snoop_machine.specs.Turn.{turn_of};
+ghost use Rattle.snoop_model.specs.Pictures.Situation.{state_of};
+ghost use Rattle.snoop_model.specs.Turns.Turn.{turn_of};
 
 use crate::machine::Machine;
 use snoop_rules::CacheState;

@@ -12,14 +12,14 @@ use Rattle.snoop_rules.specs.Cell.{Cell}
 use Rattle.snoop_rules.specs.Takers.{asked}
 use Rattle.snoop_history.specs.declared.items.Item.{Item}
 use Rattle.snoop_history.specs.declared.items.Item.TheVariants as item
-use Rattle.snoop_machine.specs.declared.lines.Line.{Line}
-use Rattle.snoop_machine.specs.declared.replies.Reply.{Reply}
-use Rattle.snoop_machine.specs.declared.replies.Reply.TheVariants as reply
-use Rattle.snoop_machine.specs.declared.replies.Refused.TheVariants.{Stalled}
-use Rattle.snoop_machine.specs.Picture.{held_by, kept_on}
-use Rattle.snoop_machine.specs.Situation.{Situation, picture_of, state_of}
-use Rattle.snoop_machine.specs.Move.{hit_reply, next_did, comes_to, kept_waiting, queues_after, IsWithin, IsAbsent, Asks}
-use Rattle.snoop_machine.specs.Run.{GoesFirst}
+use Rattle.snoop_model.specs.declared.line.Line.{Line}
+use Rattle.snoop_model.specs.declared.replies.Reply.{Reply}
+use Rattle.snoop_model.specs.declared.replies.Reply.TheVariants as reply
+use Rattle.snoop_model.specs.declared.replies.Refused.TheVariants.{Stalled}
+use Rattle.snoop_model.specs.Pictures.Picture.{held_by, kept_on}
+use Rattle.snoop_model.specs.Pictures.Situation.{Situation, picture_of, state_of}
+use Rattle.snoop_model.specs.Moves.Move.{hit_reply, next_did, comes_to, kept_waiting, queues_after, IsWithin, IsAbsent, Asks}
+use Rattle.snoop_model.specs.Runs.Run.{GoesFirst}
 use Rattle.snoop_scenes.proofs.Deciding.{if_some}
 use Rattle.snoop_scenes.proofs.Rows.{row_at}
 use Rattle.snoop_scenes.proofs.Played.{Played, Performed, performed}

@@ -23,14 +23,14 @@ use Rattle.snoop_history.specs.declared.items.Item.{Item}
 use Rattle.snoop_history.specs.declared.items.Item.TheVariants as item
 use Rattle.snoop_bus.specs.declared.transactions.Open.{Open}
 use Rattle.snoop_bus.specs.Queues.{queue_of, after_order}
-use Rattle.snoop_machine.specs.declared.lines.Line.{Line}
-use Rattle.snoop_machine.specs.declared.replies.Reply.TheVariants as reply
-use Rattle.snoop_machine.specs.declared.replies.Refused.TheVariants.{BusTaken}
-use Rattle.snoop_machine.specs.Picture.{Picture, held_at, held_by}
-use Rattle.snoop_machine.specs.Situation.{Situation, picture_of, with_picture, state_of}
-use Rattle.snoop_machine.specs.Sends.{Sends, IsOnlySender, value_sent}
-use Rattle.snoop_machine.specs.Move.{comes_to, TakesRow}
-use Rattle.snoop_machine.specs.Run.{GoesFirst}
+use Rattle.snoop_model.specs.declared.line.Line.{Line}
+use Rattle.snoop_model.specs.declared.replies.Reply.TheVariants as reply
+use Rattle.snoop_model.specs.declared.replies.Refused.TheVariants.{BusTaken}
+use Rattle.snoop_model.specs.Pictures.Picture.{Picture, held_at, held_by}
+use Rattle.snoop_model.specs.Pictures.Situation.{Situation, picture_of, with_picture, state_of}
+use Rattle.snoop_model.specs.Pictures.Sends.{Sends, IsOnlySender, value_sent}
+use Rattle.snoop_model.specs.Moves.Move.{comes_to, TakesRow}
+use Rattle.snoop_model.specs.Runs.Run.{GoesFirst}
 use Rattle.snoop_scenes.proofs.Deciding.{if_true, if_some}
 use Rattle.snoop_scenes.proofs.Rows.{RowAt, row_at, MemoryRowAt, memory_row_at}
 use Rattle.snoop_scenes.proofs.Played.{Played}

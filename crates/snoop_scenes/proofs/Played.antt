@@ -3,11 +3,11 @@ use Rattle.std.proofs.Common.{ℕ, Option, Some, None, Result, refl}
 use Rattle.snoop_trace.specs.declared.step.Op.{Op}
 use Rattle.snoop_trace.specs.declared.step.Op.TheVariants as op
 use Rattle.snoop_trace.specs.declared.step.Step.{Step}
-use Rattle.snoop_machine.specs.declared.replies.Reply.{Reply}
-use Rattle.snoop_machine.specs.declared.replies.Refused.{Refused}
-use Rattle.snoop_machine.specs.Situation.{Situation}
-use Rattle.snoop_machine.specs.Move.{Performs}
-use Rattle.snoop_machine.specs.Run.{GoesFirst}
+use Rattle.snoop_model.specs.declared.replies.Reply.{Reply}
+use Rattle.snoop_model.specs.declared.replies.Refused.{Refused}
+use Rattle.snoop_model.specs.Pictures.Situation.{Situation}
+use Rattle.snoop_model.specs.Moves.Move.{Performs}
+use Rattle.snoop_model.specs.Runs.Run.{GoesFirst}
 
 pub record Played (old : Situation) (step : Step) : Type 0 where
   pub outcome : Result Reply Refused

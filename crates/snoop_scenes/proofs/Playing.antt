@@ -8,7 +8,7 @@ use Rattle.snoop_trace.specs.declared.step.Step.TheVariants.{Ask, Order, Respond
 use Rattle.snoop_rules.specs.Takers.{takes_payload}
 use Rattle.snoop_rules.specs.Waits.{waiting_request}
 use Rattle.snoop_bus.specs.Queues.{queue_of}
-use Rattle.snoop_machine.specs.Situation.{Situation, picture_of, state_of}
+use Rattle.snoop_model.specs.Pictures.Situation.{Situation, picture_of, state_of}
 use Rattle.snoop_scenes.proofs.Deciding.{by_test, by_found, if_some}
 use Rattle.snoop_scenes.proofs.Played.{Played}
 use Rattle.snoop_scenes.proofs.Refusing.{asks_no_core, asks_no_block, waits_on_none, orders_no_core, orders_nothing, responds_no_block, responds_nothing}

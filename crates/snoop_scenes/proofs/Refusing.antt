@@ -5,11 +5,11 @@ use Rattle.snoop_trace.specs.declared.step.Op.{Op}
 use Rattle.snoop_trace.specs.declared.step.Step.TheVariants.{Ask, Order, Respond}
 use Rattle.snoop_rules.specs.declared.names.Request.{Request}
 use Rattle.snoop_rules.specs.Waits.{waiting_request}
-use Rattle.snoop_machine.specs.declared.lines.Line.{Line}
-use Rattle.snoop_machine.specs.declared.replies.Refused.TheVariants.{NoCore, NoBlock, NothingWaiting, NoTransaction}
-use Rattle.snoop_machine.specs.Picture.{held_at}
-use Rattle.snoop_machine.specs.Situation.{Situation, picture_of}
-use Rattle.snoop_machine.specs.Refuses.{WaitsOnNone}
+use Rattle.snoop_model.specs.declared.line.Line.{Line}
+use Rattle.snoop_model.specs.declared.replies.Refused.TheVariants.{NoCore, NoBlock, NothingWaiting, NoTransaction}
+use Rattle.snoop_model.specs.Pictures.Picture.{held_at}
+use Rattle.snoop_model.specs.Pictures.Situation.{Situation, picture_of}
+use Rattle.snoop_model.specs.Moves.Refuses.{WaitsOnNone}
 use Rattle.snoop_scenes.proofs.Deciding.{by_found}
 use Rattle.snoop_scenes.proofs.Played.{Played}
 

@@ -17,13 +17,13 @@ use Rattle.snoop_history.specs.declared.items.Did.{Did}
 use Rattle.snoop_history.specs.declared.items.Item.{Item}
 use Rattle.snoop_history.specs.declared.items.Item.TheVariants as item
 use Rattle.snoop_bus.specs.declared.transactions.Open.{Open}
-use Rattle.snoop_machine.specs.declared.lines.Line.{Line}
-use Rattle.snoop_machine.specs.declared.replies.Reply.{Reply}
-use Rattle.snoop_machine.specs.declared.replies.Reply.TheVariants as reply
-use Rattle.snoop_machine.specs.Picture.{Picture, held_at}
-use Rattle.snoop_machine.specs.Situation.{Situation, picture_of, with_picture}
-use Rattle.snoop_machine.specs.Move.{next_did, IsFillFor, Fills, ArrivesFor, TakesPayload, written, came_of}
-use Rattle.snoop_machine.specs.Run.{GoesFirst}
+use Rattle.snoop_model.specs.declared.line.Line.{Line}
+use Rattle.snoop_model.specs.declared.replies.Reply.{Reply}
+use Rattle.snoop_model.specs.declared.replies.Reply.TheVariants as reply
+use Rattle.snoop_model.specs.Pictures.Picture.{Picture, held_at}
+use Rattle.snoop_model.specs.Pictures.Situation.{Situation, picture_of, with_picture}
+use Rattle.snoop_model.specs.Moves.Move.{next_did, IsFillFor, Fills, ArrivesFor, TakesPayload, written, came_of}
+use Rattle.snoop_model.specs.Runs.Run.{GoesFirst}
 use Rattle.snoop_scenes.proofs.Deciding.{if_some}
 use Rattle.snoop_scenes.proofs.Rows.{RowAt, row_at, memory_row_at}
 use Rattle.snoop_scenes.proofs.Played.{Played, Performed, performed}

@@ -7,7 +7,7 @@ use Rattle.snoop_rules.specs.declared.names.MemState.TheVariants as mem
 use Rattle.snoop_rules.specs.declared.names.Request.TheVariants.{GetS}
 use Rattle.snoop_rules.specs.declared.names.Payload.TheVariants.{Data, DataE}
 use Rattle.snoop_history.specs.declared.items.Item.{Item}
-use Rattle.snoop_machine.specs.Situation.{Situation}
+use Rattle.snoop_model.specs.Pictures.Situation.{Situation}
 use Rattle.snoop_scenes.specs.Scene.{two_cores, Frame, ◌⟶◌, load, order, respond, issued, ordered, came, memory, core, loads, sent, answered, holds, remembers, states, at_rest}
 
 -- the steps, what each is answered, and the states after it: core 0's, core 1's and memory's

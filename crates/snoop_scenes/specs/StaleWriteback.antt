@@ -8,8 +8,8 @@ use Rattle.snoop_rules.specs.declared.names.MemState.TheVariants as mem
 use Rattle.snoop_rules.specs.declared.names.Request.TheVariants.{GetM, PutM}
 use Rattle.snoop_rules.specs.declared.names.Payload.TheVariants.{Data, NoData}
 use Rattle.snoop_history.specs.declared.items.Item.{Item}
-use Rattle.snoop_machine.specs.Picture.{nothing_held}
-use Rattle.snoop_machine.specs.Situation.{Situation}
+use Rattle.snoop_model.specs.Pictures.Picture.{nothing_held}
+use Rattle.snoop_model.specs.Pictures.Situation.{Situation}
 use Rattle.snoop_scenes.specs.Scene.{two_cores, Frame, ◌⟶◌, load, store, evict, order, respond, hit, issued, ordered, came, memory, core, stores, nothing, performed, hit_load, sent, answered, holds, remembers, states, at_rest}
 
 -- the steps, what each is answered, and the states after it: core 0's, core 1's and memory's

@@ -3,7 +3,7 @@ ghost use Rattle.std.specs.Prelude.{◌≡◌, [], ◌∷◌};
 ghost use Rattle.snoop_rules.specs.declared.names.Protocol.TheVariants.{Msi, Mesi};
 ghost use Rattle.snoop_history.specs.History.{answers_of};
 ghost use Rattle.snoop_history.specs.Totals.{totals_of};
-ghost use Rattle.snoop_machine.specs.Run.{TheRun};
+ghost use Rattle.snoop_model.specs.Runs.Run.{TheRun};
 ghost use Rattle.snoop_scenes.specs.Scene.{two_cores, two_blocks, steps_of, outcomes_of, no_totals, values_of, missed_load, hit_load, missed_store, PassesThrough};
 ghost use Rattle.snoop_scenes.specs.FirstLoad;
 ghost use Rattle.snoop_scenes.specs.UpgradeRace;

@@ -12,8 +12,8 @@ use Rattle.snoop_trace.specs.declared.step.Row.{Row}
 use Rattle.snoop_trace.specs.Grammar.{IsRowWithin}
 use Rattle.snoop_sim.specs.declared.work.Work.{Work}
 use Rattle.snoop_rules.specs.declared.names.Protocol.{Protocol}
-use Rattle.snoop_machine.specs.Situation.{reset}
-use Rattle.snoop_machine.specs.TurnRule.{TurnRule}
+use Rattle.snoop_model.specs.Pictures.Situation.{reset}
+use Rattle.snoop_model.specs.Turns.TurnRule.{TurnRule}
 use Rattle.snoop_sim.specs.Round.{IsFit}
 use Rattle.snoop_sim.specs.Todo.{Todo, todo_of, nothing_to_do, under_way, left_in, work_of, works_of}
 

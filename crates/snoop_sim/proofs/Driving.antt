@@ -9,16 +9,16 @@ use Rattle.snoop_trace.specs.Extent.{Extent}
 use Rattle.snoop_trace.specs.declared.step.Step.{Step}
 use Rattle.snoop_trace.specs.declared.step.Step.TheVariants.{Ask, Order, Respond}
 use Rattle.snoop_history.specs.declared.items.Item.{Item}
-use Rattle.snoop_machine.specs.declared.replies.Reply.{Reply}
-use Rattle.snoop_machine.specs.declared.replies.Refused.{Refused}
-use Rattle.snoop_machine.specs.declared.replies.Refused.TheVariants as refused
-use Rattle.snoop_machine.specs.Move.{FirstMove}
-use Rattle.snoop_machine.specs.StepMove.{RefusedFor}
-use Rattle.snoop_machine.specs.Situation.{Situation}
+use Rattle.snoop_model.specs.declared.replies.Reply.{Reply}
+use Rattle.snoop_model.specs.declared.replies.Refused.{Refused}
+use Rattle.snoop_model.specs.declared.replies.Refused.TheVariants as refused
+use Rattle.snoop_model.specs.Moves.Move.{FirstMove}
+use Rattle.snoop_model.specs.Moves.StepMove.{RefusedFor}
+use Rattle.snoop_model.specs.Pictures.Situation.{Situation}
 use Rattle.snoop_sim.specs.declared.work.Work.{Work}
-use Rattle.snoop_machine.specs.Turn.{turn_of}
-use Rattle.snoop_machine.specs.Serving.{IsUnderWay}
-use Rattle.snoop_machine.specs.TurnRule.{TurnRule}
+use Rattle.snoop_model.specs.Turns.Turn.{turn_of}
+use Rattle.snoop_model.specs.Turns.Serving.{IsUnderWay}
+use Rattle.snoop_model.specs.Turns.TurnRule.{TurnRule}
 use Rattle.snoop_sim.specs.Todo.{Todo, todo_of, nothing_to_do, under_way, block_of}
 use Rattle.snoop_sim.specs.Round.{IsOver, IsEnabled, IsFit, IsIdle, IsTodoWithin, TakesUp}
 use Rattle.snoop_sim.specs.Served.{ask_of}

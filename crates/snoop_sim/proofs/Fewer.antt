@@ -6,10 +6,10 @@ use Rattle.std.proofs.lemmas.List.Sums.{sum_by-cons}
 use Rattle.snoop_trace.specs.declared.step.Step.{Step}
 use Rattle.snoop_trace.specs.declared.step.Step.TheVariants.{Ask, Order, Respond}
 use Rattle.snoop_history.specs.declared.items.Item.{Item}
-use Rattle.snoop_machine.specs.declared.replies.Reply.{Reply}
-use Rattle.snoop_machine.specs.Move.{FirstMove}
-use Rattle.snoop_machine.specs.Serving.{paid}
-use Rattle.snoop_machine.proofs.TurnLaws.{turn_rule}
+use Rattle.snoop_model.specs.declared.replies.Reply.{Reply}
+use Rattle.snoop_model.specs.Moves.Move.{FirstMove}
+use Rattle.snoop_model.specs.Turns.Serving.{paid}
+use Rattle.snoop_model.proofs.Turns.Laws.{turn_rule}
 use Rattle.snoop_sim.specs.declared.work.Work.{Work}
 use Rattle.snoop_sim.specs.Todo.{Todo, todo_of, left_in}
 use Rattle.snoop_sim.specs.Round.{Progress, TakesUp, remaining}

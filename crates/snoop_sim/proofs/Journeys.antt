@@ -10,11 +10,11 @@ use Rattle.snoop_trace.specs.declared.step.Row.{Row}
 use Rattle.snoop_trace.specs.declared.step.Step.{Step}
 use Rattle.snoop_rules.specs.declared.names.Protocol.{Protocol}
 use Rattle.snoop_bus.specs.declared.transactions.Open.{Open}
-use Rattle.snoop_machine.specs.declared.replies.Reply.{Reply}
-use Rattle.snoop_machine.specs.declared.replies.Refused.{Refused}
-use Rattle.snoop_machine.specs.Situation.{Situation, reset}
-use Rattle.snoop_machine.specs.Run.{FirstRunFrom}
-use Rattle.snoop_machine.specs.Serving.{owed}
+use Rattle.snoop_model.specs.declared.replies.Reply.{Reply}
+use Rattle.snoop_model.specs.declared.replies.Refused.{Refused}
+use Rattle.snoop_model.specs.Pictures.Situation.{Situation, reset}
+use Rattle.snoop_model.specs.Runs.Run.{FirstRunFrom}
+use Rattle.snoop_model.specs.Turns.Serving.{owed}
 use Rattle.snoop_sim.proofs.TakenLemmas.{run_more}
 use Rattle.snoop_sim.specs.declared.work.Work.{Work}
 use Rattle.snoop_sim.specs.Todo.{todo_of, left_in, works_of}

@@ -6,12 +6,12 @@ use Rattle.std.proofs.lemmas.List.{take-append-drop}
 use Rattle.std.proofs.lemmas.List.Elements.{All-append, All-take, All-drop, Contains-append_cases, Contains-append_left, Contains-append_right}
 use Rattle.snoop_trace.specs.declared.step.Step.{Step}
 use Rattle.snoop_history.specs.declared.items.Item.{Item}
-use Rattle.snoop_machine.specs.declared.replies.Reply.{Reply}
-use Rattle.snoop_machine.specs.Situation.{Situation}
-use Rattle.snoop_machine.specs.Move.{FirstMove}
-use Rattle.snoop_machine.specs.Quiet.{IsQuiet}
-use Rattle.snoop_machine.specs.Serving.{IsServing}
-use Rattle.snoop_machine.specs.TurnRule.{TurnRule}
+use Rattle.snoop_model.specs.declared.replies.Reply.{Reply}
+use Rattle.snoop_model.specs.Pictures.Situation.{Situation}
+use Rattle.snoop_model.specs.Moves.Move.{FirstMove}
+use Rattle.snoop_model.specs.Turns.Quiet.{IsQuiet}
+use Rattle.snoop_model.specs.Turns.Serving.{IsServing}
+use Rattle.snoop_model.specs.Turns.TurnRule.{TurnRule}
 use Rattle.snoop_sim.proofs.Fewer.{leaves_fewer}
 use Rattle.snoop_sim.specs.Todo.{Todo, todo_of, under_way, block_of}
 use Rattle.snoop_sim.specs.Round.{Progress, IsFit, IsIdle, IsUnasked, IsDone, TakesUp, Follows}

@@ -9,11 +9,11 @@ use Rattle.snoop_trace.proofs.OutputLemmas.{appends_more, appends_none}
 use Rattle.snoop_rules.specs.declared.names.Protocol.{Protocol}
 use Rattle.snoop_history.specs.declared.items.Item.{Item}
 use Rattle.snoop_history.specs.Report.{report_of}
-use Rattle.snoop_machine.specs.Situation.{Situation, reset}
+use Rattle.snoop_model.specs.Pictures.Situation.{Situation, reset}
 use Rattle.snoop_sim.specs.Line.{line_text, line_texts}
-use Rattle.snoop_machine.specs.Run.{FirstRunFrom, RunsGoOn, TheRun}
-use Rattle.snoop_machine.specs.declared.replies.Reply.{Reply}
-use Rattle.snoop_machine.specs.declared.replies.Refused.{Refused}
+use Rattle.snoop_model.specs.Runs.Run.{FirstRunFrom, RunsGoOn, TheRun}
+use Rattle.snoop_model.specs.declared.replies.Reply.{Reply}
+use Rattle.snoop_model.specs.declared.replies.Refused.{Refused}
 use Rattle.snoop_sim.specs.Written.{WritesFront, WritesLines}
 use Rattle.snoop_sim.specs.Simulated.{Begins, Reports}
 

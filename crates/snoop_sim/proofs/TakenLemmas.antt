@@ -6,11 +6,11 @@ use Rattle.snoop_trace.specs.Extent.{Extent}
 use Rattle.snoop_trace.specs.Output.{AppendsFront, Gathers, Spills}
 use Rattle.snoop_trace.specs.declared.step.Step.{Step}
 use Rattle.snoop_trace.proofs.GathersLemmas.{gathers_cut, gathers_more, gathers_spilled, gathers_stop}
-use Rattle.snoop_machine.specs.declared.replies.Reply.{Reply}
-use Rattle.snoop_machine.specs.declared.replies.Refused.{Refused}
-use Rattle.snoop_machine.specs.Situation.{Situation}
+use Rattle.snoop_model.specs.declared.replies.Reply.{Reply}
+use Rattle.snoop_model.specs.declared.replies.Refused.{Refused}
+use Rattle.snoop_model.specs.Pictures.Situation.{Situation}
 use Rattle.snoop_sim.specs.Line.{line_text, line_texts}
-use Rattle.snoop_machine.specs.Run.{FirstRunFrom, GoesFirst}
+use Rattle.snoop_model.specs.Runs.Run.{FirstRunFrom, GoesFirst}
 use Rattle.snoop_sim.specs.Written.{WritesFront}
 
 -- one more step of a run

@@ -5,8 +5,8 @@ use Rattle.std.specs.Io.KnownBytes.{Appends}
 use Rattle.snoop_trace.specs.Extent.{Extent}
 use Rattle.snoop_trace.specs.Output.{AppendsFront}
 use Rattle.snoop_trace.specs.declared.step.Step.{Step}
-use Rattle.snoop_machine.specs.declared.replies.Reply.{Reply}
-use Rattle.snoop_machine.specs.declared.replies.Refused.{Refused}
+use Rattle.snoop_model.specs.declared.replies.Reply.{Reply}
+use Rattle.snoop_model.specs.declared.replies.Refused.{Refused}
 use Rattle.snoop_sim.specs.Line.{line_texts}
 use Rattle.snoop_sim.specs.Round.{Progress}
 use Rattle.snoop_sim.specs.Journey.{IsOnTheWay, IsAtTheEnd}

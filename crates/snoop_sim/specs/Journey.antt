@@ -2,11 +2,11 @@
 -- Source: this project's profile.
 use Rattle.std.specs.Prelude.{◌≡◌, ℕ, ◌+◌, ◌≤◌, List, ◌++◌, length, All, IsOk, Result}
 use Rattle.snoop_trace.specs.declared.step.Step.{Step}
-use Rattle.snoop_machine.specs.declared.replies.Reply.{Reply}
-use Rattle.snoop_machine.specs.declared.replies.Refused.{Refused}
-use Rattle.snoop_machine.specs.Situation.{Situation}
-use Rattle.snoop_machine.specs.Quiet.{IsQuiet}
-use Rattle.snoop_machine.specs.Run.{FirstRunFrom}
+use Rattle.snoop_model.specs.declared.replies.Reply.{Reply}
+use Rattle.snoop_model.specs.declared.replies.Refused.{Refused}
+use Rattle.snoop_model.specs.Pictures.Situation.{Situation}
+use Rattle.snoop_model.specs.Turns.Quiet.{IsQuiet}
+use Rattle.snoop_model.specs.Runs.Run.{FirstRunFrom}
 use Rattle.snoop_sim.specs.Todo.{todo_of}
 use Rattle.snoop_sim.specs.Round.{Progress, remaining}
 use Rattle.snoop_sim.specs.Served.{asks_of}

@@ -7,10 +7,10 @@ use Rattle.snoop_trace.specs.Output.{step_text}
 use Rattle.snoop_trace.specs.declared.step.Step.{Step}
 use Rattle.snoop_rules.specs.Names.{payload_name, request_name, state_name}
 use Rattle.snoop_history.specs.declared.items.Did.{Did}
-use Rattle.snoop_machine.specs.declared.replies.Reply.{Reply}
-use Rattle.snoop_machine.specs.declared.replies.Reply.TheVariants.{Hit, StoreHit, Issued, Gone, Absent, Ordered, Came}
-use Rattle.snoop_machine.specs.declared.replies.Refused.{Refused}
-use Rattle.snoop_machine.specs.declared.replies.Refused.TheVariants.{NoCore, NoBlock, Stalled, NothingWaiting, BusTaken, NoTransaction, NoMemory}
+use Rattle.snoop_model.specs.declared.replies.Reply.{Reply}
+use Rattle.snoop_model.specs.declared.replies.Reply.TheVariants.{Hit, StoreHit, Issued, Gone, Absent, Ordered, Came}
+use Rattle.snoop_model.specs.declared.replies.Refused.{Refused}
+use Rattle.snoop_model.specs.declared.replies.Refused.TheVariants.{NoCore, NoBlock, Stalled, NothingWaiting, BusTaken, NoTransaction, NoMemory}
 
 -- who sent a response: a core, or memory
 abbrev pub sender_text : Option ℕ → List ℕ

@@ -9,11 +9,11 @@ use Rattle.snoop_trace.specs.declared.fault.TextFault.{TextFault}
 use Rattle.snoop_trace.specs.declared.step.Step.{Step}
 use Rattle.snoop_rules.specs.declared.names.Protocol.{Protocol}
 use Rattle.snoop_history.specs.Report.{report_of}
-use Rattle.snoop_machine.specs.declared.replies.Reply.{Reply}
-use Rattle.snoop_machine.specs.declared.replies.Refused.{Refused}
-use Rattle.snoop_machine.specs.Situation.{Situation}
+use Rattle.snoop_model.specs.declared.replies.Reply.{Reply}
+use Rattle.snoop_model.specs.declared.replies.Refused.{Refused}
+use Rattle.snoop_model.specs.Pictures.Situation.{Situation}
 use Rattle.snoop_sim.specs.Line.{line_texts}
-use Rattle.snoop_machine.specs.Run.{TheRun}
+use Rattle.snoop_model.specs.Runs.Run.{TheRun}
 use Rattle.snoop_sim.specs.declared.fault.SimFault.{SimFault}
 use Rattle.snoop_sim.specs.declared.fault.SimFault.TheVariants.{Text, NoMemory, Write}
 

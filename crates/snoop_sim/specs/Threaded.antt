@@ -8,9 +8,9 @@ use Rattle.snoop_trace.specs.declared.step.Row.{Row}
 use Rattle.snoop_trace.specs.declared.step.Step.{Step}
 use Rattle.snoop_rules.specs.declared.names.Protocol.{Protocol}
 use Rattle.snoop_history.specs.History.{answers_of}
-use Rattle.snoop_machine.specs.Situation.{Situation}
-use Rattle.snoop_machine.specs.Quiet.{IsQuiet}
-use Rattle.snoop_machine.specs.Run.{AllTaken}
+use Rattle.snoop_model.specs.Pictures.Situation.{Situation}
+use Rattle.snoop_model.specs.Turns.Quiet.{IsQuiet}
+use Rattle.snoop_model.specs.Runs.Run.{AllTaken}
 use Rattle.snoop_cores.specs.Rows.{Answers, rows_of}
 use Rattle.snoop_sim.specs.SimulatedRun.{ReadsRows}
 use Rattle.snoop_sim.specs.ThreadsFault.{IsOfThreads}

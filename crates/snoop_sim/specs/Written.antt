@@ -5,11 +5,11 @@ use Rattle.std.specs.Io.KnownBytes.{Appends}
 use Rattle.snoop_trace.specs.Extent.{Extent}
 use Rattle.snoop_trace.specs.Output.{AppendsFront}
 use Rattle.snoop_trace.specs.declared.step.Step.{Step}
-use Rattle.snoop_machine.specs.declared.replies.Reply.{Reply}
-use Rattle.snoop_machine.specs.declared.replies.Refused.{Refused}
-use Rattle.snoop_machine.specs.Situation.{Situation}
+use Rattle.snoop_model.specs.declared.replies.Reply.{Reply}
+use Rattle.snoop_model.specs.declared.replies.Refused.{Refused}
+use Rattle.snoop_model.specs.Pictures.Situation.{Situation}
 use Rattle.snoop_sim.specs.Line.{line_texts}
-use Rattle.snoop_machine.specs.Run.{FirstRunFrom}
+use Rattle.snoop_model.specs.Runs.Run.{FirstRunFrom}
 
 -- all the steps were taken, and the writer got their lines
 pub record WritesLines (shape : Extent) (from : Situation) (steps : List Step) (to : Situation) (old new : Option (List ℕ)) : Type 0 where

@@ -1,10 +1,10 @@
 //! The driver of rows: whose turn it is, and which step the turn takes.
 ghost use Rattle.std.specs.Prelude.{◌≡◌, ◌≢◌, ℕ, ◌<◌, ◌+◌, [], All, Contains, Option, Some, None, IfOk, IfSome, IfNone, length, slice_get};
 ghost use Rattle.snoop_history.specs.declared.items.Item.{Item};
-ghost use Rattle.snoop_machine.specs.Move.{FirstMove};
-ghost use Rattle.snoop_machine.specs.Situation.{reset};
-ghost use Rattle.snoop_machine.specs.Quiet.{IsQuiet};
-ghost use Rattle.snoop_machine.specs.Serving.{IsUnderWay};
+ghost use Rattle.snoop_model.specs.Moves.Move.{FirstMove};
+ghost use Rattle.snoop_model.specs.Pictures.Situation.{reset};
+ghost use Rattle.snoop_model.specs.Turns.Quiet.{IsQuiet};
+ghost use Rattle.snoop_model.specs.Turns.Serving.{IsUnderWay};
 ghost use Rattle.snoop_sim.specs.Todo.{todo_of, under_way, left_in, works_of};
 ghost use Rattle.snoop_trace.specs.Grammar.{IsRowWithin};
 ghost use Rattle.snoop_sim.specs.Served.{ask_of};

@@ -1,7 +1,7 @@
 //! The line of a step: its text and the machine's reply or refusal.
 ghost use Rattle.std.specs.Prelude.{◌≡◌, ◌++◌, codes, OnOk};
 ghost use Rattle.std.specs.Fmt.{decimal};
-ghost use Rattle.snoop_machine.specs.declared.replies.Reply.TheVariants.{Came};
+ghost use Rattle.snoop_model.specs.declared.replies.Reply.TheVariants.{Came};
 ghost use Rattle.snoop_sim.specs.Line.{line_text, outcome_text, performed_text, refusal_detail, refusal_name, reply_text, sender_text};
 
 use snoop_history::Did;

@@ -1,12 +1,12 @@
 //! The command `steps`: the steps of a text, taken one after another.
 ghost use Rattle.std.specs.Prelude.{◌≡◌, ◌≢◌, ◌<◌, ◌++◌, ◌-◌, ◌^◌, true, length, Err, OnOk, OnErr, IsSomeAnd, Result};
-ghost use Rattle.snoop_machine.specs.declared.replies.Reply.{Reply as Answer};
-ghost use Rattle.snoop_machine.specs.declared.replies.Refused.{Refused as Cause};
+ghost use Rattle.snoop_model.specs.declared.replies.Reply.{Reply as Answer};
+ghost use Rattle.snoop_model.specs.declared.replies.Refused.{Refused as Cause};
 ghost use Rattle.snoop_trace.specs.declared.fault.TextFault.TheVariants as text_fault;
 ghost use Rattle.snoop_sim.specs.Line.{line_text};
 ghost use Rattle.snoop_sim.specs.Simulated.{Begins, Reports, Simulates};
 ghost use Rattle.snoop_sim.specs.Written.{WritesFront, WritesLines};
-ghost use Rattle.snoop_machine.specs.Run.{GoesFirst};
+ghost use Rattle.snoop_model.specs.Runs.Run.{GoesFirst};
 
 use crate::fault::SimFault;
 use crate::line::push_line;

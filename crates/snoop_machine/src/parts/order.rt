@@ -1,23 +1,23 @@
 //! An Order: found, and made.
 ghost use Rattle.std.specs.Prelude.{◌≡◌, ◌<◌, IfOk, IfErr, IfSome, IfNone, None, Err, slice_get};
 ghost use Rattle.snoop_bus.specs.Queues.{queue_of};
-ghost use Rattle.snoop_machine.specs.declared.replies.Refused.{Refused};
+ghost use Rattle.snoop_model.specs.declared.replies.Refused.{Refused};
 ghost use Rattle.snoop_trace.specs.declared.step.Step.TheVariants.{Order};
-ghost use Rattle.snoop_machine.specs.Standing.{KeepsRoom};
-ghost use Rattle.snoop_machine.specs.Situation.{picture_of};
-ghost use Rattle.snoop_machine.specs.Refuses.{Refuses, WaitsOnNone};
-ghost use Rattle.snoop_machine.specs.Message.{IsMessage};
-ghost use Rattle.snoop_machine.specs.Move.{Orders};
-ghost use Rattle.snoop_machine.specs.OrderMove.{IsHead, TakesMemRow};
-ghost use Rattle.snoop_machine.specs.StepMove.{IsDenied};
+ghost use Rattle.snoop_model.specs.Moves.Standing.{KeepsRoom};
+ghost use Rattle.snoop_model.specs.Pictures.Situation.{picture_of};
+ghost use Rattle.snoop_model.specs.Moves.Refuses.{Refuses, WaitsOnNone};
+ghost use Rattle.snoop_model.specs.Pictures.Message.{IsMessage};
+ghost use Rattle.snoop_model.specs.Moves.Move.{Orders};
+ghost use Rattle.snoop_model.specs.Moves.OrderMove.{IsHead, TakesMemRow};
+ghost use Rattle.snoop_model.specs.Moves.StepMove.{IsDenied};
 ghost use Rattle.snoop_machine.specs.Plan.{IsPlanFor};
-ghost use Rattle.snoop_machine.specs.Coherent.{IsCoherent};
+ghost use Rattle.snoop_model.specs.Invariant.Coherent.{IsCoherent};
 
 use super::Parts;
-use crate::message::Message;
+use snoop_model::Message;
 use crate::order::event_at_memory;
 use crate::plan::Plan;
-use crate::replies::Refused;
+use snoop_model::Refused;
 use snoop_history::{Item, Sent};
 use snoop_rules::{MemState, Request, mem_cell};
 

@@ -1,22 +1,22 @@
 //! A step in its three stages: find, make room, make.
 ghost use Rattle.std.specs.Prelude.{◌≡◌, ◌<◌, ◌++◌, Option, OnOk, OnErr, IfOk, IfErr, IsOk, Err, slice_index, option_to_list};
 ghost use Rattle.snoop_history.specs.declared.items.Item.{Item};
-ghost use Rattle.snoop_machine.specs.declared.replies.Refused.TheVariants.{NoMemory as WantOfMemory};
-ghost use Rattle.snoop_machine.specs.declared.replies.Reply.TheVariants.{Came as CameReply};
-ghost use Rattle.snoop_machine.specs.Move.{FirstMove};
-ghost use Rattle.snoop_machine.specs.StepMove.{RefusedFor, IsDenied};
-ghost use Rattle.snoop_machine.specs.Standing.{KeepsRoom};
-ghost use Rattle.snoop_machine.specs.Prepared.{IsFull, IsPrepared};
+ghost use Rattle.snoop_model.specs.declared.replies.Refused.TheVariants.{NoMemory as WantOfMemory};
+ghost use Rattle.snoop_model.specs.declared.replies.Reply.TheVariants.{Came as CameReply};
+ghost use Rattle.snoop_model.specs.Moves.Move.{FirstMove};
+ghost use Rattle.snoop_model.specs.Moves.StepMove.{RefusedFor, IsDenied};
+ghost use Rattle.snoop_model.specs.Moves.Standing.{KeepsRoom};
+ghost use Rattle.snoop_model.specs.Moves.Prepared.{IsFull, IsPrepared};
 ghost use Rattle.snoop_machine.specs.Plan.{IsPlan, IsPlanFor, step_of, room_for, room_for_ask, entry_of};
-ghost use Rattle.snoop_machine.specs.Refuses.{Refuses};
-ghost use Rattle.snoop_machine.specs.Coherent.{IsCoherent};
-ghost use Rattle.snoop_machine.specs.declared.replies.Refused.{Refused};
+ghost use Rattle.snoop_model.specs.Moves.Refuses.{Refuses};
+ghost use Rattle.snoop_model.specs.Invariant.Coherent.{IsCoherent};
+ghost use Rattle.snoop_model.specs.declared.replies.Refused.{Refused};
 
 use super::Parts;
 use super::respond::came;
 use crate::ask::Asked;
 use crate::plan::Plan;
-use crate::replies::{Refused, Reply};
+use snoop_model::{Refused, Reply};
 use snoop_bus::Open;
 use snoop_history::{Did, Item, Sent};
 use snoop_trace::{NoMemory, Step};

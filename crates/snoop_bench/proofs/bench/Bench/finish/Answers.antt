@@ -5,10 +5,10 @@ use Rattle.snoop_trace.specs.declared.step.Step.TheVariants.{Respond}
 use Rattle.snoop_rules.specs.Waits.{waiting_request}
 use Rattle.snoop_history.specs.declared.items.Item.{Item}
 use Rattle.snoop_history.specs.History.{last_of}
-use Rattle.snoop_machine.specs.Situation.{Situation, state_of, picture_of}
-use Rattle.snoop_machine.specs.Turn.{turn_of}
-use Rattle.snoop_machine.specs.Move.{FirstMove}
-use Rattle.snoop_machine.specs.WellKept.{IsWellKept}
+use Rattle.snoop_model.specs.Pictures.Situation.{Situation, state_of, picture_of}
+use Rattle.snoop_model.specs.Turns.Turn.{turn_of}
+use Rattle.snoop_model.specs.Moves.Move.{FirstMove}
+use Rattle.snoop_model.specs.Invariant.WellKept.{IsWellKept}
 use Rattle.snoop_bench.specs.declared.work.Work.{Work}
 use Rattle.snoop_bench.specs.Locked.{Locked, record_of}
 use Rattle.snoop_bench.specs.Recording.{Recording, Takes}
@@ -27,7 +27,7 @@ use Rattle.snoop_bench.proofs.bench.Bench.finish.Goals as goal
 abbrev Finished : Situation → Situation → Step → List (Option Work) → ℕ → Work → Type 0
 Finished s t step works core work = (step ≡ Respond work.block) × (turn_of t core work.block work.op true ≡ None) × AreUnderWay works t
 
-finished : Rattle.snoop_machine.specs.TurnRule.TurnRule → (s t : Situation) (step : Step) (answer : Rattle.snoop_machine.specs.declared.replies.Reply.Reply) (works : List (Option Work)) (core : ℕ) (work : Work) → AreUnderWay works s → IsWellKept s → core < s.shape.cores
+finished : Rattle.snoop_model.specs.Turns.TurnRule.TurnRule → (s t : Situation) (step : Step) (answer : Rattle.snoop_model.specs.declared.replies.Reply.Reply) (works : List (Option Work)) (core : ℕ) (work : Work) → AreUnderWay works s → IsWellKept s → core < s.shape.cores
     → Stepped s t step answer → turn_of s core work.block work.op true ≡ Some step → is_some (waiting_request (state_of s core work.block)) ≡ false → Finished s t step works core work
 finished rule s t step answer works core work u well inside m turn none =
     let own = its_own core work.block (waiting_request (state_of s core work.block)) (picture_of s work.block).transaction step turn none in

@@ -1,8 +1,8 @@
 use Rattle.std.proofs.Common.{◌≡◌, ◌∙◌, ◌<◌, Bool, true, false, Option, Some, None, refl, sym, ap, subst}
 use Rattle.std.specs.Prelude.{is_some}
 use Rattle.snoop_rules.specs.Waits.{waiting_request}
-use Rattle.snoop_machine.specs.Situation.{Situation, state_of, picture_of}
-use Rattle.snoop_machine.specs.Turn.{turn_of, step_under_way}
+use Rattle.snoop_model.specs.Pictures.Situation.{Situation, state_of, picture_of}
+use Rattle.snoop_model.specs.Turns.Turn.{turn_of, step_under_way}
 use Rattle.snoop_bench.specs.declared.work.Work.{Work}
 use Rattle.snoop_bench.specs.declared.work.Turn.{Turn}
 use Rattle.snoop_bench.specs.Locked.{Locked}

@@ -1,6 +1,6 @@
 use Rattle.std.proofs.Common.{◌≡◌, ◌∙◌, sym, ap, subst}
-use Rattle.snoop_machine.specs.Situation.{Situation}
-use Rattle.snoop_machine.specs.WellKept.{IsWellKept}
+use Rattle.snoop_model.specs.Pictures.Situation.{Situation}
+use Rattle.snoop_model.specs.Invariant.WellKept.{IsWellKept}
 use Rattle.snoop_bench.specs.Locked.{Locked, IsKept}
 use Rattle.snoop_bench.specs.Keeps.{locked}
 use Rattle.snoop_bench.proofs.Outcomes.{ends_with, closed_turn}

@@ -2,9 +2,9 @@ use Rattle.std.proofs.Common.{◌≡◌, ◌∙◌, Bool, true, Option, Some, sy
 use Rattle.std.specs.Prelude.{is_some}
 use Rattle.snoop_trace.specs.declared.step.Step.{Step}
 use Rattle.snoop_rules.specs.Waits.{waiting_request}
-use Rattle.snoop_machine.specs.Situation.{Situation, state_of, picture_of}
-use Rattle.snoop_machine.specs.Turn.{turn_of}
-use Rattle.snoop_machine.specs.WellKept.{IsWellKept}
+use Rattle.snoop_model.specs.Pictures.Situation.{Situation, state_of, picture_of}
+use Rattle.snoop_model.specs.Turns.Turn.{turn_of}
+use Rattle.snoop_model.specs.Invariant.WellKept.{IsWellKept}
 use Rattle.snoop_bench.specs.Locked.{Locked}
 use Rattle.snoop_bench.specs.Faults.{IsInside}
 use Rattle.snoop_bench.specs.Works.{work_at}

@@ -2,11 +2,11 @@ use Rattle.std.proofs.Common.{◌≡◌, ◌<◌, List, Option, None, ℕ, lengt
 use Rattle.std.specs.Prelude.{slice_set}
 use Rattle.std.proofs.lemmas.List.{set-get_or}
 use Rattle.snoop_rules.specs.declared.names.CacheState.{CacheState}
-use Rattle.snoop_machine.specs.declared.lines.Line.{Line}
+use Rattle.snoop_model.specs.declared.line.Line.{Line}
 use Rattle.snoop_machine.specs.declared.block_lines.Held.{Held}
-use Rattle.snoop_machine.specs.Picture.{held_at, nothing_held, kept_on}
-use Rattle.snoop_machine.specs.Sound.{IsProper}
-use Rattle.snoop_machine.specs.Move.{comes_to}
+use Rattle.snoop_model.specs.Pictures.Picture.{held_at, nothing_held, kept_on}
+use Rattle.snoop_model.specs.Pictures.Sound.{IsProper}
+use Rattle.snoop_model.specs.Moves.Move.{comes_to}
 use Rattle.snoop_machine.specs.BlockLines.{line_of, lines_of, AreBlockLines}
 use Rattle.snoop_machine.proofs.BlockLinesViews.{in_states, in_held, line_in, row_set, AreBlockLines-set, in_bounds, kept_goes, kept_stays}
 use Rattle.snoop_machine.proofs.block_lines.BlockLines.come_to.Goals as goal

@@ -1,5 +1,5 @@
 use Rattle.std.proofs.Common.{get_or, arith, sym, ap, ◌∙◌}
-use Rattle.snoop_machine.specs.Picture.{nothing_held}
+use Rattle.snoop_model.specs.Pictures.Picture.{nothing_held}
 use Rattle.snoop_machine.specs.BlockLines.{line_of}
 use Rattle.snoop_machine.proofs.BlockLinesViews.{in_states, in_held, line_in}
 use Rattle.snoop_machine.proofs.block_lines.BlockLines.get.Goals as goal

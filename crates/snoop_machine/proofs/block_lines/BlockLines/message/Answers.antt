@@ -8,19 +8,19 @@ use Rattle.snoop_rules.specs.Cell.{Cell}
 use Rattle.snoop_rules.specs.MemoryCell.{MemoryCell}
 use Rattle.snoop_rules.specs.Possible.{IsImpossible}
 use Rattle.snoop_rules.specs.Takers.{seen_by, carries_value}
-use Rattle.snoop_machine.specs.declared.lines.Line.{Line}
-use Rattle.snoop_machine.specs.Picture.{held_at}
-use Rattle.snoop_machine.specs.Message.{free_picture}
-use Rattle.snoop_machine.proofs.Finding.{Silent-more, Silent-past, IsMessage-sent, IsMessage-memory}
+use Rattle.snoop_model.specs.declared.line.Line.{Line}
+use Rattle.snoop_model.specs.Pictures.Picture.{held_at}
+use Rattle.snoop_model.specs.Pictures.Message.{free_picture}
+use Rattle.snoop_model.proofs.Lines.TheSender.{Silent-more, Silent-past, IsMessage-sent, IsMessage-memory}
 use Rattle.snoop_machine.proofs.block_lines.BlockLines.message.Goals as goal
 use Rattle.snoop_machine.proofs.block_lines.BlockLines.message.Goals.{In-Some-cache_cell}
 
-pub returns-in-Some-message : goal.returns-in-Some-message
-returns-in-Some-message c =
+pub returns-in-Some-message_of_memory : goal.returns-in-Some-message_of_memory
+returns-in-Some-message_of_memory c =
     let before = free_picture c.args.self.now c.args.memory in
     let P : MemEvent → Type 0 = λ event. MemoryCell c.args.protocol c.args.memory.state event c.in-Some.cell.action c.in-Some.cell.next in
-    IsMessage-memory c.args.protocol before c.args.requestor c.args.request c.in-Some-message.message c.in-Some.cell.action c.in-Some.cell.next
-    c.requires.finds (subst P c.event_at_memory.ensures c.in-Some.ensures.row) (sym c.message.ensures ∙ c.in-Some-message.is)
+    IsMessage-memory c.args.protocol before c.args.requestor c.args.request c.in-Some-message_of_memory.message c.in-Some.cell.action c.in-Some.cell.next
+    c.requires.finds (subst P c.event_at_memory.ensures c.in-Some.ensures.row) (sym c.message_of_memory.ensures ∙ c.in-Some-message_of_memory.is)
 
 -- the row of the core that is looked at, in the picture
 row : (c : In-Some-cache_cell) → Cell c.args.protocol (held_at c.args.self.now c.in-Some-next_holder.core).state (seen_by c.in-Some-next_holder.core c.args.requestor c.args.request) c.in-Some-cache_cell.cell.action c.in-Some-cache_cell.cell.next

@@ -1,6 +1,6 @@
 use Rattle.std.proofs.Common.{◌≤◌, ◌-◌, length}
-use Rattle.snoop_machine.specs.Message.{free_picture}
-use Rattle.snoop_machine.proofs.Finding.{SilentBelow}
+use Rattle.snoop_model.specs.Pictures.Message.{free_picture}
+use Rattle.snoop_model.proofs.Lines.TheSender.{SilentBelow}
 use Rattle.snoop_machine.proofs.block_lines.BlockLines.message.Given as goal
 
 abbrev pub invariant-loop-core : goal.invariant-loop-core

@@ -1,13 +1,13 @@
 use Rattle.std.proofs.Common.{arith, ◌≡◌, List, None, replicate, sym, ap, ◌∙◌, subst}
 use Rattle.std.proofs.lemmas.List.{length-replicate}
 use Rattle.snoop_rules.specs.declared.names.CacheState.TheVariants.{I}
-use Rattle.snoop_machine.specs.declared.lines.Line.{Line}
+use Rattle.snoop_model.specs.declared.line.Line.{Line}
 use Rattle.snoop_machine.specs.declared.block_lines.Held.{Held}
-use Rattle.snoop_machine.specs.Picture.{held_at, nothing_held}
-use Rattle.snoop_machine.specs.Sound.{IsProper}
+use Rattle.snoop_model.specs.Pictures.Picture.{held_at, nothing_held}
+use Rattle.snoop_model.specs.Pictures.Sound.{IsProper}
 use Rattle.snoop_machine.specs.BlockLines.{lines_of}
-use Rattle.snoop_machine.proofs.Plain.{replicated}
-use Rattle.snoop_machine.proofs.Reached.{nothing_proper}
+use Rattle.snoop_model.proofs.Lists.Facts.{replicated}
+use Rattle.snoop_model.proofs.Invariant.Runs.{nothing_proper}
 use Rattle.snoop_machine.proofs.BlockLinesViews.{replicate-lines_of}
 use Rattle.snoop_machine.proofs.block_lines.BlockLines.new.Goals as goal
 

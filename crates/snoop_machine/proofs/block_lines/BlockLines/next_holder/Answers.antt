@@ -2,9 +2,9 @@
 use Rattle.std.proofs.Common.{◌≡◌, ◌<◌, ◌≤◌, ℕ, None, length, sym, ap, ◌∙◌, subst, arith, inl, inr}
 use Rattle.std.proofs.lemmas.Bool.{cases_eq, cases_lt}
 use Rattle.snoop_rules.specs.declared.names.CacheState.TheVariants.{I}
-use Rattle.snoop_machine.specs.declared.lines.Line.{Line}
+use Rattle.snoop_model.specs.declared.line.Line.{Line}
 use Rattle.snoop_machine.specs.declared.block_lines.Held.{Held}
-use Rattle.snoop_machine.specs.Picture.{held_at, nothing_held}
+use Rattle.snoop_model.specs.Pictures.Picture.{held_at, nothing_held}
 use Rattle.snoop_machine.proofs.BlockLinesViews.{row_length, line_in, proper_in, nothing_in_I, nothing_below, nothing_above}
 use Rattle.snoop_machine.proofs.block_lines.BlockLines.next_holder.Goals as goal
 use Rattle.snoop_machine.proofs.block_lines.BlockLines.next_holder.Goals.{After-index}

@@ -5,13 +5,13 @@ use Rattle.snoop_rules.specs.declared.names.CacheEvent.{CacheEvent}
 use Rattle.snoop_rules.specs.declared.names.CacheState.{CacheState}
 use Rattle.snoop_rules.specs.Cell.{Cell}
 use Rattle.snoop_rules.specs.Takers.{seen_by}
-use Rattle.snoop_machine.specs.declared.lines.Line.{Line}
-use Rattle.snoop_machine.specs.Picture.{held_at, nothing_held}
-use Rattle.snoop_machine.specs.Move.{comes_to}
-use Rattle.snoop_machine.specs.Message.{HasRow}
-use Rattle.snoop_machine.proofs.Facts.{IsProper-order}
+use Rattle.snoop_model.specs.declared.line.Line.{Line}
+use Rattle.snoop_model.specs.Pictures.Picture.{held_at, nothing_held}
+use Rattle.snoop_model.specs.Moves.Move.{comes_to}
+use Rattle.snoop_model.specs.Pictures.Message.{HasRow}
+use Rattle.snoop_model.proofs.Tables.Rows.{IsProper-order}
 use Rattle.snoop_machine.proofs.BlockLinesViews.{comes_to_same}
-use Rattle.snoop_machine.proofs.Taking.{Taking, Taking-more, Taking-past}
+use Rattle.snoop_model.proofs.Lines.EachRow.{Taking, Taking-more, Taking-past}
 use Rattle.snoop_machine.proofs.block_lines.BlockLines.take_rows.Goals as goal
 use Rattle.snoop_machine.proofs.block_lines.BlockLines.take_rows.Goals.{In-Some, then-not-is_same, else-not-is_same}
 

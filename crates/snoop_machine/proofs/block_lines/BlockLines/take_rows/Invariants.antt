@@ -1,5 +1,5 @@
 use Rattle.std.proofs.Common.{◌≤◌, ◌-◌, length}
-use Rattle.snoop_machine.proofs.Taking.{Taking}
+use Rattle.snoop_model.proofs.Lines.EachRow.{Taking}
 use Rattle.snoop_machine.proofs.block_lines.BlockLines.take_rows.Given as goal
 
 abbrev pub invariant-loop-core : goal.invariant-loop-core

@@ -1,10 +1,10 @@
 use Rattle.std.proofs.Common.{◌≡◌, ℕ, ◌<◌, List, [], length, sym, ap, ◌∙◌, subst}
 use Rattle.std.proofs.lemmas.List.{get_or_read}
 use Rattle.snoop_rules.specs.Takers.{seen_by}
-use Rattle.snoop_machine.specs.declared.lines.Line.{Line}
-use Rattle.snoop_machine.specs.Picture.{held_at}
-use Rattle.snoop_machine.specs.Message.{HasRow}
-use Rattle.snoop_machine.proofs.Taking.{row_of}
+use Rattle.snoop_model.specs.declared.line.Line.{Line}
+use Rattle.snoop_model.specs.Pictures.Picture.{held_at}
+use Rattle.snoop_model.specs.Pictures.Message.{HasRow}
+use Rattle.snoop_model.proofs.Lines.EachRow.{row_of}
 use Rattle.snoop_machine.proofs.lines.Lines.take_rows.Goals as goal
 
 pub take_rows-requires-clause-rows : goal.take_rows-requires-clause-rows

@@ -1,7 +1,7 @@
 use Rattle.std.proofs.Common.{subst}
-use Rattle.snoop_machine.specs.Standing.{Standing}
-use Rattle.snoop_machine.specs.Safe.{IsSafe}
-use Rattle.snoop_machine.proofs.Safety.{is_safe}
+use Rattle.snoop_model.specs.Moves.Standing.{Standing}
+use Rattle.snoop_model.specs.Runs.Safe.{IsSafe}
+use Rattle.snoop_model.proofs.Invariant.Safety.{is_safe}
 use Rattle.snoop_machine.proofs.machine.Machine.coherent.Goals as goal
 
 pub returns : goal.returns

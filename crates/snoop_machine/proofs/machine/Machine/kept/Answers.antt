@@ -1,8 +1,8 @@
 use Rattle.std.proofs.Common.{subst}
 use Rattle.std.specs.Prelude.{◌≡◌, IfSome}
 use Rattle.snoop_history.specs.History.{flat}
-use Rattle.snoop_machine.specs.Standing.{Standing}
-use Rattle.snoop_machine.proofs.Safety.{kept_is_flat}
+use Rattle.snoop_model.specs.Moves.Standing.{Standing}
+use Rattle.snoop_model.proofs.Invariant.Safety.{kept_is_flat}
 use Rattle.snoop_machine.proofs.machine.Machine.kept.Goals as goal
 
 pub returns-clause-current : goal.returns-clause-current

@@ -1,12 +1,12 @@
 use Rattle.std.proofs.Common.{[], ◌∷◌, Ok, subst}
 use Rattle.std.specs.Prelude.{IfOk}
-use Rattle.snoop_machine.specs.Standing.{Standing}
-use Rattle.snoop_machine.specs.MachineView.{MachineKeeps}
-use Rattle.snoop_machine.specs.Once.{OnceMore}
-use Rattle.snoop_machine.proofs.Safety.{step_keeps, is_safe}
-use Rattle.snoop_machine.proofs.StepLaws.{step_once}
-use Rattle.snoop_machine.proofs.Stays.{step_stays, IsAlike}
-use Rattle.snoop_machine.proofs.Replied.{Hits, step_replies, step_hits}
+use Rattle.snoop_model.specs.Moves.Standing.{Standing}
+use Rattle.snoop_model.specs.Invariant.MachineKeeps.{MachineKeeps}
+use Rattle.snoop_model.specs.Runs.Once.{OnceMore}
+use Rattle.snoop_model.proofs.Invariant.Safety.{step_keeps, is_safe}
+use Rattle.snoop_model.proofs.Invariant.Steps.{step_once}
+use Rattle.snoop_model.proofs.Runs.Shape.{step_stays, IsAlike}
+use Rattle.snoop_model.proofs.Runs.Replies.{Hits, step_replies, step_hits}
 use Rattle.snoop_machine.proofs.machine.Machine.step.Goals as goal
 use Rattle.snoop_machine.proofs.machine.Machine.step.Goals.{After-step}
 

@@ -7,19 +7,19 @@ use Rattle.snoop_history.specs.declared.items.Did.{Did}
 use Rattle.snoop_history.specs.declared.items.Came.{Came}
 use Rattle.snoop_history.specs.declared.items.Item.TheVariants as item
 use Rattle.snoop_bus.specs.Traffic.{Traffic}
-use Rattle.snoop_machine.specs.declared.lines.Line.{Line}
-use Rattle.snoop_machine.specs.Picture.{Picture}
-use Rattle.snoop_machine.specs.Standing.{Standing}
-use Rattle.snoop_machine.specs.Situation.{Situation, picture_of, with_picture, no_memory}
-use Rattle.snoop_machine.specs.Sound.{IsSound, IsProper, line_at}
+use Rattle.snoop_model.specs.declared.line.Line.{Line}
+use Rattle.snoop_model.specs.Pictures.Picture.{Picture}
+use Rattle.snoop_model.specs.Moves.Standing.{Standing}
+use Rattle.snoop_model.specs.Pictures.Situation.{Situation, picture_of, with_picture, no_memory}
+use Rattle.snoop_model.specs.Pictures.Sound.{IsSound, IsProper, line_at}
 use Rattle.snoop_machine.specs.PartsView.{queues_of}
 use Rattle.snoop_machine.specs.Arrive.{FillsLine, ArrivesIn}
-use Rattle.snoop_machine.specs.Move.{Arrives, Responds, came_of, next_did}
-use Rattle.snoop_machine.proofs.Taking.{row_of}
-use Rattle.snoop_machine.proofs.Placed.{placed}
+use Rattle.snoop_model.specs.Moves.Move.{Arrives, Responds, came_of, next_did}
+use Rattle.snoop_model.proofs.Lines.EachRow.{row_of}
+use Rattle.snoop_model.proofs.Lines.OneLine.{placed}
 use Rattle.snoop_machine.proofs.Kept.{IsSound-line}
 use Rattle.snoop_machine.proofs.Queued.{IsSound-close}
-use Rattle.snoop_machine.proofs.Facts.{fill-waits, IsProper-fill}
+use Rattle.snoop_model.proofs.Tables.Rows.{fill-waits, IsProper-fill}
 use Rattle.snoop_machine.proofs.Responding.{Arrives-get, ArrivesAtMemory-in}
 use Rattle.snoop_machine.proofs.Heads.{same_situation}
 use Rattle.snoop_machine.proofs.parts.Parts.finish_get.Goals as goal

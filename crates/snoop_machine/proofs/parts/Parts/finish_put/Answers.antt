@@ -5,14 +5,14 @@ use Rattle.snoop_history.specs.Journal.{Journal}
 use Rattle.snoop_history.specs.declared.items.Came.{Came}
 use Rattle.snoop_history.specs.declared.items.Item.TheVariants as item
 use Rattle.snoop_bus.specs.Traffic.{Traffic}
-use Rattle.snoop_machine.specs.Picture.{Picture}
-use Rattle.snoop_machine.specs.Standing.{Standing}
-use Rattle.snoop_machine.specs.Situation.{Situation, picture_of, with_picture, no_memory}
-use Rattle.snoop_machine.specs.Sound.{IsSound}
+use Rattle.snoop_model.specs.Pictures.Picture.{Picture}
+use Rattle.snoop_model.specs.Moves.Standing.{Standing}
+use Rattle.snoop_model.specs.Pictures.Situation.{Situation, picture_of, with_picture, no_memory}
+use Rattle.snoop_model.specs.Pictures.Sound.{IsSound}
 use Rattle.snoop_machine.specs.PartsView.{queues_of}
 use Rattle.snoop_machine.specs.Arrive.{ArrivesIn}
-use Rattle.snoop_machine.specs.Move.{Responds, came_of}
-use Rattle.snoop_machine.proofs.Taking.{row_of}
+use Rattle.snoop_model.specs.Moves.Move.{Responds, came_of}
+use Rattle.snoop_model.proofs.Lines.EachRow.{row_of}
 use Rattle.snoop_machine.proofs.Queued.{IsSound-close}
 use Rattle.snoop_machine.proofs.Responding.{Arrives-put, ArrivesAtMemory-in}
 use Rattle.snoop_machine.proofs.Heads.{same_situation}

@@ -3,9 +3,9 @@ use Rattle.std.specs.Prelude.{IfSome, IfNone, slice_get}
 use Rattle.snoop_bus.specs.Queues.{queue_of}
 use Rattle.snoop_rules.specs.declared.names.Request.{Request}
 use Rattle.snoop_bus.specs.Traffic.{head_of}
-use Rattle.snoop_machine.specs.Standing.{Standing}
-use Rattle.snoop_machine.specs.Refuses.{WaitsOnNone}
-use Rattle.snoop_machine.specs.OrderMove.{IsHead}
+use Rattle.snoop_model.specs.Moves.Standing.{Standing}
+use Rattle.snoop_model.specs.Moves.Refuses.{WaitsOnNone}
+use Rattle.snoop_model.specs.Moves.OrderMove.{IsHead}
 use Rattle.snoop_machine.proofs.Heads.{line_from_head, waits_from_head, idle_from_head, within_from_waits, empty_from_head}
 use Rattle.snoop_machine.proofs.parts.Parts.head.Goals as goal
 use Rattle.snoop_machine.proofs.parts.Parts.head.Goals.{After-head}

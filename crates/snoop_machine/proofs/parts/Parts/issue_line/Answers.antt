@@ -6,13 +6,13 @@ use Rattle.snoop_rules.specs.declared.names.Request.{Request}
 use Rattle.snoop_bus.specs.Traffic.{Traffic, Waiting, waiting_of}
 use Rattle.snoop_machine.specs.declared.parts.Parts.TheInside.{Inside}
 use Rattle.snoop_bus.specs.Queues.{after_issue}
-use Rattle.snoop_machine.specs.declared.lines.Line.{Line}
-use Rattle.snoop_machine.specs.Standing.{Standing}
-use Rattle.snoop_machine.specs.Situation.{Situation}
-use Rattle.snoop_machine.specs.Sound.{IsSound, line_at}
+use Rattle.snoop_model.specs.declared.line.Line.{Line}
+use Rattle.snoop_model.specs.Moves.Standing.{Standing}
+use Rattle.snoop_model.specs.Pictures.Situation.{Situation}
+use Rattle.snoop_model.specs.Pictures.Sound.{IsSound, line_at}
 use Rattle.snoop_machine.proofs.Capacity.{held_in, held_in-set, keeps_room}
 use Rattle.snoop_machine.proofs.Kept.{IsSound-issue}
-use Rattle.snoop_machine.proofs.Placed.{placed}
+use Rattle.snoop_model.proofs.Lines.OneLine.{placed}
 use Rattle.snoop_machine.proofs.Queued.{queues_of-issue, same_traffic}
 use Rattle.snoop_machine.proofs.parts.Parts.issue_line.Goals as goal
 

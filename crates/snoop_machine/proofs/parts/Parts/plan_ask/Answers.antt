@@ -1,11 +1,11 @@
 use Rattle.std.proofs.Common.{subst}
 use Rattle.std.proofs.lemmas.Result.{err_from_is_err_and}
-use Rattle.snoop_machine.specs.declared.lines.Line.{Line}
+use Rattle.snoop_model.specs.declared.line.Line.{Line}
 use Rattle.snoop_machine.specs.declared.plan.Plan.TheVariants as plan
-use Rattle.snoop_machine.specs.Standing.{Standing}
-use Rattle.snoop_machine.specs.Sound.{IsProper, line_at}
+use Rattle.snoop_model.specs.Moves.Standing.{Standing}
+use Rattle.snoop_model.specs.Pictures.Sound.{IsProper, line_at}
 use Rattle.snoop_machine.specs.Asked.{TakesAsk, RefusesAsk}
-use Rattle.snoop_machine.specs.Meets.{LacksAtAsk}
+use Rattle.snoop_model.specs.Moves.Meets.{LacksAtAsk}
 use Rattle.snoop_machine.proofs.Rowed.{ask_possible}
 use Rattle.snoop_machine.proofs.Planned.{IsDenied-ask, plan-allowed}
 use Rattle.snoop_machine.proofs.parts.Parts.plan_ask.Goals as goal

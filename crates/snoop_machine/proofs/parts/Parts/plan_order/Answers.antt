@@ -7,15 +7,15 @@ use Rattle.snoop_rules.specs.Possible.{IsMemImpossible}
 use Rattle.snoop_rules.specs.Takers.{at_memory}
 use Rattle.snoop_bus.specs.declared.transactions.Open.{Open}
 use Rattle.snoop_bus.specs.Traffic.{transaction_on}
-use Rattle.snoop_machine.specs.declared.memory.MemLine.{MemLine}
-use Rattle.snoop_machine.specs.Picture.{Picture}
-use Rattle.snoop_machine.specs.Standing.{Standing}
-use Rattle.snoop_machine.specs.Situation.{picture_of, no_memory}
-use Rattle.snoop_machine.specs.Meets.{FindsRows}
-use Rattle.snoop_machine.specs.Message.{free_picture, IsMessage}
-use Rattle.snoop_machine.specs.OrderMove.{TakesMemRow}
-use Rattle.snoop_machine.proofs.Taking.{row_of}
-use Rattle.snoop_machine.proofs.Clauses.{finds_rows}
+use Rattle.snoop_model.specs.declared.memory.MemLine.{MemLine}
+use Rattle.snoop_model.specs.Pictures.Picture.{Picture}
+use Rattle.snoop_model.specs.Moves.Standing.{Standing}
+use Rattle.snoop_model.specs.Pictures.Situation.{picture_of, no_memory}
+use Rattle.snoop_model.specs.Moves.Meets.{FindsRows}
+use Rattle.snoop_model.specs.Pictures.Message.{free_picture, IsMessage}
+use Rattle.snoop_model.specs.Moves.OrderMove.{TakesMemRow}
+use Rattle.snoop_model.proofs.Lines.EachRow.{row_of}
+use Rattle.snoop_model.proofs.Invariant.Coherence.{finds_rows}
 use Rattle.snoop_machine.proofs.parts.Parts.plan_order.Goals as goal
 use Rattle.snoop_machine.proofs.parts.Parts.plan_order.Goals.{In-Some-mem_cell}
 

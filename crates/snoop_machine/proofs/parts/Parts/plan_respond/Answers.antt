@@ -2,12 +2,12 @@ use Rattle.std.proofs.Common.{◌≡◌, ◌≢◌, ◌<◌, true, false, sym, �
 use Rattle.std.specs.Prelude.{slice_index_or}
 use Rattle.std.proofs.lemmas.List.{get_or_read}
 use Rattle.snoop_rules.specs.declared.names.Request.TheVariants.{PutM}
-use Rattle.snoop_machine.specs.declared.lines.Line.{Line}
-use Rattle.snoop_machine.specs.declared.memory.MemLine.{MemLine}
-use Rattle.snoop_machine.specs.Standing.{Standing}
-use Rattle.snoop_machine.specs.Situation.{picture_of, no_memory}
-use Rattle.snoop_machine.specs.Sound.{line_at}
-use Rattle.snoop_machine.specs.Meets.{LacksAtArrival, LacksAtMemory}
+use Rattle.snoop_model.specs.declared.line.Line.{Line}
+use Rattle.snoop_model.specs.declared.memory.MemLine.{MemLine}
+use Rattle.snoop_model.specs.Moves.Standing.{Standing}
+use Rattle.snoop_model.specs.Pictures.Situation.{picture_of, no_memory}
+use Rattle.snoop_model.specs.Pictures.Sound.{line_at}
+use Rattle.snoop_model.specs.Moves.Meets.{LacksAtArrival, LacksAtMemory}
 use Rattle.snoop_machine.proofs.Rowed.{arrival_possible, fill_possible}
 use Rattle.snoop_machine.proofs.parts.Parts.plan_respond.Goals as goal
 use Rattle.snoop_machine.proofs.parts.Parts.plan_respond.Goals.{in-PutM, in_default-matches}

@@ -2,8 +2,8 @@ use Rattle.std.proofs.Common.{◌≡◌, ◌<◌, ◌≤◌, ℕ, List, sym, ap,
 use Rattle.std.specs.Prelude.{slice_set}
 use Rattle.snoop_bus.specs.Traffic.{Traffic, Waiting, waiting_of}
 use Rattle.snoop_machine.specs.declared.parts.Parts.TheInside.{Inside}
-use Rattle.snoop_machine.specs.Standing.{Standing}
-use Rattle.snoop_machine.specs.Sound.{IsSound}
+use Rattle.snoop_model.specs.Moves.Standing.{Standing}
+use Rattle.snoop_model.specs.Pictures.Sound.{IsSound}
 use Rattle.snoop_machine.proofs.Capacity.{held_in, held_in-set, keeps_room}
 use Rattle.snoop_machine.proofs.Queued.{queues_of-room, same_traffic, IsSound-room}
 use Rattle.snoop_machine.proofs.parts.Parts.reserve_request.Goals as goal

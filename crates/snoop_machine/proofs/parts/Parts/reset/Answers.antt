@@ -1,11 +1,11 @@
-use Rattle.snoop_machine.specs.Picture.{first_memory}
-use Rattle.snoop_machine.specs.declared.memory.MemLine.{MemLine}
+use Rattle.snoop_model.specs.Pictures.Picture.{first_memory}
+use Rattle.snoop_model.specs.declared.memory.MemLine.{MemLine}
 use Rattle.snoop_rules.specs.declared.names.MemState.{MemState}
-use Rattle.snoop_machine.specs.Situation.{reset}
+use Rattle.snoop_model.specs.Pictures.Situation.{reset}
 use Rattle.std.proofs.Common.{rules, arith, ◌≡◌, ℕ, List, [], replicate, refl, sym, ap, subst, ◌∙◌}
 use Rattle.snoop_history.specs.Journal.{Journal}
-use Rattle.snoop_machine.specs.declared.lines.Line.{Line}
-use Rattle.snoop_machine.specs.Sound.{IsSound}
+use Rattle.snoop_model.specs.declared.line.Line.{Line}
+use Rattle.snoop_model.specs.Pictures.Sound.{IsSound}
 use Rattle.snoop_machine.proofs.Reset.{IsSound-reset, queues_of-reset}
 use Rattle.snoop_machine.proofs.Heads.{same_situation}
 use Rattle.snoop_machine.proofs.parts.Parts.reset.Goals as goal

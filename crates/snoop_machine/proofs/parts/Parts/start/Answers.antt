@@ -9,19 +9,19 @@ use Rattle.snoop_bus.specs.declared.transactions.Open.{Open}
 use Rattle.snoop_machine.specs.declared.parts.Parts.TheInside.{Inside}
 use Rattle.snoop_bus.specs.Traffic.{Traffic, Waiting, waiting_of, head_of, transaction_on, Starts}
 use Rattle.snoop_bus.specs.Queues.{after_order}
-use Rattle.snoop_machine.specs.declared.memory.MemLine.{MemLine}
-use Rattle.snoop_machine.specs.Picture.{Picture, held_by}
-use Rattle.snoop_machine.specs.Standing.{Standing}
-use Rattle.snoop_machine.specs.Situation.{Situation, picture_of, no_memory, Waits}
-use Rattle.snoop_machine.specs.Sends.{value_sent}
-use Rattle.snoop_machine.specs.Sound.{IsSound}
+use Rattle.snoop_model.specs.declared.memory.MemLine.{MemLine}
+use Rattle.snoop_model.specs.Pictures.Picture.{Picture, held_by}
+use Rattle.snoop_model.specs.Moves.Standing.{Standing}
+use Rattle.snoop_model.specs.Pictures.Situation.{Situation, picture_of, no_memory, Waits}
+use Rattle.snoop_model.specs.Pictures.Sends.{value_sent}
+use Rattle.snoop_model.specs.Pictures.Sound.{IsSound}
 use Rattle.snoop_machine.specs.PartsView.{queues_of}
 use Rattle.std.specs.Vec.{with_item}
-use Rattle.snoop_machine.specs.Move.{Orders}
-use Rattle.snoop_machine.specs.Message.{HasRow, IsMessage}
-use Rattle.snoop_machine.specs.OrderMove.{IsHead, TakesMemRow}
+use Rattle.snoop_model.specs.Moves.Move.{Orders}
+use Rattle.snoop_model.specs.Pictures.Message.{HasRow, IsMessage}
+use Rattle.snoop_model.specs.Moves.OrderMove.{IsHead, TakesMemRow}
 use Rattle.snoop_machine.proofs.Capacity.{held_in, held_in-set, keeps_room}
-use Rattle.snoop_machine.proofs.Taking.{row_of}
+use Rattle.snoop_model.proofs.Lines.EachRow.{row_of}
 use Rattle.snoop_machine.proofs.Heads.{head_from_line, same_situation}
 use Rattle.snoop_machine.proofs.Ordered.{IsSound-order, blocks_of-rest}
 use Rattle.snoop_machine.proofs.Queued.{queues_of-set, queue_of-queues_of, same_traffic}

@@ -1,10 +1,10 @@
 use Rattle.std.proofs.Common.{refl, subst}
 use Rattle.std.proofs.lemmas.Result.{err_from_is_err_and}
 use Rattle.snoop_trace.specs.declared.step.Step.{Step}
-use Rattle.snoop_machine.specs.Situation.{Situation}
-use Rattle.snoop_machine.specs.Move.{FirstMove}
+use Rattle.snoop_model.specs.Pictures.Situation.{Situation}
+use Rattle.snoop_model.specs.Moves.Move.{FirstMove}
 use Rattle.snoop_machine.specs.Plan.{step_of, entry_of}
-use Rattle.snoop_machine.proofs.Prepared.{prepared-log}
+use Rattle.snoop_model.proofs.Runs.Prepared.{prepared-log}
 use Rattle.snoop_machine.proofs.Planned.{RefusedFor-memory}
 use Rattle.snoop_machine.proofs.parts.Parts.step.Goals as goal
 

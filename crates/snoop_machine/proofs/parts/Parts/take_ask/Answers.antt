@@ -2,10 +2,10 @@ use Rattle.std.proofs.Common.{◌∙◌, sym, ap, subst}
 use Rattle.snoop_rules.specs.Takers.{asked}
 use Rattle.snoop_rules.specs.Waits.{waiting_request}
 use Rattle.snoop_machine.specs.declared.ask.Asked.{Asked}
-use Rattle.snoop_machine.specs.declared.lines.Line.{Line}
-use Rattle.snoop_machine.specs.Sound.{IsProper, line_at}
+use Rattle.snoop_model.specs.declared.line.Line.{Line}
+use Rattle.snoop_model.specs.Pictures.Sound.{IsProper, line_at}
 use Rattle.snoop_machine.specs.Asked.{TakesAsk, HitsLine}
-use Rattle.snoop_machine.proofs.Facts.{issue-waits, drop-waits, IsProper-issue, IsProper-hit, IsProper-drop}
+use Rattle.snoop_model.proofs.Tables.Rows.{issue-waits, drop-waits, IsProper-issue, IsProper-hit, IsProper-drop}
 use Rattle.snoop_machine.proofs.parts.Parts.take_ask.Goals as goal
 
 pub hit_line-requires-clause-proper : goal.hit_line-requires-clause-proper

@@ -2,7 +2,7 @@ use Rattle.std.proofs.Common.{◌≡◌, ◌<◌, Option, None, List, [], sym, s
 use Rattle.std.specs.Prelude.{Contains, IfNone, IfSome, slice_set}
 use Rattle.std.proofs.lemmas.List.{get_or_default, get_or-set_same}
 use Rattle.snoop_trace.specs.declared.step.Step.{Step}
-use Rattle.snoop_machine.proofs.TurnLaws.{turn_rule}
+use Rattle.snoop_model.proofs.Turns.Laws.{turn_rule}
 use Rattle.snoop_sim.specs.Todo.{Todo, todo_of, nothing_to_do}
 use Rattle.snoop_sim.specs.Round.{Progress, IsOver, IsIdle, TakesUp}
 use Rattle.snoop_sim.proofs.Driving.{first_in, fit_begins, fit_idles, goes_begun, takes_first}

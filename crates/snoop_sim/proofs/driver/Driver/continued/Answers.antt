@@ -1,7 +1,7 @@
 use Rattle.std.proofs.Common.{◌≡◌, ◌<◌, Some, sym, subst, ap, ◌∙◌, arith}
 use Rattle.std.proofs.lemmas.List.{get_or_default}
 use Rattle.std.specs.Prelude.{IfSome, IfNone}
-use Rattle.snoop_machine.proofs.TurnLaws.{turn_rule}
+use Rattle.snoop_model.proofs.Turns.Laws.{turn_rule}
 use Rattle.snoop_sim.specs.Todo.{Todo, todo_of, nothing_to_do}
 use Rattle.snoop_sim.specs.Round.{Progress, IsEnabled, IsOver}
 use Rattle.snoop_sim.proofs.Driving.{goes_on, over_now}

@@ -1,6 +1,6 @@
 use Rattle.std.proofs.Common.{List, ℕ, sym, subst}
-use Rattle.snoop_machine.proofs.TurnLaws.{turn_rule}
-use Rattle.snoop_machine.specs.Situation.{Situation}
+use Rattle.snoop_model.proofs.Turns.Laws.{turn_rule}
+use Rattle.snoop_model.specs.Pictures.Situation.{Situation}
 use Rattle.snoop_sim.specs.Round.{IsFit}
 use Rattle.snoop_sim.proofs.Dealing.{fit_new}
 use Rattle.snoop_sim.proofs.driver.Driver.new.Goals as goal

@@ -2,11 +2,11 @@ use Rattle.std.proofs.Common.{Option, Result, sym, subst, ap}
 use Rattle.std.specs.Prelude.{IfOk}
 use Rattle.snoop_trace.specs.declared.fault.NoMemory.{NoMemory}
 use Rattle.snoop_history.specs.declared.items.Item.{Item}
-use Rattle.snoop_machine.specs.declared.replies.Reply.{Reply}
-use Rattle.snoop_machine.specs.Move.{FirstMove}
-use Rattle.snoop_machine.specs.Situation.{Situation}
-use Rattle.snoop_machine.specs.Serving.{IsUnderWay}
-use Rattle.snoop_machine.proofs.TurnLaws.{turn_rule}
+use Rattle.snoop_model.specs.declared.replies.Reply.{Reply}
+use Rattle.snoop_model.specs.Moves.Move.{FirstMove}
+use Rattle.snoop_model.specs.Pictures.Situation.{Situation}
+use Rattle.snoop_model.specs.Turns.Serving.{IsUnderWay}
+use Rattle.snoop_model.proofs.Turns.Laws.{turn_rule}
 use Rattle.snoop_sim.specs.Todo.{under_way}
 use Rattle.snoop_sim.specs.Round.{Progress, IsFit}
 use Rattle.snoop_sim.proofs.Driving.{fit_moves}

@@ -1,8 +1,8 @@
 use Rattle.std.proofs.Common.{◌≡◌, ℕ, [], arith, subst}
 use Rattle.std.proofs.lemmas.Grind.{common_steps}
 use Rattle.std.specs.Prelude.{IfNone, slice_get}
-use Rattle.snoop_machine.specs.Quiet.{IsQuiet}
-use Rattle.snoop_machine.proofs.TurnLaws.{turn_rule}
+use Rattle.snoop_model.specs.Turns.Quiet.{IsQuiet}
+use Rattle.snoop_model.proofs.Turns.Laws.{turn_rule}
 use Rattle.snoop_sim.specs.Todo.{todo_of}
 use Rattle.snoop_sim.specs.Round.{Progress}
 use Rattle.snoop_sim.proofs.Rounds.{all_done}

@@ -1,0 +1,7 @@
+-- The invariant of the machine, and what follows from it.
+pub mod FlatMemory
+pub mod Moves
+pub mod Runs
+pub mod Coherence
+pub mod Safety
+pub mod Steps

@@ -1,0 +1,207 @@
+-- A move keeps the invariant of the machine.
+use Rattle.std.proofs.Common.{◌≡◌, ◌≢◌, ℕ, ◌<◌, true, false, eqb, List, ◌++◌, length, Option, Some, None, refl, inl, inr, ap, sym, ◌∙◌, subst, cond}
+use Rattle.std.specs.Prelude.{option_to_list, slice_set}
+use Rattle.std.proofs.lemmas.Bool.Decides.{eqb_tells}
+use Rattle.std.proofs.lemmas.List.{length-set}
+use Rattle.snoop_trace.specs.declared.step.Op.{Op}
+use Rattle.snoop_trace.specs.declared.step.Step.{Step}
+use Rattle.snoop_trace.specs.declared.step.Step.TheVariants.{Ask, Order, Respond}
+use Rattle.snoop_rules.specs.declared.names.CacheState.{CacheState}
+use Rattle.snoop_rules.specs.declared.names.CacheAction.{CacheAction}
+use Rattle.snoop_rules.specs.declared.names.CacheAction.TheVariants as action
+use Rattle.snoop_rules.specs.declared.names.Protocol.{Protocol}
+use Rattle.snoop_rules.specs.declared.names.Request.{Request}
+use Rattle.snoop_rules.specs.declared.names.Request.TheVariants as request
+use Rattle.snoop_history.specs.declared.items.Did.{Did}
+use Rattle.snoop_history.specs.declared.items.Item.{Item}
+use Rattle.snoop_history.specs.declared.items.Item.TheVariants as item
+use Rattle.snoop_history.specs.History.{flat}
+use Rattle.snoop_bus.specs.Queues.{after_order}
+use Rattle.snoop_bus.specs.declared.transactions.Open.{Open}
+use Rattle.snoop_model.specs.declared.replies.Reply.{Reply}
+use Rattle.snoop_model.specs.declared.line.Line.{Line}
+use Rattle.snoop_model.specs.declared.memory.MemLine.{MemLine}
+use Rattle.snoop_model.specs.Pictures.Picture.{Picture, held_by}
+use Rattle.snoop_model.specs.Pictures.Situation.{Situation, picture_of, with_picture}
+use Rattle.snoop_model.specs.Moves.Move.{Takes, Fills, ArrivesFor, Asks, Orders, Responds, IsWithin, MoveOn, queues_after, came_of}
+use Rattle.snoop_model.specs.Invariant.Good.{Good}
+use Rattle.snoop_model.specs.Invariant.Coherent.{IsCoherent}
+use Rattle.snoop_model.proofs.OneBlock.Steps as one
+use Rattle.snoop_model.proofs.OneBlock.Steps.{IsLawful, flat_after}
+use Rattle.snoop_model.proofs.OneBlock.Moves.{made_of, did_in, asks_one, orders_one, responds_one}
+use Rattle.snoop_model.proofs.OneBlock.OfBlocks.{asked_picture, asked_other, next_picture, next_other}
+use Rattle.snoop_model.proofs.Invariant.FlatMemory.{IsOn, FollowsIn, flat_logged, legal_logged, next_lawful}
+use Rattle.snoop_model.proofs.OneBlock.AskStep.{ask_keeps}
+use Rattle.snoop_model.proofs.OneBlock.OrderStep.{order_keeps}
+use Rattle.snoop_model.proofs.OneBlock.RespondStep.{respond_keeps}
+
+-- one block changes, and these lists with it
+abbrev changed : Situation → List (List Line) → List MemLine → List (Option Open) → List (List ℕ) → Option Item → Situation
+changed old caches memory transactions queues entry = record old { caches = caches; memory = memory; transactions = transactions; queues = queues; log = old.log ++ option_to_list entry }
+
+-- what is to be shown of a move
+pub record Keeps (old : Situation) (block : ℕ) (caches : List (List Line)) (memory : List MemLine) (transactions : List (Option Open)) (queues : List (List ℕ)) (entry : Option Item) : Type 0 where
+  pub as_many_rows : length caches ≡ length old.caches
+  pub as_much_memory : length memory ≡ length old.memory
+  pub as_many_transactions : length transactions ≡ length old.transactions
+  pub others : (b : ℕ) → b ≢ block → picture_of (changed old caches memory transactions queues entry) b ≡ picture_of old b
+  pub row : length (picture_of (changed old caches memory transactions queues entry) block).caches ≡ old.shape.cores
+  pub opened : (o : Open) → (picture_of (changed old caches memory transactions queues entry) block).transaction ≡ Some o → o.block ≡ block
+  pub on : IsOn block (did_in entry)
+  pub good : Good old.protocol old.shape.cores (flat_after (flat old.log block) (made_of (did_in entry))) (picture_of (changed old caches memory transactions queues entry) block)
+  pub follows : FollowsIn old.log entry
+
+kept : (old : Situation) (block : ℕ) (caches : List (List Line)) (memory : List MemLine) (transactions : List (Option Open)) (queues : List (List ℕ)) (entry : Option Item) → IsCoherent old → Keeps old block caches memory transactions queues entry → IsCoherent (changed old caches memory transactions queues entry)
+kept old block caches memory transactions queues entry g k =
+    let new : Situation = changed old caches memory transactions queues entry in
+    record {
+      rows = k.as_many_rows ∙ g.rows;
+      memory = k.as_much_memory ∙ g.memory;
+      transactions = k.as_many_transactions ∙ g.transactions;
+      row = λ b b_in. elim (eqb_tells b block) as (λ _. length (picture_of new b).caches ≡ old.shape.cores) [
+        | inl h ↦ subst (λ (x : ℕ). length (picture_of new x).caches ≡ old.shape.cores) (sym h.1) k.row
+        | inr h ↦ ap (λ (x : Picture). length x.caches) (k.others b h.1) ∙ g.row b b_in
+      ];
+      opened = λ b o is_open. elim (eqb_tells b block) as (λ _. o.block ≡ b) [
+        | inl h ↦ k.opened o (subst (λ (x : ℕ). (picture_of new x).transaction ≡ Some o) h.1 is_open) ∙ sym h.1
+        | inr h ↦ g.opened b o (ap (λ (x : Picture). x.transaction) (sym (k.others b h.1)) ∙ is_open)
+      ];
+      good = λ b b_in.
+          let v : flat new.log b ≡ cond (eqb block b) (flat_after (flat old.log b) (made_of (did_in entry))) (flat old.log b) = flat_logged old.log entry block b k.on in
+          subst (λ (x : ℕ). Good old.protocol old.shape.cores x (picture_of new b)) (sym v) (elim (eqb_tells block b) as (λ _. Good old.protocol old.shape.cores (cond (eqb block b) (flat_after (flat old.log b) (made_of (did_in entry))) (flat old.log b)) (picture_of new b)) [
+            | inl h ↦ rw h.0 (subst (λ (x : ℕ). Good old.protocol old.shape.cores (flat_after (flat old.log x) (made_of (did_in entry))) (picture_of new x)) h.1 k.good)
+            | inr h ↦ rw h.0 (subst (λ (x : Picture). Good old.protocol old.shape.cores (flat old.log b) x) (sym (k.others b (λ e. h.1 (sym e)))) (g.good b b_in))
+          ]);
+      legal = legal_logged old.log entry g.legal k.follows;
+    }
+
+-- what an Ask logs
+takes_on : (a : CacheAction) (next : CacheState) (log : List Item) (core block : ℕ) (asking : Op) (old new : Line) (answer : Reply) (entry : Option Item) → Takes a next log core block asking old new answer entry → IsOn block (did_in entry)
+takes_on action.Hit next log core block asking old new answer entry t = subst (λ (x : Option Item). IsOn block (did_in x)) (sym t.logged) refl
+takes_on (action.Issue r) next log core block asking old new answer entry t = subst (λ (x : Option Item). IsOn block (did_in x)) (sym t.2) tt
+takes_on action.Drop next log core block asking old new answer entry t = subst (λ (x : Option Item). IsOn block (did_in x)) (sym t.2) tt
+takes_on _ next log core block asking old new answer entry t = absurd t
+
+takes_follows : (a : CacheAction) (next : CacheState) (log : List Item) (core block : ℕ) (asking : Op) (old new : Line) (answer : Reply) (entry : Option Item) → Takes a next log core block asking old new answer entry → IsLawful (flat log block) (made_of (did_in entry)) → FollowsIn log entry
+takes_follows action.Hit next log core block asking old new answer entry t lawful =
+    subst (FollowsIn log) (sym t.logged) (next_lawful log core block asking t.value true (subst (λ (x : Option Item). IsLawful (flat log block) (made_of (did_in x))) t.logged lawful))
+takes_follows (action.Issue r) next log core block asking old new answer entry t lawful = subst (FollowsIn log) (sym t.2) tt
+takes_follows action.Drop next log core block asking old new answer entry t lawful = subst (FollowsIn log) (sym t.2) tt
+takes_follows _ next log core block asking old new answer entry t lawful = absurd t
+
+pub ask_moves : (old : Situation) (core block : ℕ) (asking : Op) (answer : Reply) (new : Situation) (entry : Option Item) → IsCoherent old → IsWithin old core block → Asks old core block asking answer new entry → IsCoherent new
+ask_moves old core block asking answer new entry g within a =
+    let before : Picture = picture_of old block in
+    let cores : length before.caches ≡ old.shape.cores = g.row block within.1 in
+    let after : Picture = record before { caches = slice_set before.caches core a.held } in
+    let in_caches : block < length old.caches = subst (λ (n : ℕ). block < n) (sym g.rows) within.1 in
+    let in_row : core < length before.caches = subst (λ (n : ℕ). core < n) (sym cores) within.0 in
+    let asks = asks_one old.protocol before core asking a.act a.next a.held old.log block answer entry in_row a.row a.taken in
+    let k = ask_keeps old.protocol old.shape.cores (flat old.log block) before core asking after (made_of (did_in entry)) (g.good block within.1) (subst (λ (n : ℕ). one.Asks old.protocol n before core asking after (made_of (did_in entry))) cores asks) in
+    let caches = slice_set old.caches block after.caches in
+    let queues = queues_after a.act old.queues core block in
+    let log = old.log ++ option_to_list entry in
+    let here : picture_of (changed old caches old.memory old.transactions queues entry) block ≡ after = asked_picture old block after.caches queues log in_caches in
+    let whole : Keeps old block caches old.memory old.transactions queues entry = record {
+      as_many_rows = length-set old.caches block after.caches;
+      as_much_memory = refl;
+      as_many_transactions = refl;
+      others = λ b apart. asked_other old block b after.caches queues log apart;
+      row = ap (λ (x : Picture). length x.caches) here ∙ (length-set before.caches core a.held ∙ cores);
+      opened = λ o is_open. g.opened block o is_open;
+      on = takes_on a.act a.next old.log core block asking (held_by before core) a.held answer entry a.taken;
+      good = subst (λ (x : Picture). Good old.protocol old.shape.cores (flat_after (flat old.log block) (made_of (did_in entry))) x) (sym here) k.0;
+      follows = takes_follows a.act a.next old.log core block asking (held_by before core) a.held answer entry a.taken k.1;
+    } in
+    subst IsCoherent (sym a.after) (kept old block caches old.memory old.transactions queues entry g whole)
+
+pub order_moves : (old : Situation) (core block : ℕ) (q : Request) (new : Situation) → IsCoherent old → IsWithin old core block → Orders old core block q new → IsCoherent new
+order_moves old core block q new g within o =
+    let before : Picture = picture_of old block in
+    let cores : length before.caches ≡ old.shape.cores = g.row block within.1 in
+    let in_row : core < length before.caches = subst (λ (n : ℕ). core < n) (sym cores) within.0 in
+    let at : (n : ℕ) → n ≡ old.shape.blocks → block < n = λ n e. subst (λ (x : ℕ). block < x) (sym e) within.1 in
+    let orders = subst (λ (n : ℕ). one.Orders old.protocol n before core q o.next) cores (orders_one old core block q new o in_row) in
+    let k = order_keeps old.protocol old.shape.cores (flat old.log block) before core q o.next (g.good block within.1) orders in
+    let w = with_picture old block o.next in
+    let entry : Option Item = Some (item.Sent (record { core = core; request = q; block = block })) in
+    let queues = after_order old.queues core block in
+    let log = old.log ++ option_to_list entry in
+    let here : picture_of (changed old w.caches w.memory w.transactions queues entry) block ≡ o.next = next_picture old block o.next queues log (at (length old.caches) g.rows) (at (length old.memory) g.memory) (at (length old.transactions) g.transactions) in
+    let whole : Keeps old block w.caches w.memory w.transactions queues entry = record {
+      as_many_rows = length-set old.caches block o.next.caches;
+      as_much_memory = length-set old.memory block (record { state = o.next.memory; value = o.next.value });
+      as_many_transactions = length-set old.transactions block o.next.transaction;
+      others = λ b apart. next_other old block b o.next queues log apart;
+      row = ap (λ (x : Picture). length x.caches) here ∙ (o.caches ∙ cores);
+      opened = λ t is_open. opened_block o.next.transaction _ t o.opened (ap (λ (x : Picture). x.transaction) (sym here) ∙ is_open);
+      on = tt;
+      good = subst (λ (x : Picture). Good old.protocol old.shape.cores (flat old.log block) x) (sym here) k;
+      follows = tt;
+    } in
+    subst IsCoherent (sym o.after) (kept old block w.caches w.memory w.transactions queues entry g whole)
+  where
+    opened_block : (found : Option Open) (t u : Open) → found ≡ Some t → found ≡ Some u → u.block ≡ t.block
+    opened_block found t u e f = let same : t ≡ u = cc in ap (λ (x : Open). x.block) (sym same)
+
+-- what a Respond leaves and logs
+arrives_length : (q : Request) (closing : Open) (p : Protocol) (log : List Item) (old new : List Line) (did : Option Did) → ArrivesFor q closing p log old new did → length new ≡ length old
+arrives_length request.PutM closing p log old new did a = ap length a.0
+arrives_length request.GetS closing p log old new did a = ap length a.held ∙ length-set old closing.core (record { state = a.next; kept = Some a.after; waiting = None })
+arrives_length request.GetM closing p log old new did a = ap length a.held ∙ length-set old closing.core (record { state = a.next; kept = Some a.after; waiting = None })
+
+fills_on : (block : ℕ) (closing : Open) (p : Protocol) (log : List Item) (old new : List Line) (did : Option Did) → closing.block ≡ block → Fills closing p log old new did → IsOn block did
+fills_on block closing p log old new did placed f = subst (IsOn block) (sym f.logged) placed
+
+arrives_on : (q : Request) (block : ℕ) (closing : Open) (p : Protocol) (log : List Item) (old new : List Line) (did : Option Did) → closing.block ≡ block → ArrivesFor q closing p log old new did → IsOn block did
+arrives_on request.PutM block closing p log old new did placed a = subst (IsOn block) (sym a.1) tt
+arrives_on request.GetS block closing p log old new did placed a = fills_on block closing p log old new did placed a
+arrives_on request.GetM block closing p log old new did placed a = fills_on block closing p log old new did placed a
+
+fills_follow : (block : ℕ) (closing : Open) (p : Protocol) (log : List Item) (old new : List Line) (did : Option Did) → closing.block ≡ block → Fills closing p log old new did → IsLawful (flat log block) (made_of did) → FollowsIn log (Some (item.Came (came_of closing) did))
+fills_follow block closing p log old new did placed f lawful =
+    let here : IsLawful (flat log closing.block) (made_of did) = subst (λ (b : ℕ). IsLawful (flat log b) (made_of did)) (sym placed) lawful in
+    subst (λ (x : Option Did). FollowsIn log (Some (item.Came (came_of closing) x))) (sym f.logged) (next_lawful log closing.core closing.block f.asking f.value false (subst (λ (x : Option Did). IsLawful (flat log closing.block) (made_of x)) f.logged here))
+
+arrives_follow : (q : Request) (block : ℕ) (closing : Open) (p : Protocol) (log : List Item) (old new : List Line) (did : Option Did) → closing.block ≡ block → ArrivesFor q closing p log old new did → IsLawful (flat log block) (made_of did) → FollowsIn log (Some (item.Came (came_of closing) did))
+arrives_follow request.PutM block closing p log old new did placed a lawful = subst (λ (x : Option Did). FollowsIn log (Some (item.Came (came_of closing) x))) (sym a.1) tt
+arrives_follow request.GetS block closing p log old new did placed a lawful = fills_follow block closing p log old new did placed a lawful
+arrives_follow request.GetM block closing p log old new did placed a lawful = fills_follow block closing p log old new did placed a lawful
+
+pub respond_moves : (old : Situation) (block : ℕ) (closing : Open) (did : Option Did) (new : Situation) → IsCoherent old → block < old.shape.blocks → Responds old block closing did new → IsCoherent new
+respond_moves old block closing did new g within r =
+    let before : Picture = picture_of old block in
+    let cores : length before.caches ≡ old.shape.cores = g.row block within in
+    let placed : closing.block ≡ block = g.opened block closing r.opened in
+    let in_row : closing.core < length before.caches = subst (λ (n : ℕ). closing.core < n) (sym cores) ((g.good block within).requestor_in closing r.opened) in
+    let at : (n : ℕ) → n ≡ old.shape.blocks → block < n = λ n e. subst (λ (x : ℕ). block < x) (sym e) within in
+    let responds = subst (λ (n : ℕ). one.Responds old.protocol n before r.next (made_of did)) cores (responds_one old block closing did new r in_row) in
+    let k = respond_keeps old.protocol old.shape.cores (flat old.log block) before r.next (made_of did) (g.good block within) responds in
+    let w = with_picture old block r.next in
+    let entry : Option Item = Some (item.Came (came_of closing) did) in
+    let log = old.log ++ option_to_list entry in
+    let here : picture_of (changed old w.caches w.memory w.transactions old.queues entry) block ≡ r.next = next_picture old block r.next old.queues log (at (length old.caches) g.rows) (at (length old.memory) g.memory) (at (length old.transactions) g.transactions) in
+    let whole : Keeps old block w.caches w.memory w.transactions old.queues entry = record {
+      as_many_rows = length-set old.caches block r.next.caches;
+      as_much_memory = length-set old.memory block (record { state = r.next.memory; value = r.next.value });
+      as_many_transactions = length-set old.transactions block r.next.transaction;
+      others = λ b apart. next_other old block b r.next old.queues log apart;
+      row = ap (λ (x : Picture). length x.caches) here ∙ (arrives_length closing.request closing old.protocol old.log before.caches r.next.caches did r.requestor ∙ cores);
+      opened = λ t is_open. absurd (none_open r.next.transaction t r.closed (ap (λ (x : Picture). x.transaction) (sym here) ∙ is_open));
+      on = arrives_on closing.request block closing old.protocol old.log before.caches r.next.caches did placed r.requestor;
+      good = subst (λ (x : Picture). Good old.protocol old.shape.cores (flat_after (flat old.log block) (made_of did)) x) (sym here) k.0;
+      follows = arrives_follow closing.request block closing old.protocol old.log before.caches r.next.caches did placed r.requestor k.1;
+    } in
+    subst IsCoherent (sym r.after) (kept old block w.caches w.memory w.transactions old.queues entry g whole)
+  where
+    none_open : (found : Option Open) (t : Open) → found ≡ None → found ≡ Some t → ⊥
+    none_open found t e f = cc
+
+-- a move keeps the invariant
+pub move_keeps : (block : ℕ) (old : Situation) (step : Step) (answer : Reply) (new : Situation) (entry : Option Item) → IsCoherent old → MoveOn block old step answer new entry → IsCoherent new
+move_keeps block old (Ask core on asking) answer new entry g m = elim m.2 as (λ _. IsCoherent new) [
+  | inl idle ↦ subst IsCoherent (sym idle.3) g
+  | inr a ↦ ask_moves old core block asking answer new entry g m.1 a
+]
+move_keeps block old (Order core) answer new entry g m = order_moves old core block m.0 new g m.1.0 m.1.3
+move_keeps block old (Respond on) answer new entry g m = respond_moves old block m.0 m.1.0 new g m.1.1.1 m.1.1.4

@@ -1,0 +1,127 @@
+-- The invariant holds at reset, and after each step of a run.
+use Rattle.std.proofs.Common.{◌≡◌, ℕ, ◌<◌, List, [], ◌∷◌, length, replicate, true, false, Option, None, refl, inl, inr, ap, sym, ◌∙◌, subst, arith, get_or}
+use Rattle.std.specs.Prelude.{Result, Ok, Err}
+use Rattle.std.proofs.lemmas.Bool.{cases_lt}
+use Rattle.std.proofs.lemmas.List.{length-replicate, get_or-replicate, get_or_past}
+use Rattle.snoop_trace.specs.Extent.{Extent}
+use Rattle.snoop_trace.specs.declared.step.Step.{Step}
+use Rattle.snoop_trace.specs.declared.step.Step.TheVariants.{Ask, Order, Respond}
+use Rattle.snoop_rules.specs.declared.names.Protocol.{Protocol}
+use Rattle.snoop_rules.specs.declared.names.Protocol.TheVariants as protocol
+use Rattle.snoop_history.specs.declared.items.Item.{Item}
+use Rattle.snoop_bus.specs.declared.transactions.Open.{Open}
+use Rattle.snoop_model.specs.declared.line.Line.{Line}
+use Rattle.snoop_model.specs.declared.replies.Reply.{Reply}
+use Rattle.snoop_model.specs.declared.replies.Refused.{Refused}
+use Rattle.snoop_model.specs.declared.replies.Refused.TheVariants.{NoMemory}
+use Rattle.snoop_model.specs.Pictures.Picture.{Picture, held_at, held_by, nothing_held, first_memory}
+use Rattle.snoop_model.specs.Pictures.Situation.{Situation, picture_of, reset, no_memory}
+use Rattle.snoop_model.specs.Pictures.Sound.{IsProper}
+use Rattle.snoop_model.specs.Moves.Move.{MoveOn}
+use Rattle.snoop_model.specs.Runs.Run.{IsRefusal, Goes, RunFrom}
+use Rattle.snoop_model.specs.Invariant.Fits.{claims_of, is_owner, is_sharer, is_clean, is_reader, wait_fits, in_protocol, same, fits}
+use Rattle.snoop_model.specs.Invariant.Good.{Good}
+use Rattle.snoop_model.specs.Invariant.Coherent.{IsCoherent}
+use Rattle.snoop_model.proofs.Lists.Facts.{replicated}
+use Rattle.snoop_model.proofs.Invariant.Moves.{move_keeps}
+
+-- a block at reset
+abbrev untouched : Protocol → ℕ → Picture
+untouched p n = record { caches = replicate n nothing_held; memory = first_memory p; value = 0; transaction = None }
+
+pub nothing_proper : IsProper nothing_held
+nothing_proper = record { kept = refl; waiting = refl }
+
+untouched_good : (p : Protocol) (n : ℕ) → Good p n 0 (untouched p n)
+unfolding claims_of fits is_owner is_sharer is_clean is_reader wait_fits in_protocol same
+untouched_good protocol.Msi n = record {
+  claims = record { owned = false; shared = true; fresh = true };
+  is_claims = refl;
+  owner = None;
+  owner_in = λ o e. cc;
+  is_owned = refl;
+  states = λ d d_in. subst (λ (x : Line). fits protocol.Msi true false None x.state ≡ true) (sym (replicated n d nothing_held)) refl;
+  kept = λ d d_in h. (let P : Line → Type 0 = λ x. is_reader x.state ≡ true in let e : false ≡ true = subst P (replicated n d nothing_held) h in cc);
+  clean = λ d d_in h. refl;
+  fresh = λ h. refl;
+  carried = λ o e h. cc;
+  requestor_in = λ o e. cc;
+  proper = λ d d_in. subst IsProper (sym (replicated n d nothing_held)) nothing_proper;
+}
+untouched_good protocol.Mesi n = record {
+  claims = record { owned = false; shared = false; fresh = true };
+  is_claims = refl;
+  owner = None;
+  owner_in = λ o e. cc;
+  is_owned = refl;
+  states = λ d d_in. subst (λ (x : Line). fits protocol.Mesi false false None x.state ≡ true) (sym (replicated n d nothing_held)) refl;
+  kept = λ d d_in h. (let P : Line → Type 0 = λ x. is_reader x.state ≡ true in let e : false ≡ true = subst P (replicated n d nothing_held) h in cc);
+  clean = λ d d_in h. refl;
+  fresh = λ h. refl;
+  carried = λ o e h. cc;
+  requestor_in = λ o e. cc;
+  proper = λ d d_in. subst IsProper (sym (replicated n d nothing_held)) nothing_proper;
+}
+
+reset_picture : (p : Protocol) (shape : Extent) (block : ℕ) → block < shape.blocks → picture_of (reset p shape) block ≡ untouched p shape.cores
+reset_picture p shape block within =
+    let caches : get_or (replicate shape.blocks (replicate shape.cores nothing_held)) block [] ≡ replicate shape.cores nothing_held = get_or-replicate shape.blocks block (replicate shape.cores nothing_held) [] within in
+    let memory = get_or-replicate shape.blocks block (record { state = first_memory p; value = 0 }) no_memory within in
+    let transaction : ◌≡◌ {A = Option Open} (get_or (replicate shape.blocks None) block None) None = replicated shape.blocks block None in
+    rw (caches, memory, transaction) refl
+
+reset_open : (p : Protocol) (shape : Extent) (block : ℕ) → (picture_of (reset p shape) block).transaction ≡ None
+reset_open p shape block = replicated shape.blocks block None
+
+-- each line at reset
+pub reset_line : (p : Protocol) (shape : Extent) (core block : ℕ) → held_by (picture_of (reset p shape) block) core ≡ nothing_held
+reset_line p shape core block = elim (cases_lt block shape.blocks) [
+  | inl inside ↦ ap (λ (x : Picture). held_by x core) (reset_picture p shape block inside) ∙ replicated shape.cores core nothing_held
+  | inr past ↦
+      let long = length-replicate shape.blocks (replicate shape.cores nothing_held) in
+      ap (λ (l : List Line). held_at l core) (get_or_past (replicate shape.blocks (replicate shape.cores nothing_held)) block [] (omega arith)) ∙ get_or_past [] core nothing_held (omega arith)
+]
+
+pub reset_coherent : (p : Protocol) (shape : Extent) → IsCoherent (reset p shape)
+reset_coherent p shape = record {
+  rows = length-replicate shape.blocks (replicate shape.cores nothing_held);
+  row = λ b b_in. ap (λ (x : Picture). length x.caches) (reset_picture p shape b b_in) ∙ length-replicate shape.cores nothing_held;
+  memory = length-replicate shape.blocks (record { state = first_memory p; value = 0 });
+  transactions = length-replicate shape.blocks None;
+  opened = λ b o is_open. (let none = reset_open p shape b in cc);
+  good = λ b b_in. subst (Good p shape.cores 0) (sym (reset_picture p shape b b_in)) (untouched_good p shape.cores);
+  legal = λ k entry h. cc;
+}
+
+pub refusal_same : (old : Situation) (step : Step) (cause : Refused) (new : Situation) → IsRefusal old step cause new → new ≡ old
+refusal_same old step NoMemory new r = r
+refusal_same old step cause new r = r.1
+
+pub goes_keeps : (old : Situation) (step : Step) (outcome : Result Reply Refused) (new : Situation) → IsCoherent old → Goes old step outcome new → IsCoherent new
+goes_keeps old step (Ok answer) new g m = move_keeps m.1.0 old step answer new m.0 g m.1.1
+goes_keeps old step (Err cause) new g r = subst IsCoherent (sym (refusal_same old step cause new r)) g
+
+pub run_keeps : (steps : List Step) (outcomes : List (Result Reply Refused)) (old new : Situation) → IsCoherent old → RunFrom old steps outcomes new → IsCoherent new
+run_keeps [] [] old new g r = subst IsCoherent (sym r) g
+run_keeps (step ∷ steps) (outcome ∷ outcomes) old new g r = run_keeps steps outcomes r.0 new (goes_keeps old step outcome r.0 g r.1.0) r.1.1
+run_keeps [] (outcome ∷ outcomes) old new g r = absurd r
+run_keeps (step ∷ steps) [] old new g r = absurd r
+
+-- a run keeps its protocol
+move_protocol : (block : ℕ) (old : Situation) (step : Step) (answer : Reply) (new : Situation) (entry : Option Item) → MoveOn block old step answer new entry → new.protocol ≡ old.protocol
+move_protocol block old (Ask core on asking) answer new entry m = elim m.2 as (λ _. new.protocol ≡ old.protocol) [
+  | inl idle ↦ ap (λ (s : Situation). s.protocol) idle.3
+  | inr a ↦ ap (λ (s : Situation). s.protocol) a.after
+]
+move_protocol block old (Order core) answer new entry m = ap (λ (s : Situation). s.protocol) (m.1.3).after
+move_protocol block old (Respond on) answer new entry m = ap (λ (s : Situation). s.protocol) (m.1.1.4).after
+
+goes_protocol : (old : Situation) (step : Step) (outcome : Result Reply Refused) (new : Situation) → Goes old step outcome new → new.protocol ≡ old.protocol
+goes_protocol old step (Ok answer) new m = move_protocol m.1.0 old step answer new m.0 m.1.1
+goes_protocol old step (Err cause) new r = ap (λ (s : Situation). s.protocol) (refusal_same old step cause new r)
+
+pub run_protocol : (steps : List Step) (outcomes : List (Result Reply Refused)) (old new : Situation) → RunFrom old steps outcomes new → new.protocol ≡ old.protocol
+run_protocol [] [] old new r = ap (λ (s : Situation). s.protocol) r
+run_protocol (step ∷ steps) (outcome ∷ outcomes) old new r = run_protocol steps outcomes r.0 new r.1.1 ∙ goes_protocol old step outcome r.0 r.1.0
+run_protocol [] (outcome ∷ outcomes) old new r = absurd r
+run_protocol (step ∷ steps) [] old new r = absurd r

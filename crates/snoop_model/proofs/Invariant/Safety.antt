@@ -1,0 +1,76 @@
+-- What every machine keeps makes it safe, and its steps keep it.
+use Rattle.std.proofs.Common.{ℕ, ◌<◌, Option, inl, inr, sym, ◌∙◌, subst, Some, None}
+use Rattle.std.specs.Prelude.{◌≡◌, Result, Ok, Err, IfOk, IfErr, IfSome, is_some}
+use Rattle.std.proofs.lemmas.Option.{same_Some}
+use Rattle.snoop_trace.specs.Extent.{Extent}
+use Rattle.snoop_trace.specs.declared.step.Step.{Step}
+use Rattle.snoop_rules.specs.declared.names.Protocol.{Protocol}
+use Rattle.snoop_history.specs.declared.items.Item.{Item}
+use Rattle.snoop_history.specs.History.{flat}
+use Rattle.snoop_model.specs.declared.replies.Reply.{Reply}
+use Rattle.snoop_model.specs.declared.replies.Refused.{Refused}
+use Rattle.snoop_model.specs.Pictures.Picture.{held_by}
+use Rattle.snoop_model.specs.Moves.Standing.{Standing}
+use Rattle.snoop_model.specs.Pictures.Situation.{Situation, picture_of, state_of, reset}
+use Rattle.snoop_model.specs.Pictures.Sound.{IsProper, keeps}
+use Rattle.snoop_model.specs.Invariant.Fits.{is_reader}
+use Rattle.snoop_model.specs.Moves.Move.{FirstMove}
+use Rattle.snoop_model.specs.Moves.StepMove.{RefusedFor}
+use Rattle.snoop_model.specs.Invariant.Coherent.{IsCoherent}
+use Rattle.snoop_model.specs.Invariant.MachineKeeps.{MachineKeeps}
+use Rattle.snoop_model.specs.Runs.Safe.{IsSafe}
+use Rattle.snoop_model.proofs.Invariant.Coherence.{has_one_writer, readers_current, meets_nothing, orders_are_led, place}
+use Rattle.snoop_model.proofs.Invariant.Runs.{reset_coherent, nothing_proper}
+use Rattle.snoop_model.proofs.Queues.Runs.{reset_queued, move_queued}
+use Rattle.snoop_model.proofs.Queues.Moves.{starts_well, keeps_well}
+use Rattle.snoop_model.proofs.Invariant.Steps.{first_keeps}
+
+-- each line keeps and awaits what its state says
+pub all_proper : (s : Situation) → IsCoherent s → (core block : ℕ) → IsProper (held_by (picture_of s block) core)
+all_proper s g core block = elim (place s g core block) [
+  | inl within ↦ (g.good block within.1).proper core within.0
+  | inr nothing ↦ subst IsProper (sym nothing) nothing_proper
+]
+
+-- what a core keeps is the block's flat value
+pub kept_is_flat : (s : Situation) → IsCoherent s → (core block : ℕ) → (found : Option ℕ) → IfSome found (λ _. (core < s.shape.cores) × (block < s.shape.blocks))
+    → (core < s.shape.cores → block < s.shape.blocks → found ≡ (held_by (picture_of s block) core).kept)
+    → (core < s.shape.cores → block < s.shape.blocks → is_some found ≡ keeps (state_of s core block)) → IfSome found (λ value. value ≡ flat s.log block)
+unfolding is_reader
+kept_is_flat s g core block None within inside readable = tt
+kept_is_flat s g core block (Some value) within inside readable =
+    same_Some _ _ (inside within.0 within.1 ∙ (g.good block within.1).kept core within.0 (sym (readable within.0 within.1)))
+
+pub is_safe : (s : Situation) → MachineKeeps s → IsSafe s
+is_safe s keeps = record {
+  one_writer = has_one_writer s keeps.coherent;
+  legal = keeps.coherent.legal;
+  current = readers_current s keeps.coherent;
+  possible = meets_nothing s keeps.coherent;
+  orders = orders_are_led s keeps.coherent;
+  proper = all_proper s keeps.coherent;
+  queued = keeps.queued.each;
+  well_kept = keeps.well_kept;
+}
+
+pub reset_keeps : (protocol : Protocol) (shape : Extent) → MachineKeeps (reset protocol shape)
+reset_keeps protocol shape = record {
+  coherent = reset_coherent protocol shape;
+  queued = reset_queued protocol shape;
+  well_kept = (starts_well protocol shape (λ core. None)).0;
+}
+
+move_keeps_all : (old new : Situation) (step : Step) (answer : Reply) (entry : Option Item) → MachineKeeps old → FirstMove old step answer new entry → MachineKeeps new
+move_keeps_all old new step answer entry keeps move = record {
+  coherent = first_keeps old step answer new entry keeps.coherent move;
+  queued = move_queued move.0 old step answer new entry keeps.coherent keeps.queued move.1.1;
+  well_kept = keeps_well old new step answer entry keeps.well_kept move;
+}
+
+-- what a step of the machine answers leads to what keeps it
+pub step_keeps : (old new : Standing) (step : Step) (result : Result Reply Refused) → MachineKeeps old.situation → IfOk result (λ reply. (entry : Option Item) × FirstMove old.situation step reply new.situation entry)
+    → IfErr result (λ cause. RefusedFor old.situation step cause × (new ≡ old)) → MachineKeeps new.situation
+step_keeps old new step (Ok reply) keeps taken refused = move_keeps_all old.situation new.situation step reply taken.0 keeps taken.1
+step_keeps old new step (Err cause) keeps taken refused =
+    let P : Standing → Type 0 = λ s. MachineKeeps s.situation in
+    subst P (sym refused.1) keeps

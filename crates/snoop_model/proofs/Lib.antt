@@ -1,0 +1,9 @@
+pub mod Lists
+pub mod Tables
+pub mod Lines
+pub mod OneBlock
+pub mod Invariant
+pub mod Queues
+pub mod Turns
+pub mod Once
+pub mod Runs

@@ -1,0 +1,72 @@
+-- The loop in which each core takes its row.
+use Rattle.std.proofs.Common.{◌≡◌, ℕ, ◌+◌, ◌<◌, ◌≤◌, List, [], length, sym, ◌∙◌, ap, subst, arith, inl, inr, ◌⊎◌}
+use Rattle.std.specs.Prelude.{slice_index_or, slice_set}
+use Rattle.std.proofs.lemmas.Bool.{cases_eq, cases_lt}
+use Rattle.std.proofs.lemmas.List.{length-set, get_or-set_same, get_or-set_other}
+use Rattle.snoop_rules.specs.declared.names.Protocol.{Protocol}
+use Rattle.snoop_rules.specs.declared.names.Request.{Request}
+use Rattle.snoop_rules.specs.declared.names.CacheAction.{CacheAction}
+use Rattle.snoop_rules.specs.declared.names.CacheState.{CacheState}
+use Rattle.snoop_rules.specs.Cell.{Cell}
+use Rattle.snoop_rules.specs.Takers.{seen_by}
+use Rattle.snoop_model.specs.declared.line.Line.{Line}
+use Rattle.snoop_model.specs.Pictures.Picture.{held_at, nothing_held, HoldNothing}
+use Rattle.snoop_model.proofs.Tables.SilentCores.{TakesRow-nothing}
+use Rattle.snoop_model.specs.Moves.Move.{TakesRow, comes_to}
+use Rattle.snoop_model.specs.Pictures.Message.{HasRow}
+
+abbrev pub row_of : List (List Line) → ℕ → List Line
+row_of caches block = slice_index_or caches block []
+
+-- the cores below n have taken their rows, and the others have not
+pub record Taking (protocol : Protocol) (requestor : ℕ) (request : Request) (old new : List Line) (n : ℕ) : Type 0 where
+  pub same_length : length new ≡ length old
+  pub taken : (k : ℕ) → k < n → TakesRow protocol (seen_by k requestor request) (held_at old k) (held_at new k)
+  pub left : (k : ℕ) → n ≤ k → held_at new k ≡ held_at old k
+
+pub Taking-more : (protocol : Protocol) (requestor : ℕ) (request : Request) (old new after : List Line) (n : ℕ) (act : CacheAction) (next : CacheState)
+    → n < length old → Taking protocol requestor request old new n
+    → Cell protocol (held_at new n).state (seen_by n requestor request) act next
+    → after ≡ slice_set new n (comes_to next (held_at new n))
+    → Taking protocol requestor request old after (n + 1)
+Taking-more protocol requestor request old new after n act next in_row taking cell wrote =
+    let in_new : n < length new = rw taking.same_length in_row in
+    let line : Line = comes_to next (held_at new n) in
+    let here : held_at after n ≡ line = ap (λ row. held_at row n) wrote ∙ get_or-set_same new n line nothing_held in_new in
+    let elsewhere : (k : ℕ) → (k ≡ n → ⊥) → held_at after k ≡ held_at new k = λ k ne. ap (λ row. held_at row k) wrote ∙ get_or-set_other new n k line nothing_held ne in
+    let was : held_at new n ≡ held_at old n = taking.left n (omega arith) in
+    let P : Line → Type 0 = λ x. Cell protocol x.state (seen_by n requestor request) act next in
+    let at_n : TakesRow protocol (seen_by n requestor request) (held_at old n) (held_at after n) =
+    (act, (next, (subst P was cell, here ∙ ap (comes_to next) was))) in
+    record {
+      same_length = ap length wrote ∙ (length-set new n line ∙ taking.same_length);
+      taken = λ k h. elim (cases_eq k n) [
+        | inl e ↦ subst (λ (j : ℕ). TakesRow protocol (seen_by j requestor request) (held_at old j) (held_at after j)) (sym e) at_n
+        | inr ne ↦ rw (elsewhere k ne) (taking.taken k (omega arith))
+      ];
+      left = λ k h. elsewhere k (λ e. absurd (omega arith)) ∙ taking.left k (omega arith);
+    }
+
+below_or : (k n : ℕ) → (k < n) ⊎ (n ≤ k)
+below_or k n = cases_lt k n
+
+-- cores that hold nothing are passed over: their row leaves them as they are
+pub Taking-past : (protocol : Protocol) (requestor : ℕ) (request : Request) (old new : List Line) (n m : ℕ)
+    → ((k : ℕ) → k < length old → HasRow protocol (held_at old k).state (seen_by k requestor request))
+    → n ≤ m → m ≤ length old → HoldNothing new n m
+    → Taking protocol requestor request old new n → Taking protocol requestor request old new m
+Taking-past protocol requestor request old new n m rows up within nothing taking =
+    record {
+      same_length = taking.same_length;
+      taken = λ k h. elim (below_or k n) [
+        | inl below ↦ taking.taken k below
+        | inr above ↦
+            let after : held_at new k ≡ nothing_held = nothing k above h in
+            let before : held_at old k ≡ nothing_held = sym (taking.left k above) ∙ after in
+            let P : Line → Type 0 = λ x. HasRow protocol x.state (seen_by k requestor request) in
+            let Q : Line → Type 0 = λ x. TakesRow protocol (seen_by k requestor request) x (held_at new k) in
+            let R : Line → Type 0 = λ x. TakesRow protocol (seen_by k requestor request) nothing_held x in
+            subst Q (sym before) (subst R (sym after) (TakesRow-nothing protocol k requestor request (subst P before (rows k (omega arith)))))
+      ];
+      left = λ k h. taking.left k (omega arith);
+    }

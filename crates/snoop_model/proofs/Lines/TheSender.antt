@@ -1,0 +1,121 @@
+-- The loop that looks for the one sender.
+use Rattle.std.proofs.Common.{◌≡◌, ℕ, zero, suc, ◌-◌, ◌+◌, ◌<◌, ◌≤◌, length, Option, Some, None, refl, sym, ◌∙◌, ap, subst, arith, inl, inr, ◌⊎◌}
+use Rattle.std.specs.Prelude.{⊤}
+use Rattle.std.proofs.lemmas.Bool.{cases_eq}
+use Rattle.std.proofs.lemmas.Option.{same_Some}
+use Rattle.snoop_rules.specs.declared.names.Protocol.{Protocol}
+use Rattle.snoop_rules.specs.declared.names.Request.{Request}
+use Rattle.snoop_rules.specs.declared.names.Payload.{Payload}
+use Rattle.snoop_rules.specs.declared.names.Target.{Target}
+use Rattle.snoop_rules.specs.declared.names.CacheAction.{CacheAction}
+use Rattle.snoop_rules.specs.declared.names.CacheAction.TheVariants as action
+use Rattle.snoop_rules.specs.declared.names.CacheState.{CacheState}
+use Rattle.snoop_rules.specs.declared.names.CacheState.TheVariants.{I}
+use Rattle.snoop_rules.specs.declared.names.MemAction.{MemAction}
+use Rattle.snoop_rules.specs.declared.names.MemAction.TheVariants as mem_action
+use Rattle.snoop_rules.specs.declared.names.MemState.{MemState}
+use Rattle.snoop_rules.specs.Cell.{Cell}
+use Rattle.snoop_rules.specs.MemoryCell.{MemoryCell}
+use Rattle.snoop_rules.specs.Takers.{seen_by, at_memory}
+use Rattle.snoop_rules.specs.Waits.{waiting_request}
+use Rattle.snoop_rules.proofs.Rows.{Cell-one}
+use Rattle.snoop_rules.proofs.MemRows.{MemoryCell-one}
+use Rattle.snoop_model.specs.declared.line.Line.{Line}
+use Rattle.snoop_model.specs.declared.message.Message.{Message}
+use Rattle.snoop_model.specs.Pictures.Picture.{Picture, held_by, nothing_held, HoldNothing}
+use Rattle.snoop_model.specs.Pictures.Sends.{Sends, value_sent}
+use Rattle.snoop_model.specs.Moves.Meets.{HasOneSender, FindsRows}
+use Rattle.snoop_model.specs.Pictures.Message.{IsMessage, memory_message}
+use Rattle.snoop_model.proofs.Tables.SilentCores.{Cell-nothing}
+
+-- memory, or a core below n
+abbrev pub IsBelow : ℕ → Option ℕ → Type 0
+IsBelow n None = ⊤
+IsBelow n (Some core) = core < n
+
+-- neither memory nor a core below n sends
+abbrev pub SilentBelow : Protocol → Picture → ℕ → Request → ℕ → Type 0
+SilentBelow p before core request n = (other : Option ℕ) (payload : Payload) → IsBelow n other → ¬ Sends p before core request other payload
+
+below_more : (n : ℕ) (other : Option ℕ) → IsBelow (n + 1) other → (other ≡ Some n) ⊎ IsBelow n other
+below_more n None below = inr tt
+below_more n (Some k) below = elim (cases_eq k n) [ inl e ↦ inl (ap Some e) | inr ne ↦ inr (omega arith) ]
+
+-- the next core sends nothing
+module _ (p : Protocol) (before : Picture) (core : ℕ) (request : Request) (n : ℕ) where
+  quiet : (act : CacheAction) (next : CacheState) → Cell p (held_by before n).state (seen_by n core request) act next → ((payload : Payload) (target : Target) → act ≡ action.Send payload target → ⊥)
+      → (other : Option ℕ) (payload : Payload) → other ≡ Some n → Sends p before core request other payload → ⊥
+  quiet act next row silent None payload e sends = cc
+  quiet act next row silent (Some k) payload e sends =
+      let P : ℕ → Type 0 = λ j. Cell p (held_by before j).state (seen_by j core request) (action.Send payload sends.1.0) sends.1.1.0 in
+      let same : k ≡ n = cc in
+      silent payload sends.1.0 (Cell-one p (held_by before n).state (seen_by n core request) act (action.Send payload sends.1.0) next sends.1.1.0 row (subst P same sends.1.1.1)).0
+
+  pub Silent-more : (act : CacheAction) (next : CacheState) → SilentBelow p before core request n → Cell p (held_by before n).state (seen_by n core request) act next
+      → ((payload : Payload) (target : Target) → act ≡ action.Send payload target → ⊥) → SilentBelow p before core request (n + 1)
+  Silent-more act next silent_so_far row silent = λ other payload below sends.
+      elim (below_more n other below) [ inl e ↦ quiet act next row silent other payload e sends | inr b ↦ silent_so_far other payload b sends ]
+
+module _ (p : Protocol) (before : Picture) (core : ℕ) (request : Request) where
+  -- memory does not send
+  pub Silent-none : (act : MemAction) (next : MemState) → MemoryCell p before.memory (at_memory request) act next → memory_message act before.value ≡ None → SilentBelow p before core request 0
+  Silent-none (mem_action.Send payload) next row none = cc
+  Silent-none mem_action.None next row none = silent
+    where
+      silent : (other : Option ℕ) (payload : Payload) → IsBelow 0 other → ¬ Sends p before core request other payload
+      silent None payload below sends = let e = (MemoryCell-one p before.memory (at_memory request) mem_action.None (mem_action.Send payload) next sends.0 row sends.1).0 in cc
+      silent (Some k) payload below sends = absurd (omega arith)
+  Silent-none mem_action.Write next row none = silent
+    where
+      silent : (other : Option ℕ) (payload : Payload) → IsBelow 0 other → ¬ Sends p before core request other payload
+      silent None payload below sends = let e = (MemoryCell-one p before.memory (at_memory request) mem_action.Write (mem_action.Send payload) next sends.0 row sends.1).0 in cc
+      silent (Some k) payload below sends = absurd (omega arith)
+
+  sends_below : (other : Option ℕ) (payload : Payload) → Sends p before core request other payload → IsBelow (length before.caches) other
+  sends_below None payload sends = tt
+  sends_below (Some k) payload sends = sends.0
+
+  -- not all can be silent
+  pub Silent-all : SilentBelow p before core request (length before.caches) → ¬ HasOneSender p before core request
+  Silent-all silent one = silent one.0 one.1.0 (sends_below one.0 one.1.0 one.1.1.sends) one.1.1.sends
+
+  -- whoever sends is the only sender
+  pub IsMessage-sent : (m : Message) → FindsRows p before core request → Sends p before core request m.from m.payload → m.value ≡ value_sent before m.from m.payload → IsMessage p before core request m
+  IsMessage-sent m finds sends worth =
+      let only = finds.sender.1.1 in
+      record {
+        rows = finds.rows;
+        only = record { sends = sends; alone = λ other payload h. only.alone other payload h ∙ sym (only.alone m.from m.payload sends) };
+        value = worth;
+      }
+
+  pub IsMessage-memory : (m : Message) (act : MemAction) (next : MemState) → FindsRows p before core request → MemoryCell p before.memory (at_memory request) act next → memory_message act before.value ≡ Some m → IsMessage p before core request m
+  IsMessage-memory m (mem_action.Send payload) next finds row is =
+      let same = same_Some _ _ is in
+      subst (IsMessage p before core request) same (IsMessage-sent _ finds (next, row) refl)
+  IsMessage-memory m mem_action.None next finds row is = cc
+  IsMessage-memory m mem_action.Write next finds row is = cc
+
+-- cores that hold nothing are passed over: each has a row for another's request, and sends nothing
+module _ (p : Protocol) (before : Picture) (core : ℕ) (request : Request) (waits : waiting_request (held_by before core).state ≡ Some request) where
+  past_one : (n : ℕ) → held_by before n ≡ nothing_held → SilentBelow p before core request n → SilentBelow p before core request (n + 1)
+  past_one n nothing silent =
+      let other : n ≡ core → ⊥ = λ e.
+      let none : waiting_request (held_by before core).state ≡ None = ap (λ (k : ℕ). waiting_request (held_by before k).state) (sym e) ∙ ap (λ (x : Line). waiting_request x.state) nothing in
+      let b = sym none ∙ waits in cc in
+      let P : Line → Type 0 = λ x. Cell p x.state (seen_by n core request) action.None I in
+      Silent-more p before core request n action.None I silent (subst P (sym nothing) (Cell-nothing p n core request other)) (λ payload target e. cc)
+
+  past_all : (d n : ℕ) → HoldNothing before.caches n (n + d) → SilentBelow p before core request n → SilentBelow p before core request (n + d)
+  past_all zero n nothing silent = let P : ℕ → Type 0 = λ j. SilentBelow p before core request j in let e : n ≡ n + 0 = omega arith in subst P e silent
+  past_all (suc d) n nothing silent =
+      let P : ℕ → Type 0 = λ j. SilentBelow p before core request j in
+      let e : n + 1 + d ≡ n + suc d = omega arith in
+      subst P e (past_all d (n + 1) (λ k up below. nothing k (omega arith) (omega arith)) (past_one n (nothing n (omega arith) (omega arith)) silent))
+
+  pub Silent-past : (n to : ℕ) → n ≤ to → HoldNothing before.caches n to → SilentBelow p before core request n → SilentBelow p before core request to
+  Silent-past n to up nothing silent =
+      let e : n + (to - n) ≡ to = omega arith in
+      let P : ℕ → Type 0 = λ j. SilentBelow p before core request j in
+      let Q : ℕ → Type 0 = λ j. HoldNothing before.caches n j in
+      subst P e (past_all (to - n) n (subst Q (sym e) nothing) silent)

@@ -1,0 +1,4 @@
+-- Lists.
+pub mod Facts
+pub mod Writes
+pub mod QueueCounts

@@ -1,0 +1,85 @@
+-- What waited, or was asked, waits or is its core's last operation: by the count of `once` alone.
+use Rattle.std.proofs.Common.{◌≡◌, ℕ, ◌+◌, ◌≤◌, ◌⊎◌, inl, inr, Bool, true, false, cond, ◌==◌, List, [], ◌∷◌, ◌++◌, map, Option, Some, None, refl, sym, ap, ◌∙◌, arith, append-nil}
+use Rattle.std.specs.Prelude.{option_to_list, count_by}
+use Rattle.std.specs.Option.{option_map_or}
+use Rattle.std.proofs.lemmas.List.Sums.{sum_by-append}
+use Rattle.snoop_trace.specs.declared.step.Op.{Op}
+use Rattle.snoop_trace.specs.declared.step.Step.{Step}
+use Rattle.snoop_history.specs.declared.items.Did.{Did}
+use Rattle.snoop_history.specs.declared.items.Item.{Item}
+use Rattle.snoop_history.specs.History.{operation_of, answers_of, last_or}
+use Rattle.snoop_history.proofs.Pushed.{answers_of-push, of_core}
+use Rattle.snoop_model.specs.Pictures.Picture.{held_by}
+use Rattle.snoop_model.specs.Pictures.Situation.{Situation, picture_of}
+use Rattle.snoop_model.specs.Runs.Once.{did_it, tally, waits_for, asks, one_if, same_op}
+use Rattle.snoop_model.specs.Runs.Owed.{IsOwed, Owes}
+use Rattle.snoop_model.proofs.Runs.Prepared.{move-log}
+
+-- the operation of an item, if there is one
+abbrev pub entry_op : Option Item → Option Did
+entry_op None = None
+entry_op (Some entry) = operation_of entry
+
+-- a core's operations with one item more
+pub answers_are : (log : List Item) (entry : Option Item) (core : ℕ) → answers_of (log ++ option_to_list entry) core ≡ answers_of log core ++ of_core core (entry_op entry)
+answers_are log None core = ap (λ (l : List Item). answers_of l core) (append-nil log) ∙ sym (append-nil (answers_of log core))
+answers_are log (Some entry) core = answers_of-push log entry core
+
+pub one_or_none : (core : ℕ) (o : Option Did) → (of_core core o ≡ []) ⊎ ((d : Did) × (of_core core o ≡ d ∷ []))
+one_or_none core None = inl refl
+one_or_none core (Some d) = go (d.core == core) refl
+  where
+    go : (b : Bool) → (d.core == core) ≡ b → (of_core core (Some d) ≡ []) ⊎ ((e : Did) × (of_core core (Some d) ≡ e ∷ []))
+    go true e = inr (d, rw e refl)
+    go false e = inl (rw e refl)
+
+last_push : (o : Option Did) (xs : List Did) (d : Did) → last_or o (map (λ x. Some x) (xs ++ d ∷ [])) ≡ Some d
+last_push o [] d = refl
+last_push o (x ∷ xs) d = last_push (Some x) xs d
+
+pub one_waits : (s : Situation) (core block : ℕ) (wanted : Op) → waits_for s core block wanted ≤ 1
+one_waits s core block wanted = by_op (held_by (picture_of s block) core).waiting
+  where
+    one : (b : Bool) → one_if b ≤ 1
+    one true = omega arith
+    one false = omega arith
+
+    by_op : (o : Option Op) → option_map_or (λ asking. one_if (same_op wanted asking)) o 0 ≤ 1
+    by_op None = omega arith
+    by_op (Some asking) = one (same_op wanted asking)
+
+-- more stand in the log or wait than the log had: it waits, or is the core's last operation
+waits_or_last : (s t : Situation) (core block : ℕ) (wanted : Op) (entry : Option Item) → count_by (did_it block wanted) (answers_of s.log core) + 1 ≤ tally t core block wanted → t.log ≡ s.log ++ option_to_list entry → IsOwed t core block wanted
+waits_or_last s t core block wanted entry more log = by_own (one_or_none core (entry_op entry))
+  where
+    now : answers_of t.log core ≡ answers_of s.log core ++ of_core core (entry_op entry)
+    now = ap (λ (l : List Item). answers_of l core) log ∙ answers_are s.log entry core
+
+    by_test : (d : Did) → answers_of t.log core ≡ answers_of s.log core ++ d ∷ [] → count_by (did_it block wanted) (answers_of t.log core) ≡ count_by (did_it block wanted) (answers_of s.log core) + count_by (did_it block wanted) (d ∷ []) → (b : Bool) → did_it block wanted d ≡ b → IsOwed t core block wanted
+    by_test d answers counts true e = inr (d, ap (λ (l : List Did). last_or None (map (λ x. Some x) l)) answers ∙ last_push None (answers_of s.log core) d, e)
+    by_test d answers counts false e =
+        let none : count_by (did_it block wanted) (d ∷ []) ≡ 0 = rw e refl in
+        let most = one_waits t core block wanted in
+        inl (omega (arith, counts, more, none, most))
+
+    by_own : ((of_core core (entry_op entry) ≡ []) ⊎ ((d : Did) × (of_core core (entry_op entry) ≡ d ∷ []))) → IsOwed t core block wanted
+    by_own (inl none) =
+        let answers = now ∙ ap (λ (l : List Did). answers_of s.log core ++ l) none ∙ append-nil (answers_of s.log core) in
+        let counts = ap (λ (l : List Did). count_by (did_it block wanted) l) answers in
+        let most = one_waits t core block wanted in
+        inl (omega (arith, counts, more, most))
+    by_own (inr (d, is)) =
+        let answers = now ∙ ap (λ (l : List Did). answers_of s.log core ++ l) is in
+        let counts = ap (λ (l : List Did). count_by (did_it block wanted) l) answers ∙ sum_by-append (λ (x : Did). cond (did_it block wanted x) 1 0) (answers_of s.log core) (d ∷ []) in
+        by_test d answers counts (did_it block wanted d) refl
+
+owed_after : (s t : Situation) (core block : ℕ) (wanted : Op) (entry : Option Item) (step : Step) → tally t core block wanted ≡ tally s core block wanted + count_by (asks core block wanted) (step ∷ []) → t.log ≡ s.log ++ option_to_list entry
+    → (waits_for s core block wanted ≡ 1) ⊎ (asks core block wanted step ≡ true) → IsOwed t core block wanted
+owed_after s t core block wanted entry step same log (inl waits) = waits_or_last s t core block wanted entry (omega (arith, same, waits)) log
+owed_after s t core block wanted entry step same log (inr asked) =
+    let one : count_by (asks core block wanted) (step ∷ []) ≡ 1 = rw asked refl in
+    waits_or_last s t core block wanted entry (omega (arith, same, one)) log
+
+pub owes : Owes
+owes s t step answer entry move once core block wanted was =
+    owed_after s t core block wanted entry step (once core block wanted) (move-log s t step answer entry move) was

@@ -1,0 +1,10 @@
+-- The steps of one block, and the invariant of its picture.
+pub mod Steps
+pub mod Facts
+pub mod Moves
+pub mod AfterMoves
+pub mod OfBlocks
+pub mod AskStep
+pub mod OrderStep
+pub mod RespondStep
+pub mod Possible

@@ -1,0 +1,137 @@
+-- What follows from the invariant of one block.
+use Rattle.std.proofs.Common.{◌≡◌, ◌≢◌, ◌<◌, ◌&&◌, ◌||◌, ◌⊎◌, ◌∙◌, ℕ, Bool, true, false, not, cond, eqb, Option, Some, None, refl, inl, inr, ap, sym}
+use Rattle.std.specs.Prelude.{is_some}
+use Rattle.std.proofs.lemmas.Bool.Decides.{eqb_tells}
+use Rattle.std.proofs.lemmas.Bool.{eqb-true, and_parts}
+use Rattle.snoop_rules.specs.declared.names.Protocol.{Protocol}
+use Rattle.snoop_rules.specs.declared.names.CacheState.{CacheState}
+use Rattle.snoop_rules.specs.declared.names.Request.{Request}
+use Rattle.snoop_rules.specs.Takers.{carries_value}
+use Rattle.snoop_history.specs.Totals.{is_put_m}
+use Rattle.snoop_bus.specs.declared.transactions.Open.{Open}
+use Rattle.snoop_model.specs.declared.line.Line.{Line}
+use Rattle.snoop_model.specs.Pictures.Picture.{Picture, held_by}
+use Rattle.snoop_model.specs.Invariant.Fits.{is_owner, is_clean, is_reader, fits}
+use Rattle.snoop_model.specs.Invariant.Good.{Good, talk_of, awaited, owns}
+use Rattle.snoop_model.proofs.Tables.Every.{same_is}
+use Rattle.snoop_model.proofs.Tables.RespondTests.{writes}
+use Rattle.snoop_model.proofs.Tables.StateTests.{alone_rule, calm_talk, is_calm, owned_rule}
+
+pub or_true : (b : Bool) → (b || true) ≡ true
+or_true true = refl
+or_true false = refl
+
+pub some_is : {A : Type 0} (o : Option A) (a b : A) → o ≡ Some a → o ≡ Some b → a ≡ b
+some_is o a b e f = cc
+
+pub not_eqb : (d c : ℕ) → d ≢ c → eqb d c ≡ false
+not_eqb d c apart = elim (eqb_tells d c) as (λ _. eqb d c ≡ false) [ inl h ↦ absurd (apart h.1) | inr h ↦ h.0 ]
+
+pub or_not : (b : Bool) → (b ≡ true) ⊎ (b ≡ false)
+or_not true = inl refl
+or_not false = inr refl
+
+pub either_of : (a b : Bool) → (a || b) ≡ true → (a ≡ true) ⊎ (b ≡ true)
+either_of true b h = inl refl
+either_of false b h = inr h
+
+pub some_true : {A : Type 0} (o : Option A) (a : A) → o ≡ Some a → is_some o ≡ true
+some_true o a e = rw e refl
+
+pub not_eqb_true : (d c : ℕ) → d ≢ c → not (eqb d c) ≡ true
+not_eqb_true d c apart = rw (not_eqb d c apart) refl
+
+pub owns_owned : (owner : Option ℕ) (d : ℕ) (b : Bool) → is_some owner ≡ b → (not (owns owner d) || b) ≡ true
+owns_owned None d b e = refl
+owns_owned (Some o) d b e = rw (← e) (or_true (not (eqb d o)))
+
+-- two cores do not both own
+pub owns_apart : (owner : Option ℕ) (c d : ℕ) → d ≢ c → not (owns owner d && owns owner c) ≡ true
+owns_apart None c d apart = refl
+owns_apart (Some o) c d apart = elim (eqb_tells d o) as (λ _. not (eqb d o && eqb c o) ≡ true) [
+  | inl h ↦ elim (eqb_tells c o) as (λ _. not (eqb d o && eqb c o) ≡ true) [
+    | inl k ↦ absurd (apart (h.1 ∙ sym k.1))
+    | inr k ↦ rw (h.0, k.0) refl
+  ]
+  | inr h ↦ rw h.0 refl
+]
+
+pub fits_is_owner : (p : Protocol) (shared ow : Bool) (w : Option Request) (s : CacheState) → fits p shared ow w s ≡ true → is_owner s ≡ ow
+unfolding fits
+fits_is_owner p shared ow w s h =
+    same_is _ _ (and_parts _ _ (and_parts _ _ h).1).0
+
+pub implied : (a b : Bool) → (not a || b) ≡ true → a ≡ true → b ≡ true
+implied true b h e = h
+implied false b h e = cc
+
+-- what a core holds may be read as before, or no longer
+pub record Carried (old new : Line) : Type 0 where
+  pub reads : is_reader new.state ≡ true → (is_reader old.state ≡ true) × (new.kept ≡ old.kept)
+  pub cleans : is_clean new.state ≡ true → is_clean old.state ≡ true
+
+pub carried_kept : (old new : Line) (flat : ℕ) → Carried old new → (is_reader old.state ≡ true → old.kept ≡ Some flat) → is_reader new.state ≡ true → new.kept ≡ Some flat
+carried_kept old new flat k was h = (k.reads h).1 ∙ was (k.reads h).0
+
+pub carried_same : (old new : Line) → new ≡ old → Carried old new
+carried_same old new e = record { reads = λ h. (ap (λ (x : Line). is_reader x.state) (sym e) ∙ h, ap (λ (x : Line). x.kept) e); cleans = λ h. ap (λ (x : Line). is_clean x.state) (sym e) ∙ h }
+
+pub not_true : (b : Bool) → not b ≡ true → b ≡ false
+not_true true h = cc
+not_true false h = refl
+
+pub clash : (b : Bool) → b ≡ true → b ≡ false → ⊥
+clash b e f = cc
+
+-- while a core owns the block, memory's value and data under way are claimed of nobody
+pub record Alone (p : Protocol) (n : ℕ) (flat : ℕ) (picture : Picture) (g : Good p n flat picture) : Type 0 where
+  pub unshared : g.claims.shared ≡ false
+  pub unfresh : g.claims.fresh ≡ false
+  pub calm : calm_talk (talk_of picture.transaction) ≡ true
+
+pub owned_alone : (p : Protocol) (n : ℕ) (flat : ℕ) (picture : Picture) (g : Good p n flat picture) → g.claims.owned ≡ true → Alone p n flat picture g
+owned_alone p n flat picture g is_owned =
+    let h = owned_rule p picture.memory (talk_of picture.transaction) g.claims g.is_claims is_owned in
+    let a = and_parts (not g.claims.shared) (not g.claims.fresh && calm_talk (talk_of picture.transaction)) h in
+    let b = and_parts (not g.claims.fresh) (calm_talk (talk_of picture.transaction)) a.1 in
+    record { unshared = not_true g.claims.shared a.0; unfresh = not_true g.claims.fresh b.0; calm = b.1 }
+
+pub calm_wait : (t : Option Open) (d : ℕ) → calm_talk (talk_of t) ≡ true → is_calm (awaited t d) ≡ true
+calm_wait None d h = refl
+calm_wait (Some o) d h = elim (or_not (eqb d o.core)) as (λ _. is_calm (cond (eqb d o.core) (Some o.request) None) ≡ true) [
+  | inl e ↦ rw e (and_parts (is_put_m o.request) (not (carries_value o.payload)) h).0
+  | inr e ↦ rw e refl
+]
+
+-- where a core owns the block, each core that doesn't may not read it
+pub others_blind : (p : Protocol) (n : ℕ) (flat : ℕ) (picture : Picture) (g : Good p n flat picture) → g.claims.owned ≡ true → (d : ℕ) → d < n → owns g.owner d ≡ false → is_reader (held_by picture d).state ≡ false
+others_blind p n flat picture g is_owned d d_in not_owner =
+    let a = owned_alone p n flat picture g is_owned in
+    let fit : fits p false false (awaited picture.transaction d) (held_by picture d).state ≡ true = rw (a.unshared, not_owner) at (g.states d d_in) in
+    not_true (is_reader (held_by picture d).state) (alone_rule p (awaited picture.transaction d) (held_by picture d).state (calm_wait picture.transaction d a.calm) fit)
+
+pub owner_is : (owner : Option ℕ) (d : ℕ) → owns owner d ≡ true → owner ≡ Some d
+owner_is None d h = cc
+owner_is (Some o) d h = ap (λ (x : ℕ). Some x) (sym (eqb-true d o h))
+
+pub owner_owned : (p : Protocol) (n : ℕ) (flat : ℕ) (picture : Picture) (g : Good p n flat picture) (d : ℕ) → owns g.owner d ≡ true → g.claims.owned ≡ true
+owner_owned p n flat picture g d h = sym g.is_owned ∙ rw (owner_is g.owner d h) refl
+
+pub owns_one : (owner : Option ℕ) (c d : ℕ) → owns owner c ≡ true → d ≢ c → owns owner d ≡ false
+owns_one owner c d h apart = not_true (owns owner d) (rw (owner_is owner c h) (not_eqb_true d c apart))
+
+-- one writer alone, or only readers
+pub one_writer : (p : Protocol) (n : ℕ) (flat : ℕ) (picture : Picture) → Good p n flat picture → (c d : ℕ) → c < n → d < n → is_owner (held_by picture c).state ≡ true → d ≢ c → is_reader (held_by picture d).state ≡ false
+one_writer p n flat picture g c d c_in d_in writes apart =
+    let fit = g.states c c_in in
+    let owning : owns g.owner c ≡ true = sym (fits_is_owner p g.claims.shared (owns g.owner c) (awaited picture.transaction c) (held_by picture c).state fit) ∙ writes in
+    others_blind p n flat picture g (owner_owned p n flat picture g c owning) d d_in (owns_one g.owner c d owning apart)
+
+pub calm_carries : (t : Option Open) (o : Open) → calm_talk (talk_of t) ≡ true → t ≡ Some o → carries_value o.payload ≡ true → ⊥
+calm_carries t o h e carrying =
+    let h2 : calm_talk (talk_of (Some o)) ≡ true = ap (λ (x : Option Open). calm_talk (talk_of x)) (sym e) ∙ h in
+    clash (carries_value o.payload) carrying (not_true (carries_value o.payload) (and_parts (is_put_m o.request) (not (carries_value o.payload)) h2).1)
+
+pub none_of : (o : Option ℕ) → is_some o ≡ false → o ≡ None
+none_of None e = refl
+none_of (Some x) e = cc

@@ -1,0 +1,202 @@
+-- Each step finds its rows, and an Order exactly one sender.
+use Rattle.std.proofs.Common.{◌≡◌, ◌≢◌, ◌<◌, ◌&&◌, ◌⊎◌, ◌∙◌, ℕ, Bool, true, false, not, cond, Option, Some, None, refl, inl, inr, ap, sym, subst}
+use Rattle.std.specs.Prelude.{is_some}
+use Rattle.std.proofs.lemmas.Bool.Decides.{eqb_tells}
+use Rattle.std.proofs.lemmas.Bool.{eq-eqb, and_parts}
+use Rattle.snoop_trace.specs.declared.step.Op.{Op}
+use Rattle.snoop_rules.specs.declared.names.Protocol.{Protocol}
+use Rattle.snoop_rules.specs.declared.names.CacheState.{CacheState}
+use Rattle.snoop_rules.specs.declared.names.CacheEvent.{CacheEvent}
+use Rattle.snoop_rules.specs.declared.names.Request.{Request}
+use Rattle.snoop_rules.specs.declared.names.Payload.{Payload}
+use Rattle.snoop_rules.specs.Waits.{waiting_request}
+use Rattle.snoop_rules.specs.Takers.{asked, other, seen_by, at_memory, arrival, arrival_at_memory, takes_payload}
+use Rattle.snoop_rules.specs.declared.names.CacheCell.{CacheCell}
+use Rattle.snoop_rules.specs.declared.names.MemCell.{MemCell}
+use Rattle.snoop_rules.specs.Row.{cell_of}
+use Rattle.snoop_rules.specs.MemoryRow.{memory_cell_of}
+use Rattle.snoop_rules.proofs.Every.{all_states-at}
+use Rattle.snoop_history.specs.Totals.{is_put_m}
+use Rattle.snoop_bus.specs.declared.transactions.Open.{Open}
+use Rattle.snoop_model.specs.Pictures.Picture.{Picture, held_by}
+use Rattle.snoop_model.specs.Invariant.Fits.{claims_of, in_protocol, fits}
+use Rattle.snoop_model.specs.Invariant.Good.{Good, talk_of, awaited, owns}
+use Rattle.snoop_model.proofs.Tables.Every.{either-at, same_is, some_of, when_at}
+use Rattle.snoop_model.proofs.OneBlock.Steps.{sent_by, sent_by_memory, Sends, IsOnlySender, row_of, mem_row_of, is_idle_evict, Answerable}
+use Rattle.snoop_model.proofs.Tables.SenderTests.{Memory, Core, Requestor, is_led, sender_as}
+use Rattle.snoop_model.proofs.OneBlock.Facts.{not_eqb, or_not, some_true, implied, not_true, clash, owner_is, none_of}
+use Rattle.snoop_model.proofs.OneBlock.OrderStep.{Looked, look, end_of, other_of, other_cell, sent_payload, seen_own, seen_other}
+use Rattle.snoop_model.proofs.OneBlock.AskStep.{right_of}
+use Rattle.snoop_model.proofs.Tables.AskTests.{ask_row}
+use Rattle.snoop_model.proofs.Tables.OrderTests.{order_rule}
+use Rattle.snoop_model.proofs.Tables.RespondTests.{respond_rule}
+use Rattle.snoop_model.proofs.Tables.OrderTests
+use Rattle.snoop_model.proofs.Tables.RespondTests
+
+pub record Possible (p : Protocol) (n : ℕ) (before : Picture) (c : ℕ) (q : Request) : Type 0 where
+  pub rows : (d : ℕ) → d < n → (r : CacheCell) × (cell_of p (held_by before d).state (seen_by d c q) ≡ Some r)
+  pub cell_of_memory : MemCell
+  pub memory_row : memory_cell_of p before.memory (at_memory q) ≡ Some cell_of_memory
+  pub from : Option ℕ
+  pub payload : Payload
+  pub sender : IsOnlySender p n before c q from payload
+  pub writeback : is_put_m q ≡ true → from ≡ Some c
+  pub order_line : is_led p q before.memory (sender_as before c from) payload cell_of_memory.next ≡ true
+
+possible_rows : (p : Protocol) (n : ℕ) (flat : ℕ) (before : Picture) (c : ℕ) (q : Request) (l : Looked p n flat before c q) (d : ℕ) → d < n → (r : CacheCell) × (cell_of p (held_by before d).state (seen_by d c q) ≡ Some r)
+possible_rows p n flat before c q l d d_in = elim (eqb_tells d c) as (λ _. (r : CacheCell) × (cell_of p (held_by before d).state (seen_by d c q) ≡ Some r)) [
+  | inl h ↦ (l.oc, subst (λ (x : ℕ). cell_of p (held_by before x).state (seen_by x c q) ≡ Some l.oc) (sym h.1) (ap (λ (e : CacheEvent). cell_of p (held_by before c).state e) (seen_own c q) ∙ l.is_oc))
+  | inr h ↦
+      let x = other_cell p n flat before c q l d d_in in
+      (x.0, ap (λ (e : CacheEvent). cell_of p (held_by before d).state e) (seen_other d c q h.1) ∙ x.1)
+]
+
+-- each controller sends exactly where it is meant to
+pub record Roles (p : Protocol) (n : ℕ) (flat : ℕ) (before : Picture) (c : ℕ) (q : Request) (l : Looked p n flat before c q) : Type 0 where
+  pub memory : is_some (sent_by_memory (Some l.mc)) ≡ (not (is_put_m q) && not l.good.claims.owned)
+  pub requestor : is_some (sent_by (Some l.oc)) ≡ is_put_m q
+  pub puts : owns l.good.owner c ≡ true → is_put_m q ≡ true
+  pub others : (d : ℕ) → d < n → d ≢ c → (xc : CacheCell) → cell_of p (held_by before d).state (other q) ≡ Some xc → is_some (sent_by (Some xc)) ≡ (owns l.good.owner d && not (is_put_m q))
+
+roles : (p : Protocol) (n : ℕ) (flat : ℕ) (before : Picture) (c : ℕ) (q : Request) (l : Looked p n flat before c q) → Roles p n flat before c q l
+roles p n flat before c q l = record {
+  memory = same_is _ _ (end_of p n flat before c q l OrderTests.memory_sends OrderTests.memory_sends_holds);
+  requestor = same_is _ _ (end_of p n flat before c q l OrderTests.requestor_sends OrderTests.requestor_sends_holds);
+  puts = implied (owns l.good.owner c) (is_put_m q) (order_rule OrderTests.owner_only_puts OrderTests.owner_only_puts_holds p before.memory l.good.claims (held_by before c).state (owns l.good.owner c) q l.quiet l.requestor_fits l.owned l.waits);
+  others = λ d d_in apart xc is_xc. same_is _ _ (other_of p n flat before c q l OrderTests.other_sends OrderTests.other_sends_holds d d_in apart xc is_xc);
+}
+
+-- the row of a core that is d
+own_row : (p : Protocol) (n : ℕ) (flat : ℕ) (before : Picture) (c : ℕ) (q : Request) (l : Looked p n flat before c q) (d : ℕ) → d ≡ c → cell_of p (held_by before d).state (seen_by d c q) ≡ Some l.oc
+own_row p n flat before c q l d e = subst (λ (x : ℕ). cell_of p (held_by before x).state (seen_by x c q) ≡ Some l.oc) (sym e) (ap (λ (x : CacheEvent). cell_of p (held_by before c).state x) (seen_own c q) ∙ l.is_oc)
+
+-- who sends: the requestor of a PutM, else memory where no core owns, else the owner
+abbrev pub meant : Request → ℕ → Option ℕ → Option ℕ
+meant q c owner = cond (is_put_m q) (Some c) owner
+
+only : (p : Protocol) (n : ℕ) (flat : ℕ) (before : Picture) (c : ℕ) (q : Request) (l : Looked p n flat before c q) → Roles p n flat before c q l → (another : Option ℕ) (sent : Payload) → Sends p n before c q another sent → another ≡ meant q c l.good.owner
+only p n flat before c q l roles None sent sends =
+    let e : is_some (sent_by_memory (Some l.mc)) ≡ true = some_true (sent_by_memory (Some l.mc)) sent (ap sent_by_memory (sym l.is_mc) ∙ sends) in
+    let h = and_parts (not (is_put_m q)) (not l.good.claims.owned) (sym roles.memory ∙ e) in
+    let no_put = not_true (is_put_m q) h.0 in
+    let no_owner : is_some l.good.owner ≡ false = l.good.is_owned ∙ not_true l.good.claims.owned h.1 in
+    sym (rw no_put (none_of l.good.owner no_owner))
+only p n flat before c q l roles (Some d) sent sends = elim (eqb_tells d c) as (λ _. Some d ≡ meant q c l.good.owner) [
+  | inl h ↦
+      let e : is_some (sent_by (Some l.oc)) ≡ true = some_true (sent_by (Some l.oc)) sent (ap sent_by (sym (own_row p n flat before c q l d h.1)) ∙ sends.1) in
+      let put : is_put_m q ≡ true = sym roles.requestor ∙ e in
+      rw put (ap (λ (x : ℕ). Some x) h.1)
+  | inr h ↦
+      let x = other_cell p n flat before c q l d sends.0 in
+      let row : cell_of p (held_by before d).state (seen_by d c q) ≡ Some x.0 = ap (λ (e : CacheEvent). cell_of p (held_by before d).state e) (seen_other d c q h.1) ∙ x.1 in
+      let e : is_some (sent_by (Some x.0)) ≡ true = some_true (sent_by (Some x.0)) sent (ap sent_by (sym row) ∙ sends.1) in
+      let both = and_parts (owns l.good.owner d) (not (is_put_m q)) (sym (roles.others d sends.0 h.1 x.0 x.1) ∙ e) in
+      rw (not_true (is_put_m q) both.1) (sym (owner_is l.good.owner d both.0))
+]
+
+-- the sender sends, and its line is in the table
+pub record Sent (p : Protocol) (n : ℕ) (flat : ℕ) (before : Picture) (c : ℕ) (q : Request) (l : Looked p n flat before c q) : Type 0 where
+  pub payload : Payload
+  pub sends : Sends p n before c q (meant q c l.good.owner) payload
+  pub order_line : is_led p q before.memory (sender_as before c (meant q c l.good.owner)) l.pl l.mc.next ≡ true
+
+sent_put : (p : Protocol) (n : ℕ) (flat : ℕ) (before : Picture) (c : ℕ) (q : Request) (l : Looked p n flat before c q) → Roles p n flat before c q l → is_put_m q ≡ true → Sent p n flat before c q l
+sent_put p n flat before c q l roles put =
+    let x = some_of (sent_by (Some l.oc)) (roles.requestor ∙ put) in
+    let row = own_row p n flat before c q l c refl in
+    let line : is_led p q before.memory (Requestor (held_by before c).state) l.pl l.mc.next ≡ true = implied (is_put_m q) _ (end_of p n flat before c q l OrderTests.order_line_of_put OrderTests.order_line_of_put_holds) put in
+    let who : meant q c l.good.owner ≡ Some c = rw put refl in
+    record {
+      payload = x.0;
+      sends = subst (λ (w : Option ℕ). Sends p n before c q w x.0) (sym who) (l.requestor_in, ap sent_by row ∙ x.1);
+      order_line = subst (λ (w : Option ℕ). is_led p q before.memory (sender_as before c w) l.pl l.mc.next ≡ true) (sym who) (rw (eq-eqb c c refl) line);
+    }
+
+sent_memory : (p : Protocol) (n : ℕ) (flat : ℕ) (before : Picture) (c : ℕ) (q : Request) (l : Looked p n flat before c q) → Roles p n flat before c q l → is_put_m q ≡ false → l.good.claims.owned ≡ false → Sent p n flat before c q l
+sent_memory p n flat before c q l roles no_put unowned =
+    let e : is_some (sent_by_memory (Some l.mc)) ≡ true = roles.memory ∙ rw (no_put, unowned) refl in
+    let x = some_of (sent_by_memory (Some l.mc)) e in
+    let line : is_led p q before.memory Memory l.pl l.mc.next ≡ true = implied (is_some (sent_by_memory (Some l.mc))) _ (end_of p n flat before c q l OrderTests.order_line_of_memory OrderTests.order_line_of_memory_holds) e in
+    let who : meant q c l.good.owner ≡ None = rw no_put (none_of l.good.owner (l.good.is_owned ∙ unowned)) in
+    record {
+      payload = x.0;
+      sends = subst (λ (w : Option ℕ). Sends p n before c q w x.0) (sym who) (ap sent_by_memory l.is_mc ∙ x.1);
+      order_line = subst (λ (w : Option ℕ). is_led p q before.memory (sender_as before c w) l.pl l.mc.next ≡ true) (sym who) line;
+    }
+
+sent_owner : (p : Protocol) (n : ℕ) (flat : ℕ) (before : Picture) (c : ℕ) (q : Request) (l : Looked p n flat before c q) → Roles p n flat before c q l → is_put_m q ≡ false → (d : ℕ) → l.good.owner ≡ Some d → Sent p n flat before c q l
+sent_owner p n flat before c q l roles no_put d is_d =
+    let d_in = l.good.owner_in d is_d in
+    let owning : owns l.good.owner d ≡ true = rw is_d (eq-eqb d d refl) in
+    let apart : d ≢ c = λ e. clash (is_put_m q) (roles.puts (ap (owns l.good.owner) (sym e) ∙ owning)) no_put in
+    let xc = other_cell p n flat before c q l d d_in in
+    let e : is_some (sent_by (Some xc.0)) ≡ true = roles.others d d_in apart xc.0 xc.1 ∙ rw (owning, no_put) refl in
+    let x = some_of (sent_by (Some xc.0)) e in
+    let row : cell_of p (held_by before d).state (seen_by d c q) ≡ Some xc.0 = ap (λ (v : CacheEvent). cell_of p (held_by before d).state v) (seen_other d c q apart) ∙ xc.1 in
+    let line : is_led p q before.memory (Core (held_by before d).state) l.pl l.mc.next ≡ true = implied (is_some (sent_by (Some xc.0))) _ (other_of p n flat before c q l OrderTests.order_line_of_core OrderTests.order_line_of_core_holds d d_in apart xc.0 xc.1) e in
+    let who : meant q c l.good.owner ≡ Some d = rw no_put is_d in
+    record {
+      payload = x.0;
+      sends = subst (λ (w : Option ℕ). Sends p n before c q w x.0) (sym who) (d_in, ap sent_by row ∙ x.1);
+      order_line = subst (λ (w : Option ℕ). is_led p q before.memory (sender_as before c w) l.pl l.mc.next ≡ true) (sym who) (rw (not_eqb d c apart) line);
+    }
+
+some_or_none : (o : Option ℕ) → (o ≡ None) ⊎ ((d : ℕ) × (o ≡ Some d))
+some_or_none None = inl refl
+some_or_none (Some d) = inr (d, refl)
+
+sent : (p : Protocol) (n : ℕ) (flat : ℕ) (before : Picture) (c : ℕ) (q : Request) (l : Looked p n flat before c q) → Roles p n flat before c q l → Sent p n flat before c q l
+sent p n flat before c q l roles = elim (or_not (is_put_m q)) as (λ _. Sent p n flat before c q l) [
+  | inl put ↦ sent_put p n flat before c q l roles put
+  | inr no_put ↦ elim (some_or_none l.good.owner) as (λ _. Sent p n flat before c q l) [
+    | inl none ↦ sent_memory p n flat before c q l roles no_put (sym l.good.is_owned ∙ rw none refl)
+    | inr some ↦ sent_owner p n flat before c q l roles no_put some.0 some.1
+  ]
+]
+
+-- an Order finds all its rows and exactly one sender, and is a line of the table of Orders
+pub order_possible : (p : Protocol) (n : ℕ) (flat : ℕ) (before : Picture) (c : ℕ) (q : Request) → Good p n flat before → c < n → waiting_request (held_by before c).state ≡ Some q → before.transaction ≡ None → Possible p n before c q
+order_possible p n flat before c q good c_in waits calm =
+    let l = look p n flat before c q good c_in waits calm in
+    let r = roles p n flat before c q l in
+    let s = sent p n flat before c q l r in
+    let same_payload : s.payload ≡ l.pl = sent_payload p n flat before c q l (meant q c l.good.owner) s.payload s.sends in
+    record {
+      rows = possible_rows p n flat before c q l;
+      cell_of_memory = l.mc;
+      memory_row = l.is_mc;
+      from = meant q c l.good.owner;
+      payload = s.payload;
+      sender = record { sends = s.sends; alone = only p n flat before c q l r };
+      writeback = λ put. rw put refl;
+      order_line = subst (λ (x : Payload). is_led p q before.memory (sender_as before c (meant q c l.good.owner)) x l.mc.next ≡ true) (sym same_payload) s.order_line;
+    }
+
+fits_protocol : (p : Protocol) (shared ow : Bool) (w : Option Request) (s : CacheState) → fits p shared ow w s ≡ true → in_protocol p s ≡ true
+unfolding fits
+fits_protocol p shared ow w s h = (and_parts _ _ h).0
+
+-- an Ask finds its row; an Evict in I has none and needs none
+pub ask_possible : (p : Protocol) (n : ℕ) (flat : ℕ) (before : Picture) (c : ℕ) (o : Op) → Good p n flat before → c < n → is_idle_evict (held_by before c).state (asked o) ≡ false → (r : CacheCell) × (cell_of p (held_by before c).state (asked o) ≡ Some r)
+ask_possible p n flat before c o good c_in busy =
+    let fit = good.states c c_in in
+    let h = when_at _ _ (fits_protocol p good.claims.shared (owns good.owner c) (awaited before.transaction c) (held_by before c).state fit) (ask_row p (held_by before c).state o) in
+    some_of (cell_of p (held_by before c).state (asked o)) (right_of (is_idle_evict (held_by before c).state (asked o)) _ h busy)
+
+pub respond_possible : (p : Protocol) (n : ℕ) (flat : ℕ) (before : Picture) (o : Open) → Good p n flat before → before.transaction ≡ Some o → Answerable p before o
+respond_possible p n flat before o good was_open =
+    let c = o.core in
+    let s = (held_by before c).state in
+    let ow = owns good.owner c in
+    let is_claims : claims_of p before.memory (Some (o.request, o.payload)) ≡ Some good.claims = ap (λ (t : Option Open). claims_of p before.memory (talk_of t)) (sym was_open) ∙ good.is_claims in
+    let waits : awaited before.transaction c ≡ Some o.request = ap (λ (t : Option Open). awaited t c) was_open ∙ rw (eq-eqb c c refl) refl in
+    let fit : fits p good.claims.shared ow (Some o.request) s ≡ true = ap (λ (w : Option Request). fits p good.claims.shared ow w s) (sym waits) ∙ good.states c (good.requestor_in o was_open) in
+    record {
+      memory = λ h.
+          let t = respond_rule RespondTests.has_memory_arrival RespondTests.has_memory_arrival_holds p before.memory o.request o.payload good.claims is_claims in
+          some_of (mem_row_of p before.memory (arrival_at_memory o.payload)) (implied (takes_payload o.request before.memory) _ t h);
+      requestor = λ no_put.
+          let get : not (is_put_m o.request) ≡ true = rw no_put refl in
+          let test_first = when_at _ _ get (respond_rule RespondTests.has_arrival RespondTests.has_arrival_holds p before.memory o.request o.payload good.claims is_claims) in
+          some_of (row_of p s (arrival o.payload)) (when_at _ _ fit (either-at _ (all_states-at _ test_first s) ow));
+    }

@@ -1,0 +1,239 @@
+-- Each core's queue has exactly the blocks on which it waits, each once, after each step of a run.
+use Rattle.std.proofs.Common.{◌≡◌, ◌≢◌, ℕ, ◌<◌, ◌+◌, not, cond, eqb, List, [], ◌∷◌, ◌++◌, length, replicate, filter, Option, Some, None, refl, ◌⊎◌, inl, inr, ap, sym, ◌∙◌, subst, arith}
+use Rattle.std.specs.Prelude.{is_some, slice_set, Result, Ok, Err}
+use Rattle.std.proofs.lemmas.Bool.{cases_lt}
+use Rattle.std.proofs.lemmas.Bool.Decides.{eqb_tells}
+use Rattle.std.proofs.lemmas.List.{length-set, length-replicate, get_or-replicate, get_or-set_same, get_or-set_other, get_or_past}
+use Rattle.snoop_trace.specs.Extent.{Extent}
+use Rattle.snoop_trace.specs.declared.step.Op.{Op}
+use Rattle.snoop_trace.specs.declared.step.Step.{Step}
+use Rattle.snoop_trace.specs.declared.step.Step.TheVariants.{Ask, Order, Respond}
+use Rattle.snoop_rules.specs.declared.names.Protocol.{Protocol}
+use Rattle.snoop_rules.specs.declared.names.CacheState.{CacheState}
+use Rattle.snoop_rules.specs.declared.names.CacheAction.{CacheAction}
+use Rattle.snoop_rules.specs.declared.names.CacheAction.TheVariants as action
+use Rattle.snoop_rules.specs.declared.names.Request.{Request}
+use Rattle.snoop_rules.specs.declared.names.Request.TheVariants as request
+use Rattle.snoop_rules.specs.Cell.{Cell}
+use Rattle.snoop_rules.specs.Takers.{asked, seen_by}
+use Rattle.snoop_rules.specs.Waits.{waiting_request}
+use Rattle.snoop_history.specs.declared.items.Did.{Did}
+use Rattle.snoop_history.specs.declared.items.Item.{Item}
+use Rattle.snoop_bus.specs.Queues.{queue_of, after_issue, after_order}
+use Rattle.snoop_bus.specs.declared.transactions.Open.{Open}
+use Rattle.snoop_model.specs.declared.line.Line.{Line}
+use Rattle.snoop_model.specs.declared.replies.Reply.{Reply}
+use Rattle.snoop_model.specs.declared.replies.Refused.{Refused}
+use Rattle.snoop_model.specs.Pictures.Picture.{Picture, held_at, held_by, nothing_held}
+use Rattle.snoop_model.specs.Pictures.Situation.{Situation, picture_of, state_of, reset}
+use Rattle.snoop_model.specs.Moves.Move.{Takes, Fills, ArrivesFor, Asks, Orders, Responds, IsWithin, MoveOn, queues_after}
+use Rattle.snoop_model.specs.Runs.Run.{Goes, RunFrom}
+use Rattle.snoop_model.specs.Runs.Once.{one_if}
+use Rattle.snoop_model.specs.Pictures.InQueue.{IsInQueue, AreQueued}
+use Rattle.snoop_model.specs.Invariant.Coherent.{IsCoherent}
+use Rattle.snoop_model.proofs.Tables.Rows.{issue-waits, hit-waits, drop-waits, own-waits, other-waits, fill-waits}
+use Rattle.snoop_model.proofs.OneBlock.AfterMoves.{ask_line, ask_other_core, ask_other_block, order_here, order_other_block, respond_here, respond_other_block}
+use Rattle.snoop_model.proofs.Lists.Facts.{either_way}
+use Rattle.snoop_model.proofs.Lists.QueueCounts.{times, times_push, times_without}
+use Rattle.snoop_model.proofs.Invariant.Runs.{goes_keeps, refusal_same, reset_line}
+
+abbrev waits : CacheState → ℕ
+waits s = one_if (is_some (waiting_request s))
+
+same_waits : (s t : CacheState) → waiting_request s ≡ waiting_request t → waits s ≡ waits t
+same_waits s t e = ap (λ (x : Option Request). one_if (is_some x)) e
+
+-- an Ask issues a request for a block on which the core did not wait, or leaves queue and wait
+ask_waits : (p : Protocol) (a : CacheAction) (next : CacheState) (log : List Item) (c b : ℕ) (asking : Op) (old new : Line) (answer : Reply) (entry : Option Item) (queues : List (List ℕ)) → Cell p old.state (asked asking) a next → Takes a next log c b asking old new answer entry
+    → ((queues_after a queues c b ≡ after_issue queues c b) × ((waits old.state ≡ 0) × (waits new.state ≡ 1))) ⊎ ((queues_after a queues c b ≡ queues) × (waits new.state ≡ waits old.state))
+ask_waits p action.Hit next log c b asking old new answer entry queues row t =
+    inr (refl, ap (λ (x : Line). waits x.state) t.held ∙ same_waits next old.state (hit-waits p old.state (asked asking) next row))
+ask_waits p (action.Issue q) next log c b asking old new answer entry queues row t =
+    let w = issue-waits p old.state (asked asking) q next row in
+    inl (refl, (ap (λ (x : Option Request). one_if (is_some x)) w.0, ap (λ (x : Line). waits x.state) t.0 ∙ ap (λ (x : Option Request). one_if (is_some x)) w.1))
+ask_waits p action.Drop next log c b asking old new answer entry queues row t =
+    inr (refl, ap (λ (x : Line). waits x.state) t.0 ∙ same_waits next old.state (drop-waits p old.state (asked asking) next row))
+ask_waits p action.None next log c b asking old new answer entry queues row t = absurd t
+ask_waits p action.Stall next log c b asking old new answer entry queues row t = absurd t
+ask_waits p action.FillLoad next log c b asking old new answer entry queues row t = absurd t
+ask_waits p action.FillStore next log c b asking old new answer entry queues row t = absurd t
+ask_waits p (action.Send sent target) next log c b asking old new answer entry queues row t = absurd t
+
+-- the pictures of the other cores and blocks are as they were
+others_waits : (old new : Situation) (c b core block : ℕ) → ((k : ℕ) → k ≢ c → held_by (picture_of new b) k ≡ held_by (picture_of old b) k) → ((k : ℕ) → k ≢ b → picture_of new k ≡ picture_of old k)
+    → ((core ≡ c) × (block ≡ b)) ⊎ (waits (state_of new core block) ≡ waits (state_of old core block))
+others_waits old new c b core block cores blocks = elim (eqb_tells block b) [
+  | inr h ↦ inr (ap (λ (x : Picture). waits (held_by x core).state) (blocks block h.1))
+  | inl h ↦ elim (eqb_tells core c) [
+    | inl i ↦ inl (i.1, h.1)
+    | inr i ↦ inr (subst (λ (y : ℕ). waits (state_of new core y) ≡ waits (state_of old core y)) (sym h.1) (ap (λ (x : Line). waits x.state) (cores core i.1)))
+  ]
+]
+
+-- nothing joins or leaves a queue
+left_alone : (old new : Situation) → AreQueued old → new.queues ≡ old.queues → new.shape ≡ old.shape → ((core block : ℕ) → waits (state_of new core block) ≡ waits (state_of old core block)) → AreQueued new
+left_alone old new q queues shape same = record {
+  many = ap (λ (l : List (List ℕ)). length l) queues ∙ (q.many ∙ ap (λ (x : Extent). x.cores) (sym shape));
+  each = λ core block. ap (λ (l : List (List ℕ)). times block (queue_of l core)) queues ∙ (q.each core block ∙ sym (same core block));
+}
+
+-- a block on which the core did not wait goes last in its queue
+issued : (old new : Situation) (c b : ℕ) → AreQueued old → c < old.shape.cores → new.queues ≡ after_issue old.queues c b → new.shape ≡ old.shape → waits (state_of old c b) ≡ 0 → waits (state_of new c b) ≡ 1
+    → ((core block : ℕ) → ((core ≡ c) × (block ≡ b)) ⊎ (waits (state_of new core block) ≡ waits (state_of old core block))) → AreQueued new
+issued old new c b q inside queues shape was is others = record {
+  many = ap (λ (l : List (List ℕ)). length l) queues ∙ (length-set old.queues c (queue_of old.queues c ++ b ∷ []) ∙ (q.many ∙ ap (λ (x : Extent). x.cores) (sym shape)));
+  each = λ core block.
+      let within : c < length old.queues = subst (λ (n : ℕ). c < n) (sym q.many) inside in
+      let old_c = q.each core block in
+      let now : queue_of new.queues core ≡ queue_of (after_issue old.queues c b) core = ap (λ (l : List (List ℕ)). queue_of l core) queues in
+      elim (eqb_tells core c) as (λ _. IsInQueue new core block) [
+        | inr h ↦
+            let same : queue_of new.queues core ≡ queue_of old.queues core = now ∙ get_or-set_other old.queues c core (queue_of old.queues c ++ b ∷ []) [] h.1 in
+            elim (others core block) [
+              | inl here ↦ absurd (h.1 here.0)
+              | inr e ↦ ap (times block) same ∙ (old_c ∙ sym e)
+            ]
+        | inl h ↦
+            let mine : queue_of new.queues core ≡ queue_of old.queues core ++ b ∷ [] =
+            now ∙ subst (λ (x : ℕ). queue_of (after_issue old.queues c b) x ≡ queue_of old.queues x ++ b ∷ []) (sym h.1) (get_or-set_same old.queues c (queue_of old.queues c ++ b ∷ []) [] within) in
+            let pushed : times block (queue_of new.queues core) ≡ times block (queue_of old.queues core) + one_if (eqb b block) = ap (times block) mine ∙ times_push block b (queue_of old.queues core) in
+            elim (eqb_tells b block) as (λ _. IsInQueue new core block) [
+              | inl i ↦
+                  let one : one_if (eqb b block) ≡ 1 = rw i.0 refl in
+                  let P : (x y : ℕ) → Type 0 = λ x y. waits (state_of old x y) ≡ 0 in
+                  let Q : (x y : ℕ) → Type 0 = λ x y. waits (state_of new x y) ≡ 1 in
+                  let w : waits (state_of old core block) ≡ 0 = subst (λ (x : ℕ). P x block) (sym h.1) (subst (P c) i.1 was) in
+                  let v : waits (state_of new core block) ≡ 1 = subst (λ (x : ℕ). Q x block) (sym h.1) (subst (Q c) i.1 is) in
+                  omega arith
+              | inr i ↦
+                  let none : one_if (eqb b block) ≡ 0 = rw i.0 refl in
+                  elim (others core block) [
+                    | inl here ↦ absurd (i.1 (sym here.1))
+                    | inr e ↦ omega arith
+                  ]
+            ]
+      ];
+}
+
+ask_queued : (old : Situation) (c b : ℕ) (asking : Op) (answer : Reply) (new : Situation) (entry : Option Item) → IsCoherent old → AreQueued old → IsWithin old c b → Asks old c b asking answer new entry → AreQueued new
+ask_queued old c b asking answer new entry g q within a =
+    let queues : new.queues ≡ queues_after a.act old.queues c b = ap (λ (s : Situation). s.queues) a.after in
+    let shape : new.shape ≡ old.shape = ap (λ (s : Situation). s.shape) a.after in
+    let line = ask_line old c b asking answer new entry g within a in
+    let others = λ (core block : ℕ). others_waits old new c b core block (ask_other_core old c b asking answer new entry g within a) (ask_other_block old c b asking answer new entry g within a) in
+    let here : (x : ℕ) → waits a.held.state ≡ x → waits (state_of new c b) ≡ x = λ x e. ap (λ (y : Line). waits y.state) line ∙ e in
+    elim (ask_waits old.protocol a.act a.next old.log c b asking (held_by (picture_of old b) c) a.held answer entry old.queues a.row a.taken) [
+      | inl i ↦ issued old new c b q within.0 (queues ∙ i.0) shape i.1.0 (here 1 i.1.1) others
+      | inr i ↦ left_alone old new q (queues ∙ i.0) shape (λ core block. elim (others core block) [
+        | inr e ↦ e
+        | inl at ↦
+            let P : (x y : ℕ) → Type 0 = λ x y. waits (state_of new x y) ≡ waits (state_of old x y) in
+            subst (λ (x : ℕ). P x block) (sym at.0) (subst (P c) (sym at.1) (here (waits (state_of old c b)) i.1))
+      ])
+    ]
+
+-- who waits after an Order: its core no longer, the others as before
+order_waits : (old : Situation) (c b : ℕ) (q : Request) (new : Situation) (o : Orders old c b q new) (k : ℕ) → waits (held_by o.next k).state ≡ cond (eqb k c) 0 (waits (held_by (picture_of old b) k).state)
+order_waits old c b q new o k = elim (cases_lt k (length o.next.caches)) [
+  | inl inside ↦
+      let row = o.rows k inside in
+      let state : waits (held_by o.next k).state ≡ waits row.1.0 = ap (λ (x : Line). waits x.state) row.1.1.1 in
+      elim (eqb_tells k c) as (λ _. waits (held_by o.next k).state ≡ cond (eqb k c) 0 (waits (held_by (picture_of old b) k).state)) [
+        | inl h ↦
+            let P : ℕ → Type 0 = λ x. Cell old.protocol (held_by (picture_of old b) x).state (seen_by x c q) row.0 row.1.0 in
+            let own = own-waits old.protocol (held_by (picture_of old b) c).state c q row.0 row.1.0 (subst P h.1 row.1.1.0) in
+            rw h.0 (state ∙ ap (λ (x : Option Request). one_if (is_some x)) own)
+        | inr h ↦ rw h.0 (state ∙ same_waits row.1.0 (held_by (picture_of old b) k).state (other-waits old.protocol (held_by (picture_of old b) k).state k c q row.0 row.1.0 h.1 row.1.1.0))
+      ]
+  | inr past ↦
+      let long = o.caches in
+      let e : waits (held_by o.next k).state ≡ 0 = ap (λ (x : Line). waits x.state) (get_or_past o.next.caches k nothing_held past) in
+      let f : waits (held_by (picture_of old b) k).state ≡ 0 = ap (λ (x : Line). waits x.state) (get_or_past (picture_of old b).caches k nothing_held (omega arith)) in
+      e ∙ (either_way (eqb k c) 0 ∙ ap (λ (n : ℕ). cond (eqb k c) 0 n) (sym f))
+]
+
+order_queued : (old : Situation) (c b : ℕ) (q : Request) (new : Situation) → IsCoherent old → AreQueued old → IsWithin old c b → Orders old c b q new → AreQueued new
+order_queued old c b q new g k within o =
+    let queues : new.queues ≡ after_order old.queues c b = ap (λ (s : Situation). s.queues) o.after in
+    let shape : new.shape ≡ old.shape = ap (λ (s : Situation). s.shape) o.after in
+    let left : List ℕ = filter (λ x. not (eqb x b)) (queue_of old.queues c) in
+    record {
+      many = ap (λ (l : List (List ℕ)). length l) queues ∙ (length-set old.queues c left ∙ (k.many ∙ ap (λ (x : Extent). x.cores) (sym shape)));
+      each = λ core block.
+          let inside : c < length old.queues = subst (λ (n : ℕ). c < n) (sym k.many) within.0 in
+          let was = k.each core block in
+          let now : queue_of new.queues core ≡ queue_of (after_order old.queues c b) core = ap (λ (l : List (List ℕ)). queue_of l core) queues in
+          let queue : times block (queue_of new.queues core) ≡ cond (eqb core c) (cond (eqb b block) 0 (times block (queue_of old.queues core))) (times block (queue_of old.queues core)) = elim (eqb_tells core c) as (λ _. times block (queue_of new.queues core) ≡ cond (eqb core c) (cond (eqb b block) 0 (times block (queue_of old.queues core))) (times block (queue_of old.queues core))) [
+            | inl h ↦
+                let mine : queue_of new.queues core ≡ filter (λ x. not (eqb x b)) (queue_of old.queues core) = now ∙ subst (λ (x : ℕ). queue_of (after_order old.queues c b) x ≡ filter (λ y. not (eqb y b)) (queue_of old.queues x)) (sym h.1) (get_or-set_same old.queues c left [] inside) in
+                rw h.0 (ap (times block) mine ∙ times_without block b (queue_of old.queues core))
+            | inr h ↦ rw h.0 (ap (times block) (now ∙ get_or-set_other old.queues c core left [] h.1))
+          ] in
+          let state : waits (state_of new core block) ≡ cond (eqb core c) (cond (eqb b block) 0 (waits (state_of old core block))) (waits (state_of old core block)) = elim (eqb_tells b block) as (λ _. waits (state_of new core block) ≡ cond (eqb core c) (cond (eqb b block) 0 (waits (state_of old core block))) (waits (state_of old core block))) [
+            | inl h ↦
+                let P : ℕ → Type 0 = λ y. waits (state_of new core y) ≡ cond (eqb core c) 0 (waits (state_of old core y)) in
+                rw h.0 (subst P h.1 (ap (λ (x : Picture). waits (held_by x core).state) (order_here old c b q new g within o) ∙ order_waits old c b q new o core))
+            | inr h ↦ rw h.0 (ap (λ (x : Picture). waits (held_by x core).state) (order_other_block old c b q new g within o block (λ e. h.1 (sym e))) ∙ either_way (eqb core c) (waits (state_of old core block)))
+          ] in
+          queue ∙ (ap (λ (n : ℕ). cond (eqb core c) (cond (eqb b block) 0 n) n) was ∙ sym state);
+    }
+
+-- a response changes no wait
+fills_waits : (closing : Open) (p : Protocol) (log : List Item) (old new : List Line) (did : Option Did) → closing.core < length old → Fills closing p log old new did → (k : ℕ) → waits (held_at new k).state ≡ waits (held_at old k).state
+fills_waits closing p log old new did inside f k =
+    let filled : Line = record { state = f.next; kept = Some f.after; waiting = None } in
+    let now : held_at new k ≡ held_at (slice_set old closing.core filled) k = ap (λ (l : List Line). held_at l k) f.held in
+    elim (eqb_tells k closing.core) [
+      | inr h ↦ ap (λ (x : Line). waits x.state) (now ∙ get_or-set_other old closing.core k filled nothing_held h.1)
+      | inl h ↦
+          let P : ℕ → Type 0 = λ x. waits (held_at (slice_set old closing.core filled) x).state ≡ waits (held_at old x).state in
+          let here : waits (held_at (slice_set old closing.core filled) closing.core).state ≡ waits (held_at old closing.core).state =
+          ap (λ (x : Line). waits x.state) (get_or-set_same old closing.core filled nothing_held inside) ∙ same_waits f.next (held_at old closing.core).state (fill-waits p (held_at old closing.core).state f.event f.act f.next f.asking f.fill f.row) in
+          ap (λ (x : Line). waits x.state) now ∙ subst P (sym h.1) here
+    ]
+
+arrives_waits : (q : Request) (closing : Open) (p : Protocol) (log : List Item) (old new : List Line) (did : Option Did) → closing.core < length old → ArrivesFor q closing p log old new did → (k : ℕ) → waits (held_at new k).state ≡ waits (held_at old k).state
+arrives_waits request.GetS closing p log old new did inside a k = fills_waits closing p log old new did inside a k
+arrives_waits request.GetM closing p log old new did inside a k = fills_waits closing p log old new did inside a k
+arrives_waits request.PutM closing p log old new did inside a k = ap (λ (l : List Line). waits (held_at l k).state) a.0
+
+respond_queued : (old : Situation) (b : ℕ) (closing : Open) (did : Option Did) (new : Situation) → IsCoherent old → AreQueued old → b < old.shape.blocks → Responds old b closing did new → AreQueued new
+respond_queued old b closing did new g q within r =
+    let inside : closing.core < length (picture_of old b).caches = subst (λ (n : ℕ). closing.core < n) (sym (g.row b within)) ((g.good b within).requestor_in closing r.opened) in
+    left_alone old new q (ap (λ (s : Situation). s.queues) r.after) (ap (λ (s : Situation). s.shape) r.after) (λ core block. elim (eqb_tells block b) [
+      | inl h ↦
+          let P : ℕ → Type 0 = λ y. waits (state_of new core y) ≡ waits (state_of old core y) in
+          subst P (sym h.1) (ap (λ (x : Picture). waits (held_by x core).state) (respond_here old b closing did new g within r) ∙ arrives_waits closing.request closing old.protocol old.log (picture_of old b).caches r.next.caches did inside r.requestor core)
+      | inr h ↦ ap (λ (x : Picture). waits (held_by x core).state) (respond_other_block old b closing did new g within r block h.1)
+    ])
+
+-- a move keeps the queues
+pub move_queued : (block : ℕ) (old : Situation) (step : Step) (answer : Reply) (new : Situation) (entry : Option Item) → IsCoherent old → AreQueued old → MoveOn block old step answer new entry → AreQueued new
+move_queued block old (Ask core on asking) answer new entry g q m = elim m.2 as (λ _. AreQueued new) [
+  | inl idle ↦ subst AreQueued (sym idle.3) q
+  | inr a ↦ ask_queued old core block asking answer new entry g q m.1 a
+]
+move_queued block old (Order core) answer new entry g q m = order_queued old core block m.0 new g q m.1.0 m.1.3
+move_queued block old (Respond on) answer new entry g q m = respond_queued old block m.0 m.1.0 new g q m.1.1.1 m.1.1.4
+
+goes_queued : (old : Situation) (step : Step) (outcome : Result Reply Refused) (new : Situation) → IsCoherent old → AreQueued old → Goes old step outcome new → AreQueued new
+goes_queued old step (Ok answer) new g q m = move_queued m.1.0 old step answer new m.0 g q m.1.1
+goes_queued old step (Err cause) new g q r = subst AreQueued (sym (refusal_same old step cause new r)) q
+
+pub run_queued : (steps : List Step) (outcomes : List (Result Reply Refused)) (old new : Situation) → IsCoherent old → AreQueued old → RunFrom old steps outcomes new → AreQueued new
+run_queued [] [] old new g q r = subst AreQueued (sym r) q
+run_queued (step ∷ steps) (outcome ∷ outcomes) old new g q r = run_queued steps outcomes r.0 new (goes_keeps old step outcome r.0 g r.1.0) (goes_queued old step outcome r.0 g q r.1.0) r.1.1
+run_queued [] (outcome ∷ outcomes) old new g q r = absurd r
+run_queued (step ∷ steps) [] old new g q r = absurd r
+
+empty_queue : (cores core : ℕ) → queue_of (replicate cores []) core ≡ []
+empty_queue cores core = elim (cases_lt core cores) [
+  | inl inside ↦ get_or-replicate cores core [] [] inside
+  | inr past ↦ let long = length-replicate {A = List ℕ} cores [] in get_or_past (replicate cores []) core [] (omega arith)
+]
+
+pub reset_queued : (p : Protocol) (shape : Extent) → AreQueued (reset p shape)
+reset_queued p shape = record {
+  many = length-replicate shape.cores [];
+  each = λ core block. ap (times block) (empty_queue shape.cores core) ∙ sym (ap (λ (x : Line). waits x.state) (reset_line p shape core block));
+}

@@ -1,0 +1,8 @@
+-- Runs.
+pub mod GoOn
+pub mod AreOne
+pub mod AmpleRoom
+pub mod AllTaken
+pub mod Shape
+pub mod Replies
+pub mod Prepared

@@ -1,0 +1,390 @@
+-- The run of some steps is the only one: a step has one outcome, and leads to one situation.
+use Rattle.std.proofs.Common.{◌≡◌, ℕ, ◌<◌, ◌≤◌, Bool, true, false, List, [], ◌∷◌, ◌++◌, length, Option, Some, None, refl, ◌⊎◌, inl, inr, ap, sym, ◌∙◌, subst, arith}
+use Rattle.std.specs.Prelude.{IsSome, Result, Ok, Err, MatchBool, is_some, option_to_list, slice_get, slice_set}
+use Rattle.std.proofs.lemmas.List.{same_lists, get_or_default}
+use Rattle.snoop_trace.specs.declared.step.Op.{Op}
+use Rattle.snoop_trace.specs.declared.step.Op.TheVariants as op
+use Rattle.snoop_trace.specs.declared.step.Step.{Step}
+use Rattle.snoop_trace.specs.declared.step.Step.TheVariants.{Ask, Order, Respond}
+use Rattle.snoop_rules.specs.declared.names.Protocol.{Protocol}
+use Rattle.snoop_rules.specs.declared.names.CacheState.{CacheState}
+use Rattle.snoop_rules.specs.declared.names.CacheEvent.{CacheEvent}
+use Rattle.snoop_rules.specs.declared.names.CacheAction.{CacheAction}
+use Rattle.snoop_rules.specs.declared.names.CacheAction.TheVariants as action
+use Rattle.snoop_rules.specs.declared.names.MemEvent.{MemEvent}
+use Rattle.snoop_rules.specs.declared.names.MemAction.TheVariants as mem_action
+use Rattle.snoop_rules.specs.declared.names.Request.{Request}
+use Rattle.snoop_rules.specs.declared.names.Request.TheVariants as request
+use Rattle.snoop_rules.specs.declared.names.Payload.{Payload}
+use Rattle.snoop_rules.specs.Cell.{Cell}
+use Rattle.snoop_rules.specs.MemoryCell.{MemoryCell}
+use Rattle.snoop_rules.specs.Takers.{asked, at_memory, takes_payload, seen_by}
+use Rattle.snoop_rules.proofs.Rows.{Cell-one}
+use Rattle.snoop_rules.proofs.MemRows.{MemoryCell-one}
+use Rattle.snoop_history.specs.declared.items.Did.{Did}
+use Rattle.snoop_history.specs.declared.items.Item.{Item}
+use Rattle.snoop_history.specs.declared.items.Item.TheVariants as item
+use Rattle.snoop_history.specs.History.{next_number}
+use Rattle.snoop_bus.specs.declared.transactions.Open.{Open}
+use Rattle.snoop_bus.specs.Queues.{queue_of, after_order}
+use Rattle.snoop_model.specs.declared.line.Line.{Line}
+use Rattle.snoop_model.specs.declared.replies.Reply.{Reply}
+use Rattle.snoop_model.specs.declared.replies.Reply.TheVariants as reply
+use Rattle.snoop_model.specs.declared.replies.Refused.{Refused}
+use Rattle.snoop_model.specs.declared.replies.Refused.TheVariants.{NoCore, NoBlock, Stalled, NothingWaiting, BusTaken, NoTransaction, NoMemory}
+use Rattle.snoop_model.specs.Pictures.Picture.{Picture, held_at, held_by, nothing_held}
+use Rattle.snoop_model.specs.Pictures.Situation.{Situation, picture_of, with_picture, state_of}
+use Rattle.snoop_model.specs.Pictures.Sends.{Sends, value_sent}
+use Rattle.snoop_model.specs.Moves.Move.{TakesRow, Takes, Hits, Fills, ArrivesFor, ArrivesAtMemory, TakesPayload, Asks, Orders, Responds, IsAbsent, IsWithin, FirstMove, Performs, comes_to, next_did, queues_after, came_of, written}
+use Rattle.snoop_model.specs.Moves.Refuses.{Refuses, IsStall, WaitsOnNone}
+use Rattle.snoop_model.specs.Runs.Run.{GoesFirst, FirstRunFrom}
+use Rattle.snoop_model.specs.Invariant.WellKept.{IsWellKept}
+use Rattle.snoop_model.specs.Turns.TurnRule.{KeepsWell}
+use Rattle.snoop_model.proofs.Tables.EvictInI.{no_row}
+use Rattle.snoop_model.proofs.OneBlock.OfBlocks.{same_picture}
+use Rattle.snoop_model.proofs.Runs.GoOn.{IsSteady, first_in, steady_on}
+
+same_some : {A : Type 0} {a b : A} → ◌≡◌ {A = Option A} (Some a) (Some b) → a ≡ b
+same_some e = cc
+
+-- why an Ask is refused
+abbrev AskCause : Situation → ℕ → ℕ → Op → Refused → Type 0
+AskCause s core block asking cause =
+    ((cause ≡ NoCore) × (s.shape.cores ≤ core))
+    ⊎ (((cause ≡ NoBlock) × (core < s.shape.cores) × (s.shape.blocks ≤ block))
+    ⊎ ((cause ≡ Stalled (state_of s core block)) × (core < s.shape.cores) × (block < s.shape.blocks) × IsStall s core block asking))
+
+ask_cause : (s : Situation) (core block : ℕ) (asking : Op) (cause : Refused) → Refuses s (Ask core block asking) cause → AskCause s core block asking cause
+ask_cause s core block asking NoCore h = inl (refl, h)
+ask_cause s core block asking NoBlock h = inr (inl (refl, h.0, h.1))
+ask_cause s core block asking (Stalled held) h = inr (inr (ap (λ (x : CacheState). Stalled x) h.1, h.0.0, h.0.1, h.2))
+ask_cause s core block asking NothingWaiting h = absurd h
+ask_cause s core block asking (BusTaken on) h = absurd h
+ask_cause s core block asking NoTransaction h = absurd h
+ask_cause s core block asking NoMemory h = absurd h
+
+-- why an Order is refused
+abbrev OrderCause : Situation → ℕ → Refused → Type 0
+OrderCause s core cause =
+    ((cause ≡ NoCore) × (s.shape.cores ≤ core))
+    ⊎ (((cause ≡ NothingWaiting) × (core < s.shape.cores) × WaitsOnNone s core)
+    ⊎ ((block : ℕ) × ((cause ≡ BusTaken block) × (core < s.shape.cores) × (slice_get (queue_of s.queues core) 0 ≡ Some block) × IsSome (picture_of s block).transaction)))
+
+order_cause : (s : Situation) (core : ℕ) (cause : Refused) → Refuses s (Order core) cause → OrderCause s core cause
+order_cause s core NoCore h = inl (refl, h)
+order_cause s core NothingWaiting h = inr (inl (refl, h.0, h.1))
+order_cause s core (BusTaken block) h = inr (inr (block, (refl, h.0, h.1, h.2)))
+order_cause s core NoBlock h = absurd h
+order_cause s core (Stalled held) h = absurd h
+order_cause s core NoTransaction h = absurd h
+order_cause s core NoMemory h = absurd h
+
+-- why a Respond is refused
+abbrev RespondCause : Situation → ℕ → Refused → Type 0
+RespondCause s block cause =
+    ((cause ≡ NoBlock) × (s.shape.blocks ≤ block))
+    ⊎ ((cause ≡ NoTransaction) × (block < s.shape.blocks) × ((picture_of s block).transaction ≡ None))
+
+respond_cause : (s : Situation) (block : ℕ) (cause : Refused) → Refuses s (Respond block) cause → RespondCause s block cause
+respond_cause s block NoBlock h = inl (refl, h)
+respond_cause s block NoTransaction h = inr (refl, h.0, h.1)
+respond_cause s block NoCore h = absurd h
+respond_cause s block (Stalled held) h = absurd h
+respond_cause s block NothingWaiting h = absurd h
+respond_cause s block (BusTaken on) h = absurd h
+respond_cause s block NoMemory h = absurd h
+
+-- a core whose queue begins with a block waits
+head_waits : (s : Situation) → IsWellKept s → (core block : ℕ) → slice_get (queue_of s.queues core) 0 ≡ Some block → ¬ WaitsOnNone s core
+head_waits s kept core block first none =
+    let waits = kept.waits core block (first_in (queue_of s.queues core) block first) in
+    none block waits.0 waits.1
+
+ask_causes : (s : Situation) (core block : ℕ) (asking : Op) (c d : Refused) → AskCause s core block asking c → AskCause s core block asking d → c ≡ d
+ask_causes s core block asking c d (inl h) (inl k) = h.0 ∙ sym k.0
+ask_causes s core block asking c d (inl h) (inr (inl k)) = let a : s.shape.cores ≤ core = h.1 in let b : core < s.shape.cores = k.1 in absurd (omega arith)
+ask_causes s core block asking c d (inl h) (inr (inr k)) = let a : s.shape.cores ≤ core = h.1 in let b : core < s.shape.cores = k.1 in absurd (omega arith)
+ask_causes s core block asking c d (inr (inl h)) (inl k) = let a : s.shape.cores ≤ core = k.1 in let b : core < s.shape.cores = h.1 in absurd (omega arith)
+ask_causes s core block asking c d (inr (inl h)) (inr (inl k)) = h.0 ∙ sym k.0
+ask_causes s core block asking c d (inr (inl h)) (inr (inr k)) = let a : s.shape.blocks ≤ block = h.2 in let b : block < s.shape.blocks = k.2 in absurd (omega arith)
+ask_causes s core block asking c d (inr (inr h)) (inl k) = let a : s.shape.cores ≤ core = k.1 in let b : core < s.shape.cores = h.1 in absurd (omega arith)
+ask_causes s core block asking c d (inr (inr h)) (inr (inl k)) = let a : s.shape.blocks ≤ block = k.2 in let b : block < s.shape.blocks = h.2 in absurd (omega arith)
+ask_causes s core block asking c d (inr (inr h)) (inr (inr k)) = h.0 ∙ sym k.0
+
+order_causes : (s : Situation) → IsWellKept s → (core : ℕ) (c d : Refused) → OrderCause s core c → OrderCause s core d → c ≡ d
+order_causes s kept core c d (inl h) (inl k) = h.0 ∙ sym k.0
+order_causes s kept core c d (inl h) (inr (inl k)) = let a : s.shape.cores ≤ core = h.1 in let b : core < s.shape.cores = k.1 in absurd (omega arith)
+order_causes s kept core c d (inl h) (inr (inr k)) = let a : s.shape.cores ≤ core = h.1 in let b : core < s.shape.cores = k.1.1 in absurd (omega arith)
+order_causes s kept core c d (inr (inl h)) (inl k) = let a : s.shape.cores ≤ core = k.1 in let b : core < s.shape.cores = h.1 in absurd (omega arith)
+order_causes s kept core c d (inr (inl h)) (inr (inl k)) = h.0 ∙ sym k.0
+order_causes s kept core c d (inr (inl h)) (inr (inr k)) = absurd (head_waits s kept core k.0 k.1.2 h.2)
+order_causes s kept core c d (inr (inr h)) (inl k) = let a : s.shape.cores ≤ core = k.1 in let b : core < s.shape.cores = h.1.1 in absurd (omega arith)
+order_causes s kept core c d (inr (inr h)) (inr (inl k)) = absurd (head_waits s kept core h.0 h.1.2 k.2)
+order_causes s kept core c d (inr (inr h)) (inr (inr k)) = h.1.0 ∙ (ap (λ (x : ℕ). BusTaken x) (same_some (sym h.1.2 ∙ k.1.2)) ∙ sym k.1.0)
+
+respond_causes : (s : Situation) (block : ℕ) (c d : Refused) → RespondCause s block c → RespondCause s block d → c ≡ d
+respond_causes s block c d (inl h) (inl k) = h.0 ∙ sym k.0
+respond_causes s block c d (inl h) (inr k) = let a : s.shape.blocks ≤ block = h.1 in let b : block < s.shape.blocks = k.1 in absurd (omega arith)
+respond_causes s block c d (inr h) (inl k) = let a : s.shape.blocks ≤ block = k.1 in let b : block < s.shape.blocks = h.1 in absurd (omega arith)
+respond_causes s block c d (inr h) (inr k) = h.0 ∙ sym k.0
+
+-- one cause refuses a step
+one_cause : (s : Situation) → IsWellKept s → (step : Step) (c d : Refused) → Refuses s step c → Refuses s step d → c ≡ d
+one_cause s kept (Ask core block asking) c d h k = ask_causes s core block asking c d (ask_cause s core block asking c h) (ask_cause s core block asking d k)
+one_cause s kept (Order core) c d h k = order_causes s kept core c d (order_cause s core c h) (order_cause s core d k)
+one_cause s kept (Respond block) c d h k = respond_causes s block c d (respond_cause s block c h) (respond_cause s block d k)
+
+-- a move is not refused
+asks_no_stall : (s : Situation) (core block : ℕ) (asking : Op) (answer : Reply) (new : Situation) (entry : Option Item) → IsAbsent s core block asking answer new entry ⊎ Asks s core block asking answer new entry → ¬ IsStall s core block asking
+asks_no_stall s core block asking answer new entry (inl absent) stall = no_row s.protocol (state_of s core block) asking action.Stall stall.0 absent.0 absent.1 stall.1
+asks_no_stall s core block asking answer new entry (inr asks) stall =
+    let same = (Cell-one s.protocol (state_of s core block) (asked asking) asks.act action.Stall asks.next stall.0 asks.row stall.1).0 in
+    let P : CacheAction → Type 0 = λ act. Takes act asks.next s.log core block asking (held_by (picture_of s block) core) asks.held answer entry in
+    subst P same asks.taken
+
+-- the parts of an Ask's move
+ask_parts : (s : Situation) (core block : ℕ) (asking : Op) (answer : Reply) (new : Situation) (entry : Option Item) → FirstMove s (Ask core block asking) answer new entry → IsWithin s core block × (IsAbsent s core block asking answer new entry ⊎ Asks s core block asking answer new entry)
+ask_parts s core block asking answer new entry move =
+    let P : ℕ → Type 0 = λ b. IsWithin s core b × (IsAbsent s core b asking answer new entry ⊎ Asks s core b asking answer new entry) in
+    subst P (sym move.1.1.0) (move.1.1.1, move.1.1.2)
+
+not_refused : (s : Situation) → IsWellKept s → (step : Step) (answer : Reply) (new : Situation) (entry : Option Item) (cause : Refused) → FirstMove s step answer new entry → ¬ Refuses s step cause
+not_refused s kept (Ask core block asking) answer new entry cause move refused =
+    let parts = ask_parts s core block asking answer new entry move in
+    let in_cores : core < s.shape.cores = parts.0.0 in
+    let in_blocks : block < s.shape.blocks = parts.0.1 in
+    elim (ask_cause s core block asking cause refused) [
+      | inl h ↦ let past : s.shape.cores ≤ core = h.1 in absurd (omega arith)
+      | inr rest ↦ elim rest [
+        | inl h ↦ let past : s.shape.blocks ≤ block = h.2 in absurd (omega arith)
+        | inr h ↦ asks_no_stall s core block asking answer new entry parts.1 h.3
+      ]
+    ]
+not_refused s kept (Order core) answer new entry cause move refused =
+    let block : ℕ = move.0 in
+    let its = move.1.1.1 in
+    let in_cores : core < s.shape.cores = its.0.0 in
+    elim (order_cause s core cause refused) [
+      | inl h ↦ let past : s.shape.cores ≤ core = h.1 in absurd (omega arith)
+      | inr rest ↦ elim rest [
+        | inl h ↦ h.2 block move.1.1.0 its.3.waits
+        | inr h ↦
+            let same : h.0 ≡ block = same_some (sym h.1.2 ∙ move.1.0) in
+            let taken : is_some (picture_of s block).transaction ≡ true = subst (λ (b : ℕ). is_some (picture_of s b).transaction ≡ true) same h.1.3 in
+            let free : is_some (picture_of s block).transaction ≡ false = ap is_some its.3.free in
+            cc
+      ]
+    ]
+not_refused s kept (Respond block) answer new entry cause move refused =
+    let its = move.1.1.1.1 in
+    let same : block ≡ move.0 = its.0 in
+    let in_blocks : move.0 < s.shape.blocks = its.1 in
+    elim (respond_cause s block cause refused) [
+      | inl h ↦ let past : s.shape.blocks ≤ block = h.1 in absurd (omega arith)
+      | inr h ↦
+          let opened : (picture_of s block).transaction ≡ Some move.1.1.0 = subst (λ (b : ℕ). (picture_of s b).transaction ≡ Some move.1.1.0) (sym same) its.4.opened in
+          cc
+    ]
+
+-- an Ask's row does one thing
+hits_one : (next : CacheState) (log : List Item) (core block : ℕ) (asking : Op) (old new new' : Line) (answer answer' : Reply) (entry entry' : Option Item)
+    → Hits next log core block asking old new answer entry → Hits next log core block asking old new' answer' entry' → (new ≡ new') × (answer ≡ answer') × (entry ≡ entry')
+hits_one next log core block op.Load old new new' answer answer' entry entry' a b =
+    let before : a.before ≡ b.before = same_some (sym a.kept ∙ b.kept) in
+    let value : a.value ≡ b.value = a.performed.0 ∙ (before ∙ sym b.performed.0) in
+    let after : a.after ≡ b.after = a.performed.1 ∙ (before ∙ sym b.performed.1) in
+    let line : new ≡ new' = a.held ∙ (ap (λ (v : ℕ). let x : Line = record { state = next; kept = Some v; waiting = old.waiting } in x) after ∙ sym b.held) in (
+      line,
+      a.answered ∙ (ap (λ v. reply.Hit v) value ∙ sym b.answered),
+      a.logged ∙ (ap (λ (v : ℕ). let x : Option Item = Some (item.Did (record { core = core; number = next_number log core; block = block; load = true; value = v; hit = true })) in x) value ∙ sym b.logged),
+    )
+hits_one next log core block (op.Store stored) old new new' answer answer' entry entry' a b =
+    let value : a.value ≡ b.value = a.performed.0 ∙ sym b.performed.0 in
+    let after : a.after ≡ b.after = a.performed.1 ∙ sym b.performed.1 in
+    let line : new ≡ new' = a.held ∙ (ap (λ (v : ℕ). let x : Line = record { state = next; kept = Some v; waiting = old.waiting } in x) after ∙ sym b.held) in (
+      line,
+      a.answered ∙ sym b.answered,
+      a.logged ∙ (ap (λ (v : ℕ). let x : Option Item = Some (item.Did (record { core = core; number = next_number log core; block = block; load = false; value = v; hit = true })) in x) value ∙ sym b.logged),
+    )
+hits_one next log core block op.Evict old new new' answer answer' entry entry' a b = absurd a.performed
+
+takes_one : (act : CacheAction) (next : CacheState) (log : List Item) (core block : ℕ) (asking : Op) (old new new' : Line) (answer answer' : Reply) (entry entry' : Option Item)
+    → Takes act next log core block asking old new answer entry → Takes act next log core block asking old new' answer' entry' → (new ≡ new') × (answer ≡ answer') × (entry ≡ entry')
+takes_one action.Hit next log core block asking old new new' answer answer' entry entry' a b = hits_one next log core block asking old new new' answer answer' entry entry' a b
+takes_one (action.Issue r) next log core block asking old new new' answer answer' entry entry' a b = (a.0 ∙ sym b.0, a.1 ∙ sym b.1, a.2 ∙ sym b.2)
+takes_one action.Drop next log core block asking old new new' answer answer' entry entry' a b = (a.0 ∙ sym b.0, a.1 ∙ sym b.1, a.2 ∙ sym b.2)
+takes_one action.None next log core block asking old new new' answer answer' entry entry' a b = absurd a
+takes_one action.Stall next log core block asking old new new' answer answer' entry entry' a b = absurd a
+takes_one action.FillLoad next log core block asking old new new' answer answer' entry entry' a b = absurd a
+takes_one action.FillStore next log core block asking old new new' answer answer' entry entry' a b = absurd a
+takes_one (action.Send payload target) next log core block asking old new new' answer answer' entry entry' a b = absurd a
+
+-- the situation after an Ask, by its action, its line and its item
+abbrev asked_after : Situation → ℕ → ℕ → CacheAction → Line → Option Item → Situation
+asked_after s core block act held entry = record s {
+  caches = slice_set s.caches block (slice_set (picture_of s block).caches core held);
+  queues = queues_after act s.queues core block;
+  log = s.log ++ option_to_list entry;
+}
+
+-- what is equal of two moves
+abbrev SameMove : Reply → Situation → Reply → Situation → Type 0
+SameMove answer new answer' new' = (answer ≡ answer') × (new ≡ new')
+
+asks_one : (s : Situation) (core block : ℕ) (asking : Op) (answer answer' : Reply) (new new' : Situation) (entry entry' : Option Item) → Asks s core block asking answer new entry → Asks s core block asking answer' new' entry' → SameMove answer new answer' new'
+asks_one s core block asking answer answer' new new' entry entry' a b =
+    let row = Cell-one s.protocol (state_of s core block) (asked asking) a.act b.act a.next b.next a.row b.row in
+    let old : Line = held_by (picture_of s block) core in
+    let P : CacheAction → Type 0 = λ act. Takes act b.next s.log core block asking old b.held answer' entry' in
+    let Q : CacheState → Type 0 = λ next. Takes a.act next s.log core block asking old b.held answer' entry' in
+    let taken : Takes a.act a.next s.log core block asking old b.held answer' entry' = subst Q (sym row.1) (subst P (sym row.0) b.taken) in
+    let same = takes_one a.act a.next s.log core block asking old a.held b.held answer answer' entry entry' a.taken taken in (
+      same.1,
+      a.after ∙ (ap (λ act. asked_after s core block act a.held entry) row.0 ∙ (ap (λ held. asked_after s core block b.act held entry) same.0 ∙ (ap (λ e. asked_after s core block b.act b.held e) same.2 ∙ sym b.after))),
+    )
+
+asks_or_absent : (s : Situation) (core block : ℕ) (asking : Op) (answer answer' : Reply) (new new' : Situation) (entry entry' : Option Item) → IsAbsent s core block asking answer new entry ⊎ Asks s core block asking answer new entry → IsAbsent s core block asking answer' new' entry' ⊎ Asks s core block asking answer' new' entry' → SameMove answer new answer' new'
+asks_or_absent s core block asking answer answer' new new' entry entry' (inl a) (inl b) = (a.2 ∙ sym b.2, a.3 ∙ sym b.3)
+asks_or_absent s core block asking answer answer' new new' entry entry' (inl a) (inr b) = absurd (no_row s.protocol (state_of s core block) asking b.act b.next a.0 a.1 b.row)
+asks_or_absent s core block asking answer answer' new new' entry entry' (inr a) (inl b) = absurd (no_row s.protocol (state_of s core block) asking a.act a.next b.0 b.1 a.row)
+asks_or_absent s core block asking answer answer' new new' entry entry' (inr a) (inr b) = asks_one s core block asking answer answer' new new' entry entry' a b
+
+-- a controller's row leads to one line
+row_one : (p : Protocol) (e : CacheEvent) (old new new' : Line) → TakesRow p e old new → TakesRow p e old new' → new ≡ new'
+row_one p e old new new' a b =
+    let row = Cell-one p old.state e a.0 b.0 a.1.0 b.1.0 a.1.1.0 b.1.1.0 in
+    a.1.1.1 ∙ (ap (λ next. comes_to next old) row.1 ∙ sym b.1.1.1)
+
+-- lists of lines that are equal at each place
+same_row : (xs ys : List Line) → length xs ≡ length ys → ((k : ℕ) → k < length xs → held_at xs k ≡ held_at ys k) → xs ≡ ys
+same_row xs ys long each = same_lists xs ys long (λ k d h. get_or_default xs k d nothing_held h ∙ (each k h ∙ get_or_default ys k nothing_held d (rw (← long) h)))
+
+-- a sender sends one payload
+sends_one : (p : Protocol) (before : Picture) (core : ℕ) (q : Request) (from : Option ℕ) (payload payload' : Payload) → Sends p before core q from payload → Sends p before core q from payload' → payload ≡ payload'
+sends_one p before core q None payload payload' a b =
+    let same : mem_action.Send payload ≡ mem_action.Send payload' = (MemoryCell-one p before.memory (at_memory q) (mem_action.Send payload) (mem_action.Send payload') a.0 b.0 a.1 b.1).0 in cc
+sends_one p before core q (Some d) payload payload' a b =
+    let same : action.Send payload a.1.0 ≡ action.Send payload' b.1.0 = (Cell-one p (held_by before d).state (seen_by d core q) (action.Send payload a.1.0) (action.Send payload' b.1.0) a.1.1.0 b.1.1.0 a.1.1.1 b.1.1.1).0 in cc
+
+-- the transaction that an Order opens
+abbrev opening : Picture → ℕ → ℕ → Request → Option ℕ → Payload → Option Open
+opening before core block q from payload = Some (record { core = core; request = q; block = block; payload = payload; value = value_sent before from payload; from = from })
+
+orders_one : (s : Situation) (core block : ℕ) (q : Request) (new new' : Situation) → Orders s core block q new → Orders s core block q new' → new ≡ new'
+orders_one s core block q new new' a b =
+    let p = s.protocol in
+    let before : Picture = picture_of s block in
+    let from : b.from ≡ a.from = a.sent.alone b.from b.payload b.sent.sends in
+    let payload : a.payload ≡ b.payload = sends_one p before core q a.from a.payload b.payload a.sent.sends (subst (λ (f : Option ℕ). Sends p before core q f b.payload) from b.sent.sends) in
+    let caches : a.next.caches ≡ b.next.caches = same_row a.next.caches b.next.caches (a.caches ∙ sym b.caches) (λ k h. row_one p (seen_by k core q) (held_by before k) (held_by a.next k) (held_by b.next k) (a.rows k h) (b.rows k (rw (← a.caches ∙ sym b.caches) h))) in
+    let memory : a.next.memory ≡ b.next.memory = (MemoryCell-one p before.memory (at_memory q) a.memory.0 b.memory.0 a.next.memory b.next.memory a.memory.1 b.memory.1).1 in
+    let opened : a.next.transaction ≡ b.next.transaction = a.opened ∙ (ap (λ f. opening before core block q f a.payload) (sym from) ∙ (ap (λ x. opening before core block q b.from x) payload ∙ sym b.opened)) in
+    let next : a.next ≡ b.next = same_picture _ _ _ _ _ _ _ _ caches memory (a.value ∙ sym b.value) opened in
+    let then : Picture → Situation = λ x. record (with_picture s block x) { queues = after_order s.queues core block; log = s.log ++ item.Sent (record { core = core; request = q; block = block }) ∷ [] } in
+    a.after ∙ (ap then next ∙ sym b.after)
+
+-- data does one thing at its requestor
+fill_ends : (o : Open) (log : List Item) (old new new' : List Line) (did did' : Option Did) (asking : Op) (value value' after after' : ℕ) (next : CacheState)
+    → Performs asking o.value value after → Performs asking o.value value' after'
+    → did ≡ Some (next_did log o.core o.block asking value false) → did' ≡ Some (next_did log o.core o.block asking value' false)
+    → new ≡ slice_set old o.core (record { state = next; kept = Some after; waiting = None }) → new' ≡ slice_set old o.core (record { state = next; kept = Some after'; waiting = None })
+    → (new ≡ new') × (did ≡ did')
+fill_ends o log old new new' did did' op.Load value value' after after' next a b logged logged' held held' =
+    (held ∙ (ap (λ (v : ℕ). slice_set old o.core (let x : Line = record { state = next; kept = Some v; waiting = None } in x)) (a.1 ∙ sym b.1) ∙ sym held'), logged ∙ (ap (λ (v : ℕ). let x : Option Did = Some (next_did log o.core o.block op.Load v false) in x) (a.0 ∙ sym b.0) ∙ sym logged'))
+fill_ends o log old new new' did did' (op.Store stored) value value' after after' next a b logged logged' held held' =
+    (held ∙ (ap (λ (v : ℕ). slice_set old o.core (let x : Line = record { state = next; kept = Some v; waiting = None } in x)) (a.1 ∙ sym b.1) ∙ sym held'), logged ∙ (ap (λ (v : ℕ). let x : Option Did = Some (next_did log o.core o.block (op.Store stored) v false) in x) (a.0 ∙ sym b.0) ∙ sym logged'))
+fill_ends o log old new new' did did' op.Evict value value' after after' next a b logged logged' held held' = absurd a
+
+fills_one : (o : Open) (p : Protocol) (log : List Item) (old new new' : List Line) (did did' : Option Did) → Fills o p log old new did → Fills o p log old new' did' → (new ≡ new') × (did ≡ did')
+fills_one o p log old new new' did did' a b =
+    let state : CacheState = (held_at old o.core).state in
+    let event : b.event ≡ a.event = same_some (sym b.arrives ∙ a.arrives) in
+    let row : Cell p state a.event b.act b.next = subst (λ (e : CacheEvent). Cell p state e b.act b.next) event b.row in
+    let next : b.next ≡ a.next = (Cell-one p state a.event b.act a.act b.next a.next row a.row).1 in
+    let asking : b.asking ≡ a.asking = same_some (sym b.waited ∙ a.waited) in
+    let performed : Performs a.asking o.value b.value b.after = subst (λ (x : Op). Performs x o.value b.value b.after) asking b.performed in
+    let logged : did' ≡ Some (next_did log o.core o.block a.asking b.value false) = b.logged ∙ ap (λ (x : Op). let d : Option Did = Some (next_did log o.core o.block x b.value false) in d) asking in
+    let held : new' ≡ slice_set old o.core (record { state = a.next; kept = Some b.after; waiting = None }) = b.held ∙ ap (λ (x : CacheState). slice_set old o.core (let l : Line = record { state = x; kept = Some b.after; waiting = None } in l)) next in
+    fill_ends o log old new new' did did' a.asking a.value b.value a.after b.after a.next a.performed performed a.logged logged a.held held
+
+arrives_one : (q : Request) (o : Open) (p : Protocol) (log : List Item) (old new new' : List Line) (did did' : Option Did) → ArrivesFor q o p log old new did → ArrivesFor q o p log old new' did' → (new ≡ new') × (did ≡ did')
+arrives_one request.PutM o p log old new new' did did' a b = (a.0 ∙ sym b.0, a.1 ∙ sym b.1)
+arrives_one request.GetS o p log old new new' did did' a b = fills_one o p log old new new' did did' a b
+arrives_one request.GetM o p log old new new' did did' a b = fills_one o p log old new new' did did' a b
+
+payload_one : (o : Open) (p : Protocol) (old new new' : Picture) → TakesPayload o p old new → TakesPayload o p old new' → (new.memory ≡ new'.memory) × (new.value ≡ new'.value)
+payload_one o p old new new' a b =
+    let event : b.event ≡ a.event = same_some (sym b.arrives ∙ a.arrives) in
+    let row : MemoryCell p old.memory a.event b.act new'.memory = subst (λ (e : MemEvent). MemoryCell p old.memory e b.act new'.memory) event b.row in
+    let same = MemoryCell-one p old.memory a.event a.act b.act new.memory new'.memory a.row row in
+    (same.1, a.value ∙ (ap (λ act. written act o.value old.value) same.0 ∙ sym b.value))
+
+memory_one : (waits : Bool) (o : Open) (p : Protocol) (old new new' : Picture)
+    → MatchBool waits (TakesPayload o p old new) ((new.memory ≡ old.memory) × (new.value ≡ old.value)) → MatchBool waits (TakesPayload o p old new') ((new'.memory ≡ old.memory) × (new'.value ≡ old.value))
+    → (new.memory ≡ new'.memory) × (new.value ≡ new'.value)
+memory_one true o p old new new' a b = payload_one o p old new new' a b
+memory_one false o p old new new' a b = (a.0 ∙ sym b.0, a.1 ∙ sym b.1)
+
+responds_one : (s : Situation) (block : ℕ) (o o' : Open) (did did' : Option Did) (new new' : Situation) → Responds s block o did new → Responds s block o' did' new' → (o ≡ o') × (did ≡ did') × (new ≡ new')
+responds_one s block o o' did did' new new' a b =
+    let p = s.protocol in
+    let before : Picture = picture_of s block in
+    let same : o' ≡ o = same_some (sym b.opened ∙ a.opened) in
+    let requestor : ArrivesFor o.request o p s.log before.caches b.next.caches did' = subst (λ (x : Open). ArrivesFor x.request x p s.log before.caches b.next.caches did') same b.requestor in
+    let caches = arrives_one o.request o p s.log before.caches a.next.caches b.next.caches did did' a.requestor requestor in
+    let its : ArrivesAtMemory o p before b.next = subst (λ (x : Open). ArrivesAtMemory x p before b.next) same b.memory in
+    let memory = memory_one (takes_payload o.request before.memory) o p before a.next b.next a.memory its in
+    let next : a.next ≡ b.next = same_picture _ _ _ _ _ _ _ _ caches.0 memory.0 memory.1 (a.closed ∙ sym b.closed) in
+    let then : Open → Option Did → Picture → Situation = λ x d n. record (with_picture s block n) { log = s.log ++ item.Came (came_of x) d ∷ [] } in (
+      sym same,
+      caches.1,
+      a.after ∙ (ap (λ n. then o did n) next ∙ (ap (λ d. then o d b.next) caches.1 ∙ (ap (λ x. then x did' b.next) (sym same) ∙ sym b.after))),
+    )
+
+-- a step moves in one way
+move_one : (s : Situation) (step : Step) (answer answer' : Reply) (new new' : Situation) (entry entry' : Option Item) → FirstMove s step answer new entry → FirstMove s step answer' new' entry' → SameMove answer new answer' new'
+move_one s (Ask core block asking) answer answer' new new' entry entry' a b =
+    asks_or_absent s core block asking answer answer' new new' entry entry' (ask_parts s core block asking answer new entry a).1 (ask_parts s core block asking answer' new' entry' b).1
+move_one s (Order core) answer answer' new new' entry entry' a b =
+    let block : b.0 ≡ a.0 = same_some (sym b.1.0 ∙ a.1.0) in
+    let P : ℕ → Type 0 = λ on. Orders s core on b.1.1.0 new' in
+    let there : Orders s core a.0 b.1.1.0 new' = subst P block b.1.1.1.3 in
+    let q : b.1.1.0 ≡ a.1.1.0 = same_some (sym there.waits ∙ a.1.1.1.3.waits) in
+    let Q : Request → Type 0 = λ x. Orders s core a.0 x new' in (
+      a.1.1.1.1 ∙ (ap (λ (x : Request). reply.Ordered x) (sym q) ∙ sym b.1.1.1.1),
+      orders_one s core a.0 a.1.1.0 new new' a.1.1.1.3 (subst Q q there),
+    )
+move_one s (Respond block) answer answer' new new' entry entry' a b =
+    let P : ℕ → Type 0 = λ on. Responds s on a.1.1.0 a.1.1.1.0 new in
+    let Q : ℕ → Type 0 = λ on. Responds s on b.1.1.0 b.1.1.1.0 new' in
+    let same = responds_one s block a.1.1.0 b.1.1.0 a.1.1.1.0 b.1.1.1.0 new new' (subst P (sym a.1.1.1.1.0) a.1.1.1.1.4) (subst Q (sym b.1.1.1.1.0) b.1.1.1.1.4) in
+    let came : Open → Option Did → Reply = λ o did. reply.Came o.payload o.from did in (
+      a.1.1.1.1.2 ∙ (ap (λ o. came o a.1.1.1.0) same.0 ∙ (ap (λ d. came b.1.1.0 d) same.1 ∙ sym b.1.1.1.1.2)),
+      same.2,
+    )
+
+-- what is equal of two steps
+abbrev SameStep : Result Reply Refused → Situation → Result Reply Refused → Situation → Type 0
+SameStep outcome new outcome' new' = (outcome ≡ outcome') × (new ≡ new')
+
+step_one : (s : Situation) → IsWellKept s → (step : Step) (outcome outcome' : Result Reply Refused) (new new' : Situation) → GoesFirst s step outcome new → GoesFirst s step outcome' new' → SameStep outcome new outcome' new'
+step_one s kept step (Ok answer) (Ok answer') new new' a b =
+    let same = move_one s step answer answer' new new' a.0 b.0 a.1 b.1 in
+    (ap (λ (x : Reply). let o : Result Reply Refused = Ok x in o) same.0, same.1)
+step_one s kept step (Ok answer) (Err cause) new new' a b = absurd (not_refused s kept step answer new a.0 cause a.1 b.0)
+step_one s kept step (Err cause) (Ok answer) new new' a b = absurd (not_refused s kept step answer new' b.0 cause b.1 a.0)
+step_one s kept step (Err cause) (Err other) new new' a b =
+    (ap (λ (x : Refused). let o : Result Reply Refused = Err x in o) (one_cause s kept step cause other a.0 b.0), a.1 ∙ sym b.1)
+
+-- and steps in order have one list of outcomes
+pub run_one : KeepsWell → (steps : List Step) (outcomes outcomes' : List (Result Reply Refused)) (old new new' : Situation) → IsSteady old → FirstRunFrom old steps outcomes new → FirstRunFrom old steps outcomes' new' → (outcomes ≡ outcomes') × (new ≡ new')
+run_one keeps [] [] [] old new new' steady a b = (refl, a ∙ sym b)
+run_one keeps (step ∷ steps) (outcome ∷ outcomes) (outcome' ∷ outcomes') old new new' steady a b =
+    let here = step_one old steady.1 step outcome outcome' a.0 b.0 a.1.0 b.1.0 in
+    let rest : FirstRunFrom a.0 steps outcomes' new' = subst (λ (m : Situation). FirstRunFrom m steps outcomes' new') (sym here.1) b.1.1 in
+    let on = run_one keeps steps outcomes outcomes' a.0 new new' (steady_on keeps old step outcome a.0 steady a.1.0) a.1.1 rest in
+    (ap (λ (o : Result Reply Refused). o ∷ outcomes) here.0 ∙ ap (λ l. outcome' ∷ l) on.0, on.1)
+run_one keeps [] (outcome ∷ outcomes) outcomes' old new new' steady a b = absurd a
+run_one keeps [] [] (outcome ∷ outcomes) old new new' steady a b = absurd b
+run_one keeps (step ∷ steps) [] outcomes' old new new' steady a b = absurd a
+run_one keeps (step ∷ steps) (outcome ∷ outcomes) [] old new new' steady a b = absurd b

@@ -1,0 +1,513 @@
+-- From every situation of a run each step leads on: it is a move, or refused for a cause.
+use Rattle.std.proofs.Common.{◌≡◌, ℕ, zero, suc, ◌<◌, Bool, true, false, not, ◌&&◌, ◌||◌, List, [], ◌∷◌, ◌++◌, length, Option, Some, None, refl, inl, inr, ap, sym, ◌∙◌, subst, arith}
+use Rattle.std.specs.Prelude.{Contains, Result, Ok, Err, is_some, option_to_list, slice_get, slice_set}
+use Rattle.std.proofs.lemmas.Bool.{cases_lt, and_parts}
+use Rattle.snoop_trace.specs.declared.step.Op.{Op}
+use Rattle.snoop_trace.specs.declared.step.Op.TheVariants as op
+use Rattle.snoop_trace.specs.declared.step.Step.{Step}
+use Rattle.snoop_trace.specs.declared.step.Step.TheVariants.{Ask, Order, Respond}
+use Rattle.snoop_rules.specs.declared.names.Protocol.{Protocol}
+use Rattle.snoop_rules.specs.declared.names.CacheState.{CacheState}
+use Rattle.snoop_rules.specs.declared.names.CacheEvent.{CacheEvent}
+use Rattle.snoop_rules.specs.declared.names.CacheEvent.TheVariants as event
+use Rattle.snoop_rules.specs.declared.names.CacheAction.{CacheAction}
+use Rattle.snoop_rules.specs.declared.names.CacheAction.TheVariants as action
+use Rattle.snoop_rules.specs.declared.names.MemState.{MemState}
+use Rattle.snoop_rules.specs.declared.names.MemEvent.{MemEvent}
+use Rattle.snoop_rules.specs.declared.names.Request.{Request}
+use Rattle.snoop_rules.specs.declared.names.Request.TheVariants as request
+use Rattle.snoop_rules.specs.declared.names.Payload.{Payload}
+use Rattle.snoop_rules.specs.Cell.{Cell}
+use Rattle.snoop_rules.specs.Takers.{asked, seen_by, arrival, arrival_at_memory, takes_payload}
+use Rattle.snoop_rules.specs.declared.names.CacheCell.{CacheCell}
+use Rattle.snoop_rules.specs.declared.names.MemCell.{MemCell}
+use Rattle.snoop_rules.proofs.Every.{all_protocols, all_states, all_events}
+use Rattle.snoop_rules.proofs.Rows.{each_row, each_row-at, Cell-found}
+use Rattle.snoop_rules.proofs.MemRows.{MemoryCell-found}
+use Rattle.snoop_history.specs.declared.items.Did.{Did}
+use Rattle.snoop_history.specs.declared.items.Item.{Item}
+use Rattle.snoop_history.specs.declared.items.Item.TheVariants as item
+use Rattle.snoop_history.specs.History.{flat}
+use Rattle.snoop_history.specs.Totals.{is_put_m}
+use Rattle.snoop_bus.specs.declared.transactions.Open.{Open}
+use Rattle.snoop_bus.specs.Queues.{queue_of, after_order}
+use Rattle.snoop_model.specs.declared.line.Line.{Line}
+use Rattle.snoop_model.specs.declared.replies.Reply.{Reply}
+use Rattle.snoop_model.specs.declared.replies.Reply.TheVariants as reply
+use Rattle.snoop_model.specs.declared.replies.Refused.{Refused}
+use Rattle.snoop_model.specs.declared.replies.Refused.TheVariants.{NoCore, NoBlock, Stalled, NothingWaiting, BusTaken, NoTransaction}
+use Rattle.snoop_model.specs.Pictures.Picture.{Picture, held_at, held_by, kept_on}
+use Rattle.snoop_model.specs.Pictures.Situation.{Situation, picture_of, with_picture, state_of, Waits}
+use Rattle.snoop_model.specs.Pictures.Sends.{value_sent}
+use Rattle.snoop_model.specs.Pictures.Sound.{keeps, awaits, Awaits, IsProper, kind_of, load, store}
+use Rattle.snoop_model.specs.Moves.Move as Move
+use Rattle.snoop_model.specs.Moves.Move.{TakesRow, Arrives, ArrivesFor, ArrivesAtMemory, FirstMove, IsWithin, came_of, comes_to, hit_reply, kept_waiting, next_did, queues_after, written}
+use Rattle.snoop_model.specs.Runs.Run.{GoesFirst, FirstRunFrom}
+use Rattle.snoop_model.specs.Invariant.WellKept.{IsWellKept}
+use Rattle.snoop_model.specs.Turns.TurnRule.{KeepsWell}
+use Rattle.snoop_model.specs.Invariant.Coherent.{IsCoherent}
+use Rattle.snoop_model.proofs.OneBlock.Steps.{Answerable, is_idle_evict, row_of, mem_row_of}
+use Rattle.snoop_model.proofs.Invariant.Coherence.{finds_rows, idle_evict, waits_within}
+use Rattle.snoop_model.proofs.OneBlock.Facts.{or_not}
+use Rattle.snoop_model.proofs.Invariant.Steps.{first_keeps}
+use Rattle.snoop_model.proofs.OneBlock.Possible.{ask_possible, respond_possible}
+
+-- the step leads from here to some situation, with some outcome
+abbrev pub LeadsOn : Situation → Step → Type 0
+LeadsOn s step = (outcome : Result Reply Refused) × ((new : Situation) × GoesFirst s step outcome new)
+
+moved : (s : Situation) (step : Step) (answer : Reply) (new : Situation) (entry : Option Item) → FirstMove s step answer new entry → LeadsOn s step
+moved s step answer new entry move = (Ok answer, (new, (entry, move)))
+
+-- what the actions of an Ask are: a hit is of a load or a store, in a state that keeps a value
+abbrev is_asked : CacheAction → CacheEvent → Bool
+is_asked action.Hit event.Load = true
+is_asked action.Hit event.Store = true
+is_asked action.Stall e = true
+is_asked (action.Issue r) e = true
+is_asked action.Drop e = true
+is_asked _ e = false
+
+abbrev is_ask : CacheEvent → Bool
+is_ask event.Load = true
+is_ask event.Store = true
+is_ask event.Evict = true
+is_ask _ = false
+
+abbrev hits : CacheAction → Bool
+hits action.Hit = true
+hits _ = false
+
+abbrev ask_test : Protocol → CacheState → CacheEvent → CacheCell → Bool
+ask_test p s e r = not (is_ask e) || (is_asked r.action e && (not (hits r.action) || keeps s))
+
+ask_test_holds : each_row ask_test ≡ true
+unfolding each_row all_protocols all_states all_events
+ask_test_holds = refl
+
+asked_is : (o : Op) → is_ask (asked o) ≡ true
+asked_is op.Load = refl
+asked_is (op.Store v) = refl
+asked_is op.Evict = refl
+
+right_if : (a b : Bool) → a ≡ true → (not a || b) ≡ true → b ≡ true
+right_if true b h t = t
+right_if false b h t = cc
+
+ask_rule : (p : Protocol) (s : CacheState) (o : Op) (act : CacheAction) (next : CacheState) → Cell p s (asked o) act next → (is_asked act (asked o) ≡ true) × ((not (hits act) || keeps s) ≡ true)
+ask_rule p s o act next row =
+    let test = each_row-at ask_test ask_test_holds p s (asked o) act next row in
+    and_parts _ _ (right_if (is_ask (asked o)) _ (asked_is o) test)
+
+-- the situation after an Ask
+after_ask : Situation → ℕ → ℕ → CacheAction → Line → Option Item → Situation
+after_ask s core block act held entry = record s {
+  caches = slice_set s.caches block (slice_set (picture_of s block).caches core held);
+  queues = queues_after act s.queues core block;
+  log = s.log ++ option_to_list entry;
+}
+
+some_kept : (kept : Option ℕ) → is_some kept ≡ true → (v : ℕ) × (kept ≡ Some v)
+some_kept None h = cc
+some_kept (Some v) h = (v, refl)
+
+-- an Ask whose row is this one
+module _ (s : Situation) (core block : ℕ) (within : IsWithin s core block) where
+  held : Line
+  held = held_by (picture_of s block) core
+
+  hit : (asking : Op) (next : CacheState) → Cell s.protocol (state_of s core block) (asked asking) action.Hit next → is_asked action.Hit (asked asking) ≡ true → (v : ℕ) → held.kept ≡ Some v → LeadsOn s (Ask core block asking)
+  unfolding after_ask held
+  hit op.Load next row allowed v kept =
+      let did : Did = next_did s.log core block op.Load v true in
+      let line : Line = record { state = next; kept = Some v; waiting = held.waiting } in
+      moved s (Ask core block op.Load) (reply.Hit v) (after_ask s core block action.Hit line (Some (item.Did did))) (Some (item.Did did)) (
+        block,
+        (
+          tt,
+          (
+            refl,
+            within,
+            inr (record {
+              act = action.Hit;
+              next = next;
+              held = line;
+              row = row;
+              taken = record { before = v; value = v; after = v; kept = kept; performed = (refl, refl); held = refl; answered = refl; logged = refl };
+              after = refl;
+            }),
+          ),
+        ),
+      )
+  hit (op.Store w) next row allowed v kept =
+      let did : Did = next_did s.log core block (op.Store w) w true in
+      let line : Line = record { state = next; kept = Some w; waiting = held.waiting } in
+      moved s (Ask core block (op.Store w)) reply.StoreHit (after_ask s core block action.Hit line (Some (item.Did did))) (Some (item.Did did)) (
+        block,
+        (
+          tt,
+          (
+            refl,
+            within,
+            inr (record {
+              act = action.Hit;
+              next = next;
+              held = line;
+              row = row;
+              taken = record { before = v; value = w; after = w; kept = kept; performed = (refl, refl); held = refl; answered = refl; logged = refl };
+              after = refl;
+            }),
+          ),
+        ),
+      )
+  hit op.Evict next row allowed v kept = cc
+
+  by_row : (asking : Op) (act : CacheAction) (next : CacheState) → Cell s.protocol (state_of s core block) (asked asking) act next → is_asked act (asked asking) ≡ true → (hits act ≡ true → (v : ℕ) × (held.kept ≡ Some v)) → LeadsOn s (Ask core block asking)
+  unfolding after_ask held
+  by_row asking action.Hit next row allowed kept = hit asking next row allowed (kept refl).0 (kept refl).1
+  by_row asking action.Stall next row allowed kept = (Err (Stalled (state_of s core block)), (s, ((within, refl, (next, row)), refl)))
+  by_row asking (action.Issue r) next row allowed kept =
+      let line : Line = record { state = next; kept = kept_on next held.kept; waiting = kept_waiting asking } in
+      moved s (Ask core block asking) (reply.Issued r) (after_ask s core block (action.Issue r) line None) None
+      (block, (tt, (refl, within, inr (record { act = action.Issue r; next = next; held = line; row = row; taken = (refl, refl, refl); after = refl }))))
+  by_row asking action.Drop next row allowed kept =
+      let line : Line = comes_to next held in
+      moved s (Ask core block asking) reply.Gone (after_ask s core block action.Drop line None) None
+      (block, (tt, (refl, within, inr (record { act = action.Drop; next = next; held = line; row = row; taken = (refl, refl, refl); after = refl }))))
+  by_row asking action.None next row allowed kept = cc
+  by_row asking action.FillLoad next row allowed kept = cc
+  by_row asking action.FillStore next row allowed kept = cc
+  by_row asking (action.Send payload target) next row allowed kept = cc
+
+ask_within : (s : Situation) → IsCoherent s → (core block : ℕ) (asking : Op) → IsWithin s core block → LeadsOn s (Ask core block asking)
+unfolding held
+ask_within s g core block asking within =
+    let p = s.protocol in
+    let line = held_by (picture_of s block) core in
+    elim (or_not (is_idle_evict line.state (asked asking))) as (λ _. LeadsOn s (Ask core block asking)) [
+      | inl idle ↦
+          let is = idle_evict line.state asking idle in
+          moved s (Ask core block asking) reply.Absent s None (block, (tt, (refl, within, inl (is.0, is.1, refl, refl, refl))))
+      | inr busy ↦
+          let good = g.good block within.1 in
+          let row = ask_possible p s.shape.cores (flat s.log block) (picture_of s block) core asking good within.0 busy in
+          let cell = Cell-found p line.state (asked asking) row.0 row.1 in
+          let rule = ask_rule p line.state asking row.0.action row.0.next cell in
+          by_row s core block within asking row.0.action row.0.next cell rule.0
+          (λ is_hit. some_kept line.kept ((good.proper core within.0).kept ∙ right_if (hits row.0.action) (keeps line.state) is_hit rule.1))
+    ]
+
+ask_leads : (s : Situation) → IsCoherent s → (core block : ℕ) (asking : Op) → LeadsOn s (Ask core block asking)
+ask_leads s g core block asking = elim (cases_lt core s.shape.cores) [
+  | inr past ↦ (Err NoCore, (s, (past, refl)))
+  | inl in_cores ↦ elim (cases_lt block s.shape.blocks) [
+    | inr past ↦ (Err NoBlock, (s, ((in_cores, past), refl)))
+    | inl in_blocks ↦ ask_within s g core block asking (in_cores, in_blocks)
+  ]
+]
+
+-- a list with a value at each place
+abbrev LinesAt : (ℕ → Line → Type 0) → ℕ → Type 0
+LinesAt P n = (l : List Line) × ((length l ≡ n) × ((k : ℕ) → k < n → P k (held_at l k)))
+
+line_before : (P : ℕ → Line → Type 0) (n : ℕ) (x : Line) → P 0 x → LinesAt (λ k. P (suc k)) n → LinesAt P (suc n)
+line_before P n x here rest = (x ∷ rest.0, (ap suc rest.1.0, at))
+  where
+    at : (k : ℕ) → k < suc n → P k (held_at (x ∷ rest.0) k)
+    at zero h = here
+    at (suc k) h = rest.1.1 k (omega arith)
+
+lines_at : (P : ℕ → Line → Type 0) (n : ℕ) → ((k : ℕ) → k < n → (x : Line) × P k x) → LinesAt P n
+lines_at P zero find = ([], (refl, λ k h. absurd (omega arith)))
+lines_at P (suc n) find =
+    let first = find 0 (omega arith) in
+    line_before P n first.0 first.1 (lines_at (λ k. P (suc k)) n (λ k h. find (suc k) (omega arith)))
+
+-- an Order on the block that stands first, free
+order_free : (s : Situation) → IsCoherent s → (core block : ℕ) (q : Request) → slice_get (queue_of s.queues core) 0 ≡ Some block → Waits s core block q → (picture_of s block).transaction ≡ None → LeadsOn s (Order core)
+order_free s g core block q first waits free =
+    let p = s.protocol in
+    let before : Picture = picture_of s block in
+    let finds = finds_rows s g core block q waits free in
+    let rows = lines_at (λ k x. TakesRow p (seen_by k core q) (held_by before k) x) (length before.caches) (λ k h. (let row = finds.rows k h in (comes_to row.1.0 (held_by before k), (row.0, (row.1.0, (row.1.1, refl)))))) in
+    let from : Option ℕ = finds.sender.0 in
+    let payload : Payload = finds.sender.1.0 in
+    let opened : Open = record { core = core; request = q; block = block; payload = payload; value = value_sent before from payload; from = from } in
+    let next : Picture = record { caches = rows.0; memory = finds.memory.1.0; value = before.value; transaction = Some opened } in
+    let sent : Item = item.Sent (record { core = core; request = q; block = block }) in
+    let new : Situation = record (with_picture s block next) { queues = after_order s.queues core block; log = s.log ++ sent ∷ [] } in
+    moved s (Order core) (reply.Ordered q) new (Some sent) (
+      block,
+      (
+        first,
+        (
+          q,
+          (
+            waits_within s g core block q waits,
+            refl,
+            refl,
+            record {
+              waits = waits;
+              free = free;
+              from = from;
+              payload = payload;
+              sent = finds.sender.1.1;
+              next = next;
+              caches = rows.1.0;
+              rows = λ k h. rows.1.1 k (rw (← rows.1.0) h);
+              memory = (finds.memory.0, finds.memory.1.1);
+              value = refl;
+              opened = refl;
+              after = refl;
+            },
+          ),
+        ),
+      ),
+    )
+
+pub first_in : (queue : List ℕ) (block : ℕ) → slice_get queue 0 ≡ Some block → Contains queue block
+first_in [] block e = cc
+first_in (x ∷ queue) block e = let same : x ≡ block = cc in (0, omega arith, same)
+
+order_first : (s : Situation) → IsCoherent s → IsWellKept s → (core : ℕ) → core < s.shape.cores → (found : Option ℕ) → slice_get (queue_of s.queues core) 0 ≡ found → LeadsOn s (Order core)
+order_first s g kept core in_cores None none =
+    (Err NothingWaiting, (s, ((in_cores, λ block q waits. no_first (queue_of s.queues core) block none (kept.queued core block q waits)), refl)))
+  where
+    no_first : (queue : List ℕ) (block : ℕ) → slice_get queue 0 ≡ None → Contains queue block → ⊥
+    no_first [] block e there = absurd (omega arith)
+    no_first (x ∷ queue) block e there = let no : ◌≡◌ {A = Option ℕ} (Some x) None = e in cc
+order_first s g kept core in_cores (Some block) first =
+    let there : Contains (queue_of s.queues core) block = first_in (queue_of s.queues core) block first in
+    let waits = kept.waits core block there in
+    go waits.0 waits.1 (picture_of s block).transaction refl
+  where
+    go : (q : Request) → Waits s core block q → (found : Option Open) → (picture_of s block).transaction ≡ found → LeadsOn s (Order core)
+    go q waits (Some t) is = (Err (BusTaken block), (s, ((in_cores, first, rw is refl), refl)))
+    go q waits None is = order_free s g core block q first waits is
+
+order_leads : (s : Situation) → IsCoherent s → IsWellKept s → (core : ℕ) → LeadsOn s (Order core)
+order_leads s g kept core = elim (cases_lt core s.shape.cores) [
+  | inr past ↦ (Err NoCore, (s, (past, refl)))
+  | inl in_cores ↦ order_first s g kept core in_cores (slice_get (queue_of s.queues core) 0) refl
+]
+
+-- the event is the arrival of data at its requestor
+abbrev is_data : CacheEvent → Bool
+is_data event.Data = true
+is_data event.DataE = true
+is_data _ = false
+
+abbrev is_load : Awaits → Bool
+is_load load = true
+is_load _ = false
+
+abbrev is_store : Awaits → Bool
+is_store store = true
+is_store _ = false
+
+-- data performs the operation that its state awaits
+abbrev fills : CacheAction → CacheState → Bool
+fills action.FillLoad s = is_load (awaits s)
+fills action.FillStore s = is_store (awaits s)
+fills _ s = false
+
+abbrev data_test : Protocol → CacheState → CacheEvent → CacheCell → Bool
+data_test p s e r = not (is_data e) || fills r.action s
+
+data_test_holds : each_row data_test ≡ true
+unfolding each_row all_protocols all_states all_events
+data_test_holds = refl
+
+arrives_as_data : (payload : Payload) (e : CacheEvent) → arrival payload ≡ Some e → is_data e ≡ true
+arrives_as_data Payload.Data e is = cc
+arrives_as_data Payload.DataE e is = cc
+arrives_as_data Payload.NoData e is = cc
+arrives_as_data Payload.NoDataE e is = cc
+
+load_waits : (waiting : Option Op) (s : Awaits) → kind_of waiting ≡ s → is_load s ≡ true → waiting ≡ Some op.Load
+load_waits None s e h = cc
+load_waits (Some op.Load) s e h = refl
+load_waits (Some (op.Store v)) s e h = cc
+load_waits (Some op.Evict) s e h = cc
+
+store_waits : (waiting : Option Op) (s : Awaits) → kind_of waiting ≡ s → is_store s ≡ true → (v : ℕ) × (waiting ≡ Some (op.Store v))
+store_waits None s e h = cc
+store_waits (Some op.Load) s e h = cc
+store_waits (Some (op.Store v)) s e h = (v, refl)
+store_waits (Some op.Evict) s e h = cc
+
+-- what the response brings to the caches
+abbrev Brings : Protocol → List Item → List Line → Open → Request → Type 0
+Brings p log old o q = (new : List Line) × ((did : Option Did) × ArrivesFor q o p log old new did)
+
+module _ (p : Protocol) (log : List Item) (old : List Line) (o : Open) where
+  fill : (e : CacheEvent) → arrival o.payload ≡ Some e → (act : CacheAction) (next : CacheState) → Cell p (held_at old o.core).state e act next → fills act (held_at old o.core).state ≡ true → IsProper (held_at old o.core)
+      → (new : List Line) × ((did : Option Did) × Move.Fills o p log old new did)
+  fill e arrives action.FillLoad next row fits proper =
+      let did : Did = next_did log o.core o.block op.Load o.value false in (
+        slice_set old o.core (record { state = next; kept = Some o.value; waiting = None }),
+        (
+          Some did,
+          record {
+            event = e;
+            act = action.FillLoad;
+            next = next;
+            asking = op.Load;
+            value = o.value;
+            after = o.value;
+            arrives = arrives;
+            row = row;
+            waited = load_waits _ _ proper.waiting fits;
+            fill = tt;
+            performed = (refl, refl);
+            logged = refl;
+            held = refl;
+          },
+        ),
+      )
+  fill e arrives action.FillStore next row fits proper =
+      let waits = store_waits _ _ proper.waiting fits in
+      let did : Did = next_did log o.core o.block (op.Store waits.0) waits.0 false in (
+        slice_set old o.core (record { state = next; kept = Some waits.0; waiting = None }),
+        (
+          Some did,
+          record {
+            event = e;
+            act = action.FillStore;
+            next = next;
+            asking = op.Store waits.0;
+            value = waits.0;
+            after = waits.0;
+            arrives = arrives;
+            row = row;
+            waited = waits.1;
+            fill = tt;
+            performed = (refl, refl);
+            logged = refl;
+            held = refl;
+          },
+        ),
+      )
+  fill e arrives action.None next row fits proper = cc
+  fill e arrives action.Hit next row fits proper = cc
+  fill e arrives action.Stall next row fits proper = cc
+  fill e arrives (action.Issue r) next row fits proper = cc
+  fill e arrives action.Drop next row fits proper = cc
+  fill e arrives (action.Send payload target) next row fits proper = cc
+
+  fill_found : (found : Option CacheEvent) → arrival o.payload ≡ found → (row : CacheCell) → row_of p (held_at old o.core).state found ≡ Some row → IsProper (held_at old o.core)
+      → (new : List Line) × ((did : Option Did) × Move.Fills o p log old new did)
+  fill_found None arrives row is proper = cc
+  fill_found (Some e) arrives row is proper =
+      let cell = Cell-found p (held_at old o.core).state e row is in
+      let test = each_row-at data_test data_test_holds p (held_at old o.core).state e row.action row.next cell in
+      fill e arrives row.action row.next cell (right_if (is_data e) _ (arrives_as_data o.payload e arrives) test) proper
+
+  brings : (q : Request) → (is_put_m q ≡ false → (r : CacheCell) × (row_of p (held_at old o.core).state (arrival o.payload) ≡ Some r)) → IsProper (held_at old o.core) → Brings p log old o q
+  brings request.PutM row proper = (old, (None, (refl, refl)))
+  brings request.GetS row proper = fill_found (arrival o.payload) refl (row refl).0 (row refl).1 proper
+  brings request.GetM row proper = fill_found (arrival o.payload) refl (row refl).0 (row refl).1 proper
+
+-- what the response brings to memory
+abbrev BringsToMemory : Protocol → Picture → Open → Type 0
+BringsToMemory p before o = (next : MemState) × ((value : ℕ) × ((caches : List Line) → ArrivesAtMemory o p before (record { caches = caches; memory = next; value = value; transaction = None })))
+
+memory_found : (p : Protocol) (before : Picture) (o : Open) → takes_payload o.request before.memory ≡ true → (found : Option MemEvent) → arrival_at_memory o.payload ≡ found → (row : MemCell) → mem_row_of p before.memory found ≡ Some row → BringsToMemory p before o
+memory_found p before o waits None arrives row is = cc
+memory_found p before o waits (Some e) arrives row is = (
+  row.next,
+  (
+    written row.action o.value before.value,
+    λ caches. rw waits (record {
+      event = e;
+      act = row.action;
+      arrives = arrives;
+      row = MemoryCell-found p before.memory e row is;
+      value = refl;
+    }),
+  ),
+)
+
+brings_to_memory : (p : Protocol) (before : Picture) (o : Open) → (takes_payload o.request before.memory ≡ true → (r : MemCell) × (mem_row_of p before.memory (arrival_at_memory o.payload) ≡ Some r)) → BringsToMemory p before o
+brings_to_memory p before o row = elim (or_not (takes_payload o.request before.memory)) as (λ _. BringsToMemory p before o) [
+  | inl waits ↦ memory_found p before o waits (arrival_at_memory o.payload) refl (row waits).0 (row waits).1
+  | inr idle ↦ (before.memory, (before.value, λ caches. rw idle (refl, refl)))
+]
+
+respond_open : (s : Situation) → IsCoherent s → (block : ℕ) → block < s.shape.blocks → (o : Open) → (picture_of s block).transaction ≡ Some o → LeadsOn s (Respond block)
+respond_open s g block within o opened =
+    let p = s.protocol in
+    let before : Picture = picture_of s block in
+    let good = g.good block within in
+    let found : Answerable p before o = respond_possible p s.shape.cores (flat s.log block) before o good opened in
+    let caches = brings p s.log before.caches o o.request found.requestor (good.proper o.core (good.requestor_in o opened)) in
+    let memory = brings_to_memory p before o found.memory in
+    let next : Picture = record { caches = caches.0; memory = memory.0; value = memory.1.0; transaction = None } in
+    let came : Item = item.Came (came_of o) caches.1.0 in
+    let new : Situation = record (with_picture s block next) { log = s.log ++ came ∷ [] } in
+    moved s (Respond block) (reply.Came o.payload o.from caches.1.0) new (Some came) (
+      block,
+      (
+        tt,
+        (
+          o,
+          (
+            caches.1.0,
+            (
+              refl,
+              within,
+              refl,
+              refl,
+              record {
+                opened = opened;
+                next = next;
+                requestor = caches.1.1;
+                memory = memory.1.1 caches.0;
+                closed = refl;
+                after = refl;
+              },
+            ),
+          ),
+        ),
+      ),
+    )
+
+respond_leads : (s : Situation) → IsCoherent s → (block : ℕ) → LeadsOn s (Respond block)
+respond_leads s g block = elim (cases_lt block s.shape.blocks) [
+  | inr past ↦ (Err NoBlock, (s, (past, refl)))
+  | inl within ↦ go within (picture_of s block).transaction refl
+]
+  where
+    go : block < s.shape.blocks → (found : Option Open) → (picture_of s block).transaction ≡ found → LeadsOn s (Respond block)
+    go within None none = (Err NoTransaction, (s, ((within, none), refl)))
+    go within (Some o) opened = respond_open s g block within o opened
+
+pub leads_on : (s : Situation) → IsCoherent s → IsWellKept s → (step : Step) → LeadsOn s step
+leads_on s g kept (Ask core block asking) = ask_leads s g core block asking
+leads_on s g kept (Order core) = order_leads s g kept core
+leads_on s g kept (Respond block) = respond_leads s g block
+
+-- what every run keeps
+abbrev pub IsSteady : Situation → Type 0
+IsSteady s = IsCoherent s × IsWellKept s
+
+pub steady_on : KeepsWell → (old : Situation) (step : Step) (outcome : Result Reply Refused) (new : Situation) → IsSteady old → GoesFirst old step outcome new → IsSteady new
+steady_on keeps old step (Ok answer) new steady goes = (first_keeps old step answer new goes.0 steady.0 goes.1, keeps old new step answer goes.0 steady.1 goes.1)
+steady_on keeps old step (Err cause) new steady goes = subst IsSteady (sym goes.1) steady
+
+pub run_steady : KeepsWell → (steps : List Step) (outcomes : List (Result Reply Refused)) (old new : Situation) → IsSteady old → FirstRunFrom old steps outcomes new → IsSteady new
+run_steady keeps [] [] old new steady run = subst IsSteady (sym run) steady
+run_steady keeps (step ∷ steps) (outcome ∷ outcomes) old new steady run = run_steady keeps steps outcomes run.0 new (steady_on keeps old step outcome run.0 steady run.1.0) run.1.1
+run_steady keeps [] (outcome ∷ outcomes) old new steady run = absurd run
+run_steady keeps (step ∷ steps) [] old new steady run = absurd run
+
+-- some run of these steps
+abbrev pub SomeRun : Situation → List Step → Type 0
+SomeRun s steps = (outcomes : List (Result Reply Refused)) × ((final : Situation) × FirstRunFrom s steps outcomes final)
+
+pub runs_on : KeepsWell → (steps : List Step) (s : Situation) → IsSteady s → SomeRun s steps
+runs_on keeps [] s steady = ([], (s, refl))
+runs_on keeps (step ∷ steps) s steady =
+    let here = leads_on s steady.0 steady.1 step in
+    let rest = runs_on keeps steps here.1.0 (steady_on keeps s step here.0 here.1.0 steady here.1.1) in
+    (here.0 ∷ rest.0, (rest.1.0, (here.1.0, (here.1.1, rest.1.1))))

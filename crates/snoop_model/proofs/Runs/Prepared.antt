@@ -1,0 +1,29 @@
+-- A prepared step adds the item that was told.
+use Rattle.std.proofs.Common.{◌≡◌, ◌++◌, Option, sym, ◌∙◌, ap, inl, inr}
+use Rattle.std.specs.Prelude.{option_to_list}
+use Rattle.std.proofs.lemmas.List.{append-nil}
+use Rattle.snoop_trace.specs.declared.step.Step.{Step}
+use Rattle.snoop_trace.specs.declared.step.Step.TheVariants.{Ask, Order, Respond}
+use Rattle.snoop_history.specs.declared.items.Item.{Item}
+use Rattle.snoop_model.specs.declared.replies.Reply.{Reply}
+use Rattle.snoop_model.specs.Moves.Standing.{Standing}
+use Rattle.snoop_model.specs.Pictures.Situation.{Situation}
+use Rattle.snoop_model.specs.Moves.Move.{FirstMove}
+use Rattle.snoop_model.specs.Moves.Prepared.{IsPrepared}
+
+-- a move adds its item to the log
+pub move-log : (old new : Situation) (step : Step) (answer : Reply) (added : Option Item) → FirstMove old step answer new added → new.log ≡ old.log ++ option_to_list added
+move-log old new (Ask core block asking) answer added m = elim m.1.1.2 [
+  | inl absent ↦ ap (λ (s : Situation). s.log) absent.3 ∙ (sym (append-nil old.log) ∙ ap (λ (e : Option Item). old.log ++ option_to_list e) (sym absent.4))
+  | inr asks ↦ ap (λ (s : Situation). s.log) asks.after
+]
+move-log old new (Order core) answer added m =
+    ap (λ (s : Situation). s.log) m.1.1.1.3.after ∙ ap (λ (e : Option Item). old.log ++ option_to_list e) (sym m.1.1.1.2)
+move-log old new (Respond block) answer added m =
+    ap (λ (s : Situation). s.log) m.1.1.1.1.4.after ∙ ap (λ (e : Option Item). old.log ++ option_to_list e) (sym m.1.1.1.1.3)
+
+-- a prepared step, taken, adds the item that was told
+pub prepared-log : (before : Standing) (new : Situation) (step : Step) (answer : Reply) (added entry : Option Item)
+    → IsPrepared before step entry → FirstMove before.situation step answer new added → new.log ≡ before.situation.log ++ option_to_list entry
+prepared-log before new step answer added entry prepared move =
+    move-log before.situation new step answer added move ∙ ap (λ (e : Option Item). before.situation.log ++ option_to_list e) (prepared.adds answer new added move)

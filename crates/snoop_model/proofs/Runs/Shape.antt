@@ -1,0 +1,50 @@
+-- Steps leave the protocol and the shape.
+use Rattle.std.proofs.Common.{◌≡◌, List, [], ◌∷◌, Option, ap, ◌∙◌, inl, inr}
+use Rattle.std.specs.Prelude.{Result, Ok, Err, IfOk, IfErr}
+use Rattle.snoop_trace.specs.declared.step.Step.{Step}
+use Rattle.snoop_trace.specs.declared.step.Step.TheVariants.{Ask, Order, Respond}
+use Rattle.snoop_history.specs.declared.items.Item.{Item}
+use Rattle.snoop_model.specs.declared.replies.Reply.{Reply}
+use Rattle.snoop_model.specs.declared.replies.Refused.{Refused}
+use Rattle.snoop_model.specs.Pictures.Situation.{Situation}
+use Rattle.snoop_model.specs.Moves.Standing.{Standing}
+use Rattle.snoop_model.specs.Moves.Move.{FirstMove}
+use Rattle.snoop_model.specs.Moves.StepMove.{RefusedFor}
+use Rattle.snoop_model.specs.Runs.Runs.{Answers, RunsOn}
+
+-- the protocol and the shape are as they were
+abbrev pub IsAlike : Situation → Situation → Type 0
+IsAlike old new = (new.protocol ≡ old.protocol) × (new.shape ≡ old.shape)
+
+same_alike : (old new : Situation) → new ≡ old → IsAlike old new
+same_alike old new same = (ap (λ (s : Situation). s.protocol) same, ap (λ (s : Situation). s.shape) same)
+
+pub move_stays : (old new : Situation) (step : Step) (answer : Reply) (entry : Option Item) → FirstMove old step answer new entry → IsAlike old new
+move_stays old new (Ask core on asking) answer entry m = elim m.1.1.2 [
+  | inl absent ↦ same_alike old new absent.3
+  | inr asks ↦ (ap (λ (s : Situation). s.protocol) asks.after, ap (λ (s : Situation). s.shape) asks.after)
+]
+move_stays old new (Order core) answer entry m =
+    (ap (λ (s : Situation). s.protocol) m.1.1.1.3.after, ap (λ (s : Situation). s.shape) m.1.1.1.3.after)
+move_stays old new (Respond on) answer entry m =
+    (ap (λ (s : Situation). s.protocol) m.1.1.1.1.4.after, ap (λ (s : Situation). s.shape) m.1.1.1.1.4.after)
+
+-- a step, taken or refused
+pub step_stays : (old new : Standing) (step : Step) (result : Result Reply Refused) → IfOk result (λ reply. (entry : Option Item) × FirstMove old.situation step reply new.situation entry)
+    → IfErr result (λ cause. RefusedFor old.situation step cause × (new ≡ old)) → IsAlike old.situation new.situation
+step_stays old new step (Ok reply) taken refused = move_stays old.situation new.situation step reply taken.0 taken.1
+step_stays old new step (Err cause) taken refused = same_alike old.situation new.situation (ap (λ (s : Standing). s.situation) refused.1)
+
+answer_stays : (old new : Standing) (step : Step) (outcome : Result Reply Refused) → Answers old step outcome new → IsAlike old.situation new.situation
+answer_stays old new step (Ok answer) a = move_stays old.situation new.situation step answer a.0.0 a.0.1
+answer_stays old new step (Err cause) a = same_alike old.situation new.situation (ap (λ (s : Standing). s.situation) a.2)
+
+-- steps in order
+pub steps_stay : (steps : List Step) (outcomes : List (Result Reply Refused)) (old new : Standing) → RunsOn old steps outcomes new → IsAlike old.situation new.situation
+steps_stay [] [] old new r = same_alike old.situation new.situation (ap (λ (s : Standing). s.situation) r)
+steps_stay (step ∷ steps) (outcome ∷ outcomes) old new r =
+    let first = answer_stays old r.0 step outcome r.1.0 in
+    let rest = steps_stay steps outcomes r.0 new r.1.2 in
+    (rest.0 ∙ first.0, rest.1 ∙ first.1)
+steps_stay [] (outcome ∷ outcomes) old new r = absurd r
+steps_stay (step ∷ steps) [] old new r = absurd r

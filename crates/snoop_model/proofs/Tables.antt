@@ -1,0 +1,12 @@
+-- The rows of the tables, found by trying all.
+pub mod Every
+pub mod Rows
+pub mod WaitingRows
+pub mod StateTests
+pub mod AskTests
+pub mod OrderTests
+pub mod RespondTests
+pub mod SenderTests
+pub mod SenderLines
+pub mod SilentCores
+pub mod EvictInI

@@ -1,0 +1,82 @@
+-- Tests of the rows of an Ask, computed over the whole tables.
+use Rattle.std.proofs.Common.{◌≡◌, ◌&&◌, ◌||◌, Bool, true, false, not, Option, Some, refl}
+use Rattle.std.specs.Prelude.{is_some}
+use Rattle.snoop_trace.specs.declared.step.Op.{Op}
+use Rattle.snoop_rules.specs.declared.names.Protocol.{Protocol}
+use Rattle.snoop_rules.specs.declared.names.CacheState.{CacheState}
+use Rattle.snoop_rules.specs.declared.names.CacheEvent.{CacheEvent}
+use Rattle.snoop_rules.specs.declared.names.CacheEvent.TheVariants as event
+use Rattle.snoop_rules.specs.declared.names.CacheAction.{CacheAction}
+use Rattle.snoop_rules.specs.declared.names.CacheAction.TheVariants as action
+use Rattle.snoop_rules.specs.declared.names.Request.{Request}
+use Rattle.snoop_rules.specs.Takers.{asked}
+use Rattle.snoop_rules.specs.declared.names.CacheCell.{CacheCell}
+use Rattle.snoop_rules.specs.Row.{cell_of}
+use Rattle.snoop_rules.proofs.Every.{all_protocols, all_protocols-at, all_states, all_states-at, all_memories, all_requests, all_payloads}
+use Rattle.snoop_model.specs.Invariant.Fits.{claims_of, is_owner, is_sharer, is_clean, is_reader, wait_fits, in_protocol, same, fits}
+use Rattle.snoop_model.proofs.Tables.Every.{either, either-at, when, when_at, given, given_at, all_asks, all_asks-at, all_waits, all_waits-at}
+use Rattle.snoop_model.proofs.OneBlock.Steps.{is_idle_evict}
+use Rattle.snoop_model.proofs.Tables.StateTests.{is_hit, carries}
+
+abbrev pub is_stall : CacheAction → Bool
+is_stall action.Stall = true
+is_stall _ = false
+
+abbrev pub is_store : CacheEvent → Bool
+is_store event.Store = true
+is_store _ = false
+
+-- an Ask of a core whose state fits
+abbrev pub AskTest : Type 0
+AskTest = (p : Protocol) (shared ow : Bool) (w : Option Request) (s : CacheState) (e : CacheEvent) (r : CacheCell) → Bool
+
+unfoldable pub ask_case : AskTest → Protocol → Bool → Bool → Option Request → CacheState → CacheEvent → Bool
+ask_case k p shared ow w s e = when (fits p shared ow w s) (λ _. given (cell_of p s e) (λ r. k p shared ow w s e r))
+
+unfoldable pub asks : AskTest → Bool
+asks k = all_protocols (λ p. either (λ shared. either (λ ow. all_waits (λ w. all_states (λ s. all_asks (λ e. ask_case k p shared ow w s e))))))
+
+pub ask_rule : (k : AskTest) → asks k ≡ true → (p : Protocol) (shared ow : Bool) (w : Option Request) (s : CacheState) (o : Op) (r : CacheCell) → fits p shared ow w s ≡ true → cell_of p s (asked o) ≡ Some r → k p shared ow w s (asked o) r ≡ true
+unfolding asks ask_case
+ask_rule k h p shared ow w s o r is_fit is_row =
+    let h0 : ask_case k p shared ow w s (asked o) ≡ true = all_asks-at _ (all_states-at _ (all_waits-at _ (either-at _ (either-at _ (all_protocols-at _ h p) shared) ow) w) s) o in
+    given_at _ _ r is_row (when_at _ _ is_fit h0)
+
+abbrev pub ask_fits : AskTest
+ask_fits p shared ow w s e r = is_stall r.action || fits p shared ow w r.next
+
+pub ask_fits_holds : asks ask_fits ≡ true
+unfolding asks ask_case all_protocols all_memories all_states all_requests all_payloads all_asks all_waits either given when claims_of fits is_owner is_sharer is_clean is_reader wait_fits in_protocol same
+ask_fits_holds = refl
+
+abbrev pub ask_carries : AskTest
+ask_carries p shared ow w s e r = is_stall r.action || ((is_hit r.action && is_store e) || carries s r.next)
+
+pub ask_carries_holds : asks ask_carries ≡ true
+unfolding asks ask_case all_protocols all_memories all_states all_requests all_payloads all_asks all_waits either given when claims_of fits is_owner is_sharer is_clean is_reader wait_fits in_protocol same
+ask_carries_holds = refl
+
+abbrev pub ask_hit_reads : AskTest
+ask_hit_reads p shared ow w s e r = not (is_hit r.action) || is_reader s
+
+pub ask_hit_reads_holds : asks ask_hit_reads ≡ true
+unfolding asks ask_case all_protocols all_memories all_states all_requests all_payloads all_asks all_waits either given when claims_of fits is_owner is_sharer is_clean is_reader wait_fits in_protocol same
+ask_hit_reads_holds = refl
+
+abbrev pub ask_store_owns : AskTest
+ask_store_owns p shared ow w s e r = not (is_hit r.action && is_store e) || (ow && not (is_clean r.next))
+
+pub ask_store_owns_holds : asks ask_store_owns ≡ true
+unfolding asks ask_case all_protocols all_memories all_states all_requests all_payloads all_asks all_waits either given when claims_of fits is_owner is_sharer is_clean is_reader wait_fits in_protocol same
+ask_store_owns_holds = refl
+
+-- there is a row for each Ask of a core in the protocol but for an Evict in I
+abbrev pub has_ask_row : Protocol → CacheState → CacheEvent → Bool
+has_ask_row p s e = when (in_protocol p s) (λ _. is_idle_evict s e || is_some (cell_of p s e))
+
+has_ask_row_holds : all_protocols (λ p. all_states (λ s. all_asks (λ e. has_ask_row p s e))) ≡ true
+unfolding all_protocols all_memories all_states all_requests all_payloads all_asks all_waits either given when claims_of fits is_owner is_sharer is_clean is_reader wait_fits in_protocol same
+has_ask_row_holds = refl
+
+pub ask_row : (p : Protocol) (s : CacheState) (o : Op) → has_ask_row p s (asked o) ≡ true
+ask_row p s o = all_asks-at _ (all_states-at (λ x. all_asks (λ e. has_ask_row p x e)) (all_protocols-at (λ x. all_states (λ s. all_asks (λ e. has_ask_row x s e))) has_ask_row_holds p) s) o

@@ -1,0 +1,238 @@
+-- Tests of the rows of an Order, computed over the whole tables.
+use Rattle.std.proofs.Common.{◌≡◌, ◌&&◌, ◌||◌, Bool, true, false, not, Option, Some, None, refl}
+use Rattle.std.specs.Prelude.{is_some}
+use Rattle.snoop_rules.specs.declared.names.Protocol.{Protocol}
+use Rattle.snoop_rules.specs.declared.names.CacheState.{CacheState}
+use Rattle.snoop_rules.specs.declared.names.MemState.{MemState}
+use Rattle.snoop_rules.specs.declared.names.Request.{Request}
+use Rattle.snoop_rules.specs.declared.names.Payload.{Payload}
+use Rattle.snoop_rules.specs.declared.names.Payload.TheVariants as payload
+use Rattle.snoop_rules.specs.Waits.{waiting_request}
+use Rattle.snoop_rules.specs.Takers.{own, other, at_memory, carries_value}
+use Rattle.snoop_rules.specs.declared.names.CacheCell.{CacheCell}
+use Rattle.snoop_rules.specs.declared.names.MemCell.{MemCell}
+use Rattle.snoop_rules.specs.Row.{cell_of}
+use Rattle.snoop_rules.specs.MemoryRow.{memory_cell_of}
+use Rattle.snoop_rules.proofs.Every.{all_protocols, all_protocols-at, all_states, all_states-at, all_memories, all_memories-at, all_requests, all_requests-at}
+use Rattle.snoop_history.specs.Totals.{is_put_m, is_data}
+use Rattle.snoop_model.specs.Invariant.Fits.{Claims, claims_of, is_owner, is_sharer, is_clean, is_reader, wait_fits, in_protocol, same, fits}
+use Rattle.snoop_model.proofs.Tables.Every.{either, either-at, when, when_at, given, given_at}
+use Rattle.snoop_model.proofs.OneBlock.Steps.{sent_by, sent_by_memory}
+use Rattle.snoop_model.proofs.Tables.SenderTests.{Memory, Core, Requestor, is_sender_line, is_led}
+use Rattle.snoop_model.proofs.Tables.StateTests.{carries}
+
+abbrev pub or_else : Option Payload → Option Payload → Option Payload
+or_else None b = b
+or_else (Some a) b = Some a
+
+-- the payload of an Order, from the requestor's row and memory's
+abbrev pub payload_of : CacheCell → MemCell → Option Payload
+payload_of oc mc = or_else (sent_by (Some oc)) (or_else (sent_by_memory (Some mc)) (Some payload.Data))
+
+-- an Order at a quiet line: the requestor's state, whether it owns, and k of what comes of it
+abbrev pub OrderTest : Type 0
+OrderTest = (p : Protocol) (m : MemState) (st : Claims) (sr : CacheState) (or : Bool) (q : Request) → Bool
+
+unfoldable pub order_case : OrderTest → Protocol → MemState → CacheState → Bool → Bool
+order_case k p m sr or =
+    given (claims_of p m None) (λ st. when (fits p st.shared or None sr) (λ _. when (not or || st.owned) (λ _. given (waiting_request sr) (λ q. k p m st sr or q))))
+
+unfoldable pub orders : OrderTest → Bool
+orders k = all_protocols (λ p. all_memories (λ m. all_states (λ sr. either (λ or. order_case k p m sr or))))
+
+pub order_rule : (k : OrderTest) → orders k ≡ true → (p : Protocol) (m : MemState) (st : Claims) (sr : CacheState) (or : Bool) (q : Request) → claims_of p m None ≡ Some st → fits p st.shared or None sr ≡ true → (not or || st.owned) ≡ true → waiting_request sr ≡ Some q → k p m st sr or q ≡ true
+unfolding orders order_case
+order_rule k h p m st sr or q is_claims is_fit is_owned is_waiting =
+    let h0 : order_case k p m sr or ≡ true = either-at _ (all_states-at _ (all_memories-at _ (all_protocols-at _ h p) m) sr) or in
+    let h1 = given_at _ _ st is_claims h0 in
+    let h2 = when_at _ _ is_fit h1 in
+    let h3 = when_at _ _ is_owned h2 in
+    given_at _ _ q is_waiting h3
+
+-- an Order to its end: memory's row, the requestor's, the payload and the line after it
+abbrev pub EndTest : Type 0
+EndTest = (p : Protocol) (m : MemState) (st : Claims) (sr : CacheState) (or : Bool) (q : Request) (mc : MemCell) (oc : CacheCell) (pl : Payload) (st2 : Claims) → Bool
+
+abbrev pub end_case : EndTest → OrderTest
+end_case k p m st sr or q =
+    given (memory_cell_of p m (at_memory q)) (λ mc. given (cell_of p sr (own q)) (λ oc. given (payload_of oc mc) (λ pl. given (claims_of p mc.next (Some (q, pl))) (λ st2. k p m st sr or q mc oc pl st2))))
+
+pub end_rule : (k : EndTest) → orders (end_case k) ≡ true → (p : Protocol) (m : MemState) (st : Claims) (sr : CacheState) (or : Bool) (q : Request) (mc : MemCell) (oc : CacheCell) (pl : Payload) (st2 : Claims) → claims_of p m None ≡ Some st → fits p st.shared or None sr ≡ true → (not or || st.owned) ≡ true → waiting_request sr ≡ Some q → memory_cell_of p m (at_memory q) ≡ Some mc → cell_of p sr (own q) ≡ Some oc → payload_of oc mc ≡ Some pl → claims_of p mc.next (Some (q, pl)) ≡ Some st2 → k p m st sr or q mc oc pl st2 ≡ true
+end_rule k h p m st sr or q mc oc pl st2 is_claims is_fit is_owned is_waiting is_mc is_oc is_pl is_st2 =
+    let h0 : end_case k p m st sr or q ≡ true = order_rule (end_case k) h p m st sr or q is_claims is_fit is_owned is_waiting in
+    let h1 = given_at _ _ mc is_mc h0 in
+    let h2 = given_at _ _ oc is_oc h1 in
+    let h3 = given_at _ _ pl is_pl h2 in
+    given_at _ _ st2 is_st2 h3
+
+-- another core at that Order: its state, whether it owns, and its row
+abbrev pub OtherTest : Type 0
+OtherTest = (p : Protocol) (m : MemState) (st : Claims) (sr : CacheState) (or : Bool) (q : Request) (mc : MemCell) (oc : CacheCell) (pl : Payload) (st2 : Claims) (s : CacheState) (ow : Bool) (xc : CacheCell) → Bool
+
+unfoldable pub other_case : OtherTest → EndTest
+other_case k p m st sr or q mc oc pl st2 =
+    all_states (λ s. either (λ ow. when (fits p st.shared ow None s) (λ _. when (not (ow && or)) (λ _. when (not ow || st.owned) (λ _. given (cell_of p s (other q)) (λ xc. k p m st sr or q mc oc pl st2 s ow xc))))))
+
+pub other_rule : (k : OtherTest) (p : Protocol) (m : MemState) (st : Claims) (sr : CacheState) (or : Bool) (q : Request) (mc : MemCell) (oc : CacheCell) (pl : Payload) (st2 : Claims) → other_case k p m st sr or q mc oc pl st2 ≡ true → (s : CacheState) (ow : Bool) (xc : CacheCell) → fits p st.shared ow None s ≡ true → not (ow && or) ≡ true → (not ow || st.owned) ≡ true → cell_of p s (other q) ≡ Some xc → k p m st sr or q mc oc pl st2 s ow xc ≡ true
+unfolding other_case
+other_rule k p m st sr or q mc oc pl st2 h s ow xc is_fit apart is_owned is_xc =
+    let h0 = either-at _ (all_states-at _ h s) ow in
+    let h1 = when_at _ _ is_fit h0 in
+    let h2 = when_at _ _ apart h1 in
+    let h3 = when_at _ _ is_owned h2 in
+    given_at _ _ xc is_xc h3
+
+abbrev pub has_mem_row : OrderTest
+has_mem_row p m st sr or q = is_some (memory_cell_of p m (at_memory q))
+
+pub has_mem_row_holds : orders has_mem_row ≡ true
+unfolding orders order_case other_case all_protocols all_memories all_states all_requests either given when claims_of fits is_owner is_sharer is_clean is_reader wait_fits in_protocol same is_sender_line
+has_mem_row_holds = refl
+
+abbrev pub has_own_row : OrderTest
+has_own_row p m st sr or q = is_some (cell_of p sr (own q))
+
+pub has_own_row_holds : orders has_own_row ≡ true
+unfolding orders order_case other_case all_protocols all_memories all_states all_requests either given when claims_of fits is_owner is_sharer is_clean is_reader wait_fits in_protocol same is_sender_line
+has_own_row_holds = refl
+
+abbrev pub has_payload : OrderTest
+has_payload p m st sr or q = given (memory_cell_of p m (at_memory q)) (λ mc. given (cell_of p sr (own q)) (λ oc. is_some (payload_of oc mc)))
+
+pub has_payload_holds : orders has_payload ≡ true
+unfolding orders order_case other_case all_protocols all_memories all_states all_requests either given when claims_of fits is_owner is_sharer is_clean is_reader wait_fits in_protocol same is_sender_line
+has_payload_holds = refl
+
+abbrev pub has_line : OrderTest
+has_line p m st sr or q = given (memory_cell_of p m (at_memory q)) (λ mc. given (cell_of p sr (own q)) (λ oc. given (payload_of oc mc) (λ pl. is_some (claims_of p mc.next (Some (q, pl))))))
+
+pub has_line_holds : orders has_line ≡ true
+unfolding orders order_case other_case all_protocols all_memories all_states all_requests either given when claims_of fits is_owner is_sharer is_clean is_reader wait_fits in_protocol same is_sender_line
+has_line_holds = refl
+
+abbrev pub owner_only_puts : OrderTest
+owner_only_puts p m st sr or q = not or || is_put_m q
+
+pub owner_only_puts_holds : orders owner_only_puts ≡ true
+unfolding orders order_case other_case all_protocols all_memories all_states all_requests either given when claims_of fits is_owner is_sharer is_clean is_reader wait_fits in_protocol same is_sender_line
+owner_only_puts_holds = refl
+
+abbrev pub owned_after : EndTest
+owned_after p m st sr or q mc oc pl st2 = same st2.owned (is_put_m q && (st.owned && not or))
+
+pub owned_after_holds : orders (end_case owned_after) ≡ true
+unfolding orders order_case other_case all_protocols all_memories all_states all_requests either given when claims_of fits is_owner is_sharer is_clean is_reader wait_fits in_protocol same is_sender_line
+owned_after_holds = refl
+
+abbrev pub requestor_fits : EndTest
+requestor_fits p m st sr or q mc oc pl st2 = fits p st2.shared false (Some q) oc.next
+
+pub requestor_fits_holds : orders (end_case requestor_fits) ≡ true
+unfolding orders order_case other_case all_protocols all_memories all_states all_requests either given when claims_of fits is_owner is_sharer is_clean is_reader wait_fits in_protocol same is_sender_line
+requestor_fits_holds = refl
+
+abbrev pub requestor_carries : EndTest
+requestor_carries p m st sr or q mc oc pl st2 = carries sr oc.next
+
+pub requestor_carries_holds : orders (end_case requestor_carries) ≡ true
+unfolding orders order_case other_case all_protocols all_memories all_states all_requests either given when claims_of fits is_owner is_sharer is_clean is_reader wait_fits in_protocol same is_sender_line
+requestor_carries_holds = refl
+
+abbrev pub fresh_after : EndTest
+fresh_after p m st sr or q mc oc pl st2 = not st2.fresh || (st.fresh || is_clean sr)
+
+pub fresh_after_holds : orders (end_case fresh_after) ≡ true
+unfolding orders order_case other_case all_protocols all_memories all_states all_requests either given when claims_of fits is_owner is_sharer is_clean is_reader wait_fits in_protocol same is_sender_line
+fresh_after_holds = refl
+
+abbrev pub memory_sends_fresh : EndTest
+memory_sends_fresh p m st sr or q mc oc pl st2 = not (is_some (sent_by_memory (Some mc))) || st.fresh
+
+pub memory_sends_fresh_holds : orders (end_case memory_sends_fresh) ≡ true
+unfolding orders order_case other_case all_protocols all_memories all_states all_requests either given when claims_of fits is_owner is_sharer is_clean is_reader wait_fits in_protocol same is_sender_line
+memory_sends_fresh_holds = refl
+
+abbrev pub requestor_sends : EndTest
+requestor_sends p m st sr or q mc oc pl st2 = same (is_some (sent_by (Some oc))) (is_put_m q)
+
+pub requestor_sends_holds : orders (end_case requestor_sends) ≡ true
+unfolding orders order_case other_case all_protocols all_memories all_states all_requests either given when claims_of fits is_owner is_sharer is_clean is_reader wait_fits in_protocol same is_sender_line
+requestor_sends_holds = refl
+
+abbrev pub memory_sends : EndTest
+memory_sends p m st sr or q mc oc pl st2 = same (is_some (sent_by_memory (Some mc))) (not (is_put_m q) && not st.owned)
+
+pub memory_sends_holds : orders (end_case memory_sends) ≡ true
+unfolding orders order_case other_case all_protocols all_memories all_states all_requests either given when claims_of fits is_owner is_sharer is_clean is_reader wait_fits in_protocol same is_sender_line
+memory_sends_holds = refl
+
+abbrev pub requestor_reads : EndTest
+requestor_reads p m st sr or q mc oc pl st2 = not (is_put_m q && carries_value pl) || is_reader sr
+
+pub requestor_reads_holds : orders (end_case requestor_reads) ≡ true
+unfolding orders order_case other_case all_protocols all_memories all_states all_requests either given when claims_of fits is_owner is_sharer is_clean is_reader wait_fits in_protocol same is_sender_line
+requestor_reads_holds = refl
+
+abbrev pub order_line_of_put : EndTest
+order_line_of_put p m st sr or q mc oc pl st2 = not (is_put_m q) || is_led p q m (Requestor sr) pl mc.next
+
+pub order_line_of_put_holds : orders (end_case order_line_of_put) ≡ true
+unfolding orders order_case other_case all_protocols all_memories all_states all_requests either given when claims_of fits is_owner is_sharer is_clean is_reader wait_fits in_protocol same is_sender_line
+order_line_of_put_holds = refl
+
+abbrev pub order_line_of_memory : EndTest
+order_line_of_memory p m st sr or q mc oc pl st2 = not (is_some (sent_by_memory (Some mc))) || is_led p q m Memory pl mc.next
+
+pub order_line_of_memory_holds : orders (end_case order_line_of_memory) ≡ true
+unfolding orders order_case other_case all_protocols all_memories all_states all_requests either given when claims_of fits is_owner is_sharer is_clean is_reader wait_fits in_protocol same is_sender_line
+order_line_of_memory_holds = refl
+
+abbrev pub other_fits : OtherTest
+other_fits p m st sr or q mc oc pl st2 s ow xc = fits p st2.shared (ow && is_put_m q) None xc.next
+
+pub other_fits_holds : orders (end_case (other_case other_fits)) ≡ true
+unfolding orders order_case other_case all_protocols all_memories all_states all_requests either given when claims_of fits is_owner is_sharer is_clean is_reader wait_fits in_protocol same is_sender_line
+other_fits_holds = refl
+
+abbrev pub other_carries : OtherTest
+other_carries p m st sr or q mc oc pl st2 s ow xc = carries s xc.next
+
+pub other_carries_holds : orders (end_case (other_case other_carries)) ≡ true
+unfolding orders order_case other_case all_protocols all_memories all_states all_requests either given when claims_of fits is_owner is_sharer is_clean is_reader wait_fits in_protocol same is_sender_line
+other_carries_holds = refl
+
+abbrev pub other_sends : OtherTest
+other_sends p m st sr or q mc oc pl st2 s ow xc = same (is_some (sent_by (Some xc))) (ow && not (is_put_m q))
+
+pub other_sends_holds : orders (end_case (other_case other_sends)) ≡ true
+unfolding orders order_case other_case all_protocols all_memories all_states all_requests either given when claims_of fits is_owner is_sharer is_clean is_reader wait_fits in_protocol same is_sender_line
+other_sends_holds = refl
+
+abbrev pub other_sends_data : OtherTest
+other_sends_data p m st sr or q mc oc pl st2 s ow xc = given (sent_by (Some xc)) (λ x. is_data x && is_data pl)
+
+pub other_sends_data_holds : orders (end_case (other_case other_sends_data)) ≡ true
+unfolding orders order_case other_case all_protocols all_memories all_states all_requests either given when claims_of fits is_owner is_sharer is_clean is_reader wait_fits in_protocol same is_sender_line
+other_sends_data_holds = refl
+
+abbrev pub order_line_of_core : OtherTest
+order_line_of_core p m st sr or q mc oc pl st2 s ow xc = not (is_some (sent_by (Some xc))) || is_led p q m (Core s) pl mc.next
+
+pub order_line_of_core_holds : orders (end_case (other_case order_line_of_core)) ≡ true
+unfolding orders order_case other_case all_protocols all_memories all_states all_requests either given when claims_of fits is_owner is_sharer is_clean is_reader wait_fits in_protocol same is_sender_line
+order_line_of_core_holds = refl
+
+abbrev pub has_other_row : Protocol → Request → CacheState → Bool → Bool → Bool
+has_other_row p q s shared ow = when (fits p shared ow None s) (λ _. is_some (cell_of p s (other q)))
+
+abbrev has_other_row_test : Bool
+has_other_row_test = all_protocols (λ p. all_requests (λ q. all_states (λ s. either (λ shared. either (λ ow. has_other_row p q s shared ow)))))
+
+has_other_row_holds : has_other_row_test ≡ true
+unfolding all_protocols all_memories all_states all_requests either given when claims_of fits is_owner is_sharer is_clean is_reader wait_fits in_protocol same is_sender_line
+has_other_row_holds = refl
+
+pub other_row : (p : Protocol) (q : Request) (s : CacheState) (shared ow : Bool) → fits p shared ow None s ≡ true → is_some (cell_of p s (other q)) ≡ true
+other_row p q s shared ow is_fit =
+    let h0 : has_other_row p q s shared ow ≡ true = either-at _ (either-at _ (all_states-at _ (all_requests-at _ (all_protocols-at _ has_other_row_holds p) q) s) shared) ow in
+    when_at _ _ is_fit h0

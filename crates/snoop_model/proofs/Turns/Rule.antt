@@ -1,0 +1,200 @@
+-- Turns that follow the turn rule are never refused, and keep what they stand on.
+use Rattle.std.proofs.Common.{◌≡◌, ℕ, ◌<◌, Bool, true, false, Option, Some, None, refl, sym, ◌∙◌, ap, subst, arith, inl, inr, ◌⊎◌}
+use Rattle.std.specs.Prelude.{◌==◌, is_some, All, slice_index_or, slice_set, if◌then◌else◌}
+use Rattle.std.proofs.lemmas.Bool.{false≢true, cases_eq, eq-eqb}
+use Rattle.std.proofs.lemmas.Option.{same_Some}
+use Rattle.std.proofs.lemmas.List.Elements.{All-contains, All-weaker, Contains-get_or}
+use Rattle.snoop_trace.specs.declared.step.Op.{Op}
+use Rattle.snoop_trace.specs.declared.step.Step.{Step}
+use Rattle.snoop_trace.specs.declared.step.Step.TheVariants.{Ask, Order, Respond}
+use Rattle.snoop_rules.specs.declared.names.CacheAction.{CacheAction}
+use Rattle.snoop_rules.specs.declared.names.CacheAction.TheVariants as action
+use Rattle.snoop_rules.specs.declared.names.Request.{Request}
+use Rattle.snoop_rules.specs.Waits.{waiting_request}
+use Rattle.snoop_rules.specs.Takers.{asked}
+use Rattle.snoop_bus.specs.declared.transactions.Open.{Open}
+use Rattle.snoop_bus.specs.Queues.{queue_of}
+use Rattle.snoop_model.specs.declared.replies.Refused.{Refused}
+use Rattle.snoop_model.specs.declared.replies.Refused.TheVariants.{NoCore, NoBlock, Stalled, NothingWaiting, BusTaken, NoTransaction, NoMemory}
+use Rattle.snoop_model.specs.Pictures.Picture.{held_by}
+use Rattle.snoop_model.specs.Pictures.Situation.{Situation, picture_of, state_of, Waits}
+use Rattle.snoop_model.specs.Moves.Move.{queues_after}
+use Rattle.snoop_model.specs.Moves.Refuses.{Refuses}
+use Rattle.snoop_model.specs.Turns.Turn.{step_under_way}
+use Rattle.snoop_model.specs.Turns.Serving.{IsServing}
+use Rattle.snoop_model.specs.Invariant.WellKept.{IsWellKept}
+use Rattle.snoop_model.specs.Turns.TurnRule.{NeverRefused, ServesOn, Ends, ComesToRest}
+use Rattle.snoop_model.proofs.Lists.Writes.{set_cases, all_first, all_issued, all_ordered}
+use Rattle.snoop_model.proofs.Turns.WaitingWorks.{stall_busy, busy_under_way, missed_busy}
+
+-- which steps a work under way takes, and when it takes none
+under_way_step : (w : Option Request) (t : Option Open) (core block : ℕ) (step : Step) → step_under_way w t core block ≡ Some step
+    → ((step ≡ Order core) × (t ≡ None) × ((q : Request) × (w ≡ Some q))) ⊎ ((step ≡ Respond block) × ((o : Open) × (t ≡ Some o)))
+under_way_step (Some q) None core block step h = inl (sym (same_Some _ _ h), refl, (q, refl))
+under_way_step (Some q) (Some o) core block step h = inr (sym (same_Some _ _ h), (o, refl))
+under_way_step None None core block step h = cc
+under_way_step None (Some o) core block step h = inr (own (o.core == core) h, (o, refl))
+  where
+    own : (b : Bool) → ◌≡◌ {A = Option Step} (if b then Some (Respond block) else None) (Some step) → step ≡ Respond block
+    own true e = sym (same_Some _ _ e)
+    own false e = cc
+
+none_left : (w : Option Request) (t : Option Open) (core block : ℕ) → step_under_way w t core block ≡ None → (w ≡ None) × ((o : Open) → t ≡ Some o → o.core ≡ core → ⊥)
+none_left (Some q) None core block h = cc
+none_left (Some q) (Some o) core block h = cc
+none_left None None core block h = (refl, λ o e own. cc)
+none_left None (Some o) core block h = (
+  refl,
+  λ p e own.
+      let its : o.core ≡ core = ap (λ (x : Open). x.core) (same_Some _ _ e) ∙ own in
+      let P : Bool → Type 0 = λ b. ◌≡◌ {A = Option Step} (if b then Some (Respond block) else None) None in
+      let clash = subst P (eq-eqb o.core core its) h in
+      cc,
+)
+
+two_blocks : (b : ℕ) → ◌≡◌ {A = Option ℕ} None (Some b) → ⊥
+two_blocks b h = cc
+
+module _ (s : Situation) (under_way : ℕ → Option ℕ) (core block : ℕ) (asking : Op) (serving : IsServing under_way s) (kept : IsWellKept s) (has_core : core < s.shape.cores) (has_block : block < s.shape.blocks) where
+  ask_goes : under_way core ≡ None → (cause : Refused) → Refuses s (Ask core block asking) cause → ⊥
+  ask_goes idle NoCore h = absurd (omega arith)
+  ask_goes idle NoBlock h = let l = h.1 in absurd (omega arith)
+  ask_goes idle (Stalled state) h =
+      two_blocks block (sym idle ∙ busy_under_way s under_way serving kept core block (stall_busy s.protocol (state_of s core block) (asked asking) h.2.0 h.2.1))
+  ask_goes idle NothingWaiting h = absurd h
+  ask_goes idle (BusTaken b) h = absurd h
+  ask_goes idle NoTransaction h = absurd h
+  ask_goes idle NoMemory h = absurd h
+
+  order_goes : under_way core ≡ Some block → (picture_of s block).transaction ≡ None → (q : Request) → Waits s core block q → (cause : Refused) → Refuses s (Order core) cause → ⊥
+  order_goes its free q waits NoCore h = absurd (omega arith)
+  order_goes its free q waits NothingWaiting h = h.1 block q waits
+  order_goes its free q waits (BusTaken b) h =
+      let same : block ≡ b = same_Some _ _ (sym its ∙ all_first (λ x. under_way core ≡ Some x) (queue_of s.queues core) b (serving.waits core) h.1) in
+      let P : ℕ → Type 0 = λ x. (picture_of s x).transaction ≡ None in
+      let taken : is_some (picture_of s b).transaction ≡ true = h.2 in
+      absurd (false≢true (sym (ap (λ (o : Option Open). is_some o) (subst P same free)) ∙ taken))
+  order_goes its free q waits NoBlock h = absurd h
+  order_goes its free q waits (Stalled state) h = absurd h
+  order_goes its free q waits NoTransaction h = absurd h
+  order_goes its free q waits NoMemory h = absurd h
+
+  respond_goes : (o : Open) → (picture_of s block).transaction ≡ Some o → (cause : Refused) → Refuses s (Respond block) cause → ⊥
+  respond_goes o open_here NoBlock h = absurd (omega arith)
+  respond_goes o open_here NoTransaction h = let clash : ◌≡◌ {A = Option Open} None (Some o) = sym h.1 ∙ open_here in cc
+  respond_goes o open_here NoCore h = absurd h
+  respond_goes o open_here (Stalled state) h = absurd h
+  respond_goes o open_here NothingWaiting h = absurd h
+  respond_goes o open_here (BusTaken b) h = absurd h
+  respond_goes o open_here NoMemory h = absurd h
+
+pub never_refused : NeverRefused
+never_refused s under_way core block asking false step serving kept has_core has_block works is cause refused =
+    let R : Step → Type 0 = λ x. Refuses s x cause in
+    ask_goes s under_way core block asking serving kept has_core has_block works cause (subst R (sym (same_Some _ _ is)) refused)
+never_refused s under_way core block asking true step serving kept has_core has_block works is cause refused =
+    let R : Step → Type 0 = λ x. Refuses s x cause in
+    elim (under_way_step (waiting_request (state_of s core block)) (picture_of s block).transaction core block step is) [
+      | inl p ↦ order_goes s under_way core block asking serving kept has_core has_block works p.1 p.2.0 p.2.1 cause (subst R p.0 refused)
+      | inr p ↦ respond_goes s under_way core block asking serving kept has_core has_block p.1.0 p.1.1 cause (subst R p.0 refused)
+    ]
+
+module _ (s : Situation) (before after : ℕ → Option ℕ) (serving : IsServing before s) (extends : (core block : ℕ) → before core ≡ Some block → after core ≡ Some block) where
+  still_waits : (k : ℕ) → All (λ block. after k ≡ Some block) (queue_of s.queues k)
+  still_waits k = All-weaker (λ block. before k ≡ Some block) (λ block. after k ≡ Some block) (extends k) (queue_of s.queues k) (serving.waits k)
+
+  still_opened : (block : ℕ) (o : Open) → (picture_of s block).transaction ≡ Some o → after o.core ≡ Some block
+  still_opened block o is = extends o.core block (serving.opened block o is)
+
+  asked_waits : (act : CacheAction) (core block : ℕ) → after core ≡ Some block → (k : ℕ) → All (λ b. after k ≡ Some b) (queue_of (queues_after act s.queues core block) k)
+  asked_waits (action.Issue request) core block its k = all_issued (λ c b. after c ≡ Some b) s.queues core block still_waits its k
+  asked_waits action.None core block its k = still_waits k
+  asked_waits action.Hit core block its k = still_waits k
+  asked_waits action.Stall core block its k = still_waits k
+  asked_waits action.Drop core block its k = still_waits k
+  asked_waits action.FillLoad core block its k = still_waits k
+  asked_waits action.FillStore core block its k = still_waits k
+  asked_waits (action.Send payload target) core block its k = still_waits k
+
+  -- an open transaction where one block's was written
+  set_opened : (place : ℕ) (new : Option Open) → ((o : Open) → new ≡ Some o → after o.core ≡ Some place)
+      → (block : ℕ) (o : Open) → slice_index_or (slice_set s.transactions place new) block None ≡ Some o → after o.core ≡ Some block
+  set_opened place new its block o is = elim (set_cases s.transactions place block new None) [
+    | inl p ↦
+        let P : ℕ → Type 0 = λ b. after o.core ≡ Some b in
+        subst P (sym p.0) (its o (sym p.1 ∙ is))
+    | inr e ↦ still_opened block o (sym e ∙ is)
+  ]
+
+pub serves_on : ServesOn
+serves_on s t before after (Ask core on asking) answer entry serving move extends its =
+    let P : Situation → Type 0 = λ x. IsServing after x in
+    elim move.1.1.2 [
+      | inl absent ↦ subst P (sym absent.3) (record { waits = still_waits s before after serving extends; opened = still_opened s before after serving extends })
+      | inr asks ↦
+          let Q : ℕ → Type 0 = λ b. after core ≡ Some b in
+          subst P (sym asks.after) (record {
+            waits = asked_waits s before after serving extends asks.act core move.0 (subst Q move.1.1.0 its);
+            opened = still_opened s before after serving extends;
+          })
+    ]
+serves_on s t before after (Order core) answer entry serving move extends its =
+    let P : Situation → Type 0 = λ x. IsServing after x in
+    let orders = move.1.1.1.3 in
+    let here : after core ≡ Some move.0 = extends core move.0 (all_first (λ b. before core ≡ Some b) (queue_of s.queues core) move.0 (serving.waits core) move.1.0) in
+    subst P (sym orders.after) (record {
+      waits = all_ordered (λ c b. after c ≡ Some b) s.queues core move.0 (still_waits s before after serving extends);
+      opened = set_opened s before after serving extends move.0 orders.next.transaction
+          (λ o is. let same = same_Some _ _ (sym orders.opened ∙ is) in
+          let Q : ℕ → Type 0 = λ c. after c ≡ Some move.0 in
+          subst Q (ap (λ (x : Open). x.core) same) here);
+    })
+serves_on s t before after (Respond on) answer entry serving move extends its =
+    let P : Situation → Type 0 = λ x. IsServing after x in
+    let responds = move.1.1.1.1.4 in
+    subst P (sym responds.after) (record {
+      waits = still_waits s before after serving extends;
+      opened = set_opened s before after serving extends move.0 responds.next.transaction
+          (λ o is. let clash : ◌≡◌ {A = Option Open} None (Some o) = sym responds.closed ∙ is in cc);
+    })
+
+pub ends : Ends
+ends s before after core block asking serving kept works none others =
+    let left = none_left (waiting_request (state_of s core block)) (picture_of s block).transaction core block none in
+    record {
+      waits = λ k. elim (cases_eq k core) [
+        | inl e ↦ λ i d lt.
+            (let x : ℕ = slice_index_or (queue_of s.queues k) i d in
+            let own : before core ≡ Some x = (let Q : ℕ → Type 0 = λ c. before c ≡ Some x in subst Q e (serving.waits k i d lt)) in
+            let same : x ≡ block = same_Some _ _ (sym own ∙ works) in
+            let w = kept.waits k x (Contains-get_or (queue_of s.queues k) i d lt) in
+            let R : ℕ → Type 0 = λ c. waiting_request (state_of s c x) ≡ Some w.0 in
+            let T : ℕ → Type 0 = λ b. waiting_request (state_of s core b) ≡ Some w.0 in
+            let clash : ◌≡◌ {A = Option Request} None (Some w.0) = sym left.0 ∙ subst T same (subst R e w.1) in
+            cc)
+        | inr ne ↦ (let Q : Option ℕ → Type 0 = λ w. All (λ b. w ≡ Some b) (queue_of s.queues k) in subst Q (sym (others k ne)) (serving.waits k))
+      ];
+      opened = λ b o is. elim (cases_eq o.core core) [
+        | inl e ↦
+            (let own : before core ≡ Some b = (let Q : ℕ → Type 0 = λ c. before c ≡ Some b in subst Q e (serving.opened b o is)) in
+            let same : b ≡ block = same_Some _ _ (sym own ∙ works) in
+            let T : ℕ → Type 0 = λ x. (picture_of s x).transaction ≡ Some o in
+            absurd (left.1 o (subst T same is) e))
+        | inr ne ↦ others o.core ne ∙ serving.opened b o is
+      ];
+    }
+
+no_open : (t : Option Open) → ((o : Open) → t ≡ Some o → ⊥) → t ≡ None
+no_open None h = refl
+no_open (Some o) h = absurd (h o refl)
+
+no_operation : (t : Option Op) → ((o : Op) → t ≡ Some o → ⊥) → t ≡ None
+no_operation None h = refl
+no_operation (Some o) h = absurd (h o refl)
+
+pub comes_to_rest : ComesToRest
+comes_to_rest s serving kept = record {
+  ordered = λ core block request waits. two_blocks block (All-contains (λ b. ◌≡◌ {A = Option ℕ} None (Some b)) (queue_of s.queues core) block (serving.waits core) (kept.queued core block request waits));
+  closed = λ block. no_open (picture_of s block).transaction (λ o is. two_blocks block (serving.opened block o is));
+  performed = λ core block. no_operation (held_by (picture_of s block) core).waiting (λ o is. two_blocks block (busy_under_way s (λ _. None) serving kept core block (missed_busy _ (kept.operations core block o is))));
+}

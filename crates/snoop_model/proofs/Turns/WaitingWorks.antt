@@ -1,0 +1,76 @@
+-- A core that waits has its work under way.
+use Rattle.std.proofs.Common.{◌≡◌, ℕ, Bool, true, false, not, ◌||◌, Option, Some, refl, subst, inl, inr, ◌⊎◌}
+use Rattle.std.proofs.lemmas.Bool.{false≢true}
+use Rattle.std.proofs.lemmas.List.Elements.{All-contains}
+use Rattle.snoop_rules.specs.declared.names.Protocol.{Protocol}
+use Rattle.snoop_rules.specs.declared.names.CacheState.{CacheState}
+use Rattle.snoop_rules.specs.declared.names.CacheState.TheVariants.{I, IsAd, IsD, ImAd, ImD, S, SmAd, SmD, E, M, EiA, MiA, IiA}
+use Rattle.snoop_rules.specs.declared.names.CacheEvent.{CacheEvent}
+use Rattle.snoop_rules.specs.declared.names.CacheAction.{CacheAction}
+use Rattle.snoop_rules.specs.declared.names.CacheAction.TheVariants as action
+use Rattle.snoop_rules.specs.declared.names.Request.{Request}
+use Rattle.snoop_rules.specs.declared.names.Request.TheVariants.{GetS, GetM, PutM}
+use Rattle.snoop_rules.specs.Cell.{Cell}
+use Rattle.snoop_rules.specs.Waits.{waiting_request}
+use Rattle.snoop_rules.specs.declared.names.CacheCell.{CacheCell}
+use Rattle.snoop_rules.proofs.Every.{all_protocols, all_states, all_events}
+use Rattle.snoop_rules.proofs.Rows.{each_row, each_row-at}
+use Rattle.snoop_bus.specs.Queues.{queue_of}
+use Rattle.snoop_model.specs.Pictures.Situation.{Situation, state_of}
+use Rattle.snoop_model.specs.Turns.Serving.{IsServing}
+use Rattle.snoop_model.specs.Invariant.WellKept.{IsWellKept, awaited_request, is_busy, has_missed}
+
+abbrev pub stalls : CacheAction → Bool
+stalls action.Stall = true
+stalls _ = false
+
+abbrev pub stall_test : Protocol → CacheState → CacheEvent → CacheCell → Bool
+stall_test p s e row = not (stalls row.action) || is_busy s
+
+stall_test_holds : each_row stall_test ≡ true
+unfolding each_row all_protocols all_states all_events
+stall_test_holds = refl
+
+-- a stall comes only where the core waits
+pub stall_busy : (p : Protocol) (s : CacheState) (e : CacheEvent) (n : CacheState) → Cell p s e action.Stall n → is_busy s ≡ true
+stall_busy p s e n h = each_row-at stall_test stall_test_holds p s e action.Stall n h
+
+pub busy_cases : (s : CacheState) → is_busy s ≡ true → ((request : Request) × (waiting_request s ≡ Some request)) ⊎ ((request : Request) × (awaited_request s ≡ Some request))
+busy_cases I h = absurd (false≢true h)
+busy_cases IsAd h = inl (GetS, refl)
+busy_cases IsD h = inr (GetS, refl)
+busy_cases ImAd h = inl (GetM, refl)
+busy_cases ImD h = inr (GetM, refl)
+busy_cases S h = absurd (false≢true h)
+busy_cases SmAd h = inl (GetM, refl)
+busy_cases SmD h = inr (GetM, refl)
+busy_cases E h = absurd (false≢true h)
+busy_cases M h = absurd (false≢true h)
+busy_cases EiA h = inl (PutM, refl)
+busy_cases MiA h = inl (PutM, refl)
+busy_cases IiA h = inl (PutM, refl)
+
+pub busy_under_way : (s : Situation) (under_way : ℕ → Option ℕ) → IsServing under_way s → IsWellKept s → (core block : ℕ) → is_busy (state_of s core block) ≡ true → under_way core ≡ Some block
+busy_under_way s under_way serving kept core block busy = elim (busy_cases (state_of s core block) busy) [
+  | inl w ↦ All-contains (λ b. under_way core ≡ Some b) (queue_of s.queues core) block (serving.waits core) (kept.queued core block w.0 w.1)
+  | inr d ↦
+      let own = kept.awaits core block d.0 d.1 in
+      let P : ℕ → Type 0 = λ c. under_way c ≡ Some block in
+      subst P own.1.1 (serving.opened block own.0 own.1.0)
+]
+
+-- a core that has missed waits
+pub missed_busy : (s : CacheState) → has_missed s ≡ true → is_busy s ≡ true
+missed_busy IsAd h = refl
+missed_busy IsD h = refl
+missed_busy ImAd h = refl
+missed_busy ImD h = refl
+missed_busy SmAd h = refl
+missed_busy SmD h = refl
+missed_busy I h = absurd (false≢true h)
+missed_busy S h = absurd (false≢true h)
+missed_busy E h = absurd (false≢true h)
+missed_busy M h = absurd (false≢true h)
+missed_busy EiA h = absurd (false≢true h)
+missed_busy MiA h = absurd (false≢true h)
+missed_busy IiA h = absurd (false≢true h)

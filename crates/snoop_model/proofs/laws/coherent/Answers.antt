@@ -1,0 +1,46 @@
+-- Each clause, from the invariant of every run.
+use Rattle.std.proofs.Common.{subst}
+use Rattle.snoop_rules.specs.declared.names.Protocol.{Protocol}
+use Rattle.snoop_history.specs.History.{flat}
+use Rattle.snoop_model.specs.Pictures.Situation.{picture_of, reset}
+use Rattle.snoop_model.specs.Pictures.OneWriter.{OneWriter}
+use Rattle.snoop_model.specs.Pictures.Current.{IsCurrent}
+use Rattle.snoop_model.specs.Moves.Meets.{FindsRows}
+use Rattle.snoop_model.specs.Moves.Led.{IsLed}
+use Rattle.snoop_model.proofs.Invariant.Runs.{reset_coherent, run_keeps, run_protocol}
+use Rattle.snoop_model.proofs.Invariant.Coherence.{has_one_writer, readers_current, finds_rows, is_led_order, meets_nothing}
+use Rattle.snoop_model.proofs.Invariant.Safety.{all_proper}
+use Rattle.snoop_model.proofs.Once.Runs.{run_asked_once}
+use Rattle.snoop_model.proofs.Queues.Runs.{reset_queued, run_queued}
+use Rattle.snoop_model.proofs.laws.coherent.Goals as goal
+
+pub returns-clause-one_writer : goal.returns-clause-one_writer
+returns-clause-one_writer c p shape steps outcomes new run block =
+    subst (λ (x : Protocol). OneWriter x (picture_of new block)) (run_protocol steps outcomes (reset p shape) new run) (has_one_writer new (run_keeps steps outcomes (reset p shape) new (reset_coherent p shape) run) block)
+
+pub returns-clause-legal : goal.returns-clause-legal
+returns-clause-legal c p shape steps outcomes new run = (run_keeps steps outcomes (reset p shape) new (reset_coherent p shape) run).legal
+
+pub returns-clause-current : goal.returns-clause-current
+returns-clause-current c p shape steps outcomes new run block =
+    subst (λ (x : Protocol). IsCurrent x (picture_of new block) (flat new.log block)) (run_protocol steps outcomes (reset p shape) new run) (readers_current new (run_keeps steps outcomes (reset p shape) new (reset_coherent p shape) run) block)
+
+pub returns-clause-possible : goal.returns-clause-possible
+returns-clause-possible c p shape steps outcomes new run = meets_nothing new (run_keeps steps outcomes (reset p shape) new (reset_coherent p shape) run)
+
+pub returns-clause-any_order : goal.returns-clause-any_order
+returns-clause-any_order c p shape steps outcomes new run core block request waits free =
+    subst (λ (x : Protocol). FindsRows x (picture_of new block) core request) (run_protocol steps outcomes (reset p shape) new run) (finds_rows new (run_keeps steps outcomes (reset p shape) new (reset_coherent p shape) run) core block request waits free)
+
+pub returns-clause-once : goal.returns-clause-once
+returns-clause-once c p shape steps outcomes new run = run_asked_once p shape steps outcomes new run
+
+pub returns-clause-lines : goal.returns-clause-lines
+returns-clause-lines c p shape steps outcomes new run core block request waits free =
+    subst (λ (x : Protocol). IsLed x (picture_of new block) core request) (run_protocol steps outcomes (reset p shape) new run) (is_led_order new (run_keeps steps outcomes (reset p shape) new (reset_coherent p shape) run) core block request waits free)
+
+pub returns-clause-proper : goal.returns-clause-proper
+returns-clause-proper c p shape steps outcomes new run = all_proper new (run_keeps steps outcomes (reset p shape) new (reset_coherent p shape) run)
+
+pub returns-clause-queued : goal.returns-clause-queued
+returns-clause-queued c p shape steps outcomes new run = (run_queued steps outcomes (reset p shape) new (reset_coherent p shape) (reset_queued p shape) run).each

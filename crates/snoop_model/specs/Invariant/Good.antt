@@ -1,0 +1,40 @@
+-- The inductive invariant of one block's picture, for any number of cores.
+-- Source: this project's profile.
+use Rattle.std.specs.Prelude.{◌≡◌, ◌<◌, ◌==◌, ℕ, Bool, true, false, cond, Option, Some, None, is_some}
+use Rattle.snoop_rules.specs.declared.names.Protocol.{Protocol}
+use Rattle.snoop_rules.specs.declared.names.Request.{Request}
+use Rattle.snoop_rules.specs.Takers.{carries_value}
+use Rattle.snoop_bus.specs.declared.transactions.Open.{Open}
+use Rattle.snoop_model.specs.Pictures.Picture.{Picture, held_by}
+use Rattle.snoop_model.specs.Pictures.Sound.{IsProper}
+use Rattle.snoop_model.specs.Invariant.Fits.{Claims, Talk, claims_of, is_clean, is_reader, fits}
+
+-- what is said on the bus
+abbrev pub talk_of : Option Open → Option Talk
+talk_of None = None
+talk_of (Some o) = Some (o.request, o.payload)
+
+-- the request whose answer the core awaits
+abbrev pub awaited : Option Open → ℕ → Option Request
+awaited None d = None
+awaited (Some o) d = cond (d == o.core) (Some o.request) None
+
+-- the core is the owner
+abbrev pub owns : Option ℕ → ℕ → Bool
+owns None d = false
+owns (Some o) d = d == o
+
+-- where n cores hold a block whose flat value is this one: each reader keeps it, and memory and the message have it where they are said to
+pub record Good (p : Protocol) (n : ℕ) (flat : ℕ) (picture : Picture) : Type 0 where
+  pub claims : Claims
+  pub is_claims : claims_of p picture.memory (talk_of picture.transaction) ≡ Some claims
+  pub owner : Option ℕ
+  pub owner_in : (o : ℕ) → owner ≡ Some o → o < n
+  pub is_owned : is_some owner ≡ claims.owned
+  pub states : (d : ℕ) → d < n → fits p claims.shared (owns owner d) (awaited picture.transaction d) (held_by picture d).state ≡ true
+  pub kept : (d : ℕ) → d < n → is_reader (held_by picture d).state ≡ true → (held_by picture d).kept ≡ Some flat
+  pub clean : (d : ℕ) → d < n → is_clean (held_by picture d).state ≡ true → picture.value ≡ flat
+  pub fresh : claims.fresh ≡ true → picture.value ≡ flat
+  pub carried : (o : Open) → picture.transaction ≡ Some o → carries_value o.payload ≡ true → o.value ≡ flat
+  pub requestor_in : (o : Open) → picture.transaction ≡ Some o → o.core < n
+  pub proper : (d : ℕ) → d < n → IsProper (held_by picture d)

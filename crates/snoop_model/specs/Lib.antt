@@ -1,0 +1,5 @@
+pub mod Pictures
+pub mod Moves
+pub mod Runs
+pub mod Turns
+pub mod Invariant

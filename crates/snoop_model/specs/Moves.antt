@@ -1,0 +1,11 @@
+-- What a step does, when it is refused, and which cells it needs.
+pub mod Move
+pub mod AskMove
+pub mod OrderMove
+pub mod StepMove
+pub mod Refuses
+pub mod Replies
+pub mod Meets
+pub mod Led
+pub mod Standing
+pub mod Prepared

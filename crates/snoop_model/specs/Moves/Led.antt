@@ -1,0 +1,43 @@
+-- Each Order is a line of the table of senders.
+-- Source: "A Primer on Memory Consistency and Cache Coherence", 2nd edition, chapter 7; MESI's memory is this project's profile.
+use Rattle.std.specs.Prelude.{◌≡◌, ℕ, Option, Some, None, option_map, MatchBool}
+use Rattle.snoop_rules.specs.declared.names.Protocol.{Protocol}
+use Rattle.snoop_rules.specs.declared.names.MemState.{MemState}
+use Rattle.snoop_rules.specs.declared.names.MemEvent.{MemEvent}
+use Rattle.snoop_rules.specs.declared.names.MemAction.{MemAction}
+use Rattle.snoop_rules.specs.declared.names.Request.{Request}
+use Rattle.snoop_rules.specs.declared.names.Request.TheVariants.{PutM}
+use Rattle.snoop_rules.specs.declared.names.Payload.{Payload}
+use Rattle.snoop_rules.specs.MemoryCell.{MemoryCell}
+use Rattle.snoop_rules.specs.Takers.{at_memory, takes_payload, arrival_at_memory}
+use Rattle.snoop_rules.specs.WhoSends.{SentAs}
+use Rattle.snoop_model.specs.Pictures.Picture.{Picture, held_by}
+use Rattle.snoop_model.specs.Pictures.Situation.{Situation, picture_of, Waits}
+use Rattle.snoop_model.specs.Moves.Meets.{FindsRows}
+use Rattle.snoop_model.specs.Pictures.Sends.{IsOnlySender}
+
+-- memory's state after the Respond: it takes a PutM's payload, and another's where it waits for one
+abbrev pub Settles : Request → Protocol → MemState → Payload → MemState → Type 0
+Settles request protocol memory payload done =
+    MatchBool (takes_payload request memory)
+    ((event : MemEvent) × ((act : MemAction) × ((arrival_at_memory payload ≡ Some event) × MemoryCell protocol memory event act done)))
+    (done ≡ memory)
+
+-- the core's request, ordered now, is a line of the table; at a PutM the sender is the requestor itself
+pub record IsLed (protocol : Protocol) (before : Picture) (core : ℕ) (request : Request) : Type 0 where
+  pub from : Option ℕ
+  pub payload : Payload
+  pub act : MemAction
+  pub next : MemState
+  pub done : MemState
+  pub sent : IsOnlySender protocol before core request from payload
+  pub ordered : MemoryCell protocol before.memory (at_memory request) act next
+  pub settled : Settles request protocol next payload done
+  pub line : SentAs protocol request before.memory (option_map (λ k. (held_by before k).state) from) payload next done
+  pub writeback : request ≡ PutM → from ≡ Some core
+
+-- every request that waits on a free block would find all its rows and exactly one sender, and be a line of the table
+abbrev pub OrdersAreLed : Situation → Type 0
+OrdersAreLed s =
+    (core block : ℕ) (request : Request) → Waits s core block request → (picture_of s block).transaction ≡ None →
+    FindsRows s.protocol (picture_of s block) core request × IsLed s.protocol (picture_of s block) core request

@@ -1,0 +1,231 @@
+-- The moves of the machine.
+-- Source: "A Primer on Memory Consistency and Cache Coherence", 2nd edition, chapter 7: atomic transactions, each controller taking its row of the tables; replies and items are this project's profile.
+use Rattle.std.specs.Prelude.{◌≡◌, ℕ, ◌<◌, Bool, true, false, List, [], ◌∷◌, ◌++◌, length, Option, Some, None, option_to_list, slice_get, slice_set, MatchBool, ◌⊎◌, ⊤}
+use Rattle.snoop_trace.specs.declared.step.Op.{Op}
+use Rattle.snoop_trace.specs.declared.step.Op.TheVariants as op
+use Rattle.snoop_trace.specs.declared.step.Step.{Step}
+use Rattle.snoop_trace.specs.declared.step.Step.TheVariants.{Ask, Order, Respond}
+use Rattle.snoop_rules.specs.declared.names.Protocol.{Protocol}
+use Rattle.snoop_rules.specs.declared.names.CacheState.{CacheState}
+use Rattle.snoop_rules.specs.declared.names.CacheState.TheVariants as state
+use Rattle.snoop_rules.specs.declared.names.CacheEvent.{CacheEvent}
+use Rattle.snoop_rules.specs.declared.names.CacheAction.{CacheAction}
+use Rattle.snoop_rules.specs.declared.names.CacheAction.TheVariants as action
+use Rattle.snoop_rules.specs.declared.names.MemEvent.{MemEvent}
+use Rattle.snoop_rules.specs.declared.names.MemAction.{MemAction}
+use Rattle.snoop_rules.specs.declared.names.MemAction.TheVariants as mem_action
+use Rattle.snoop_rules.specs.declared.names.Request.{Request}
+use Rattle.snoop_rules.specs.declared.names.Request.TheVariants.{GetS, GetM, PutM}
+use Rattle.snoop_rules.specs.declared.names.Payload.{Payload}
+use Rattle.snoop_rules.specs.Cell.{Cell}
+use Rattle.snoop_rules.specs.MemoryCell.{MemoryCell}
+use Rattle.snoop_rules.specs.Takers.{asked, seen_by, at_memory, arrival, arrival_at_memory, takes_payload}
+use Rattle.snoop_history.specs.declared.items.Did.{Did}
+use Rattle.snoop_history.specs.declared.items.Came.{Came}
+use Rattle.snoop_history.specs.declared.items.Item.{Item}
+use Rattle.snoop_history.specs.declared.items.Item.TheVariants as item
+use Rattle.snoop_history.specs.History.{next_number}
+use Rattle.snoop_bus.specs.declared.transactions.Open.{Open}
+use Rattle.snoop_bus.specs.Queues.{queue_of, after_issue, after_order}
+use Rattle.snoop_model.specs.declared.replies.Reply.{Reply}
+use Rattle.snoop_model.specs.declared.replies.Reply.TheVariants as reply
+use Rattle.snoop_model.specs.Pictures.Picture.{Picture, held_at, held_by, kept_on}
+use Rattle.snoop_model.specs.Pictures.Situation.{Situation, picture_of, with_picture, state_of, Waits}
+use Rattle.snoop_model.specs.declared.line.Line.{Line}
+use Rattle.snoop_model.specs.Pictures.Sends.{IsOnlySender, value_sent}
+
+-- an operation on a block's value: the value that it loads or stores, and the block's value after it
+abbrev pub Performs : Op → ℕ → ℕ → ℕ → Type 0
+Performs op.Load before value after = (value ≡ before) × (after ≡ before)
+Performs (op.Store stored) before value after = (value ≡ stored) × (after ≡ stored)
+Performs op.Evict before value after = ⊥
+
+-- the operation is a load
+abbrev pub is_load : Op → Bool
+is_load op.Load = true
+is_load (op.Store stored) = false
+is_load op.Evict = false
+
+-- the reply to a hit
+abbrev pub hit_reply : Op → ℕ → Reply
+hit_reply op.Load value = reply.Hit value
+hit_reply (op.Store stored) value = reply.StoreHit
+hit_reply op.Evict value = reply.Gone
+
+-- the operation that waits once its request is issued
+abbrev pub kept_waiting : Op → Option Op
+kept_waiting op.Load = Some op.Load
+kept_waiting (op.Store stored) = Some (op.Store stored)
+kept_waiting op.Evict = None
+
+-- the core's next operation in the log, as it is performed
+abbrev pub next_did : List Item → ℕ → ℕ → Op → ℕ → Bool → Did
+next_did log core block op value hit = record { core = core; number = next_number log core; block = block; load = is_load op; value = value; hit = hit }
+
+-- a core that comes to a state with nothing performed
+abbrev pub comes_to : CacheState → Line → Line
+comes_to next held = record { state = next; kept = kept_on next held.kept; waiting = held.waiting }
+
+-- a hit performs the operation on the kept value
+pub record Hits (next : CacheState) (log : List Item) (core block : ℕ) (asking : Op) (old new : Line) (answer : Reply) (entry : Option Item) : Type 0 where
+  pub before : ℕ
+  pub value : ℕ
+  pub after : ℕ
+  pub kept : old.kept ≡ Some before
+  pub performed : Performs asking before value after
+  pub held : new ≡ record { state = next; kept = Some after; waiting = old.waiting }
+  pub answered : answer ≡ hit_reply asking value
+  pub logged : entry ≡ Some (item.Did (next_did log core block asking value true))
+
+-- a core takes its row for a request, its own or another's
+abbrev pub TakesRow : Protocol → CacheEvent → Line → Line → Type 0
+TakesRow protocol event old new = (act : CacheAction) × ((next : CacheState) × (Cell protocol old.state event act next × (new ≡ comes_to next old)))
+
+-- a fill is for the operation that waits
+abbrev pub IsFillFor : CacheAction → Op → Type 0
+IsFillFor action.FillLoad op.Load = ⊤
+IsFillFor action.FillStore (op.Store stored) = ⊤
+IsFillFor _ _ = ⊥
+
+-- the data comes to its requestor, which performs its waiting operation with it
+pub record Fills (closing : Open) (protocol : Protocol) (log : List Item) (old new : List Line) (did : Option Did) : Type 0 where
+  pub event : CacheEvent
+  pub act : CacheAction
+  pub next : CacheState
+  pub asking : Op
+  pub value : ℕ
+  pub after : ℕ
+  pub arrives : arrival closing.payload ≡ Some event
+  pub row : Cell protocol (held_at old closing.core).state event act next
+  pub waited : (held_at old closing.core).waiting ≡ Some asking
+  pub fill : IsFillFor act asking
+  pub performed : Performs asking closing.value value after
+  pub logged : did ≡ Some (next_did log closing.core closing.block asking value false)
+  pub held : new ≡ slice_set old closing.core (record { state = next; kept = Some after; waiting = None })
+
+-- what a response brings to the caches: nothing at a PutM
+abbrev pub ArrivesFor : Request → Open → Protocol → List Item → List Line → List Line → Option Did → Type 0
+ArrivesFor PutM closing protocol log old new did = (new ≡ old) × (did ≡ None)
+ArrivesFor GetS closing protocol log old new did = Fills closing protocol log old new did
+ArrivesFor GetM closing protocol log old new did = Fills closing protocol log old new did
+
+-- what the response of this transaction brings to the caches
+abbrev pub Arrives : Open → Protocol → List Item → List Line → List Line → Option Did → Type 0
+Arrives closing protocol log old new did = ArrivesFor closing.request closing protocol log old new did
+
+-- memory's value after an action: a write takes the data's value
+abbrev pub written : MemAction → ℕ → ℕ → ℕ
+written mem_action.Write value before = value
+written _ value before = before
+
+-- memory takes the payload
+pub record TakesPayload (closing : Open) (protocol : Protocol) (old new : Picture) : Type 0 where
+  pub event : MemEvent
+  pub act : MemAction
+  pub arrives : arrival_at_memory closing.payload ≡ Some event
+  pub row : MemoryCell protocol old.memory event act new.memory
+  pub value : new.value ≡ written act closing.value old.value
+
+-- memory takes the message of a PutM, and another's where it waits for one; else it stays
+abbrev pub ArrivesAtMemory : Open → Protocol → Picture → Picture → Type 0
+ArrivesAtMemory closing protocol old new =
+    MatchBool (takes_payload closing.request old.memory) (TakesPayload closing protocol old new) ((new.memory ≡ old.memory) × (new.value ≡ old.value))
+
+-- the response, as the history tells it
+abbrev pub came_of : Open → Came
+came_of closing = record { core = closing.core; request = closing.request; block = closing.block; from = closing.from; payload = closing.payload }
+
+-- core and block are within the shape
+abbrev pub IsWithin : Situation → ℕ → ℕ → Type 0
+IsWithin s core block = (core < s.shape.cores) × (block < s.shape.blocks)
+
+-- an Evict in I
+abbrev pub IsAbsent : Situation → ℕ → ℕ → Op → Reply → Situation → Option Item → Type 0
+IsAbsent old core block asking answer new entry =
+    (asking ≡ op.Evict) × (state_of old core block ≡ state.I) × (answer ≡ reply.Absent) × (new ≡ old) × (entry ≡ None)
+
+-- what one core holds after an Ask by this row, what is replied, and the item that is added; a stall is no move
+abbrev pub Takes : CacheAction → CacheState → List Item → ℕ → ℕ → Op → Line → Line → Reply → Option Item → Type 0
+Takes action.Hit next log core block asking old new answer entry =
+    Hits next log core block asking old new answer entry
+Takes (action.Issue request) next log core block asking old new answer entry =
+    (new ≡ record { state = next; kept = kept_on next old.kept; waiting = kept_waiting asking })
+    × (answer ≡ reply.Issued request) × (entry ≡ None)
+Takes action.Drop next log core block asking old new answer entry =
+    (new ≡ comes_to next old) × (answer ≡ reply.Gone) × (entry ≡ None)
+Takes _ next log core block asking old new answer entry = ⊥
+
+-- the queues after an Ask: an issue puts the block last
+abbrev pub queues_after : CacheAction → List (List ℕ) → ℕ → ℕ → List (List ℕ)
+queues_after (action.Issue request) queues core block = after_issue queues core block
+queues_after _ queues core block = queues
+
+-- an Ask that takes a row: that one core takes it
+pub record Asks (old : Situation) (core block : ℕ) (asking : Op) (answer : Reply) (new : Situation) (entry : Option Item) : Type 0 where
+  pub act : CacheAction
+  pub next : CacheState
+  pub held : Line
+  pub row : Cell old.protocol (state_of old core block) (asked asking) act next
+  pub taken : Takes act next old.log core block asking (held_by (picture_of old block) core) held answer entry
+  pub after : new ≡ record old {
+    caches = slice_set old.caches block (slice_set (picture_of old block).caches core held);
+    queues = queues_after act old.queues core block;
+    log = old.log ++ option_to_list entry;
+  }
+
+-- an Order: each controller takes its row for the request, looked up before it, at once
+pub record Orders (old : Situation) (core block : ℕ) (request : Request) (new : Situation) : Type 0 where
+  pub waits : Waits old core block request
+  pub free : (picture_of old block).transaction ≡ None
+  pub from : Option ℕ
+  pub payload : Payload
+  pub sent : IsOnlySender old.protocol (picture_of old block) core request from payload
+  pub next : Picture
+  pub caches : length next.caches ≡ length (picture_of old block).caches
+  pub rows : (k : ℕ) → k < length next.caches → TakesRow old.protocol (seen_by k core request) (held_by (picture_of old block) k) (held_by next k)
+  pub memory : (act : MemAction) × MemoryCell old.protocol (picture_of old block).memory (at_memory request) act next.memory
+  pub value : next.value ≡ (picture_of old block).value
+  pub opened : next.transaction ≡ Some (record { core = core; request = request; block = block; payload = payload; value = value_sent (picture_of old block) from payload; from = from })
+  pub after : new ≡ record (with_picture old block next) {
+    queues = after_order old.queues core block;
+    log = old.log ++ item.Sent (record { core = core; request = request; block = block }) ∷ [];
+  }
+
+-- a Respond: the message goes to its takers, and the transaction closes
+pub record Responds (old : Situation) (block : ℕ) (closing : Open) (did : Option Did) (new : Situation) : Type 0 where
+  pub opened : (picture_of old block).transaction ≡ Some closing
+  pub next : Picture
+  pub requestor : Arrives closing old.protocol old.log (picture_of old block).caches next.caches did
+  pub memory : ArrivesAtMemory closing old.protocol (picture_of old block) next
+  pub closed : next.transaction ≡ None
+  pub after : new ≡ record (with_picture old block next) {
+    log = old.log ++ item.Came (came_of closing) did ∷ [];
+  }
+
+-- the step, on this block, is answered by this reply, leads from old to new, and adds this item, if any
+abbrev pub MoveOn : ℕ → Situation → Step → Reply → Situation → Option Item → Type 0
+MoveOn block old (Ask core on asking) answer new entry =
+    (on ≡ block) × IsWithin old core block × (IsAbsent old core block asking answer new entry ⊎ Asks old core block asking answer new entry)
+MoveOn block old (Order core) answer new entry =
+    (request : Request) × (IsWithin old core block × (answer ≡ reply.Ordered request)
+    × (entry ≡ Some (item.Sent (record { core = core; request = request; block = block })))
+    × Orders old core block request new)
+MoveOn block old (Respond on) answer new entry =
+    (closing : Open) × ((did : Option Did) × ((on ≡ block) × (block < old.shape.blocks)
+    × (answer ≡ reply.Came closing.payload closing.from did)
+    × (entry ≡ Some (item.Came (came_of closing) did))
+    × Responds old block closing did new))
+
+-- a move, on any block where it is one
+abbrev pub Move : Situation → Step → Reply → Situation → Option Item → Type 0
+Move old step answer new entry = (block : ℕ) × MoveOn block old step answer new entry
+
+-- the block of an Order stands first in its core's queue
+abbrev pub StandsFirst : Situation → Step → ℕ → Type 0
+StandsFirst old (Order core) block = slice_get (queue_of old.queues core) 0 ≡ Some block
+StandsFirst old (Ask core on asking) block = ⊤
+StandsFirst old (Respond on) block = ⊤
+
+-- a move in which an Order takes the block that stands first
+abbrev pub FirstMove : Situation → Step → Reply → Situation → Option Item → Type 0
+FirstMove old step answer new entry = (block : ℕ) × (StandsFirst old step block × MoveOn block old step answer new entry)

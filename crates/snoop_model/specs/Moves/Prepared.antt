@@ -1,0 +1,36 @@
+-- Room for a step, and a step that will be taken.
+-- Source: this project's profile.
+use Rattle.std.specs.Prelude.{◌≡◌, ℕ, Option, slice_index}
+use Rattle.snoop_trace.specs.declared.step.Step.{Step}
+use Rattle.snoop_trace.specs.declared.step.Step.TheVariants.{Ask, Order, Respond}
+use Rattle.snoop_rules.specs.declared.names.CacheState.{CacheState}
+use Rattle.snoop_rules.specs.declared.names.CacheAction.{CacheAction}
+use Rattle.snoop_rules.specs.declared.names.CacheAction.TheVariants.{Hit, Issue}
+use Rattle.snoop_rules.specs.Cell.{Cell}
+use Rattle.snoop_rules.specs.Takers.{asked}
+use Rattle.snoop_history.specs.declared.items.Item.{Item}
+use Rattle.snoop_model.specs.declared.replies.Reply.{Reply}
+use Rattle.snoop_model.specs.declared.replies.Refused.{Refused}
+use Rattle.snoop_model.specs.Moves.Standing.{Standing}
+use Rattle.snoop_model.specs.Pictures.Situation.{Situation, state_of}
+use Rattle.snoop_model.specs.Moves.Move.{FirstMove}
+use Rattle.snoop_model.specs.Moves.Refuses.{Refuses}
+
+-- for how many more Asks of the core by this action there is room: a hit adds an item, an issue adds a request, and no other adds any
+abbrev pub room_to : CacheAction → Standing → ℕ → ℕ
+room_to Hit before core = before.room
+room_to (Issue request) before core = slice_index before.rooms core
+room_to _ before core = 1
+
+-- there is no room for what the step adds: an item, or a request in the core's queue
+abbrev pub IsFull : Standing → Step → Type 0
+IsFull before (Ask core block asking) =
+    (act : CacheAction) × ((next : CacheState) × (Cell before.situation.protocol (state_of before.situation core block) (asked asking) act next × (room_to act before core ≡ 0)))
+IsFull before (Order core) = before.room ≡ 0
+IsFull before (Respond block) = before.room ≡ 0
+
+-- the step is not refused, has its room, and adds this item, if any, whatever move it is
+pub record IsPrepared (before : Standing) (step : Step) (entry : Option Item) : Type 0 where
+  pub allowed : (cause : Refused) → ¬ Refuses before.situation step cause
+  pub room : ¬ IsFull before step
+  pub adds : (answer : Reply) (new : Situation) (added : Option Item) → FirstMove before.situation step answer new added → added ≡ entry

@@ -1,0 +1,9 @@
+-- What is seen of one block, and of the whole machine.
+pub mod Picture
+pub mod Situation
+pub mod Message
+pub mod Sends
+pub mod OneWriter
+pub mod Current
+pub mod Sound
+pub mod InQueue

@@ -1,0 +1,10 @@
+-- What whoever may read has.
+-- Source: "A Primer on Memory Consistency and Cache Coherence", 2nd edition: the data-value invariant.
+use Rattle.std.specs.Prelude.{◌≡◌, ℕ, Some}
+use Rattle.snoop_rules.specs.declared.names.Protocol.{Protocol}
+use Rattle.snoop_model.specs.Pictures.Picture.{Picture, held_by}
+use Rattle.snoop_model.specs.Pictures.OneWriter.{IsReader}
+
+-- each reader of the block keeps this value
+abbrev pub IsCurrent : Protocol → Picture → ℕ → Type 0
+IsCurrent protocol picture value = (core : ℕ) → IsReader protocol picture core → (held_by picture core).kept ≡ Some value

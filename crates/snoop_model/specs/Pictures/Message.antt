@@ -1,0 +1,43 @@
+-- The look-up of the sender at an Order, and the rows that the cores take.
+-- Source: this project's profile.
+use Rattle.std.specs.Prelude.{◌≡◌, ℕ, ◌<◌, List, length, Option, Some, None, if◌then◌else◌}
+use Rattle.snoop_rules.specs.declared.names.Protocol.{Protocol}
+use Rattle.snoop_rules.specs.declared.names.CacheState.{CacheState}
+use Rattle.snoop_rules.specs.declared.names.CacheEvent.{CacheEvent}
+use Rattle.snoop_rules.specs.declared.names.CacheAction.{CacheAction}
+use Rattle.snoop_rules.specs.declared.names.Request.{Request}
+use Rattle.snoop_rules.specs.Cell.{Cell}
+use Rattle.snoop_rules.specs.Takers.{seen_by, carries_value}
+use Rattle.snoop_rules.specs.declared.names.MemAction.{MemAction}
+use Rattle.snoop_rules.specs.declared.names.MemAction.TheVariants as mem_action
+use Rattle.snoop_model.specs.declared.line.Line.{Line}
+use Rattle.snoop_model.specs.declared.memory.MemLine.{MemLine}
+use Rattle.snoop_model.specs.declared.message.Message.{Message}
+use Rattle.snoop_model.specs.Pictures.Picture.{Picture, held_at, held_by}
+use Rattle.snoop_model.specs.Pictures.Sends.{IsOnlySender, value_sent}
+use Rattle.snoop_model.specs.Moves.Move.{TakesRow}
+
+-- a block on which no transaction is open
+abbrev pub free_picture : List Line → MemLine → Picture
+free_picture row memory = record { caches = row; memory = memory.state; value = memory.value; transaction = None }
+
+-- the pair of state and event has a row
+abbrev pub HasRow : Protocol → CacheState → CacheEvent → Type 0
+HasRow protocol state event = (act : CacheAction) × ((next : CacheState) × Cell protocol state event act next)
+
+-- each core has a row for the request, and this message is that of the only sender
+pub record IsMessage (protocol : Protocol) (before : Picture) (core : ℕ) (request : Request) (message : Message) : Type 0 where
+  pub rows : (k : ℕ) → k < length before.caches → HasRow protocol (held_by before k).state (seen_by k core request)
+  pub only : IsOnlySender protocol before core request message.from message.payload
+  pub value : message.value ≡ value_sent before message.from message.payload
+
+-- each core takes its row for the request
+pub record TakesRows (protocol : Protocol) (core : ℕ) (request : Request) (old new : List Line) : Type 0 where
+  pub same_length : length new ≡ length old
+  pub rows : (k : ℕ) → k < length old → TakesRow protocol (seen_by k core request) (held_at old k) (held_at new k)
+
+-- the message that memory sends by an action
+abbrev pub memory_message : MemAction → ℕ → Option Message
+memory_message (mem_action.Send payload) value = Some (record { payload = payload; value = if carries_value payload then value else 0; from = None })
+memory_message mem_action.None value = None
+memory_message mem_action.Write value = None

@@ -1,0 +1,46 @@
+-- The picture of a block: what each core, memory and the bus hold of it.
+-- Source: "A Primer on Memory Consistency and Cache Coherence", 2nd edition, chapter 7, system model.
+use Rattle.std.specs.Prelude.{◌≡◌, ◌≤◌, ◌<◌, ℕ, List, Option, None, slice_index_or}
+use Rattle.snoop_rules.specs.declared.names.Protocol.{Protocol}
+use Rattle.snoop_rules.specs.declared.names.Protocol.TheVariants.{Msi, Mesi}
+use Rattle.snoop_rules.specs.declared.names.CacheState.{CacheState}
+use Rattle.snoop_rules.specs.declared.names.CacheState.TheVariants.{I, ImAd, IiA}
+use Rattle.snoop_rules.specs.declared.names.MemState.{MemState}
+use Rattle.snoop_rules.specs.declared.names.MemState.TheVariants as mem
+use Rattle.snoop_model.specs.declared.line.Line.{Line}
+use Rattle.snoop_bus.specs.declared.transactions.Open.{Open}
+
+-- each core's line, memory's state and value, and the open transaction, if any
+pub record Picture : Type 0 where
+  pub caches : List Line
+  pub memory : MemState
+  pub value : ℕ
+  pub transaction : Option Open
+
+-- a core that holds nothing of the block
+abbrev pub nothing_held : Line
+nothing_held = record { state = I; kept = None; waiting = None }
+
+-- what a core holds
+abbrev pub held_at : List Line → ℕ → Line
+held_at caches core = slice_index_or caches core nothing_held
+
+-- the cores from one up to another hold nothing
+abbrev pub HoldNothing : List Line → ℕ → ℕ → Type 0
+HoldNothing caches from to = (k : ℕ) → from ≤ k → k < to → held_at caches k ≡ nothing_held
+
+-- what a core holds of the block
+abbrev pub held_by : Picture → ℕ → Line
+held_by picture core = held_at picture.caches core
+
+-- memory's state at reset
+abbrev pub first_memory : Protocol → MemState
+first_memory Msi = mem.IorS
+first_memory Mesi = mem.I
+
+-- what is left of a kept value when a state comes: it is given up in I, IM_AD and II_A
+abbrev pub kept_on : CacheState → Option ℕ → Option ℕ
+kept_on I kept = None
+kept_on ImAd kept = None
+kept_on IiA kept = None
+kept_on _ kept = kept

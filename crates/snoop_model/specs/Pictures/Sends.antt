@@ -1,0 +1,35 @@
+-- Who sends at an Order.
+-- Source: "A Primer on Memory Consistency and Cache Coherence", 2nd edition, chapter 7; the rows for MESI memory and E's eviction are this project's profile.
+use Rattle.std.specs.Prelude.{◌≡◌, ℕ, ◌<◌, length, Option, Some, None, unwrap_or, if◌then◌else◌}
+use Rattle.snoop_rules.specs.declared.names.Protocol.{Protocol}
+use Rattle.snoop_rules.specs.declared.names.CacheState.{CacheState}
+use Rattle.snoop_rules.specs.declared.names.CacheAction.TheVariants as action
+use Rattle.snoop_rules.specs.declared.names.MemState.{MemState}
+use Rattle.snoop_rules.specs.declared.names.MemAction.TheVariants as mem_action
+use Rattle.snoop_rules.specs.declared.names.Request.{Request}
+use Rattle.snoop_rules.specs.declared.names.Payload.{Payload}
+use Rattle.snoop_rules.specs.declared.names.Target.{Target}
+use Rattle.snoop_rules.specs.Cell.{Cell}
+use Rattle.snoop_rules.specs.MemoryCell.{MemoryCell}
+use Rattle.snoop_rules.specs.Takers.{seen_by, at_memory, carries_value}
+use Rattle.snoop_model.specs.Pictures.Picture.{Picture, held_by}
+
+-- the controller, memory or a core, sends this payload when the core's request is ordered
+abbrev pub Sends : Protocol → Picture → ℕ → Request → Option ℕ → Payload → Type 0
+Sends protocol before core request None payload = (next : MemState) × MemoryCell protocol before.memory (at_memory request) (mem_action.Send payload) next
+Sends protocol before core request (Some sender) payload =
+    (sender < length before.caches) × ((target : Target) × ((next : CacheState) × Cell protocol (held_by before sender).state (seen_by sender core request) (action.Send payload target) next))
+
+-- it sends, and no other controller does
+pub record IsOnlySender (protocol : Protocol) (before : Picture) (core : ℕ) (request : Request) (from : Option ℕ) (payload : Payload) : Type 0 where
+  pub sends : Sends protocol before core request from payload
+  pub alone : (other : Option ℕ) (message : Payload) → Sends protocol before core request other message → other ≡ from
+
+-- the value that the controller can send
+abbrev pub value_at : Picture → Option ℕ → ℕ
+value_at before None = before.value
+value_at before (Some core) = unwrap_or (held_by before core).kept 0
+
+-- the value in the message
+abbrev pub value_sent : Picture → Option ℕ → Payload → ℕ
+value_sent before from payload = if carries_value payload then value_at before from else 0

@@ -1,0 +1,68 @@
+-- The machine as its callers see it.
+-- Source: this project's profile.
+use Rattle.std.specs.Prelude.{◌≡◌, ℕ, List, [], Option, Some, None, slice_index_or, slice_set, replicate}
+use Rattle.snoop_trace.specs.Extent.{Extent}
+use Rattle.snoop_rules.specs.declared.names.Protocol.{Protocol}
+use Rattle.snoop_rules.specs.declared.names.CacheState.{CacheState}
+use Rattle.snoop_rules.specs.declared.names.Request.{Request}
+use Rattle.snoop_rules.specs.Waits.{waiting_request}
+use Rattle.snoop_history.specs.declared.items.Item.{Item}
+use Rattle.snoop_model.specs.Pictures.Picture.{Picture, first_memory, nothing_held, held_by}
+use Rattle.snoop_model.specs.declared.line.Line.{Line}
+use Rattle.snoop_model.specs.declared.memory.MemLine.{MemLine}
+use Rattle.snoop_bus.specs.declared.transactions.Open.{Open}
+use Rattle.snoop_rules.specs.declared.names.MemState.TheVariants.{IorS}
+
+-- what each core and memory hold of each block, the open transactions, each core's queue, and the log
+pub record Situation : Type 0 where
+  pub protocol : Protocol
+  pub shape : Extent
+  pub caches : List (List Line)
+  pub memory : List MemLine
+  pub transactions : List (Option Open)
+  pub queues : List (List ℕ)
+  pub log : List Item
+
+-- every cache in I, nothing waiting, no transaction open, memory with 0
+abbrev pub reset : Protocol → Extent → Situation
+reset protocol shape =
+    record {
+      protocol = protocol;
+      shape = shape;
+      caches = replicate shape.blocks (replicate shape.cores nothing_held);
+      memory = replicate shape.blocks (record { state = first_memory protocol; value = 0 });
+      transactions = replicate shape.blocks None;
+      queues = replicate shape.cores [];
+      log = [];
+    }
+
+-- what stands for memory outside the shape
+abbrev pub no_memory : MemLine
+no_memory = record { state = IorS; value = 0 }
+
+-- the picture of a block
+abbrev pub picture_of : Situation → ℕ → Picture
+picture_of s block =
+    record {
+      caches = slice_index_or s.caches block [];
+      memory = (slice_index_or s.memory block no_memory).state;
+      value = (slice_index_or s.memory block no_memory).value;
+      transaction = slice_index_or s.transactions block None;
+    }
+
+-- the block has this picture, and the others are as they were
+abbrev pub with_picture : Situation → ℕ → Picture → Situation
+with_picture s block picture =
+    record s {
+      caches = slice_set s.caches block picture.caches;
+      memory = slice_set s.memory block (record { state = picture.memory; value = picture.value });
+      transactions = slice_set s.transactions block picture.transaction;
+    }
+
+-- the core's state of the block
+abbrev pub state_of : Situation → ℕ → ℕ → CacheState
+state_of s core block = (held_by (picture_of s block) core).state
+
+-- the core waits on the block with the request
+abbrev pub Waits : Situation → ℕ → ℕ → Request → Type 0
+Waits s core block request = waiting_request (state_of s core block) ≡ Some request

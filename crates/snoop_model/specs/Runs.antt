@@ -1,0 +1,7 @@
+-- Steps taken in order, from reset and from any machine.
+pub mod Run
+pub mod Runs
+pub mod Once
+pub mod Tallied
+pub mod Owed
+pub mod Safe

@@ -1,0 +1,72 @@
+-- Every load and store stands once in the history, or still waits.
+-- Source: this project's profile.
+use Rattle.std.specs.Prelude.{◌≡◌, ℕ, ◌+◌, Bool, true, false, ◌&&◌, ◌==◌, List, [], ◌∷◌, count_by, Result, Ok, Err}
+use Rattle.std.specs.Option.{option_map_or}
+use Rattle.snoop_trace.specs.declared.step.Op.{Op}
+use Rattle.snoop_trace.specs.declared.step.Op.TheVariants as op
+use Rattle.snoop_trace.specs.declared.step.Step.{Step}
+use Rattle.snoop_trace.specs.declared.step.Step.TheVariants.{Ask, Order, Respond}
+use Rattle.snoop_history.specs.declared.items.Did.{Did}
+use Rattle.snoop_history.specs.History.{answers_of}
+use Rattle.snoop_model.specs.declared.replies.Reply.{Reply}
+use Rattle.snoop_model.specs.declared.replies.Refused.{Refused}
+use Rattle.snoop_model.specs.Pictures.Picture.{held_by}
+use Rattle.snoop_model.specs.Pictures.Situation.{Situation, picture_of}
+
+-- the operation is this load or store; an Evict is neither
+abbrev pub same_op : Op → Op → Bool
+same_op op.Load op.Load = true
+same_op (op.Store v) (op.Store w) = v == w
+same_op _ _ = false
+
+-- the steps that were taken
+abbrev pub taken : List Step → List (Result Reply Refused) → List Step
+taken [] outcomes = []
+taken (step ∷ steps) [] = []
+taken (step ∷ steps) (Ok answer ∷ outcomes) = step ∷ taken steps outcomes
+taken (step ∷ steps) (Err cause ∷ outcomes) = taken steps outcomes
+
+-- the step is this core's Ask of the operation on the block
+abbrev pub asks : ℕ → ℕ → Op → Step → Bool
+asks core block wanted (Ask c b asking) = c == core && (b == block && same_op wanted asking)
+asks core block wanted (Order c) = false
+asks core block wanted (Respond b) = false
+
+-- a load, or a store of the value
+abbrev pub op_of : Bool → ℕ → Op
+op_of true value = op.Load
+op_of false value = op.Store value
+
+-- the operation that was performed
+abbrev pub did_op : Did → Op
+did_op did = op_of did.load did.value
+
+-- it is this operation on this block
+abbrev pub did_it : ℕ → Op → Did → Bool
+did_it block wanted did = did.block == block && same_op wanted (did_op did)
+
+-- 1 where it is so, else 0
+abbrev pub one_if : Bool → ℕ
+one_if true = 1
+one_if false = 0
+
+-- 1 where the core's operation on the block waits, else 0
+abbrev pub waits_for : Situation → ℕ → ℕ → Op → ℕ
+waits_for s core block wanted = option_map_or (λ asking. one_if (same_op wanted asking)) (held_by (picture_of s block) core).waiting 0
+
+-- how often the core's operation on the block stands in the log or waits
+abbrev pub tally : Situation → ℕ → ℕ → Op → ℕ
+tally s core block wanted = count_by (did_it block wanted) (answers_of s.log core) + waits_for s core block wanted
+
+-- how often the core's taken Asks are of the operation on the block
+abbrev pub times_asked : List Step → List (Result Reply Refused) → ℕ → ℕ → Op → ℕ
+times_asked steps outcomes core block wanted = count_by (asks core block wanted) (taken steps outcomes)
+
+-- the taken Asks of loads and stores are the operations in the log and those that wait, each as often
+abbrev pub Once : List Step → List (Result Reply Refused) → Situation → Type 0
+Once steps outcomes s = (core block : ℕ) (wanted : Op) → tally s core block wanted ≡ times_asked steps outcomes core block wanted
+
+-- the same as growth, from one situation to another
+abbrev pub OnceMore : Situation → List Step → List (Result Reply Refused) → Situation → Type 0
+OnceMore old steps outcomes new =
+    (core block : ℕ) (wanted : Op) → tally new core block wanted ≡ tally old core block wanted + times_asked steps outcomes core block wanted

@@ -1,0 +1,85 @@
+-- Whole runs from reset.
+-- Source: this project's profile.
+use Rattle.std.specs.Prelude.{◌≡◌, List, [], ◌∷◌, ◌++◌, map, Option, Result, Ok, Err}
+use Rattle.snoop_trace.specs.Extent.{Extent}
+use Rattle.snoop_trace.specs.declared.step.Step.{Step}
+use Rattle.snoop_rules.specs.declared.names.Protocol.{Protocol}
+use Rattle.snoop_history.specs.declared.items.Item.{Item}
+use Rattle.snoop_model.specs.declared.replies.Reply.{Reply}
+use Rattle.snoop_model.specs.declared.replies.Refused.{Refused}
+use Rattle.snoop_model.specs.declared.replies.Refused.TheVariants.{NoMemory}
+use Rattle.snoop_model.specs.Pictures.Situation.{Situation, reset}
+use Rattle.snoop_model.specs.Moves.Move.{Move, FirstMove}
+use Rattle.snoop_model.specs.Moves.Refuses.{Refuses}
+
+-- a refusal leaves all equal; one for want of memory may come to any step
+abbrev pub IsRefusal : Situation → Step → Refused → Situation → Type 0
+IsRefusal old step NoMemory new = new ≡ old
+IsRefusal old step cause new = Refuses old step cause × (new ≡ old)
+
+-- one step of a run: a move, an Order being on any block, or a refusal
+abbrev pub Goes : Situation → Step → Result Reply Refused → Situation → Type 0
+Goes old step (Ok answer) new = (entry : Option Item) × Move old step answer new entry
+Goes old step (Err cause) new = IsRefusal old step cause new
+
+-- from old, these steps with these outcomes lead to new
+abbrev pub RunFrom : Situation → List Step → List (Result Reply Refused) → Situation → Type 0
+RunFrom old [] [] new = new ≡ old
+RunFrom old (step ∷ steps) (outcome ∷ outcomes) new =
+    (middle : Situation) × (Goes old step outcome middle × RunFrom middle steps outcomes new)
+RunFrom old [] (outcome ∷ outcomes) new = ⊥
+RunFrom old (step ∷ steps) [] new = ⊥
+
+-- a run from reset
+abbrev pub Run : Protocol → Extent → List Step → List (Result Reply Refused) → Situation → Type 0
+Run protocol shape steps outcomes new = RunFrom (reset protocol shape) steps outcomes new
+
+-- one step of the run of some steps: each Order is on the block that stands first, and memory is ample
+abbrev pub GoesFirst : Situation → Step → Result Reply Refused → Situation → Type 0
+GoesFirst old step (Ok answer) new = (entry : Option Item) × FirstMove old step answer new entry
+GoesFirst old step (Err cause) new = Refuses old step cause × (new ≡ old)
+
+-- from old, these steps with these outcomes lead to new, each as in the run of some steps
+abbrev pub FirstRunFrom : Situation → List Step → List (Result Reply Refused) → Situation → Type 0
+FirstRunFrom old [] [] new = new ≡ old
+FirstRunFrom old (step ∷ steps) (outcome ∷ outcomes) new =
+    (middle : Situation) × (GoesFirst old step outcome middle × FirstRunFrom middle steps outcomes new)
+FirstRunFrom old [] (outcome ∷ outcomes) new = ⊥
+FirstRunFrom old (step ∷ steps) [] new = ⊥
+
+-- the run of these steps from reset
+abbrev pub TheRun : Protocol → Extent → List Step → List (Result Reply Refused) → Situation → Type 0
+TheRun protocol shape steps outcomes new = FirstRunFrom (reset protocol shape) steps outcomes new
+
+-- the run of these steps from reset, each of them taken
+abbrev pub AllTaken : Protocol → Extent → List Step → Situation → Type 0
+AllTaken protocol shape steps new = (replies : List Reply) × TheRun protocol shape steps (map (λ reply. Ok reply) replies) new
+
+-- a fact about every run from reset: the protocol, the steps, their outcomes, and where they lead
+abbrev pub EveryRun : (Protocol → List Step → List (Result Reply Refused) → Situation → Type 0) → Type 0
+EveryRun P =
+    (protocol : Protocol) (shape : Extent) (steps : List Step) (outcomes : List (Result Reply Refused)) (new : Situation) →
+    Run protocol shape steps outcomes new → P protocol steps outcomes new
+
+-- from where the run of some steps has led, any further steps have a run too
+abbrev pub RunsGoOn : Type 0
+RunsGoOn =
+    (protocol : Protocol) (shape : Extent) (steps further : List Step) (outcomes : List (Result Reply Refused)) (reached : Situation) →
+    TheRun protocol shape steps outcomes reached →
+    (more : List (Result Reply Refused)) × ((final : Situation) × FirstRunFrom reached further more final)
+
+-- the run of some steps is the only one
+abbrev pub RunsAreOne : Type 0
+RunsAreOne =
+    (protocol : Protocol) (shape : Extent) (steps : List Step) (outcomes others : List (Result Reply Refused)) (final end : Situation) →
+    TheRun protocol shape steps outcomes final → TheRun protocol shape steps others end → (outcomes ≡ others) × (final ≡ end)
+
+-- a run begins at reset, with no steps
+abbrev pub TakenBegins : Type 0
+TakenBegins = (protocol : Protocol) (shape : Extent) → AllTaken protocol shape [] (reset protocol shape)
+
+-- one more step that is taken
+abbrev pub TakenGoesOn : Type 0
+TakenGoesOn =
+    (protocol : Protocol) (shape : Extent) (steps : List Step) (step : Step) (answer : Reply) (entry : Option Item) (middle new : Situation)
+    → AllTaken protocol shape steps middle → FirstMove middle step answer new entry → AllTaken protocol shape (steps ++ step ∷ []) new

@@ -1,0 +1,75 @@
+-- The laws of turns that follow the turn rule.
+-- Source: this project's profile.
+use Rattle.std.specs.Prelude.{◌≡◌, ◌≢◌, ℕ, ◌<◌, ◌≤◌, ◌+◌, Bool, true, Option, Some, None, if◌then◌else◌}
+use Rattle.snoop_trace.specs.Extent.{Extent}
+use Rattle.snoop_trace.specs.declared.step.Op.{Op}
+use Rattle.snoop_trace.specs.declared.step.Step.{Step}
+use Rattle.snoop_rules.specs.declared.names.Protocol.{Protocol}
+use Rattle.snoop_history.specs.declared.items.Item.{Item}
+use Rattle.snoop_model.specs.declared.replies.Reply.{Reply}
+use Rattle.snoop_model.specs.declared.replies.Refused.{Refused}
+use Rattle.snoop_model.specs.Pictures.Situation.{Situation, reset}
+use Rattle.snoop_model.specs.Moves.Move.{FirstMove}
+use Rattle.snoop_model.specs.Moves.Refuses.{Refuses}
+use Rattle.snoop_model.specs.Turns.Turn.{turn_of}
+use Rattle.snoop_model.specs.Turns.Serving.{IsServing, IsUnderWay, owed, paid}
+use Rattle.snoop_model.specs.Invariant.WellKept.{IsWellKept}
+use Rattle.snoop_model.specs.Turns.Quiet.{IsQuiet}
+use Rattle.snoop_model.specs.Runs.Owed.{Owes, ClosedIsLast, AskedOnce}
+
+-- a machine at reset is well kept, and serves nothing
+abbrev pub StartsWell : Type 0
+StartsWell = (protocol : Protocol) (shape : Extent) (under_way : ℕ → Option ℕ) → IsWellKept (reset protocol shape) × IsServing under_way (reset protocol shape)
+
+-- a move leaves it well kept
+abbrev pub KeepsWell : Type 0
+KeepsWell =
+    (s t : Situation) (step : Step) (answer : Reply) (entry : Option Item)
+    → IsWellKept s → FirstMove s step answer t entry → IsWellKept t
+
+-- no step of a turn is refused, memory aside
+abbrev pub NeverRefused : Type 0
+NeverRefused =
+    (s : Situation) (under_way : ℕ → Option ℕ) (core block : ℕ) (asking : Op) (begun : Bool) (step : Step)
+    → IsServing under_way s → IsWellKept s → core < s.shape.cores → block < s.shape.blocks
+    → under_way core ≡ (if begun then Some block else None) → turn_of s core block asking begun ≡ Some step
+    → (cause : Refused) → ¬ Refuses s step cause
+
+-- a move serves on, once the core that asks has its block under way
+abbrev pub ServesOn : Type 0
+ServesOn =
+    (s t : Situation) (before after : ℕ → Option ℕ) (step : Step) (answer : Reply) (entry : Option Item)
+    → IsServing before s → FirstMove s step answer t entry
+    → ((core block : ℕ) → before core ≡ Some block → after core ≡ Some block) → IsUnderWay after step
+    → IsServing after t
+
+-- a work that has no step left is over: its core may have any other under way
+abbrev pub Ends : Type 0
+Ends =
+    (s : Situation) (before after : ℕ → Option ℕ) (core block : ℕ) (asking : Op)
+    → IsServing before s → IsWellKept s → before core ≡ Some block → turn_of s core block asking true ≡ None
+    → ((other : ℕ) → other ≢ core → after other ≡ before other)
+    → IsServing after s
+
+-- with nothing under way the machine is quiet
+abbrev pub ComesToRest : Type 0
+ComesToRest = (s : Situation) → IsServing (λ _. None) s → IsWellKept s → IsQuiet s
+
+-- each step is paid for by the Asks, three for each
+abbrev pub Pays : Type 0
+Pays =
+    (s t : Situation) (step : Step) (answer : Reply) (entry : Option Item)
+    → FirstMove s step answer t entry → 1 + owed t ≤ paid step + owed s
+
+-- what holds of every turn that follows the turn rule
+pub record TurnRule : Type 0 where
+  pub starts_well : StartsWell
+  pub keeps_well : KeepsWell
+  pub never_refused : NeverRefused
+  pub serves_on : ServesOn
+  pub ends : Ends
+  pub comes_to_rest : ComesToRest
+  pub pays : Pays
+  pub owes : Owes
+  pub closed_is_last : ClosedIsLast
+  pub asked_once : AskedOnce

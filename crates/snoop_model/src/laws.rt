@@ -1,0 +1,72 @@
+//! What holds of every run: calls that do nothing, and ensure it.
+ghost use Rattle.std.specs.Prelude.{◌≡◌, ℕ, Option, Some, None};
+ghost use Rattle.snoop_trace.specs.declared.step.Step.{Step};
+ghost use Rattle.snoop_rules.specs.declared.names.Request.{Request};
+ghost use Rattle.snoop_history.specs.History.{flat, Legal};
+ghost use Rattle.snoop_model.specs.Pictures.Picture.{held_by};
+ghost use Rattle.snoop_model.specs.Pictures.Sound.{IsProper};
+ghost use Rattle.snoop_model.specs.Pictures.Situation.{picture_of, Waits};
+ghost use Rattle.snoop_model.specs.Runs.Run.{EveryRun, RunsAreOne, RunsGoOn, TakenBegins, TakenGoesOn};
+ghost use Rattle.snoop_model.specs.Runs.Runs.{RoomIsEnough};
+ghost use Rattle.snoop_model.specs.Runs.Tallied.{AskedAreTallied};
+ghost use Rattle.snoop_model.specs.Pictures.OneWriter.{OneWriter};
+ghost use Rattle.snoop_model.specs.Pictures.Current.{IsCurrent};
+ghost use Rattle.snoop_model.specs.Runs.Once.{Once};
+ghost use Rattle.snoop_model.specs.Moves.Meets.{Meets, FindsRows};
+ghost use Rattle.snoop_model.specs.Moves.Led.{IsLed};
+ghost use Rattle.snoop_model.specs.Pictures.InQueue.{IsInQueue};
+
+/// Coherence of every run from reset, for every number of cores and blocks, under MSI and MESI.
+///
+/// Each block has one writer alone, or only readers; the log is legal, and each copy that may be read has the value of the
+/// last store in it; each load and store that was asked stands once in it, or waits; no step meets an impossible cell; a
+/// waiting request of any free block would find all its rows and exactly one sender, and be a line of the table of senders;
+/// a core keeps a value of a block exactly where its state may read, and an operation waits exactly where one has missed; and
+/// each core's queue has the blocks on which it waits, each once.
+///
+/// Source: chapters 2 and 7 of "A Primer on Memory Consistency and Cache Coherence", 2nd edition.
+pub fn coherent()
+    ensures one_writer { EveryRun (λ protocol steps outcomes s. (block : ℕ) → OneWriter protocol (picture_of s block)) }
+    ensures legal { EveryRun (λ protocol steps outcomes s. Legal s.log) }
+    ensures current { EveryRun (λ protocol steps outcomes s. (block : ℕ) → IsCurrent protocol (picture_of s block) (flat s.log block)) }
+    ensures once { EveryRun (λ protocol steps outcomes s. Once steps outcomes s) }
+    ensures possible { EveryRun (λ protocol steps outcomes s. (step : Step) → ¬ Meets s step) }
+    ensures any_order { EveryRun (λ protocol steps outcomes s. (core block : ℕ) (request : Request) → Waits s core block request → (picture_of s block).transaction ≡ None → FindsRows protocol (picture_of s block) core request) }
+    ensures lines { EveryRun (λ protocol steps outcomes s. (core block : ℕ) (request : Request) → Waits s core block request → (picture_of s block).transaction ≡ None → IsLed protocol (picture_of s block) core request) }
+    ensures proper { EveryRun (λ protocol steps outcomes s. (core block : ℕ) → IsProper (held_by (picture_of s block) core)) }
+    ensures queued { EveryRun (λ protocol steps outcomes s. (core block : ℕ) → IsInQueue s core block) }
+{}
+
+/// Every run goes on: from where some steps have led, any further steps have a run too.
+///
+/// So every list of steps has a run from reset, and the run of its first steps is the beginning of one of all of them.
+pub fn runs_go_on()
+    ensures { RunsGoOn }
+{}
+
+/// The run of some steps is the only one: steps that are taken in order from reset, with ample memory, have one list of
+/// outcomes and lead to one situation.
+pub fn runs_are_one()
+    ensures { RunsAreOne }
+{}
+
+/// A machine that has room for all of its steps takes each that is not refused for a cause: `run_steps` then leads where the
+/// one run of the steps leads.
+///
+/// So no step is left out or put off as wanting memory where there was room. (A law about the definitions: of room in hand the
+/// contracts tell what `prepare` has made, for one step at a time.)
+pub fn room_is_enough()
+    ensures { RoomIsEnough }
+{}
+
+/// Steps that were all taken from reset, and one more that is taken, were all taken.
+pub fn taken_goes_on()
+    ensures begins { TakenBegins }
+    ensures goes_on { TakenGoesOn }
+{}
+
+/// Where steps were all taken from reset, each load and store that they ask stands in the history or waits, as often as it was
+/// asked.
+pub fn asked_are_tallied()
+    ensures { AskedAreTallied }
+{}
