@@ -1,4 +1,4 @@
-//! What happens in a machine, as its history tells it.
+//! What happens in a machine, as its history has it.
 ghost use Rattle.std.specs.Prelude.{◌≡◌};
 ghost use Rattle.snoop_history.specs.History.{operation_of};
 ghost use Rattle.snoop_history.specs.Within.{core_of, block_of, is_within};

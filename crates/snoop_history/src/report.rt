@@ -124,7 +124,7 @@ pub fn write_report<W: Sink>(alloc: Global, writer: &mut W, log: &Log) -> Result
     ensures ok { OnOk result (Appends (W.contents writer.old) (W.contents writer.new) (report_of log.now.items)) }
     ensures front { OnErr result (AppendsFront (W.contents writer.old) (W.contents writer.new) (report_of log.now.items)) }
 
-    // Want of memory is met before anything is written.
+    // Out of memory shows before anything is written.
     ensures memory { result ≡ Err WriteFault.NoMemory → W.contents writer.new ≡ W.contents writer.old }
 
     ensures never_blamed { W.never_fails ≡ true → result ≢ Err WriteFault.Write }

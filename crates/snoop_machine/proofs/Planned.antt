@@ -222,7 +222,7 @@ plan-room before (plan.Order core request block message memory) h some full = ab
 plan-room before (plan.Writeback block closing memory) h some full = absurd (omega arith)
 plan-room before (plan.Fill block closing memory filled) h some full = absurd (omega arith)
 
--- a planned step is refused for want of memory alone
+-- a planned step is refused as out of memory alone
 pub RefusedFor-memory : (s : Situation) (taking : Step) (x : Plan) → IsPlanFor s taking x → RefusedFor s taking NoMemory
 RefusedFor-memory s taking x h =
     let P : Step → Type 0 = λ t. RefusedFor s t NoMemory in

@@ -79,7 +79,7 @@ impl Machine {
         ensures replied { IfOk result (λ reply. IsReplyTo step reply) }
         ensures hit { IfOk result (λ reply. (value : ℕ) → reply ≡ Hit value → IsLoadHit step value self.old.situation.log self.new.situation.log) }
 
-        // What `prepare` told comes true.
+        // What `prepare` reported comes true.
         ensures prepared { (entry : Option Item) → IsPrepared self.old step entry → IsOk result × (self.new.situation.log ≡ self.old.situation.log ++ option_to_list entry) }
 
         // After every step, taken or refused, the machine is coherent, and a load or store stands once in its history or waits.
@@ -89,7 +89,7 @@ impl Machine {
         self.parts.step(step)
     }
 
-    /// Makes the room for a step, and tells the item that it will add. The same step, taken next, is not refused and takes no memory.
+    /// Makes the room for a step, and reports the item that it will add. The same step, taken next, is not refused and takes no memory.
     pub fn prepare(&mut self, step: Step) -> Result<Option<Item>, Refused>
         ensures prepared { IfOk result (λ entry. IsPrepared self.new step entry) }
         ensures refused { IfErr result (λ cause. RefusedFor self.old.situation step cause × (self.new ≡ self.old)) }

@@ -157,7 +157,7 @@ impl Parts {
         self.lines.get(core, block)
     }
 
-    /// The core's next operation, as the history will tell it.
+    /// The core's next operation, as the history will have it.
     fn next_did(&self, core: u32, block: u32, op: Op, value: u64, hit: bool) -> Did
         requires { core < self.now.situation.shape.cores }
         ensures { result ≡ next_did self.now.situation.log core block op value hit }

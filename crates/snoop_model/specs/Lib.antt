@@ -3,3 +3,4 @@ pub mod Moves
 pub mod Runs
 pub mod Turns
 pub mod Invariant
+pub mod Texts

@@ -53,8 +53,8 @@ pub fn runs_are_one()
 /// A machine that has room for all of its steps takes each that is not refused for a cause: `run_steps` then leads where the
 /// one run of the steps leads.
 ///
-/// So no step is left out or put off as wanting memory where there was room. (A law about the definitions: of room in hand the
-/// contracts tell what `prepare` has made, for one step at a time.)
+/// So no step is left out as out of memory where there was room. (A law about the definitions: the contracts promise room only
+/// for the one step that `prepare` was called for.)
 pub fn room_is_enough()
     ensures { RoomIsEnough }
 {}

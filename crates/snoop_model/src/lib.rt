@@ -2,6 +2,7 @@
 //! the machine is `snoop_machine`.
 #![tactic(auto)]
 
+mod display;
 pub mod laws;
 mod line;
 mod memory;

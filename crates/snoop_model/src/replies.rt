@@ -2,7 +2,6 @@
 use snoop_history::Did;
 use snoop_rules::{CacheState, Payload, Request};
 use snoop_trace::NoMemory as NoRoom;
-use thiserror::Error;
 
 /// What a taken step answers.
 #[derive(Clone, Copy, Debug, PartialEq, Eq)]
@@ -28,28 +27,21 @@ pub enum Reply {
 }
 
 /// Why a step was refused: the first cause that holds. Nothing has changed.
-#[derive(Clone, Copy, Debug, PartialEq, Eq, Error)]
+#[derive(Clone, Copy, Debug, PartialEq, Eq)]
 pub enum Refused {
     /// The core is outside the shape.
-    #[error("NoCore")]
     NoCore,
     /// The block is outside the shape.
-    #[error("NoBlock")]
     NoBlock,
     /// The core's controller takes no such operation while it is in this state.
-    #[error("Stalled {0}")]
     Stalled(CacheState),
     /// The core has no request to order.
-    #[error("NothingWaiting")]
     NothingWaiting,
     /// The block of the core's oldest request has an open transaction.
-    #[error("BusTaken {0}")]
     BusTaken(u32),
     /// The block has no open transaction.
-    #[error("NoTransaction")]
     NoTransaction,
-    /// A growth was refused.
-    #[error("NoMemory")]
+    /// Out of memory.
     NoMemory,
 }
 

@@ -1,4 +1,4 @@
--- The words in which a scene is told: its frames, each a step with its reply and the states after it, and what holds of them.
+-- The words in which a scene is stated: its frames, each a step with its reply and the states after it, and what holds of them.
 -- Source: the system model of "A Primer on Memory Consistency and Cache Coherence", 2nd edition, chapter 7; the steps, replies and
 -- items are this project's profile.
 use Rattle.std.specs.Prelude.{◌≡◌, ℕ, true, false, List, [], ◌∷◌, map, replicate, Option, Some, None, Result, Ok, Err}

@@ -2,7 +2,8 @@
 ghost use Rattle.std.specs.Prelude.{◌≡◌, ◌++◌, codes, OnOk};
 ghost use Rattle.std.specs.Fmt.{decimal};
 ghost use Rattle.snoop_model.specs.declared.replies.Reply.TheVariants.{Came};
-ghost use Rattle.snoop_sim.specs.Line.{line_text, outcome_text, performed_text, refusal_detail, refusal_name, reply_text, sender_text};
+ghost use Rattle.snoop_model.specs.Texts.{performed_text, refusal_text, reply_text, sender_text};
+ghost use Rattle.snoop_sim.specs.Line.{line_text, outcome_text};
 
 use snoop_history::Did;
 use snoop_machine::{Refused, Reply};
@@ -72,7 +73,7 @@ fn push_reply(out: &mut Vec<u8>, reply: Reply) -> Result<(), NoMemory>
 }
 
 fn push_refusal(out: &mut Vec<u8>, cause: Refused) -> Result<(), NoMemory>
-    ensures ok { OnOk result (out.new.items ≡ out.old.items ++ codes "refused " ++ refusal_name cause ++ refusal_detail cause) }
+    ensures ok { OnOk result (out.new.items ≡ out.old.items ++ codes "refused " ++ refusal_text cause) }
 {
     match cause {
         Refused::NoCore => push_text(out, "refused NoCore"),

@@ -1,4 +1,4 @@
-//! Writers that tell whether they can fail, and how a text is written to them.
+//! Writers that know whether they can fail, and how a text is written to them.
 //!
 //! A call that writes answers `Write` where a write failed. That it answers so nowhere else is its
 //! clause `never_blamed`: a writer whose contract rules failure out is never blamed.
@@ -20,7 +20,7 @@ pub trait Sink: Write {
     // Its writes never fail, and take a byte at least where there is one.
     ghost never_fails: { Bool };
 
-    /// What `write` does: it takes bytes from the front of `buf`, and tells how many.
+    /// What `write` does: it takes bytes from the front of `buf`, and reports how many.
     fn put(&mut self, buf: &[u8]) -> io::Result<usize>
         ensures bound { WritesAtMost result buf.now }
         ensures bytes { WriteAppends (Self.contents self.old) (Self.contents self.new) result buf.now }

@@ -1,4 +1,4 @@
-//! Readers that tell whether they can fail.
+//! Readers that know whether they can fail.
 //!
 //! A call that reads answers `Read` where its reader failed. That it answers so nowhere else is its
 //! clause `never_blamed`: a reader whose contract rules failure out is never blamed, over known

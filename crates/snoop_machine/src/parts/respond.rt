@@ -110,7 +110,7 @@ impl Parts {
     }
 }
 
-/// The response, as the history tells it.
+/// The response, as the history has it.
 pub(super) fn came(closing: Open) -> Came
     ensures { result ≡ came_of closing }
 {

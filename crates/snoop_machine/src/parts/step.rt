@@ -31,7 +31,7 @@ impl Parts {
         ensures full { result ≡ Err WantOfMemory → IsFull self.old step }
         ensures room { KeepsRoom self.old self.new }
 
-        // What `prepare` told comes true.
+        // What `prepare` reported comes true.
         ensures prepared { (entry : Option Item) → IsPrepared self.old step entry → IsOk result × (self.new.situation.log ≡ self.old.situation.log ++ option_to_list entry) }
     {
         let plan = self.planned(step)?;
@@ -39,7 +39,7 @@ impl Parts {
         Ok(self.perform(plan))
     }
 
-    /// Makes the room for a step, and tells the item that it will add. The same step, taken next, is not refused and takes no memory.
+    /// Makes the room for a step, and reports the item that it will add. The same step, taken next, is not refused and takes no memory.
     pub(crate) fn prepare(&mut self, step: Step) -> Result<Option<Item>, Refused>
         requires { IsCoherent self.old.situation }
         ensures prepared { IfOk result (λ entry. IsPrepared self.new step entry) }

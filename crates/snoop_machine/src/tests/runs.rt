@@ -76,7 +76,7 @@ fn steps_go_on_where_earlier_ones_stopped(rt: HostRuntime) -> Result<(), Fail> {
     Ok(())
 }
 
-/// A store's miss, as the log tells it.
+/// A store's miss, as the log has it.
 fn stored(core: u32, from: Option<u32>, value: u64) -> Item {
     Item::Came(
         Came {

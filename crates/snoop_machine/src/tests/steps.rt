@@ -44,9 +44,9 @@ fn second_miss(core: u32, block: u32, value: u64) -> Option<Did> {
     })
 }
 
-/// What is told of block 1: of two cores, of memory and of the bus.
+/// What is seen of block 1: of two cores, of memory and of the bus.
 #[derive(Drop, PartialEq, Eq)]
-struct Told {
+struct Seen {
     states: [Option<CacheState>; 2],
     kept: [Option<u64>; 2],
     waiting: [bool; 2],
@@ -55,8 +55,8 @@ struct Told {
     open: Option<Open>,
 }
 
-fn picture(machine: &Machine) -> Told {
-    Told {
+fn picture(machine: &Machine) -> Seen {
+    Seen {
         states: [machine.state(0, 1), machine.state(1, 1)],
         kept: [machine.kept(0, 1), machine.kept(1, 1)],
         waiting: [machine.waiting(0), machine.waiting(1)],

@@ -141,7 +141,7 @@ one_less s n ample =
       requests = λ core within. let room = ample.requests core within in omega arith;
     }
 
--- no step is refused for want of memory
+-- no step is refused as out of memory
 pub runs_first : (steps : List Step) (outcomes : List (Result Reply Refused)) (old new : Standing) → HasRoomFor old (length steps) → RunsOn old steps outcomes new → FirstRunFrom old.situation steps outcomes new.situation
 runs_first [] [] old new ample run = ap (λ (s : Standing). s.situation) run
 runs_first (step ∷ steps) (Ok answer ∷ outcomes) old new ample run =

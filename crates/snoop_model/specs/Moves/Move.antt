@@ -131,7 +131,7 @@ abbrev pub ArrivesAtMemory : Open → Protocol → Picture → Picture → Type 
 ArrivesAtMemory closing protocol old new =
     MatchBool (takes_payload closing.request old.memory) (TakesPayload closing protocol old new) ((new.memory ≡ old.memory) × (new.value ≡ old.value))
 
--- the response, as the history tells it
+-- the response, as the history has it
 abbrev pub came_of : Open → Came
 came_of closing = record { core = closing.core; request = closing.request; block = closing.block; from = closing.from; payload = closing.payload }
 

@@ -12,7 +12,7 @@ use Rattle.snoop_model.specs.Pictures.Situation.{Situation, reset}
 use Rattle.snoop_model.specs.Moves.Move.{Move, FirstMove}
 use Rattle.snoop_model.specs.Moves.Refuses.{Refuses}
 
--- a refusal leaves all equal; one for want of memory may come to any step
+-- a refusal leaves all equal; any step may be refused as out of memory
 abbrev pub IsRefusal : Situation → Step → Refused → Situation → Type 0
 IsRefusal old step NoMemory new = new ≡ old
 IsRefusal old step cause new = Refuses old step cause × (new ≡ old)

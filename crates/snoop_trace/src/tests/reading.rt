@@ -56,8 +56,8 @@ fn beginnings_of_a_text(rt: HostRuntime) -> Result<(), Fail> {
         ("L,0,0\nO,0\nR,0", Ok(3)),
         ("L,0,0\nO,0\nR,0\n", Ok(3)),
     ] {
-        let told = read(rt.alloc(), text)?.map(|steps| steps.len());
-        assert_eq!(rt; told, wanted, "{text}");
+        let found = read(rt.alloc(), text)?.map(|steps| steps.len());
+        assert_eq!(rt; found, wanted, "{text}");
     }
     Ok(())
 }
@@ -100,8 +100,8 @@ fn refused_records(rt: HostRuntime) -> Result<(), Fail> {
         ("L,0,0\nL,0,256\nX\n", TextFault::NoBlock(2)),
         ("L,0,0\n\nX\n", TextFault::BadKind(2)),
     ] {
-        let told = read(rt.alloc(), text)?.err();
-        assert_eq!(rt; told, Some(fault), "{text}");
+        let found = read(rt.alloc(), text)?.err();
+        assert_eq!(rt; found, Some(fault), "{text}");
     }
     Ok(())
 }
@@ -113,8 +113,8 @@ fn bytes_that_are_no_text(rt: HostRuntime) -> Result<(), Fail> {
         ([255, b',', b'0', b',', b'0'], TextFault::BadKind(1)),
         ([b'L', b',', b'0', b',', 255], TextFault::BadNumber(1)),
     ] {
-        let told = read_steps(rt.alloc(), text.as_slice(), shape).err();
-        assert_eq!(rt; told, Some(fault));
+        let found = read_steps(rt.alloc(), text.as_slice(), shape).err();
+        assert_eq!(rt; found, Some(fault));
     }
     Ok(())
 }
@@ -148,7 +148,7 @@ fn largest_value(rt: HostRuntime) -> Result<(), Fail> {
     ] {
         assert_eq!(rt; read(rt.alloc(), text)??.as_slice(), wanted.as_slice());
     }
-    let told = read(rt.alloc(), "S,0,0,18446744073709551616")?.err();
-    assert_eq!(rt; told, Some(TextFault::BadNumber(1)));
+    let found = read(rt.alloc(), "S,0,0,18446744073709551616")?.err();
+    assert_eq!(rt; found, Some(TextFault::BadNumber(1)));
     Ok(())
 }

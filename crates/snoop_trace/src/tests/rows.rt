@@ -54,8 +54,8 @@ fn refused_rows(rt: HostRuntime) -> Result<(), Fail> {
         ("L,2,256\n", TextFault::NoCore(1)),
         ("L,0,0\nL,0,256\nX\n", TextFault::NoBlock(2)),
     ] {
-        let told = read(rt.alloc(), text)?.err();
-        assert_eq!(rt; told, Some(fault), "{text}");
+        let found = read(rt.alloc(), text)?.err();
+        assert_eq!(rt; found, Some(fault), "{text}");
     }
     Ok(())
 }

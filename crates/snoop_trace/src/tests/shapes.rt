@@ -28,8 +28,8 @@ fn refused_shapes(rt: HostRuntime) {
         (2, 4, 8192, ShapeFault::BadBytes),
         (256, 65536, 4095, ShapeFault::BadBytes),
     ] {
-        let told = Shape::new(cores, blocks, block_bytes).err();
-        assert_eq!(rt; told, Some(fault), "{cores} {blocks} {block_bytes}");
+        let found = Shape::new(cores, blocks, block_bytes).err();
+        assert_eq!(rt; found, Some(fault), "{cores} {blocks} {block_bytes}");
     }
 }
 

@@ -50,8 +50,8 @@ fn a_reader_that_fails(rt: HostRuntime) -> Result<(), Fail> {
     ];
     for a_call in [1, 5, 100] {
         for left in 0..text.len() {
-            let told = read_steps(alloc, AnyReader(Failing { text, a_call, left }), shape).err();
-            assert_eq!(rt; told, Some(TextFault::Read), "after {left} bytes");
+            let found = read_steps(alloc, AnyReader(Failing { text, a_call, left }), shape).err();
+            assert_eq!(rt; found, Some(TextFault::Read), "after {left} bytes");
         }
         let left = 100;
         let steps = read_steps(alloc, AnyReader(Failing { text, a_call, left }), shape)?;
@@ -67,13 +67,13 @@ fn an_earlier_faulty_record_decides(rt: HostRuntime) -> Result<(), Fail> {
     let text = b"L,0,0\nO,0\nL,1,64\n".as_slice();
     for a_call in [1, 100] {
         for left in 0..text.len() {
-            let told = read_rows(alloc, AnyReader(Failing { text, a_call, left }), shape).err();
+            let found = read_rows(alloc, AnyReader(Failing { text, a_call, left }), shape).err();
             let wanted = if left < 10 {
                 TextFault::Read
             } else {
                 TextFault::BadKind(2)
             };
-            assert_eq!(rt; told, Some(wanted), "after {left} bytes");
+            assert_eq!(rt; found, Some(wanted), "after {left} bytes");
         }
     }
     Ok(())
@@ -149,8 +149,8 @@ fn a_writer_that_fails(rt: HostRuntime) -> Result<(), Fail> {
         for (a_call, calls) in [(1, text.len()), (100, 1)] {
             for call in 0..calls {
                 let mut writer = AnyWriter(Stopping::new(alloc, a_call, call, failure));
-                let told = write_steps(alloc, &mut writer, shape, &some_steps());
-                assert_eq!(rt; told, Err(WriteFault::Write), "at call {call}");
+                let found = write_steps(alloc, &mut writer, shape, &some_steps());
+                assert_eq!(rt; found, Err(WriteFault::Write), "at call {call}");
                 assert_eq!(rt; writer.0.held.len(), call, "at call {call}");
                 assert!(rt; text.starts_with(&writer.0.held), "at call {call}");
                 assert_eq!(rt; writer.0.calls_after, 1, "at call {call}");
