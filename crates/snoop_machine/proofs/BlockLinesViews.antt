@@ -1,16 +1,18 @@
 -- What the lists of a row are as lines.
-use Rattle.std.proofs.Common.{◌≡◌, ◌≢◌, ℕ, zero, suc, ◌<◌, ◌≤◌, List, [], ◌∷◌, length, get_or, replicate, Option, None, Some, false, refl, sym, ap, ◌∙◌, subst, arith, ◌⊎◌, inl, inr}
+use Rattle.std.proofs.Common.{◌≡◌, ◌≢◌, ℕ, zero, suc, ◌<◌, List, [], ◌∷◌, length, get_or, replicate, Option, None, Some, false, refl, sym, ap, ◌∙◌, subst, arith, ◌⊎◌, inl, inr}
 use Rattle.std.specs.Prelude.{is_some, slice_set}
-use Rattle.snoop_trace.specs.declared.step.Op.{Op}
-use Rattle.snoop_trace.specs.declared.step.Op.TheVariants as op
 use Rattle.snoop_rules.specs.declared.names.CacheState.{CacheState}
-use Rattle.std.proofs.lemmas.Bool.{cases_eq, cases_lt}
+use Rattle.std.proofs.lemmas.Bool.{cases_eq}
 use Rattle.std.proofs.lemmas.List.{length-set, get_or-set_same, get_or-set_other}
 use Rattle.snoop_rules.specs.declared.names.CacheState.TheVariants as state
 use Rattle.snoop_model.specs.declared.line.Line.{Line}
 use Rattle.snoop_machine.specs.declared.block_lines.Held.{Held}
 use Rattle.snoop_model.specs.Pictures.Picture.{held_at, nothing_held, kept_on}
-use Rattle.snoop_model.specs.Pictures.Sound.{IsProper, keeps, kind_of, nothing}
+use Rattle.snoop_machine.specs.declared.holders.Holders.{Holders}
+use Rattle.snoop_model.specs.Pictures.Sound.{IsProper, keeps}
+use Rattle.snoop_model.specs.Invariant.Fits.{is_owner}
+use Rattle.snoop_machine.specs.CoreSet.{has}
+use Rattle.snoop_machine.specs.Holders.{AreHolders, HaveMoved}
 use Rattle.snoop_model.specs.Moves.Move.{comes_to}
 use Rattle.snoop_machine.specs.BlockLines.{line_of, lines_of, AreBlockLines}
 
@@ -45,19 +47,6 @@ nothing_kept : (kept : Option ℕ) → is_some kept ≡ false → kept ≡ None
 nothing_kept None e = refl
 nothing_kept (Some v) e = cc
 
-nothing_waits : (waiting : Option Op) → kind_of waiting ≡ nothing → waiting ≡ None
-nothing_waits None e = refl
-nothing_waits (Some op.Load) e = cc
-nothing_waits (Some (op.Store v)) e = cc
-nothing_waits (Some op.Evict) e = cc
-
--- a proper line in I holds nothing
-pub nothing_in_I : (line : Line) → IsProper line → line.state ≡ state.I → line ≡ nothing_held
-nothing_in_I line proper invalid =
-    let kept : line.kept ≡ None = nothing_kept line.kept (rw invalid at proper.kept) in
-    let waiting : line.waiting ≡ None = nothing_waits line.waiting (rw invalid at proper.waiting) in
-    rw (invalid, kept, waiting) refl
-
 -- a kept value stays where the state that comes may keep one
 pub kept_stays : (next : CacheState) (kept : Option ℕ) → next ≢ state.I → next ≢ state.ImAd → next ≢ state.IiA → kept_on next kept ≡ kept
 kept_stays state.I kept a b c = absurd (a refl)
@@ -75,15 +64,18 @@ kept_stays state.EiA kept a b c = refl
 kept_stays state.MiA kept a b c = refl
 
 -- a row whose lines are these
-module _ (states : List CacheState) (held : List Held) (low high : ℕ) (now : List Line) (row : AreBlockLines states held low high) (view : lines_of states held ≡ now) where
+module _ (states : List CacheState) (held : List Held) (holders : Holders) (now : List Line) (row : AreBlockLines states held holders) (view : lines_of states held ≡ now) where
   pub row_length : length now ≡ length states
   row_length = sym (ap length view) ∙ length-lines_of states held row.as_many
 
-  pub nothing_below : (k : ℕ) → k < low → held_at now k ≡ nothing_held
-  nothing_below k h = ap (λ (l : List Line). held_at l k) (sym view) ∙ row.below k h
+  pub few_in : length now < 257
+  few_in = let long = row_length in let few = row.few in omega arith
 
-  pub nothing_above : (k : ℕ) → high ≤ k → held_at now k ≡ nothing_held
-  nothing_above k h = ap (λ (l : List Line). held_at l k) (sym view) ∙ row.above k h
+  pub proper_at : (k : ℕ) → IsProper (held_at now k)
+  proper_at k = subst (λ (l : List Line). IsProper (held_at l k)) view (row.proper k)
+
+  pub holders_in : AreHolders holders now
+  holders_in = subst (AreHolders holders) view row.indexed
 
   module _ (core : ℕ) (within : core < length now) where
     pub in_states : core < length states
@@ -92,53 +84,40 @@ module _ (states : List CacheState) (held : List Held) (low high : ℕ) (now : L
     pub in_held : core < length held
     in_held = let long : length now ≡ length states = row_length in let many : length held ≡ length states = row.as_many in omega arith
 
+    pub in_sets : core < 256
+    in_sets = let few = few_in in omega arith
+
     pub line_in : (d : Line) (s : CacheState) (h : Held) → get_or now core d ≡ line_of (get_or states core s) (get_or held core h)
     line_in d s h = ap (λ (l : List Line). get_or l core d) (sym view) ∙ get-lines_of states held core d s h row.as_many in_states
-
-    pub proper_in : IsProper (held_at now core)
-    proper_in = subst (λ (l : List Line). IsProper (held_at l core)) view (row.proper core)
 
     pub row_set : (s : CacheState) (h : Held) → lines_of (slice_set states core s) (slice_set held core h) ≡ slice_set now core (line_of s h)
     row_set s h = set-lines_of states held core s h row.as_many ∙ ap (λ (l : List Line). slice_set l core (line_of s h)) view
 
-    -- another core that held nothing holds nothing
-    elsewhere : (s : CacheState) (h : Held) (k : ℕ) → (k ≡ core → ⊥) → held_at (lines_of states held) k ≡ nothing_held → held_at (lines_of (slice_set states core s) (slice_set held core h)) k ≡ nothing_held
-    elsewhere s h k ne none =
-        ap (λ (l : List Line). held_at l k) (row_set s h) ∙ (get_or-set_other now core k (line_of s h) nothing_held ne ∙ (ap (λ (l : List Line). held_at l k) (sym view) ∙ none))
-
-    -- one line is new, and a core that holds something stays within new bounds
-    pub AreBlockLines-set : (s : CacheState) (h : Held) (low' high' : ℕ) → IsProper (line_of s h) → low' ≤ low → low' ≤ core → high ≤ high' → core < high' → high' ≤ length states
-        → AreBlockLines (slice_set states core s) (slice_set held core h) low' high'
-    AreBlockLines-set s h low' high' proper lower below_core higher above_core fits =
+    -- one line is new, and its core has moved to its state
+    pub AreBlockLines-set : (s : CacheState) (h : Held) (after : Holders) → IsProper (line_of s h) → HaveMoved core s holders after → AreBlockLines (slice_set states core s) (slice_set held core h) after
+    AreBlockLines-set s h after proper moved =
+        let new : List Line = slice_set now core (line_of s h) in
+        let here : held_at new core ≡ line_of s h = get_or-set_same now core (line_of s h) nothing_held within in
+        let there : (k : ℕ) → k ≢ core → held_at new k ≡ held_at now k = λ k ne. get_or-set_other now core k (line_of s h) nothing_held ne in
+        let long = row.few in
         record {
           as_many = length-set held core h ∙ (row.as_many ∙ sym (length-set states core s));
-          proper = λ k. subst (λ (l : List Line). IsProper (held_at l k)) (sym (row_set s h)) (elim (cases_eq k core) as (λ _. IsProper (held_at (slice_set now core (line_of s h)) k)) [
-            | inl e ↦
-                let here : held_at (slice_set now core (line_of s h)) k ≡ line_of s h = ap (λ j. held_at (slice_set now core (line_of s h)) j) e ∙ get_or-set_same now core (line_of s h) nothing_held within in
-                subst IsProper (sym here) proper
-            | inr ne ↦
-                let there : held_at (slice_set now core (line_of s h)) k ≡ held_at now k = get_or-set_other now core k (line_of s h) nothing_held ne in
-                subst IsProper (sym there) (subst (λ (l : List Line). IsProper (held_at l k)) view (row.proper k))
+          few = rw (length-set states core s) long;
+          proper = λ k. subst (λ (l : List Line). IsProper (held_at l k)) (sym (row_set s h)) (elim (cases_eq k core) as (λ _. IsProper (held_at new k)) [
+            | inl e ↦ subst IsProper (sym (ap (held_at new) e ∙ here)) proper
+            | inr ne ↦ subst IsProper (sym (there k ne)) (proper_at k)
           ]);
-          within = rw (length-set states core s) fits;
-          below = λ k h'. elsewhere s h k (λ e. absurd (omega arith)) (row.below k (omega arith));
-          above = λ k h'. elsewhere s h k (λ e. absurd (omega arith)) (row.above k (omega arith));
+          indexed = subst (AreHolders after) (sym (row_set s h)) (record {
+            owners = λ k. elim (cases_eq k core) [
+              | inl e ↦ ap (has after.owners) e ∙ (moved.owner ∙ sym (ap (λ (j : ℕ). is_owner (held_at new j).state) e ∙ ap (λ (l : Line). is_owner l.state) here))
+              | inr ne ↦ moved.other_owners k ne ∙ (holders_in.owners k ∙ sym (ap (λ (l : Line). is_owner l.state) (there k ne)))
+            ];
+            readers = λ k. elim (cases_eq k core) [
+              | inl e ↦ ap (has after.readers) e ∙ (moved.reader ∙ sym (ap (λ (j : ℕ). keeps (held_at new j).state) e ∙ ap (λ (l : Line). keeps l.state) here))
+              | inr ne ↦ moved.other_readers k ne ∙ (holders_in.readers k ∙ sym (ap (λ (l : Line). keeps l.state) (there k ne)))
+            ];
+          });
         }
-
-    -- a core that holds something is within the bounds
-    pub in_bounds : held_at now core ≢ nothing_held → (low ≤ core) × (core < high)
-    in_bounds holds = (from_low (cases_lt core low), to_high (cases_lt core high))
-      where
-        here : held_at now core ≡ held_at (lines_of states held) core
-        here = ap (λ (l : List Line). held_at l core) (sym view)
-
-        from_low : (core < low) ⊎ (low ≤ core) → low ≤ core
-        from_low (inl h) = absurd (holds (here ∙ row.below core h))
-        from_low (inr h) = h
-
-        to_high : (core < high) ⊎ (high ≤ core) → core < high
-        to_high (inl h) = h
-        to_high (inr h) = absurd (holds (here ∙ row.above core h))
 
 -- the kept value is given up in I, IM_AD and II_A
 pub kept_goes : (next : CacheState) (kept : Option ℕ) → (next ≡ state.I) ⊎ ((next ≡ state.ImAd) ⊎ (next ≡ state.IiA)) → kept_on next kept ≡ None
@@ -146,7 +125,7 @@ kept_goes next kept (inl e) = ap (λ (x : CacheState). kept_on x kept) e
 kept_goes next kept (inr (inl e)) = ap (λ (x : CacheState). kept_on x kept) e
 kept_goes next kept (inr (inr e)) = ap (λ (x : CacheState). kept_on x kept) e
 
--- a proper line that comes to its own state is as it was
+-- a proper line that moves to its own state is as it was
 pub comes_to_same : (line : Line) → IsProper line → comes_to line.state line ≡ line
 comes_to_same line proper = let kept : kept_on line.state line.kept ≡ line.kept = go line.state line.kept proper.kept in rw kept refl
   where

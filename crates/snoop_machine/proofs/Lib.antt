@@ -4,8 +4,10 @@ pub mod Ordered
 pub mod Heads
 pub mod Responding
 pub mod Reset
+pub mod ConcernedCores
 pub mod Planned
 pub mod Capacity
 pub mod Rowed
 pub mod Running
 pub mod BlockLinesViews
+pub mod CoreSets

@@ -4,3 +4,5 @@ pub mod Plan
 pub mod PartsView
 pub mod MachineView
 pub mod BlockLines
+pub mod CoreSet
+pub mod Holders

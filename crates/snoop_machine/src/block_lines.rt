@@ -1,11 +1,15 @@
 //! The lines of one block, by core.
-ghost use Rattle.std.specs.Prelude.{◌≡◌, ◌≢◌, ℕ, ◌<◌, ◌≤◌, length, replicate, IfOk, IfSome, IfNone, slice_index_or, slice_set};
-ghost use Rattle.snoop_model.specs.Pictures.Picture.{HoldNothing, held_at, nothing_held};
+ghost use Rattle.std.specs.Prelude.{◌≡◌, ◌≢◌, ℕ, ◌<◌, true, length, replicate, IfOk, slice_index_or, slice_set};
+ghost use Rattle.snoop_model.specs.Pictures.Picture.{held_at, nothing_held};
 ghost use Rattle.snoop_model.specs.Pictures.Sound.{IsProper};
 ghost use Rattle.snoop_model.specs.Moves.Move.{comes_to};
+ghost use Rattle.snoop_machine.specs.CoreSet.{has};
+ghost use Rattle.snoop_machine.specs.Holders.{concerns};
 
+use crate::core_set::CoreSet;
+use crate::holders::Holders;
 use snoop_model::Line;
-use snoop_rules::CacheState;
+use snoop_rules::{CacheState, Request};
 use snoop_trace::{NoMemory, Op};
 use std::alloc::Global;
 use std::marker::Model;
@@ -24,15 +28,13 @@ impl Held {
     };
 }
 
-/// The lines of one block, by core. The states stand apart, since an Order looks at those between the first and the last holder.
+/// The lines of one block, by core. The states stand apart, since an Order looks at those of the cores that it concerns, and at the rest of few.
 #[derive(Debug, Drop)]
 pub(crate) struct BlockLines {
     states: Vec<CacheState>,
     held: Vec<Held>,
-    /// Cores below this one hold nothing.
-    low: usize,
-    /// Cores from this one on hold nothing.
-    high: usize,
+    /// The cores that an Order concerns.
+    holders: Holders,
 }
 
 impl Model for BlockLines {
@@ -45,11 +47,12 @@ impl Model for BlockLines {
 
     ghost view = { λ r. lines_of r.states.items r.held.items };
 
-    ghost invariant = { λ r. AreBlockLines r.states.items r.held.items r.low r.high };
+    ghost invariant = { λ r. AreBlockLines r.states.items r.held.items r.holders };
 }
 
 impl BlockLines {
     pub(crate) fn new(alloc: Global, cores: usize) -> Result<BlockLines, NoMemory>
+        requires { cores < 257 }
         ensures { IfOk result (λ row. row ≡ replicate cores nothing_held) }
     {
         let states = vec![in alloc; CacheState::I; cores]?;
@@ -57,8 +60,7 @@ impl BlockLines {
         Ok(BlockLines {
             states,
             held,
-            low: cores,
-            high: 0,
+            holders: Holders::empty(),
         })
     }
 
@@ -84,8 +86,7 @@ impl BlockLines {
             kept: line.kept,
             waiting: line.waiting,
         };
-        self.low = self.low.min(core);
-        self.high = self.high.max(core + 1);
+        self.holders.move_to(core as u32, line.state);
     }
 
     pub(crate) fn state(&self, core: u32) -> CacheState
@@ -96,14 +97,14 @@ impl BlockLines {
         self.states[core as usize]
     }
 
-    /// The core, which holds something, comes to a state with nothing performed.
+    /// The core moves to a state with nothing performed.
     pub(crate) fn come_to(&mut self, core: u32, next: CacheState)
         requires core { core < length self.old }
-        requires holds { held_at self.old core ≢ nothing_held }
         requires proper { IsProper (comes_to next (held_at self.old core)) }
         ensures { self.new ≡ slice_set self.old core (comes_to next (held_at self.old core)) }
     {
         self.states[core as usize] = next;
+        self.holders.move_to(core, next);
         match next {
             CacheState::I | CacheState::ImAd | CacheState::IiA => {
                 let held = &mut self.held[core as usize];
@@ -113,19 +114,13 @@ impl BlockLines {
         }
     }
 
-    /// The first core from `from` on that holds anything.
-    pub(crate) fn next_holder(&self, from: u32) -> Option<u32>
-        requires few { length self.now < 257 }
-        ensures some { IfSome result (λ core. (from ≤ core) × (core < length self.now) × HoldNothing self.now from core × (held_at self.now core ≢ nothing_held)) }
-        ensures none { IfNone result (HoldNothing self.now from (length self.now)) }
+    /// The requestor, and the cores that its request concerns.
+    pub(crate) fn concerned(&self, requestor: u32, request: Request) -> CoreSet
+        requires { requestor < length self.now }
+        ensures own { has result requestor ≡ true }
+        ensures others { (k : ℕ) → k ≢ requestor → has result k ≡ concerns request (held_at self.now k).state }
+        ensures proper { (k : ℕ) → IsProper (held_at self.now k) }
     {
-        let start = self.low.max(from as usize);
-        for core in start..self.high {
-            match self.states[core] {
-                CacheState::I => {}
-                _ => return Some(core as u32),
-            }
-        }
-        None
+        self.holders.concerned(requestor, request)
     }
 }

@@ -3,6 +3,8 @@
 
 mod ask;
 mod block_lines;
+mod core_set;
+mod holders;
 mod lines;
 mod machine;
 mod order;

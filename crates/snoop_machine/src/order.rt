@@ -61,14 +61,15 @@ fn is_same(one: CacheState, other: CacheState) -> bool
 }
 
 impl BlockLines {
-    /// Each core takes its row for the request.
+    /// Each core takes its row for the request. The row of a core that the request does not concern changes nothing, and is not looked up.
     pub(crate) fn take_rows(&mut self, protocol: Protocol, requestor: u32, request: Request)
-        requires few { length self.old < 257 }
+        requires requestor { requestor < length self.old }
         requires rows { (k : ℕ) → k < length self.old → HasRow protocol (held_at self.old k).state (seen_by k requestor request) }
         ensures { TakesRows protocol requestor request self.old self.new }
     {
+        let concerned = self.concerned(requestor, request);
         let mut from = 0;
-        while let Some(core) = self.next_holder(from) {
+        while let Some(core) = concerned.next(from) {
             let state = self.state(core);
             let event = event_seen(core, requestor, request);
             let Some(cell) = cache_cell(protocol, state, event) else {
@@ -116,7 +117,6 @@ impl BlockLines {
         requestor: u32,
         request: Request,
     ) -> Message
-        requires few { length self.now < 257 }
         requires waits { waiting_request (held_at self.now requestor).state ≡ Some request }
         requires finds { FindsRows protocol (free_picture self.now memory) requestor request }
         ensures { IsMessage protocol (free_picture self.now memory) requestor request result }
@@ -127,8 +127,9 @@ impl BlockLines {
         if let Some(message) = message_of_memory(memory, cell) {
             return message;
         }
+        let concerned = self.concerned(requestor, request);
         let mut from = 0;
-        while let Some(core) = self.next_holder(from) {
+        while let Some(core) = concerned.next(from) {
             let state = self.state(core);
             let Some(cell) = cache_cell(protocol, state, event_seen(core, requestor, request))
             else {

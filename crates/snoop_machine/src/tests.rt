@@ -1,3 +1,5 @@
+mod core_set;
+mod holders;
 mod plain_reading;
 mod runs;
 mod steps;

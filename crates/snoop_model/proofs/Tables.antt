@@ -8,5 +8,4 @@ pub mod OrderTests
 pub mod RespondTests
 pub mod SenderTests
 pub mod SenderLines
-pub mod SilentCores
 pub mod EvictInI

@@ -10,10 +10,8 @@ use Rattle.snoop_rules.specs.declared.names.CacheState.{CacheState}
 use Rattle.snoop_rules.specs.Cell.{Cell}
 use Rattle.snoop_rules.specs.Takers.{seen_by}
 use Rattle.snoop_model.specs.declared.line.Line.{Line}
-use Rattle.snoop_model.specs.Pictures.Picture.{held_at, nothing_held, HoldNothing}
-use Rattle.snoop_model.proofs.Tables.SilentCores.{TakesRow-nothing}
+use Rattle.snoop_model.specs.Pictures.Picture.{held_at, nothing_held}
 use Rattle.snoop_model.specs.Moves.Move.{TakesRow, comes_to}
-use Rattle.snoop_model.specs.Pictures.Message.{HasRow}
 
 abbrev pub row_of : List (List Line) → ℕ → List Line
 row_of caches block = slice_index_or caches block []
@@ -47,26 +45,18 @@ Taking-more protocol requestor request old new after n act next in_row taking ce
       left = λ k h. elsewhere k (λ e. absurd (omega arith)) ∙ taking.left k (omega arith);
     }
 
-below_or : (k n : ℕ) → (k < n) ⊎ (n ≤ k)
-below_or k n = cases_lt k n
-
--- cores that hold nothing are passed over: their row leaves them as they are
+-- cores whose rows change nothing are passed over
 pub Taking-past : (protocol : Protocol) (requestor : ℕ) (request : Request) (old new : List Line) (n m : ℕ)
-    → ((k : ℕ) → k < length old → HasRow protocol (held_at old k).state (seen_by k requestor request))
-    → n ≤ m → m ≤ length old → HoldNothing new n m
-    → Taking protocol requestor request old new n → Taking protocol requestor request old new m
-Taking-past protocol requestor request old new n m rows up within nothing taking =
+    → ((k : ℕ) → n ≤ k → k < m → TakesRow protocol (seen_by k requestor request) (held_at old k) (held_at old k))
+    → n ≤ m → Taking protocol requestor request old new n → Taking protocol requestor request old new m
+Taking-past protocol requestor request old new n m stay up taking =
     record {
       same_length = taking.same_length;
-      taken = λ k h. elim (below_or k n) [
+      taken = λ k h. elim (cases_lt k n) [
         | inl below ↦ taking.taken k below
         | inr above ↦
-            let after : held_at new k ≡ nothing_held = nothing k above h in
-            let before : held_at old k ≡ nothing_held = sym (taking.left k above) ∙ after in
-            let P : Line → Type 0 = λ x. HasRow protocol x.state (seen_by k requestor request) in
-            let Q : Line → Type 0 = λ x. TakesRow protocol (seen_by k requestor request) x (held_at new k) in
-            let R : Line → Type 0 = λ x. TakesRow protocol (seen_by k requestor request) nothing_held x in
-            subst Q (sym before) (subst R (sym after) (TakesRow-nothing protocol k requestor request (subst P before (rows k (omega arith)))))
+            let Q : Line → Type 0 = λ x. TakesRow protocol (seen_by k requestor request) (held_at old k) x in
+            subst Q (sym (taking.left k above)) (stay k above h)
       ];
       left = λ k h. taking.left k (omega arith);
     }

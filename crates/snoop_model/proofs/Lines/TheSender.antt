@@ -10,23 +10,19 @@ use Rattle.snoop_rules.specs.declared.names.Target.{Target}
 use Rattle.snoop_rules.specs.declared.names.CacheAction.{CacheAction}
 use Rattle.snoop_rules.specs.declared.names.CacheAction.TheVariants as action
 use Rattle.snoop_rules.specs.declared.names.CacheState.{CacheState}
-use Rattle.snoop_rules.specs.declared.names.CacheState.TheVariants.{I}
 use Rattle.snoop_rules.specs.declared.names.MemAction.{MemAction}
 use Rattle.snoop_rules.specs.declared.names.MemAction.TheVariants as mem_action
 use Rattle.snoop_rules.specs.declared.names.MemState.{MemState}
 use Rattle.snoop_rules.specs.Cell.{Cell}
 use Rattle.snoop_rules.specs.MemoryCell.{MemoryCell}
 use Rattle.snoop_rules.specs.Takers.{seen_by, at_memory}
-use Rattle.snoop_rules.specs.Waits.{waiting_request}
 use Rattle.snoop_rules.proofs.Rows.{Cell-one}
 use Rattle.snoop_rules.proofs.MemRows.{MemoryCell-one}
-use Rattle.snoop_model.specs.declared.line.Line.{Line}
 use Rattle.snoop_model.specs.declared.message.Message.{Message}
-use Rattle.snoop_model.specs.Pictures.Picture.{Picture, held_by, nothing_held, HoldNothing}
+use Rattle.snoop_model.specs.Pictures.Picture.{Picture, held_by}
 use Rattle.snoop_model.specs.Pictures.Sends.{Sends, value_sent}
 use Rattle.snoop_model.specs.Moves.Meets.{HasOneSender, FindsRows}
 use Rattle.snoop_model.specs.Pictures.Message.{IsMessage, memory_message}
-use Rattle.snoop_model.proofs.Tables.SilentCores.{Cell-nothing}
 
 -- memory, or a core below n
 abbrev pub IsBelow : ℕ → Option ℕ → Type 0
@@ -96,26 +92,20 @@ module _ (p : Protocol) (before : Picture) (core : ℕ) (request : Request) wher
   IsMessage-memory m mem_action.None next finds row is = cc
   IsMessage-memory m mem_action.Write next finds row is = cc
 
--- cores that hold nothing are passed over: each has a row for another's request, and sends nothing
-module _ (p : Protocol) (before : Picture) (core : ℕ) (request : Request) (waits : waiting_request (held_by before core).state ≡ Some request) where
-  past_one : (n : ℕ) → held_by before n ≡ nothing_held → SilentBelow p before core request n → SilentBelow p before core request (n + 1)
-  past_one n nothing silent =
-      let other : n ≡ core → ⊥ = λ e.
-      let none : waiting_request (held_by before core).state ≡ None = ap (λ (k : ℕ). waiting_request (held_by before k).state) (sym e) ∙ ap (λ (x : Line). waiting_request x.state) nothing in
-      let b = sym none ∙ waits in cc in
-      let P : Line → Type 0 = λ x. Cell p x.state (seen_by n core request) action.None I in
-      Silent-more p before core request n action.None I silent (subst P (sym nothing) (Cell-nothing p n core request other)) (λ payload target e. cc)
-
-  past_all : (d n : ℕ) → HoldNothing before.caches n (n + d) → SilentBelow p before core request n → SilentBelow p before core request (n + d)
-  past_all zero n nothing silent = let P : ℕ → Type 0 = λ j. SilentBelow p before core request j in let e : n ≡ n + 0 = omega arith in subst P e silent
-  past_all (suc d) n nothing silent =
+-- cores that have nothing to do are passed over
+module _ (p : Protocol) (before : Picture) (core : ℕ) (request : Request) where
+  past_all : (d n : ℕ) → ((k : ℕ) → n ≤ k → k < n + d → Cell p (held_by before k).state (seen_by k core request) action.None (held_by before k).state)
+      → SilentBelow p before core request n → SilentBelow p before core request (n + d)
+  past_all zero n idle silent = let P : ℕ → Type 0 = λ j. SilentBelow p before core request j in let e : n ≡ n + 0 = omega arith in subst P e silent
+  past_all (suc d) n idle silent =
       let P : ℕ → Type 0 = λ j. SilentBelow p before core request j in
       let e : n + 1 + d ≡ n + suc d = omega arith in
-      subst P e (past_all d (n + 1) (λ k up below. nothing k (omega arith) (omega arith)) (past_one n (nothing n (omega arith) (omega arith)) silent))
+      subst P e (past_all d (n + 1) (λ k up below. idle k (omega arith) (omega arith))
+      (Silent-more p before core request n action.None (held_by before n).state silent (idle n (omega arith) (omega arith)) (λ payload target e. cc)))
 
-  pub Silent-past : (n to : ℕ) → n ≤ to → HoldNothing before.caches n to → SilentBelow p before core request n → SilentBelow p before core request to
-  Silent-past n to up nothing silent =
+  pub Silent-past : (n to : ℕ) → n ≤ to → ((k : ℕ) → n ≤ k → k < to → Cell p (held_by before k).state (seen_by k core request) action.None (held_by before k).state)
+      → SilentBelow p before core request n → SilentBelow p before core request to
+  Silent-past n to up idle silent =
       let e : n + (to - n) ≡ to = omega arith in
       let P : ℕ → Type 0 = λ j. SilentBelow p before core request j in
-      let Q : ℕ → Type 0 = λ j. HoldNothing before.caches n j in
-      subst P e (past_all (to - n) n (subst Q (sym e) nothing) silent)
+      subst P e (past_all (to - n) n (λ k above below. idle k above (omega arith)) silent)

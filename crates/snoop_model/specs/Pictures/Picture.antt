@@ -1,6 +1,6 @@
 -- The picture of a block: what each core, memory and the bus hold of it.
 -- Source: "A Primer on Memory Consistency and Cache Coherence", 2nd edition, chapter 7, system model.
-use Rattle.std.specs.Prelude.{◌≡◌, ◌≤◌, ◌<◌, ℕ, List, Option, None, slice_index_or}
+use Rattle.std.specs.Prelude.{ℕ, List, Option, None, slice_index_or}
 use Rattle.snoop_rules.specs.declared.names.Protocol.{Protocol}
 use Rattle.snoop_rules.specs.declared.names.Protocol.TheVariants.{Msi, Mesi}
 use Rattle.snoop_rules.specs.declared.names.CacheState.{CacheState}
@@ -24,10 +24,6 @@ nothing_held = record { state = I; kept = None; waiting = None }
 -- what a core holds
 abbrev pub held_at : List Line → ℕ → Line
 held_at caches core = slice_index_or caches core nothing_held
-
--- the cores from one up to another hold nothing
-abbrev pub HoldNothing : List Line → ℕ → ℕ → Type 0
-HoldNothing caches from to = (k : ℕ) → from ≤ k → k < to → held_at caches k ≡ nothing_held
 
 -- what a core holds of the block
 abbrev pub held_by : Picture → ℕ → Line

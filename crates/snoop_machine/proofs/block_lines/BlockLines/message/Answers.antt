@@ -11,9 +11,10 @@ use Rattle.snoop_rules.specs.Takers.{seen_by, carries_value}
 use Rattle.snoop_model.specs.declared.line.Line.{Line}
 use Rattle.snoop_model.specs.Pictures.Picture.{held_at}
 use Rattle.snoop_model.specs.Pictures.Message.{free_picture}
-use Rattle.snoop_model.proofs.Lines.TheSender.{Silent-more, Silent-past, IsMessage-sent, IsMessage-memory}
+use Rattle.snoop_model.proofs.Lines.TheSender.{Silent-more, Silent-past, Silent-all, IsMessage-sent, IsMessage-memory}
+use Rattle.snoop_machine.proofs.ConcernedCores.{concerned_within, waits_within, Cell-passed}
 use Rattle.snoop_machine.proofs.block_lines.BlockLines.message.Goals as goal
-use Rattle.snoop_machine.proofs.block_lines.BlockLines.message.Goals.{In-Some-cache_cell}
+use Rattle.snoop_machine.proofs.block_lines.BlockLines.message.Goals.{In-Some-cache_cell, In-Some-next}
 
 pub returns-in-Some-message_of_memory : goal.returns-in-Some-message_of_memory
 returns-in-Some-message_of_memory c =
@@ -22,41 +23,61 @@ returns-in-Some-message_of_memory c =
     IsMessage-memory c.args.protocol before c.args.requestor c.args.request c.in-Some-message_of_memory.message c.in-Some.cell.action c.in-Some.cell.next
     c.requires.finds (subst P c.event_at_memory.ensures c.in-Some.ensures.row) (sym c.message_of_memory.ensures ∙ c.in-Some-message_of_memory.is)
 
+requestor_within : (c : In-Some-next) → c.args.requestor < length c.args.self.now
+requestor_within c = waits_within c.args.self.now c.args.requestor c.args.request c.requires.waits
+
+within_row : (c : In-Some-next) → c.in-Some-next.core < length c.args.self.now
+within_row c = concerned_within c.args.protocol c.args.self.now c.args.requestor c.args.request c.concerned-concerned.result c.concerned-concerned.ensures.own c.concerned-concerned.ensures.others (requestor_within c) c.in-Some-next.core c.in-Some-next.ensures.some.2
+
+pub state-state-requires : goal.state-state-requires
+state-state-requires c = within_row (goal.at.state-state-requires c).In-Some-next
+
 -- the row of the core that is looked at, in the picture
-row : (c : In-Some-cache_cell) → Cell c.args.protocol (held_at c.args.self.now c.in-Some-next_holder.core).state (seen_by c.in-Some-next_holder.core c.args.requestor c.args.request) c.in-Some-cache_cell.cell.action c.in-Some-cache_cell.cell.next
+row : (c : In-Some-cache_cell) → Cell c.args.protocol (held_at c.args.self.now c.in-Some-next.core).state (seen_by c.in-Some-next.core c.args.requestor c.args.request) c.in-Some-cache_cell.cell.action c.in-Some-cache_cell.cell.next
 row c =
     let P : CacheEvent → Type 0 = λ event. Cell c.args.protocol c.state-state.result event c.in-Some-cache_cell.cell.action c.in-Some-cache_cell.cell.next in
-    let Q : CacheState → Type 0 = λ state. Cell c.args.protocol state (seen_by c.in-Some-next_holder.core c.args.requestor c.args.request) c.in-Some-cache_cell.cell.action c.in-Some-cache_cell.cell.next in
+    let Q : CacheState → Type 0 = λ state. Cell c.args.protocol state (seen_by c.in-Some-next.core c.args.requestor c.args.request) c.in-Some-cache_cell.cell.action c.in-Some-cache_cell.cell.next in
     subst Q c.state-state.ensures.state (subst P c.event_seen.ensures c.in-Some-cache_cell.ensures.row)
 
 pub unreachable-requires-in_default-cache_cell : goal.unreachable-requires-in_default-cache_cell
 unreachable-requires-in_default-cache_cell c =
-    let core = c.in-Some-next_holder.core in
+    let core = c.in-Some-next.core in
     let P : CacheEvent → Type 0 = λ event. IsImpossible c.args.protocol c.state-state.result event in
     let Q : CacheState → Type 0 = λ state. IsImpossible c.args.protocol state (seen_by core c.args.requestor c.args.request) in
     let none = subst Q c.state-state.ensures.state (subst P c.event_seen.ensures c.in_default-cache_cell.ensures.impossible) in
-    let there = c.requires.finds.rows core c.in-Some-next_holder.ensures.some.1 in
+    let there = c.requires.finds.rows core (within_row (goal.at.unreachable-requires-in_default-cache_cell c).In-Some-next) in
     none there.0 there.1.0 there.1.1
 
 pub returns-in-Send : goal.returns-in-Send
 returns-in-Send c =
     let d = (goal.at.returns-in-Send c).In-Some-cache_cell in
     let before = free_picture c.args.self.now c.args.memory in
-    let core = c.in-Some-next_holder.core in
+    let core = c.in-Some-next.core in
     let P : CacheAction → Type 0 = λ act. Cell c.args.protocol (held_at c.args.self.now core).state (seen_by core c.args.requestor c.args.request) act c.in-Some-cache_cell.cell.next in
     IsMessage-sent c.args.protocol before c.args.requestor c.args.request (record { payload = c.in-Send.payload; value = c.value_for.result; from = Some core })
-    c.requires.finds (c.in-Some-next_holder.ensures.some.1, (c.in-Send.field-1, (c.in-Some-cache_cell.cell.next, subst P c.in-Send.is (row d))))
+    c.requires.finds (within_row (goal.at.returns-in-Send c).In-Some-next, (c.in-Send.field-1, (c.in-Some-cache_cell.cell.next, subst P c.in-Send.is (row d))))
     (c.value_for.ensures ∙ ap (λ (line : Line). if carries_value c.in-Send.payload then unwrap_or line.kept 0 else 0) c.get-line.ensures)
 
 pub loop-core-preserved : goal.loop-core-preserved
 loop-core-preserved c =
     let d = (goal.at.loop-core-preserved c).In-Some-cache_cell in
     let before = free_picture c.args.self.now c.args.memory in
-    let core = c.in-Some-next_holder.core in
-    let within : core < length c.args.self.now = c.in-Some-next_holder.ensures.some.1 in
-    let silent = Silent-past c.args.protocol before c.args.requestor c.args.request c.requires.waits c.loop-core.from core
-    c.in-Some-next_holder.ensures.some.0 c.in-Some-next_holder.ensures.some.2 c.loop-core.invariant.0 in (
+    let core = c.in-Some-next.core in
+    let within : core < length c.args.self.now = within_row (goal.at.loop-core-preserved c).In-Some-next in
+    let silent = Silent-past c.args.protocol before c.args.requestor c.args.request c.loop-core.from core c.in-Some-next.ensures.some.0
+    (λ k above below. Cell-passed c.args.protocol c.args.self.now c.args.requestor c.args.request c.concerned-concerned.result c.concerned-concerned.ensures.own c.concerned-concerned.ensures.others c.requires.finds.rows k (omega arith)
+    (c.in-Some-next.ensures.some.3 k above below))
+    c.loop-core.invariant.0 in (
       Silent-more c.args.protocol before c.args.requestor c.args.request core c.in-Some-cache_cell.cell.action c.in-Some-cache_cell.cell.next
           silent (row d) c.in_default-action.not-Send,
       omega arith,
     )
+
+pub unreachable-requires-2 : goal.unreachable-requires-2
+unreachable-requires-2 c =
+    let before = free_picture c.args.self.now c.args.memory in
+    let silent = Silent-past c.args.protocol before c.args.requestor c.args.request c.loop-core.from (length c.args.self.now) c.loop-core.invariant.1
+    (λ k above below. Cell-passed c.args.protocol c.args.self.now c.args.requestor c.args.request c.concerned-concerned.result c.concerned-concerned.ensures.own c.concerned-concerned.ensures.others c.requires.finds.rows k below
+    (c.in_default-next.ensures.none k above))
+    c.loop-core.invariant.0 in
+    Silent-all c.args.protocol before c.args.requestor c.args.request silent c.requires.finds.sender

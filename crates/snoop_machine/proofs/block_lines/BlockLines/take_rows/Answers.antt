@@ -1,4 +1,4 @@
-use Rattle.std.proofs.Common.{◌≡◌, ◌<◌, ◌≤◌, length, arith, sym, ap, ◌∙◌, subst}
+use Rattle.std.proofs.Common.{◌≡◌, ◌<◌, length, arith, sym, ap, ◌∙◌, subst}
 use Rattle.std.specs.Prelude.{slice_set}
 use Rattle.std.proofs.lemmas.List.{set-get_or}
 use Rattle.snoop_rules.specs.declared.names.CacheEvent.{CacheEvent}
@@ -12,23 +12,21 @@ use Rattle.snoop_model.specs.Pictures.Message.{HasRow}
 use Rattle.snoop_model.proofs.Tables.Rows.{IsProper-order}
 use Rattle.snoop_machine.proofs.BlockLinesViews.{comes_to_same}
 use Rattle.snoop_model.proofs.Lines.EachRow.{Taking, Taking-more, Taking-past}
+use Rattle.snoop_machine.proofs.ConcernedCores.{concerned_within, TakesRow-passed}
 use Rattle.snoop_machine.proofs.block_lines.BlockLines.take_rows.Goals as goal
 use Rattle.snoop_machine.proofs.block_lines.BlockLines.take_rows.Goals.{In-Some, then-not-is_same, else-not-is_same}
+
+within_row : (c : In-Some) → c.in-Some.core < length c.args.self.now
+within_row c = concerned_within c.args.protocol c.args.self.now c.args.requestor c.args.request c.concerned-concerned.result c.concerned-concerned.ensures.own c.concerned-concerned.ensures.others c.requires.requestor c.in-Some.core c.in-Some.ensures.some.2
 
 -- the cores up to the one that is looked at have taken their rows
 so_far : (c : In-Some) → Taking c.args.protocol c.args.requestor c.args.request c.args.self.now c.loop-core.self c.in-Some.core
 so_far c =
-    let before = c.loop-core.invariant.0 in
-    let within_new : c.in-Some.core < length c.loop-core.self = c.in-Some.ensures.some.1 in
-    let same_length : length c.loop-core.self ≡ length c.args.self.now = before.same_length in
-    let within : c.in-Some.core ≤ length c.args.self.now = omega arith in
-    Taking-past c.args.protocol c.args.requestor c.args.request c.args.self.now c.loop-core.self c.loop-core.from c.in-Some.core c.requires.rows c.in-Some.ensures.some.0 within c.in-Some.ensures.some.2 before
-
-within_row : (c : In-Some) → c.in-Some.core < length c.args.self.now
-within_row c =
-    let within_new : c.in-Some.core < length c.loop-core.self = c.in-Some.ensures.some.1 in
-    let same_length : length c.loop-core.self ≡ length c.args.self.now = c.loop-core.invariant.0.same_length in
-    omega arith
+    let within = within_row c in
+    Taking-past c.args.protocol c.args.requestor c.args.request c.args.self.now c.loop-core.self c.loop-core.from c.in-Some.core
+    (λ k above below. TakesRow-passed c.args.protocol c.args.self.now c.args.requestor c.args.request c.concerned-concerned.result c.concerned-concerned.ensures.own c.concerned-concerned.ensures.others c.requires.rows k (omega arith)
+    (c.in-Some.ensures.some.3 k above below) (c.concerned-concerned.ensures.proper k))
+    c.in-Some.ensures.some.0 c.loop-core.invariant.0
 
 pub unreachable-requires : goal.unreachable-requires
 unreachable-requires c =
@@ -68,11 +66,12 @@ loop-core-preserved c =
 pub returns : goal.returns
 returns c =
     let before = c.loop-core.invariant.0 in
-    let same_length : length c.loop-core.self ≡ length c.args.self.now = before.same_length in
     let taking : Taking c.args.protocol c.args.requestor c.args.request c.args.self.now c.loop-core.self (length c.args.self.now) =
-    Taking-past c.args.protocol c.args.requestor c.args.request c.args.self.now c.loop-core.self c.loop-core.from (length c.args.self.now) c.requires.rows c.loop-core.invariant.1 (omega arith)
-    (λ k above below. c.in_default.ensures.none k above (omega arith)) before in
-    record { same_length = same_length; rows = taking.taken }
+    Taking-past c.args.protocol c.args.requestor c.args.request c.args.self.now c.loop-core.self c.loop-core.from (length c.args.self.now)
+    (λ k above below. TakesRow-passed c.args.protocol c.args.self.now c.args.requestor c.args.request c.concerned-concerned.result c.concerned-concerned.ensures.own c.concerned-concerned.ensures.others c.requires.rows k below
+    (c.in_default.ensures.none k above) (c.concerned-concerned.ensures.proper k))
+    c.loop-core.invariant.1 before in
+    record { same_length = before.same_length; rows = taking.taken }
 
 pub come_to-requires-clause-proper : goal.come_to-requires-clause-proper
 come_to-requires-clause-proper c =
@@ -82,3 +81,17 @@ come_to-requires-clause-proper c =
     let Q : CacheState → Type 0 = λ state. Cell c.args.protocol state (seen_by n c.args.requestor c.args.request) cell.action cell.next in
     let row = subst Q c.state-state.ensures.state (subst P c.event_seen-event.ensures c.in-Some-cache_cell.ensures.row) in
     IsProper-order c.args.protocol (held_at c.loop-core.self n) n c.args.requestor c.args.request cell.action cell.next c.state-state.ensures.proper row
+
+pub state-state-requires : goal.state-state-requires
+state-state-requires c =
+    let d = (goal.at.state-state-requires c).In-Some in
+    let within = within_row d in
+    let same_length = c.loop-core.invariant.0.same_length in
+    omega arith
+
+pub loop-core-smaller : goal.loop-core-smaller
+loop-core-smaller c =
+    let d = (goal.at.loop-core-smaller c).In-Some in
+    let within = within_row d in
+    let up = c.in-Some.ensures.some.0 in
+    omega arith

@@ -1,0 +1,34 @@
+-- The cores of a block that another's request concerns.
+-- Source: "A Primer on Memory Consistency and Cache Coherence", 2nd edition, chapter 7; that an Order looks at no other cores is this project's profile.
+use Rattle.std.specs.Prelude.{◌≡◌, ◌≢◌, ℕ, Bool, false, List}
+use Rattle.snoop_rules.specs.declared.names.CacheState.{CacheState}
+use Rattle.snoop_rules.specs.declared.names.Request.{Request}
+use Rattle.snoop_rules.specs.declared.names.Request.TheVariants.{GetS, GetM, PutM}
+use Rattle.snoop_model.specs.declared.line.Line.{Line}
+use Rattle.snoop_machine.specs.declared.holders.Holders.{Holders}
+use Rattle.snoop_model.specs.Pictures.Picture.{held_at}
+use Rattle.snoop_model.specs.Pictures.Sound.{keeps}
+use Rattle.snoop_model.specs.Invariant.Fits.{is_owner}
+use Rattle.snoop_machine.specs.CoreSet.{has}
+
+-- whether another's request concerns a core, by whether it is an owner and whether it is a reader
+abbrev pub is_concerned : Request → Bool → Bool → Bool
+is_concerned GetS owner reader = owner
+is_concerned GetM owner reader = reader
+is_concerned PutM owner reader = false
+
+-- whether another's request may change the line of a core in this state, or have it send
+abbrev pub concerns : Request → CacheState → Bool
+concerns request state = is_concerned request (is_owner state) (keeps state)
+
+-- the sets have the owners and the readers of these lines, and no other cores
+pub record AreHolders (holders : Holders) (lines : List Line) : Type 0 where
+  pub owners : (core : ℕ) → has holders.owners core ≡ is_owner (held_at lines core).state
+  pub readers : (core : ℕ) → has holders.readers core ≡ keeps (held_at lines core).state
+
+-- one core has moved to this state, and nothing else has changed
+pub record HaveMoved (core : ℕ) (state : CacheState) (old new : Holders) : Type 0 where
+  pub owner : has new.owners core ≡ is_owner state
+  pub reader : has new.readers core ≡ keeps state
+  pub other_owners : (k : ℕ) → k ≢ core → has new.owners k ≡ has old.owners k
+  pub other_readers : (k : ℕ) → k ≢ core → has new.readers k ≡ has old.readers k

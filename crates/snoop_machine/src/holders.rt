@@ -1,0 +1,82 @@
+//! The cores of a block that another's request concerns.
+ghost use Rattle.std.specs.Prelude.{◌≡◌, ◌≢◌, ℕ, ◌<◌, true, false};
+ghost use Rattle.snoop_model.specs.Pictures.Sound.{keeps};
+ghost use Rattle.snoop_model.specs.Invariant.Fits.{is_owner};
+ghost use Rattle.snoop_machine.specs.CoreSet.{has};
+ghost use Rattle.snoop_machine.specs.Holders.{is_concerned, HaveMoved};
+
+use crate::core_set::CoreSet;
+use snoop_rules::{CacheState, Request};
+
+/// The cores that hold a block, by what another's request asks of them.
+#[derive(Clone, Copy, Debug)]
+pub(crate) struct Holders {
+    /// The cores that may write.
+    owners: CoreSet,
+    /// The cores that keep a value, the owners among them.
+    readers: CoreSet,
+}
+
+impl Holders {
+    /// No core holds the block.
+    pub(crate) fn empty() -> Holders
+        ensures owners { (k : ℕ) → has result.owners k ≡ false }
+        ensures readers { (k : ℕ) → has result.readers k ≡ false }
+    {
+        Holders {
+            owners: CoreSet::empty(),
+            readers: CoreSet::empty(),
+        }
+    }
+
+    /// The core moves to this state.
+    pub(crate) fn move_to(&mut self, core: u32, state: CacheState)
+        requires { core < 256 }
+        ensures { HaveMoved core state self.old self.new }
+    {
+        self.owners.set(core, is_owner(state));
+        self.readers.set(core, keeps(state));
+    }
+
+    /// The requestor, and the cores that its request concerns.
+    pub(crate) fn concerned(&self, requestor: u32, request: Request) -> CoreSet
+        requires { requestor < 256 }
+        ensures own { has result requestor ≡ true }
+        ensures others { (k : ℕ) → k ≢ requestor → has result k ≡ is_concerned request (has self.now.owners k) (has self.now.readers k) }
+    {
+        let mut concerned = match request {
+            Request::GetS => self.owners,
+            Request::GetM => self.readers,
+            Request::PutM => CoreSet::empty(),
+        };
+        concerned.set(requestor, true);
+        concerned
+    }
+}
+
+/// Whether a core in this state may write.
+#[tactic(auto, unfolding(snoop_model::specs::Invariant::Fits::is_owner))]
+fn is_owner(state: CacheState) -> bool
+    ensures { result ≡ is_owner state }
+{
+    matches!(
+        &state,
+        CacheState::E | CacheState::M | CacheState::EiA | CacheState::MiA
+    )
+}
+
+/// Whether a core in this state keeps a value.
+fn keeps(state: CacheState) -> bool
+    ensures { result ≡ keeps state }
+{
+    matches!(
+        &state,
+        CacheState::S
+            | CacheState::SmAd
+            | CacheState::SmD
+            | CacheState::E
+            | CacheState::M
+            | CacheState::EiA
+            | CacheState::MiA
+    )
+}
