@@ -145,7 +145,7 @@ fit_moves rule s t lanes turns step answer entry fit its move =
       busy = fit.busy;
     }
 
--- what no cause refuses is refused for want of memory alone
+-- what no cause refuses is refused out of memory alone
 pub only_memory : (s : Situation) (step : Step) (cause : Refused) → RefusedFor s step cause → IsEnabled s step → cause ≡ refused.NoMemory
 only_memory s step refused.NoMemory h goes = refl
 only_memory s step refused.NoCore h goes = absurd (goes refused.NoCore h)

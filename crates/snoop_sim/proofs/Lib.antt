@@ -7,3 +7,6 @@ pub mod Dealing
 pub mod Journeys
 pub mod DrivenLemmas
 pub mod Threading
+pub mod OptionLemmas
+pub mod CommandLineLemmas
+pub mod AskedLemmas

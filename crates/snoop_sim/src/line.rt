@@ -10,7 +10,7 @@ use snoop_machine::{Refused, Reply};
 use snoop_rules::Payload;
 use snoop_trace::{NoMemory, Shape, Step, push_byte, push_decimal, push_step, push_text};
 
-// Puts a text and a number behind it at the end.
+// Appends a text and then a number.
 fn push_numbered(out: &mut Vec<u8>, text: &str, number: u64) -> Result<(), NoMemory>
     ensures ok { OnOk result (out.new.items ≡ out.old.items ++ (text.now ++ decimal number)) }
 {
@@ -18,7 +18,7 @@ fn push_numbered(out: &mut Vec<u8>, text: &str, number: u64) -> Result<(), NoMem
     push_decimal(out, number)
 }
 
-// Puts two texts at the end.
+// Appends two texts.
 fn push_both(out: &mut Vec<u8>, first: &str, second: &str) -> Result<(), NoMemory>
     ensures ok { OnOk result (out.new.items ≡ out.old.items ++ (first.now ++ second.now)) }
 {
@@ -95,7 +95,7 @@ fn push_outcome(out: &mut Vec<u8>, outcome: Result<Reply, Refused>) -> Result<()
     }
 }
 
-/// Puts the line of a step and what the machine answered at the end.
+/// Appends the line of a step and what the machine answered.
 pub(crate) fn push_line(
     out: &mut Vec<u8>,
     shape: Shape,

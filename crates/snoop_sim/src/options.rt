@@ -1,6 +1,9 @@
 //! The command line: its words and what they ask for.
-ghost use Rattle.std.specs.Prelude.{◌≢◌, IfErr};
-ghost use Rattle.snoop_sim.specs.Status.{status_of};
+ghost use Rattle.std.specs.Prelude.{◌≡◌, IfErr, IfOk, codes, false, map, string_bytes};
+ghost use Rattle.clap.specs.Words.{app_of, first_of, found_of, one_of, rows_of, rule_of, subcommand_rows_of};
+ghost use Rattle.snoop_sim.specs.Asked.{Asks, HasNoTask, HasTask, Refuses};
+ghost use Rattle.snoop_sim.specs.CommandLine.{IsLocal, IsSnoop, Names, number_rule, protocol_rule, simulation_app, table_app};
+ghost use Rattle.snoop_sim.specs.Options.{IsNumberOf, IsShapeOf, protocol_named, which_named};
 
 use crate::failure::Failure;
 use clap::builder::ValueParser;
@@ -23,24 +26,108 @@ static PROTOCOLS: [&str; 2] = ["msi", "mesi"];
 
 static TABLES: [&str; 2] = ["cache", "memory"];
 
-static STEP_RECORDS: &str = "Each line of standard input is a step:
+macro_rules! help_text {
+    ($text:literal) => {
+        concat!(
+            $text,
+            "
+
+Exit status:
+  0  done, even where steps were refused
+  1  the text was refused; nothing was written
+  2  the command line or the shape was refused; nothing was written
+  3  out of memory
+  4  a write failed
+  5  the threads of `snoop threads` were refused; nothing was written
+
+More in docs/TEXTS.md."
+        )
+    };
+}
+
+static PROGRAM_HELP: &str = help_text!(
+    "\
+A text comes in on standard input, and one goes out on standard output:
+  snoop steps < FILE
+  printf 'L,0,0\\nO,0\\nR,0\\n' | snoop steps
+
+`steps` and `run` write a line for each step, which ends with the machine's reply
+(hit, store hit, issued, ordered, Data, NoData, gone, absent, refused), and then a
+report: counts, and the last value of each block. `snoop COMMAND --help` says more."
+);
+
+static STEPS_HELP: &str = help_text!(
+    "\
+Input comes by `snoop steps < FILE`. Each line is a step:
   L,core,address        the core loads from the address
   S,core,address,value  the core stores the value at the address
   E,core,address        the core evicts the block of the address
   O,core                the bus orders the core's oldest request
   R,address             the response for the block of the address comes
-Numbers are decimal, or hexadecimal after 0x. An address is in bytes.";
+Numbers are decimal, or hexadecimal after 0x. An address is in bytes.
+Example: printf 'L,0,0\\nO,0\\nR,0\\n' | snoop steps
 
-static ROW_RECORDS: &str = "Each line of standard input is what a core does next:
+Each step has a line of output: the step, a colon and the reply.
+  hit 5, store hit          done in the core's own copy; the load read 5
+  issued GetS               the request waits: GetS, GetM or PutM
+  gone, absent              evicted without a request; nothing to evict
+  ordered GetS              the request is ordered, its transaction open
+  Data from memory, load 5  the response (Data, DataE, NoData or NoDataE), who
+                            sent it, and the load or store that it completes
+  refused Stalled IM_AD     not taken, and why
+Then the report: loads and stores performed, and the hits among them; requests
+ordered; responses from memory and from caches; writebacks, with the clean and the
+stale ones; and the last value stored in each block."
+);
+
+static RUN_HELP: &str = help_text!(
+    "\
+Input comes by `snoop run < FILE`. Each line is what a core does next:
   L,core,address        the core loads from the address
   S,core,address,value  the core stores the value at the address
   E,core,address        the core evicts the block of the address
-Numbers are decimal, or hexadecimal after 0x. An address is in bytes.";
+Numbers are decimal, or hexadecimal after 0x. An address is in bytes.
+Example: printf 'S,0,0,5\\nL,1,0\\n' | snoop run
+
+The bus steps between are found: O,core orders the core's oldest request, and
+R,address brings the response. Each step has a line of output: the step, a colon
+and the reply.
+  hit 5, store hit          done in the core's own copy; the load read 5
+  issued GetS               the request waits: GetS, GetM or PutM
+  gone, absent              evicted without a request; nothing to evict
+  ordered GetS              the request is ordered, its transaction open
+  Data from memory, load 5  the response (Data, DataE, NoData or NoDataE), who
+                            sent it, and the load or store that it completes
+Then the report: loads and stores performed, and the hits among them; requests
+ordered; responses from memory and from caches; writebacks, with the clean and the
+stale ones; and the last value stored in each block."
+);
+
+static THREADS_HELP: &str = help_text!(
+    "\
+Input comes by `snoop threads < FILE`. Each line is what a core does next:
+  L,core,address        the core loads from the address
+  S,core,address,value  the core stores the value at the address
+  E,core,address        the core evicts the block of the address
+Numbers are decimal, or hexadecimal after 0x. An address is in bytes.
+
+The output is a text of steps, for `snoop steps` with the same options, which
+writes their replies and the report (see `snoop steps --help`):
+  snoop threads --cores 4 < FILE | snoop steps --cores 4
+Which order the threads take is open: the output may differ from run to run."
+);
+
+static TABLE_HELP: &str = help_text!(
+    "\
+No input is read. Each line of output is a cell of the table: state, event, action
+and next state, with commas between.
+Example: snoop table --protocol mesi --which memory"
+);
 
 /// The task that the words ask for; the first of them is the program's own name.
 pub(crate) fn task_in(alloc: Global, words: &[String]) -> Result<Task, Failure>
-    // Nothing was written yet that could fail.
-    ensures { IfErr result (λ failure. status_of failure ≢ 4) }
+    ensures ok { IfOk result (Asks (map string_bytes words.now)) }
+    ensures err { IfErr result (Refuses (map string_bytes words.now)) }
 {
     match grammar(alloc)?.try_get_matches_from(words) {
         Ok(matches) => task_of(&matches),
@@ -50,7 +137,8 @@ pub(crate) fn task_in(alloc: Global, words: &[String]) -> Result<Task, Failure>
 }
 
 fn task_of(matches: &ArgMatches) -> Result<Task, Failure>
-    ensures { IfErr result (λ failure. status_of failure ≢ 4) }
+    ensures ok { IfOk result (HasTask (subcommand_rows_of matches.now)) }
+    ensures err { IfErr result (HasNoTask (subcommand_rows_of matches.now)) }
 {
     match matches.subcommand() {
         Some(("table", options)) => Ok(Task::Table(protocol_in(options), which_in(options))),
@@ -62,43 +150,48 @@ fn task_of(matches: &ArgMatches) -> Result<Task, Failure>
 }
 
 /// The command line that is understood.
-fn grammar<'a>(alloc: Global) -> Result<Command<'a>, AllocError> {
+fn grammar<'a>(alloc: Global) -> Result<Command<'a>, AllocError>
+    ensures { IfOk result (λ command. IsSnoop (app_of command)) }
+{
     Command::new(alloc, "snoop")
         .bin_name("snoop")?
         .version("0.1.0")
         .about("Simulates private caches on a snooping bus, under MSI or MESI")
+        .after_help(PROGRAM_HELP)
         .subcommand_required(true)
         .subcommand(simulation(
             alloc,
             "steps",
             "Take the steps of standard input, and write each one's reply and a report",
-            STEP_RECORDS,
+            STEPS_HELP,
         )?)?
         .subcommand(simulation(
             alloc,
             "run",
             "Let each core do its rows of standard input, and write each step's reply and a report",
-            ROW_RECORDS,
+            RUN_HELP,
         )?)?
         .subcommand(simulation(
             alloc,
             "threads",
             "Let a thread for each core do its rows of standard input, and write the steps that were taken",
-            ROW_RECORDS,
+            THREADS_HELP,
         )?)?
         .subcommand(table(alloc)?)
 }
 
-/// A command that simulates a text of these records on a machine of some shape.
+/// A command that simulates a text on a machine of some shape; the help says what the text is.
 fn simulation<'a>(
     alloc: Global,
     name: &'a str,
     about: &'a str,
-    records: &'a str,
-) -> Result<Command<'a>, AllocError> {
+    help: &'a str,
+) -> Result<Command<'a>, AllocError>
+    ensures { IfOk result (λ command. IsLocal command × ((protocols : Names) × (app_of command ≡ simulation_app name.entry.now protocols))) }
+{
     Command::new(alloc, name)
         .about(about)
-        .after_help(records)
+        .after_help(help)
         .arg(protocol(alloc))?
         .arg(number(alloc, "cores", "2", "How many cores, from 1 to 256"))?
         .arg(number(
@@ -115,7 +208,9 @@ fn simulation<'a>(
         ))
 }
 
-fn table<'a>(alloc: Global) -> Result<Command<'a>, AllocError> {
+fn table<'a>(alloc: Global) -> Result<Command<'a>, AllocError>
+    ensures { IfOk result (λ command. IsLocal command × ((protocols tables : Names) × (app_of command ≡ table_app protocols tables))) }
+{
     let which = Arg::new(alloc, "which")
         .long("which")
         .help("Whose table: the cache controllers' or the memory controller's")
@@ -123,19 +218,25 @@ fn table<'a>(alloc: Global) -> Result<Command<'a>, AllocError> {
         .default_value("cache");
     Command::new(alloc, "table")
         .about("Write a controller's table: state, event, action and next state")
+        .after_help(TABLE_HELP)
         .arg(protocol(alloc))?
         .arg(which)
 }
 
-fn protocol<'a>(alloc: Global) -> Arg<'a> {
+fn protocol<'a>(alloc: Global) -> Arg<'a>
+    ensures { (result.global ≡ false) × ((protocols : Names) × (rule_of result ≡ protocol_rule protocols)) }
+{
     Arg::new(alloc, "protocol")
         .long("protocol")
         .help("The coherence protocol")
         .value_parser(ValueParser::Names(PROTOCOLS.as_slice()))
+        .ignore_case(true)
         .default_value("msi")
 }
 
-fn number<'a>(alloc: Global, name: &'a str, default: &'a str, help: &'a str) -> Arg<'a> {
+fn number<'a>(alloc: Global, name: &'a str, default: &'a str, help: &'a str) -> Arg<'a>
+    ensures { (result.global ≡ false) × (rule_of result ≡ number_rule name.entry.now default.entry.now) }
+{
     Arg::new(alloc, name)
         .long(name)
         .help(help)
@@ -143,16 +244,20 @@ fn number<'a>(alloc: Global, name: &'a str, default: &'a str, help: &'a str) -> 
         .default_value(default)
 }
 
-/// The protocol that was named.
-fn protocol_in(options: &ArgMatches) -> Protocol {
+/// The protocol that was named, in either case.
+fn protocol_in(options: &ArgMatches) -> Protocol
+    ensures { result ≡ protocol_named (first_of (codes "protocol") (rows_of (found_of options.now))) }
+{
     match options.get_str("protocol") {
-        Some("mesi") => Protocol::Mesi,
+        Some(name) if name.eq_ignore_ascii_case("mesi") => Protocol::Mesi,
         _ => Protocol::Msi,
     }
 }
 
 /// The table that was named.
-fn which_in(options: &ArgMatches) -> Which {
+fn which_in(options: &ArgMatches) -> Which
+    ensures { result ≡ which_named (first_of (codes "which") (rows_of (found_of options.now))) }
+{
     match options.get_str("which") {
         Some("memory") => Which::Memory,
         _ => Which::Cache,
@@ -160,7 +265,19 @@ fn which_in(options: &ArgMatches) -> Which {
 }
 
 /// The shape that was named.
-fn shape_in(options: &ArgMatches) -> Result<Shape, ShapeFault> {
-    let number = |name| options.get_one::<u32>(name).unwrap_or(0);
-    Shape::new(number("cores"), number("blocks"), number("block-bytes"))
+fn shape_in(options: &ArgMatches) -> Result<Shape, ShapeFault>
+    ensures { IsShapeOf (rows_of (found_of options.now)) result }
+{
+    Shape::new(
+        number_in(options, "cores"),
+        number_in(options, "blocks"),
+        number_in(options, "block-bytes"),
+    )
+}
+
+/// The number that was named; 0, which no shape has, where it is none.
+fn number_in(options: &ArgMatches, name: &str) -> u32
+    ensures { IsNumberOf (one_of name.now (rows_of (found_of options.now))) result }
+{
+    options.get_one::<u32>(name).unwrap_or(0)
 }

@@ -1,7 +1,8 @@
 //! What the program does with its words and streams, and the status that it ends with.
-ghost use Rattle.std.specs.Prelude.{◌≡◌, ◌≢◌, ◌<◌, ◌⊎◌, true, IfErr};
+ghost use Rattle.std.specs.Prelude.{◌≡◌, ◌≢◌, ◌<◌, ℕ, List, map, string_bytes, true, IfErr};
 ghost use Rattle.std.specs.IoError.{error_kind};
 ghost use Rattle.snoop_sim.specs.Status.{status_of};
+ghost use Rattle.snoop_sim.specs.Performed.{Ends, Leaves, Performs, Writes};
 
 use crate::failure::Failure;
 use crate::fault::SimFault;
@@ -21,7 +22,8 @@ use std::thread::Threads;
 /// with: 0 where it was done, 1 for a refused text, 2 for a command line that is not understood or a refused shape, 3 for out
 /// of memory, 4 for a failed write, and 5 where the threads of `threads` were refused for another cause. A failure is reported
 /// to `errors` in one line, a command line that is not understood in `clap`'s text. After 1, 2 and 5 nothing was written, after
-/// 3 and 4 a beginning of the output. The clauses have some of this; the rest is tested.
+/// 3 and 4 a beginning of the output. `does` has all of this, where `clap` says what the words ask for; what is reported to
+/// `errors`, and the text of a help, are tested.
 pub fn command<T: Threads + Wait + Sync, R: Source + Drop, W: Sink, E: Write>(
     rt: &T,
     alloc: Global,
@@ -30,6 +32,7 @@ pub fn command<T: Threads + Wait + Sync, R: Source + Drop, W: Sink, E: Write>(
     writer: &mut W,
     errors: &mut E,
 ) -> u8
+    ensures does { Ends (map string_bytes words.now) (R.remaining reader) result (W.contents writer.old) (W.contents writer.new) }
     ensures known { result < 6 }
     // A text, a command line or a shape is refused before anything is written.
     ensures unwritten { 0 < result → result < 3 → W.contents writer.new ≡ W.contents writer.old }
@@ -39,17 +42,17 @@ pub fn command<T: Threads + Wait + Sync, R: Source + Drop, W: Sink, E: Write>(
 {
     match perform(rt, alloc, words, reader, writer) {
         Ok(()) => 0,
-        Err(failure) => tell(errors, &failure),
+        Err(failure) => report(errors, &failure),
     }
 }
 
-/// Tells `errors` in one line why the words of the process could not be had, and answers the status that the program ends
-/// with: 3 for want of memory, and 2 for a word that is not UTF-8.
+/// Reports to `errors` in one line why the words of the process could not be had, and answers the status that the program
+/// ends with: 3 for out of memory, and 2 for a word that is not UTF-8.
 pub fn refuse_words<E: Write>(cause: io::Error, errors: &mut E) -> u8
     ensures memory { error_kind cause ≡ ErrorKind.OutOfMemory → result ≡ 3 }
     ensures other { error_kind cause ≢ ErrorKind.OutOfMemory → result ≡ 2 }
 {
-    tell(errors, &Failure::of_words(cause))
+    report(errors, &Failure::of_words(cause))
 }
 
 /// Does what the words ask for.
@@ -60,6 +63,7 @@ fn perform<T: Threads + Wait + Sync, R: Source + Drop, W: Sink>(
     reader: R,
     writer: &mut W,
 ) -> Result<(), Failure>
+    ensures does { Leaves (map string_bytes words.now) (R.remaining reader) result (W.contents writer.old) (W.contents writer.new) }
     ensures unwritten { IfErr result (λ failure. status_of failure < 3 → W.contents writer.new ≡ W.contents writer.old) }
     ensures refused { IfErr result (λ failure. status_of failure ≡ 5 → W.contents writer.new ≡ W.contents writer.old) }
     ensures never_blamed { IfErr result (λ failure. W.never_fails ≡ true → status_of failure ≢ 4) }
@@ -75,6 +79,7 @@ fn perform_task<T: Threads + Wait + Sync, R: Source + Drop, W: Sink>(
     reader: R,
     writer: &mut W,
 ) -> Result<(), Failure>
+    ensures does { Performs task (R.remaining reader) result (W.contents writer.old) (W.contents writer.new) }
     ensures unwritten { IfErr result (λ failure. status_of failure < 3 → W.contents writer.new ≡ W.contents writer.old) }
     ensures refused { IfErr result (λ failure. status_of failure ≡ 5 → W.contents writer.new ≡ W.contents writer.old) }
     ensures never_blamed { IfErr result (λ failure. W.never_fails ≡ true → status_of failure ≢ 4) }
@@ -94,7 +99,7 @@ fn perform_task<T: Threads + Wait + Sync, R: Source + Drop, W: Sink>(
 }
 
 fn write_help<W: Sink>(alloc: Global, writer: &mut W, help: &clap::Error) -> Result<(), SimFault>
-    ensures written { IfErr result (λ fault. (fault ≡ SimFault.NoMemory) ⊎ (fault ≡ SimFault.Write)) }
+    ensures does { (text : List ℕ) × Writes text result (W.contents writer.old) (W.contents writer.new) }
     ensures never_blamed { IfErr result (λ fault. W.never_fails ≡ true → fault ≢ SimFault.Write) }
 {
     let Ok(text) = format!(in alloc; "{help}") else {
@@ -105,7 +110,7 @@ fn write_help<W: Sink>(alloc: Global, writer: &mut W, help: &clap::Error) -> Res
 }
 
 /// Writes why the program failed, and answers the status, which what becomes of the text doesn't change.
-fn tell<E: Write>(errors: &mut E, failure: &Failure) -> u8
+fn report<E: Write>(errors: &mut E, failure: &Failure) -> u8
     ensures { result ≡ status_of failure.now }
 {
     let mut errors = Once(errors);

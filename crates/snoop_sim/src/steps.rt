@@ -20,7 +20,7 @@ use snoop_trace::{
 use std::alloc::Global;
 
 /// Reads a text of steps to its end, takes them in order on a machine at reset, and writes the line of each
-/// and then the report. A step that is refused for want of memory ends the simulation.
+/// and then the report. A step that is refused because it is out of memory ends the simulation.
 pub fn simulate_steps<R: Source + Drop, W: Sink>(
     alloc: Global,
     reader: R,
@@ -79,7 +79,7 @@ fn write_lines<W: Sink>(
     Ok(())
 }
 
-/// Takes one step, and puts its line at the end of the chunk.
+/// Takes one step, and appends its line to the chunk.
 fn push_taken(
     chunk: &mut Vec<u8>,
     shape: Shape,

@@ -3,7 +3,7 @@
 use crate::tests::support::run;
 use std::test::Fail;
 
-// Texts of rows, and what is told of each.
+// Texts of rows, and what is reported of each.
 static REFUSED: [(&[u8], &[u8]); 30] = [
     (b"S,0,0\n", b"snoop: record 1: BadFields\n"),
     (b"E,0\n", b"snoop: record 1: BadFields\n"),
@@ -45,16 +45,16 @@ static REFUSED: [(&[u8], &[u8]); 30] = [
 
 #[test]
 fn refused_rows(rt: HostRuntime) -> Result<(), Fail> {
-    for (input, told) in REFUSED {
+    for (input, reported) in REFUSED {
         let ran = run(&rt, rt.alloc(), "snoop run", input)?;
-        assert_eq!(rt; ran.errors.as_slice(), told, "{input:?}");
+        assert_eq!(rt; ran.errors.as_slice(), reported, "{input:?}");
         assert_eq!(rt; ran.status, 1, "{input:?}");
         assert_eq!(rt; ran.output(), "", "{input:?}");
     }
     Ok(())
 }
 
-// What is told of the beginnings of a load's text with its bus steps, by their lengths in bytes: a load alone is a text of
+// What is reported of the beginnings of a load's text with its bus steps, by their lengths in bytes: a load alone is a text of
 // rows, and a bus step is none.
 static BEGINNINGS: [(usize, &str); 15] = [
     (0, ""),
@@ -77,15 +77,15 @@ static BEGINNINGS: [(usize, &str); 15] = [
 #[test]
 fn beginnings_of_a_text_with_bus_steps(rt: HostRuntime) -> Result<(), Fail> {
     let text = b"L,0,0\nO,0\nR,0\n";
-    for (bytes, told) in BEGINNINGS {
+    for (bytes, reported) in BEGINNINGS {
         let ran = run(
             &rt,
             rt.alloc(),
             "snoop run",
             text.get(..bytes).unwrap_or(b""),
         )?;
-        assert_eq!(rt; ran.errors(), told, "{bytes}");
-        assert_eq!(rt; ran.output().is_empty(), !told.is_empty(), "{bytes}");
+        assert_eq!(rt; ran.errors(), reported, "{bytes}");
+        assert_eq!(rt; ran.output().is_empty(), !reported.is_empty(), "{bytes}");
     }
     Ok(())
 }

@@ -106,7 +106,7 @@ writebacks 0 clean 0 stale 0
     Ok(())
 }
 
-// Texts, and what is told of each.
+// Texts, and what is reported of each.
 static REFUSED: [(&[u8], &[u8]); 28] = [
     (b"S,0,0\n", b"snoop: record 1: BadFields\n"),
     (b"X,0\n", b"snoop: record 1: BadKind\n"),
@@ -146,9 +146,9 @@ static REFUSED: [(&[u8], &[u8]); 28] = [
 
 #[test]
 fn refused_texts(rt: HostRuntime) -> Result<(), Fail> {
-    for (input, told) in REFUSED {
+    for (input, reported) in REFUSED {
         let ran = run(&rt, rt.alloc(), "snoop steps", input)?;
-        assert_eq!(rt; ran.errors.as_slice(), told, "{input:?}");
+        assert_eq!(rt; ran.errors.as_slice(), reported, "{input:?}");
         assert_eq!(rt; ran.status, 1, "{input:?}");
         assert_eq!(rt; ran.output(), "", "{input:?}");
     }

@@ -80,7 +80,7 @@ fn no_rows(rt: HostRuntime) -> Result<(), Fail> {
 
 #[test]
 fn refused_rows(rt: HostRuntime) -> Result<(), Fail> {
-    for (input, told) in [
+    for (input, reported) in [
         (b"O,0\n".as_slice(), "snoop: record 1: BadKind\n"),
         (b"R,0\n".as_slice(), "snoop: record 1: BadKind\n"),
         (b"L,0,0\nL,0\n".as_slice(), "snoop: record 2: BadFields\n"),
@@ -90,13 +90,13 @@ fn refused_rows(rt: HostRuntime) -> Result<(), Fail> {
     ] {
         let ran = run(&rt, rt.alloc(), "snoop threads", input)?;
         assert_eq!(rt; ran.status, 1, "{input:?}");
-        assert_eq!(rt; ran.errors(), told, "{input:?}");
+        assert_eq!(rt; ran.errors(), reported, "{input:?}");
         assert_eq!(rt; ran.output(), "", "{input:?}");
     }
     Ok(())
 }
 
-/// The number behind the first word of the report's line that begins with the word.
+/// The number after the first word of the report's line that begins with the word.
 fn count_of(report: &str, word: &str) -> Result<u64, Fail> {
     for line in report.lines() {
         let mut words = line.split(' ');

@@ -30,8 +30,8 @@ impl Env for Process {
     }
 }
 
-/// What is answered and told where the words cannot be had for this cause.
-fn told(alloc: Global, cause: io::Error) -> Result<(u8, Vec<u8>), Fail> {
+/// What is answered and reported where the words cannot be had for this cause.
+fn refused(alloc: Global, cause: io::Error) -> Result<(u8, Vec<u8>), Fail> {
     let mut errors = Vec::new(alloc);
     let status = refuse_words(cause, &mut errors);
     Ok((status, errors))
@@ -44,7 +44,7 @@ fn word_that_is_not_utf8(rt: HostRuntime) -> Result<(), Fail> {
         words: WORDS.as_slice(),
     };
     let cause = std::env::args(&(process, rt.alloc())).err().ok_or("words")?;
-    let (status, errors) = told(rt.alloc(), cause)?;
+    let (status, errors) = refused(rt.alloc(), cause)?;
     assert_eq!(rt; status, 2);
     assert_eq!(rt; errors.as_slice(), b"snoop: NotUtf8\n".as_slice());
     Ok(())
@@ -52,7 +52,7 @@ fn word_that_is_not_utf8(rt: HostRuntime) -> Result<(), Fail> {
 
 #[test]
 fn words_without_memory(rt: HostRuntime) -> Result<(), Fail> {
-    let (status, errors) = told(rt.alloc(), io::Error::from(io::ErrorKind::OutOfMemory))?;
+    let (status, errors) = refused(rt.alloc(), io::Error::from(io::ErrorKind::OutOfMemory))?;
     assert_eq!(rt; status, 3);
     assert_eq!(rt; errors.as_slice(), b"snoop: NoMemory\n".as_slice());
     Ok(())

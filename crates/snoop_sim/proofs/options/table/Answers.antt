@@ -1,0 +1,17 @@
+use Rattle.std.proofs.Common.{rules, codes}
+use Rattle.std.proofs.lemmas.Result.{IfOk-weaker}
+use Rattle.clap.specs.Words.{new_app}
+use Rattle.clap.specs.declared.builder.value_parser.ValueParser.TheVariants as parser
+use Rattle.snoop_sim.specs.CommandLine.{option_rule, protocol_rule}
+use Rattle.snoop_sim.proofs.CommandLineLemmas.{Describes, DescribesOption, adds_option}
+use Rattle.snoop_sim.proofs.options.table.Goals as goal
+
+pub returns : goal.returns
+returns c =
+    let names = c.protocol.ensures.1.0 in
+    let tables = c.as_slice.result in
+    let start : Describes c.after_help.result (new_app (codes "table")) = record { local = search rules; is = search rules } in
+    let protocol : DescribesOption c.protocol.result (protocol_rule names) = record { local = c.protocol.ensures.0; is = c.protocol.ensures.1.1 } in
+    let which : DescribesOption c.default_value-which.result (option_rule (codes "which") (codes "cache") (parser.Names tables)) = record { local = search rules; is = search rules } in
+    let one = adds_option _ _ c.in_ok-arg.field-0 _ _ start protocol c.in_ok-arg.ensures in
+    IfOk-weaker c.arg-2.result _ _ (λ command adds. let two = adds_option _ _ command _ _ one which adds in (two.local, (names, tables, two.is))) c.arg-2.ensures

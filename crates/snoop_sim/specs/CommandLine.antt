@@ -1,0 +1,54 @@
+-- The command line that the program understands, as the crate `clap` describes one.
+-- Source: this project's profile.
+use Rattle.std.specs.Prelude.{◌≡◌, ℕ, List, [], ◌∷◌, Some, codes, true, false, pos}
+use Rattle.std.specs.Borrow.{Bor}
+use Rattle.clap.specs.Words.{App, Rule, new_app, new_rule, with_rule, with_subcommand}
+use Rattle.clap.specs.declared.builder.command.Command.{Command}
+use Rattle.clap.specs.declared.builder.command.Command.TheViews.{out-Command}
+use Rattle.clap.specs.declared.builder.value_parser.ValueParser.{ValueParser}
+use Rattle.clap.specs.declared.builder.value_parser.ValueParser.TheVariants as parser
+
+-- an option with its default
+abbrev pub option_rule : List ℕ → List ℕ → ValueParser → Rule
+option_rule name default values = record (new_rule name) { long = Some name; defaults = default ∷ []; parser = Some values }
+
+-- a number of 32 bits
+abbrev pub number_rule : List ℕ → List ℕ → Rule
+number_rule name default = option_rule name default (parser.Signed (pos 0) (pos 4294967295))
+
+-- the names that an option takes
+abbrev pub Names : Type 0
+Names = Bor (List (Bor (List ℕ)))
+
+-- a protocol, in either case
+abbrev pub protocol_rule : Names → Rule
+protocol_rule protocols = record (option_rule (codes "protocol") (codes "msi") (parser.Names protocols)) { ignore_case = true }
+
+-- a command that simulates
+abbrev pub simulation_app : List ℕ → Names → App
+simulation_app name protocols =
+    with_rule (with_rule (with_rule (with_rule (new_app name) (protocol_rule protocols))
+    (number_rule (codes "cores") (codes "2"))) (number_rule (codes "blocks") (codes "4"))) (number_rule (codes "block-bytes") (codes "64"))
+
+-- the command that writes a table
+abbrev pub table_app : Names → Names → App
+table_app protocols tables =
+    with_rule (with_rule (new_app (codes "table")) (protocol_rule protocols)) (option_rule (codes "which") (codes "cache") (parser.Names tables))
+
+-- the program before its commands
+abbrev pub top_app : App
+top_app = let new = new_app (codes "snoop") in record new { top = record new.top { has_version = true; subcommand_required = true } }
+
+-- the program with its four commands
+abbrev pub snoop_app : Names → Names → Names → Names → Names → App
+snoop_app steps run threads table tables =
+    with_subcommand (with_subcommand (with_subcommand (with_subcommand top_app
+    (simulation_app (codes "steps") steps).top) (simulation_app (codes "run") run).top) (simulation_app (codes "threads") threads).top) (table_app table tables).top
+
+-- `clap`'s description of it
+abbrev pub IsSnoop : App → Type 0
+IsSnoop app = (steps run threads table tables : Names) × (app ≡ snoop_app steps run threads table tables)
+
+-- no option of the command is one of its subcommands' too
+abbrev pub IsLocal : Command → Type 0
+IsLocal command = (out-Command command).has_globals ≡ false

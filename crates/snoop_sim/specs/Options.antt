@@ -1,0 +1,46 @@
+-- What the options of a command say.
+-- Source: this project's profile.
+use Rattle.std.specs.Prelude.{◌≡◌, ◌⊎◌, ◌<◌, ◌^◌, ℕ, List, Option, Some, None, Result, Ok, Err, if◌then◌else◌, codes, true, false}
+use Rattle.std.specs.Str.Parse.{IsNumeral, digits_value, without_leading_plus}
+use Rattle.clap.specs.Words.{Row, one_of, same_text}
+use Rattle.snoop_trace.specs.Extent.{Extent, IsBlockCount, IsBlockSize, IsCoreCount}
+use Rattle.snoop_trace.specs.declared.shape.ShapeFault.{ShapeFault}
+use Rattle.snoop_trace.specs.declared.shape.ShapeFault.TheVariants.{BadCores, BadBlocks, BadBytes}
+use Rattle.snoop_rules.specs.declared.names.Protocol.{Protocol}
+use Rattle.snoop_rules.specs.declared.names.Protocol.TheVariants.{Msi, Mesi}
+use Rattle.snoop_rules.specs.declared.table_text.Which.{Which}
+use Rattle.snoop_rules.specs.declared.table_text.Which.TheVariants.{Cache, Memory}
+
+-- MESI where it is named, in small or capital letters; else MSI
+abbrev pub protocol_named : Option (List ℕ) → Protocol
+protocol_named None = Msi
+protocol_named (Some text) = if same_text true text (codes "mesi") then Mesi else Msi
+
+-- the memory controller's table where it is named; else the cache controllers'
+abbrev pub which_named : Option (List ℕ) → Which
+which_named None = Cache
+which_named (Some text) = if same_text false text (codes "memory") then Memory else Cache
+
+-- a number below 2^32, in decimal
+abbrev pub IsNumber : List ℕ → Type 0
+IsNumber text = IsNumeral 10 (without_leading_plus text) × (digits_value 10 (without_leading_plus text) < 2 ^ 32)
+
+-- the number that a text writes; 0 where it writes none, and where there is no text
+abbrev pub IsNumberOf : Option (List ℕ) → ℕ → Type 0
+IsNumberOf None number = number ≡ 0
+IsNumberOf (Some text) number = (IsNumber text × (number ≡ digits_value 10 (without_leading_plus text))) ⊎ ((¬ IsNumber text) × (number ≡ 0))
+
+-- the shape of these numbers, or the first of them that is out of its limits
+abbrev pub IsShape : ℕ → ℕ → ℕ → Result Extent ShapeFault → Type 0
+IsShape cores blocks bytes (Ok shape) = shape ≡ record { cores = cores; blocks = blocks; block_bytes = bytes }
+IsShape cores blocks bytes (Err BadCores) = ¬ IsCoreCount cores
+IsShape cores blocks bytes (Err BadBlocks) = IsCoreCount cores × ¬ IsBlockCount blocks
+IsShape cores blocks bytes (Err BadBytes) = IsCoreCount cores × IsBlockCount blocks × ¬ IsBlockSize bytes
+
+-- the shape that `cores`, `blocks` and `block-bytes` name
+abbrev pub IsShapeOf : List Row → Result Extent ShapeFault → Type 0
+IsShapeOf options made = (cores blocks bytes : ℕ)
+    × IsNumberOf (one_of (codes "cores") options) cores
+    × IsNumberOf (one_of (codes "blocks") options) blocks
+    × IsNumberOf (one_of (codes "block-bytes") options) bytes
+    × IsShape cores blocks bytes made

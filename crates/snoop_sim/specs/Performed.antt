@@ -1,0 +1,52 @@
+-- What the program leaves for what it was asked, and the status that it ends with.
+-- Source: this project's profile.
+use Rattle.std.specs.Prelude.{◌≡◌, ◌⊎◌, ℕ, List, Option, Result, Ok, Err}
+use Rattle.std.specs.Io.KnownBytes.{Appends}
+use Rattle.snoop_trace.specs.Output.{AppendsFront}
+use Rattle.snoop_rules.specs.TableText.{table_text}
+use Rattle.clap.specs.Words.{Text}
+use Rattle.snoop_sim.specs.Asked.{Asks, Refuses}
+use Rattle.snoop_sim.specs.Simulated.{Simulates}
+use Rattle.snoop_sim.specs.SimulatedRun.{SimulatesRun}
+use Rattle.snoop_sim.specs.Threaded.{SimulatesThreads}
+use Rattle.snoop_sim.specs.Status.{status_of}
+use Rattle.snoop_sim.specs.declared.fault.SimFault.{SimFault}
+use Rattle.snoop_sim.specs.declared.fault.SimFault.TheVariants.{Text as TextRefused, NoMemory, Write}
+use Rattle.snoop_sim.specs.declared.failure.Failure.{Failure}
+use Rattle.snoop_sim.specs.declared.failure.Failure.TheVariants.{Simulation, Threads as ThreadsFailure}
+use Rattle.snoop_sim.specs.declared.options.Task.{Task}
+use Rattle.snoop_sim.specs.declared.options.Task.TheVariants.{Help, Steps, Run, Threads, Table}
+
+-- a text was written whole; or, out of memory, nothing; or, where a write failed, a beginning; there was none to refuse
+abbrev pub Writes : List ℕ → Result (Unit {0}) SimFault → Option (List ℕ) → Option (List ℕ) → Type 0
+Writes text (Ok u) old new = Appends old new text
+Writes text (Err (TextRefused fault)) old new = ⊥
+Writes text (Err NoMemory) old new = new ≡ old
+Writes text (Err Write) old new = AppendsFront old new text
+
+-- a task ended as its work did: done, or failed with the fault of its work
+abbrev pub EndsAs : {Fault : Type 0} → (Fault → Failure) → Result (Unit {0}) Failure → (Result (Unit {0}) Fault → Type 0) → Type 0
+EndsAs failed (Ok u) Left = Left (Ok u)
+EndsAs {Fault} failed (Err failure) Left = (fault : Fault) × (failure ≡ failed fault) × Left (Err fault)
+
+-- what each task leaves: its engine's output, the table, or the text of help
+abbrev pub Performs : Task → Option (List ℕ) → Result (Unit {0}) Failure → Option (List ℕ) → Option (List ℕ) → Type 0
+Performs (Help help) input ending old new = (text : List ℕ) × EndsAs Simulation ending (λ done. Writes text done old new)
+Performs (Steps protocol shape) input ending old new = EndsAs Simulation ending (λ done. Simulates protocol shape input done old new)
+Performs (Run protocol shape) input ending old new = EndsAs Simulation ending (λ done. SimulatesRun protocol shape input done old new)
+Performs (Threads protocol shape) input ending old new = EndsAs ThreadsFailure ending (λ done. SimulatesThreads protocol shape input done old new)
+Performs (Table protocol which) input ending old new = EndsAs Simulation ending (λ done. Writes (table_text protocol which) done old new)
+
+-- the task that the words ask for was performed; or nothing was begun for them, and nothing written
+abbrev pub Leaves : List Text → Option (List ℕ) → Result (Unit {0}) Failure → Option (List ℕ) → Option (List ℕ) → Type 0
+Leaves words input ending old new = ((task : Task) × Asks words task × Performs task input ending old new)
+    ⊎ ((failure : Failure) × (ending ≡ Err failure) × Refuses words failure × (new ≡ old))
+
+-- the status of an ending
+abbrev pub status_of_ending : Result (Unit {0}) Failure → ℕ
+status_of_ending (Ok u) = 0
+status_of_ending (Err failure) = status_of failure
+
+-- the program, for these words and this input, ended with this status, and left this
+abbrev pub Ends : List Text → Option (List ℕ) → ℕ → Option (List ℕ) → Option (List ℕ) → Type 0
+Ends words input status old new = (ending : Result (Unit {0}) Failure) × (status ≡ status_of_ending ending) × Leaves words input ending old new
