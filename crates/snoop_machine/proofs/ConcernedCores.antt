@@ -21,7 +21,7 @@ use Rattle.snoop_model.specs.Moves.Move.{TakesRow}
 use Rattle.snoop_model.specs.Pictures.Message.{HasRow}
 use Rattle.snoop_machine.specs.CoreSet.{has}
 use Rattle.snoop_machine.specs.Holders.{concerns}
-use Rattle.snoop_machine.proofs.BlockLinesViews.{comes_to_same}
+use Rattle.snoop_machine.proofs.BlockLines.{comes_to_same}
 
 still : (p : Protocol) (s : CacheState) (q : Request) → concerns q s ≡ false → HasRow p s (other q) → Cell p s (other q) action.None s
 unfolding is_owner

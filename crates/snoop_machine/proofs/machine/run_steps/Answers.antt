@@ -8,7 +8,7 @@ use Rattle.snoop_model.specs.Invariant.MachineKeeps.{MachineKeeps}
 use Rattle.snoop_model.specs.Runs.Runs.{HasRun}
 use Rattle.snoop_model.proofs.Invariant.Safety.{is_safe}
 use Rattle.snoop_model.proofs.Runs.Shape.{IsAlike, steps_stay}
-use Rattle.snoop_machine.proofs.Running.{Going, has_run, more_taken, more_refused}
+use Rattle.snoop_machine.proofs.RunSteps.{Going, has_run, more_taken, more_refused}
 use Rattle.snoop_machine.proofs.machine.run_steps.Goals.{then-is_ok, else-is_ok, At-loop-step}
 use Rattle.snoop_machine.proofs.machine.run_steps.Goals as goal
 

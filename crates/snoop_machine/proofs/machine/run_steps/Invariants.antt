@@ -1,6 +1,6 @@
 -- The steps so far have been taken.
 use Rattle.std.proofs.Common.{◌≤◌, take}
-use Rattle.snoop_machine.proofs.Running.{Going}
+use Rattle.snoop_machine.proofs.RunSteps.{Going}
 use Rattle.snoop_machine.proofs.machine.run_steps.Given as goal
 
 abbrev pub invariant-loop-step : goal.invariant-loop-step

@@ -9,7 +9,7 @@ use Rattle.snoop_model.specs.Pictures.Picture.{held_at, nothing_held, kept_on}
 use Rattle.snoop_model.specs.Pictures.Sound.{IsProper}
 use Rattle.snoop_model.specs.Moves.Move.{comes_to}
 use Rattle.snoop_machine.specs.BlockLines.{line_of, lines_of, AreBlockLines}
-use Rattle.snoop_machine.proofs.BlockLinesViews.{in_states, in_held, line_in, row_set, AreBlockLines-set, in_sets, kept_goes, kept_stays}
+use Rattle.snoop_machine.proofs.BlockLines.{in_states, in_held, line_in, row_set, AreBlockLines-set, in_sets, kept_goes, kept_stays}
 use Rattle.snoop_machine.proofs.block_lines.BlockLines.come_to.Goals as goal
 
 pub index_mut-requires : goal.index_mut-requires

@@ -1,7 +1,7 @@
 use Rattle.std.proofs.Common.{get_or, arith, sym, ap, ◌∙◌}
 use Rattle.snoop_model.specs.Pictures.Picture.{nothing_held}
 use Rattle.snoop_machine.specs.BlockLines.{line_of}
-use Rattle.snoop_machine.proofs.BlockLinesViews.{in_states, in_held, line_in}
+use Rattle.snoop_machine.proofs.BlockLines.{in_states, in_held, line_in}
 use Rattle.snoop_machine.proofs.block_lines.BlockLines.get.Goals as goal
 
 pub index-requires : goal.index-requires

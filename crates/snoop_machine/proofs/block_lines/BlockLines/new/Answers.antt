@@ -10,7 +10,7 @@ use Rattle.snoop_machine.specs.Holders.{AreHolders}
 use Rattle.snoop_machine.specs.BlockLines.{lines_of}
 use Rattle.snoop_model.proofs.Lists.Facts.{replicated}
 use Rattle.snoop_model.proofs.Invariant.Runs.{nothing_proper}
-use Rattle.snoop_machine.proofs.BlockLinesViews.{replicate-lines_of}
+use Rattle.snoop_machine.proofs.BlockLines.{replicate-lines_of}
 use Rattle.snoop_machine.proofs.block_lines.BlockLines.new.Goals as goal
 
 empty : Held

@@ -1,6 +1,6 @@
 use Rattle.std.proofs.Common.{arith}
 use Rattle.snoop_machine.specs.declared.block_lines.Held.{Held}
-use Rattle.snoop_machine.proofs.BlockLinesViews.{in_states, in_held, in_sets, row_set, AreBlockLines-set}
+use Rattle.snoop_machine.proofs.BlockLines.{in_states, in_held, in_sets, row_set, AreBlockLines-set}
 use Rattle.snoop_machine.proofs.block_lines.BlockLines.set.Goals as goal
 
 pub index_mut-requires : goal.index_mut-requires

@@ -2,7 +2,7 @@ use Rattle.std.proofs.Common.{None, arith, sym, ap, ◌∙◌}
 use Rattle.snoop_model.specs.declared.line.Line.{Line}
 use Rattle.snoop_machine.specs.declared.block_lines.Held.{Held}
 use Rattle.snoop_model.specs.Pictures.Picture.{nothing_held}
-use Rattle.snoop_machine.proofs.BlockLinesViews.{in_states, line_in}
+use Rattle.snoop_machine.proofs.BlockLines.{in_states, line_in}
 use Rattle.snoop_machine.proofs.block_lines.BlockLines.state.Goals as goal
 
 pub index-requires : goal.index-requires

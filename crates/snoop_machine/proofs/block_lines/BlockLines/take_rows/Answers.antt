@@ -10,7 +10,7 @@ use Rattle.snoop_model.specs.Pictures.Picture.{held_at, nothing_held}
 use Rattle.snoop_model.specs.Moves.Move.{comes_to}
 use Rattle.snoop_model.specs.Pictures.Message.{HasRow}
 use Rattle.snoop_model.proofs.Tables.Rows.{IsProper-order}
-use Rattle.snoop_machine.proofs.BlockLinesViews.{comes_to_same}
+use Rattle.snoop_machine.proofs.BlockLines.{comes_to_same}
 use Rattle.snoop_model.proofs.Lines.EachRow.{Taking, Taking-more, Taking-past}
 use Rattle.snoop_machine.proofs.ConcernedCores.{concerned_within, TakesRow-passed}
 use Rattle.snoop_machine.proofs.block_lines.BlockLines.take_rows.Goals as goal

@@ -17,11 +17,11 @@ use Rattle.snoop_machine.specs.Arrive.{FillsLine, ArrivesIn}
 use Rattle.snoop_model.specs.Moves.Move.{Arrives, Responds, came_of, next_did}
 use Rattle.snoop_model.proofs.Lines.EachRow.{row_of}
 use Rattle.snoop_model.proofs.Lines.OneLine.{placed}
-use Rattle.snoop_machine.proofs.Kept.{IsSound-line}
-use Rattle.snoop_machine.proofs.Queued.{IsSound-close}
+use Rattle.snoop_machine.proofs.LineWrites.{IsSound-line}
+use Rattle.snoop_machine.proofs.QueueViews.{IsSound-close}
 use Rattle.snoop_model.proofs.Tables.Rows.{fill-waits, IsProper-fill}
-use Rattle.snoop_machine.proofs.Responding.{Arrives-get, ArrivesAtMemory-in}
-use Rattle.snoop_machine.proofs.Heads.{same_situation}
+use Rattle.snoop_machine.proofs.Responses.{Arrives-get, ArrivesAtMemory-in}
+use Rattle.snoop_machine.proofs.QueueHeads.{same_situation}
 use Rattle.snoop_machine.proofs.parts.Parts.finish_get.Goals as goal
 
 pub invariant_of-self : goal.invariant_of-self

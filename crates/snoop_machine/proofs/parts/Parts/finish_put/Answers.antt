@@ -13,9 +13,9 @@ use Rattle.snoop_machine.specs.PartsView.{queues_of}
 use Rattle.snoop_machine.specs.Arrive.{ArrivesIn}
 use Rattle.snoop_model.specs.Moves.Move.{Responds, came_of}
 use Rattle.snoop_model.proofs.Lines.EachRow.{row_of}
-use Rattle.snoop_machine.proofs.Queued.{IsSound-close}
-use Rattle.snoop_machine.proofs.Responding.{Arrives-put, ArrivesAtMemory-in}
-use Rattle.snoop_machine.proofs.Heads.{same_situation}
+use Rattle.snoop_machine.proofs.QueueViews.{IsSound-close}
+use Rattle.snoop_machine.proofs.Responses.{Arrives-put, ArrivesAtMemory-in}
+use Rattle.snoop_machine.proofs.QueueHeads.{same_situation}
 use Rattle.snoop_machine.proofs.parts.Parts.finish_put.Goals as goal
 
 pub invariant_of-self : goal.invariant_of-self

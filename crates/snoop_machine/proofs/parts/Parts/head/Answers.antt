@@ -6,7 +6,7 @@ use Rattle.snoop_bus.specs.Traffic.{head_of}
 use Rattle.snoop_model.specs.Moves.Standing.{Standing}
 use Rattle.snoop_model.specs.Moves.Refuses.{WaitsOnNone}
 use Rattle.snoop_model.specs.Moves.OrderMove.{IsHead}
-use Rattle.snoop_machine.proofs.Heads.{line_from_head, waits_from_head, idle_from_head, within_from_waits, empty_from_head}
+use Rattle.snoop_machine.proofs.QueueHeads.{line_from_head, waits_from_head, idle_from_head, within_from_waits, empty_from_head}
 use Rattle.snoop_machine.proofs.parts.Parts.head.Goals as goal
 use Rattle.snoop_machine.proofs.parts.Parts.head.Goals.{After-head}
 

@@ -4,7 +4,7 @@ use Rattle.snoop_model.specs.declared.line.Line.{Line}
 use Rattle.snoop_history.specs.Journal.{Journal}
 use Rattle.snoop_model.specs.Moves.Standing.{Standing}
 use Rattle.snoop_model.specs.Pictures.Sound.{IsSound, line_at}
-use Rattle.snoop_machine.proofs.Kept.{IsSound-line}
+use Rattle.snoop_machine.proofs.LineWrites.{IsSound-line}
 use Rattle.snoop_machine.proofs.parts.Parts.hit_line.Goals as goal
 
 pub invariant_of-self : goal.invariant_of-self

@@ -10,10 +10,10 @@ use Rattle.snoop_model.specs.declared.line.Line.{Line}
 use Rattle.snoop_model.specs.Moves.Standing.{Standing}
 use Rattle.snoop_model.specs.Pictures.Situation.{Situation}
 use Rattle.snoop_model.specs.Pictures.Sound.{IsSound, line_at}
-use Rattle.snoop_machine.proofs.Capacity.{held_in, held_in-set, keeps_room}
-use Rattle.snoop_machine.proofs.Kept.{IsSound-issue}
+use Rattle.snoop_machine.proofs.Room.{held_in, held_in-set, keeps_room}
+use Rattle.snoop_machine.proofs.LineWrites.{IsSound-issue}
 use Rattle.snoop_model.proofs.Lines.OneLine.{placed}
-use Rattle.snoop_machine.proofs.Queued.{queues_of-issue, same_traffic}
+use Rattle.snoop_machine.proofs.QueueViews.{queues_of-issue, same_traffic}
 use Rattle.snoop_machine.proofs.parts.Parts.issue_line.Goals as goal
 
 pub invariant_of-self : goal.invariant_of-self

@@ -6,8 +6,8 @@ use Rattle.snoop_model.specs.Moves.Standing.{Standing}
 use Rattle.snoop_model.specs.Pictures.Sound.{IsProper, line_at}
 use Rattle.snoop_machine.specs.Asked.{TakesAsk, RefusesAsk}
 use Rattle.snoop_model.specs.Moves.Meets.{LacksAtAsk}
-use Rattle.snoop_machine.proofs.Rowed.{ask_possible}
-use Rattle.snoop_machine.proofs.Planned.{IsDenied-ask, plan-allowed}
+use Rattle.snoop_machine.proofs.PossibleLookups.{ask_possible}
+use Rattle.snoop_machine.proofs.Plans.{IsDenied-ask, plan-allowed}
 use Rattle.snoop_machine.proofs.parts.Parts.plan_ask.Goals as goal
 
 pub returns-in_err-asked-clause-denied : goal.returns-in_err-asked-clause-denied

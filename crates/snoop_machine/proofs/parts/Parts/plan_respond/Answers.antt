@@ -8,7 +8,7 @@ use Rattle.snoop_model.specs.Moves.Standing.{Standing}
 use Rattle.snoop_model.specs.Pictures.Situation.{picture_of, no_memory}
 use Rattle.snoop_model.specs.Pictures.Sound.{line_at}
 use Rattle.snoop_model.specs.Moves.Meets.{LacksAtArrival, LacksAtMemory}
-use Rattle.snoop_machine.proofs.Rowed.{arrival_possible, fill_possible}
+use Rattle.snoop_machine.proofs.PossibleLookups.{arrival_possible, fill_possible}
 use Rattle.snoop_machine.proofs.parts.Parts.plan_respond.Goals as goal
 use Rattle.snoop_machine.proofs.parts.Parts.plan_respond.Goals.{in-PutM, in_default-matches}
 

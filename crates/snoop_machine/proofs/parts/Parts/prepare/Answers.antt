@@ -2,7 +2,7 @@ use Rattle.std.proofs.Common.{sym, subst}
 use Rattle.std.proofs.lemmas.Result.{err_from_is_err_and}
 use Rattle.snoop_model.specs.Pictures.Situation.{Situation}
 use Rattle.snoop_machine.specs.Plan.{IsPlanFor}
-use Rattle.snoop_machine.proofs.Planned.{RefusedFor-memory, IsPrepared-plan}
+use Rattle.snoop_machine.proofs.Plans.{RefusedFor-memory, IsPrepared-plan}
 use Rattle.snoop_machine.proofs.parts.Parts.prepare.Goals as goal
 
 pub returns-in_err-make_room-clause-refused : goal.returns-in_err-make_room-clause-refused

@@ -4,8 +4,8 @@ use Rattle.snoop_bus.specs.Traffic.{Traffic, Waiting, waiting_of}
 use Rattle.snoop_machine.specs.declared.parts.Parts.TheInside.{Inside}
 use Rattle.snoop_model.specs.Moves.Standing.{Standing}
 use Rattle.snoop_model.specs.Pictures.Sound.{IsSound}
-use Rattle.snoop_machine.proofs.Capacity.{held_in, held_in-set, keeps_room}
-use Rattle.snoop_machine.proofs.Queued.{queues_of-room, same_traffic, IsSound-room}
+use Rattle.snoop_machine.proofs.Room.{held_in, held_in-set, keeps_room}
+use Rattle.snoop_machine.proofs.QueueViews.{queues_of-room, same_traffic, IsSound-room}
 use Rattle.snoop_machine.proofs.parts.Parts.reserve_request.Goals as goal
 
 pub invariant_of-self : goal.invariant_of-self

@@ -6,8 +6,8 @@ use Rattle.std.proofs.Common.{rules, arith, ◌≡◌, ℕ, List, [], replicate,
 use Rattle.snoop_history.specs.Journal.{Journal}
 use Rattle.snoop_model.specs.declared.line.Line.{Line}
 use Rattle.snoop_model.specs.Pictures.Sound.{IsSound}
-use Rattle.snoop_machine.proofs.Reset.{IsSound-reset, queues_of-reset}
-use Rattle.snoop_machine.proofs.Heads.{same_situation}
+use Rattle.snoop_machine.proofs.AtReset.{IsSound-reset, queues_of-reset}
+use Rattle.snoop_machine.proofs.QueueHeads.{same_situation}
 use Rattle.snoop_machine.proofs.parts.Parts.reset.Goals as goal
 
 pub invariant_of-result : goal.invariant_of-result

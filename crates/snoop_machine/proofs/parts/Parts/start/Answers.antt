@@ -20,11 +20,11 @@ use Rattle.std.specs.Vec.{with_item}
 use Rattle.snoop_model.specs.Moves.Move.{Orders}
 use Rattle.snoop_model.specs.Pictures.Message.{HasRow, IsMessage}
 use Rattle.snoop_model.specs.Moves.OrderMove.{IsHead, TakesMemRow}
-use Rattle.snoop_machine.proofs.Capacity.{held_in, held_in-set, keeps_room}
+use Rattle.snoop_machine.proofs.Room.{held_in, held_in-set, keeps_room}
 use Rattle.snoop_model.proofs.Lines.EachRow.{row_of}
-use Rattle.snoop_machine.proofs.Heads.{head_from_line, same_situation}
-use Rattle.snoop_machine.proofs.Ordered.{IsSound-order, blocks_of-rest}
-use Rattle.snoop_machine.proofs.Queued.{queues_of-set, queue_of-queues_of, same_traffic}
+use Rattle.snoop_machine.proofs.QueueHeads.{head_from_line, same_situation}
+use Rattle.snoop_machine.proofs.AfterOrders.{IsSound-order, blocks_of-rest}
+use Rattle.snoop_machine.proofs.QueueViews.{queues_of-set, queue_of-queues_of, same_traffic}
 use Rattle.snoop_machine.proofs.parts.Parts.start.Goals as goal
 use Rattle.snoop_machine.proofs.parts.Parts.start.Goals.{After-take_rows, After-index_mut, After-start}
 

@@ -5,7 +5,7 @@ use Rattle.snoop_model.specs.Pictures.Situation.{Situation}
 use Rattle.snoop_model.specs.Moves.Move.{FirstMove}
 use Rattle.snoop_machine.specs.Plan.{step_of, entry_of}
 use Rattle.snoop_model.proofs.Runs.Prepared.{prepared-log}
-use Rattle.snoop_machine.proofs.Planned.{RefusedFor-memory}
+use Rattle.snoop_machine.proofs.Plans.{RefusedFor-memory}
 use Rattle.snoop_machine.proofs.parts.Parts.step.Goals as goal
 
 pub returns-in_err-make_room-clause-refused : goal.returns-in_err-make_room-clause-refused

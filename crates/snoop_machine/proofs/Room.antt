@@ -9,7 +9,7 @@ use Rattle.snoop_bus.specs.Queues.{queue_of}
 use Rattle.snoop_machine.specs.declared.parts.Parts.TheInside.{Inside}
 use Rattle.snoop_model.specs.Moves.Standing.{Standing, KeepsRoom}
 use Rattle.snoop_machine.specs.PartsView.{queues_of, standing}
-use Rattle.snoop_machine.proofs.Queued.{queue_of-queues_of}
+use Rattle.snoop_machine.proofs.QueueViews.{queue_of-queues_of}
 
 -- how many requests of the core find room in all
 abbrev pub held_in : List Waiting → ℕ → ℕ

@@ -17,7 +17,7 @@ use Rattle.snoop_model.specs.Moves.Meets.{LacksAtAsk, LacksAtArrival, LacksAtReq
 use Rattle.snoop_model.specs.Moves.Refuses.{Refuses}
 use Rattle.snoop_model.specs.Invariant.Coherent.{IsCoherent}
 use Rattle.snoop_model.proofs.Invariant.Coherence.{meets_nothing}
-use Rattle.snoop_machine.proofs.Planned.{respond-allowed}
+use Rattle.snoop_machine.proofs.Plans.{respond-allowed}
 
 -- the core has a row for what it is asked
 module _ (s : Situation) (coherent : IsCoherent s) (core block : ℕ) (asking : Op) (in_cores : core < s.shape.cores) (in_blocks : block < s.shape.blocks) where

@@ -17,7 +17,7 @@ use Rattle.snoop_model.specs.Pictures.Sound.{IsSound, IsProper, IsEachOnce, line
 use Rattle.snoop_model.specs.Pictures.Message.{TakesRows}
 use Rattle.snoop_model.proofs.Lines.EachRow.{row_of}
 use Rattle.snoop_model.proofs.Tables.Rows.{own-waits, other-waits, IsProper-order}
-use Rattle.snoop_machine.proofs.Queued.{blocks_of}
+use Rattle.snoop_machine.proofs.QueueViews.{blocks_of}
 
 -- the first of a list that has one
 rest_of : (rs : List (Request × ℕ)) (q : Request) (b : ℕ) → slice_get rs 0 ≡ Some (q, b) → rs ≡ (q, b) ∷ drop 1 rs

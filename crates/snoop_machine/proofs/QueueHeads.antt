@@ -21,7 +21,7 @@ use Rattle.snoop_bus.specs.declared.transactions.Open.{Open}
 use Rattle.snoop_history.specs.declared.items.Item.{Item}
 use Rattle.snoop_model.specs.declared.memory.MemLine.{MemLine}
 use Rattle.snoop_model.specs.Pictures.Situation.{Situation}
-use Rattle.snoop_machine.proofs.Queued.{blocks_of, queue_of-queues_of}
+use Rattle.snoop_machine.proofs.QueueViews.{blocks_of, queue_of-queues_of}
 
 first_of : (rs : List (Request × ℕ)) (block : ℕ) → slice_get (blocks_of rs) 0 ≡ Some block → (q : Request) × (slice_get rs 0 ≡ Some (q, block))
 first_of [] block h = cc
