@@ -21,9 +21,9 @@ ghost use Rattle.snoop_model.specs.Runs.Once.{OnceMore};
 ghost use Rattle.snoop_model.specs.Runs.Runs.{HasRun};
 
 use crate::parts::Parts;
-use snoop_model::{Refused, Reply};
 use snoop_bus::Open;
 use snoop_history::{Item, Log};
+use snoop_model::{Refused, Reply};
 use snoop_rules::{CacheState, MemState, Protocol};
 use snoop_trace::{NoMemory, Shape, Step};
 use std::alloc::Global;

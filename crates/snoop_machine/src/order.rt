@@ -8,9 +8,7 @@ ghost use Rattle.snoop_model.specs.Moves.Meets.{FindsRows};
 ghost use Rattle.snoop_model.specs.Pictures.Message.{free_picture, HasRow, IsMessage, TakesRows, memory_message};
 
 use crate::block_lines::BlockLines;
-use snoop_model::Line;
-use snoop_model::MemLine;
-use snoop_model::Message;
+use snoop_model::{Line, MemLine, Message};
 use snoop_rules::{
     CacheAction, CacheEvent, CacheState, MemAction, MemCell, MemEvent, Payload, Protocol, Request,
     cache_cell, mem_cell,

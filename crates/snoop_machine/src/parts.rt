@@ -12,10 +12,9 @@ mod respond;
 mod step;
 
 use crate::lines::Lines;
-use snoop_model::Line;
-use snoop_model::MemLine;
 use snoop_bus::{Bus, Open};
 use snoop_history::{Did, Log};
+use snoop_model::{Line, MemLine};
 use snoop_rules::{CacheState, MemState, Protocol};
 use snoop_trace::{NoMemory, Op, Shape};
 use std::alloc::Global;

@@ -1,9 +1,8 @@
 //! What a step will do, as it was found.
 use crate::ask::Asked;
-use snoop_model::MemLine;
-use snoop_model::Message;
 use crate::respond::Filled;
 use snoop_bus::Open;
+use snoop_model::{MemLine, Message};
 use snoop_rules::{MemState, Request};
 use snoop_trace::Op;
 

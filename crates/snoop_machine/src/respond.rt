@@ -4,8 +4,7 @@ ghost use Rattle.snoop_model.specs.Pictures.Sound.{IsProper};
 ghost use Rattle.snoop_model.specs.Moves.Meets.{LacksAtArrival, LacksAtMemory};
 ghost use Rattle.snoop_machine.specs.Arrive.{FillsLine, ArrivesIn};
 
-use snoop_model::Line;
-use snoop_model::MemLine;
+use snoop_model::{Line, MemLine};
 use snoop_rules::{
     CacheAction, CacheEvent, MemAction, MemEvent, MemState, Payload, Protocol, Request, cache_cell,
     mem_cell,

@@ -22,7 +22,7 @@ is_simple_snoop steps run threads table tables = refl
 -- so the command that was found is the one that the words name
 pub command_named : (app : App) (words : List Text) (matches : ArgMatches) → IsSnoop app → HasMatchesOf app words matches
     → subcommand_rows_of matches ≡ subcommand_of app words
-command_named app words matches (steps, run, threads, table, tables, is) has =
+command_named app words matches (steps, run, threads, table, tables, _, _, _, _, _, is) has =
     (has (ap is_simple is ∙ is_simple_snoop steps run threads table tables)).1
 
 -- the words ask for the task of that command

@@ -1,6 +1,6 @@
 -- The command line that the program understands, as the crate `clap` describes one.
 -- Source: this project's profile.
-use Rattle.std.specs.Prelude.{◌≡◌, ℕ, List, [], ◌∷◌, Some, codes, true, false, pos}
+use Rattle.std.specs.Prelude.{◌≡◌, ℕ, List, [], ◌∷◌, Some, codes, map, true, false, pos}
 use Rattle.std.specs.Borrow.{Bor}
 use Rattle.clap.specs.Words.{App, Rule, new_app, new_rule, with_rule, with_subcommand}
 use Rattle.clap.specs.declared.builder.command.Command.{Command}
@@ -19,6 +19,14 @@ number_rule name default = option_rule name default (parser.Signed (pos 0) (pos 
 -- the names that an option takes
 abbrev pub Names : Type 0
 Names = Bor (List (Bor (List ℕ)))
+
+-- those of `--protocol`
+abbrev pub IsProtocols : Names → Type 0
+IsProtocols names = map (λ name. name.now) names.now ≡ codes "msi" ∷ codes "mesi" ∷ []
+
+-- those of `--which`
+abbrev pub IsTables : Names → Type 0
+IsTables names = map (λ name. name.now) names.now ≡ codes "cache" ∷ codes "memory" ∷ []
 
 -- a protocol, in either case
 abbrev pub protocol_rule : Names → Rule
@@ -47,7 +55,9 @@ snoop_app steps run threads table tables =
 
 -- `clap`'s description of it
 abbrev pub IsSnoop : App → Type 0
-IsSnoop app = (steps run threads table tables : Names) × (app ≡ snoop_app steps run threads table tables)
+IsSnoop app = (steps run threads table tables : Names)
+    × IsProtocols steps × IsProtocols run × IsProtocols threads × IsProtocols table × IsTables tables
+    × (app ≡ snoop_app steps run threads table tables)
 
 -- no option of the command is one of its subcommands' too
 abbrev pub IsLocal : Command → Type 0

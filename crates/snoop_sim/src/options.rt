@@ -2,7 +2,7 @@
 ghost use Rattle.std.specs.Prelude.{◌≡◌, IfErr, IfOk, codes, false, map, string_bytes};
 ghost use Rattle.clap.specs.Words.{app_of, first_of, found_of, one_of, rows_of, rule_of, subcommand_rows_of};
 ghost use Rattle.snoop_sim.specs.Asked.{Asks, HasNoTask, HasTask, Refuses};
-ghost use Rattle.snoop_sim.specs.CommandLine.{IsLocal, IsSnoop, Names, number_rule, protocol_rule, simulation_app, table_app};
+ghost use Rattle.snoop_sim.specs.CommandLine.{IsLocal, IsProtocols, IsSnoop, IsTables, Names, number_rule, protocol_rule, simulation_app, table_app};
 ghost use Rattle.snoop_sim.specs.Options.{IsNumberOf, IsShapeOf, protocol_named, which_named};
 
 use crate::failure::Failure;
@@ -174,7 +174,7 @@ fn grammar<'a>(alloc: Global) -> Result<Command<'a>, AllocError>
         .subcommand(simulation(
             alloc,
             "threads",
-            "Let a thread for each core do its rows of standard input, and write the steps that were taken",
+            "Let a thread for each core do its rows of standard input, and write the steps taken",
             THREADS_HELP,
         )?)?
         .subcommand(table(alloc)?)
@@ -187,7 +187,7 @@ fn simulation<'a>(
     about: &'a str,
     help: &'a str,
 ) -> Result<Command<'a>, AllocError>
-    ensures { IfOk result (λ command. IsLocal command × ((protocols : Names) × (app_of command ≡ simulation_app name.entry.now protocols))) }
+    ensures { IfOk result (λ command. IsLocal command × ((protocols : Names) × IsProtocols protocols × (app_of command ≡ simulation_app name.entry.now protocols))) }
 {
     Command::new(alloc, name)
         .about(about)
@@ -204,16 +204,16 @@ fn simulation<'a>(
             alloc,
             "block-bytes",
             "64",
-            "How many bytes a block has, a power of two up to 4096",
+            "Bytes of a block, a power of two up to 4096",
         ))
 }
 
 fn table<'a>(alloc: Global) -> Result<Command<'a>, AllocError>
-    ensures { IfOk result (λ command. IsLocal command × ((protocols tables : Names) × (app_of command ≡ table_app protocols tables))) }
+    ensures { IfOk result (λ command. IsLocal command × ((protocols tables : Names) × IsProtocols protocols × IsTables tables × (app_of command ≡ table_app protocols tables))) }
 {
     let which = Arg::new(alloc, "which")
         .long("which")
-        .help("Whose table: the cache controllers' or the memory controller's")
+        .help("Whose table it is")
         .value_parser(ValueParser::Names(TABLES.as_slice()))
         .default_value("cache");
     Command::new(alloc, "table")
@@ -224,11 +224,11 @@ fn table<'a>(alloc: Global) -> Result<Command<'a>, AllocError>
 }
 
 fn protocol<'a>(alloc: Global) -> Arg<'a>
-    ensures { (result.global ≡ false) × ((protocols : Names) × (rule_of result ≡ protocol_rule protocols)) }
+    ensures { (result.global ≡ false) × ((protocols : Names) × IsProtocols protocols × (rule_of result ≡ protocol_rule protocols)) }
 {
     Arg::new(alloc, "protocol")
         .long("protocol")
-        .help("The coherence protocol")
+        .help("The protocol")
         .value_parser(ValueParser::Names(PROTOCOLS.as_slice()))
         .ignore_case(true)
         .default_value("msi")

@@ -17,10 +17,9 @@ ghost use Rattle.snoop_model.specs.declared.replies.Refused.{Refused};
 
 use super::Parts;
 use crate::ask::{Asked, ask};
-use snoop_model::Line;
 use crate::plan::Plan;
-use snoop_model::{Refused, Reply};
 use snoop_history::Item;
+use snoop_model::{Line, Refused, Reply};
 use snoop_rules::Request;
 use snoop_trace::Op;
 

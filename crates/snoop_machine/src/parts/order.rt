@@ -14,11 +14,10 @@ ghost use Rattle.snoop_machine.specs.Plan.{IsPlanFor};
 ghost use Rattle.snoop_model.specs.Invariant.Coherent.{IsCoherent};
 
 use super::Parts;
-use snoop_model::Message;
 use crate::order::event_at_memory;
 use crate::plan::Plan;
-use snoop_model::Refused;
 use snoop_history::{Item, Sent};
+use snoop_model::{Message, Refused};
 use snoop_rules::{MemState, Request, mem_cell};
 
 impl Parts {

@@ -14,12 +14,11 @@ ghost use Rattle.snoop_model.specs.Moves.Refuses.{Refuses};
 ghost use Rattle.snoop_model.specs.declared.replies.Refused.{Refused};
 
 use super::Parts;
-use snoop_model::MemLine;
 use crate::plan::Plan;
-use snoop_model::Refused;
 use crate::respond::{Filled, arrive, fill};
 use snoop_bus::Open;
 use snoop_history::{Came, Did, Item};
+use snoop_model::{MemLine, Refused};
 use snoop_rules::Request;
 
 impl Parts {

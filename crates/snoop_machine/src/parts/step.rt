@@ -16,9 +16,9 @@ use super::Parts;
 use super::respond::came;
 use crate::ask::Asked;
 use crate::plan::Plan;
-use snoop_model::{Refused, Reply};
 use snoop_bus::Open;
 use snoop_history::{Did, Item, Sent};
+use snoop_model::{Refused, Reply};
 use snoop_trace::{NoMemory, Step};
 
 impl Parts {

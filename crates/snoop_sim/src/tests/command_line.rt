@@ -89,7 +89,7 @@ fn help_and_version(rt: HostRuntime) -> Result<(), Fail> {
         ),
         (
             "snoop --help",
-            "\n  threads  Let a thread for each core do its rows of standard input, and write the steps that were taken\n",
+            "\n  threads  Let a thread for each core do its rows of standard input, and write the steps taken\n",
         ),
         (
             "snoop --help",

@@ -153,7 +153,9 @@ fn asks_of(alloc: Global, text: &[u8], core: u32) -> Result<Vec<Step>, Fail> {
     let shape = Shape::new(2, 4, 64).ok().ok_or("a shape")?;
     let mut asks = Vec::new(alloc);
     for step in &read_steps(alloc, text, shape).ok().ok_or("steps")? {
-        if let Step::Ask { core: asking, .. } = *step && asking == core {
+        if let Step::Ask { core: asking, .. } = *step
+            && asking == core
+        {
             asks.push(*step)?;
         }
     }

@@ -14,11 +14,11 @@ returns c =
     let explained = keeps_description c.version.result c.about.result _ (ap (λ f. f.has_globals) c.about.ensures) (ap app_of_fields c.about.ensures) versioned in
     let helped = keeps_description c.about.result c.after_help.result _ (ap (λ f. f.has_globals) c.after_help.ensures) (ap app_of_fields c.after_help.ensures) explained in
     let start : Describes c.subcommand_required.result top_app = requires_command c.after_help.result c.subcommand_required.result _ c.subcommand_required.ensures helped in
-    let steps : Describes c.in_ok-simulation.field-0 (simulation_app (codes "steps") c.in_ok-simulation.ensures.1.0) = record { local = c.in_ok-simulation.ensures.0; is = c.in_ok-simulation.ensures.1.1 } in
-    let run : Describes c.in_ok-simulation-2.field-0 (simulation_app (codes "run") c.in_ok-simulation-2.ensures.1.0) = record { local = c.in_ok-simulation-2.ensures.0; is = c.in_ok-simulation-2.ensures.1.1 } in
-    let threads : Describes c.in_ok-simulation-3.field-0 (simulation_app (codes "threads") c.in_ok-simulation-3.ensures.1.0) = record { local = c.in_ok-simulation-3.ensures.0; is = c.in_ok-simulation-3.ensures.1.1 } in
-    let table : Describes c.in_ok-table.field-0 (table_app c.in_ok-table.ensures.1.0 c.in_ok-table.ensures.1.1) = record { local = c.in_ok-table.ensures.0; is = c.in_ok-table.ensures.1.2 } in
+    let steps : Describes c.in_ok-simulation.field-0 (simulation_app (codes "steps") c.in_ok-simulation.ensures.1.0) = record { local = c.in_ok-simulation.ensures.0; is = c.in_ok-simulation.ensures.1.2 } in
+    let run : Describes c.in_ok-simulation-2.field-0 (simulation_app (codes "run") c.in_ok-simulation-2.ensures.1.0) = record { local = c.in_ok-simulation-2.ensures.0; is = c.in_ok-simulation-2.ensures.1.2 } in
+    let threads : Describes c.in_ok-simulation-3.field-0 (simulation_app (codes "threads") c.in_ok-simulation-3.ensures.1.0) = record { local = c.in_ok-simulation-3.ensures.0; is = c.in_ok-simulation-3.ensures.1.2 } in
+    let table : Describes c.in_ok-table.field-0 (table_app c.in_ok-table.ensures.1.0 c.in_ok-table.ensures.1.1) = record { local = c.in_ok-table.ensures.0; is = c.in_ok-table.ensures.1.4 } in
     let one = adds_command _ _ c.in_ok-subcommand.field-0 _ _ start steps c.in_ok-subcommand.ensures in
     let two = adds_command _ _ c.in_ok-subcommand-2.field-0 _ _ one run c.in_ok-subcommand-2.ensures in
     let three = adds_command _ _ c.in_ok-subcommand-3.field-0 _ _ two threads c.in_ok-subcommand-3.ensures in
-    IfOk-weaker c.subcommand-4.result _ _ (λ command adds. let four = adds_command _ _ command _ _ three table adds in (_, _, _, _, _, four.is)) c.subcommand-4.ensures
+    IfOk-weaker c.subcommand-4.result _ _ (λ command adds. let four = adds_command _ _ command _ _ three table adds in (_, _, _, _, _, c.in_ok-simulation.ensures.1.1, c.in_ok-simulation-2.ensures.1.1, c.in_ok-simulation-3.ensures.1.1, c.in_ok-table.ensures.1.2, c.in_ok-table.ensures.1.3, four.is)) c.subcommand-4.ensures

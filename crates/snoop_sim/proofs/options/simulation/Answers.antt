@@ -9,11 +9,11 @@ pub returns : goal.returns
 returns c =
     let names = c.protocol.ensures.1.0 in
     let start : Describes c.after_help.result (new_app c.args.name.now) = record { local = search rules; is = search rules } in
-    let protocol : DescribesOption c.protocol.result (protocol_rule names) = record { local = c.protocol.ensures.0; is = c.protocol.ensures.1.1 } in
+    let protocol : DescribesOption c.protocol.result (protocol_rule names) = record { local = c.protocol.ensures.0; is = c.protocol.ensures.1.2 } in
     let cores : DescribesOption c.number.result (number_rule (codes "cores") (codes "2")) = record { local = search rules; is = search rules } in
     let blocks : DescribesOption c.number-2.result (number_rule (codes "blocks") (codes "4")) = record { local = search rules; is = search rules } in
     let bytes : DescribesOption c.number-3.result (number_rule (codes "block-bytes") (codes "64")) = record { local = search rules; is = search rules } in
     let one = adds_option _ _ c.in_ok-arg.field-0 _ _ start protocol c.in_ok-arg.ensures in
     let two = adds_option _ _ c.in_ok-arg-2.field-0 _ _ one cores c.in_ok-arg-2.ensures in
     let three = adds_option _ _ c.in_ok-arg-3.field-0 _ _ two blocks c.in_ok-arg-3.ensures in
-    IfOk-weaker c.arg-4.result _ _ (λ command adds. let four = adds_option _ _ command _ _ three bytes adds in (four.local, (names, four.is))) c.arg-4.ensures
+    IfOk-weaker c.arg-4.result _ _ (λ command adds. let four = adds_option _ _ command _ _ three bytes adds in (four.local, (names, c.protocol.ensures.1.1, four.is))) c.arg-4.ensures

@@ -11,7 +11,7 @@ returns c =
     let names = c.protocol.ensures.1.0 in
     let tables = c.as_slice.result in
     let start : Describes c.after_help.result (new_app (codes "table")) = record { local = search rules; is = search rules } in
-    let protocol : DescribesOption c.protocol.result (protocol_rule names) = record { local = c.protocol.ensures.0; is = c.protocol.ensures.1.1 } in
+    let protocol : DescribesOption c.protocol.result (protocol_rule names) = record { local = c.protocol.ensures.0; is = c.protocol.ensures.1.2 } in
     let which : DescribesOption c.default_value-which.result (option_rule (codes "which") (codes "cache") (parser.Names tables)) = record { local = search rules; is = search rules } in
     let one = adds_option _ _ c.in_ok-arg.field-0 _ _ start protocol c.in_ok-arg.ensures in
-    IfOk-weaker c.arg-2.result _ _ (λ command adds. let two = adds_option _ _ command _ _ one which adds in (two.local, (names, tables, two.is))) c.arg-2.ensures
+    IfOk-weaker c.arg-2.result _ _ (λ command adds. let two = adds_option _ _ command _ _ one which adds in (two.local, (names, tables, c.protocol.ensures.1.1, search rules, two.is))) c.arg-2.ensures
