@@ -1,18 +1,17 @@
 #!/usr/bin/env python3
 """An independent reading of the protocol, to hold the program against.
 
-It knows no Rattle: its tables are those of docs/PROTOCOL.md, it keeps every block of every core in plain
-dictionaries, and it recomputes the report from the whole history at the end. It takes texts without faults only:
-of a faulty text or shape it tells no more than that (a line on standard error, status 2, nothing on standard output). Use:
+It knows no Rattle: its tables are those of docs/PROTOCOL.md, its texts those of docs/TEXTS.md, it keeps every block of every core in
+plain dictionaries, and it recomputes the report from the whole history at the end. A refused text is reported as the program reports it
+(a line on standard error, status 1, nothing on standard output). Use:
 
     tools/reference.py steps --protocol mesi < examples/silent_upgrade.steps
     tools/reference.py run --protocol mesi < examples/producer_and_consumer.rows
+    tools/reference.py states --protocol mesi < examples/silent_upgrade.steps
     tools/reference.py storm --cores 8 --blocks 3 --count 1000 > storm.steps
     tools/reference.py table --protocol mesi --which memory
 """
 import argparse
-import csv
-import io
 import os
 import pathlib
 import re
@@ -196,30 +195,82 @@ FIELDS = {"L": ("core", "address"), "S": ("core", "address", "value"), "E": ("co
 
 
 class Faulty(Exception):
-    """A text with a fault, which this reading doesn't take."""
+    """The first faulty record of a text, and its fault."""
 
 
-def number(text):
-    if not re.fullmatch("[0-9]+|0x[0-9A-Fa-f]+", text):
-        raise ValueError(text)
-    return int(text, 16) if text.startswith("0x") else int(text.lstrip("0") or "0")
+def fields_of(text):
+    """The records of a text, each a list of its fields, byte by byte: a quote opens a field that it begins, where two stand for one; what
+    follows the quote that closes it is part of the field as it stands, up to a comma or the end of the line; a quote that is never closed
+    takes the rest of the text; blank lines are no records."""
+    text = text.removeprefix(b"\xef\xbb\xbf")
+    at, end = 0, len(text)
+    while at < end:
+        if text[at] in b"\r\n":
+            at += 1
+            continue
+        record = []
+        while True:  # a field
+            field = bytearray()
+            if text[at:at + 1] == b'"':
+                at += 1
+                while at < end:
+                    if text[at:at + 2] == b'""':
+                        field += b'"'
+                        at += 2
+                    elif text[at:at + 1] == b'"':
+                        at += 1
+                        break
+                    else:
+                        field.append(text[at])
+                        at += 1
+            while at < end and text[at] not in b",\r\n":
+                field.append(text[at])
+                at += 1
+            record.append(bytes(field))
+            if at < end and text[at:at + 1] == b",":
+                at += 1
+                continue
+            break
+        yield record
+
+
+def number(field):
+    """The number that a field writes, if it writes one below 2^64."""
+    if not re.fullmatch(rb"[0-9]+|0x[0-9A-Fa-f]+", field):
+        return None
+    digits = field[2:] if field.startswith(b"0x") else field
+    digits = digits.lstrip(b"0") or b"0"
+    if len(digits) > 20:  # longer than any number below 2^64
+        return None
+    value = int(digits, 16 if field.startswith(b"0x") else 10)
+    return value if value < 2**64 else None
+
+
+def fault_in(record, kinds, options):
+    """The fault of a record, if it has one: the one that stands highest in the table of docs/TEXTS.md."""
+    kind = record[0].decode("latin-1")
+    if len(kind) != 1 or kind not in kinds:
+        return "BadKind"
+    if len(record) - 1 != len(FIELDS[kind]):
+        return "BadFields"
+    numbers = dict(zip(FIELDS[kind], map(number, record[1:])))
+    if None in numbers.values():
+        return "BadNumber"
+    if numbers.get("core", 0) >= options.cores:
+        return "NoCore"
+    if numbers.get("address", 0) // options.block_bytes >= options.blocks:
+        return "NoBlock"
+    return None
 
 
 def records(options, text):
     """The letter and the numbers of each record; a text with a fault is refused whole."""
-    kinds = "LSEOR" if options.command == "steps" else "LSE"
-    limits = {"core": options.cores, "address": options.blocks * options.block_bytes, "value": 2**64}
     read = []
-    csv.field_size_limit(sys.maxsize)
-    try:
-        for row in filter(None, csv.reader(io.StringIO(text.removeprefix("\ufeff"), newline=None))):
-            kind, numbers = row[0], [number(field) for field in row[1:]]
-            names = FIELDS[kind] if kind in tuple(kinds) else None
-            if names is None or len(numbers) != len(names) or any(n >= limits[name] for n, name in zip(numbers, names)):
-                raise ValueError(row)
-            read.append((kind, numbers))
-    except (ValueError, csv.Error):
-        raise Faulty(f"record {len(read) + 1} has a fault, and only texts without faults are taken") from None
+    for record in fields_of(text):
+        fault = fault_in(record, "LSE" if options.command == "run" else "LSEOR", options)
+        if fault:
+            raise Faulty(f"record {len(read) + 1}: {fault}")
+        read.append((record[0].decode(), [number(field) for field in record[1:]]))
     return read
 
 
@@ -231,37 +282,58 @@ def operation(kind, numbers):
 class Lines:
     """Takes steps, and writes the line of each."""
 
-    def __init__(self, options):
+    def __init__(self, options, write=print):
         self.machine = Machine(options.protocol, options.cores, options.blocks)
         self.block_bytes = options.block_bytes
+        self.write = write
 
     def ask(self, core, block, op):
         reply = self.machine.ask(core, block, op)
         value = f",{op[1]}" if op[0] == "Store" else ""
-        print(f"{op[0][0]},{core},{block * self.block_bytes}{value}: {reply}")
+        self.write(f"{op[0][0]},{core},{block * self.block_bytes}{value}: {reply}")
         return reply
 
     def order(self, core):
-        print(f"O,{core}: {self.machine.order(core)}")
+        self.write(f"O,{core}: {self.machine.order(core)}")
 
     def respond(self, block):
-        print(f"R,{block * self.block_bytes}: {self.machine.respond(block)}")
+        self.write(f"R,{block * self.block_bytes}: {self.machine.respond(block)}")
 
     def report(self):
-        print("\n".join(report(self.machine.items)))
+        self.write("\n".join(report(self.machine.items)))
+
+
+    def take(self, kind, numbers):
+        if kind == "O":
+            self.order(numbers[0])
+        elif kind == "R":
+            self.respond(numbers[0] // self.block_bytes)
+        else:
+            self.ask(numbers[0], numbers[1] // self.block_bytes, operation(kind, numbers))
 
 
 def steps(options, text):
     """The lines of each step, then the report."""
     lines = Lines(options)
     for kind, numbers in records(options, text):
-        if kind == "O":
-            lines.order(numbers[0])
-        elif kind == "R":
-            lines.respond(numbers[0] // options.block_bytes)
-        else:
-            lines.ask(numbers[0], numbers[1] // options.block_bytes, operation(kind, numbers))
+        lines.take(kind, numbers)
     lines.report()
+
+
+def states(options, text):
+    """A row of a Markdown table for each step: its line, the states of block 0 in the cores that ever hold it and in memory, and memory's
+    value; what a step changes is bold."""
+    written = ["at reset"]
+    lines = Lines(options, written.append)
+    held = lambda: [lines.machine.line[core, 0].state for core in range(options.cores)] + [str(part) for part in lines.machine.memory[0]]
+    rows = [held()]
+    for kind, numbers in records(options, text):
+        lines.take(kind, numbers)
+        rows.append(held())
+    shown = [place for place in range(options.cores + 2) if place >= options.cores or any(row[place] != "I" for row in rows)]
+    for name, row, before in zip(written, rows, rows[:1] + rows):
+        cells = [row[place] if row[place] == before[place] else f"**{row[place]}**" for place in shown]
+        print("| " + " | ".join([name if name == "at reset" else f"`{name}`"] + cells) + " |")
 
 
 def run(options, text):
@@ -316,7 +388,7 @@ def table(options):
 
 def main():
     parser = argparse.ArgumentParser(description=__doc__, formatter_class=argparse.RawDescriptionHelpFormatter)
-    parser.add_argument("command", choices=("steps", "run", "storm", "table"))
+    parser.add_argument("command", choices=("steps", "run", "states", "storm", "table"))
     parser.add_argument("--protocol", choices=("msi", "mesi"), default="msi")
     parser.add_argument("--cores", type=int, default=2)
     parser.add_argument("--blocks", type=int, default=4)
@@ -331,15 +403,13 @@ def main():
         if options.command in ("storm", "table"):
             {"storm": storm, "table": table}[options.command](options)
         else:
-            {"steps": steps, "run": run}[options.command](options, sys.stdin.buffer.read().decode())
+            {"steps": steps, "run": run, "states": states}[options.command](options, sys.stdin.buffer.read())
         sys.stdout.flush()
     except BrokenPipeError:  # the reader has gone; nothing is left to flush at the end
         os.dup2(os.open(os.devnull, os.O_WRONLY), sys.stdout.fileno())
         sys.exit(1)
-    except UnicodeDecodeError:
-        parser.exit(2, "reference.py: the text is not UTF-8, and only texts without faults are taken\n")
     except Faulty as fault:
-        parser.exit(2, f"reference.py: {fault}\n")
+        parser.exit(1, f"snoop: {fault}\n")
 
 
 if __name__ == "__main__":

@@ -1,0 +1,137 @@
+#!/usr/bin/env python3
+"""Texts of every kind of fault, made by chance from a seed, through the program and through tools/reference.py.
+
+    tools/hostile.py --seed 1 --count 2000
+
+compares standard output, standard error and status of each, prints each text that they answer differently, and ends with 1 where there
+is one. The program is $SNOOP, or else the one that was built last.
+"""
+import argparse
+import contextlib
+import io
+import os
+import pathlib
+import random
+import subprocess
+import sys
+from types import SimpleNamespace
+
+import reference
+
+PROGRAM = os.environ.get("SNOOP", pathlib.Path(__file__).resolve().parent.parent / "crates" / "snoop" / "out" / "snoop")
+SHAPES = [(1, 1, 1), (2, 4, 64), (2, 4, 64), (2, 4, 64), (3, 2, 4096), (4, 16, 1), (256, 4, 64), (1, 300, 2)]
+LINE_ENDS = [b"\n", b"\n", b"\n", b"\r\n", b"\r", b"\n\n", b"\r\n\r\n"]
+HOSTILE = [b"", b" ", b"-1", b"+1", b"0x", b"0X1", b"0xg", b"1.0", b"1e3", b"\xff", b"\xc3\xa9", b"\x00", b"18446744073709551615",
+           b"18446744073709551616", b"0xffffffffffffffff", b"0x10000000000000000", b"0" * 40 + b"1", b"99999999999999999999999999", b"4294967296"]
+
+
+def spelled(chance, value):
+    """A number in one of its spellings."""
+    return chance.choice([str(value), str(value), str(value), hex(value), "0x" + hex(value)[2:].upper(), "000" + str(value)]).encode()
+
+
+def quoted(chance, field):
+    """A field, in quotes now and then."""
+    return b'"' + field.replace(b'"', b'""') + b'"' if chance.random() < 0.1 else field
+
+
+def record(chance, options, kinds):
+    """A record without faults."""
+    kind = chance.choice(kinds)
+    numbers = {"core": options.cores, "address": options.blocks * options.block_bytes, "value": 2**64}
+    parts = [kind.encode()] + [spelled(chance, chance.randrange(numbers[name])) for name in reference.FIELDS[kind]]
+    return [quoted(chance, part) for part in parts]
+
+
+def spoilt(chance, parts, options):
+    """A record with one thing wrong, or almost."""
+    place = chance.randrange(len(parts))
+    match chance.randrange(8):
+        case 0:
+            parts[place] = chance.choice(HOSTILE)
+        case 1:
+            del parts[place]
+        case 2:
+            parts.insert(place, chance.choice([b"0", b"", b"L"]))
+        case 3:
+            parts[0] = chance.choice([b"l", b"X", b"", b" L", b"LL", b"\xff", b'"L', b'L"', b'"L"x', b'"""L"""'])
+        case 4:
+            parts[-1] = spelled(chance, options.cores + chance.randrange(2))
+        case 5:
+            parts[-1] = spelled(chance, options.blocks * options.block_bytes - chance.randrange(2))
+        case 6:
+            parts[place] = b'"' + parts[place]
+        case 7:
+            parts[place] += chance.choice([b'"', b" ", b"\t", b"\x00"])
+    return parts or [b""]
+
+
+def text(chance, options):
+    """A text of a few records, and of one kind of damage or none."""
+    kinds = "LSEOR" if options.command == "steps" else "LSE"
+    found = [record(chance, options, kinds) for _ in range(chance.randrange(12))]
+    if found and chance.random() < 0.5:
+        place = chance.randrange(len(found))
+        found[place] = spoilt(chance, found[place], options)
+    ends = [chance.choice(LINE_ENDS)] * len(found) if chance.random() < 0.5 else [chance.choice(LINE_ENDS) for _ in found]
+    made = b"".join(b",".join(parts) + end for parts, end in zip(found, ends))
+    if chance.random() < 0.1:
+        made = b"\xef\xbb\xbf" + made
+    place = chance.randrange(len(made) + 1)
+    match chance.randrange(10):
+        case 0:
+            made = made[:place]
+        case 1:
+            made += made
+        case 2:
+            made = made[:place] + bytes([chance.randrange(256)]) + made[place + 1:]
+        case 3:
+            made = made[:place] + chance.choice([b'"', b",", b"\r", b"\n", b"\xef\xbb\xbf", b"\x00"]) + made[place:]
+        case 4:
+            made = made[:place] + made[place + 1:]
+    return made
+
+
+def by_reference(options, given):
+    """What the second reading answers: status, output, errors."""
+    output = io.StringIO()
+    try:
+        with contextlib.redirect_stdout(output):
+            {"steps": reference.steps, "run": reference.run}[options.command](options, given)
+    except reference.Faulty as fault:
+        return 1, b"", f"snoop: {fault}\n".encode()
+    return 0, output.getvalue().encode(), b""
+
+
+def by_program(options, given):
+    """What the program answers."""
+    words = [PROGRAM, options.command, "--protocol", options.protocol, "--cores", str(options.cores), "--blocks", str(options.blocks),
+             "--block-bytes", str(options.block_bytes)]
+    done = subprocess.run(words, input=given, capture_output=True, check=False)
+    return done.returncode, done.stdout, done.stderr
+
+
+def main():
+    parser = argparse.ArgumentParser(description=__doc__, formatter_class=argparse.RawDescriptionHelpFormatter)
+    parser.add_argument("--seed", type=int, default=1)
+    parser.add_argument("--count", type=int, default=2000)
+    asked = parser.parse_args()
+    chance = random.Random(asked.seed)
+    refused = different = 0
+    for _ in range(asked.count):
+        cores, blocks, block_bytes = chance.choice(SHAPES)
+        options = SimpleNamespace(command=chance.choice(["steps", "run"]), protocol=chance.choice(["msi", "mesi"]),
+                                  cores=cores, blocks=blocks, block_bytes=block_bytes)
+        given = text(chance, options)
+        expected = by_reference(options, given)
+        refused += expected[0] == 1
+        found = by_program(options, given)
+        if found != expected:
+            different += 1
+            print(f"{vars(options)}\n  text {given!r}\n  expected {expected}\n  found {found}")
+    print(f"{asked.count} texts, {refused} of them refused, {different} answered differently")
+    sys.exit(different > 0 or refused in (0, asked.count))
+
+
+if __name__ == "__main__":
+    main()
