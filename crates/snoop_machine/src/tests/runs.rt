@@ -1,6 +1,6 @@
 //! Lists of steps, taken whole.
 
-use crate::tests::support::{ask, machine_of, order, respond, two_cores};
+use crate::tests::support::{UPGRADE_RACE, ask, machine_of, order, respond, two_cores};
 use crate::{Machine, run_steps};
 use snoop_bus::Open;
 use snoop_history::{Came, Did, Item, Totals};
@@ -9,39 +9,6 @@ use snoop_trace::{Op, Step};
 use std::alloc::Global;
 use std::process::Abort;
 use std::test::Fail;
-
-/// Two sharers ask to store; the second one's request is ordered first, and the first one's waits for its answer.
-const UPGRADE_RACE: [Step; 13] = [
-    Step::Ask {
-        core: 0,
-        block: 0,
-        op: Op::Load,
-    },
-    Step::Order { core: 0 },
-    Step::Respond { block: 0 },
-    Step::Ask {
-        core: 1,
-        block: 0,
-        op: Op::Load,
-    },
-    Step::Order { core: 1 },
-    Step::Respond { block: 0 },
-    Step::Ask {
-        core: 0,
-        block: 0,
-        op: Op::Store(5),
-    },
-    Step::Ask {
-        core: 1,
-        block: 0,
-        op: Op::Store(6),
-    },
-    Step::Order { core: 1 },
-    Step::Order { core: 0 },
-    Step::Respond { block: 0 },
-    Step::Order { core: 0 },
-    Step::Respond { block: 0 },
-];
 
 #[test]
 fn a_refused_step_is_passed_over_and_not_counted(rt: HostRuntime) -> Result<(), Fail> {

@@ -6,6 +6,39 @@ use snoop_trace::{Op, Shape, Step};
 use std::alloc::Global;
 use std::test::Fail;
 
+/// Two sharers ask to store; the second one's request is ordered first, and the first one's waits for its answer.
+pub const UPGRADE_RACE: [Step; 13] = [
+    Step::Ask {
+        core: 0,
+        block: 0,
+        op: Op::Load,
+    },
+    Step::Order { core: 0 },
+    Step::Respond { block: 0 },
+    Step::Ask {
+        core: 1,
+        block: 0,
+        op: Op::Load,
+    },
+    Step::Order { core: 1 },
+    Step::Respond { block: 0 },
+    Step::Ask {
+        core: 0,
+        block: 0,
+        op: Op::Store(5),
+    },
+    Step::Ask {
+        core: 1,
+        block: 0,
+        op: Op::Store(6),
+    },
+    Step::Order { core: 1 },
+    Step::Order { core: 0 },
+    Step::Respond { block: 0 },
+    Step::Order { core: 0 },
+    Step::Respond { block: 0 },
+];
+
 /// So many cores, four blocks of 64 bytes.
 pub fn machine_of(alloc: Global, protocol: Protocol, cores: u32) -> Result<Machine, Fail> {
     let shape = Shape::new(cores, 4, 64)?;
