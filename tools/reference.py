@@ -183,8 +183,8 @@ def report(items):
         "from memory %d from caches %d" % (sum(came.sender is None for came in responses),
                                            sum(came.sender is not None and came.request != "PutM" for came in responses)),
         "writebacks %d clean %d stale %d" % (sum(came.request == "PutM" and came.payload == "Data" for came in responses),
-                                             sum(came.payload == "NoDataE" for came in responses),
-                                             sum(came.payload == "NoData" for came in responses)),
+                                             sum(came.request == "PutM" and came.payload == "NoDataE" for came in responses),
+                                             sum(came.request == "PutM" and came.payload == "NoData" for came in responses)),
     ]
     values = dict.fromkeys((item.block for item in items), 0)
     values.update((did.block, did.value) for did in stores)

@@ -107,8 +107,8 @@ totals_of-push items entry few =
       step (responded (λ came. is_none came.from)),
       step (responded (λ came. is_some came.from && not (is_put_m came.request))),
       step (responded (λ came. is_put_m came.request && is_data came.payload)),
-      step (responded (λ came. is_no_data_e came.payload)),
-      step (responded (λ came. is_no_data came.payload)),
+      step (responded (λ came. is_put_m came.request && is_no_data_e came.payload)),
+      step (responded (λ came. is_put_m came.request && is_no_data came.payload)),
     )
 
 pub capped_totals-push : (items : List Item) (entry : Item) → tallied (capped_totals (totals_of items)) entry ≡ capped_totals (totals_of (items ++ entry ∷ []))
@@ -125,8 +125,8 @@ capped_totals-push items entry =
       step (responded (λ came. is_none came.from)),
       step (responded (λ came. is_some came.from && not (is_put_m came.request))),
       step (responded (λ came. is_put_m came.request && is_data came.payload)),
-      step (responded (λ came. is_no_data_e came.payload)),
-      step (responded (λ came. is_no_data came.payload)),
+      step (responded (λ came. is_put_m came.request && is_no_data_e came.payload)),
+      step (responded (λ came. is_put_m came.request && is_no_data came.payload)),
     )
 
 -- the counts and flat values after one more item

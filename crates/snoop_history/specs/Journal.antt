@@ -30,6 +30,6 @@ tallied t entry =
       from_memory = counted t.from_memory (responded (λ came. is_none came.from) entry);
       from_caches = counted t.from_caches (responded (λ came. is_some came.from && not (is_put_m came.request)) entry);
       writebacks = counted t.writebacks (responded (λ came. is_put_m came.request && is_data came.payload) entry);
-      clean = counted t.clean (responded (λ came. is_no_data_e came.payload) entry);
-      stale = counted t.stale (responded (λ came. is_no_data came.payload) entry);
+      clean = counted t.clean (responded (λ came. is_put_m came.request && is_no_data_e came.payload) entry);
+      stale = counted t.stale (responded (λ came. is_put_m came.request && is_no_data came.payload) entry);
     }

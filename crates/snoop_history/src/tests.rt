@@ -218,6 +218,27 @@ fn an_item_outside_the_shape_is_only_counted(rt: HostRuntime) -> Result<(), Fail
     Ok(())
 }
 
+// A response without data that no writeback asked for is no clean eviction, and no stale one.
+#[test]
+fn counts_writebacks_alone(rt: HostRuntime) -> Result<(), Fail> {
+    let shape = Shape::new(2, 4, 64)?;
+    for payload in [Payload::NoDataE, Payload::NoData] {
+        let response = Item::Came(
+            Came {
+                core: 1,
+                request: Request::GetS,
+                block: 2,
+                from: None,
+                payload,
+            },
+            None,
+        );
+        let totals = log_of(rt.alloc(), shape, [response].as_slice())?.totals();
+        assert_eq!(rt; (totals.from_memory, totals.clean, totals.stale), (1, 0, 0));
+    }
+    Ok(())
+}
+
 // Each response to a writeback counts by its payload, and none as one from memory or a cache.
 #[test]
 fn counts_writebacks(rt: HostRuntime) -> Result<(), Fail> {

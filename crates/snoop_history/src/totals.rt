@@ -62,8 +62,8 @@ impl Totals {
         match came.payload {
             Payload::Data => count(&mut self.writebacks, writeback),
             Payload::DataE => {}
-            Payload::NoDataE => count(&mut self.clean, true),
-            Payload::NoData => count(&mut self.stale, true),
+            Payload::NoDataE => count(&mut self.clean, writeback),
+            Payload::NoData => count(&mut self.stale, writeback),
         }
     }
 }
