@@ -5,5 +5,6 @@ pub mod Message
 pub mod Sends
 pub mod OneWriter
 pub mod Current
+pub mod MemoryCurrent
 pub mod Sound
 pub mod InQueue

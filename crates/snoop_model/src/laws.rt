@@ -1,5 +1,5 @@
 //! What holds of every run: calls that do nothing, and ensure it.
-ghost use Rattle.std.specs.Prelude.{◌≡◌, ℕ, Option, Some, None};
+ghost use Rattle.std.specs.Prelude.{◌≡◌, ◌<◌, ℕ, Option, Some, None};
 ghost use Rattle.snoop_trace.specs.declared.step.Step.{Step};
 ghost use Rattle.snoop_rules.specs.declared.names.Request.{Request};
 ghost use Rattle.snoop_history.specs.History.{flat, Legal};
@@ -11,6 +11,7 @@ ghost use Rattle.snoop_model.specs.Runs.Runs.{RoomIsEnough};
 ghost use Rattle.snoop_model.specs.Runs.Tallied.{AskedAreTallied};
 ghost use Rattle.snoop_model.specs.Pictures.OneWriter.{OneWriter};
 ghost use Rattle.snoop_model.specs.Pictures.Current.{IsCurrent};
+ghost use Rattle.snoop_model.specs.Pictures.MemoryCurrent.{IsMemoryCurrent, NamesItsBlock};
 ghost use Rattle.snoop_model.specs.Runs.Once.{Once};
 ghost use Rattle.snoop_model.specs.Moves.Meets.{Meets, FindsRows};
 ghost use Rattle.snoop_model.specs.Moves.Led.{IsLed};
@@ -19,16 +20,19 @@ ghost use Rattle.snoop_model.specs.Pictures.InQueue.{IsInQueue};
 /// Coherence of every run from reset, for every number of cores and blocks, under MSI and MESI.
 ///
 /// Each block has one writer alone, or only readers; the log is legal, and each copy that may be read has the value of the
-/// last store in it; each load and store that was asked stands once in it, or waits; no step meets an impossible cell; a
-/// waiting request of any free block would find all its rows and exactly one sender, and be a line of the table of senders;
-/// a core keeps a value of a block exactly where its state may read, and an operation waits exactly where one has missed; and
-/// each core's queue has the blocks on which it waits, each once.
+/// last store in it; so has data on the bus, and so has memory where no core may write the block and no data is on the bus; an
+/// open transaction is of its block, by a core of the machine; each load and store that was asked stands once in the log, or
+/// waits; no step meets an impossible cell; a waiting request of any free block would find all its rows and exactly one sender,
+/// and be a line of the table of senders; a core keeps a value of a block exactly where its state may read, and an operation
+/// waits exactly where one has missed; and each core's queue has the blocks on which it waits, each once.
 ///
 /// Source: chapters 2 and 7 of "A Primer on Memory Consistency and Cache Coherence", 2nd edition.
 pub fn coherent()
     ensures one_writer { EveryRun (λ protocol steps outcomes s. (block : ℕ) → OneWriter protocol (picture_of s block)) }
     ensures legal { EveryRun (λ protocol steps outcomes s. Legal s.log) }
     ensures current { EveryRun (λ protocol steps outcomes s. (block : ℕ) → IsCurrent protocol (picture_of s block) (flat s.log block)) }
+    ensures memory { EveryRun (λ protocol steps outcomes s. (block : ℕ) → block < s.shape.blocks → IsMemoryCurrent protocol (picture_of s block) (flat s.log block)) }
+    ensures opened { EveryRun (λ protocol steps outcomes s. (block : ℕ) → NamesItsBlock s block) }
     ensures once { EveryRun (λ protocol steps outcomes s. Once steps outcomes s) }
     ensures possible { EveryRun (λ protocol steps outcomes s. (step : Step) → ¬ Meets s step) }
     ensures any_order { EveryRun (λ protocol steps outcomes s. (core block : ℕ) (request : Request) → Waits s core block request → (picture_of s block).transaction ≡ None → FindsRows protocol (picture_of s block) core request) }

@@ -1,13 +1,14 @@
--- What the invariant says of a situation: one writer, all rows, one sender.
+-- What the invariant says of a situation: one writer, current copies and memory, all rows, one sender.
 use Rattle.std.proofs.Common.{◌≡◌, ℕ, true, false, not, ◌||◌, List, [], length, Option, Some, None, refl, ◌⊎◌, inl, inr, ap, sym, ◌∙◌, subst, arith}
-use Rattle.std.specs.Prelude.{slice_index_or, MatchOption, ⊤}
-use Rattle.std.proofs.lemmas.Bool.{cases_lt, and_parts}
+use Rattle.std.specs.Prelude.{◌<◌, slice_index_or, IfSome, MatchOption, ⊤}
+use Rattle.std.proofs.lemmas.Bool.{cases_lt, and_parts, eq-eqb}
 use Rattle.std.proofs.lemmas.List.{get_or_past}
 use Rattle.snoop_trace.specs.declared.step.Op.{Op}
 use Rattle.snoop_trace.specs.declared.step.Op.TheVariants as op
 use Rattle.snoop_trace.specs.declared.step.Step.{Step}
 use Rattle.snoop_trace.specs.declared.step.Step.TheVariants.{Ask, Order, Respond}
 use Rattle.snoop_rules.specs.declared.names.Protocol.{Protocol}
+use Rattle.snoop_rules.specs.declared.names.Protocol.TheVariants.{Msi, Mesi}
 use Rattle.snoop_rules.specs.declared.names.CacheState.{CacheState}
 use Rattle.snoop_rules.specs.declared.names.CacheState.TheVariants as state
 use Rattle.snoop_rules.specs.declared.names.CacheEvent.{CacheEvent}
@@ -20,7 +21,7 @@ use Rattle.snoop_rules.specs.declared.names.Request.TheVariants as request
 use Rattle.snoop_rules.specs.declared.names.Payload.{Payload}
 use Rattle.snoop_rules.specs.WhoSends.{SentAs}
 use Rattle.snoop_rules.specs.Possible.{IsImpossible, IsMemImpossible, MayLoad, MayStore}
-use Rattle.snoop_rules.specs.Takers.{asked, arrival, arrival_at_memory}
+use Rattle.snoop_rules.specs.Takers.{asked, arrival, arrival_at_memory, carries_value}
 use Rattle.snoop_rules.specs.Waits.{waiting_request}
 use Rattle.snoop_rules.specs.Row.{cell_of}
 use Rattle.snoop_rules.proofs.Rows.{cell_of-Cell, Cell-found}
@@ -34,18 +35,20 @@ use Rattle.snoop_model.specs.Pictures.Picture.{Picture, held_at, held_by, nothin
 use Rattle.snoop_model.specs.Pictures.Situation.{Situation, picture_of, Waits}
 use Rattle.snoop_model.specs.Moves.Move.{IsWithin}
 use Rattle.snoop_model.specs.Moves.Meets.{Meets, FindsRows, LacksAtRequestor}
-use Rattle.snoop_model.specs.Pictures.OneWriter.{OneWriter}
+use Rattle.snoop_model.specs.Pictures.OneWriter.{OneWriter, IsWriter}
 use Rattle.snoop_model.specs.Pictures.Current.{IsCurrent}
+use Rattle.snoop_model.specs.Pictures.MemoryCurrent.{IsMemoryCurrent, NamesItsBlock, data_on_bus}
 use Rattle.snoop_model.specs.Moves.Led.{IsLed, OrdersAreLed}
-use Rattle.snoop_model.specs.Invariant.Fits.{is_owner, is_reader}
+use Rattle.snoop_model.specs.Invariant.Fits.{in_protocol, is_clean, is_owner, is_reader, fits}
+use Rattle.snoop_model.specs.Invariant.Good.{Good, awaited, owns, talk_of}
 use Rattle.snoop_model.specs.Invariant.Coherent.{IsCoherent}
 use Rattle.snoop_model.proofs.Tables.Every.{given, given_at}
 use Rattle.snoop_model.proofs.OneBlock.Steps.{is_idle_evict, row_of, mem_row_of}
 use Rattle.snoop_model.proofs.OneBlock.Moves.{sends_by_row, sends_by_cell}
-use Rattle.snoop_model.proofs.OneBlock.Facts.{one_writer, clash, or_not}
+use Rattle.snoop_model.proofs.OneBlock.Facts.{one_writer, fits_is_owner, clash, or_not}
 use Rattle.snoop_model.proofs.OneBlock.Possible.{Possible, order_possible, ask_possible, respond_possible}
 use Rattle.snoop_model.proofs.Tables.SenderLines.{led_line, sender_state}
-use Rattle.snoop_model.proofs.Tables.StateTests.{is_hit, hit_rule, owner_reads}
+use Rattle.snoop_model.proofs.Tables.StateTests.{is_hit, hit_rule, owner_reads, brings_data, resting_rule}
 
 -- a core and a block within the shape, or a core that holds nothing of it
 pub place : (s : Situation) → IsCoherent s → (core block : ℕ) → IsWithin s core block ⊎ (held_by (picture_of s block) core ≡ nothing_held)
@@ -103,6 +106,67 @@ readers_current s g block core reads = elim (place s g core block) [
   | inl within ↦ (g.good block within.1).kept core within.0 (may_load_reads s.protocol (held_by (picture_of s block) core).state reads)
   | inr nothing ↦ let P : Line → Type 0 = λ x. MayLoad s.protocol x.state in absurd (not_reader s.protocol (subst P nothing reads))
 ]
+
+-- an owner may write
+owner_stores : (p : Protocol) (s : CacheState) → in_protocol p s ≡ true → is_owner s ≡ true → MayStore p s
+unfolding in_protocol is_clean is_owner
+owner_stores _ state.M known owns = (state.M, (refl, refl))
+owner_stores _ state.MiA known owns = (state.MiA, (refl, refl))
+owner_stores Mesi state.E known owns = (state.M, (refl, refl))
+owner_stores Mesi state.EiA known owns = (state.MiA, (refl, refl))
+owner_stores Msi state.E known owns = cc
+owner_stores Msi state.EiA known owns = cc
+owner_stores _ _ known owns = cc
+
+-- where no core may write the block, none owns it
+nobody_owns : (p : Protocol) (n value : ℕ) (picture : Picture) (g : Good p n value picture) → ((core : ℕ) → ¬ IsWriter p picture core) → (owner : Option ℕ) → g.owner ≡ owner → g.claims.owned ≡ false
+unfolding fits
+nobody_owns p n value picture g idle None is = sym g.is_owned ∙ rw is refl
+nobody_owns p n value picture g idle (Some o) is =
+    let s = (held_by picture o).state in
+    let fit = g.states o (g.owner_in o is) in
+    let owning : owns g.owner o ≡ true = rw is (eq-eqb o o refl) in
+    absurd (idle o (owner_stores p s (and_parts _ _ fit).0 (fits_is_owner p g.claims.shared (owns g.owner o) (awaited picture.transaction o) s fit ∙ owning)))
+
+no_data : (found : Option Open) → data_on_bus found ≡ None → brings_data (talk_of found) ≡ false
+no_data None none = refl
+no_data (Some o) none = elim (or_not (carries_value o.payload)) as (λ _. carries_value o.payload ≡ false) [
+  | inl e ↦ let h : ◌≡◌ {A = Option ℕ} (Some o.value) None = rw e at none in cc
+  | inr e ↦ e
+]
+
+data_is : (found : Option Open) (value : ℕ) → ((o : Open) → found ≡ Some o → carries_value o.payload ≡ true → o.value ≡ value) → IfSome (data_on_bus found) (λ sent. sent ≡ value)
+data_is None value carried = tt
+data_is (Some o) value carried = elim (or_not (carries_value o.payload)) as (λ _. IfSome (data_on_bus (Some o)) (λ sent. sent ≡ value)) [
+  | inl e ↦ rw e (carried o refl e)
+  | inr e ↦ rw e tt
+]
+
+-- data on the bus has flat memory's value, and so has memory where nobody may write and no data is on the bus
+pub memory_current : (s : Situation) → IsCoherent s → (block : ℕ) → block < s.shape.blocks → IsMemoryCurrent s.protocol (picture_of s block) (flat s.log block)
+memory_current s g block within =
+    let p = s.protocol in
+    let picture : Picture = picture_of s block in
+    let it = g.good block within in
+    record {
+      carried = data_is picture.transaction (flat s.log block) it.carried;
+      held = λ idle none.
+          it.fresh (resting_rule p picture.memory (talk_of picture.transaction) it.claims it.is_claims (nobody_owns p s.shape.cores (flat s.log block) picture it idle it.owner refl) (no_data picture.transaction none));
+    }
+
+-- an open transaction is of its block, by a core of the machine
+pub names_its_block : (s : Situation) → IsCoherent s → (block : ℕ) → NamesItsBlock s block
+names_its_block s g block = go (picture_of s block).transaction refl
+  where
+    go : (found : Option Open) → (picture_of s block).transaction ≡ found → IfSome found (λ o. (o.block ≡ block) × (o.core < s.shape.cores))
+    go None is = tt
+    go (Some o) is = elim (cases_lt block s.shape.blocks) [
+      | inl within ↦ (g.opened block o is, (g.good block within).requestor_in o is)
+      | inr past ↦
+          let long : length s.transactions ≡ s.shape.blocks = g.transactions in
+          let empty : (picture_of s block).transaction ≡ None = get_or_past s.transactions block None (omega arith) in
+          cc
+    ]
 
 -- a core that waits is within the shape, and so is its block
 pub waits_within : (s : Situation) → IsCoherent s → (core block : ℕ) (q : Request) → Waits s core block q → IsWithin s core block

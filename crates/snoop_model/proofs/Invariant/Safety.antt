@@ -19,7 +19,7 @@ use Rattle.snoop_model.specs.Moves.StepMove.{RefusedFor}
 use Rattle.snoop_model.specs.Invariant.Coherent.{IsCoherent}
 use Rattle.snoop_model.specs.Invariant.MachineKeeps.{MachineKeeps}
 use Rattle.snoop_model.specs.Runs.Safe.{IsSafe}
-use Rattle.snoop_model.proofs.Invariant.Coherence.{has_one_writer, readers_current, meets_nothing, orders_are_led, place}
+use Rattle.snoop_model.proofs.Invariant.Coherence.{has_one_writer, readers_current, memory_current, names_its_block, meets_nothing, orders_are_led, place}
 use Rattle.snoop_model.proofs.Invariant.Runs.{reset_coherent, nothing_proper}
 use Rattle.snoop_model.proofs.Queues.Runs.{reset_queued, move_queued}
 use Rattle.snoop_model.proofs.Queues.Moves.{starts_well, keeps_well}
@@ -46,6 +46,8 @@ is_safe s keeps = record {
   one_writer = has_one_writer s keeps.coherent;
   legal = keeps.coherent.legal;
   current = readers_current s keeps.coherent;
+  memory = memory_current s keeps.coherent;
+  opened = names_its_block s keeps.coherent;
   possible = meets_nothing s keeps.coherent;
   orders = orders_are_led s keeps.coherent;
   proper = all_proper s keeps.coherent;

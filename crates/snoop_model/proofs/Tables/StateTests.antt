@@ -1,5 +1,5 @@
 -- Tests of the states and of the table of claims, computed over all of them.
-use Rattle.std.proofs.Common.{◌≡◌, ◌&&◌, ◌||◌, ℕ, Bool, true, false, not, Option, Some, None, refl}
+use Rattle.std.proofs.Common.{◌≡◌, ◌&&◌, ◌||◌, ℕ, Bool, true, false, not, Option, Some, None, refl, ap}
 use Rattle.snoop_rules.specs.declared.names.Protocol.{Protocol}
 use Rattle.snoop_rules.specs.declared.names.CacheState.{CacheState}
 use Rattle.snoop_rules.specs.declared.names.CacheState.TheVariants as state
@@ -56,6 +56,24 @@ pub owned_rule : (p : Protocol) (m : MemState) (t : Option Talk) (st : Claims) �
 owned_rule p m t st is_claims is_owned =
     let h0 : owned_case p m t ≡ true = all_talks-at _ (all_memories-at (λ x. all_talks (λ t. owned_case p x t)) (all_protocols-at (λ x. all_memories (λ m. all_talks (λ t. owned_case x m t))) owned_holds p) m) t in
     when_at _ _ is_owned (given_at _ _ st is_claims h0)
+
+-- the talk brings data
+abbrev pub brings_data : Option Talk → Bool
+brings_data None = false
+brings_data (Some t) = carries_value t.1
+
+-- where no core owns the block and no data is under way, memory is fresh
+abbrev pub resting_case : Protocol → MemState → Option Talk → Bool
+resting_case p m t = given (claims_of p m t) (λ st. when (not st.owned) (λ _. when (not (brings_data t)) (λ _. st.fresh)))
+
+resting_holds : all_protocols (λ p. all_memories (λ m. all_talks (λ t. resting_case p m t))) ≡ true
+unfolding all_talks all_protocols all_memories all_states all_requests all_payloads all_asks all_waits either given when claims_of fits is_owner is_sharer is_clean is_reader wait_fits in_protocol same
+resting_holds = refl
+
+pub resting_rule : (p : Protocol) (m : MemState) (t : Option Talk) (st : Claims) → claims_of p m t ≡ Some st → st.owned ≡ false → brings_data t ≡ false → st.fresh ≡ true
+resting_rule p m t st is_claims unowned no_data =
+    let h0 : resting_case p m t ≡ true = all_talks-at _ (all_memories-at (λ x. all_talks (λ t. resting_case p x t)) (all_protocols-at (λ x. all_memories (λ m. all_talks (λ t. resting_case x m t))) resting_holds p) m) t in
+    when_at _ _ (ap not no_data) (when_at _ _ (ap not unowned) (given_at _ _ st is_claims h0))
 
 abbrev pub alone_case : Protocol → Option Request → CacheState → Bool
 alone_case p w s = when (is_calm w) (λ _. when (fits p false false w s) (λ _. not (is_reader s)))

@@ -5,10 +5,11 @@ use Rattle.snoop_history.specs.History.{flat}
 use Rattle.snoop_model.specs.Pictures.Situation.{picture_of, reset}
 use Rattle.snoop_model.specs.Pictures.OneWriter.{OneWriter}
 use Rattle.snoop_model.specs.Pictures.Current.{IsCurrent}
+use Rattle.snoop_model.specs.Pictures.MemoryCurrent.{IsMemoryCurrent}
 use Rattle.snoop_model.specs.Moves.Meets.{FindsRows}
 use Rattle.snoop_model.specs.Moves.Led.{IsLed}
 use Rattle.snoop_model.proofs.Invariant.Runs.{reset_coherent, run_keeps, run_protocol}
-use Rattle.snoop_model.proofs.Invariant.Coherence.{has_one_writer, readers_current, finds_rows, is_led_order, meets_nothing}
+use Rattle.snoop_model.proofs.Invariant.Coherence.{has_one_writer, readers_current, memory_current, names_its_block, finds_rows, is_led_order, meets_nothing}
 use Rattle.snoop_model.proofs.Invariant.Safety.{all_proper}
 use Rattle.snoop_model.proofs.Once.Runs.{run_asked_once}
 use Rattle.snoop_model.proofs.Queues.Runs.{reset_queued, run_queued}
@@ -24,6 +25,13 @@ returns-clause-legal c p shape steps outcomes new run = (run_keeps steps outcome
 pub returns-clause-current : goal.returns-clause-current
 returns-clause-current c p shape steps outcomes new run block =
     subst (λ (x : Protocol). IsCurrent x (picture_of new block) (flat new.log block)) (run_protocol steps outcomes (reset p shape) new run) (readers_current new (run_keeps steps outcomes (reset p shape) new (reset_coherent p shape) run) block)
+
+pub returns-clause-memory : goal.returns-clause-memory
+returns-clause-memory c p shape steps outcomes new run block within =
+    subst (λ (x : Protocol). IsMemoryCurrent x (picture_of new block) (flat new.log block)) (run_protocol steps outcomes (reset p shape) new run) (memory_current new (run_keeps steps outcomes (reset p shape) new (reset_coherent p shape) run) block within)
+
+pub returns-clause-opened : goal.returns-clause-opened
+returns-clause-opened c p shape steps outcomes new run = names_its_block new (run_keeps steps outcomes (reset p shape) new (reset_coherent p shape) run)
 
 pub returns-clause-possible : goal.returns-clause-possible
 returns-clause-possible c p shape steps outcomes new run = meets_nothing new (run_keeps steps outcomes (reset p shape) new (reset_coherent p shape) run)

@@ -1,0 +1,23 @@
+-- What memory and the bus have of a block.
+-- Source: the data-value invariant of "A Primer on Memory Consistency and Cache Coherence", 2nd edition, as this project's profile puts it for memory and messages.
+use Rattle.std.specs.Prelude.{◌≡◌, ◌<◌, ℕ, Option, Some, None, IfSome, if◌then◌else◌}
+use Rattle.snoop_rules.specs.declared.names.Protocol.{Protocol}
+use Rattle.snoop_rules.specs.Takers.{carries_value}
+use Rattle.snoop_bus.specs.declared.transactions.Open.{Open}
+use Rattle.snoop_model.specs.Pictures.Picture.{Picture}
+use Rattle.snoop_model.specs.Pictures.Situation.{Situation, picture_of}
+use Rattle.snoop_model.specs.Pictures.OneWriter.{IsWriter}
+
+-- the data on the bus, if any: the value of the open transaction's message, where it carries one
+abbrev pub data_on_bus : Option Open → Option ℕ
+data_on_bus None = None
+data_on_bus (Some transaction) = if carries_value transaction.payload then Some transaction.value else None
+
+-- data on the bus has this value, and where no core may write the block and no data is on the bus, memory has it
+pub record IsMemoryCurrent (protocol : Protocol) (picture : Picture) (value : ℕ) : Type 0 where
+  pub carried : IfSome (data_on_bus picture.transaction) (λ sent. sent ≡ value)
+  pub held : ((core : ℕ) → ¬ IsWriter protocol picture core) → data_on_bus picture.transaction ≡ None → picture.value ≡ value
+
+-- the block's open transaction is one of this block, by a core of the machine
+abbrev pub NamesItsBlock : Situation → ℕ → Type 0
+NamesItsBlock s block = IfSome (picture_of s block).transaction (λ transaction. (transaction.block ≡ block) × (transaction.core < s.shape.cores))
