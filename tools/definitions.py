@@ -36,7 +36,7 @@ Three conventions:
 
 - A fact is spelled like a type (`OneWriter`, `IsReader`), a function like a function (`flat`, `picture_of`). `A × B` is "A and B", `A ⊎ B` is "A or B", and `(x : T) × P` is "there is an x with P".
 - Look-ups in lists have a default: outside a machine's shape a core holds nothing (state I), no transaction is open and memory's value is 0. So statements about
-  all cores and blocks need no bounds, and mean nothing more outside the shape.
+  all cores and blocks need no bounds, and mean nothing more outside the shape. (The clause `memory` has a bound all the same: the invariant doesn't say that a history has no store outside the shape.)
 - A core's list of waiting blocks is its *queue*; a *line* is a cache line.
 
 """

@@ -20,7 +20,7 @@ ghost use Rattle.snoop_model.specs.Pictures.InQueue.{IsInQueue};
 /// Coherence of every run from reset, for every number of cores and blocks, under MSI and MESI.
 ///
 /// Each block has one writer alone, or only readers; the log is legal, and each copy that may be read has the value of the
-/// last store in it; so has data on the bus, and so has memory where no core may write the block and no data is on the bus; an
+/// last store in it; so has data under way, and so has memory where no core may write the block and no data is under way; an
 /// open transaction is of its block, by a core of the machine; each load and store that was asked stands once in the log, or
 /// waits; no step meets an impossible cell; a waiting request of any free block would find all its rows and exactly one sender,
 /// and be a line of the table of senders; a core keeps a value of a block exactly where its state may read, and an operation

@@ -37,7 +37,7 @@ use Rattle.snoop_model.specs.Moves.Move.{IsWithin}
 use Rattle.snoop_model.specs.Moves.Meets.{Meets, FindsRows, LacksAtRequestor}
 use Rattle.snoop_model.specs.Pictures.OneWriter.{OneWriter, IsWriter}
 use Rattle.snoop_model.specs.Pictures.Current.{IsCurrent}
-use Rattle.snoop_model.specs.Pictures.MemoryCurrent.{IsMemoryCurrent, NamesItsBlock, data_on_bus}
+use Rattle.snoop_model.specs.Pictures.MemoryCurrent.{IsMemoryCurrent, NamesItsBlock, data_under_way}
 use Rattle.snoop_model.specs.Moves.Led.{IsLed, OrdersAreLed}
 use Rattle.snoop_model.specs.Invariant.Fits.{in_protocol, is_clean, is_owner, is_reader, fits}
 use Rattle.snoop_model.specs.Invariant.Good.{Good, awaited, owns, talk_of}
@@ -128,21 +128,21 @@ nobody_owns p n value picture g idle (Some o) is =
     let owning : owns g.owner o ≡ true = rw is (eq-eqb o o refl) in
     absurd (idle o (owner_stores p s (and_parts _ _ fit).0 (fits_is_owner p g.claims.shared (owns g.owner o) (awaited picture.transaction o) s fit ∙ owning)))
 
-no_data : (found : Option Open) → data_on_bus found ≡ None → brings_data (talk_of found) ≡ false
+no_data : (found : Option Open) → data_under_way found ≡ None → brings_data (talk_of found) ≡ false
 no_data None none = refl
 no_data (Some o) none = elim (or_not (carries_value o.payload)) as (λ _. carries_value o.payload ≡ false) [
   | inl e ↦ let h : ◌≡◌ {A = Option ℕ} (Some o.value) None = rw e at none in cc
   | inr e ↦ e
 ]
 
-data_is : (found : Option Open) (value : ℕ) → ((o : Open) → found ≡ Some o → carries_value o.payload ≡ true → o.value ≡ value) → IfSome (data_on_bus found) (λ sent. sent ≡ value)
+data_is : (found : Option Open) (value : ℕ) → ((o : Open) → found ≡ Some o → carries_value o.payload ≡ true → o.value ≡ value) → IfSome (data_under_way found) (λ sent. sent ≡ value)
 data_is None value carried = tt
-data_is (Some o) value carried = elim (or_not (carries_value o.payload)) as (λ _. IfSome (data_on_bus (Some o)) (λ sent. sent ≡ value)) [
+data_is (Some o) value carried = elim (or_not (carries_value o.payload)) as (λ _. IfSome (data_under_way (Some o)) (λ sent. sent ≡ value)) [
   | inl e ↦ rw e (carried o refl e)
   | inr e ↦ rw e tt
 ]
 
--- data on the bus has flat memory's value, and so has memory where nobody may write and no data is on the bus
+-- data under way has flat memory's value, and so has memory where nobody may write and no data is under way
 pub memory_current : (s : Situation) → IsCoherent s → (block : ℕ) → block < s.shape.blocks → IsMemoryCurrent s.protocol (picture_of s block) (flat s.log block)
 memory_current s g block within =
     let p = s.protocol in

@@ -8,15 +8,15 @@ use Rattle.snoop_model.specs.Pictures.Picture.{Picture}
 use Rattle.snoop_model.specs.Pictures.Situation.{Situation, picture_of}
 use Rattle.snoop_model.specs.Pictures.OneWriter.{IsWriter}
 
--- the data on the bus, if any: the value of the open transaction's message, where it carries one
-abbrev pub data_on_bus : Option Open → Option ℕ
-data_on_bus None = None
-data_on_bus (Some transaction) = if carries_value transaction.payload then Some transaction.value else None
+-- the data under way, if any: the value of the open transaction's message, where it carries one
+abbrev pub data_under_way : Option Open → Option ℕ
+data_under_way None = None
+data_under_way (Some transaction) = if carries_value transaction.payload then Some transaction.value else None
 
--- data on the bus has this value, and where no core may write the block and no data is on the bus, memory has it
+-- data under way is this value, and where no core may write the block and no data is under way, memory has it
 pub record IsMemoryCurrent (protocol : Protocol) (picture : Picture) (value : ℕ) : Type 0 where
-  pub carried : IfSome (data_on_bus picture.transaction) (λ sent. sent ≡ value)
-  pub held : ((core : ℕ) → ¬ IsWriter protocol picture core) → data_on_bus picture.transaction ≡ None → picture.value ≡ value
+  pub carried : IfSome (data_under_way picture.transaction) (λ sent. sent ≡ value)
+  pub held : ((core : ℕ) → ¬ IsWriter protocol picture core) → data_under_way picture.transaction ≡ None → picture.value ≡ value
 
 -- the block's open transaction is one of this block, by a core of the machine
 abbrev pub NamesItsBlock : Situation → ℕ → Type 0

@@ -14,7 +14,7 @@ use Rattle.snoop_model.specs.Pictures.Sound.{IsProper}
 use Rattle.snoop_model.specs.Pictures.InQueue.{IsInQueue}
 use Rattle.snoop_model.specs.Invariant.WellKept.{IsWellKept}
 
--- each block has one writer alone or only readers, each load has the last value stored, and so have each copy that may be read, data on the bus, and memory where no core may write and no data is on the bus,
+-- each block has one writer alone or only readers, each load has the last value stored, and so have each copy that may be read, data under way, and memory where no core may write and no data is under way,
 -- no step meets an impossible cell, each Order is a line of the table of senders, and lines, queues and transactions are as the states of the lines say
 pub record IsSafe (s : Situation) : Type 0 where
   pub one_writer : (block : ℕ) → OneWriter s.protocol (picture_of s block)
