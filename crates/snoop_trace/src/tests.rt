@@ -1,3 +1,4 @@
+mod memory;
 mod reading;
 mod rows;
 mod shapes;
