@@ -97,10 +97,10 @@ def tests():
     """The test programs that there are, and of each the tests that bear a refused growth."""
     for program in sorted(TOP.glob("crates/*/out/*_tests")):
         if os.access(program, os.X_OK):
-            listed = subprocess.run([program, "--list"], capture_output=True, text=True, check=False).stdout.split()
+            listed = subprocess.run([program, "--list"], capture_output=True, text=True, check=False).stdout.splitlines()
             for name in listed:
                 if "memory::" in name:
-                    yield program, name
+                    yield program, name.removesuffix(": test")
 
 
 def main():
@@ -120,7 +120,7 @@ def main():
             count += 1
             for growth, (status, output, errors) in refuser.each([program, name], b""):
                 runs += 1
-                if status != 0:
+                if status != 0 or b"test result: ok" not in output:
                     wrong.append(f"{name}, growth {growth}: {(status, output, errors)}")
     print("\n".join(wrong + [f"{count} cases, {runs} growths refused, {len(wrong)} wrong answers"]))
     sys.exit(bool(wrong) or runs == 0)
