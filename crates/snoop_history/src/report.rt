@@ -12,21 +12,21 @@ use snoop_trace::{NoMemory, Sink, WriteFault, write_whole};
 use std::alloc::Global;
 use std::io::Write;
 
-// Puts the line of loads at the end.
+// Appends the line of loads.
 fn push_loads(out: &mut Vec<u8>, totals: Totals) -> Result<(), NoMemory>
     ensures { OnOk result (out.new.items ≡ out.old.items ++ loads_text totals) }
 {
     writeln!(out, "loads {} hits {}", totals.loads, totals.load_hits).map_err(|_| NoMemory)
 }
 
-// Puts the line of stores at the end.
+// Appends the line of stores.
 fn push_stores(out: &mut Vec<u8>, totals: Totals) -> Result<(), NoMemory>
     ensures { OnOk result (out.new.items ≡ out.old.items ++ stores_text totals) }
 {
     writeln!(out, "stores {} hits {}", totals.stores, totals.store_hits).map_err(|_| NoMemory)
 }
 
-// Puts the line of ordered requests at the end.
+// Appends the line of ordered requests.
 fn push_requests(out: &mut Vec<u8>, totals: Totals) -> Result<(), NoMemory>
     ensures { OnOk result (out.new.items ≡ out.old.items ++ requests_text totals) }
 {
@@ -38,7 +38,7 @@ fn push_requests(out: &mut Vec<u8>, totals: Totals) -> Result<(), NoMemory>
     .map_err(|_| NoMemory)
 }
 
-// Puts the line of where data came from at the end.
+// Appends the line of where data came from.
 fn push_sources(out: &mut Vec<u8>, totals: Totals) -> Result<(), NoMemory>
     ensures { OnOk result (out.new.items ≡ out.old.items ++ sources_text totals) }
 {
@@ -50,7 +50,7 @@ fn push_sources(out: &mut Vec<u8>, totals: Totals) -> Result<(), NoMemory>
     .map_err(|_| NoMemory)
 }
 
-// Puts the line of writebacks at the end.
+// Appends the line of writebacks.
 fn push_writebacks(out: &mut Vec<u8>, totals: Totals) -> Result<(), NoMemory>
     ensures { OnOk result (out.new.items ≡ out.old.items ++ writebacks_text totals) }
 {
@@ -62,7 +62,7 @@ fn push_writebacks(out: &mut Vec<u8>, totals: Totals) -> Result<(), NoMemory>
     .map_err(|_| NoMemory)
 }
 
-// Puts the five lines of totals at the end.
+// Appends the five lines of totals.
 fn push_totals(out: &mut Vec<u8>, totals: Totals) -> Result<(), NoMemory>
     ensures { OnOk result (out.new.items ≡ out.old.items ++ totals_text totals) }
 {
@@ -73,7 +73,7 @@ fn push_totals(out: &mut Vec<u8>, totals: Totals) -> Result<(), NoMemory>
     push_writebacks(out, totals)
 }
 
-// Puts the line of a block at the end.
+// Appends the line of a block.
 fn push_block(out: &mut Vec<u8>, block: u32, value: u64) -> Result<(), NoMemory>
     ensures { OnOk result (out.new.items ≡ out.old.items ++ block_text block value) }
 {
@@ -94,7 +94,7 @@ fn touched(alloc: Global, items: &[Item]) -> Result<IndexSet<u32>, NoMemory>
     Ok(blocks)
 }
 
-// Puts a line for each of the blocks at the end.
+// Appends a line for each of the blocks.
 fn push_blocks(out: &mut Vec<u8>, log: &Log, blocks: &[u32]) -> Result<(), NoMemory>
     requires { All (λ block. block < log.now.blocks) blocks.now }
     ensures { OnOk result (out.new.items ≡ out.old.items ++ blocks_text log.now.items blocks.now) }
@@ -105,7 +105,7 @@ fn push_blocks(out: &mut Vec<u8>, log: &Log, blocks: &[u32]) -> Result<(), NoMem
     Ok(())
 }
 
-// Puts the report at the end, given the blocks that an item mentions.
+// Appends the report, given the blocks that an item mentions.
 fn push_report(out: &mut Vec<u8>, log: &Log, blocks: &[u32]) -> Result<(), NoMemory>
     requires touched { blocks.now ≡ touched log.now.items }
     requires within { All (λ block. block < log.now.blocks) blocks.now }

@@ -42,7 +42,7 @@ pub fn write_table<W: Sink>(
     write_whole(writer, &text)
 }
 
-// Puts all rows of the cache table at the end.
+// Appends all rows of the cache table.
 fn push_cache_table(out: &mut Vec<u8>, protocol: Protocol) -> Result<(), NoMemory>
     ensures ok { OnOk result (out.new.items ≡ out.old.items ++ cache_text protocol) }
 {
@@ -52,7 +52,7 @@ fn push_cache_table(out: &mut Vec<u8>, protocol: Protocol) -> Result<(), NoMemor
     Ok(())
 }
 
-// Puts the rows of one state of a cache line at the end.
+// Appends the rows of one state of a cache line.
 fn push_cache_rows(out: &mut Vec<u8>, protocol: Protocol, state: CacheState) -> Result<(), NoMemory>
     ensures ok { OnOk result (out.new.items ≡ out.old.items ++ flat_map (cache_line_at protocol state) cache_events) }
 {
@@ -62,7 +62,7 @@ fn push_cache_rows(out: &mut Vec<u8>, protocol: Protocol, state: CacheState) -> 
     Ok(())
 }
 
-// Puts the row of a pair at the end, if it has one.
+// Appends the row of a pair, if it has one.
 fn push_cache_row(
     out: &mut Vec<u8>,
     protocol: Protocol,
@@ -77,7 +77,7 @@ fn push_cache_row(
     }
 }
 
-// Puts all rows of the memory table at the end.
+// Appends all rows of the memory table.
 fn push_memory_table(out: &mut Vec<u8>, protocol: Protocol) -> Result<(), NoMemory>
     ensures ok { OnOk result (out.new.items ≡ out.old.items ++ memory_text protocol) }
 {
@@ -87,7 +87,7 @@ fn push_memory_table(out: &mut Vec<u8>, protocol: Protocol) -> Result<(), NoMemo
     Ok(())
 }
 
-// Puts the rows of one state of memory at the end.
+// Appends the rows of one state of memory.
 fn push_memory_rows(out: &mut Vec<u8>, protocol: Protocol, state: MemState) -> Result<(), NoMemory>
     ensures ok { OnOk result (out.new.items ≡ out.old.items ++ flat_map (memory_line_at protocol state) memory_events) }
 {
@@ -97,7 +97,7 @@ fn push_memory_rows(out: &mut Vec<u8>, protocol: Protocol, state: MemState) -> R
     Ok(())
 }
 
-// Puts the row of a pair at the end, if it has one.
+// Appends the row of a pair, if it has one.
 fn push_memory_row(
     out: &mut Vec<u8>,
     protocol: Protocol,
@@ -112,7 +112,7 @@ fn push_memory_row(
     }
 }
 
-// Puts the line of a row at the end.
+// Appends the line of a row.
 fn push_line<S: Display + Copy, E: Display + Copy, A: Display + Copy>(
     out: &mut Vec<u8>,
     state: S,

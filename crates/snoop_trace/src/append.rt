@@ -5,21 +5,21 @@ ghost use Rattle.std.specs.Fmt.{decimal};
 use crate::fault::NoMemory;
 use itoa::Buffer;
 
-/// Puts a text at the end. After `NoMemory` nothing is said of what stands there.
+/// Appends a text. After `NoMemory` nothing is said of what stands there.
 pub fn push_text(out: &mut Vec<u8>, text: &str) -> Result<(), NoMemory>
     ensures ok { OnOk result (out.new.items ≡ out.old.items ++ text.now) }
 {
     out.extend_from_slice(text.as_bytes()).map_err(|_| NoMemory)
 }
 
-/// Puts a byte at the end. After `NoMemory` nothing is said of what stands there.
+/// Appends a byte. After `NoMemory` nothing is said of what stands there.
 pub fn push_byte(out: &mut Vec<u8>, byte: u8) -> Result<(), NoMemory>
     ensures ok { OnOk result (out.new.items ≡ out.old.items ++ byte ∷ []) }
 {
     out.push(byte).map_err(|_| NoMemory)
 }
 
-/// Puts a number in decimal digits at the end. After `NoMemory` nothing is said of what stands there.
+/// Appends a number in decimal digits. After `NoMemory` nothing is said of what stands there.
 pub fn push_decimal(out: &mut Vec<u8>, number: u64) -> Result<(), NoMemory>
     ensures ok { OnOk result (out.new.items ≡ out.old.items ++ decimal number) }
 {

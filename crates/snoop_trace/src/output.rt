@@ -20,7 +20,7 @@ fn address_of(shape: Shape, block: u32) -> u64
     block as u64 * shape.block_bytes() as u64
 }
 
-// Puts a comma and a number at the end.
+// Appends a comma and a number.
 fn push_field(out: &mut Vec<u8>, number: u64) -> Result<(), NoMemory>
     ensures ok { OnOk result (out.new.items ≡ out.old.items ++ (codes "," ++ decimal number)) }
 {
@@ -28,7 +28,7 @@ fn push_field(out: &mut Vec<u8>, number: u64) -> Result<(), NoMemory>
     push_decimal(out, number)
 }
 
-// Puts a letter and one field at the end.
+// Appends a letter and one field.
 fn push_one(out: &mut Vec<u8>, letter: u8, number: u64) -> Result<(), NoMemory>
     ensures ok { OnOk result (out.new.items ≡ out.old.items ++ (letter ∷ [] ++ codes "," ++ decimal number)) }
 {
@@ -36,7 +36,7 @@ fn push_one(out: &mut Vec<u8>, letter: u8, number: u64) -> Result<(), NoMemory>
     push_field(out, number)
 }
 
-// Puts a letter and two fields at the end.
+// Appends a letter and two fields.
 fn push_two(out: &mut Vec<u8>, letter: u8, core: u32, address: u64) -> Result<(), NoMemory>
     ensures ok { OnOk result (out.new.items ≡ out.old.items ++ (letter ∷ [] ++ codes "," ++ decimal core ++ codes "," ++ decimal address)) }
 {
@@ -44,7 +44,7 @@ fn push_two(out: &mut Vec<u8>, letter: u8, core: u32, address: u64) -> Result<()
     push_field(out, address)
 }
 
-// Puts the record of what a core asks for at the end.
+// Appends the record of what a core asks for.
 fn push_ask(out: &mut Vec<u8>, shape: Shape, core: u32, block: u32, op: Op) -> Result<(), NoMemory>
     ensures ok { OnOk result (out.new.items ≡ out.old.items ++ step_text shape (Ask core block op)) }
 {
@@ -59,7 +59,7 @@ fn push_ask(out: &mut Vec<u8>, shape: Shape, core: u32, block: u32, op: Op) -> R
     }
 }
 
-/// Puts the text of a step at the end of `out`, without a line end.
+/// Appends the text of a step, without a line end.
 ///
 /// It is the step's record, with decimal numbers, and the first address of the block in the block's
 /// place. After `NoMemory` nothing is said of what stands there.
@@ -102,7 +102,7 @@ pub fn write_steps<W: Sink>(
     write_whole(writer, &chunk)
 }
 
-// Puts the line of a step at the end.
+// Appends the line of a step.
 fn push_line(out: &mut Vec<u8>, shape: Shape, step: Step) -> Result<(), NoMemory>
     ensures ok { OnOk result (out.new.items ≡ out.old.items ++ (step_text shape step ++ codes "\n")) }
 {
