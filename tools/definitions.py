@@ -14,7 +14,7 @@ import sys
 from typing import NamedTuple
 
 TOP = pathlib.Path(__file__).resolve().parent.parent
-CRATES = ["snoop_trace", "snoop_rules", "snoop_history", "snoop_bus", "snoop_model", "snoop_machine", "snoop_versions", "snoop_bench", "snoop_cores", "snoop_sim", "snoop_scenes"]
+CRATES = ["snoop_trace", "snoop_rules", "snoop_history", "snoop_bus", "snoop_model", "snoop_machine", "snoop_versions", "snoop_bench", "snoop_cores", "snoop_engine", "snoop_sim", "snoop_scenes"]
 NAME = re.compile(r"(?:(?:abbrev|unfoldable) )?pub (?:(?:record|data) )?([^\s:({]+)")
 IMPORT = re.compile(r"use Rattle\.(\w+)\.specs\.([\w.]+?)\.\{([^}]*)\}")
 WORD = re.compile(r"[^\s(){}\[\],;.]+")

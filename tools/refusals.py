@@ -104,6 +104,8 @@ def tests():
 
 
 def main():
+    if len(sys.argv) > 1:
+        sys.exit(__doc__.strip())
     wrong, runs, count = [], 0, 0
     with tempfile.TemporaryDirectory() as folder:
         refuser = Refuser(folder)

@@ -1,3 +1,5 @@
+mod memory;
+
 use crate::{AdvanceFault, Bench, Evicted, Turn, Work};
 use snoop_history::Totals;
 use snoop_rules::Protocol;

@@ -1,5 +1,7 @@
 ghost use Rattle.std.specs.Prelude.{◌≡◌, ◌<◌, length, IfOk};
 
+mod memory;
+
 use crate::{Bus, Open};
 use snoop_rules::{Payload, Request};
 use snoop_trace::{NoMemory, Shape};

@@ -27,8 +27,8 @@ pub enum SeatFault {
     /// This other operation of the core is pending. Nothing has changed.
     #[error("Busy")]
     Busy(Work),
-    /// The published versions show this operation of the core, which the seat did not make. From then on `load`, `store` and
-    /// `evict` answer the same wherever `NoBlock` does not come.
+    /// The published versions show an operation of the core that the seat did not make; this is the core's last one there. From then
+    /// on `load`, `store` and `evict` answer the same wherever `NoBlock` does not come.
     #[error("Stranger")]
     Stranger(Did),
 }

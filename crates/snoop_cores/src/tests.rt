@@ -6,4 +6,5 @@ mod readings;
 mod refusals;
 mod rows;
 mod scene;
+mod storms;
 mod turns;

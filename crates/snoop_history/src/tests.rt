@@ -1,3 +1,5 @@
+mod memory;
+
 use crate::{Board, Came, Did, Item, Log, Sent, Totals, write_report};
 use snoop_rules::{Payload, Request};
 use snoop_trace::{AnyWriter, NoMemory, Shape, WriteFault};

@@ -1,6 +1,6 @@
 -- The cores that a request concerns; each other core's row changes nothing and sends nothing.
 use Rattle.std.proofs.Common.{◌≡◌, ◌≢◌, ℕ, ◌<◌, List, length, true, false, None, Some, refl, sym, ap, ◌∙◌, subst, arith, inl, inr}
-use Rattle.std.proofs.lemmas.Bool.{ne_eqb, cases_lt}
+use Rattle.std.proofs.lemmas.Bool.{eq-eqb, ne_eqb, cases_eq, cases_lt}
 use Rattle.std.proofs.lemmas.List.{get_or_past}
 use Rattle.snoop_rules.specs.declared.names.Protocol.{Protocol}
 use Rattle.snoop_rules.specs.declared.names.Protocol.TheVariants.{Msi, Mesi}
@@ -9,10 +9,11 @@ use Rattle.snoop_rules.specs.declared.names.Request.TheVariants.{GetS, GetM, Put
 use Rattle.snoop_rules.specs.declared.names.CacheState.{CacheState}
 use Rattle.snoop_rules.specs.declared.names.CacheState.TheVariants as state
 use Rattle.snoop_rules.specs.declared.names.CacheEvent.{CacheEvent}
+use Rattle.snoop_rules.specs.declared.names.CacheAction.{CacheAction}
 use Rattle.snoop_rules.specs.declared.names.CacheAction.TheVariants as action
 use Rattle.snoop_rules.specs.Cell.{Cell}
 use Rattle.snoop_rules.specs.Waits.{waiting_request}
-use Rattle.snoop_rules.specs.Takers.{seen_by, other}
+use Rattle.snoop_rules.specs.Takers.{seen_by, own, other}
 use Rattle.snoop_model.specs.declared.line.Line.{Line}
 use Rattle.snoop_model.specs.Pictures.Picture.{held_at, nothing_held}
 use Rattle.snoop_model.specs.Pictures.Sound.{IsProper}
@@ -21,7 +22,7 @@ use Rattle.snoop_model.specs.Moves.Move.{TakesRow}
 use Rattle.snoop_model.specs.Pictures.Message.{HasRow}
 use Rattle.snoop_machine.specs.CoreSet.{has}
 use Rattle.snoop_machine.specs.Holders.{concerns}
-use Rattle.snoop_machine.proofs.BlockLines.{comes_to_same}
+use Rattle.snoop_machine.proofs.ProperLines.{comes_to_same}
 
 still : (p : Protocol) (s : CacheState) (q : Request) → concerns q s ≡ false → HasRow p s (other q) → Cell p s (other q) action.None s
 unfolding is_owner
@@ -112,3 +113,20 @@ waits_within lines core q waits = elim (cases_lt core (length lines)) [
       let none : waiting_request (held_at lines core).state ≡ None = ap (λ (l : Line). waiting_request l.state) nothing in
       let b = sym none ∙ waits in cc
 ]
+
+-- a core in I stays there at an Order
+pub Cell-leaves : (p : Protocol) (k core : ℕ) (q : Request) (act : CacheAction) (next : CacheState) → Cell p state.I (seen_by k core q) act next → next ≡ state.I
+Cell-leaves p k core q act next row = elim (cases_eq k core) [
+  | inl e ↦ let P : CacheEvent → Type 0 = λ event. Cell p state.I event act next in go_own q (subst P (rw (eq-eqb k core e) refl) row)
+  | inr ne ↦ let P : CacheEvent → Type 0 = λ event. Cell p state.I event act next in go_other q (subst P (rw (ne_eqb k core ne) refl) row)
+]
+  where
+    go_own : (q : Request) → Cell p state.I (own q) act next → next ≡ state.I
+    go_own GetS row = absurd row
+    go_own GetM row = absurd row
+    go_own PutM row = absurd row
+
+    go_other : (q : Request) → Cell p state.I (other q) act next → next ≡ state.I
+    go_other GetS row = row.1
+    go_other GetM row = row.1
+    go_other PutM row = row.1

@@ -9,5 +9,11 @@ pub mod Plans
 pub mod Room
 pub mod PossibleLookups
 pub mod RunSteps
-pub mod BlockLines
+pub mod ProperLines
+pub mod MapRows
+pub mod LineMaps
+pub mod LineParts
+pub mod LinesGoing
+pub mod Following
+pub mod Holding
 pub mod CoreSets

@@ -7,7 +7,6 @@ use Rattle.snoop_trace.specs.declared.step.Op.TheVariants as op
 use Rattle.snoop_trace.specs.declared.step.Step.TheVariants as step
 use Rattle.snoop_trace.specs.declared.step.Step.{Step}
 use Rattle.snoop_rules.specs.declared.names.Protocol.{Protocol}
-use Rattle.snoop_rules.specs.declared.names.Protocol.TheVariants.{Msi, Mesi}
 use Rattle.snoop_rules.specs.declared.names.CacheState.{CacheState}
 use Rattle.snoop_rules.specs.declared.names.CacheState.TheVariants.{I}
 use Rattle.snoop_rules.specs.declared.names.CacheAction.{CacheAction}
@@ -208,16 +207,16 @@ plan-room before (plan.Ask core block asking way) h some full =
       | inl absent ↦ no_row s.protocol (state_of s core block) asking full.0 full.1.0 absent.0 absent.1 full.1.1.0
       | inr row ↦
           let same = (Cell-one s.protocol (state_of s core block) (asked asking) full.0 (act_of way) full.1.0 row.0 full.1.1.0 row.1.0).0 in
-          let P : CacheAction → Type 0 = λ a. room_to a before core ≡ 0 in
-          let none : room_to (act_of way) before core ≡ 0 = subst P same full.1.1.1 in
-          clash before core way none some
+          let P : CacheAction → Type 0 = λ a. room_to a before core block ≡ 0 in
+          let none : room_to (act_of way) before core block ≡ 0 = subst P same full.1.1.1 in
+          clash before core block way none some
     ]
   where
-    clash : (b : Standing) (k : ℕ) (w : Asked) → room_to (act_of w) b k ≡ 0 → 0 < room_for_ask b k w → ⊥
-    clash b k Absent e l = cc
-    clash b k (Hit line value) e l = absurd (omega arith)
-    clash b k (Issue request line) e l = absurd (omega arith)
-    clash b k (Drop line) e l = cc
+    clash : (b : Standing) (k n : ℕ) (w : Asked) → room_to (act_of w) b k n ≡ 0 → 0 < room_for_ask b k n w → ⊥
+    clash b k n Absent e l = cc
+    clash b k n (Hit line value) e l = absurd (omega arith)
+    clash b k n (Issue request line) e l = absurd (omega arith)
+    clash b k n (Drop line) e l = cc
 plan-room before (plan.Order core request block message memory) h some full = absurd (omega arith)
 plan-room before (plan.Writeback block closing memory) h some full = absurd (omega arith)
 plan-room before (plan.Fill block closing memory filled) h some full = absurd (omega arith)

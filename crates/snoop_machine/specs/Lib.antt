@@ -3,6 +3,8 @@ pub mod Arrive
 pub mod Plan
 pub mod PartsView
 pub mod MachineView
-pub mod BlockLines
+pub mod Cache
+pub mod Lines
 pub mod CoreSet
 pub mod Holders
+pub mod Following

@@ -17,7 +17,7 @@ standing m =
       situation = record {
         protocol = m.protocol;
         shape = m.shape;
-        caches = m.lines;
+        caches = m.lines.rows;
         memory = m.memory.items;
         transactions = m.bus.transactions;
         queues = queues_of m.bus.queues;
@@ -25,12 +25,14 @@ standing m =
       };
       rooms = map (λ queue. queue.room) m.bus.queues;
       room = m.log.room;
+      lines = m.lines.lines;
     }
 
 -- what the parts of every machine keep
 pub record IsWhole (m : Inside) : Type 0 where
   pub few : m.shape.cores < 257
-  pub sound : IsSound m.shape m.lines m.bus
+  pub sound : IsSound m.shape m.lines.rows m.bus
+  pub lines : length m.lines.lines ≡ m.shape.cores
   pub memory : length m.memory.items ≡ m.shape.blocks
   pub cores : m.log.cores ≡ m.shape.cores
   pub blocks : m.log.blocks ≡ m.shape.blocks

@@ -1,6 +1,6 @@
 -- What a step will do, found before anything changes: a plan, the room that it needs, and the item that it adds.
 -- Source: this project's profile.
-use Rattle.std.specs.Prelude.{◌≡◌, ◌≢◌, ℕ, ◌<◌, true, false, List, Option, Some, None, slice_index, slice_index_or}
+use Rattle.std.specs.Prelude.{◌≡◌, ◌≢◌, ℕ, ◌<◌, true, false, List, Option, Some, None, slice_index_or}
 use Rattle.snoop_trace.specs.declared.step.Op.{Op}
 use Rattle.snoop_trace.specs.declared.step.Step.{Step}
 use Rattle.snoop_trace.specs.declared.step.Step.TheVariants as step
@@ -17,6 +17,7 @@ use Rattle.snoop_model.specs.declared.message.Message.{Message}
 use Rattle.snoop_machine.specs.declared.plan.Plan.{Plan}
 use Rattle.snoop_machine.specs.declared.plan.Plan.TheVariants.{Ask, Order, Writeback, Fill}
 use Rattle.snoop_model.specs.Moves.Standing.{Standing}
+use Rattle.snoop_model.specs.Moves.Prepared.{room_to_issue}
 use Rattle.snoop_model.specs.Pictures.Situation.{Situation, picture_of, no_memory}
 use Rattle.snoop_model.specs.Pictures.Sound.{IsProper, line_at}
 use Rattle.snoop_model.specs.Moves.Move.{IsWithin, came_of, next_did}
@@ -59,16 +60,16 @@ IsPlan s (Fill block closing memory filled) =
 abbrev pub IsPlanFor : Situation → Step → Plan → Type 0
 IsPlanFor s taking plan = (step_of plan ≡ taking) × IsPlan s plan
 
--- for how many more such Asks of the core there is room; one that adds neither item nor request always has it
-abbrev pub room_for_ask : Standing → ℕ → Asked → ℕ
-room_for_ask before core asked.Absent = 1
-room_for_ask before core (asked.Hit line value) = before.room
-room_for_ask before core (asked.Issue request line) = slice_index before.rooms core
-room_for_ask before core (asked.Drop line) = 1
+-- for how many more such Asks of the core for the block there is room; one that adds neither item nor request always has it
+abbrev pub room_for_ask : Standing → ℕ → ℕ → Asked → ℕ
+room_for_ask before core block asked.Absent = 1
+room_for_ask before core block (asked.Hit line value) = before.room
+room_for_ask before core block (asked.Issue request line) = room_to_issue before core block
+room_for_ask before core block (asked.Drop line) = 1
 
 -- for how many more such steps there is room
 abbrev pub room_for : Standing → Plan → ℕ
-room_for before (Ask core block asking way) = room_for_ask before core way
+room_for before (Ask core block asking way) = room_for_ask before core block way
 room_for before (Order core request block message memory) = before.room
 room_for before (Writeback block closing memory) = before.room
 room_for before (Fill block closing memory filled) = before.room

@@ -2,7 +2,7 @@
 #![tactic(auto)]
 
 mod ask;
-mod block_lines;
+mod cache;
 mod core_set;
 mod holders;
 mod lines;

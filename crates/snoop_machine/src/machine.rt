@@ -14,7 +14,8 @@ ghost use Rattle.snoop_model.specs.Moves.Move.{FirstMove};
 ghost use Rattle.snoop_model.specs.Moves.Replies.{IsReplyTo, IsLoadHit};
 ghost use Rattle.snoop_model.specs.Moves.Refuses.{Refuses};
 ghost use Rattle.snoop_model.specs.Moves.StepMove.{RefusedFor};
-ghost use Rattle.snoop_model.specs.Moves.Standing.{KeepsRoom};
+ghost use Rattle.snoop_model.specs.Moves.Standing.{KeepsRoom, lines_of};
+ghost use Rattle.snoop_model.specs.Moves.Holding.{HoldsOn, HasHeldLines};
 ghost use Rattle.snoop_model.specs.Moves.Prepared.{IsFull, IsPrepared};
 ghost use Rattle.snoop_model.specs.Runs.Safe.{IsSafe};
 ghost use Rattle.snoop_model.specs.Runs.Once.{OnceMore};
@@ -56,6 +57,7 @@ impl Machine {
     pub fn reset(alloc: Global, protocol: Protocol, shape: Shape) -> Result<Self, NoMemory>
         ensures at_reset { IfOk result (λ machine. machine.situation ≡ reset protocol shape) }
         ensures safe { IfOk result (λ machine. IsSafe machine.situation) }
+        ensures empty { IfOk result (λ machine. (core : ℕ) → lines_of machine core ≡ 0) }
     {
         let parts = Parts::reset(alloc, protocol, shape)?;
         Ok(Machine { parts })
@@ -75,6 +77,7 @@ impl Machine {
         ensures exactly { (cause : Refused) → Refuses self.old.situation step cause → result ≡ Err cause }
         ensures full { result ≡ Err WantOfMemory → IsFull self.old step }
         ensures room { KeepsRoom self.old self.new }
+        ensures lines { (core : ℕ) → HoldsOn self.old self.new step core }
         ensures stays { (self.new.situation.protocol ≡ self.old.situation.protocol) × (self.new.situation.shape ≡ self.old.situation.shape) }
         ensures replied { IfOk result (λ reply. IsReplyTo step reply) }
         ensures hit { IfOk result (λ reply. (value : ℕ) → reply ≡ Hit value → IsLoadHit step value self.old.situation.log self.new.situation.log) }
@@ -96,6 +99,7 @@ impl Machine {
         ensures exactly { (cause : Refused) → Refuses self.old.situation step cause → result ≡ Err cause }
         ensures full { result ≡ Err WantOfMemory → IsFull self.old step }
         ensures room { KeepsRoom self.old self.new }
+        ensures lines { (core : ℕ) → HoldsOn self.old self.new step core }
         ensures unchanged { self.new.situation ≡ self.old.situation }
     {
         self.parts.prepare(step)
@@ -162,6 +166,16 @@ impl Machine {
         ensures { IsTrue result ↔ (0 < length (queue_of self.now.situation.queues core)) }
     {
         self.parts.waiting(core)
+    }
+
+    /// How many lines the core's map has, or `None` outside the shape: one for each block that the core holds, and one for each block in I
+    /// for which an Ask that was prepared, and not taken yet, made room.
+    pub fn lines(&self, core: u32) -> Option<usize>
+        ensures inside { core < self.now.situation.shape.cores → result ≡ Some (lines_of self.now core) }
+        ensures held { HasHeldLines self.now core }
+        ensures outside { IfSome result (λ _. core < self.now.situation.shape.cores) }
+    {
+        self.parts.lines(core)
     }
 
     /// The history of all that was performed, ordered and answered.

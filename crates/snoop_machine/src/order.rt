@@ -6,8 +6,10 @@ ghost use Rattle.snoop_model.specs.Pictures.Picture.{held_at};
 ghost use Rattle.snoop_model.specs.Pictures.Sends.{value_sent};
 ghost use Rattle.snoop_model.specs.Moves.Meets.{FindsRows};
 ghost use Rattle.snoop_model.specs.Pictures.Message.{free_picture, HasRow, IsMessage, TakesRows, memory_message};
+ghost use Rattle.snoop_machine.specs.Lines.{LinesGo};
 
-use crate::block_lines::BlockLines;
+use crate::ask::moved_to;
+use crate::lines::Lines;
 use snoop_model::{Line, MemLine, Message};
 use snoop_rules::{
     CacheAction, CacheEvent, CacheState, MemAction, MemCell, MemEvent, Payload, Protocol, Request,
@@ -58,23 +60,33 @@ fn is_same(one: CacheState, other: CacheState) -> bool
     one == other
 }
 
-impl BlockLines {
-    /// Each core takes its row for the request. The row of a core that the request does not concern changes nothing, and is not looked up.
-    pub(crate) fn take_rows(&mut self, protocol: Protocol, requestor: u32, request: Request)
-        requires requestor { requestor < length self.old }
-        requires rows { (k : ℕ) → k < length self.old → HasRow protocol (held_at self.old k).state (seen_by k requestor request) }
-        ensures { TakesRows protocol requestor request self.old self.new }
+impl Lines {
+    /// Each core takes its row for a request on the block. The row of a core that the request does not concern changes nothing, and is not looked up.
+    pub(crate) fn take_rows(
+        &mut self,
+        protocol: Protocol,
+        requestor: u32,
+        request: Request,
+        block: u32,
+    )
+        requires block { block < length self.old.rows }
+        requires requestor { requestor < length (slice_index_or self.old.rows block []) }
+        requires rows { (k : ℕ) → k < length (slice_index_or self.old.rows block []) → HasRow protocol (held_at (slice_index_or self.old.rows block []) k).state (seen_by k requestor request) }
+        ensures taken { TakesRows protocol requestor request (slice_index_or self.old.rows block []) (slice_index_or self.new.rows block []) }
+        ensures others { self.new.rows ≡ slice_set self.old.rows block (slice_index_or self.new.rows block []) }
+        ensures many { length self.new.lines ≡ length self.old.lines }
+        ensures lines { LinesGo block self.old self.new }
     {
-        let concerned = self.concerned(requestor, request);
+        let concerned = self.concerned(block, requestor, request);
         let mut from = 0;
         while let Some(core) = concerned.next(from) {
-            let state = self.state(core);
+            let line = self.get(core, block);
             let event = event_seen(core, requestor, request);
-            let Some(cell) = cache_cell(protocol, state, event) else {
+            let Some(cell) = cache_cell(protocol, line.state, event) else {
                 unreachable!();
             };
-            if !is_same(cell.next, state) {
-                self.come_to(core, cell.next);
+            if !is_same(cell.next, line.state) {
+                self.set(core, block, moved_to(line, cell.next));
             }
             from = core + 1;
         }
@@ -106,18 +118,20 @@ fn message_of_memory(memory: MemLine, cell: MemCell) -> Option<Message>
     }
 }
 
-impl BlockLines {
-    /// The message of the one controller that sends.
+impl Lines {
+    /// The message of the one controller that sends, for a request on the block.
     pub(crate) fn message(
         &self,
         protocol: Protocol,
         memory: MemLine,
         requestor: u32,
         request: Request,
+        block: u32,
     ) -> Message
-        requires waits { waiting_request (held_at self.now requestor).state ≡ Some request }
-        requires finds { FindsRows protocol (free_picture self.now memory) requestor request }
-        ensures { IsMessage protocol (free_picture self.now memory) requestor request result }
+        requires block { block < length self.now.rows }
+        requires waits { waiting_request (held_at (slice_index_or self.now.rows block []) requestor).state ≡ Some request }
+        requires finds { FindsRows protocol (free_picture (slice_index_or self.now.rows block []) memory) requestor request }
+        ensures { IsMessage protocol (free_picture (slice_index_or self.now.rows block []) memory) requestor request result }
     {
         let Some(cell) = mem_cell(protocol, memory.state, event_at_memory(request)) else {
             unreachable!();
@@ -125,16 +139,15 @@ impl BlockLines {
         if let Some(message) = message_of_memory(memory, cell) {
             return message;
         }
-        let concerned = self.concerned(requestor, request);
+        let concerned = self.concerned(block, requestor, request);
         let mut from = 0;
         while let Some(core) = concerned.next(from) {
-            let state = self.state(core);
-            let Some(cell) = cache_cell(protocol, state, event_seen(core, requestor, request))
+            let line = self.get(core, block);
+            let Some(cell) = cache_cell(protocol, line.state, event_seen(core, requestor, request))
             else {
                 unreachable!();
             };
             if let CacheAction::Send(payload, _) = cell.action {
-                let line = self.get(core as usize);
                 return Message {
                     payload,
                     value: value_for(line, payload),

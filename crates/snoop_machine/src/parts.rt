@@ -1,10 +1,12 @@
 //! The parts of a machine, which its steps change one after another.
-ghost use Rattle.std.specs.Prelude.{◌≡◌, ◌<◌, ◌↔◌, length, is_some, IsTrue, IfOk, IfSome, Some};
+ghost use Rattle.std.specs.Prelude.{◌≡◌, ◌<◌, ◌↔◌, ℕ, length, is_some, IsTrue, IfOk, IfSome, Some};
 ghost use Rattle.snoop_bus.specs.Queues.{queue_of};
 ghost use Rattle.snoop_model.specs.Pictures.Picture.{first_memory, held_by};
 ghost use Rattle.snoop_model.specs.Pictures.Situation.{picture_of, reset, state_of};
 ghost use Rattle.snoop_model.specs.Pictures.Sound.{IsProper, keeps, line_at};
 ghost use Rattle.snoop_model.specs.Moves.Move.{next_did};
+ghost use Rattle.snoop_model.specs.Moves.Standing.{lines_of};
+ghost use Rattle.snoop_model.specs.Moves.Holding.{HasHeldLines};
 
 mod ask;
 mod order;
@@ -46,7 +48,8 @@ impl Model for Parts {
 impl Parts {
     /// The parts of a machine at reset.
     pub(crate) fn reset(alloc: Global, protocol: Protocol, shape: Shape) -> Result<Self, NoMemory>
-        ensures { IfOk result (λ parts. parts.situation ≡ reset protocol shape) }
+        ensures situation { IfOk result (λ parts. parts.situation ≡ reset protocol shape) }
+        ensures empty { IfOk result (λ parts. (core : ℕ) → lines_of parts core ≡ 0) }
     {
         prove!(shape.cores() <= 256);
         let lines = Lines::new(alloc, shape)?;
@@ -136,6 +139,15 @@ impl Parts {
         ensures { IsTrue result ↔ (0 < length (queue_of self.now.situation.queues core)) }
     {
         self.bus.head(core).is_some()
+    }
+
+    /// How many lines the core's map has, or `None` outside the shape.
+    pub(crate) fn lines(&self, core: u32) -> Option<usize>
+        ensures inside { core < self.now.situation.shape.cores → result ≡ Some (lines_of self.now core) }
+        ensures held { HasHeldLines self.now core }
+        ensures outside { IfSome result (λ _. core < self.now.situation.shape.cores) }
+    {
+        self.lines.len(core)
     }
 
     /// The history of all that was performed, ordered and answered.

@@ -1,5 +1,6 @@
 mod core_set;
 mod holders;
+mod lines;
 mod memory;
 mod plain_reading;
 mod runs;

@@ -14,9 +14,9 @@ mod watching;
 
 use anyhow::{Context, Result};
 use counter::Counter;
+use snoop_engine::simulate_steps;
 use snoop_machine::{Machine, run_steps};
 use snoop_rules::Protocol;
-use snoop_sim::simulate_steps;
 use snoop_trace::{AnyWriter, Shape, read_steps, write_steps};
 use std::alloc::Global;
 use std::rt::Clock;

@@ -1,7 +1,6 @@
 -- Runs.
 pub mod GoOn
 pub mod AreOne
-pub mod AmpleRoom
 pub mod AllTaken
 pub mod Shape
 pub mod Replies

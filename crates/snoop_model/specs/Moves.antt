@@ -9,3 +9,4 @@ pub mod Meets
 pub mod Led
 pub mod Standing
 pub mod Prepared
+pub mod Holding

@@ -7,7 +7,6 @@ ghost use Rattle.snoop_model.specs.Pictures.Picture.{held_by};
 ghost use Rattle.snoop_model.specs.Pictures.Sound.{IsProper};
 ghost use Rattle.snoop_model.specs.Pictures.Situation.{picture_of, Waits};
 ghost use Rattle.snoop_model.specs.Runs.Run.{EveryRun, RunsAreOne, RunsGoOn, TakenBegins, TakenGoesOn};
-ghost use Rattle.snoop_model.specs.Runs.Runs.{RoomIsEnough};
 ghost use Rattle.snoop_model.specs.Runs.Tallied.{AskedAreTallied};
 ghost use Rattle.snoop_model.specs.Pictures.OneWriter.{OneWriter};
 ghost use Rattle.snoop_model.specs.Pictures.Current.{IsCurrent};
@@ -52,15 +51,6 @@ pub fn runs_go_on()
 /// outcomes and lead to one situation.
 pub fn runs_are_one()
     ensures { RunsAreOne }
-{}
-
-/// A machine that has room for all of its steps takes each that is not refused for a cause: `run_steps` then leads where the
-/// one run of the steps leads.
-///
-/// So no step is left out as out of memory where there was room. (A law about the definitions: the contracts promise room only
-/// for the one step that `prepare` was called for.)
-pub fn room_is_enough()
-    ensures { RoomIsEnough }
 {}
 
 /// Steps that were all taken from reset, and one more that is taken, were all taken.

@@ -1,3 +1,5 @@
+mod memory;
+
 use crate::table::STATES;
 use crate::{Protocol, Which, may_load, may_store, write_table};
 use snoop_trace::{AnyWriter, WriteFault};

@@ -1,11 +1,3 @@
-pub mod TakenLemmas
-pub mod SimulatedLemmas
-pub mod Driving
-pub mod Fewer
-pub mod Rounds
-pub mod Dealing
-pub mod Journeys
-pub mod DrivenLemmas
 pub mod Threading
 pub mod OptionLemmas
 pub mod CommandLineLemmas

@@ -17,7 +17,7 @@ use Rattle.snoop_cores.specs.declared.stop.Stop.{Stop}
 use Rattle.snoop_cores.specs.Seats.{AreSeats, IsNew, Seating}
 use Rattle.snoop_cores.specs.Rows.{Answers, Grows, RanTo, rows_of}
 use Rattle.snoop_cores.specs.Joined.{IsJoined}
-use Rattle.snoop_sim.specs.SimulatedRun.{ReadsRows}
+use Rattle.snoop_engine.specs.SimulatedRun.{ReadsRows}
 use Rattle.snoop_sim.specs.Threaded.{SimulatesThreads, Threaded}
 use Rattle.snoop_sim.specs.ThreadsFault.{unwritten}
 use Rattle.snoop_sim.specs.declared.fault.ThreadsFault.{ThreadsFault}

@@ -1,13 +1,3 @@
-pub mod Fault
-pub mod Line
-pub mod Written
-pub mod Simulated
-pub mod Todo
-pub mod Round
-pub mod Served
-pub mod Journey
-pub mod Driven
-pub mod SimulatedRun
 pub mod ThreadsFault
 pub mod Threaded
 pub mod Status

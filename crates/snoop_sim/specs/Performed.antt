@@ -1,17 +1,19 @@
 -- What the program leaves for what it was asked, and the status that it ends with.
 -- Source: this project's profile.
-use Rattle.std.specs.Prelude.{◌≡◌, ◌⊎◌, ℕ, List, Option, Result, Ok, Err}
+use Rattle.std.specs.Prelude.{◌≡◌, ◌≢◌, ◌⊎◌, ◌<◌, ◌-◌, ◌^◌, ℕ, Bool, true, List, length, Option, IsSomeAnd, Result, Ok, Err}
 use Rattle.std.specs.Io.KnownBytes.{Appends}
 use Rattle.snoop_trace.specs.Output.{AppendsFront}
 use Rattle.snoop_rules.specs.TableText.{table_text}
 use Rattle.clap.specs.Words.{Text}
 use Rattle.snoop_sim.specs.Asked.{Asks, Refuses}
-use Rattle.snoop_sim.specs.Simulated.{Simulates}
-use Rattle.snoop_sim.specs.SimulatedRun.{SimulatesRun}
+use Rattle.snoop_engine.specs.Simulated.{Simulates}
+use Rattle.snoop_engine.specs.SimulatedRun.{SimulatesRun}
 use Rattle.snoop_sim.specs.Threaded.{SimulatesThreads}
 use Rattle.snoop_sim.specs.Status.{status_of}
-use Rattle.snoop_sim.specs.declared.fault.SimFault.{SimFault}
-use Rattle.snoop_sim.specs.declared.fault.SimFault.TheVariants.{Text as TextRefused, NoMemory, Write}
+use Rattle.snoop_engine.specs.declared.fault.SimFault.{SimFault}
+use Rattle.snoop_engine.specs.declared.fault.SimFault.TheVariants.{Text as TextRefused, NoMemory, Write}
+use Rattle.snoop_trace.specs.declared.fault.TextFault.TheVariants.{Read}
+use Rattle.snoop_sim.specs.declared.fault.ThreadsFault.TheVariants.{Text as RowsRefused}
 use Rattle.snoop_sim.specs.declared.failure.Failure.{Failure}
 use Rattle.snoop_sim.specs.declared.failure.Failure.TheVariants.{Simulation, Threads as ThreadsFailure}
 use Rattle.snoop_sim.specs.declared.options.Task.{Task}
@@ -47,6 +49,15 @@ abbrev pub status_of_ending : Result (Unit {0}) Failure → ℕ
 status_of_ending (Ok u) = 0
 status_of_ending (Err failure) = status_of failure
 
--- the program, for these words and this input, ended with this status, and left this
-abbrev pub Ends : List Text → Option (List ℕ) → ℕ → Option (List ℕ) → Option (List ℕ) → Type 0
-Ends words input status old new = (ending : Result (Unit {0}) Failure) × (status ≡ status_of_ending ending) × Leaves words input ending old new
+-- no failed read is reported
+abbrev pub BlamesNoReader : Result (Unit {0}) Failure → Type 0
+BlamesNoReader ending = (ending ≢ Err (Simulation (TextRefused Read))) × (ending ≢ Err (ThreadsFailure (RowsRefused Read)))
+
+-- a reader that never fails, with a text that it holds, is not blamed
+abbrev pub IsFairToReader : Bool → Option (List ℕ) → Result (Unit {0}) Failure → Type 0
+IsFairToReader never_fails input ending = never_fails ≡ true → IsSomeAnd input (λ bytes. length bytes < 2 ^ 64 - 1) → BlamesNoReader ending
+
+-- the program, for these words and this input, ended with this status, and left this; whether its reader never fails
+abbrev pub Ends : List Text → Bool → Option (List ℕ) → ℕ → Option (List ℕ) → Option (List ℕ) → Type 0
+Ends words never_fails input status old new = (ending : Result (Unit {0}) Failure) × (status ≡ status_of_ending ending)
+    × IsFairToReader never_fails input ending × Leaves words input ending old new

@@ -4,8 +4,8 @@ use Rattle.std.specs.Prelude.{ℕ}
 use Rattle.snoop_trace.specs.declared.fault.TextFault.TheVariants as text
 use Rattle.snoop_sim.specs.declared.failure.Failure.{Failure}
 use Rattle.snoop_sim.specs.declared.failure.Failure.TheVariants.{CommandLine, NoCommand, NotUtf8, Shape, Simulation, Threads}
-use Rattle.snoop_sim.specs.declared.fault.SimFault.{SimFault}
-use Rattle.snoop_sim.specs.declared.fault.SimFault.TheVariants.{Text, NoMemory, Write}
+use Rattle.snoop_engine.specs.declared.fault.SimFault.{SimFault}
+use Rattle.snoop_engine.specs.declared.fault.SimFault.TheVariants.{Text, NoMemory, Write}
 use Rattle.snoop_sim.specs.declared.fault.ThreadsFault.{ThreadsFault}
 use Rattle.snoop_sim.specs.declared.fault.ThreadsFault.TheVariants as threads
 

@@ -12,7 +12,7 @@ use Rattle.snoop_model.specs.Pictures.Situation.{Situation}
 use Rattle.snoop_model.specs.Turns.Quiet.{IsQuiet}
 use Rattle.snoop_model.specs.Runs.Run.{AllTaken}
 use Rattle.snoop_cores.specs.Rows.{Answers, rows_of}
-use Rattle.snoop_sim.specs.SimulatedRun.{ReadsRows}
+use Rattle.snoop_engine.specs.SimulatedRun.{ReadsRows}
 use Rattle.snoop_sim.specs.ThreadsFault.{IsOfThreads}
 use Rattle.snoop_sim.specs.declared.fault.ThreadsFault.{ThreadsFault}
 use Rattle.snoop_sim.specs.declared.fault.ThreadsFault.TheVariants.{Text, NoMemory, Write}

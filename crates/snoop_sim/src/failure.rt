@@ -4,8 +4,9 @@ ghost use Rattle.std.specs.IoError.{error_kind};
 ghost use Rattle.std.specs.declared.io.ErrorKind.TheVariants as io_kind;
 ghost use Rattle.snoop_sim.specs.Status.{status_of};
 
-use crate::fault::{SimFault, ThreadsFault};
+use crate::fault::ThreadsFault;
 use clap::error::ErrorKind;
+use snoop_engine::SimFault;
 use snoop_trace::{ShapeFault, TextFault};
 use std::alloc::AllocError;
 use std::io;
@@ -66,7 +67,7 @@ impl From<clap::Error> for Failure {
     ghost use Rattle.std.specs.Prelude.{◌≡◌, ◌≢◌, ◌⊎◌};
     ghost use Rattle.clap.specs.Values.{kind_of};
     ghost use Rattle.clap.specs.declared.error.kind.ErrorKind.TheVariants.{OutOfMemory};
-    ghost use Rattle.snoop_sim.specs.declared.fault.SimFault.TheVariants.{NoMemory};
+    ghost use Rattle.snoop_engine.specs.declared.fault.SimFault.TheVariants.{NoMemory};
     ghost use Rattle.snoop_sim.specs.declared.failure.Failure.TheVariants as failure;
 
     ghost from_gives = { λ e r. ((kind_of e ≡ OutOfMemory) × (r ≡ failure.Simulation NoMemory)) ⊎ ((kind_of e ≢ OutOfMemory) × (r ≡ failure.CommandLine e)) };
@@ -82,7 +83,7 @@ impl From<clap::Error> for Failure {
 
 impl From<AllocError> for Failure {
     ghost use Rattle.std.specs.Prelude.{◌≡◌};
-    ghost use Rattle.snoop_sim.specs.declared.fault.SimFault.TheVariants.{NoMemory};
+    ghost use Rattle.snoop_engine.specs.declared.fault.SimFault.TheVariants.{NoMemory};
     ghost use Rattle.snoop_sim.specs.declared.failure.Failure.TheVariants as failure;
 
     ghost from_gives = { λ e r. r ≡ failure.Simulation NoMemory };

@@ -1,33 +1,8 @@
-//! Why a simulation stopped.
+//! Why a simulation in threads stopped.
 
 use snoop_cores::{GatherFault, MakeFault, RunFault, SeatFault, Stop};
 use snoop_trace::{TextFault, WriteFault};
 use thiserror::Error;
-
-/// Why a simulation stopped. After `Text` nothing was written; what was written at the others, `simulate_steps` and `simulate_run` say.
-#[derive(Clone, Copy, Debug, PartialEq, Eq, Error)]
-pub enum SimFault {
-    #[error(transparent)]
-    Text(TextFault),
-    #[error("NoMemory")]
-    NoMemory,
-    #[error("Write")]
-    Write,
-}
-
-impl From<WriteFault> for SimFault {
-    ghost use Rattle.std.specs.Prelude.{◌≡◌};
-    ghost use Rattle.snoop_sim.specs.Fault.{written};
-
-    ghost from_gives = { λ e r. r ≡ written e };
-
-    fn from(fault: WriteFault) -> Self {
-        match fault {
-            WriteFault::Write => SimFault::Write,
-            WriteFault::NoMemory => SimFault::NoMemory,
-        }
-    }
-}
 
 /// Why a simulation in threads stopped. What was written at each, `simulate_threads` says.
 #[derive(Clone, Copy, Debug, PartialEq, Eq, Error)]

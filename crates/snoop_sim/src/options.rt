@@ -35,6 +35,10 @@ macro_rules! help_text {
 Exit status:
   0  done, even where steps were refused
   1  the text was refused; nothing was written
+     Of its first faulty record, counted without blank lines:
+       BadKind, BadFields  no such letter; another number of fields
+       BadNumber           no number up to 2^64 - 1
+       NoCore, NoBlock     outside --cores; outside --blocks
   2  the command line or the shape was refused; nothing was written
   3  out of memory
   4  a write failed
@@ -162,19 +166,19 @@ fn grammar<'a>(alloc: Global) -> Result<Command<'a>, AllocError>
         .subcommand(simulation(
             alloc,
             "steps",
-            "Take the steps of standard input, and write each one's reply and a report",
+            "Read steps; write each one's reply and a report",
             STEPS_HELP,
         )?)?
         .subcommand(simulation(
             alloc,
             "run",
-            "Let each core do its rows of standard input, and write each step's reply and a report",
+            "Read what each core does; write each step's reply and a report",
             RUN_HELP,
         )?)?
         .subcommand(simulation(
             alloc,
             "threads",
-            "Let a thread for each core do its rows of standard input, and write the steps taken",
+            "Read what each core does, let a thread for each do it; write the steps taken",
             THREADS_HELP,
         )?)?
         .subcommand(table(alloc)?)

@@ -2,14 +2,12 @@
 ghost use Rattle.std.specs.Prelude.{◌≡◌, ◌≢◌, ◌<◌, ℕ, List, map, string_bytes, true, IfErr};
 ghost use Rattle.std.specs.IoError.{error_kind};
 ghost use Rattle.snoop_sim.specs.Status.{status_of};
-ghost use Rattle.snoop_sim.specs.Performed.{Ends, Leaves, Performs, Writes};
+ghost use Rattle.snoop_sim.specs.Performed.{Ends, IsFairToReader, Leaves, Performs, Writes};
 
 use crate::failure::Failure;
-use crate::fault::SimFault;
 use crate::options::{Task, task_in};
-use crate::run::simulate_run;
-use crate::steps::simulate_steps;
 use crate::threads::simulate_threads;
+use snoop_engine::{SimFault, simulate_run, simulate_steps};
 use snoop_rules::write_table;
 use snoop_trace::{Sink, Source, write_whole};
 use std::alloc::Global;
@@ -32,7 +30,7 @@ pub fn command<T: Threads + Wait + Sync, R: Source + Drop, W: Sink, E: Write>(
     writer: &mut W,
     errors: &mut E,
 ) -> u8
-    ensures does { Ends (map string_bytes words.now) (R.remaining reader) result (W.contents writer.old) (W.contents writer.new) }
+    ensures does { Ends (map string_bytes words.now) R.never_fails (R.remaining reader) result (W.contents writer.old) (W.contents writer.new) }
     ensures known { result < 6 }
     // A text, a command line or a shape is refused before anything is written.
     ensures unwritten { 0 < result → result < 3 → W.contents writer.new ≡ W.contents writer.old }
@@ -64,6 +62,7 @@ fn perform<T: Threads + Wait + Sync, R: Source + Drop, W: Sink>(
     writer: &mut W,
 ) -> Result<(), Failure>
     ensures does { Leaves (map string_bytes words.now) (R.remaining reader) result (W.contents writer.old) (W.contents writer.new) }
+    ensures reads { IsFairToReader R.never_fails (R.remaining reader) result }
     ensures unwritten { IfErr result (λ failure. status_of failure < 3 → W.contents writer.new ≡ W.contents writer.old) }
     ensures refused { IfErr result (λ failure. status_of failure ≡ 5 → W.contents writer.new ≡ W.contents writer.old) }
     ensures never_blamed { IfErr result (λ failure. W.never_fails ≡ true → status_of failure ≢ 4) }
@@ -80,6 +79,7 @@ fn perform_task<T: Threads + Wait + Sync, R: Source + Drop, W: Sink>(
     writer: &mut W,
 ) -> Result<(), Failure>
     ensures does { Performs task (R.remaining reader) result (W.contents writer.old) (W.contents writer.new) }
+    ensures reads { IsFairToReader R.never_fails (R.remaining reader) result }
     ensures unwritten { IfErr result (λ failure. status_of failure < 3 → W.contents writer.new ≡ W.contents writer.old) }
     ensures refused { IfErr result (λ failure. status_of failure ≡ 5 → W.contents writer.new ≡ W.contents writer.old) }
     ensures never_blamed { IfErr result (λ failure. W.never_fails ≡ true → status_of failure ≢ 4) }

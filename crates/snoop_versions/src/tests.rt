@@ -2,6 +2,8 @@ ghost use Rattle.std.specs.Prelude.{◌≡◌, [], IsTrue};
 ghost use Rattle.std.specs.Option.{ForSome};
 ghost use Rattle.snoop_history.specs.History.{Legal, operation_of, flat};
 
+mod memory;
+
 use crate::{VersionReader, VersionWriter};
 use snoop_history::{Did, Item, Log, Sent, Totals};
 use snoop_rules::Request;

@@ -136,3 +136,22 @@ fn a_late_gate_stops_a_core_at_its_row(rt: HostRuntime) -> Result<(), Fail> {
     assert_eq!(rt; answered, Some(1));
     Ok(())
 }
+
+#[test]
+fn a_late_gate_stops_a_core_at_an_eviction(rt: HostRuntime) -> Result<(), Fail> {
+    let mut scene = Scene::new(&rt, rt.alloc(), 1)?;
+    let rows = [row(0, Op::Store(5), 0), row(0, Op::Evict, 0)];
+    let stops = run_seats(
+        &rt,
+        rt.alloc(),
+        scene.seats.as_mut_slice(),
+        rows.as_slice(),
+        &Shut,
+    );
+    scene.end(&rt);
+    let Ok(stops) = stops else {
+        return Err(Fail::from("rows"));
+    };
+    assert_eq!(rt; stops.as_slice(), [Some(crate::Stop::Late(1))].as_slice());
+    Ok(())
+}

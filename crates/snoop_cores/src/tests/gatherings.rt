@@ -1,4 +1,4 @@
-//! Gatherings that are refused.
+//! Gatherings that are refused, and one made twice.
 
 use crate::tests::scene::Scene;
 use crate::{GatherFault, Seat, Work, gather};
@@ -55,5 +55,22 @@ fn work_under_way(rt: HostRuntime) -> Result<(), Fail> {
     scene.end(&rt);
     assert!(rt; turn);
     assert_eq!(rt; fault, Some(GatherFault::Pending { core: 1 }));
+    Ok(())
+}
+
+#[test]
+fn a_gathering_changes_nothing(rt: HostRuntime) -> Result<(), Fail> {
+    let mut scene = Scene::new(&rt, rt.alloc(), 2)?;
+    let stored = scene.store(&rt, 0, 0, 5);
+    let first = scene.gathered(&rt, rt.alloc());
+    let second = scene.gathered(&rt, rt.alloc());
+    scene.end(&rt);
+    assert_eq!(rt; stored, Some(Ok(())));
+    let (Some(first), Some(second)) = (first, second) else {
+        return Err(Fail::from("a gathering"));
+    };
+    assert_eq!(rt; first.steps.len(), 3);
+    assert_eq!(rt; first.steps.as_slice(), second.steps.as_slice());
+    assert_eq!(rt; first.log.items(), second.log.items());
     Ok(())
 }

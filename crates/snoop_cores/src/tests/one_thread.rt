@@ -1,10 +1,10 @@
 //! Calls of seats in one thread.
 
 use crate::Evicted;
-use crate::tests::scene::{Scene, counts};
+use crate::tests::scene::{HANDOVER, Scene, counts};
 use snoop_machine::{Machine, run_steps};
 use snoop_rules::Protocol;
-use snoop_trace::{Op, Shape, Step};
+use snoop_trace::Shape;
 use std::test::Fail;
 
 #[test]
@@ -29,30 +29,14 @@ fn a_store_is_handed_over_to_the_other_seat(rt: HostRuntime) -> Result<(), Fail>
         assert!(rt; before <= after);
     }
     assert_eq!(rt; value, Some(Ok(5)));
-    let steps = [
-        Step::Ask {
-            core: 0,
-            block: 0,
-            op: Op::Store(5),
-        },
-        Step::Order { core: 0 },
-        Step::Respond { block: 0 },
-        Step::Ask {
-            core: 1,
-            block: 0,
-            op: Op::Load,
-        },
-        Step::Order { core: 1 },
-        Step::Respond { block: 0 },
-    ];
-    assert_eq!(rt; gathered.steps.as_slice(), steps.as_slice());
+    assert_eq!(rt; gathered.steps.as_slice(), HANDOVER.as_slice());
     let Ok(shape) = Shape::new(2, 4, 64) else {
         return Err(Fail::from("a shape"));
     };
     let mut fresh = Machine::reset(rt.alloc(), Protocol::Msi, shape).map_err(|_| Fail::from(
         "a machine",
     ))?;
-    assert_eq!(rt; run_steps(&mut fresh, steps.as_slice()), 6);
+    assert_eq!(rt; run_steps(&mut fresh, HANDOVER.as_slice()), 6);
     assert_eq!(rt; fresh.log().items(), gathered.log.items());
     Ok(())
 }

@@ -1,10 +1,13 @@
 //! An Ask: found, and made.
-ghost use Rattle.std.specs.Prelude.{◌≡◌, ◌+◌, ◌<◌, [], ◌∷◌, ◌++◌, slice_index, slice_index_or, slice_set, IfOk, IfErr, None, Some, true, Err};
+ghost use Rattle.std.specs.Prelude.{◌≡◌, ◌≢◌, ◌+◌, ◌<◌, ℕ, [], ◌∷◌, ◌++◌, slice_index_or, slice_set, IfOk, IfErr, None, Some, true, Err};
 ghost use Rattle.snoop_trace.specs.declared.step.Step.TheVariants.{Ask};
 ghost use Rattle.snoop_rules.specs.Waits.{waiting_request};
 ghost use Rattle.snoop_bus.specs.Queues.{after_issue};
 ghost use Rattle.snoop_history.specs.declared.items.Item.TheVariants.{Did as ItemDid};
+ghost use Rattle.snoop_rules.specs.declared.names.CacheState.TheVariants.{I};
 ghost use Rattle.snoop_model.specs.Moves.Standing.{KeepsRoom};
+ghost use Rattle.snoop_model.specs.Moves.Prepared.{room_to_issue};
+ghost use Rattle.snoop_machine.specs.Following.{LosesLines};
 ghost use Rattle.snoop_model.specs.Pictures.Sound.{IsProper, line_at};
 ghost use Rattle.snoop_model.specs.Moves.Move.{next_did, hit_reply as reply_to_hit};
 ghost use Rattle.snoop_machine.specs.Asked.{TakesAsk};
@@ -49,9 +52,10 @@ impl Parts {
         requires block { block < self.old.situation.shape.blocks }
         requires found { TakesAsk self.old.situation.protocol (line_at self.old.situation.caches core block) op asked }
         requires proper { IsProper (line_at self.old.situation.caches core block) }
-        requires room { 0 < room_for_ask self.old core asked }
+        requires room { 0 < room_for_ask self.old core block asked }
         ensures moved { MovesAsk self.old.situation core block op result self.new.situation (entry_of_ask self.old.situation.log core block op asked) }
         ensures room { KeepsRoom self.old self.new }
+        ensures lines { (k : ℕ) → LosesLines self.old self.new k }
     {
         match asked {
             Asked::Absent => Reply::Absent,
@@ -74,12 +78,13 @@ impl Parts {
     fn issue_line(&mut self, core: u32, block: u32, line: Line, request: Request)
         requires core { core < self.old.situation.shape.cores }
         requires block { block < self.old.situation.shape.blocks }
-        requires room { 0 < slice_index self.old.rooms core }
+        requires room { 0 < room_to_issue self.old core block }
         requires idle { waiting_request (line_at self.old.situation.caches core block).state ≡ None }
         requires waits { waiting_request line.state ≡ Some request }
         requires proper { IsProper line }
         ensures written { self.new.situation ≡ record self.old.situation { caches = slice_set self.old.situation.caches block (slice_set (slice_index_or self.old.situation.caches block []) core line); queues = after_issue self.old.situation.queues core block } }
         ensures room { KeepsRoom self.old self.new }
+        ensures lines { (k : ℕ) → LosesLines self.old self.new k }
     {
         self.lines.set(core, block, line);
         self.bus.issue(core, request, block);
@@ -90,9 +95,11 @@ impl Parts {
         requires core { core < self.old.situation.shape.cores }
         requires block { block < self.old.situation.shape.blocks }
         requires same { waiting_request line.state ≡ waiting_request (line_at self.old.situation.caches core block).state }
+        requires held { (line_at self.old.situation.caches core block).state ≢ I }
         requires proper { IsProper line }
         ensures written { self.new.situation ≡ record self.old.situation { caches = slice_set self.old.situation.caches block (slice_set (slice_index_or self.old.situation.caches block []) core line) } }
         ensures room { KeepsRoom self.old self.new }
+        ensures lines { (k : ℕ) → LosesLines self.old self.new k }
     {
         self.lines.set(core, block, line);
     }
@@ -103,9 +110,11 @@ impl Parts {
         requires block { block < self.old.situation.shape.blocks }
         requires room { 0 < self.old.room }
         requires same { waiting_request line.state ≡ waiting_request (line_at self.old.situation.caches core block).state }
+        requires held { (line_at self.old.situation.caches core block).state ≢ I }
         requires proper { IsProper line }
         ensures written { self.new.situation ≡ record self.old.situation { caches = slice_set self.old.situation.caches block (slice_set (slice_index_or self.old.situation.caches block []) core line); log = self.old.situation.log ++ ItemDid (next_did self.old.situation.log core block op value true) ∷ [] } }
         ensures room { KeepsRoom self.old self.new }
+        ensures lines { (k : ℕ) → LosesLines self.old self.new k }
     {
         let did = self.next_did(core, block, op, value, true);
         self.lines.set(core, block, line);

@@ -1,9 +1,10 @@
 //! An Order: found, and made.
-ghost use Rattle.std.specs.Prelude.{◌≡◌, ◌<◌, IfOk, IfErr, IfSome, IfNone, None, Err, slice_get};
+ghost use Rattle.std.specs.Prelude.{◌≡◌, ◌<◌, ℕ, IfOk, IfErr, IfSome, IfNone, None, Err, slice_get};
 ghost use Rattle.snoop_bus.specs.Queues.{queue_of};
 ghost use Rattle.snoop_model.specs.declared.replies.Refused.{Refused};
 ghost use Rattle.snoop_trace.specs.declared.step.Step.TheVariants.{Order};
 ghost use Rattle.snoop_model.specs.Moves.Standing.{KeepsRoom};
+ghost use Rattle.snoop_machine.specs.Following.{LosesLines};
 ghost use Rattle.snoop_model.specs.Pictures.Situation.{picture_of};
 ghost use Rattle.snoop_model.specs.Moves.Refuses.{Refuses, WaitsOnNone};
 ghost use Rattle.snoop_model.specs.Pictures.Message.{IsMessage};
@@ -78,6 +79,7 @@ impl Parts {
         requires message { IsMessage self.old.situation.protocol (picture_of self.old.situation block) core request message }
         ensures ordered { Orders self.old.situation core block request self.new.situation }
         ensures room { KeepsRoom self.old self.new }
+        ensures lines { (k : ℕ) → LosesLines self.old self.new k }
     {
         self.lines.take_rows(self.protocol, core, request, block);
         self.memory[block as usize].state = memory;

@@ -1,8 +1,9 @@
 //! A Respond: found, and made.
-ghost use Rattle.std.specs.Prelude.{◌≡◌, ◌≢◌, ◌<◌, IfOk, IfErr, IfSome, Some, None, slice_index_or, Err};
+ghost use Rattle.std.specs.Prelude.{◌≡◌, ◌≢◌, ◌<◌, ℕ, IfOk, IfErr, IfSome, Some, None, slice_index_or, Err};
 ghost use Rattle.snoop_trace.specs.declared.step.Step.TheVariants.{Respond};
 ghost use Rattle.snoop_rules.specs.declared.names.Request.TheVariants.{PutM};
 ghost use Rattle.snoop_model.specs.Moves.Standing.{KeepsRoom};
+ghost use Rattle.snoop_machine.specs.Following.{LosesLines};
 ghost use Rattle.snoop_model.specs.Pictures.Situation.{picture_of, no_memory};
 ghost use Rattle.snoop_model.specs.Pictures.Sound.{line_at};
 ghost use Rattle.snoop_machine.specs.Arrive.{FillsLine, ArrivesIn};
@@ -75,6 +76,7 @@ impl Parts {
         requires memory { ArrivesIn closing.request self.old.situation.protocol closing.payload closing.value (slice_index_or self.old.situation.memory block no_memory) memory }
         ensures responded { Responds self.old.situation block closing None self.new.situation }
         ensures room { KeepsRoom self.old self.new }
+        ensures lines { (k : ℕ) → LosesLines self.old self.new k }
     {
         self.memory[block as usize] = memory;
         let _ = self.bus.finish(block);
@@ -99,6 +101,7 @@ impl Parts {
         requires memory { ArrivesIn closing.request self.old.situation.protocol closing.payload closing.value (slice_index_or self.old.situation.memory block no_memory) memory }
         ensures responded { Responds self.old.situation block closing (Some result) self.new.situation }
         ensures room { KeepsRoom self.old self.new }
+        ensures lines { (k : ℕ) → LosesLines self.old self.new k }
     {
         let did = self.next_did(closing.core, closing.block, filled.op, filled.value, false);
         self.lines.set(closing.core, block, filled.line);

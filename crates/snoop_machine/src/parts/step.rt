@@ -1,12 +1,16 @@
 //! A step in its three stages: find, make room, make.
-ghost use Rattle.std.specs.Prelude.{◌≡◌, ◌<◌, ◌++◌, Option, OnOk, OnErr, IfOk, IfErr, IsOk, Err, slice_index, option_to_list};
+ghost use Rattle.std.specs.Prelude.{◌≡◌, ◌≢◌, ◌<◌, ◌+◌, ◌++◌, ℕ, true, false, Option, OnOk, OnErr, IfOk, IfErr, IsOk, Err, slice_index, option_to_list};
 ghost use Rattle.snoop_history.specs.declared.items.Item.{Item};
 ghost use Rattle.snoop_model.specs.declared.replies.Refused.TheVariants.{NoMemory as WantOfMemory};
 ghost use Rattle.snoop_model.specs.declared.replies.Reply.TheVariants.{Came as CameReply};
 ghost use Rattle.snoop_model.specs.Moves.Move.{FirstMove};
 ghost use Rattle.snoop_model.specs.Moves.StepMove.{RefusedFor, IsDenied};
-ghost use Rattle.snoop_model.specs.Moves.Standing.{KeepsRoom};
-ghost use Rattle.snoop_model.specs.Moves.Prepared.{IsFull, IsPrepared};
+ghost use Rattle.snoop_rules.specs.declared.names.CacheState.TheVariants.{I};
+ghost use Rattle.snoop_model.specs.Pictures.Situation.{state_of};
+ghost use Rattle.snoop_model.specs.Moves.Standing.{KeepsRoom, lines_of, has_line};
+ghost use Rattle.snoop_model.specs.Moves.Holding.{HoldsOn};
+ghost use Rattle.snoop_model.specs.Moves.Prepared.{IsFull, IsPrepared, room_to_issue};
+ghost use Rattle.snoop_machine.specs.Following.{LosesLines, AddsLine, AddsLinesToAsk, AddsLines};
 ghost use Rattle.snoop_machine.specs.Plan.{IsPlan, IsPlanFor, step_of, room_for, room_for_ask, entry_of};
 ghost use Rattle.snoop_model.specs.Moves.Refuses.{Refuses};
 ghost use Rattle.snoop_model.specs.Invariant.Coherent.{IsCoherent};
@@ -30,6 +34,7 @@ impl Parts {
         ensures exactly { (cause : Refused) → Refuses self.old.situation step cause → result ≡ Err cause }
         ensures full { result ≡ Err WantOfMemory → IsFull self.old step }
         ensures room { KeepsRoom self.old self.new }
+        ensures lines { (core : ℕ) → HoldsOn self.old self.new step core }
 
         // What `prepare` reported comes true.
         ensures prepared { (entry : Option Item) → IsPrepared self.old step entry → IsOk result × (self.new.situation.log ≡ self.old.situation.log ++ option_to_list entry) }
@@ -47,6 +52,7 @@ impl Parts {
         ensures exactly { (cause : Refused) → Refuses self.old.situation step cause → result ≡ Err cause }
         ensures full { result ≡ Err WantOfMemory → IsFull self.old step }
         ensures room { KeepsRoom self.old self.new }
+        ensures lines { (core : ℕ) → HoldsOn self.old self.new step core }
         ensures unchanged { self.new.situation ≡ self.old.situation }
     {
         let plan = self.planned(step)?;
@@ -81,28 +87,78 @@ impl Parts {
         ensures full { OnErr result (room_for self.old plan ≡ 0) }
         ensures refused { OnErr result (self.new ≡ self.old) }
         ensures room { KeepsRoom self.old self.new }
+        ensures lines { (core : ℕ) → AddsLines plan self.old self.new core }
         ensures unchanged { self.new.situation ≡ self.old.situation }
     {
         match plan {
-            Plan::Ask { core, asked, .. } => self.make_room_to_ask(core, asked),
+            Plan::Ask {
+                core,
+                block,
+                asked,
+                ..
+            } => self.make_room_to_ask(core, block, asked),
             Plan::Order { .. } | Plan::Writeback { .. } | Plan::Fill { .. } => self.reserve_item(),
         }
     }
 
     /// Makes room for what an Ask of the core adds.
-    fn make_room_to_ask(&mut self, core: u32, asked: Asked) -> Result<(), NoMemory>
+    fn make_room_to_ask(&mut self, core: u32, block: u32, asked: Asked) -> Result<(), NoMemory>
         requires { core < self.old.situation.shape.cores }
-        ensures ok { OnOk result (0 < room_for_ask self.new core asked) }
-        ensures full { OnErr result (room_for_ask self.old core asked ≡ 0) }
+        ensures ok { OnOk result (0 < room_for_ask self.new core block asked) }
+        ensures full { OnErr result (room_for_ask self.old core block asked ≡ 0) }
         ensures refused { OnErr result (self.new ≡ self.old) }
         ensures room { KeepsRoom self.old self.new }
+        ensures lines { (k : ℕ) → AddsLinesToAsk asked core block self.old self.new k }
         ensures unchanged { self.new.situation ≡ self.old.situation }
     {
         match asked {
             Asked::Hit(..) => self.reserve_item(),
-            Asked::Issue(..) => self.reserve_request(core),
+            Asked::Issue(..) => self.make_room_to_issue(core, block),
             Asked::Absent | Asked::Drop(_) => Ok(()),
         }
+    }
+
+    /// Makes room for one more request of the core for the block, and puts in the line that will wait for it.
+    fn make_room_to_issue(&mut self, core: u32, block: u32) -> Result<(), NoMemory>
+        requires { core < self.old.situation.shape.cores }
+        ensures ok { OnOk result (0 < room_to_issue self.new core block) }
+        ensures full { OnErr result (room_to_issue self.old core block ≡ 0) }
+        ensures refused { OnErr result (self.new ≡ self.old) }
+        ensures room { KeepsRoom self.old self.new }
+        ensures lines { (k : ℕ) → AddsLine core block self.old self.new k }
+        ensures unchanged { self.new.situation ≡ self.old.situation }
+    {
+        if self.has_line(core, block) {
+            self.reserve_request(core)
+        } else {
+            self.add_line(core, block)
+        }
+    }
+
+    /// Whether the core's map has a line for the block, which it has where the core holds the block.
+    fn has_line(&self, core: u32, block: u32) -> bool
+        requires { core < self.now.situation.shape.cores }
+        ensures line { result ≡ has_line self.now core block }
+        ensures held { result ≡ false → state_of self.now.situation core block ≡ I }
+    {
+        self.lines.has(core, block)
+    }
+
+    /// Puts in a line in I for a block that the core's map has none for, once there is room for one more request of the core.
+    fn add_line(&mut self, core: u32, block: u32) -> Result<(), NoMemory>
+        requires core { core < self.old.situation.shape.cores }
+        requires absent { has_line self.old core block ≡ false }
+        ensures ok { OnOk result ((has_line self.new core block ≡ true) × (0 < slice_index self.new.rooms core)) }
+        ensures refused { OnErr result (self.new ≡ self.old) }
+        ensures room { KeepsRoom self.old self.new }
+        ensures more { OnOk result (lines_of self.new core ≡ lines_of self.old core + 1) }
+        ensures others { (k : ℕ) → k ≢ core → lines_of self.new k ≡ lines_of self.old k }
+        ensures unchanged { self.new.situation ≡ self.old.situation }
+    {
+        self.lines.reserve(core)?;
+        self.bus.reserve(core)?;
+        self.lines.put_ahead(core, block);
+        Ok(())
     }
 
     /// Makes room for one more request of the core.
@@ -112,6 +168,7 @@ impl Parts {
         ensures full { OnErr result (slice_index self.old.rooms core ≡ 0) }
         ensures refused { OnErr result (self.new ≡ self.old) }
         ensures room { KeepsRoom self.old self.new }
+        ensures lines { self.new.lines ≡ self.old.lines }
         ensures unchanged { self.new.situation ≡ self.old.situation }
     {
         // The usual case, at no cost.
@@ -127,6 +184,7 @@ impl Parts {
         ensures full { OnErr result (self.old.room ≡ 0) }
         ensures refused { OnErr result (self.new ≡ self.old) }
         ensures room { KeepsRoom self.old self.new }
+        ensures lines { self.new.lines ≡ self.old.lines }
         ensures unchanged { self.new.situation ≡ self.old.situation }
     {
         // The usual case, at no cost.
@@ -142,6 +200,7 @@ impl Parts {
         requires room { 0 < room_for self.old plan }
         ensures moved { FirstMove self.old.situation (step_of plan) result self.new.situation (entry_of self.old.situation.log plan) }
         ensures room { KeepsRoom self.old self.new }
+        ensures lines { (core : ℕ) → LosesLines self.old self.new core }
     {
         match plan {
             Plan::Ask {

@@ -40,9 +40,11 @@ fn a_step_out_of_memory_changes_nothing_and_is_taken_again(rt: HostRuntime) -> R
     let mut taken = 0u64;
     for step in UPGRADE_RACE {
         let before = seen_of(&machine);
+        let lines = [machine.lines(0), machine.lines(1)];
         let mut outcome = machine.step(step);
         if outcome == Err(Refused::NoMemory) {
             assert_eq!(rt; seen_of(&machine), before);
+            assert_eq!(rt; [machine.lines(0), machine.lines(1)], lines);
             outcome = machine.step(step);
         }
         match outcome {
@@ -62,9 +64,11 @@ fn a_prepared_step_takes_no_memory(rt: HostRuntime) -> Result<(), Fail> {
     let mut taken = 0u64;
     for step in UPGRADE_RACE {
         let before = seen_of(&machine);
+        let lines = [machine.lines(0), machine.lines(1)];
         let mut prepared = machine.prepare(step);
         if prepared == Err(Refused::NoMemory) {
             assert_eq!(rt; seen_of(&machine), before);
+            assert_eq!(rt; [machine.lines(0), machine.lines(1)], lines);
             prepared = machine.prepare(step);
         }
         assert_eq!(rt; seen_of(&machine), before);

@@ -51,6 +51,17 @@ fn has_one_writer(machine: &Machine, block: u32) -> bool {
     writers == 0 || (writers == 1 && readers == 1)
 }
 
+/// The core's map has a line for each block that the core holds, and no other: no Ask of a storm is prepared and then left.
+fn has_lines_for_held_blocks(machine: &Machine, core: u32) -> bool {
+    let mut held = 0_usize;
+    for block in 0..BLOCKS {
+        if machine.state(core, block) != Some(CacheState::I) {
+            held = held.saturating_add(1);
+        }
+    }
+    machine.lines(core) == Some(held)
+}
+
 /// A log, gone over by a plain loop beside flat memory.
 #[derive(Drop)]
 struct Replay {
@@ -142,6 +153,9 @@ fn storm(rt: &impl Abort, alloc: Global, protocol: Protocol) -> Result<(), Fail>
         taken = taken.saturating_add(run_steps(&mut machine, &[*step]));
         for block in 0..BLOCKS {
             assert!(rt; has_one_writer(&machine, block), "after {step:?}");
+        }
+        for core in 0..CORES {
+            assert!(rt; has_lines_for_held_blocks(&machine, core), "after {step:?}");
         }
     }
     let replay = replayed(machine.log());

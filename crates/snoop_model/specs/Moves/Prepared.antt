@@ -1,6 +1,6 @@
 -- Room for a step, and a step that will be taken.
 -- Source: this project's profile.
-use Rattle.std.specs.Prelude.{◌≡◌, ℕ, Option, slice_index}
+use Rattle.std.specs.Prelude.{◌≡◌, ℕ, Option, slice_index, if◌then◌else◌}
 use Rattle.snoop_trace.specs.declared.step.Step.{Step}
 use Rattle.snoop_trace.specs.declared.step.Step.TheVariants.{Ask, Order, Respond}
 use Rattle.snoop_rules.specs.declared.names.CacheState.{CacheState}
@@ -11,21 +11,25 @@ use Rattle.snoop_rules.specs.Takers.{asked}
 use Rattle.snoop_history.specs.declared.items.Item.{Item}
 use Rattle.snoop_model.specs.declared.replies.Reply.{Reply}
 use Rattle.snoop_model.specs.declared.replies.Refused.{Refused}
-use Rattle.snoop_model.specs.Moves.Standing.{Standing}
+use Rattle.snoop_model.specs.Moves.Standing.{Standing, has_line}
 use Rattle.snoop_model.specs.Pictures.Situation.{Situation, state_of}
 use Rattle.snoop_model.specs.Moves.Move.{FirstMove}
 use Rattle.snoop_model.specs.Moves.Refuses.{Refuses}
 
--- for how many more Asks of the core by this action there is room: a hit adds an item, an issue adds a request, and no other adds any
-abbrev pub room_to : CacheAction → Standing → ℕ → ℕ
-room_to Hit before core = before.room
-room_to (Issue request) before core = slice_index before.rooms core
-room_to _ before core = 1
+-- for how many more requests of the core for the block there is room: for none where the core's map has no line for it
+abbrev pub room_to_issue : Standing → ℕ → ℕ → ℕ
+room_to_issue before core block = if has_line before core block then slice_index before.rooms core else 0
 
--- there is no room for what the step adds: an item, or a request in the core's queue
+-- for how many more Asks of the core for the block by this action there is room: a hit adds an item, an issue adds a request, and no other adds any
+abbrev pub room_to : CacheAction → Standing → ℕ → ℕ → ℕ
+room_to Hit before core block = before.room
+room_to (Issue request) before core block = room_to_issue before core block
+room_to _ before core block = 1
+
+-- there is no room for what the step adds: an item, or a request in the core's queue and the line that waits for it
 abbrev pub IsFull : Standing → Step → Type 0
 IsFull before (Ask core block asking) =
-    (act : CacheAction) × ((next : CacheState) × (Cell before.situation.protocol (state_of before.situation core block) (asked asking) act next × (room_to act before core ≡ 0)))
+    (act : CacheAction) × ((next : CacheState) × (Cell before.situation.protocol (state_of before.situation core block) (asked asking) act next × (room_to act before core block ≡ 0)))
 IsFull before (Order core) = before.room ≡ 0
 IsFull before (Respond block) = before.room ≡ 0
 

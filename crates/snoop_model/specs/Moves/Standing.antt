@@ -1,14 +1,24 @@
 -- What callers see of a machine.
 -- Source: this project's profile.
-use Rattle.std.specs.Prelude.{◌≤◌, ℕ, ◌+◌, List, length, slice_index}
+use Rattle.std.specs.Prelude.{◌≤◌, ℕ, ◌+◌, Bool, List, [], length, nat_eq, slice_index, slice_index_or}
+use Rattle.std.specs.List.{list_any}
 use Rattle.snoop_bus.specs.Queues.{queue_of}
 use Rattle.snoop_model.specs.Pictures.Situation.{Situation}
 
--- the situation, for how many more requests of each core there is room, and for how many more items
+-- the situation, for how many more requests of each core there is room, for how many more items, and the blocks that each core's map has a line for
 pub record Standing : Type 0 where
   pub situation : Situation
   pub rooms : List ℕ
   pub room : ℕ
+  pub lines : List (List ℕ)
+
+-- how many lines the core's map has
+abbrev pub lines_of : Standing → ℕ → ℕ
+lines_of s core = length (slice_index_or s.lines core [])
+
+-- whether the core's map has a line for the block
+abbrev pub has_line : Standing → ℕ → ℕ → Bool
+has_line s core block = list_any (nat_eq block) (slice_index_or s.lines core [])
 
 -- how many requests of the core find room in all, those that wait included
 abbrev pub capacity_of : Standing → ℕ → ℕ

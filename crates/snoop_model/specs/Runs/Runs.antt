@@ -1,6 +1,6 @@
 -- What steps taken in order do to a machine.
 -- Source: this project's profile.
-use Rattle.std.specs.Prelude.{◌≡◌, ◌<◌, ◌≤◌, ℕ, List, [], ◌∷◌, length, slice_index, Option, Result, Ok, Err, is_ok, count_by}
+use Rattle.std.specs.Prelude.{◌≡◌, ℕ, List, [], ◌∷◌, Option, Result, Ok, Err, is_ok, count_by}
 use Rattle.snoop_trace.specs.declared.step.Step.{Step}
 use Rattle.snoop_history.specs.declared.items.Item.{Item}
 use Rattle.snoop_model.specs.declared.replies.Reply.{Reply}
@@ -12,7 +12,6 @@ use Rattle.snoop_model.specs.Moves.StepMove.{RefusedFor}
 use Rattle.snoop_model.specs.Moves.Prepared.{IsFull}
 use Rattle.snoop_model.specs.Runs.Once.{OnceMore}
 use Rattle.snoop_model.specs.Runs.Safe.{IsSafe}
-use Rattle.snoop_model.specs.Runs.Run.{FirstRunFrom}
 
 -- one step as a machine answers it: a move, an Order being on the block that stands first, by which no room is lost; or a refusal, which leaves all equal, the room too; memory is wanted only where there is no room
 abbrev pub Answers : Standing → Step → Result Reply Refused → Standing → Type 0
@@ -33,14 +32,3 @@ pub record HasRun (old : Standing) (steps : List Step) (taken : ℕ) (new : Stan
   pub run : RunsOn old steps outcomes new
   pub many : taken ≡ count_by is_ok outcomes
   pub once : OnceMore old.situation steps outcomes new.situation
-
--- there is room for so many more items, and for so many more requests of each core
-pub record HasRoomFor (s : Standing) (many : ℕ) : Type 0 where
-  pub items : many ≤ s.room
-  pub requests : (core : ℕ) → core < s.situation.shape.cores → many ≤ slice_index s.rooms core
-
--- where there is room for as many as there are steps, they go as with ample memory: each that is not refused for a cause is taken
-abbrev pub RoomIsEnough : Type 0
-RoomIsEnough =
-    (old new : Standing) (steps : List Step) (outcomes : List (Result Reply Refused)) →
-    HasRoomFor old (length steps) → RunsOn old steps outcomes new → FirstRunFrom old.situation steps outcomes new.situation

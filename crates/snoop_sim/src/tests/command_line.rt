@@ -81,15 +81,15 @@ fn help_and_version(rt: HostRuntime) -> Result<(), Fail> {
         ("snoop --help", "Usage: snoop <COMMAND>"),
         (
             "snoop --help",
-            "\n  steps    Take the steps of standard input, and write each one's reply and a report\n",
+            "\n  steps    Read steps; write each one's reply and a report\n",
         ),
         (
             "snoop --help",
-            "\n  run      Let each core do its rows of standard input, and write each step's reply and a report\n",
+            "\n  run      Read what each core does; write each step's reply and a report\n",
         ),
         (
             "snoop --help",
-            "\n  threads  Let a thread for each core do its rows of standard input, and write the steps taken\n",
+            "\n  threads  Read what each core does, let a thread for each do it; write the steps taken\n",
         ),
         (
             "snoop --help",
@@ -185,6 +185,7 @@ fn help_fits_in_a_screen(rt: HostRuntime) -> Result<(), Fail> {
             "\nExit status:\n",
             "\n  0  done, even where steps were refused\n",
             "\n  1  the text was refused; nothing was written\n",
+            "\n       NoCore, NoBlock     outside --cores; outside --blocks\n",
             "\n  2  the command line or the shape was refused; nothing was written\n",
             "\n  3  out of memory\n",
             "\n  4  a write failed\n",

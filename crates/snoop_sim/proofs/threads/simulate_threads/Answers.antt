@@ -1,6 +1,6 @@
 use Rattle.std.proofs.Common.{rules}
 use Rattle.std.specs.Prelude.{Ok}
-use Rattle.snoop_sim.specs.SimulatedRun.{ReadsRows}
+use Rattle.snoop_engine.specs.SimulatedRun.{ReadsRows}
 use Rattle.snoop_sim.specs.Threaded.{Threaded}
 use Rattle.snoop_sim.proofs.Threading.{broken_off}
 use Rattle.snoop_sim.proofs.threads.simulate_threads.Goals as goal

@@ -1,6 +1,7 @@
-use Rattle.std.proofs.Common.{◌≡◌, ◌≤◌, replicate, None, vec_capacity}
-use Rattle.snoop_rules.specs.declared.names.CacheState.TheVariants.{I}
+use Rattle.std.proofs.Common.{◌≡◌, ◌≤◌, ℕ, [], length, vec_capacity}
+use Rattle.std.specs.Prelude.{slice_index_or}
+use Rattle.snoop_machine.specs.Cache.{no_cache}
 use Rattle.snoop_machine.proofs.lines.Lines.new.Given as goal
 
 abbrev pub invariant-loop : goal.invariant-loop
-invariant-loop l = (l.rows.items ≡ replicate l.counter (replicate l.cores (record { state = I; kept = None; waiting = None }))) × (l.blocks ≤ vec_capacity l.rows)
+invariant-loop l = ((core : ℕ) → (slice_index_or l.caches.items core no_cache).entries ≡ []) × (length l.caches.items ≡ l.counter) × (l.cores ≤ vec_capacity l.caches)

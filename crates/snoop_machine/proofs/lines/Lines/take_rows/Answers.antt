@@ -1,16 +1,158 @@
-use Rattle.std.proofs.Common.{◌≡◌, ℕ, ◌<◌, List, [], length, sym, ap, ◌∙◌, subst}
-use Rattle.std.proofs.lemmas.List.{get_or_read}
+use Rattle.std.proofs.Common.{◌≡◌, ◌<◌, List, [], length, arith, ◌+◌, true≢false, sym, ap, ◌∙◌, subst, inl}
+use Rattle.std.specs.Prelude.{slice_set, slice_index_or}
+use Rattle.std.proofs.lemmas.List.{set-get_or, set-set, length-set}
+use Rattle.snoop_rules.specs.declared.names.CacheEvent.{CacheEvent}
+use Rattle.snoop_rules.specs.declared.names.CacheState.{CacheState}
+use Rattle.snoop_rules.specs.declared.names.CacheState.TheVariants.{I}
+use Rattle.snoop_rules.specs.Cell.{Cell}
 use Rattle.snoop_rules.specs.Takers.{seen_by}
 use Rattle.snoop_model.specs.declared.line.Line.{Line}
-use Rattle.snoop_model.specs.Pictures.Picture.{held_at}
+use Rattle.snoop_model.specs.Pictures.Picture.{held_at, nothing_held}
+use Rattle.snoop_model.specs.Pictures.Sound.{IsProper, line_at}
+use Rattle.snoop_model.specs.Moves.Move.{comes_to}
 use Rattle.snoop_model.specs.Pictures.Message.{HasRow}
-use Rattle.snoop_model.proofs.Lines.EachRow.{row_of}
+use Rattle.snoop_model.proofs.Tables.Rows.{IsProper-order}
+use Rattle.snoop_machine.proofs.ProperLines.{comes_to_same}
+use Rattle.snoop_machine.specs.Lines.{gone}
+use Rattle.snoop_machine.proofs.LinesGoing.{LinesGo-set, row_after}
+use Rattle.snoop_model.proofs.Lines.EachRow.{Taking, Taking-more, Taking-past, row_of}
+use Rattle.snoop_machine.proofs.ConcernedCores.{concerned_within, TakesRow-passed, Cell-leaves}
 use Rattle.snoop_machine.proofs.lines.Lines.take_rows.Goals as goal
+use Rattle.snoop_machine.proofs.lines.Lines.take_rows.Goals.{In-Some, In-Some-cache_cell, then-not-is_same, else-not-is_same}
 
-pub take_rows-requires-clause-rows : goal.take_rows-requires-clause-rows
-take_rows-requires-clause-rows c =
-    let P : List Line → Type 0 = λ row. (k : ℕ) → k < length row → HasRow c.args.protocol (held_at row k).state (seen_by k c.args.requestor c.args.request) in
-    let within : c.args.block < length c.self.inside.rows.items = subst (λ (rows : List (List Line)). c.args.block < length rows) (sym c.self.view_is) c.requires.block in
-    let here : c.index_mut-row.result.now ≡ row_of c.args.self.now c.args.block =
-    get_or_read c.self.inside.rows.items c.args.block c.index_mut-row.result.now within c.index_mut-row.ensures.value [] ∙ ap (λ rows. row_of rows c.args.block) c.self.view_is in
-    subst P (sym here) c.requires.rows
+within_row : (c : In-Some) → c.in-Some.core < length (row_of c.args.self.now.rows c.args.block)
+within_row c = concerned_within c.args.protocol (row_of c.args.self.now.rows c.args.block) c.args.requestor c.args.request c.concerned-concerned.result c.concerned-concerned.ensures.own c.concerned-concerned.ensures.others c.requires.requestor c.in-Some.core c.in-Some.ensures.some.2
+
+-- the cores up to the one that is looked at have taken their rows
+so_far : (c : In-Some) → Taking c.args.protocol c.args.requestor c.args.request (row_of c.args.self.now.rows c.args.block) (row_of c.loop-core.self.rows c.args.block) c.in-Some.core
+so_far c =
+    let within = within_row c in
+    Taking-past c.args.protocol c.args.requestor c.args.request (row_of c.args.self.now.rows c.args.block) (row_of c.loop-core.self.rows c.args.block) c.loop-core.from c.in-Some.core
+    (λ k above below. TakesRow-passed c.args.protocol (row_of c.args.self.now.rows c.args.block) c.args.requestor c.args.request c.concerned-concerned.result c.concerned-concerned.ensures.own c.concerned-concerned.ensures.others c.requires.rows k (omega arith)
+    (c.in-Some.ensures.some.3 k above below) (c.concerned-concerned.ensures.proper k))
+    c.in-Some.ensures.some.0 c.loop-core.invariant.0
+
+in_blocks : (c : In-Some) → c.args.block < length c.loop-core.self.rows
+in_blocks c =
+    let same : length c.loop-core.self.rows ≡ length c.args.self.now.rows =
+    ap (λ (rows : List (List Line)). length rows) c.loop-core.invariant.2 ∙ length-set c.args.self.now.rows c.args.block (row_of c.loop-core.self.rows c.args.block) in
+    let within = c.requires.block in
+    omega arith
+
+in_row : (c : In-Some) → c.in-Some.core < length (row_of c.loop-core.self.rows c.args.block)
+in_row c =
+    let within = within_row c in
+    let same_length = c.loop-core.invariant.0.same_length in
+    omega arith
+
+pub get-line-requires-clause-block : goal.get-line-requires-clause-block
+get-line-requires-clause-block c = in_blocks (goal.at.get-line-requires-clause-block c).In-Some
+
+pub get-line-requires-clause-core : goal.get-line-requires-clause-core
+get-line-requires-clause-core c = in_row (goal.at.get-line-requires-clause-core c).In-Some
+
+pub unreachable-requires : goal.unreachable-requires
+unreachable-requires c =
+    let d = (goal.at.unreachable-requires c).In-Some in
+    let n = c.in-Some.core in
+    let old = row_of c.args.self.now.rows c.args.block in
+    let row = row_of c.loop-core.self.rows c.args.block in
+    let there : HasRow c.args.protocol (held_at old n).state (seen_by n c.args.requestor c.args.request) = c.requires.rows n (within_row d) in
+    let same : held_at row n ≡ held_at old n = (so_far d).left n (omega arith) in
+    let P : Line → Type 0 = λ x. Cell c.args.protocol x.state (seen_by n c.args.requestor c.args.request) there.0 there.1.0 in
+    let Q : CacheEvent → Type 0 = λ event. Cell c.args.protocol (held_at row n).state event there.0 there.1.0 in
+    let R : Line → Type 0 = λ line. Cell c.args.protocol line.state c.event_seen-event.result there.0 there.1.0 in
+    absurd (c.in_default-cache_cell.ensures.impossible there.0 there.1.0 (subst R (sym c.get-line.ensures.line) (subst Q (sym c.event_seen-event.ensures) (subst P (sym same) there.1.1))))
+
+-- the row of the core that is looked at
+row : (c : In-Some-cache_cell) → Cell c.args.protocol (line_at c.loop-core.self.rows c.in-Some.core c.args.block).state (seen_by c.in-Some.core c.args.requestor c.args.request) c.in-Some-cache_cell.cell.action c.in-Some-cache_cell.cell.next
+row c =
+    let cell = c.in-Some-cache_cell.cell in
+    let P : CacheEvent → Type 0 = λ event. Cell c.args.protocol c.get-line.result.state event cell.action cell.next in
+    let Q : Line → Type 0 = λ line. Cell c.args.protocol line.state (seen_by c.in-Some.core c.args.requestor c.args.request) cell.action cell.next in
+    subst Q c.get-line.ensures.line (subst P c.event_seen-event.ensures c.in-Some-cache_cell.ensures.row)
+
+pub loop-core-preserved : goal.loop-core-preserved
+loop-core-preserved c =
+    let d = (goal.at.loop-core-preserved c).In-Some in
+    let found = row (goal.at.loop-core-preserved c).In-Some-cache_cell in
+    let n = c.in-Some.core in
+    let first = c.args.self.now in
+    let now = c.loop-core.self in
+    let block = c.args.block in
+    let old = row_of first.rows block in
+    let within : n < length old = within_row d in
+    let cell = c.in-Some-cache_cell.cell in
+    let before = c.loop-core.invariant in
+    elim c.if-not-is_same.branch [
+      | then-not-is_same w ↦
+          let new = w.set.new.self in
+          let line : Line = comes_to cell.next (line_at now.rows n block) in
+          let moved : w.moved_to.result ≡ line = w.moved_to.ensures ∙ ap (λ (x : Line). comes_to cell.next x) c.get-line.ensures.line in
+          let wrote : new.rows ≡ slice_set now.rows block (slice_set (row_of now.rows block) n line) =
+          w.set.ensures.rows ∙ ap (λ (x : Line). slice_set now.rows block (slice_set (row_of now.rows block) n x)) moved in
+          let after : row_of new.rows block ≡ slice_set (row_of now.rows block) n line = row_after block first now new n line (in_blocks d) (in_row d) wrote in
+          let lines : length (slice_index_or new.lines n []) + gone (line_at now.rows n block).state line.state ≡ length (slice_index_or now.lines n []) =
+          subst (λ (x : Line). length (slice_index_or new.lines n []) + gone (line_at now.rows n block).state x.state ≡ length (slice_index_or now.lines n [])) moved w.set.ensures.lines in
+          rw w.self-is (
+            Taking-more c.args.protocol c.args.requestor c.args.request old (row_of now.rows block) (row_of new.rows block) n cell.action cell.next within (so_far d) found after,
+            omega arith,
+            wrote ∙ (ap (λ (rows : List (List Line)). slice_set rows block (slice_set (row_of now.rows block) n line)) before.2
+                ∙ (set-set first.rows block (row_of now.rows block) (slice_set (row_of now.rows block) n line) ∙ ap (λ (r : List Line). slice_set first.rows block r) (sym after))),
+            w.set.ensures.many ∙ before.3,
+            LinesGo-set block first now new n line (in_blocks d) (in_row d) wrote before.4 ((so_far d).left n (omega arith)) lines w.set.ensures.others,
+          )
+      | else-not-is_same w ↦
+          let here = line_at now.rows n block in
+          let same : cell.next ≡ here.state = c.is_same.ensures.0 w.if-not-is_same.false ∙ ap (λ (x : Line). x.state) c.get-line.ensures.line in
+          let proper : IsProper here = subst (λ (x : Line). IsProper x) c.get-line.ensures.line c.get-line.ensures.proper in
+          let line : comes_to cell.next here ≡ here = ap (λ state. comes_to state here) same ∙ comes_to_same here proper in
+          let as_was : row_of now.rows block ≡ slice_set (row_of now.rows block) n (comes_to cell.next here) = sym (ap (λ x. slice_set (row_of now.rows block) n x) line ∙ set-get_or (row_of now.rows block) n nothing_held) in
+          rw w.self-is (
+            Taking-more c.args.protocol c.args.requestor c.args.request old (row_of now.rows block) (row_of now.rows block) n cell.action cell.next within (so_far d) found as_was,
+            omega arith,
+            before.2,
+            before.3,
+            before.4,
+          )
+    ]
+
+pub returns-clause-taken : goal.returns-clause-taken
+returns-clause-taken c =
+    let before = c.loop-core.invariant.0 in
+    let old = row_of c.args.self.now.rows c.args.block in
+    let taking : Taking c.args.protocol c.args.requestor c.args.request old (row_of c.loop-core.self.rows c.args.block) (length old) =
+    Taking-past c.args.protocol c.args.requestor c.args.request old (row_of c.loop-core.self.rows c.args.block) c.loop-core.from (length old)
+    (λ k above below. TakesRow-passed c.args.protocol old c.args.requestor c.args.request c.concerned-concerned.result c.concerned-concerned.ensures.own c.concerned-concerned.ensures.others c.requires.rows k below
+    (c.in_default.ensures.none k above) (c.concerned-concerned.ensures.proper k))
+    c.loop-core.invariant.1 before in
+    record { same_length = before.same_length; rows = taking.taken }
+
+pub set-requires-clause-proper : goal.set-requires-clause-proper
+set-requires-clause-proper c =
+    let n = c.in-Some.core in
+    let cell = c.in-Some-cache_cell.cell in
+    let here = line_at c.loop-core.self.rows n c.args.block in
+    let proper : IsProper here = subst (λ (x : Line). IsProper x) c.get-line.ensures.line c.get-line.ensures.proper in
+    let moved : c.moved_to.result ≡ comes_to cell.next here = c.moved_to.ensures ∙ ap (λ (x : Line). comes_to cell.next x) c.get-line.ensures.line in
+    subst (λ (x : Line). IsProper x) (sym moved)
+    (IsProper-order c.args.protocol here n c.args.requestor c.args.request cell.action cell.next proper (row (goal.at.set-requires-clause-proper c).In-Some-cache_cell))
+
+pub set-requires-clause-place : goal.set-requires-clause-place
+set-requires-clause-place c =
+    let cell = c.in-Some-cache_cell.cell in
+    let found = row (goal.at.set-requires-clause-place c).In-Some-cache_cell in
+    inl (λ e.
+    let P : CacheState → Type 0 = λ state. Cell c.args.protocol state (seen_by c.in-Some.core c.args.requestor c.args.request) cell.action cell.next in
+    let stays : cell.next ≡ I = Cell-leaves c.args.protocol c.in-Some.core c.args.requestor c.args.request cell.action cell.next (subst P e found) in
+    let same : cell.next ≡ c.get-line.result.state = stays ∙ sym (ap (λ (x : Line). x.state) c.get-line.ensures.line ∙ e) in
+    let is = c.is_same.ensures.1 same in
+    let is_not = c.if-not-is_same.true in
+    true≢false (sym is ∙ is_not))
+
+pub loop-core-smaller : goal.loop-core-smaller
+loop-core-smaller c =
+    let d = (goal.at.loop-core-smaller c).In-Some in
+    let within = within_row d in
+    let up = c.in-Some.ensures.some.0 in
+    omega arith

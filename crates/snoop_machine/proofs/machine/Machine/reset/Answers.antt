@@ -6,7 +6,7 @@ use Rattle.snoop_machine.proofs.machine.Machine.reset.Goals.{In_ok-parts}
 
 -- a machine at reset keeps what every machine keeps
 keeps : (c : In_ok-parts) → MachineKeeps c.in_ok-parts.parts.situation
-keeps c = subst MachineKeeps (sym c.in_ok-parts.ensures) (reset_keeps c.args.protocol c.args.shape)
+keeps c = subst MachineKeeps (sym c.in_ok-parts.ensures.situation) (reset_keeps c.args.protocol c.args.shape)
 
 pub invariant_of-result : goal.invariant_of-result
 invariant_of-result c = keeps (goal.at.invariant_of-result c).In_ok-parts

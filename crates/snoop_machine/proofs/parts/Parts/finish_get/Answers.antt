@@ -22,6 +22,7 @@ use Rattle.snoop_machine.proofs.QueueViews.{IsSound-close}
 use Rattle.snoop_model.proofs.Tables.Rows.{fill-waits, IsProper-fill}
 use Rattle.snoop_machine.proofs.Responses.{Arrives-get, ArrivesAtMemory-in}
 use Rattle.snoop_machine.proofs.QueueHeads.{same_situation}
+use Rattle.snoop_machine.proofs.Following.{follows-set}
 use Rattle.snoop_machine.proofs.parts.Parts.finish_get.Goals as goal
 
 pub invariant_of-self : goal.invariant_of-self
@@ -33,18 +34,19 @@ invariant_of-self c =
     let P : Standing → Type 0 = λ x. core < x.situation.shape.cores in
     let Q : Standing → Type 0 = λ x. block < x.situation.shape.blocks in
     let T : Standing → Type 0 = λ x. FillsLine x.situation.protocol (line_at x.situation.caches core block) c.args.closing.payload c.args.closing.value filled in
-    let f : FillsLine m.protocol (line_at m.lines core block) c.args.closing.payload c.args.closing.value filled = subst T (sym c.self.view_is) c.requires.filled in
+    let f : FillsLine m.protocol (line_at m.lines.rows core block) c.args.closing.payload c.args.closing.value filled = subst T (sym c.self.view_is) c.requires.filled in
     let I : Line → Type 0 = λ x. IsProper x in
-    let proper : IsProper filled.line = subst I (sym f.held) (IsProper-fill m.protocol (line_at m.lines core block).state f.event f.act f.next filled.op f.after f.fill f.row) in
-    let same : waiting_request filled.line.state ≡ waiting_request (line_at m.lines core block).state =
-    ap (λ (x : Line). waiting_request x.state) f.held ∙ fill-waits m.protocol (line_at m.lines core block).state f.event f.act f.next filled.op f.fill f.row in
+    let proper : IsProper filled.line = subst I (sym f.held) (IsProper-fill m.protocol (line_at m.lines.rows core block).state f.event f.act f.next filled.op f.after f.fill f.row) in
+    let same : waiting_request filled.line.state ≡ waiting_request (line_at m.lines.rows core block).state =
+    ap (λ (x : Line). waiting_request x.state) f.held ∙ fill-waits m.protocol (line_at m.lines.rows core block).state f.event f.act f.next filled.op f.fill f.row in
     let in_blocks : block < m.shape.blocks = subst Q (sym c.self.view_is) c.requires.block in
-    let placed_sound = IsSound-line m.shape m.lines m.bus c.self.invariant.sound core block filled.line (subst P (sym c.self.view_is) c.requires.core) in_blocks proper same in
+    let placed_sound = IsSound-line m.shape m.lines.rows m.bus c.self.invariant.sound core block filled.line (subst P (sym c.self.view_is) c.requires.core) in_blocks proper same in
     let S : List (List Line) → Type 0 = λ caches. IsSound m.shape caches c.finish.new.self in
-    let R : Traffic → Type 0 = λ bus. IsSound m.shape (placed m.lines core block filled.line) bus in
+    let R : Traffic → Type 0 = λ bus. IsSound m.shape (placed m.lines.rows core block filled.line) bus in
     record {
       few = c.self.invariant.few;
-      sound = subst S (sym c.set.ensures) (subst R (sym c.finish.ensures.after) (IsSound-close m.shape (placed m.lines core block filled.line) m.bus block in_blocks placed_sound));
+      lines = c.set.ensures.many ∙ c.self.invariant.lines;
+      sound = subst S (sym c.set.ensures.rows) (subst R (sym c.finish.ensures.after) (IsSound-close m.shape (placed m.lines.rows core block filled.line) m.bus block in_blocks placed_sound));
       memory = length-set m.memory.items c.args.block c.args.memory ∙ c.self.invariant.memory;
       cores = ap (λ (j : Journal). j.cores) c.push.ensures ∙ c.self.invariant.cores;
       blocks = ap (λ (j : Journal). j.blocks) c.push.ensures ∙ c.self.invariant.blocks;
@@ -64,23 +66,23 @@ returns-clause-responded c =
     let D : Standing → Did = λ x. next_did x.situation.log core closing.block filled.op filled.value false in
     let did_is : c.next_did-did.result ≡ next_did m.log.items core closing.block filled.op filled.value false = c.next_did-did.ensures ∙ sym (ap D c.self.view_is) in
     let did = c.next_did-did.result in
-    let old : Situation = record { protocol = m.protocol; shape = m.shape; caches = m.lines; memory = m.memory.items; transactions = m.bus.transactions; queues = queues_of m.bus.queues; log = m.log.items } in
+    let old : Situation = record { protocol = m.protocol; shape = m.shape; caches = m.lines.rows; memory = m.memory.items; transactions = m.bus.transactions; queues = queues_of m.bus.queues; log = m.log.items } in
     let is : old ≡ c.args.self.now.situation = ap (λ (x : Standing). x.situation) c.self.view_is in
-    let new : Situation = record { protocol = m.protocol; shape = m.shape; caches = c.set.new.self; memory = slice_set m.memory.items block c.args.memory; transactions = c.finish.new.self.transactions; queues = queues_of c.finish.new.self.queues; log = c.push.new.self.items } in
+    let new : Situation = record { protocol = m.protocol; shape = m.shape; caches = c.set.new.self.rows; memory = slice_set m.memory.items block c.args.memory; transactions = c.finish.new.self.transactions; queues = queues_of c.finish.new.self.queues; log = c.push.new.self.items } in
     let G : Situation → Type 0 = λ x. Responds x block closing (Some did) new in
     let F : Situation → Type 0 = λ x. (picture_of x block).transaction ≡ Some closing in
     let N : Situation → Type 0 = λ x. ArrivesIn closing.request x.protocol closing.payload closing.value (slice_index_or x.memory block no_memory) c.args.memory in
     let T : Situation → Type 0 = λ x. FillsLine x.protocol (line_at x.caches core block) closing.payload closing.value filled in
-    let next : Picture = record { caches = slice_set (row_of m.lines block) core filled.line; memory = c.args.memory.state; value = c.args.memory.value; transaction = None } in
-    let A : Did → Type 0 = λ d. Arrives closing m.protocol m.log.items (row_of m.lines block) (slice_set (row_of m.lines block) core filled.line) (Some d) in
+    let next : Picture = record { caches = slice_set (row_of m.lines.rows block) core filled.line; memory = c.args.memory.state; value = c.args.memory.value; transaction = None } in
+    let A : Did → Type 0 = λ d. Arrives closing m.protocol m.log.items (row_of m.lines.rows block) (slice_set (row_of m.lines.rows block) core filled.line) (Some d) in
     subst G is (record {
       opened = subst F (sym is) c.requires.opened;
       next = next;
-      requestor = subst A (sym did_is) (Arrives-get closing m.protocol m.log.items (row_of m.lines block) filled c.requires.get (subst T (sym is) c.requires.filled));
+      requestor = subst A (sym did_is) (Arrives-get closing m.protocol m.log.items (row_of m.lines.rows block) filled c.requires.get (subst T (sym is) c.requires.filled));
       memory = ArrivesAtMemory-in closing m.protocol (picture_of old block) next (slice_index_or m.memory.items block no_memory) c.args.memory refl refl refl refl (subst N (sym is) c.requires.memory);
       closed = refl;
       after = same_situation new (record (with_picture old block next) { log = m.log.items ++ item.Came (came_of closing) (Some did) ∷ [] })
-          refl refl c.set.ensures refl
+          refl refl c.set.ensures.rows refl
           (ap (λ (b : Traffic). b.transactions) c.finish.ensures.after) (ap (λ (b : Traffic). queues_of b.queues) c.finish.ensures.after)
           (ap (λ (j : Journal). j.items) c.push.ensures ∙ ap (λ (x : Came). m.log.items ++ item.Came x (Some did) ∷ []) c.came.ensures);
     })
@@ -90,5 +92,10 @@ set-requires-clause-proper c =
     let I : Line → Type 0 = λ x. IsProper x in
     let S : Standing → Type 0 = λ x. FillsLine x.situation.protocol (line_at x.situation.caches c.args.closing.core c.args.block) c.args.closing.payload c.args.closing.value c.args.filled in
     let m = c.self.inside in
-    let its : FillsLine m.protocol (line_at m.lines c.args.closing.core c.args.block) c.args.closing.payload c.args.closing.value c.args.filled = subst S (sym c.self.view_is) c.requires.filled in
-    subst I (sym its.held) (IsProper-fill m.protocol (line_at m.lines c.args.closing.core c.args.block).state its.event its.act its.next c.args.filled.op its.after its.fill its.row)
+    let its : FillsLine m.protocol (line_at m.lines.rows c.args.closing.core c.args.block) c.args.closing.payload c.args.closing.value c.args.filled = subst S (sym c.self.view_is) c.requires.filled in
+    subst I (sym its.held) (IsProper-fill m.protocol (line_at m.lines.rows c.args.closing.core c.args.block).state its.event its.act its.next c.args.filled.op its.after its.fill its.row)
+
+pub returns-clause-lines : goal.returns-clause-lines
+returns-clause-lines c =
+    follows-set c.self.inside c.args.self.now c.self.view_is _ c.args.block c.set.new.self refl refl c.self.invariant c.args.closing.core c.args.filled.line c.requires.core c.requires.block
+    c.set.ensures.rows c.set.ensures.lines c.set.ensures.others

@@ -15,11 +15,11 @@ some_head c None is = tt
 some_head c (Some head) is =
     let m = c.self.inside in
     let P : Standing → Type 0 = λ s. IsHead s.situation c.args.core head.0 head.1 in
-    let waits = waits_from_head m.shape m.lines m.bus c.self.invariant.sound c.args.core head.0 head.1 is in
-    let within : head.1 < length m.lines = within_from_waits m.lines c.args.core head.1 head.0 waits in
+    let waits = waits_from_head m.shape m.lines.rows m.bus c.self.invariant.sound c.args.core head.0 head.1 is in
+    let within : head.1 < length m.lines.rows = within_from_waits m.lines.rows c.args.core head.1 head.0 waits in
     let rows = c.self.invariant.sound.rows in
     subst P c.self.view_is (record {
-      first = line_from_head m.shape m.lines m.bus c.self.invariant.sound c.args.core head.0 head.1 is;
+      first = line_from_head m.shape m.lines.rows m.bus c.self.invariant.sound c.args.core head.0 head.1 is;
       waits = waits;
       within = omega arith;
     })
@@ -28,7 +28,7 @@ no_head : (c : After-head) (o : Option (Request × ℕ)) → head_of c.self.insi
 no_head c None is =
     let m = c.self.inside in
     let P : Standing → Type 0 = λ s. WaitsOnNone s.situation c.args.core in
-    subst P c.self.view_is (idle_from_head m.shape m.lines m.bus c.self.invariant.sound c.args.core is)
+    subst P c.self.view_is (idle_from_head m.shape m.lines.rows m.bus c.self.invariant.sound c.args.core is)
 no_head c (Some head) is = tt
 
 pub returns-clause-some : goal.returns-clause-some

@@ -1,4 +1,4 @@
-use Rattle.std.proofs.Common.{◌≡◌, ◌<◌, ◌≤◌, ◌+◌, ◌-◌, ◌++◌, ◌∷◌, [], ℕ, length, None, sym, ap, subst, List, arith}
+use Rattle.std.proofs.Common.{◌≡◌, ◌<◌, ◌≤◌, ◌+◌, ◌-◌, ◌++◌, ◌∷◌, [], ℕ, length, None, sym, ap, subst, List, arith, ◌∙◌, refl}
 use Rattle.std.proofs.lemmas.List.{length-append}
 use Rattle.std.specs.Prelude.{slice_set, slice_index_or}
 use Rattle.snoop_rules.specs.Waits.{waiting_request}
@@ -14,6 +14,7 @@ use Rattle.snoop_machine.proofs.Room.{held_in, held_in-set, keeps_room}
 use Rattle.snoop_machine.proofs.LineWrites.{IsSound-issue}
 use Rattle.snoop_model.proofs.Lines.OneLine.{placed}
 use Rattle.snoop_machine.proofs.QueueViews.{queues_of-issue, same_traffic}
+use Rattle.snoop_machine.proofs.Following.{follows-set}
 use Rattle.snoop_machine.proofs.parts.Parts.issue_line.Goals as goal
 
 pub invariant_of-self : goal.invariant_of-self
@@ -27,13 +28,14 @@ invariant_of-self c =
     let after : Traffic = record m.bus { queues = slice_set m.bus.queues core (record { requests = (waiting_of m.bus core).requests ++ (c.args.request, c.args.block) ∷ []; room = room }) } in
     let same : c.issue.new.self ≡ after = same_traffic c.issue.new.self after c.issue.ensures.queue c.issue.ensures.transactions in
     let S : List (List Line) → Type 0 = λ caches. IsSound m.shape caches c.issue.new.self in
-    let T : Traffic → Type 0 = λ bus. IsSound m.shape (placed m.lines core c.args.block c.args.line) bus in
+    let T : Traffic → Type 0 = λ bus. IsSound m.shape (placed m.lines.rows core c.args.block c.args.line) bus in
     record {
-      sound = subst S (sym c.set.ensures) (subst T (sym same)
-          (IsSound-issue m.shape m.lines m.bus c.self.invariant.sound core c.args.block c.args.line
+      sound = subst S (sym c.set.ensures.rows) (subst T (sym same)
+          (IsSound-issue m.shape m.lines.rows m.bus c.self.invariant.sound core c.args.block c.args.line
           (subst P (sym c.self.view_is) c.requires.core) (subst Q (sym c.self.view_is) c.requires.block) c.requires.proper
           c.args.request room (subst R (sym c.self.view_is) c.requires.idle) c.requires.waits));
       few = c.self.invariant.few;
+      lines = c.set.ensures.many ∙ c.self.invariant.lines;
       memory = c.self.invariant.memory;
       cores = c.self.invariant.cores;
       blocks = c.self.invariant.blocks;
@@ -43,7 +45,7 @@ pub returns-clause-written : goal.returns-clause-written
 returns-clause-written c =
     let m = c.self.inside in
     let room = (waiting_of m.bus c.args.core).room - 1 in
-    rw (c.issue.ensures.queue, queues_of-issue m.bus.queues c.args.core c.args.block room c.args.request, c.issue.ensures.transactions, c.set.ensures)
+    rw (c.issue.ensures.queue, queues_of-issue m.bus.queues c.args.core c.args.block room c.args.request, c.issue.ensures.transactions, c.set.ensures.rows)
     (ap (λ (s : Standing). let t : Situation = record s.situation { caches = slice_set s.situation.caches c.args.block (slice_set (slice_index_or s.situation.caches c.args.block []) c.args.core c.args.line); queues = after_issue s.situation.queues c.args.core c.args.block } in t) c.self.view_is)
 
 pub returns-clause-room : goal.returns-clause-room
@@ -60,3 +62,8 @@ returns-clause-room c =
     let new : Inside = record m { lines = c.set.new.self; bus = c.issue.new.self } in
     let Q : List Waiting → Type 0 = λ queues. (k : ℕ) → held_in m.bus.queues k ≤ held_in queues k in
     keeps_room m new c.args.self.now c.self.view_is (omega arith) (subst Q (sym c.issue.ensures.queue) (held_in-set m.bus.queues core queue in_queues (omega arith)))
+
+pub returns-clause-lines : goal.returns-clause-lines
+returns-clause-lines c =
+    follows-set c.self.inside c.args.self.now c.self.view_is _ c.args.block c.set.new.self refl refl c.self.invariant c.args.core c.args.line c.requires.core c.requires.block
+    c.set.ensures.rows c.set.ensures.lines c.set.ensures.others

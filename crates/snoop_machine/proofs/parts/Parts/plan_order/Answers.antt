@@ -32,12 +32,12 @@ memory_is c =
     get_or_read c.self.inside.memory.items c.in-Some.block c.index-memory.result.now (omega arith) c.index-memory.ensures no_memory
 
 -- the block that stands first has no open transaction, and this picture
-picture : (c : In-Some-mem_cell) → free_picture (row_of c.self.inside.lines c.in-Some.block) c.index-memory.result.now ≡ picture_of c.args.self.now.situation c.in-Some.block
+picture : (c : In-Some-mem_cell) → free_picture (row_of c.self.inside.lines.rows c.in-Some.block) c.index-memory.result.now ≡ picture_of c.args.self.now.situation c.in-Some.block
 picture c =
     let m = c.self.inside in
     let free : transaction_on m.bus c.in-Some.block ≡ None = none_from_is_some _ (ap is_some (sym c.open.ensures) ∙ (sym c.is_some.ensures ∙ c.if-is_some.false)) in
-    ap (λ (x : MemLine). free_picture (row_of m.lines c.in-Some.block) x) (memory_is c)
-    ∙ (ap (λ (o : Option Open). let p : Picture = record (free_picture (row_of m.lines c.in-Some.block) (slice_index_or m.memory.items c.in-Some.block no_memory)) { transaction = o } in p) (sym free)
+    ap (λ (x : MemLine). free_picture (row_of m.lines.rows c.in-Some.block) x) (memory_is c)
+    ∙ (ap (λ (o : Option Open). let p : Picture = record (free_picture (row_of m.lines.rows c.in-Some.block) (slice_index_or m.memory.items c.in-Some.block no_memory)) { transaction = o } in p) (sym free)
     ∙ ap (λ (s : Standing). picture_of s.situation c.in-Some.block) c.self.view_is)
 
 protocol : (c : In-Some-mem_cell) → c.self.inside.protocol ≡ c.args.self.now.situation.protocol

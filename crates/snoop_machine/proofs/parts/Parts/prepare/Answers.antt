@@ -3,6 +3,7 @@ use Rattle.std.proofs.lemmas.Result.{err_from_is_err_and}
 use Rattle.snoop_model.specs.Pictures.Situation.{Situation}
 use Rattle.snoop_machine.specs.Plan.{IsPlanFor}
 use Rattle.snoop_machine.proofs.Plans.{RefusedFor-memory, IsPrepared-plan}
+use Rattle.snoop_machine.proofs.Holding.{HoldsOn-room}
 use Rattle.snoop_machine.proofs.parts.Parts.prepare.Goals as goal
 
 pub returns-in_err-make_room-clause-refused : goal.returns-in_err-make_room-clause-refused
@@ -15,3 +16,7 @@ returns-clause-prepared c =
     let P : Situation → Type 0 = λ s. IsPlanFor s c.args.step c.in_ok-plan.plan in
     IsPrepared-plan c.make_room.new.self c.args.step c.in_ok-plan.plan c.item.result
     (subst P (sym c.make_room.ensures.unchanged) c.in_ok-plan.ensures.found) c.in_ok-make_room.ensures.ok c.item.ensures
+
+pub returns-clause-lines : goal.returns-clause-lines
+returns-clause-lines c core =
+    HoldsOn-room c.args.self.now c.make_room.new.self c.args.step c.in_ok-plan.plan core c.in_ok-plan.ensures.found c.make_room.ensures.unchanged (c.make_room.ensures.lines core)

@@ -18,10 +18,11 @@ invariant_of-self c =
     let in_queues : core < length bus.queues = omega (arith, c.self.invariant.sound.queues) in
     let after : Traffic = record bus { queues = slice_set bus.queues core (record { requests = (waiting_of bus core).requests; room = room }) } in
     let same : c.reserve.new.self ≡ after = same_traffic c.reserve.new.self after c.reserve.ensures.queue c.reserve.ensures.transactions in
-    let Q : Traffic → Type 0 = λ b. IsSound c.self.inside.shape c.self.inside.lines b in
+    let Q : Traffic → Type 0 = λ b. IsSound c.self.inside.shape c.self.inside.lines.rows b in
     record {
-      sound = subst Q (sym same) (IsSound-room c.self.inside.shape c.self.inside.lines bus core room in_queues c.self.invariant.sound);
+      sound = subst Q (sym same) (IsSound-room c.self.inside.shape c.self.inside.lines.rows bus core room in_queues c.self.invariant.sound);
       few = c.self.invariant.few;
+      lines = c.self.invariant.lines;
       memory = c.self.invariant.memory;
       cores = c.self.invariant.cores;
       blocks = c.self.invariant.blocks;

@@ -25,6 +25,7 @@ use Rattle.snoop_model.proofs.Lines.EachRow.{row_of}
 use Rattle.snoop_machine.proofs.QueueHeads.{head_from_line, same_situation}
 use Rattle.snoop_machine.proofs.AfterOrders.{IsSound-order, blocks_of-rest}
 use Rattle.snoop_machine.proofs.QueueViews.{queues_of-set, queue_of-queues_of, same_traffic}
+use Rattle.snoop_machine.proofs.Following.{follows-rows}
 use Rattle.snoop_machine.proofs.parts.Parts.start.Goals as goal
 use Rattle.snoop_machine.proofs.parts.Parts.start.Goals.{After-take_rows, After-index_mut, After-start}
 
@@ -38,7 +39,7 @@ head c =
     let m = c.self.inside in
     let P : Standing → Type 0 = λ s. IsHead s.situation c.args.core c.args.request c.args.block in
     let h : IsHead _ c.args.core c.args.request c.args.block = subst P (sym c.self.view_is) c.requires.head in
-    head_from_line m.shape m.lines m.bus c.self.invariant.sound c.args.core c.args.request c.args.block h.first h.waits
+    head_from_line m.shape m.lines.rows m.bus c.self.invariant.sound c.args.core c.args.request c.args.block h.first h.waits
 
 pub start-requires-clause-head : goal.start-requires-clause-head
 start-requires-clause-head c =
@@ -72,11 +73,12 @@ invariant_of-self c =
       transactions = slice_set m.bus.transactions c.args.block (Some (record { core = c.args.core; request = c.args.request; block = c.args.block; payload = c.args.message.payload; value = c.args.message.value; from = c.args.message.from }));
     } in
     let same : c.start.new.self ≡ after = same_traffic c.start.new.self after s.queues s.transactions in
-    let R : Traffic → Type 0 = λ bus. IsSound m.shape c.take_rows.new.self bus in
+    let R : Traffic → Type 0 = λ bus. IsSound m.shape c.take_rows.new.self.rows bus in
     record {
       few = c.self.invariant.few;
+      lines = c.take_rows.ensures.many ∙ c.self.invariant.lines;
       sound = subst R (sym same)
-          (IsSound-order m.shape m.lines c.take_rows.new.self m.bus m.protocol c.args.core c.args.block c.args.request c.args.message.payload c.args.message.value c.args.message.from
+          (IsSound-order m.shape m.lines.rows c.take_rows.new.self.rows m.bus m.protocol c.args.core c.args.block c.args.request c.args.message.payload c.args.message.value c.args.message.from
           c.self.invariant.sound (subst P (sym c.self.view_is) c.requires.core) (subst Q (sym c.self.view_is) c.requires.head.within) h c.take_rows.ensures.others c.take_rows.ensures.taken s.room);
       memory = length-set m.memory.items c.args.block (record { state = c.args.memory; value = c.index_mut.result.now.value }) ∙ c.self.invariant.memory;
       cores = ap (λ (j : Journal). j.cores) c.push.ensures ∙ c.self.invariant.cores;
@@ -93,9 +95,9 @@ returns-clause-ordered c =
     let block = c.args.block in
     let request = c.args.request in
     let message = c.args.message in
-    let old : Situation = record { protocol = m.protocol; shape = m.shape; caches = m.lines; memory = m.memory.items; transactions = m.bus.transactions; queues = queues_of m.bus.queues; log = m.log.items } in
+    let old : Situation = record { protocol = m.protocol; shape = m.shape; caches = m.lines.rows; memory = m.memory.items; transactions = m.bus.transactions; queues = queues_of m.bus.queues; log = m.log.items } in
     let is : old ≡ c.args.self.now.situation = ap (λ (x : Standing). x.situation) c.self.view_is in
-    let new : Situation = record { protocol = m.protocol; shape = m.shape; caches = c.take_rows.new.self; memory = slice_set m.memory.items block (record { state = c.args.memory; value = c.index_mut.result.now.value }); transactions = c.start.new.self.transactions; queues = queues_of c.start.new.self.queues; log = c.push.new.self.items } in
+    let new : Situation = record { protocol = m.protocol; shape = m.shape; caches = c.take_rows.new.self.rows; memory = slice_set m.memory.items block (record { state = c.args.memory; value = c.index_mut.result.now.value }); transactions = c.start.new.self.transactions; queues = queues_of c.start.new.self.queues; log = c.push.new.self.items } in
     let G : Situation → Type 0 = λ x. Orders x core block request new in
     let W : Situation → Type 0 = λ x. Waits x core block request in
     let F : Situation → Type 0 = λ x. (picture_of x block).transaction ≡ None in
@@ -107,7 +109,7 @@ returns-clause-ordered c =
     let in_blocks : block < length m.memory.items = omega (arith, c.self.invariant.memory) in
     let value : c.index_mut.result.now ≡ slice_index_or m.memory.items block no_memory = get_or_read m.memory.items block c.index_mut.result.now in_blocks c.index_mut.ensures.value no_memory in
     let next : Picture = record {
-      caches = row_of c.take_rows.new.self block;
+      caches = row_of c.take_rows.new.self.rows block;
       memory = c.args.memory;
       value = (picture_of old block).value;
       transaction = Some (record { core = core; request = request; block = block; payload = message.payload; value = value_sent (picture_of old block) message.from message.payload; from = message.from });
@@ -127,7 +129,7 @@ returns-clause-ordered c =
       opened = refl;
       after = same_situation new
           (record old {
-            caches = slice_set m.lines block next.caches;
+            caches = slice_set m.lines.rows block next.caches;
             memory = slice_set m.memory.items block (record { state = next.memory; value = next.value });
             transactions = slice_set m.bus.transactions block next.transaction;
             queues = after_order old.queues core block;
@@ -171,3 +173,6 @@ returns-clause-room c =
     (let J : Journal → Type 0 = λ j. length m.log.items + m.log.room ≤ length j.items + j.room in
     subst J (sym pushed) (omega arith)) in
     keeps_room m new c.args.self.now c.self.view_is items kept
+
+pub returns-clause-lines : goal.returns-clause-lines
+returns-clause-lines c = follows-rows c.self.inside c.args.self.now c.self.view_is _ c.args.block c.take_rows.new.self refl refl c.take_rows.ensures.others c.take_rows.ensures.lines

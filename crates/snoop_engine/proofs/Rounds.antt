@@ -1,0 +1,85 @@
+-- What a round gives, turn by turn.
+use Rattle.std.proofs.Common.{◌≡◌, ◌≢◌, ℕ, ◌<◌, Option, Some, None, sym, ◌∙◌, ap, subst, inl, inr, arith, List, [], ◌∷◌, ◌++◌, take, drop}
+use Rattle.std.specs.Prelude.{All, Contains, IfNone, slice_get}
+use Rattle.std.proofs.lemmas.Bool.{cases_eq}
+use Rattle.std.proofs.lemmas.List.{take-append-drop}
+use Rattle.std.proofs.lemmas.List.Elements.{All-append, All-take, All-drop, Contains-append_cases, Contains-append_left, Contains-append_right}
+use Rattle.snoop_trace.specs.declared.step.Step.{Step}
+use Rattle.snoop_history.specs.declared.items.Item.{Item}
+use Rattle.snoop_model.specs.declared.replies.Reply.{Reply}
+use Rattle.snoop_model.specs.Pictures.Situation.{Situation}
+use Rattle.snoop_model.specs.Moves.Move.{FirstMove}
+use Rattle.snoop_model.specs.Turns.Quiet.{IsQuiet}
+use Rattle.snoop_model.specs.Turns.Serving.{IsServing}
+use Rattle.snoop_model.specs.Turns.TurnRule.{TurnRule}
+use Rattle.snoop_engine.proofs.Fewer.{leaves_fewer}
+use Rattle.snoop_engine.specs.Todo.{Todo, todo_of, under_way, block_of}
+use Rattle.snoop_engine.specs.Round.{Progress, IsFit, IsIdle, IsUnasked, IsDone, TakesUp, Follows}
+
+-- the turns may come in another order
+pub fit_reordered : (s : Situation) (lanes : List Todo) (old new : List ℕ) → IsFit s lanes old → All (λ core. core < s.shape.cores) new → ((core : ℕ) → Contains old core → Contains new core) → IsFit s lanes new
+fit_reordered s lanes old new fit few there = record {
+  cores = fit.cores;
+  within = fit.within;
+  serving = fit.serving;
+  kept = fit.kept;
+  few = few;
+  busy = λ core. elim (fit.busy core) [ inl h ↦ inl (there core h) | inr idle ↦ inr idle ];
+}
+
+pub fit_rotated : (s : Situation) (lanes : List Todo) (turns : List ℕ) → IsFit s lanes turns → IsFit s lanes (drop 1 turns ++ take 1 turns)
+fit_rotated s lanes turns fit =
+    let P : ℕ → Type 0 = λ core. core < s.shape.cores in
+    fit_reordered s lanes turns (drop 1 turns ++ take 1 turns) fit
+    (All-append P (drop 1 turns) (take 1 turns) (All-drop P 1 turns fit.few) (All-take P 1 turns fit.few))
+    (λ core h. (let Q : List ℕ → Type 0 = λ l. Contains l core in
+    elim (Contains-append_cases (take 1 turns) (drop 1 turns) core (subst Q (sym (take-append-drop 1 turns)) h)) [
+      | inl first ↦ Contains-append_right (drop 1 turns) (take 1 turns) core first
+      | inr later ↦ Contains-append_left (drop 1 turns) (take 1 turns) core later
+    ]))
+
+none_left : (turns : List ℕ) → slice_get turns 0 ≡ None → (core : ℕ) → Contains turns core → ⊥
+none_left [] h core there = let lt = there.1 in absurd (omega arith)
+none_left (x ∷ xs) h core there = cc
+
+-- without a turn each core is idle, and the machine is quiet
+pub all_done : TurnRule → (s : Situation) (lanes : List Todo) (turns : List ℕ) → IsFit s lanes turns → (r : Option ℕ) → r ≡ slice_get turns 0
+    → IfNone r (((core : ℕ) → (todo_of lanes core).left ≡ []) × IsQuiet s)
+all_done rule s lanes turns fit (Some first) is = tt
+all_done rule s lanes turns fit None is =
+    let idle : (core : ℕ) → IsIdle (todo_of lanes core) = λ core. elim (fit.busy core) [ inl there ↦ absurd (none_left turns (sym is) core there) | inr h ↦ h ] in
+    let none : (core : ℕ) → under_way lanes core ≡ None = λ core. ap block_of (idle core).1 in
+    let serving : IsServing (λ core. None) s = record {
+      waits = λ core i d lt. sym (none core) ∙ fit.serving.waits core i d lt;
+      opened = λ block transaction open_here. sym (none transaction.core) ∙ fit.serving.opened block transaction open_here;
+    } in
+    (λ core. (idle core).0, rule.comes_to_rest s serving fit.kept)
+
+module _ (start loop : Progress) (so_far : IsUnasked start loop) where
+  -- a turn without a step asks nothing
+  pub still_unasked : (core : ℕ) (mid new : Progress) → mid.situation ≡ loop.situation → ((k : ℕ) → k ≢ core → todo_of mid.lanes k ≡ todo_of loop.lanes k)
+      → ((todo_of loop.lanes core).left ≡ []) × IsIdle (todo_of mid.lanes core) → new.situation ≡ mid.situation → new.lanes ≡ mid.lanes → IsUnasked start new
+  still_unasked core mid new same others idle same_too lanes =
+      let L : List Todo → Type 0 = λ l. (k : ℕ) → (todo_of l k).left ≡ (todo_of start.lanes k).left in
+      let left : (k : ℕ) → (todo_of mid.lanes k).left ≡ (todo_of start.lanes k).left = λ k. elim (cases_eq k core) [
+        | inl e ↦
+            (let P : ℕ → Type 0 = λ j. (todo_of mid.lanes j).left ≡ (todo_of loop.lanes j).left in
+            subst P (sym e) (idle.1.0 ∙ sym idle.0) ∙ so_far.left k)
+        | inr ne ↦ ap (λ (t : Todo). t.left) (others k ne) ∙ so_far.left k
+      ] in
+      record { situation = same_too ∙ (same ∙ so_far.situation); left = subst L (sym lanes) left }
+
+  -- a turn with a step follows
+  pub follows_on : (mid passed new : Progress) (step : Step) (answer : Reply) → mid.situation ≡ loop.situation → TakesUp loop.lanes step mid.lanes
+      → passed.situation ≡ mid.situation → passed.lanes ≡ mid.lanes
+      → (entry : Option Item) × FirstMove passed.situation step answer new.situation entry → new.lanes ≡ passed.lanes → Follows start step answer new
+  follows_on mid passed new step answer same takes same_too same_lanes move lanes =
+      let M : Situation → Type 0 = λ s. FirstMove s step answer new.situation move.0 in
+      let L : List Todo → Type 0 = λ l. TakesUp start.lanes step l in
+      let taken : TakesUp start.lanes step mid.lanes = λ core. sym (so_far.left core) ∙ takes core in
+      let moved : FirstMove start.situation step answer new.situation move.0 = subst M (same_too ∙ (same ∙ so_far.situation)) move.1 in
+      let takes_up : TakesUp start.lanes step new.lanes = subst L (sym (lanes ∙ same_lanes)) taken in
+      record { entry = move.0; move = moved; takes_up = takes_up; fewer = leaves_fewer start new step answer move.0 moved takes_up }
+
+  pub done_now : ((core : ℕ) → (todo_of loop.lanes core).left ≡ []) × IsQuiet loop.situation → IsDone start loop
+  done_now done = record { situation = so_far.situation; left = λ core. sym (so_far.left core) ∙ done.0 core; quiet = done.1 }

@@ -1,0 +1,7 @@
+use Rattle.std.proofs.Common.{◌≡◌, ◌≤◌}
+use Rattle.std.specs.VecDeque.{deque_len, deque_capacity}
+use Rattle.snoop_engine.proofs.Dealing.{Counted}
+use Rattle.snoop_engine.proofs.deal.all_cores.Given as goal
+
+abbrev pub invariant-loop-core : goal.invariant-loop-core
+invariant-loop-core l = Counted l.cores.items l.core × (deque_len l.cores ≡ l.core) × (l.count ≤ deque_capacity l.cores)

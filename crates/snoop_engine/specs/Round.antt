@@ -1,0 +1,74 @@
+-- What a turn takes up, and what holds of a driver between turns.
+-- Source: this project's profile.
+use Rattle.std.specs.Prelude.{◌≡◌, ◌≢◌, ℕ, ◌+◌, ◌*◌, ◌<◌, List, [], ◌++◌, length, All, Contains, Option, None, IfSome, ◌⊎◌, option_to_list}
+use Rattle.snoop_trace.specs.declared.step.Step.{Step}
+use Rattle.snoop_history.specs.declared.items.Item.{Item}
+use Rattle.snoop_model.specs.declared.replies.Reply.{Reply}
+use Rattle.snoop_model.specs.declared.replies.Refused.{Refused}
+use Rattle.snoop_model.specs.Pictures.Situation.{Situation}
+use Rattle.snoop_model.specs.Moves.Move.{FirstMove}
+use Rattle.snoop_model.specs.Moves.Refuses.{Refuses}
+use Rattle.snoop_model.specs.Turns.Quiet.{IsQuiet}
+use Rattle.snoop_model.specs.Turns.Serving.{IsServing, owed}
+use Rattle.snoop_model.specs.Invariant.WellKept.{IsWellKept}
+use Rattle.snoop_engine.specs.declared.work.Work.{Work}
+use Rattle.snoop_engine.specs.Todo.{Todo, todo_of, left_in, under_way}
+use Rattle.snoop_engine.specs.Served.{ask_of}
+
+-- the value of a driver: the machine's situation, what each core has to do, and the cores that may have a step, in the order of their turns
+pub record Progress : Type 0 where
+  pub situation : Situation
+  pub lanes : List Todo
+  pub turns : List ℕ
+
+-- the step asks what its core has left first, and nothing else is taken up
+abbrev pub TakesUp : List Todo → Step → List Todo → Type 0
+TakesUp old step new = (core : ℕ) → (todo_of old core).left ≡ option_to_list (ask_of core step) ++ (todo_of new core).left
+
+-- a core has nothing left and nothing under way
+abbrev pub IsIdle : Todo → Type 0
+IsIdle todo = (todo.left ≡ []) × (todo.work ≡ None)
+
+-- what the core has under way is over: it may have anything else
+abbrev pub IsOver : List Todo → Situation → ℕ → Type 0
+IsOver lanes s core = (after : ℕ → Option ℕ) → ((other : ℕ) → other ≢ core → after other ≡ under_way lanes other) → IsServing after s
+
+-- no cause refuses the step
+abbrev pub IsEnabled : Situation → Step → Type 0
+IsEnabled s step = (cause : Refused) → ¬ Refuses s step cause
+
+-- the core's blocks are there
+pub record IsTodoWithin (blocks : ℕ) (todo : Todo) : Type 0 where
+  pub left : All (λ (work : Work). work.block < blocks) todo.left
+  pub work : IfSome todo.work (λ work. work.block < blocks)
+
+-- each core has its lane and waits only for its work under way, and a core without a turn has nothing to do
+pub record IsFit (s : Situation) (lanes : List Todo) (turns : List ℕ) : Type 0 where
+  pub cores : length lanes ≡ s.shape.cores
+  pub within : (core : ℕ) → IsTodoWithin s.shape.blocks (todo_of lanes core)
+  pub serving : IsServing (under_way lanes) s
+  pub kept : IsWellKept s
+  pub few : All (λ core. core < s.shape.cores) turns
+  pub busy : (core : ℕ) → Contains turns core ⊎ IsIdle (todo_of lanes core)
+
+-- the steps that may still come: three for each row that is left, and those that are owed
+abbrev pub remaining : Progress → ℕ
+remaining progress = 3 * left_in progress.lanes + owed progress.situation
+
+-- the machine moves by the step, which its core has left first, and fewer steps may still come
+pub record Follows (old : Progress) (step : Step) (answer : Reply) (new : Progress) : Type 0 where
+  pub entry : Option Item
+  pub move : FirstMove old.situation step answer new.situation entry
+  pub takes_up : TakesUp old.lanes step new.lanes
+  pub fewer : remaining new < remaining old
+
+-- nothing has been asked
+pub record IsUnasked (old new : Progress) : Type 0 where
+  pub situation : new.situation ≡ old.situation
+  pub left : (core : ℕ) → (todo_of new.lanes core).left ≡ (todo_of old.lanes core).left
+
+-- no row was left, and the machine is quiet
+pub record IsDone (old new : Progress) : Type 0 where
+  pub situation : new.situation ≡ old.situation
+  pub left : (core : ℕ) → (todo_of old.lanes core).left ≡ []
+  pub quiet : IsQuiet new.situation

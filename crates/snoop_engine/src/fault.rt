@@ -1,0 +1,29 @@
+//! Why a simulation stopped.
+
+use snoop_trace::{TextFault, WriteFault};
+use thiserror::Error;
+
+/// Why a simulation stopped. After `Text` nothing was written; what was written at the others, `simulate_steps` and `simulate_run` say.
+#[derive(Clone, Copy, Debug, PartialEq, Eq, Error)]
+pub enum SimFault {
+    #[error(transparent)]
+    Text(TextFault),
+    #[error("NoMemory")]
+    NoMemory,
+    #[error("Write")]
+    Write,
+}
+
+impl From<WriteFault> for SimFault {
+    ghost use Rattle.std.specs.Prelude.{◌≡◌};
+    ghost use Rattle.snoop_engine.specs.Fault.{written};
+
+    ghost from_gives = { λ e r. r ≡ written e };
+
+    fn from(fault: WriteFault) -> Self {
+        match fault {
+            WriteFault::Write => SimFault::Write,
+            WriteFault::NoMemory => SimFault::NoMemory,
+        }
+    }
+}

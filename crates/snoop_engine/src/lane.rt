@@ -1,0 +1,61 @@
+//! What one core has left to do, and the work that it has under way.
+ghost use Rattle.std.specs.Prelude.{◌≡◌, ◌∷◌, ◌++◌, [], IfNone, OnOk, option_to_list};
+ghost use Rattle.snoop_engine.specs.Todo.{nothing_to_do};
+
+use crate::work::Work;
+use snoop_trace::NoMemory;
+use std::alloc::Global;
+use std::collections::VecDeque;
+use std::marker::Model;
+
+/// What one core has to do: its rows that are left, and the work under way.
+#[derive(Debug, Drop)]
+pub(crate) struct Lane {
+    rows: VecDeque<Work>,
+    work: Option<Work>,
+}
+
+impl Model for Lane {
+    ghost use Rattle.snoop_engine.specs.Todo.{Todo};
+
+    ghost Value = { Todo };
+
+    ghost view = { λ l. record { left = l.rows.items; work = l.work } };
+}
+
+impl Lane {
+    /// A lane with nothing to do.
+    pub(crate) fn new(alloc: Global) -> Self
+        ensures { result ≡ nothing_to_do }
+    {
+        Lane {
+            rows: VecDeque::new(alloc),
+            work: None,
+        }
+    }
+
+    /// Puts a row last.
+    pub(crate) fn push(&mut self, work: Work) -> Result<(), NoMemory>
+        ensures left { OnOk result (self.new.left ≡ self.old.left ++ work ∷ []) }
+        ensures work { self.new.work ≡ self.old.work }
+    {
+        self.rows.push_back(work).map_err(|_| NoMemory)
+    }
+
+    /// The work under way. It may be over.
+    pub(crate) fn work(&self) -> Option<Work>
+        ensures { result ≡ self.now.work }
+    {
+        self.work
+    }
+
+    /// Takes up the next row in place of a work that is over.
+    pub(crate) fn take_up(&mut self) -> Option<Work>
+        ensures work { self.new.work ≡ result }
+        ensures left { self.old.left ≡ option_to_list result ++ self.new.left }
+        ensures done { IfNone result (self.old.left ≡ []) }
+    {
+        self.work = self.rows.pop_front();
+        self.work
+    }
+}

@@ -1,0 +1,18 @@
+//! The engine of the commands `steps` and `run`: a text of steps or of rows in, the lines of its simulation and its report out.
+#![tactic(auto)]
+
+mod deal;
+mod driver;
+mod fault;
+mod lane;
+mod line;
+mod run;
+mod steps;
+mod work;
+
+pub use fault::SimFault;
+pub use run::simulate_run;
+pub use steps::simulate_steps;
+
+#[cfg(test)]
+mod tests;

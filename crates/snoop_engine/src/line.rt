@@ -1,0 +1,111 @@
+//! The line of a step: its text and the machine's reply or refusal.
+ghost use Rattle.std.specs.Prelude.{◌≡◌, ◌++◌, codes, OnOk};
+ghost use Rattle.std.specs.Fmt.{decimal};
+ghost use Rattle.snoop_model.specs.declared.replies.Reply.TheVariants.{Came};
+ghost use Rattle.snoop_model.specs.Texts.{performed_text, refusal_text, reply_text, sender_text};
+ghost use Rattle.snoop_engine.specs.Line.{line_text, outcome_text};
+
+use snoop_history::Did;
+use snoop_machine::{Refused, Reply};
+use snoop_rules::Payload;
+use snoop_trace::{NoMemory, Shape, Step, push_byte, push_decimal, push_step, push_text};
+
+// Appends a text and then a number.
+fn push_numbered(out: &mut Vec<u8>, text: &str, number: u64) -> Result<(), NoMemory>
+    ensures ok { OnOk result (out.new.items ≡ out.old.items ++ (text.now ++ decimal number)) }
+{
+    push_text(out, text)?;
+    push_decimal(out, number)
+}
+
+// Appends two texts.
+fn push_both(out: &mut Vec<u8>, first: &str, second: &str) -> Result<(), NoMemory>
+    ensures ok { OnOk result (out.new.items ≡ out.old.items ++ (first.now ++ second.now)) }
+{
+    push_text(out, first)?;
+    push_text(out, second)
+}
+
+fn push_sender(out: &mut Vec<u8>, from: Option<u32>) -> Result<(), NoMemory>
+    ensures ok { OnOk result (out.new.items ≡ out.old.items ++ sender_text from) }
+{
+    match from {
+        None => push_text(out, " from memory"),
+        Some(core) => push_numbered(out, " from core ", core as u64),
+    }
+}
+
+fn push_performed(out: &mut Vec<u8>, did: Option<Did>) -> Result<(), NoMemory>
+    ensures ok { OnOk result (out.new.items ≡ out.old.items ++ performed_text did) }
+{
+    match did {
+        None => Ok(()),
+        Some(did) if did.load => push_numbered(out, ", load ", did.value),
+        Some(did) => push_numbered(out, ", store ", did.value),
+    }
+}
+
+fn push_came(
+    out: &mut Vec<u8>,
+    payload: Payload,
+    from: Option<u32>,
+    did: Option<Did>,
+) -> Result<(), NoMemory>
+    ensures ok { OnOk result (out.new.items ≡ out.old.items ++ reply_text (Came payload from did)) }
+{
+    push_text(out, payload.name())?;
+    push_sender(out, from)?;
+    push_performed(out, did)
+}
+
+fn push_reply(out: &mut Vec<u8>, reply: Reply) -> Result<(), NoMemory>
+    ensures ok { OnOk result (out.new.items ≡ out.old.items ++ reply_text reply) }
+{
+    match reply {
+        Reply::Hit(value) => push_numbered(out, "hit ", value),
+        Reply::StoreHit => push_text(out, "store hit"),
+        Reply::Issued(request) => push_both(out, "issued ", request.name()),
+        Reply::Gone => push_text(out, "gone"),
+        Reply::Absent => push_text(out, "absent"),
+        Reply::Ordered(request) => push_both(out, "ordered ", request.name()),
+        Reply::Came { payload, from, did } => push_came(out, payload, from, did),
+    }
+}
+
+fn push_refusal(out: &mut Vec<u8>, cause: Refused) -> Result<(), NoMemory>
+    ensures ok { OnOk result (out.new.items ≡ out.old.items ++ codes "refused " ++ refusal_text cause) }
+{
+    match cause {
+        Refused::NoCore => push_text(out, "refused NoCore"),
+        Refused::NoBlock => push_text(out, "refused NoBlock"),
+        Refused::Stalled(state) => push_both(out, "refused Stalled ", state.name()),
+        Refused::NothingWaiting => push_text(out, "refused NothingWaiting"),
+        Refused::BusTaken(block) => push_numbered(out, "refused BusTaken ", block as u64),
+        Refused::NoTransaction => push_text(out, "refused NoTransaction"),
+        Refused::NoMemory => push_text(out, "refused NoMemory"),
+    }
+}
+
+fn push_outcome(out: &mut Vec<u8>, outcome: Result<Reply, Refused>) -> Result<(), NoMemory>
+    ensures ok { OnOk result (out.new.items ≡ out.old.items ++ outcome_text outcome) }
+{
+    match outcome {
+        Ok(reply) => push_reply(out, reply),
+        Err(cause) => push_refusal(out, cause),
+    }
+}
+
+/// Appends the line of a step and what the machine answered.
+pub(crate) fn push_line(
+    out: &mut Vec<u8>,
+    shape: Shape,
+    step: Step,
+    outcome: Result<Reply, Refused>,
+) -> Result<(), NoMemory>
+    ensures ok { OnOk result (out.new.items ≡ out.old.items ++ line_text shape step outcome) }
+{
+    push_step(out, shape, step)?;
+    push_text(out, ": ")?;
+    push_outcome(out, outcome)?;
+    push_byte(out, b'\n')
+}

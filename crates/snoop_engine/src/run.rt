@@ -1,0 +1,74 @@
+//! The command `run`: the rows of a text, one at a time on each core.
+ghost use Rattle.std.specs.Prelude.{◌≡◌, ◌≢◌, ◌<◌, ◌-◌, ◌^◌, true, length, All, Err, OnOk, OnErr, IsSomeAnd};
+ghost use Rattle.snoop_trace.specs.Grammar.{IsRowWithin};
+ghost use Rattle.snoop_trace.specs.declared.fault.TextFault.TheVariants as text_fault;
+ghost use Rattle.snoop_engine.specs.Driven.{WritesDriven, WritesDrivenFront};
+ghost use Rattle.snoop_engine.specs.SimulatedRun.{BeginsRun, ReportsRun, SimulatesRun};
+
+use crate::driver::Driver;
+use crate::fault::SimFault;
+use crate::line::push_line;
+use snoop_history::write_report;
+use snoop_rules::Protocol;
+use snoop_trace::{Row, Shape, Sink, Source, WriteFault, read_rows, spill, write_whole};
+use std::alloc::Global;
+
+/// Reads a text of rows to its end, and lets each core do its rows in the order of the text, one at a time, on a
+/// machine at reset: in each round the cores take one step each by rising number, where they have one. Writes the line of
+/// each step and then the report.
+pub fn simulate_run<R: Source + Drop, W: Sink>(
+    alloc: Global,
+    reader: R,
+    writer: &mut W,
+    protocol: Protocol,
+    shape: Shape,
+) -> Result<(), SimFault>
+    ensures does { SimulatesRun protocol shape (R.remaining reader) result (W.contents writer.old) (W.contents writer.new) }
+
+    // A reader or a writer whose contract rules failure out is never blamed.
+    ensures reads { R.never_fails ≡ true → IsSomeAnd (R.remaining reader) (λ bytes. length bytes < 2 ^ 64 - 1) → result ≢ Err (SimFault.Text text_fault.Read) }
+    ensures writes { W.never_fails ≡ true → result ≢ Err SimFault.Write }
+{
+    let rows = read_rows(alloc, reader, shape).map_err(SimFault::Text)?;
+    write_run(alloc, writer, protocol, shape, rows)?;
+    Ok(())
+}
+
+/// Serves the rows on a machine at reset, and writes the lines of the steps and the report.
+fn write_run<W: Sink>(
+    alloc: Global,
+    writer: &mut W,
+    protocol: Protocol,
+    shape: Shape,
+    rows: Vec<Row>,
+) -> Result<(), WriteFault>
+    requires { All (IsRowWithin shape) rows.items }
+    ensures ok { OnOk result (ReportsRun protocol shape rows.items (W.contents writer.old) (W.contents writer.new)) }
+    ensures front { OnErr result (BeginsRun protocol shape rows.items (W.contents writer.old) (W.contents writer.new)) }
+    ensures never_blamed { W.never_fails ≡ true → result ≢ Err WriteFault.Write }
+{
+    let mut driver = Driver::new(alloc, protocol, shape, rows)?;
+    write_driven(alloc, writer, shape, &mut driver)?;
+    write_report(alloc, writer, driver.log())?;
+    Ok(())
+}
+
+/// Lets the driver take all its steps, and writes the line of each.
+fn write_driven<W: Sink>(
+    alloc: Global,
+    writer: &mut W,
+    shape: Shape,
+    driver: &mut Driver,
+) -> Result<(), WriteFault>
+    ensures ok { OnOk result (WritesDriven shape driver.old driver.new (W.contents writer.old) (W.contents writer.new)) }
+    ensures front { OnErr result (WritesDrivenFront shape driver.old (W.contents writer.old) (W.contents writer.new)) }
+    ensures never_blamed { W.never_fails ≡ true → result ≢ Err WriteFault.Write }
+{
+    let mut chunk = Vec::new(alloc);
+    while let Some((step, reply)) = driver.next()? {
+        push_line(&mut chunk, shape, step, Ok(reply))?;
+        spill(writer, &mut chunk)?;
+    }
+    write_whole(writer, &chunk)?;
+    Ok(())
+}

@@ -1,0 +1,97 @@
+//! Out of memory: each test passes with any one growth refused. tools/refusals.py refuses each in turn.
+
+use crate::tests::{block_boundary, did};
+use crate::{Board, Item, Log, write_report};
+use snoop_trace::{NoMemory, Shape};
+use std::alloc::Global;
+use std::test::Fail;
+
+const REPORT: &str = "\
+loads 1 hits 0
+stores 1 hits 0
+GetS 1 GetM 1 PutM 0
+from memory 1 from caches 1
+writebacks 0 clean 0 stale 0
+block 1 value 7
+";
+
+fn empty_log(alloc: Global, shape: Shape) -> Result<Log, NoMemory> {
+    match Log::new(alloc, shape) {
+        Ok(log) => Ok(log),
+        Err(_) => Log::new(alloc, shape),
+    }
+}
+
+// Makes room for the item and appends it; a refused growth leaves the log as it was.
+fn append(log: &mut Log, item: Item) -> Result<(), Fail> {
+    let before = log.len();
+    if log.reserve().is_err() {
+        if log.len() != before {
+            return Err(Fail::from("a refused growth changed the log"));
+        }
+        log.reserve()?;
+    }
+    if log.has_room() && log.takes(item) {
+        log.push(item);
+    }
+    Ok(())
+}
+
+fn full_log(alloc: Global, shape: Shape) -> Result<Log, Fail> {
+    let mut log = empty_log(alloc, shape)?;
+    for item in block_boundary() {
+        append(&mut log, item)?;
+    }
+    Ok(log)
+}
+
+#[test]
+fn a_log_grows_by_each_item(rt: HostRuntime) -> Result<(), Fail> {
+    let alloc = rt.alloc();
+    let log = full_log(alloc, Shape::new(2, 4, 64)?)?;
+    assert_eq!(rt; log.items(), block_boundary().as_slice());
+    assert_eq!(rt; log.flat(1), Some(7));
+    let copy = match log.copy() {
+        Ok(copy) => copy,
+        Err(_) => log.copy()?,
+    };
+    assert_eq!(rt; copy.items(), log.items());
+    assert_eq!(rt; copy.totals(), log.totals());
+    let answers = match log.answers(1) {
+        Ok(answers) => answers,
+        Err(_) => log.answers(1)?,
+    };
+    assert_eq!(rt; answers.as_slice(), [did(1, 0, 1, true, 7)].as_slice());
+    Ok(())
+}
+
+#[test]
+fn a_board_is_made_and_absorbs_without_memory(rt: HostRuntime) -> Result<(), Fail> {
+    let alloc = rt.alloc();
+    let shape = Shape::new(2, 4, 64)?;
+    let mut board = match Board::new(alloc, shape) {
+        Ok(board) => board,
+        Err(_) => Board::new(alloc, shape)?,
+    };
+    for item in block_boundary() {
+        board.absorb(item);
+    }
+    assert_eq!(rt; board.value(1), Some(7));
+    assert_eq!(rt; board.count(0), Some(1));
+    assert_eq!(rt; board.last(1), Some(did(1, 0, 1, true, 7)));
+    Ok(())
+}
+
+#[test]
+fn a_report_is_whole_or_a_beginning(rt: HostRuntime) -> Result<(), Fail> {
+    let alloc = rt.alloc();
+    let log = full_log(alloc, Shape::new(2, 4, 64)?)?;
+    let mut report = Vec::new(alloc);
+    if write_report(alloc, &mut report, &log).is_err() {
+        assert!(rt; REPORT.as_bytes().starts_with(&report));
+        report.clear();
+        write_report(alloc, &mut report, &log)?;
+    }
+    assert_eq!(rt; report.as_slice(), REPORT.as_bytes());
+    Ok(())
+}

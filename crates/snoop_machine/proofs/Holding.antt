@@ -1,0 +1,99 @@
+-- How many lines each core's map has after a step, or after the room for it was made.
+use Rattle.std.proofs.Common.{◌≡◌, ◌≢◌, ℕ, ◌+◌, List, [], sym, ◌∙◌, ap, subst, arith, inl, inr, ◌⊎◌, refl, Option}
+use Rattle.std.specs.Prelude.{slice_set}
+use Rattle.std.proofs.lemmas.Bool.{cases_eq}
+use Rattle.std.proofs.lemmas.List.{get_or-set_other}
+use Rattle.snoop_trace.specs.declared.step.Step.{Step}
+use Rattle.snoop_trace.specs.declared.step.Step.TheVariants as step
+use Rattle.snoop_rules.specs.declared.names.CacheState.TheVariants.{I}
+use Rattle.snoop_rules.specs.declared.names.CacheAction.TheVariants as action
+use Rattle.snoop_history.specs.declared.items.Item.{Item}
+use Rattle.snoop_model.specs.declared.line.Line.{Line}
+use Rattle.snoop_model.specs.declared.replies.Reply.{Reply}
+use Rattle.snoop_model.specs.Pictures.Picture.{held_at}
+use Rattle.snoop_model.specs.Pictures.Situation.{Situation, state_of}
+use Rattle.snoop_model.specs.Moves.Move.{FirstMove}
+use Rattle.snoop_model.specs.Moves.Standing.{Standing, lines_of}
+use Rattle.snoop_model.specs.Moves.Holding.{LeavesI, MovesToI, HoldsOn}
+use Rattle.snoop_model.proofs.Lines.EachRow.{row_of}
+use Rattle.snoop_model.proofs.Tables.EvictInI.{no_row}
+use Rattle.snoop_machine.specs.declared.ask.Asked.TheVariants.{Absent, Hit, Issue, Drop}
+use Rattle.snoop_machine.specs.declared.plan.Plan.{Plan}
+use Rattle.snoop_machine.specs.declared.plan.Plan.TheVariants as plan
+use Rattle.snoop_machine.specs.Plan.{IsPlan, IsPlanFor, step_of}
+use Rattle.snoop_machine.specs.Following.{LosesLines, AddsLines}
+
+-- a core that leaves I on a block moves to I on none
+stays_out : (old new : Situation) (taking : Step) (core : ℕ) (answer : Reply) (entry : Option Item) → FirstMove old taking answer new entry → LeavesI old taking core → ¬ MovesToI old new core
+stays_out old new (step.Ask asker block asking) core answer entry m leaves moved = elim m.1.1.2 [
+  | inl absent ↦ moved.1.0 (subst (λ (s : Situation). state_of s core moved.0 ≡ I) absent.3 moved.1.1)
+  | inr asks ↦ elim (cases_eq moved.0 m.0) [
+    | inl e ↦
+        let there : state_of old core moved.0 ≡ I =
+        subst (λ (b : ℕ). state_of old core b ≡ I) (m.1.1.0 ∙ sym e) (subst (λ (k : ℕ). state_of old k block ≡ I) leaves.0 leaves.3) in
+        moved.1.0 there
+    | inr ne ↦
+        let other : row_of new.caches moved.0 ≡ row_of old.caches moved.0 =
+        ap (λ (s : Situation). row_of s.caches moved.0) asks.after ∙ get_or-set_other old.caches m.0 moved.0 (slice_set (row_of old.caches m.0) asker asks.held) [] ne in
+        moved.1.0 (ap (λ (row : List Line). (held_at row core).state) (sym other) ∙ moved.1.1)
+  ]
+]
+stays_out old new (step.Order orderer) core answer entry m leaves moved = leaves
+stays_out old new (step.Respond block) core answer entry m leaves moved = leaves
+
+-- the room for a step adds a line where the step is an Ask that leaves I
+adds_plan : (old new : Standing) (x : Plan) (core : ℕ) → IsPlan old.situation x → AddsLines x old new core → (lines_of new core ≡ lines_of old core) ⊎ (LeavesI old.situation (step_of x) core × (lines_of new core ≡ lines_of old core + 1))
+adds_plan old new (plan.Ask asker block asking (Issue request line)) core h (inl same) = inl same
+adds_plan old new (plan.Ask asker block asking (Issue request line)) core h (inr more) =
+    let s = old.situation in
+    inr ((more.0, h.0, (λ e. no_row s.protocol (state_of s asker block) asking (action.Issue request) h.1.0 e more.1 h.1.1.0), more.1), more.2)
+adds_plan old new (plan.Ask asker block asking Absent) core h same = inl same
+adds_plan old new (plan.Ask asker block asking (Hit line value)) core h same = inl same
+adds_plan old new (plan.Ask asker block asking (Drop line)) core h same = inl same
+adds_plan old new (plan.Order orderer request block message memory) core h same = inl same
+adds_plan old new (plan.Writeback block closing memory) core h same = inl same
+adds_plan old new (plan.Fill block closing memory filled) core h same = inl same
+
+adds_step : (old new : Standing) (taking : Step) (x : Plan) (core : ℕ) → IsPlanFor old.situation taking x → AddsLines x old new core → (lines_of new core ≡ lines_of old core) ⊎ (LeavesI old.situation taking core × (lines_of new core ≡ lines_of old core + 1))
+adds_step old new taking x core h adds =
+    let P : Step → Type 0 = λ t. (lines_of new core ≡ lines_of old core) ⊎ (LeavesI old.situation t core × (lines_of new core ≡ lines_of old core + 1)) in
+    subst P h.0 (adds_plan old new x core h.1 adds)
+
+-- the room for the step was made, and nothing else
+pub HoldsOn-room : (old new : Standing) (taking : Step) (x : Plan) (core : ℕ) → IsPlanFor old.situation taking x → new.situation ≡ old.situation → AddsLines x old new core → HoldsOn old new taking core
+HoldsOn-room old new taking x core h unchanged adds =
+    let all = adds_step old new taking x core h adds in
+    record {
+      raised = λ leaves. elim all [ inl same ↦ (omega arith, omega arith) | inr more ↦ let one = more.1 in (omega arith, omega arith) ];
+      lowered = λ moved. absurd (moved.1.0 (subst (λ (s : Situation). state_of s core moved.0 ≡ I) unchanged moved.1.1));
+      same = λ stays still. elim all [ inl same ↦ same | inr more ↦ absurd (stays more.0) ];
+    }
+
+-- nothing has changed
+pub HoldsOn-refused : (old new : Standing) (taking : Step) (core : ℕ) → new ≡ old → HoldsOn old new taking core
+HoldsOn-refused old new taking core same =
+    let P : Standing → Type 0 = λ s. HoldsOn old s taking core in
+    subst P (sym same) (record {
+      raised = λ leaves. (omega arith, omega arith);
+      lowered = λ moved. absurd (moved.1.0 moved.1.1);
+      same = λ stays still. refl;
+    })
+
+-- the room was made, and the step was taken
+pub HoldsOn-taken : (old middle new : Standing) (taking : Step) (x : Plan) (core : ℕ) (answer : Reply) (entry : Option Item) → IsPlanFor old.situation taking x → middle.situation ≡ old.situation → AddsLines x old middle core
+    → LosesLines middle new core → FirstMove old.situation taking answer new.situation entry → HoldsOn old new taking core
+HoldsOn-taken old middle new taking x core answer entry h unchanged adds loses move =
+    let all = adds_step old middle taking x core h adds in
+    let still_in : ¬ MovesToI old.situation new.situation core → lines_of new core ≡ lines_of middle core = λ still.
+    loses.same (λ moved. still (moved.0, (subst (λ (s : Situation). state_of s core moved.0 ≢ I) unchanged moved.1.0, moved.1.1))) in
+    record {
+      raised = λ leaves.
+          let same = still_in (stays_out old.situation new.situation taking core answer entry move leaves) in
+          elim all [ inl none ↦ (omega arith, omega arith) | inr more ↦ let one = more.1 in (omega arith, omega arith) ];
+      lowered = λ moved.
+          let fewer = loses.lowered (moved.0, (subst (λ (s : Situation). state_of s core moved.0 ≢ I) (sym unchanged) moved.1.0, moved.1.1)) in
+          elim all [ inl none ↦ omega arith | inr more ↦ absurd (stays_out old.situation new.situation taking core answer entry move more.0 moved) ];
+      same = λ stays still.
+          let same = still_in still in
+          elim all [ inl none ↦ omega arith | inr more ↦ absurd (stays more.0) ];
+    }

@@ -1,0 +1,62 @@
+-- What holds between the maps and the holders, after one map has changed.
+use Rattle.std.proofs.Common.{◌≡◌, ℕ, ◌<◌, false, List, length, sym, ◌∙◌, ap, subst, inl, inr}
+use Rattle.std.specs.Prelude.{slice_index_or, slice_set, nat_eq}
+use Rattle.std.proofs.lemmas.Bool.{cases_eq, ne_eqb}
+use Rattle.std.proofs.lemmas.List.{length-set, get_or-set_same, get_or-set_other}
+use Rattle.snoop_model.specs.declared.line.Line.{Line}
+use Rattle.snoop_model.specs.Pictures.Sound.{IsProper}
+use Rattle.snoop_machine.specs.declared.holders.Holders.{Holders}
+use Rattle.snoop_machine.specs.Holders.{AreHolders, HaveMoved}
+use Rattle.snoop_machine.specs.Cache.{Contents, no_cache, line_in, row_in}
+use Rattle.snoop_machine.specs.Lines.{AreLines, no_holders}
+use Rattle.snoop_machine.proofs.MapRows.{row-same, row-set, length-row, AreHolders-moved}
+
+module _ (caches : List Contents) (holders : List Holders) (lines : AreLines caches holders) (core : ℕ) (new : Contents) (within : core < length caches) where
+  few_after : length (slice_set caches core new) < 257
+  few_after = let few = lines.few in rw (length-set caches core new) few
+
+  here : slice_index_or (slice_set caches core new) core no_cache ≡ new
+  here = get_or-set_same caches core new no_cache within
+
+  -- each line is proper, if those of the new map are
+  proper_after : ((b : ℕ) → IsProper (line_in new b)) → (k b : ℕ) → IsProper (line_in (slice_index_or (slice_set caches core new) k no_cache) b)
+  proper_after proper k b = elim (cases_eq k core) [
+    | inl e ↦ subst (λ (j : ℕ). IsProper (line_in (slice_index_or (slice_set caches core new) j no_cache) b)) (sym e) (subst (λ (cache : Contents). IsProper (line_in cache b)) (sym here) (proper b))
+    | inr ne ↦ subst (λ (cache : Contents). IsProper (line_in cache b)) (sym (get_or-set_other caches core k new no_cache ne)) (lines.proper k b)
+  ]
+
+  -- the new map has the lines that the old one had
+  pub AreLines-alike : ((b : ℕ) → line_in new b ≡ line_in (slice_index_or caches core no_cache) b) → AreLines (slice_set caches core new) holders
+  AreLines-alike same =
+      record {
+        few = few_after;
+        proper = proper_after (λ b. subst (λ (line : Line). IsProper line) (sym (same b)) (lines.proper core b));
+        indexed = λ b lt. subst (λ (row : List Line). AreHolders (slice_index_or holders b no_holders) row) (sym (row-same caches core b new (same b))) (lines.indexed b lt);
+      }
+
+  -- the new map has another line of one block, and the core has moved to its state
+  pub AreLines-set : (block : ℕ) (line : Line) (moved : Holders) → block < length holders → IsProper line → line_in new block ≡ line
+      → ((b : ℕ) → nat_eq block b ≡ false → line_in new b ≡ line_in (slice_index_or caches core no_cache) b)
+      → HaveMoved core line.state (slice_index_or holders block no_holders) moved
+      → AreLines (slice_set caches core new) (slice_set holders block moved)
+  AreLines-set block line moved in_blocks proper wrote others moves =
+      let elsewhere : (b : ℕ) → (b ≡ block → ⊥) → line_in new b ≡ line_in (slice_index_or caches core no_cache) b = λ b ne. others b (ne_eqb block b (λ e. ne (sym e))) in
+      record {
+        few = few_after;
+        proper = proper_after (λ b. elim (cases_eq b block) [
+          | inl e ↦ subst (λ (line : Line). IsProper line) (sym (ap (λ (j : ℕ). line_in new j) e ∙ wrote)) proper
+          | inr ne ↦ subst (λ (line : Line). IsProper line) (sym (elsewhere b ne)) (lines.proper core b)
+        ]);
+        indexed = λ b lt. elim (cases_eq b block) [
+          | inl e ↦
+              let at_block : AreHolders (slice_index_or (slice_set holders block moved) block no_holders) (row_in (slice_set caches core new) block) =
+              subst (λ (h : Holders). AreHolders h (row_in (slice_set caches core new) block)) (sym (get_or-set_same holders block moved no_holders in_blocks))
+              (subst (λ (row : List Line). AreHolders moved row) (sym (row-set caches core block new line wrote))
+              (AreHolders-moved (row_in caches block) core line (slice_index_or holders block no_holders) moved (subst (λ (n : ℕ). core < n) (sym (length-row caches block)) within) (lines.indexed block in_blocks) moves)) in
+              subst (λ (j : ℕ). AreHolders (slice_index_or (slice_set holders block moved) j no_holders) (row_in (slice_set caches core new) j)) (sym e) at_block
+          | inr ne ↦
+              let in_holders : b < length holders = subst (λ (n : ℕ). b < n) (length-set holders block moved) lt in
+              subst (λ (h : Holders). AreHolders h (row_in (slice_set caches core new) b)) (sym (get_or-set_other holders block b moved no_holders ne))
+              (subst (λ (row : List Line). AreHolders (slice_index_or holders b no_holders) row) (sym (row-same caches core b new (elsewhere b ne))) (lines.indexed b in_holders))
+        ];
+      }

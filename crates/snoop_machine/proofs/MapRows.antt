@@ -1,0 +1,180 @@
+-- The lines of maps as rows, and what one write does to them.
+use Rattle.std.proofs.Common.{◌≡◌, ◌≢◌, ℕ, zero, suc, ◌<◌, Bool, true, false, ◌||◌, cond, List, [], ◌∷◌, length, replicate, Option, None, Some, is_some, refl, sym, ◌∙◌, ap, subst, inl, inr, arith}
+use Rattle.std.specs.Prelude.{slice_index_or, slice_set, map, nat_eq, unwrap_or}
+use Rattle.std.specs.Map.{lookup, keys_of}
+use Rattle.std.proofs.lemmas.Bool.{cases_eq, cases_lt, ne_eqb}
+use Rattle.std.proofs.lemmas.List.{ext_get_or, get_or-map, map-set, length-map, length-set, set-get_or, get_or_past, get_or-replicate, length-replicate, get_or-set_same, get_or-set_other}
+use Rattle.std.proofs.lemmas.List.FromFn.{length-map-range_with_len, get_or-map-range_with_len}
+use Rattle.snoop_model.specs.declared.line.Line.{Line}
+use Rattle.snoop_model.specs.Pictures.Picture.{held_at, nothing_held}
+use Rattle.snoop_model.specs.Pictures.Sound.{keeps, line_at}
+use Rattle.snoop_model.specs.Invariant.Fits.{is_owner}
+use Rattle.snoop_machine.specs.declared.holders.Holders.{Holders}
+use Rattle.snoop_machine.specs.CoreSet.{has}
+use Rattle.snoop_machine.specs.Holders.{AreHolders, HaveMoved}
+use Rattle.snoop_machine.specs.Cache.{Contents, no_cache, line_in, blocks_of, row_in}
+use Rattle.snoop_machine.specs.Lines.{rows_of, is_among}
+
+pub length-rows : (blocks : ℕ) (caches : List Contents) → length (rows_of blocks caches) ≡ blocks
+length-rows blocks caches = length-map-range_with_len (row_in caches) 0 blocks
+
+pub row-rows : (blocks : ℕ) (caches : List Contents) (block : ℕ) → block < blocks → slice_index_or (rows_of blocks caches) block [] ≡ row_in caches block
+row-rows blocks caches block h = get_or-map-range_with_len (row_in caches) 0 blocks block block [] h (omega arith)
+
+pub length-row : (caches : List Contents) (block : ℕ) → length (row_in caches block) ≡ length caches
+length-row caches block = length-map caches (λ cache. line_in cache block)
+
+pub line-row : (caches : List Contents) (core block : ℕ) → held_at (row_in caches block) core ≡ line_in (slice_index_or caches core no_cache) block
+line-row caches core block = elim (cases_lt core (length caches)) [
+  | inl inside ↦ get_or-map (λ cache. line_in cache block) caches core no_cache nothing_held inside
+  | inr outside ↦
+      let long : length (row_in caches block) ≡ length caches = length-row caches block in
+      get_or_past (row_in caches block) core nothing_held (omega arith) ∙ sym (ap (λ (cache : Contents). line_in cache block) (get_or_past caches core no_cache outside))
+]
+
+-- a map whose line of the block is as it was leaves the row as it was
+pub row-same : (caches : List Contents) (core block : ℕ) (new : Contents) → line_in new block ≡ line_in (slice_index_or caches core no_cache) block
+    → row_in (slice_set caches core new) block ≡ row_in caches block
+row-same caches core block new same =
+    map-set (λ cache. line_in cache block) caches core new
+    ∙ (ap (λ (x : Line). slice_set (row_in caches block) core x) (same ∙ sym (line-row caches core block)) ∙ set-get_or (row_in caches block) core nothing_held)
+
+pub rows-same : (blocks : ℕ) (caches : List Contents) (core : ℕ) (new : Contents) → ((b : ℕ) → line_in new b ≡ line_in (slice_index_or caches core no_cache) b)
+    → rows_of blocks (slice_set caches core new) ≡ rows_of blocks caches
+rows-same blocks caches core new same =
+    ext_get_or [] (rows_of blocks (slice_set caches core new)) (rows_of blocks caches) (length-rows blocks (slice_set caches core new) ∙ sym (length-rows blocks caches))
+    (λ b h.
+    let long : length (rows_of blocks (slice_set caches core new)) ≡ blocks = length-rows blocks (slice_set caches core new) in
+    let within : b < blocks = omega arith in
+    row-rows blocks (slice_set caches core new) b within ∙ (row-same caches core b new (same b) ∙ sym (row-rows blocks caches b within)))
+
+-- the row of a block after one line of it is written
+pub row-set : (caches : List Contents) (core block : ℕ) (new : Contents) (line : Line) → line_in new block ≡ line → row_in (slice_set caches core new) block ≡ slice_set (row_in caches block) core line
+row-set caches core block new line here = map-set (λ cache. line_in cache block) caches core new ∙ ap (λ (x : Line). slice_set (row_in caches block) core x) here
+
+pub rows-set : (blocks : ℕ) (caches : List Contents) (core block : ℕ) (new : Contents) (line : Line) → block < blocks
+    → line_in new block ≡ line → ((b : ℕ) → nat_eq block b ≡ false → line_in new b ≡ line_in (slice_index_or caches core no_cache) b)
+    → rows_of blocks (slice_set caches core new) ≡ slice_set (rows_of blocks caches) block (slice_set (slice_index_or (rows_of blocks caches) block []) core line)
+rows-set blocks caches core block new line inside here others =
+    let rows = rows_of blocks caches in
+    let row = slice_set (slice_index_or rows block []) core line in
+    let long : length (rows_of blocks (slice_set caches core new)) ≡ blocks = length-rows blocks (slice_set caches core new) in
+    let long_rows : length rows ≡ blocks = length-rows blocks caches in
+    ext_get_or [] (rows_of blocks (slice_set caches core new)) (slice_set rows block row) (long ∙ sym (length-set rows block row ∙ long_rows))
+    (λ b h.
+    let within : b < blocks = omega arith in
+    elim (cases_eq b block) [
+      | inl e ↦
+          let at_block : slice_index_or (rows_of blocks (slice_set caches core new)) block [] ≡ slice_index_or (slice_set rows block row) block [] =
+          row-rows blocks (slice_set caches core new) block inside
+          ∙ (row-set caches core block new line here
+          ∙ (ap (λ (r : List Line). slice_set r core line) (sym (row-rows blocks caches block inside))
+          ∙ sym (get_or-set_same rows block row [] (omega arith)))) in
+          subst (λ (j : ℕ). slice_index_or (rows_of blocks (slice_set caches core new)) j [] ≡ slice_index_or (slice_set rows block row) j []) (sym e) at_block
+      | inr ne ↦
+          row-rows blocks (slice_set caches core new) b within
+          ∙ (row-same caches core b new (others b (ne_eqb block b (λ e. ne (sym e))))
+          ∙ (sym (row-rows blocks caches b within) ∙ sym (get_or-set_other rows block b row [] ne)))
+    ])
+
+-- a place within the rows is within the maps
+pub within-rows : (blocks : ℕ) (caches : List Contents) (core block : ℕ) → block < length (rows_of blocks caches) → core < length (slice_index_or (rows_of blocks caches) block [])
+    → (block < blocks) × (core < length caches)
+within-rows blocks caches core block in_rows in_row =
+    let long : length (rows_of blocks caches) ≡ blocks = length-rows blocks caches in
+    let in_block : block < blocks = omega arith in
+    let wide : length (slice_index_or (rows_of blocks caches) block []) ≡ length caches = ap length (row-rows blocks caches block in_block) ∙ length-row caches block in
+    (in_block, omega arith)
+
+pub line-rows : (blocks : ℕ) (caches : List Contents) (core block : ℕ) → block < blocks → line_at (rows_of blocks caches) core block ≡ line_in (slice_index_or caches core no_cache) block
+line-rows blocks caches core block h = ap (λ (r : List Line). held_at r core) (row-rows blocks caches block h) ∙ line-row caches core block
+
+-- a block without a line in any map, and a block that there is not, is held by none
+pub line-none : (blocks : ℕ) (caches : List Contents) (core block : ℕ) → line_in (slice_index_or caches core no_cache) block ≡ nothing_held → line_at (rows_of blocks caches) core block ≡ nothing_held
+line-none blocks caches core block none = elim (cases_lt block blocks) [
+  | inl inside ↦ line-rows blocks caches core block inside ∙ none
+  | inr outside ↦
+      let long = length-rows blocks caches in
+      ap (λ (r : List Line). held_at r core) (get_or_past (rows_of blocks caches) block [] (omega arith))
+]
+
+-- the holders of a block are those of its row, once one of its lines has moved
+pub AreHolders-moved : (row : List Line) (core : ℕ) (line : Line) (old new : Holders) → core < length row → AreHolders old row → HaveMoved core line.state old new → AreHolders new (slice_set row core line)
+AreHolders-moved row core line old new within fits moved =
+    let here : held_at (slice_set row core line) core ≡ line = get_or-set_same row core line nothing_held within in
+    let there : (k : ℕ) → k ≢ core → held_at (slice_set row core line) k ≡ held_at row k = λ k ne. get_or-set_other row core k line nothing_held ne in
+    record {
+      owners = λ k. elim (cases_eq k core) [
+        | inl e ↦ ap (has new.owners) e ∙ (moved.owner ∙ sym (ap (λ (j : ℕ). is_owner (held_at (slice_set row core line) j).state) e ∙ ap (λ (l : Line). is_owner l.state) here))
+        | inr ne ↦ moved.other_owners k ne ∙ (fits.owners k ∙ sym (ap (λ (l : Line). is_owner l.state) (there k ne)))
+      ];
+      readers = λ k. elim (cases_eq k core) [
+        | inl e ↦ ap (has new.readers) e ∙ (moved.reader ∙ sym (ap (λ (j : ℕ). keeps (held_at (slice_set row core line) j).state) e ∙ ap (λ (l : Line). keeps l.state) here))
+        | inr ne ↦ moved.other_readers k ne ∙ (fits.readers k ∙ sym (ap (λ (l : Line). keeps l.state) (there k ne)))
+      ];
+    }
+
+-- maps without entries hold nothing anywhere
+module _ (caches : List Contents) (empty : (core : ℕ) → (slice_index_or caches core no_cache).entries ≡ []) where
+  pub line-empty : (core block : ℕ) → line_in (slice_index_or caches core no_cache) block ≡ nothing_held
+  line-empty core block = ap (λ (entries : List (ℕ × Line)). unwrap_or (lookup (nat_eq block) entries) nothing_held) (empty core)
+
+  pub row-empty : (block : ℕ) → row_in caches block ≡ replicate (length caches) nothing_held
+  row-empty block =
+      ext_get_or nothing_held (row_in caches block) (replicate (length caches) nothing_held) (length-row caches block ∙ sym (length-replicate (length caches) nothing_held))
+      (λ k h.
+      let long = length-row caches block in
+      line-row caches k block ∙ (line-empty k block ∙ sym (get_or-replicate (length caches) k nothing_held nothing_held (omega arith))))
+
+  pub rows-empty : (blocks : ℕ) → rows_of blocks caches ≡ replicate blocks (replicate (length caches) nothing_held)
+  rows-empty blocks =
+      ext_get_or [] (rows_of blocks caches) (replicate blocks (replicate (length caches) nothing_held)) (length-rows blocks caches ∙ sym (length-replicate blocks (replicate (length caches) nothing_held)))
+      (λ b h.
+      let long : length (rows_of blocks caches) ≡ blocks = length-rows blocks caches in
+      let within : b < blocks = omega arith in
+      row-rows blocks caches b within ∙ (row-empty b ∙ sym (get_or-replicate blocks b (replicate (length caches) nothing_held) [] within)))
+
+-- the blocks that a core's map has a line for
+pub blocks-at : (caches : List Contents) (core : ℕ) → slice_index_or (map blocks_of caches) core [] ≡ blocks_of (slice_index_or caches core no_cache)
+blocks-at [] core = refl
+blocks-at (cache ∷ caches) zero = refl
+blocks-at (cache ∷ caches) (suc core) = blocks-at caches core
+
+pub spare-at : (caches : List Contents) (core : ℕ) → slice_index_or (map (λ (cache : Contents). cache.spare) caches) core 0 ≡ (slice_index_or caches core no_cache).spare
+spare-at [] core = refl
+spare-at (cache ∷ caches) zero = refl
+spare-at (cache ∷ caches) (suc core) = spare-at caches core
+
+pub length-blocks_of : (cache : Contents) → length (blocks_of cache) ≡ length cache.entries
+length-blocks_of cache = length-map cache.entries (λ (e : ℕ × Line). e.0)
+
+-- a block is among those with a line where the look-up finds one
+pub among-lookup : (entries : List (ℕ × Line)) (block : ℕ) → is_among (keys_of entries) block ≡ is_some (lookup (nat_eq block) entries)
+among-lookup [] block = refl
+among-lookup (e ∷ entries) block = go (nat_eq block e.0) (among-lookup entries block)
+  where
+    go : (b : Bool) → is_among (keys_of entries) block ≡ is_some (lookup (nat_eq block) entries) → (b || is_among (keys_of entries) block) ≡ is_some (cond b (Some e.1) (lookup (nat_eq block) entries))
+    go true same = refl
+    go false same = same
+
+-- a line that holds something is found
+pub found-lookup : (entries : List (ℕ × Line)) (block : ℕ) → is_some (lookup (nat_eq block) entries) ≡ false → unwrap_or (lookup (nat_eq block) entries) nothing_held ≡ nothing_held
+found-lookup entries block none = go (lookup (nat_eq block) entries) none
+  where
+    go : (o : Option Line) → is_some o ≡ false → unwrap_or o nothing_held ≡ nothing_held
+    go None e = refl
+    go (Some line) e = cc
+
+-- maps with the same entries have the same lines
+pub line-same : (new old : Contents) → new.entries ≡ old.entries → (block : ℕ) → line_in new block ≡ line_in old block
+line-same new old same block = ap (λ (entries : List (ℕ × Line)). unwrap_or (lookup (nat_eq block) entries) nothing_held) same
+
+pub blocks-same : (caches : List Contents) (core : ℕ) (new : Contents) → new.entries ≡ (slice_index_or caches core no_cache).entries → map blocks_of (slice_set caches core new) ≡ map blocks_of caches
+blocks-same caches core new same =
+    map-set blocks_of caches core new
+    ∙ (ap (λ (blocks : List ℕ). slice_set (map blocks_of caches) core blocks) (ap (λ (entries : List (ℕ × Line)). keys_of entries) same ∙ sym (blocks-at caches core))
+    ∙ set-get_or (map blocks_of caches) core [])
+
+pub blocks-empty : (caches : List Contents) → ((core : ℕ) → (slice_index_or caches core no_cache).entries ≡ []) → map blocks_of caches ≡ replicate (length caches) []
+blocks-empty [] empty = refl
+blocks-empty (cache ∷ caches) empty = λ i. keys_of (empty 0 i) ∷ blocks-empty caches (λ core. empty (suc core)) i

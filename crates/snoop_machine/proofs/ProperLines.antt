@@ -1,0 +1,48 @@
+-- What is so of a proper line.
+use Rattle.std.proofs.Common.{◌≡◌, ℕ, Option, None, Some, false, refl, sym, ◌∙◌, ap}
+use Rattle.std.specs.Prelude.{is_some}
+use Rattle.snoop_trace.specs.declared.step.Op.{Op}
+use Rattle.snoop_trace.specs.declared.step.Op.TheVariants as op
+use Rattle.snoop_rules.specs.declared.names.CacheState.{CacheState}
+use Rattle.snoop_rules.specs.declared.names.CacheState.TheVariants as state
+use Rattle.snoop_model.specs.declared.line.Line.{Line}
+use Rattle.snoop_model.specs.Pictures.Picture.{kept_on, nothing_held}
+use Rattle.snoop_model.specs.Pictures.Sound.{IsProper, keeps, awaits, kind_of}
+use Rattle.snoop_model.specs.Pictures.Sound.Awaits.{nothing}
+use Rattle.snoop_model.specs.Moves.Move.{comes_to}
+
+nothing_kept : (kept : Option ℕ) → is_some kept ≡ false → kept ≡ None
+nothing_kept None e = refl
+nothing_kept (Some v) e = cc
+
+nothing_waits : (waiting : Option Op) → kind_of waiting ≡ nothing → waiting ≡ None
+nothing_waits None e = refl
+nothing_waits (Some op.Load) e = cc
+nothing_waits (Some (op.Store value)) e = cc
+nothing_waits (Some op.Evict) e = cc
+
+-- a proper line in I holds nothing
+pub settled : (line : Line) → IsProper line → line.state ≡ state.I → line ≡ nothing_held
+settled line proper e =
+    let kept : line.kept ≡ None = nothing_kept line.kept (proper.kept ∙ ap keeps e) in
+    let waiting : line.waiting ≡ None = nothing_waits line.waiting (proper.waiting ∙ ap awaits e) in
+    λ i. record { state = e i; kept = kept i; waiting = waiting i }
+
+-- a proper line that moves to its own state is as it was
+pub comes_to_same : (line : Line) → IsProper line → comes_to line.state line ≡ line
+comes_to_same line proper = let kept : kept_on line.state line.kept ≡ line.kept = go line.state line.kept proper.kept in rw kept refl
+  where
+    go : (s : CacheState) (kept : Option ℕ) → is_some kept ≡ keeps s → kept_on s kept ≡ kept
+    go state.I kept e = sym (nothing_kept kept e)
+    go state.ImAd kept e = sym (nothing_kept kept e)
+    go state.IiA kept e = sym (nothing_kept kept e)
+    go state.IsAd kept e = refl
+    go state.IsD kept e = refl
+    go state.ImD kept e = refl
+    go state.S kept e = refl
+    go state.SmAd kept e = refl
+    go state.SmD kept e = refl
+    go state.E kept e = refl
+    go state.M kept e = refl
+    go state.EiA kept e = refl
+    go state.MiA kept e = refl

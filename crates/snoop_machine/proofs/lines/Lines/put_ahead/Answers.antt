@@ -1,0 +1,48 @@
+use Rattle.std.proofs.Common.{◌≡◌, ℕ, ◌<◌, List, ◌++◌, ◌∷◌, [], is_some, length, sym, ◌∙◌, ap, subst}
+use Rattle.std.specs.Prelude.{slice_index_or, slice_set, nat_eq, map}
+use Rattle.std.specs.Map.{lookup}
+use Rattle.std.proofs.lemmas.List.{get_or_read, map-set}
+use Rattle.snoop_machine.specs.Cache.{Contents, no_cache, line_in, blocks_of}
+use Rattle.snoop_machine.specs.Lines.{Held}
+use Rattle.snoop_machine.proofs.MapRows.{rows-same}
+use Rattle.snoop_machine.proofs.LineMaps.{in_maps, among_seen, spare_seen, blocks_seen}
+use Rattle.snoop_machine.proofs.LineParts.{AreLines-alike}
+use Rattle.snoop_machine.proofs.lines.Lines.put_ahead.Goals as goal
+use Rattle.snoop_machine.proofs.lines.Lines.put_ahead.Goals.{After-index_mut-cache}
+
+within : (c : After-index_mut-cache) → c.args.core < length c.self.inside.caches.items
+within c = in_maps c.self.inside c.args.self.now c.self.view_is c.args.core c.requires.core
+
+read : (c : After-index_mut-cache) → c.index_mut-cache.result.now ≡ slice_index_or c.self.inside.caches.items c.args.core no_cache
+read c = get_or_read c.self.inside.caches.items c.args.core c.index_mut-cache.result.now (within c) c.index_mut-cache.ensures.value no_cache
+
+pub put_ahead-requires-clause-absent : goal.put_ahead-requires-clause-absent
+put_ahead-requires-clause-absent c =
+    let d = (goal.at.put_ahead-requires-clause-absent c).After-index_mut-cache in
+    ap (λ (cache : Contents). is_some (lookup (nat_eq c.args.block) cache.entries)) (read d) ∙ (among_seen c.self.inside c.args.self.now c.self.view_is c.args.core c.args.block ∙ c.requires.absent)
+
+pub put_ahead-requires-clause-room : goal.put_ahead-requires-clause-room
+put_ahead-requires-clause-room c =
+    let d = (goal.at.put_ahead-requires-clause-room c).After-index_mut-cache in
+    subst (λ (n : ℕ). 0 < n) (sym (ap (λ (cache : Contents). cache.spare) (read d) ∙ spare_seen c.self.inside c.args.self.now c.self.view_is c.args.core)) c.requires.room
+
+pub invariant_of-self : goal.invariant_of-self
+invariant_of-self c =
+    let d = (goal.at.invariant_of-self c).After-index_mut-cache in
+    AreLines-alike c.self.inside.caches.items c.self.inside.holders.items c.self.invariant c.args.core c.put_ahead.new.self (within d)
+    (λ b. c.put_ahead.ensures.same b ∙ ap (λ (cache : Contents). line_in cache b) (read d))
+
+pub returns-clause-rows : goal.returns-clause-rows
+returns-clause-rows c =
+    let d = (goal.at.returns-clause-rows c).After-index_mut-cache in
+    rows-same (length c.self.inside.holders.items) c.self.inside.caches.items c.args.core c.put_ahead.new.self
+    (λ b. c.put_ahead.ensures.same b ∙ ap (λ (cache : Contents). line_in cache b) (read d))
+    ∙ ap (λ (h : Held). h.rows) c.self.view_is
+
+pub returns-clause-lines : goal.returns-clause-lines
+returns-clause-lines c =
+    let d = (goal.at.returns-clause-lines c).After-index_mut-cache in
+    map-set blocks_of c.self.inside.caches.items c.args.core c.put_ahead.new.self
+    ∙ (ap (λ (blocks : List ℕ). slice_set (map blocks_of c.self.inside.caches.items) c.args.core blocks)
+    (c.put_ahead.ensures.blocks ∙ ap (λ (blocks : List ℕ). blocks ++ c.args.block ∷ []) (ap blocks_of (read d) ∙ blocks_seen c.self.inside c.args.self.now c.self.view_is c.args.core))
+    ∙ ap (λ (lines : List (List ℕ)). slice_set lines c.args.core (slice_index_or c.args.self.now.lines c.args.core [] ++ c.args.block ∷ [])) (ap (λ (h : Held). h.lines) c.self.view_is))

@@ -1,0 +1,43 @@
+use Rattle.std.proofs.Common.{◌≡◌, ℕ, ◌<◌, length, sym, ◌∙◌, ap, subst}
+use Rattle.std.specs.Prelude.{slice_index_or, slice_set, map, OnOk}
+use Rattle.std.proofs.lemmas.List.{get_or_read, get_or-set_same}
+use Rattle.snoop_machine.specs.Cache.{Contents, no_cache}
+use Rattle.snoop_machine.specs.Lines.{Held}
+use Rattle.snoop_machine.proofs.MapRows.{rows-same, line-same, blocks-same, spare-at}
+use Rattle.snoop_machine.proofs.LineMaps.{in_maps}
+use Rattle.snoop_machine.proofs.LineParts.{AreLines-alike}
+use Rattle.snoop_machine.proofs.lines.Lines.reserve.Goals as goal
+use Rattle.snoop_machine.proofs.lines.Lines.reserve.Goals.{After-reserve}
+
+within : (c : After-reserve) → c.args.core < length c.self.inside.caches.items
+within c = in_maps c.self.inside c.args.self.now c.self.view_is c.args.core c.requires.core
+
+-- the map's entries are as they were
+same : (c : After-reserve) → c.reserve.new.self.entries ≡ (slice_index_or c.self.inside.caches.items c.args.core no_cache).entries
+same c =
+    c.reserve.ensures.same
+    ∙ ap (λ (cache : Contents). cache.entries) (get_or_read c.self.inside.caches.items c.args.core c.index_mut-cache.result.now (within c) c.index_mut-cache.ensures.value no_cache)
+
+pub invariant_of-self : goal.invariant_of-self
+invariant_of-self c =
+    let d = (goal.at.invariant_of-self c).After-reserve in
+    AreLines-alike c.self.inside.caches.items c.self.inside.holders.items c.self.invariant c.args.core c.reserve.new.self (within d)
+    (line-same c.reserve.new.self (slice_index_or c.self.inside.caches.items c.args.core no_cache) (same d))
+
+pub returns-clause-rows : goal.returns-clause-rows
+returns-clause-rows c =
+    let d = (goal.at.returns-clause-rows c).After-reserve in
+    rows-same (length c.self.inside.holders.items) c.self.inside.caches.items c.args.core c.reserve.new.self (line-same c.reserve.new.self (slice_index_or c.self.inside.caches.items c.args.core no_cache) (same d))
+    ∙ ap (λ (h : Held). h.rows) c.self.view_is
+
+pub returns-clause-lines : goal.returns-clause-lines
+returns-clause-lines c =
+    let d = (goal.at.returns-clause-lines c).After-reserve in
+    blocks-same c.self.inside.caches.items c.args.core c.reserve.new.self (same d) ∙ ap (λ (h : Held). h.lines) c.self.view_is
+
+pub returns-clause-ok : goal.returns-clause-ok
+returns-clause-ok c =
+    let d = (goal.at.returns-clause-ok c).After-reserve in
+    let is : slice_index_or (map (λ (cache : Contents). cache.spare) (slice_set c.self.inside.caches.items c.args.core c.reserve.new.self)) c.args.core 0 ≡ c.reserve.new.self.spare =
+    spare-at (slice_set c.self.inside.caches.items c.args.core c.reserve.new.self) c.args.core ∙ ap (λ (cache : Contents). cache.spare) (get_or-set_same c.self.inside.caches.items c.args.core c.reserve.new.self no_cache (within d)) in
+    subst (λ (n : ℕ). OnOk c.reserve.result (0 < n)) (sym is) c.reserve.ensures.ok

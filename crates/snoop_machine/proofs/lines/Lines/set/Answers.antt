@@ -1,0 +1,94 @@
+use Rattle.std.proofs.Common.{◌≡◌, ◌≢◌, ℕ, ◌<◌, List, [], is_some, length, sym, ◌∙◌, ap, subst, arith, inl, inr}
+use Rattle.std.specs.Prelude.{slice_index_or, slice_set, nat_eq, map}
+use Rattle.std.specs.Map.{lookup}
+use Rattle.std.proofs.lemmas.List.{get_or_read, length-set, get_or-set_same, get_or-set_other}
+use Rattle.snoop_rules.specs.declared.names.CacheState.TheVariants.{I}
+use Rattle.snoop_model.specs.Pictures.Sound.{line_at}
+use Rattle.snoop_machine.specs.declared.holders.Holders.{Holders}
+use Rattle.snoop_machine.specs.Holders.{HaveMoved}
+use Rattle.snoop_machine.specs.Cache.{Contents, no_cache, line_in, blocks_of}
+use Rattle.snoop_machine.specs.Lines.{Held, no_holders, rows_of}
+use Rattle.snoop_machine.proofs.ProperLines.{settled}
+use Rattle.snoop_machine.proofs.MapRows.{rows-set, blocks-at, length-blocks_of}
+use Rattle.snoop_machine.proofs.LineMaps.{in_rows, writable_placed, blocks_seen, gone-none, gone-one, is_I}
+use Rattle.snoop_machine.proofs.LineParts.{AreLines-set}
+use Rattle.snoop_machine.proofs.lines.Lines.set.Goals as goal
+use Rattle.snoop_machine.proofs.lines.Lines.set.Goals.{After-index_mut-cache}
+
+within : (c : After-index_mut-cache) → (c.args.block < length c.self.inside.holders.items) × (c.args.core < length c.self.inside.caches.items)
+within c = in_rows c.self.inside c.args.self.now c.self.view_is c.args.core c.args.block c.requires.block c.requires.core
+
+read : (c : After-index_mut-cache) → c.index_mut-cache.result.now ≡ slice_index_or c.self.inside.caches.items c.args.core no_cache
+read c = get_or_read c.self.inside.caches.items c.args.core c.index_mut-cache.result.now (within c).1 c.index_mut-cache.ensures.value no_cache
+
+pub index_mut-cache-requires : goal.index_mut-cache-requires
+index_mut-cache-requires c =
+    let h = (in_rows c.self.inside c.args.self.now c.self.view_is c.args.core c.args.block c.requires.block c.requires.core).1 in
+    omega (arith, h)
+
+pub set-requires-clause-place : goal.set-requires-clause-place
+set-requires-clause-place c =
+    let d = (goal.at.set-requires-clause-place c).After-index_mut-cache in
+    ap (λ (cache : Contents). is_some (lookup (nat_eq c.args.block) cache.entries)) (read d) ∙ writable_placed c.self.inside c.args.self.now c.self.view_is c.args.core c.args.block c.args.line c.requires.place
+
+pub set-requires-clause-settled : goal.set-requires-clause-settled
+set-requires-clause-settled c = settled c.args.line c.requires.proper
+
+pub index_mut-holders-requires : goal.index_mut-holders-requires
+index_mut-holders-requires c =
+    let d = (goal.at.index_mut-holders-requires c).After-index_mut-cache in
+    let h = (within d).0 in
+    omega (arith, h)
+
+pub move_to-requires : goal.move_to-requires
+move_to-requires c =
+    let d = (goal.at.move_to-requires c).After-index_mut-cache in
+    let h = (within d).1 in
+    let few = c.self.invariant.few in
+    omega (arith, h, few)
+
+pub invariant_of-self : goal.invariant_of-self
+invariant_of-self c =
+    let d = (goal.at.invariant_of-self c).After-index_mut-cache in
+    let holders = c.self.inside.holders.items in
+    let is : c.index_mut-holders.result.now ≡ slice_index_or holders c.args.block no_holders = get_or_read holders c.args.block c.index_mut-holders.result.now (within d).0 c.index_mut-holders.ensures.value no_holders in
+    AreLines-set c.self.inside.caches.items holders c.self.invariant c.args.core c.set.new.self (within d).1 c.args.block c.args.line c.move_to.new.self (within d).0 c.requires.proper
+    c.set.ensures.here (λ b ne. c.set.ensures.others b ne ∙ ap (λ (cache : Contents). line_in cache b) (read d))
+    (subst (λ (h : Holders). HaveMoved c.args.core c.args.line.state h c.move_to.new.self) is c.move_to.ensures)
+
+pub returns-clause-rows : goal.returns-clause-rows
+returns-clause-rows c =
+    let d = (goal.at.returns-clause-rows c).After-index_mut-cache in
+    let caches = c.self.inside.caches.items in
+    let holders = c.self.inside.holders.items in
+    ap (λ (n : ℕ). rows_of n (slice_set caches c.args.core c.set.new.self)) (length-set holders c.args.block c.move_to.new.self)
+    ∙ (rows-set (length holders) caches c.args.core c.args.block c.set.new.self c.args.line (within d).0 c.set.ensures.here (λ b ne. c.set.ensures.others b ne ∙ ap (λ (cache : Contents). line_in cache b) (read d))
+    ∙ ap (λ (h : Held). slice_set h.rows c.args.block (slice_set (slice_index_or h.rows c.args.block []) c.args.core c.args.line)) c.self.view_is)
+
+pub returns-clause-others : goal.returns-clause-others
+returns-clause-others c k ne =
+    blocks-at (slice_set c.self.inside.caches.items c.args.core c.set.new.self) k
+    ∙ (ap blocks_of (get_or-set_other c.self.inside.caches.items c.args.core k c.set.new.self no_cache ne) ∙ blocks_seen c.self.inside c.args.self.now c.self.view_is k)
+
+pub returns-clause-lines : goal.returns-clause-lines
+returns-clause-lines c =
+    let d = (goal.at.returns-clause-lines c).After-index_mut-cache in
+    let caches = c.self.inside.caches.items in
+    let core = c.args.core in
+    let old = (line_at c.args.self.now.rows core c.args.block).state in
+    let after : length (slice_index_or (map blocks_of (slice_set caches core c.set.new.self)) core []) ≡ length c.set.new.self.entries =
+    ap (λ (blocks : List ℕ). length blocks) (blocks-at (slice_set caches core c.set.new.self) core ∙ ap blocks_of (get_or-set_same caches core c.set.new.self no_cache (within d).1)) ∙ length-blocks_of c.set.new.self in
+    let before : length (slice_index_or c.args.self.now.lines core []) ≡ length c.index_mut-cache.result.now.entries =
+    ap (λ (blocks : List ℕ). length blocks) (sym (blocks_seen c.self.inside c.args.self.now c.self.view_is core))
+    ∙ (length-blocks_of (slice_index_or caches core no_cache) ∙ ap (λ (cache : Contents). length cache.entries) (sym (read d))) in
+    elim (is_I c.args.line.state) [
+      | inl e ↦
+          let held : old ≢ I = elim c.requires.place [ inl held ↦ held | inr new ↦ absurd (new.1 e) ] in
+          let one = gone-one old c.args.line.state held e in
+          let taken = c.set.ensures.taken e in
+          omega arith
+      | inr ne ↦
+          let none = gone-none old c.args.line.state ne in
+          let stays = c.set.ensures.stays ne in
+          omega arith
+    ]

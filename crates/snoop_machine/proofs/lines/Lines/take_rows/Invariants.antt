@@ -1,0 +1,16 @@
+use Rattle.std.proofs.Common.{◌≡◌, ◌≤◌, ◌-◌, length}
+use Rattle.std.specs.Prelude.{slice_set}
+use Rattle.snoop_model.proofs.Lines.EachRow.{Taking, row_of}
+use Rattle.snoop_machine.specs.Lines.{LinesGo}
+use Rattle.snoop_machine.proofs.lines.Lines.take_rows.Given as goal
+
+abbrev pub invariant-loop-core : goal.invariant-loop-core
+invariant-loop-core l =
+    Taking l.protocol l.requestor l.request (row_of l.initial.self.rows l.block) (row_of l.self.rows l.block) l.from
+    × (l.from ≤ length (row_of l.initial.self.rows l.block))
+    × (l.self.rows ≡ slice_set l.initial.self.rows l.block (row_of l.self.rows l.block))
+    × (length l.self.lines ≡ length l.initial.self.lines)
+    × LinesGo l.block l.initial.self l.self
+
+abbrev pub decreases-loop-core : goal.decreases-loop-core
+decreases-loop-core l = length (row_of l.initial.self.rows l.block) - l.from

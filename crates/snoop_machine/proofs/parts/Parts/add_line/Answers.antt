@@ -1,0 +1,58 @@
+use Rattle.std.proofs.Common.{◌≡◌, ◌<◌, ◌≤◌, ◌++◌, ◌∷◌, [], ◌∙◌, ℕ, List, sym, ap, subst, length, arith}
+use Rattle.std.specs.Prelude.{slice_set, slice_index_or}
+use Rattle.std.proofs.lemmas.List.{length-set}
+use Rattle.snoop_bus.specs.Traffic.{Traffic, Waiting, waiting_of}
+use Rattle.snoop_machine.specs.declared.parts.Parts.TheInside.{Inside}
+use Rattle.snoop_model.specs.declared.line.Line.{Line}
+use Rattle.snoop_model.specs.Moves.Standing.{Standing}
+use Rattle.snoop_model.specs.Pictures.Sound.{IsSound}
+use Rattle.snoop_machine.proofs.Room.{held_in, held_in-set, keeps_room}
+use Rattle.snoop_machine.proofs.QueueViews.{queues_of-room, same_traffic, IsSound-room}
+use Rattle.snoop_machine.proofs.parts.Parts.add_line.Goals as goal
+use Rattle.snoop_machine.proofs.parts.Parts.add_line.Goals.{After-put_ahead}
+
+rows : (c : After-put_ahead) → c.put_ahead.new.self.rows ≡ c.self.inside.lines.rows
+rows c = c.put_ahead.ensures.rows ∙ c.reserve.ensures.rows
+
+pub invariant_of-self-2 : goal.invariant_of-self-2
+invariant_of-self-2 c =
+    let m = c.self.inside in
+    let bus = m.bus in
+    let core = c.args.core in
+    let room = (waiting_of c.reserve-2.new.self core).room in
+    let P : Standing → Type 0 = λ s. core < s.situation.shape.cores in
+    let in_cores : core < m.shape.cores = subst P (sym c.self.view_is) c.requires.core in
+    let in_queues : core < length bus.queues = omega (arith, c.self.invariant.sound.queues) in
+    let after : Traffic = record bus { queues = slice_set bus.queues core (record { requests = (waiting_of bus core).requests; room = room }) } in
+    let same : c.reserve-2.new.self ≡ after = same_traffic c.reserve-2.new.self after c.reserve-2.ensures.queue c.reserve-2.ensures.transactions in
+    let Q : Traffic → Type 0 = λ b. IsSound m.shape m.lines.rows b in
+    let R : List (List Line) → Type 0 = λ caches. IsSound m.shape caches c.reserve-2.new.self in
+    record {
+      sound = subst R (sym (rows (goal.at.invariant_of-self-2 c).After-put_ahead)) (subst Q (sym same) (IsSound-room m.shape m.lines.rows bus core room in_queues c.self.invariant.sound));
+      few = c.self.invariant.few;
+      lines = ap (λ (lines : List (List ℕ)). length lines) c.put_ahead.ensures.lines
+          ∙ (length-set c.reserve.new.self.lines core (slice_index_or c.reserve.new.self.lines core [] ++ c.args.block ∷ [])
+          ∙ (ap (λ (lines : List (List ℕ)). length lines) c.reserve.ensures.lines ∙ c.self.invariant.lines));
+      memory = c.self.invariant.memory;
+      cores = c.self.invariant.cores;
+      blocks = c.self.invariant.blocks;
+    }
+
+pub returns-clause-unchanged : goal.returns-clause-unchanged
+returns-clause-unchanged c =
+    let bus = c.self.inside.bus in
+    let room = (waiting_of c.reserve-2.new.self c.args.core).room in
+    rw (rows (goal.at.returns-clause-unchanged c).After-put_ahead, c.reserve-2.ensures.queue, queues_of-room bus.queues c.args.core room, c.reserve-2.ensures.transactions) (ap (λ s. s.situation) c.self.view_is)
+
+pub returns-clause-room : goal.returns-clause-room
+returns-clause-room c =
+    let m = c.self.inside in
+    let core = c.args.core in
+    let P : Standing → Type 0 = λ s. core < s.situation.shape.cores in
+    let in_cores : core < m.shape.cores = subst P (sym c.self.view_is) c.requires.core in
+    let in_queues : core < length m.bus.queues = omega (arith, c.self.invariant.sound.queues) in
+    let queue : Waiting = record { requests = (waiting_of m.bus core).requests; room = (waiting_of c.reserve-2.new.self core).room } in
+    let more = c.reserve-2.ensures.room in
+    let new : Inside = record m { lines = c.put_ahead.new.self; bus = c.reserve-2.new.self } in
+    let Q : List Waiting → Type 0 = λ queues. (k : ℕ) → held_in m.bus.queues k ≤ held_in queues k in
+    keeps_room m new c.args.self.now c.self.view_is (omega arith) (subst Q (sym c.reserve-2.ensures.queue) (held_in-set m.bus.queues core queue in_queues (omega arith)))

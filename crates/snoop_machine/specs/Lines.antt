@@ -1,0 +1,63 @@
+-- The lines of all caches.
+-- Source: this project's profile.
+use Rattle.std.specs.Prelude.{◌≡◌, ◌≢◌, ℕ, ◌+◌, ◌<◌, Bool, true, false, List, [], length, map, nat_eq, slice_index_or, ◌⊎◌, if◌then◌else◌}
+use Rattle.std.specs.List.{range_with_len, list_any}
+use Rattle.snoop_rules.specs.declared.names.CacheState.{CacheState}
+use Rattle.snoop_rules.specs.declared.names.CacheState.TheVariants.{I}
+use Rattle.snoop_model.specs.declared.line.Line.{Line}
+use Rattle.snoop_model.specs.Pictures.Sound.{IsProper, line_at}
+use Rattle.snoop_machine.specs.declared.lines.Lines.TheInside.{Inside}
+use Rattle.snoop_machine.specs.declared.holders.Holders.{Holders}
+use Rattle.snoop_machine.specs.Holders.{AreHolders}
+use Rattle.snoop_machine.specs.Cache.{Contents, no_cache, line_in, blocks_of, row_in}
+
+-- what callers see of the lines: what each core holds, by block and then by core; the blocks that each core's map has a line for; and for how many more it has room
+pub record Held : Type 0 where
+  pub rows : List (List Line)
+  pub lines : List (List ℕ)
+  pub spares : List ℕ
+
+-- what each core holds, by block
+abbrev pub rows_of : ℕ → List Contents → List (List Line)
+rows_of blocks caches = map (row_in caches) (range_with_len 0 blocks)
+
+-- the view of the lines
+abbrev pub held : Inside → Held
+held l =
+    record {
+      rows = rows_of (length l.holders.items) l.caches.items;
+      lines = map blocks_of l.caches.items;
+      spares = map (λ cache. cache.spare) l.caches.items;
+    }
+
+-- what stands for the holders of a block that there isn't
+abbrev pub no_holders : Holders
+no_holders = record { owners = []; readers = [] }
+
+-- there are 256 cores at most, each line is proper, and the holders of each block are those of its lines
+pub record AreLines (caches : List Contents) (holders : List Holders) : Type 0 where
+  pub few : length caches < 257
+  pub proper : (core block : ℕ) → IsProper (line_in (slice_index_or caches core no_cache) block)
+  pub indexed : (block : ℕ) → block < length holders → AreHolders (slice_index_or holders block no_holders) (row_in caches block)
+
+-- whether a map with lines for these blocks has one for this block
+abbrev pub is_among : List ℕ → ℕ → Bool
+is_among blocks block = list_any (nat_eq block) blocks
+
+-- the line may be written: the core holds the block, or its map has a line for it, which leaves I
+abbrev pub IsWritable : Held → ℕ → ℕ → Line → Type 0
+IsWritable l core block line = ((line_at l.rows core block).state ≢ I) ⊎ ((is_among (slice_index_or l.lines core []) block ≡ true) × (line.state ≢ I))
+
+-- whether this is I
+abbrev pub is_invalid : CacheState → Bool
+is_invalid I = true
+is_invalid _ = false
+
+-- how many lines go where a line moves from one state to another: one where it moves to I
+abbrev pub gone : CacheState → CacheState → ℕ
+gone old new = if is_invalid new then (if is_invalid old then 0 else 1) else 0
+
+-- of each core's map as many lines go as its line of the block moves to I
+abbrev pub LinesGo : ℕ → Held → Held → Type 0
+LinesGo block old new =
+    (core : ℕ) → length (slice_index_or new.lines core []) + gone (line_at old.rows core block).state (line_at new.rows core block).state ≡ length (slice_index_or old.lines core [])

@@ -1,9 +1,0 @@
-use Rattle.std.specs.Prelude.{length}
-use Rattle.snoop_sim.specs.Round.{IsUnasked}
-use Rattle.snoop_sim.proofs.driver.Driver.next.Given as goal
-
-abbrev pub invariant-loop-core : goal.invariant-loop-core
-invariant-loop-core l = IsUnasked l.fn.self l.self
-
-abbrev pub decreases-loop-core : goal.decreases-loop-core
-decreases-loop-core l = length l.self.turns
