@@ -65,7 +65,7 @@ module _ (shape : Extent) (start here : Progress) (a b : Option (List ℕ)) (chu
     lines = rw (append-nil (line_texts shape far.steps far.outcomes)) at (gathers_cut a b c chunk (line_texts shape far.steps far.outcomes) [] far.lines cut);
   }
 
-  -- the driver came to its end, and the chunk was written whole
+  -- the driver reached its end, and the chunk was written whole
   pub driving_done : (end : Progress) (c : Option (List ℕ)) → IsDone here end → Appends b c chunk → WritesDriven shape start end a c
   driving_done end c done p = record {
     steps = far.steps;

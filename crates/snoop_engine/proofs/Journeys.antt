@@ -79,7 +79,7 @@ module _ (start : Progress) (steps : List Step) (outcomes : List (Result Reply R
         few = omega (arith, way.few);
       }
 
--- a driver of rows that came to its end has served them
+-- a driver of rows that reached its end has served them
 pub end_serves : (protocol : Protocol) (shape : Extent) (rows : List Row) (start : Progress) (steps : List Step) (outcomes : List (Result Reply Refused)) (final : Situation)
     → start.situation ≡ reset protocol shape → ((core : ℕ) → (todo_of start.lanes core).left ≡ works_of shape rows core) → left_in start.lanes ≡ length rows
     → IsAtTheEnd start steps outcomes final → Serves shape rows steps outcomes final

@@ -11,7 +11,7 @@ use Rattle.snoop_engine.specs.Line.{line_texts}
 use Rattle.snoop_engine.specs.Round.{Progress}
 use Rattle.snoop_engine.specs.Journey.{IsOnTheWay, IsAtTheEnd}
 
--- the driver came to its end, and the writer got the lines of its steps
+-- the driver reached its end, and the writer got the lines of its steps
 pub record WritesDriven (shape : Extent) (start end : Progress) (old new : Option (List ℕ)) : Type 0 where
   pub steps : List Step
   pub outcomes : List (Result Reply Refused)

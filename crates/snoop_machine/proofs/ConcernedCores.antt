@@ -22,7 +22,7 @@ use Rattle.snoop_model.specs.Moves.Move.{TakesRow}
 use Rattle.snoop_model.specs.Pictures.Message.{HasRow}
 use Rattle.snoop_machine.specs.CoreSet.{has}
 use Rattle.snoop_machine.specs.Holders.{concerns}
-use Rattle.snoop_machine.proofs.ProperLines.{comes_to_same}
+use Rattle.snoop_machine.proofs.ProperLines.{moves_to_same}
 
 still : (p : Protocol) (s : CacheState) (q : Request) → concerns q s ≡ false → HasRow p s (other q) → Cell p s (other q) action.None s
 unfolding is_owner
@@ -102,7 +102,7 @@ module _ (p : Protocol) (lines : List Line) (core : ℕ) (q : Request) (set : Li
 
     -- its line stays as it is
     pub TakesRow-passed : IsProper (held_at lines k) → TakesRow p (seen_by k core q) (held_at lines k) (held_at lines k)
-    TakesRow-passed proper = (action.None, ((held_at lines k).state, (Cell-passed, sym (comes_to_same (held_at lines k) proper))))
+    TakesRow-passed proper = (action.None, ((held_at lines k).state, (Cell-passed, sym (moves_to_same (held_at lines k) proper))))
 
 -- a core whose request waits is one that there is
 pub waits_within : (lines : List Line) (core : ℕ) (q : Request) → waiting_request (held_at lines core).state ≡ Some q → core < length lines

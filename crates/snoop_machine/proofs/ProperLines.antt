@@ -9,7 +9,7 @@ use Rattle.snoop_model.specs.declared.line.Line.{Line}
 use Rattle.snoop_model.specs.Pictures.Picture.{kept_on, nothing_held}
 use Rattle.snoop_model.specs.Pictures.Sound.{IsProper, keeps, awaits, kind_of}
 use Rattle.snoop_model.specs.Pictures.Sound.Awaits.{nothing}
-use Rattle.snoop_model.specs.Moves.Move.{comes_to}
+use Rattle.snoop_model.specs.Moves.Move.{moves_to}
 
 nothing_kept : (kept : Option ℕ) → is_some kept ≡ false → kept ≡ None
 nothing_kept None e = refl
@@ -29,8 +29,8 @@ settled line proper e =
     λ i. record { state = e i; kept = kept i; waiting = waiting i }
 
 -- a proper line that moves to its own state is as it was
-pub comes_to_same : (line : Line) → IsProper line → comes_to line.state line ≡ line
-comes_to_same line proper = let kept : kept_on line.state line.kept ≡ line.kept = go line.state line.kept proper.kept in rw kept refl
+pub moves_to_same : (line : Line) → IsProper line → moves_to line.state line ≡ line
+moves_to_same line proper = let kept : kept_on line.state line.kept ≡ line.kept = go line.state line.kept proper.kept in rw kept refl
   where
     go : (s : CacheState) (kept : Option ℕ) → is_some kept ≡ keeps s → kept_on s kept ≡ kept
     go state.I kept e = sym (nothing_kept kept e)

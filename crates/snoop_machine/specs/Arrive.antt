@@ -17,7 +17,7 @@ use Rattle.snoop_model.specs.declared.memory.MemLine.{MemLine}
 use Rattle.snoop_machine.specs.declared.respond.Filled.{Filled}
 use Rattle.snoop_model.specs.Moves.Move.{Performs, IsFillFor, written}
 
--- the data comes to the requestor's line, which performs its waiting operation with it
+-- the data reaches the requestor's line, which performs its waiting operation with it
 pub record FillsLine (protocol : Protocol) (old : Line) (payload : Payload) (sent : ℕ) (filled : Filled) : Type 0 where
   pub event : CacheEvent
   pub act : CacheAction

@@ -15,7 +15,7 @@ use Rattle.snoop_machine.specs.declared.ask.Asked.TheVariants.{Absent, Hit, Issu
 use Rattle.snoop_model.specs.declared.replies.Refused.{Refused}
 use Rattle.snoop_model.specs.declared.replies.Refused.TheVariants.{Stalled}
 use Rattle.snoop_model.specs.Pictures.Picture.{kept_on}
-use Rattle.snoop_model.specs.Moves.Move.{Performs, comes_to, kept_waiting}
+use Rattle.snoop_model.specs.Moves.Move.{Performs, moves_to, kept_waiting}
 
 -- a hit on one line
 pub record HitsLine (protocol : Protocol) (old : Line) (asking : Op) (new : Line) (value : ℕ) : Type 0 where
@@ -33,7 +33,7 @@ TakesAsk protocol old asking Absent = (asking ≡ op.Evict) × (old.state ≡ st
 TakesAsk protocol old asking (Hit new value) = HitsLine protocol old asking new value
 TakesAsk protocol old asking (Issue request new) =
     (next : CacheState) × (Cell protocol old.state (asked asking) (action.Issue request) next × (new ≡ record { state = next; kept = kept_on next old.kept; waiting = kept_waiting asking }))
-TakesAsk protocol old asking (Drop new) = (next : CacheState) × (Cell protocol old.state (asked asking) action.Drop next × (new ≡ comes_to next old))
+TakesAsk protocol old asking (Drop new) = (next : CacheState) × (Cell protocol old.state (asked asking) action.Drop next × (new ≡ moves_to next old))
 
 -- why the Ask is refused on this line
 abbrev pub RefusesAsk : Protocol → Line → Op → Refused → Type 0

@@ -5,7 +5,7 @@ ghost use Rattle.snoop_bus.specs.Queues.{queue_of};
 ghost use Rattle.snoop_history.specs.declared.items.Item.{Item};
 ghost use Rattle.snoop_history.specs.History.{flat};
 ghost use Rattle.snoop_model.specs.declared.replies.Refused.{Refused};
-ghost use Rattle.snoop_model.specs.declared.replies.Refused.TheVariants.{NoMemory as WantOfMemory};
+ghost use Rattle.snoop_model.specs.declared.replies.Refused.TheVariants.{NoMemory as OutOfMemory};
 ghost use Rattle.snoop_model.specs.declared.replies.Reply.TheVariants.{Hit};
 ghost use Rattle.snoop_model.specs.Pictures.Picture.{held_by};
 ghost use Rattle.snoop_model.specs.Pictures.Situation.{picture_of, reset, state_of};
@@ -75,7 +75,7 @@ impl Machine {
         ensures taken { IfOk result (λ reply. (entry : Option Item) × FirstMove self.old.situation step reply self.new.situation entry) }
         ensures refused { IfErr result (λ cause. RefusedFor self.old.situation step cause × (self.new ≡ self.old)) }
         ensures exactly { (cause : Refused) → Refuses self.old.situation step cause → result ≡ Err cause }
-        ensures full { result ≡ Err WantOfMemory → IsFull self.old step }
+        ensures full { result ≡ Err OutOfMemory → IsFull self.old step }
         ensures room { KeepsRoom self.old self.new }
         ensures lines { (core : ℕ) → HoldsOn self.old self.new step core }
         ensures stays { (self.new.situation.protocol ≡ self.old.situation.protocol) × (self.new.situation.shape ≡ self.old.situation.shape) }
@@ -97,7 +97,7 @@ impl Machine {
         ensures prepared { IfOk result (λ entry. IsPrepared self.new step entry) }
         ensures refused { IfErr result (λ cause. RefusedFor self.old.situation step cause × (self.new ≡ self.old)) }
         ensures exactly { (cause : Refused) → Refuses self.old.situation step cause → result ≡ Err cause }
-        ensures full { result ≡ Err WantOfMemory → IsFull self.old step }
+        ensures full { result ≡ Err OutOfMemory → IsFull self.old step }
         ensures room { KeepsRoom self.old self.new }
         ensures lines { (core : ℕ) → HoldsOn self.old self.new step core }
         ensures unchanged { self.new.situation ≡ self.old.situation }

@@ -6,7 +6,7 @@ pub mod StepMove
 pub mod Refuses
 pub mod Replies
 pub mod Meets
-pub mod Led
+pub mod SenderTable
 pub mod Standing
 pub mod Prepared
 pub mod Holding

@@ -13,7 +13,7 @@ ghost use Rattle.snoop_model.specs.Pictures.Current.{IsCurrent};
 ghost use Rattle.snoop_model.specs.Pictures.MemoryCurrent.{IsMemoryCurrent, NamesItsBlock};
 ghost use Rattle.snoop_model.specs.Runs.Once.{Once};
 ghost use Rattle.snoop_model.specs.Moves.Meets.{Meets, FindsRows};
-ghost use Rattle.snoop_model.specs.Moves.Led.{IsLed};
+ghost use Rattle.snoop_model.specs.Moves.SenderTable.{FollowsSenderTable};
 ghost use Rattle.snoop_model.specs.Pictures.InQueue.{IsInQueue};
 
 /// Coherence of every run from reset, for every number of cores and blocks, under MSI and MESI.
@@ -35,7 +35,7 @@ pub fn coherent()
     ensures once { EveryRun (λ protocol steps outcomes s. Once steps outcomes s) }
     ensures possible { EveryRun (λ protocol steps outcomes s. (step : Step) → ¬ Meets s step) }
     ensures any_order { EveryRun (λ protocol steps outcomes s. (core block : ℕ) (request : Request) → Waits s core block request → (picture_of s block).transaction ≡ None → FindsRows protocol (picture_of s block) core request) }
-    ensures lines { EveryRun (λ protocol steps outcomes s. (core block : ℕ) (request : Request) → Waits s core block request → (picture_of s block).transaction ≡ None → IsLed protocol (picture_of s block) core request) }
+    ensures lines { EveryRun (λ protocol steps outcomes s. (core block : ℕ) (request : Request) → Waits s core block request → (picture_of s block).transaction ≡ None → FollowsSenderTable protocol (picture_of s block) core request) }
     ensures proper { EveryRun (λ protocol steps outcomes s. (core block : ℕ) → IsProper (held_by (picture_of s block) core)) }
     ensures queued { EveryRun (λ protocol steps outcomes s. (core block : ℕ) → IsInQueue s core block) }
 {}

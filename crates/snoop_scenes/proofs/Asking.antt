@@ -18,7 +18,7 @@ use Rattle.snoop_model.specs.declared.replies.Reply.TheVariants as reply
 use Rattle.snoop_model.specs.declared.replies.Refused.TheVariants.{Stalled}
 use Rattle.snoop_model.specs.Pictures.Picture.{held_by, kept_on}
 use Rattle.snoop_model.specs.Pictures.Situation.{Situation, picture_of, state_of}
-use Rattle.snoop_model.specs.Moves.Move.{hit_reply, next_did, comes_to, kept_waiting, queues_after, IsWithin, IsAbsent, Asks}
+use Rattle.snoop_model.specs.Moves.Move.{hit_reply, next_did, moves_to, kept_waiting, queues_after, IsWithin, IsAbsent, Asks}
 use Rattle.snoop_model.specs.Runs.Run.{GoesFirst}
 use Rattle.snoop_scenes.proofs.Deciding.{if_some}
 use Rattle.snoop_scenes.proofs.Rows.{row_at}
@@ -81,7 +81,7 @@ module _ (old : Situation) (core block : ℕ) (asking : Op) (within : IsWithin o
             (inr (record { act = action.Issue request; next = next; held = held; row = row; taken = (refl, refl, refl); after = refl }));
       })
   by_row action.Drop next row =
-      let held : Line = comes_to next line in
+      let held : Line = moves_to next line in
       Some (record {
         outcome = Ok reply.Gone;
         new = leads old core block action.Drop held None;

@@ -29,7 +29,7 @@ use Rattle.snoop_model.specs.declared.replies.Refused.TheVariants.{BusTaken}
 use Rattle.snoop_model.specs.Pictures.Picture.{Picture, held_at, held_by}
 use Rattle.snoop_model.specs.Pictures.Situation.{Situation, picture_of, with_picture, state_of}
 use Rattle.snoop_model.specs.Pictures.Sends.{Sends, IsOnlySender, value_sent}
-use Rattle.snoop_model.specs.Moves.Move.{comes_to, TakesRow}
+use Rattle.snoop_model.specs.Moves.Move.{moves_to, TakesRow}
 use Rattle.snoop_model.specs.Runs.Run.{GoesFirst}
 use Rattle.snoop_scenes.proofs.Deciding.{if_true, if_some}
 use Rattle.snoop_scenes.proofs.Rows.{RowAt, row_at, MemoryRowAt, memory_row_at}
@@ -149,7 +149,7 @@ module _ (protocol : Protocol) (core : ℕ) (request : Request) (memory : MemSta
   sender _ _ _ = None
 
   abbrev pub caches_after : List Line
-  caches_after = comes_to first.next a ∷ comes_to second.next b ∷ []
+  caches_after = moves_to first.next a ∷ moves_to second.next b ∷ []
 
   -- each core takes its row
   pub rows_after : (k : ℕ) → k < 2 → TakesRow protocol (seen_by k core request) (held_by before k) (held_at caches_after k)

@@ -70,7 +70,7 @@ module _ (closing : Open) (protocol : Protocol) (log : List Item) (lines : List 
     held = refl;
   }
 
--- the data comes to its requestor
+-- the data reaches its requestor
 pub record Filled (closing : Open) (protocol : Protocol) (log : List Item) (lines : List Line) : Type 0 where
   pub new : List Line
   pub did : Option Did

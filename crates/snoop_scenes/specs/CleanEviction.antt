@@ -1,5 +1,5 @@
 -- The clean eviction (MESI). Evicting a block in E sends a PutM with NoDataE: memory's value is current.
--- Memory owns the block again, so that core 1's load comes to E.
+-- Memory owns the block again, so that core 1's load moves to E.
 -- Source: this project's profile of MESI (memory's states, and the eviction of a block in E), and chapter 7 of the Primer for the rest.
 use Rattle.std.specs.Prelude.{List, [], ◌∷◌}
 use Rattle.snoop_rules.specs.declared.names.Protocol.TheVariants.{Mesi}

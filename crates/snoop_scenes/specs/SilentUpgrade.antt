@@ -1,4 +1,4 @@
--- The silent upgrade (MESI). A load that finds no sharer comes to E. The store hits and makes it M with no request on the bus.
+-- The silent upgrade (MESI). A load that finds no sharer moves to E. The store hits and makes it M with no request on the bus.
 -- Memory counted on that, and takes the value at the eviction.
 -- Source: this project's profile of MESI (memory's states, and the eviction of a block in E), and chapter 7 of the Primer for the rest.
 use Rattle.std.specs.Prelude.{List, [], ◌∷◌}

@@ -1,7 +1,7 @@
 //! A step in its three stages: find, make room, make.
 ghost use Rattle.std.specs.Prelude.{◌≡◌, ◌≢◌, ◌<◌, ◌+◌, ◌++◌, ℕ, true, false, Option, OnOk, OnErr, IfOk, IfErr, IsOk, Err, slice_index, option_to_list};
 ghost use Rattle.snoop_history.specs.declared.items.Item.{Item};
-ghost use Rattle.snoop_model.specs.declared.replies.Refused.TheVariants.{NoMemory as WantOfMemory};
+ghost use Rattle.snoop_model.specs.declared.replies.Refused.TheVariants.{NoMemory as OutOfMemory};
 ghost use Rattle.snoop_model.specs.declared.replies.Reply.TheVariants.{Came as CameReply};
 ghost use Rattle.snoop_model.specs.Moves.Move.{FirstMove};
 ghost use Rattle.snoop_model.specs.Moves.StepMove.{RefusedFor, IsDenied};
@@ -32,7 +32,7 @@ impl Parts {
         ensures taken { IfOk result (λ reply. (entry : Option Item) × FirstMove self.old.situation step reply self.new.situation entry) }
         ensures refused { IfErr result (λ cause. RefusedFor self.old.situation step cause × (self.new ≡ self.old)) }
         ensures exactly { (cause : Refused) → Refuses self.old.situation step cause → result ≡ Err cause }
-        ensures full { result ≡ Err WantOfMemory → IsFull self.old step }
+        ensures full { result ≡ Err OutOfMemory → IsFull self.old step }
         ensures room { KeepsRoom self.old self.new }
         ensures lines { (core : ℕ) → HoldsOn self.old self.new step core }
 
@@ -50,7 +50,7 @@ impl Parts {
         ensures prepared { IfOk result (λ entry. IsPrepared self.new step entry) }
         ensures refused { IfErr result (λ cause. RefusedFor self.old.situation step cause × (self.new ≡ self.old)) }
         ensures exactly { (cause : Refused) → Refuses self.old.situation step cause → result ≡ Err cause }
-        ensures full { result ≡ Err WantOfMemory → IsFull self.old step }
+        ensures full { result ≡ Err OutOfMemory → IsFull self.old step }
         ensures room { KeepsRoom self.old self.new }
         ensures lines { (core : ℕ) → HoldsOn self.old self.new step core }
         ensures unchanged { self.new.situation ≡ self.old.situation }

@@ -38,7 +38,7 @@ use Rattle.snoop_model.specs.Moves.Meets.{Meets, FindsRows, LacksAtRequestor}
 use Rattle.snoop_model.specs.Pictures.OneWriter.{OneWriter, IsWriter}
 use Rattle.snoop_model.specs.Pictures.Current.{IsCurrent}
 use Rattle.snoop_model.specs.Pictures.MemoryCurrent.{IsMemoryCurrent, NamesItsBlock, data_under_way}
-use Rattle.snoop_model.specs.Moves.Led.{IsLed, OrdersAreLed}
+use Rattle.snoop_model.specs.Moves.SenderTable.{FollowsSenderTable, OrdersFollowSenderTable}
 use Rattle.snoop_model.specs.Invariant.Fits.{in_protocol, is_clean, is_owner, is_reader, fits}
 use Rattle.snoop_model.specs.Invariant.Good.{Good, awaited, owns, talk_of}
 use Rattle.snoop_model.specs.Invariant.Coherent.{IsCoherent}
@@ -208,8 +208,8 @@ put_is : (q : Request) → q ≡ request.PutM → is_put_m q ≡ true
 put_is q e = ap is_put_m e
 
 -- and it is a line of the table of senders
-pub is_led_order : (s : Situation) → IsCoherent s → (core block : ℕ) (q : Request) → Waits s core block q → (picture_of s block).transaction ≡ None → IsLed s.protocol (picture_of s block) core q
-is_led_order s g core block q waits free =
+pub order_follows_sender_table : (s : Situation) → IsCoherent s → (core block : ℕ) (q : Request) → Waits s core block q → (picture_of s block).transaction ≡ None → FollowsSenderTable s.protocol (picture_of s block) core q
+order_follows_sender_table s g core block q waits free =
     let p = s.protocol in
     let before : Picture = picture_of s block in
     let x = possible_order s g core block q waits free in
@@ -310,5 +310,5 @@ meets_nothing s g (Respond block) meets = elim (cases_lt block s.shape.blocks) [
 ]
 
 -- an Order of any request that waits on a free block finds its rows, and is a line of the table
-pub orders_are_led : (s : Situation) → IsCoherent s → OrdersAreLed s
-orders_are_led s g core block q waits free = (finds_rows s g core block q waits free, is_led_order s g core block q waits free)
+pub orders_follow_sender_table : (s : Situation) → IsCoherent s → OrdersFollowSenderTable s
+orders_follow_sender_table s g core block q waits free = (finds_rows s g core block q waits free, order_follows_sender_table s g core block q waits free)

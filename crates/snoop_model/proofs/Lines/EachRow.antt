@@ -11,7 +11,7 @@ use Rattle.snoop_rules.specs.Cell.{Cell}
 use Rattle.snoop_rules.specs.Takers.{seen_by}
 use Rattle.snoop_model.specs.declared.line.Line.{Line}
 use Rattle.snoop_model.specs.Pictures.Picture.{held_at, nothing_held}
-use Rattle.snoop_model.specs.Moves.Move.{TakesRow, comes_to}
+use Rattle.snoop_model.specs.Moves.Move.{TakesRow, moves_to}
 
 abbrev pub row_of : List (List Line) → ℕ → List Line
 row_of caches block = slice_index_or caches block []
@@ -25,17 +25,17 @@ pub record Taking (protocol : Protocol) (requestor : ℕ) (request : Request) (o
 pub Taking-more : (protocol : Protocol) (requestor : ℕ) (request : Request) (old new after : List Line) (n : ℕ) (act : CacheAction) (next : CacheState)
     → n < length old → Taking protocol requestor request old new n
     → Cell protocol (held_at new n).state (seen_by n requestor request) act next
-    → after ≡ slice_set new n (comes_to next (held_at new n))
+    → after ≡ slice_set new n (moves_to next (held_at new n))
     → Taking protocol requestor request old after (n + 1)
 Taking-more protocol requestor request old new after n act next in_row taking cell wrote =
     let in_new : n < length new = rw taking.same_length in_row in
-    let line : Line = comes_to next (held_at new n) in
+    let line : Line = moves_to next (held_at new n) in
     let here : held_at after n ≡ line = ap (λ row. held_at row n) wrote ∙ get_or-set_same new n line nothing_held in_new in
     let elsewhere : (k : ℕ) → (k ≡ n → ⊥) → held_at after k ≡ held_at new k = λ k ne. ap (λ row. held_at row k) wrote ∙ get_or-set_other new n k line nothing_held ne in
     let was : held_at new n ≡ held_at old n = taking.left n (omega arith) in
     let P : Line → Type 0 = λ x. Cell protocol x.state (seen_by n requestor request) act next in
     let at_n : TakesRow protocol (seen_by n requestor request) (held_at old n) (held_at after n) =
-    (act, (next, (subst P was cell, here ∙ ap (comes_to next) was))) in
+    (act, (next, (subst P was cell, here ∙ ap (moves_to next) was))) in
     record {
       same_length = ap length wrote ∙ (length-set new n line ∙ taking.same_length);
       taken = λ k h. elim (cases_eq k n) [

@@ -22,7 +22,7 @@ use Rattle.snoop_bus.specs.declared.transactions.Open.{Open}
 use Rattle.snoop_model.specs.declared.line.Line.{Line}
 use Rattle.snoop_model.specs.Pictures.Picture.{Picture, held_by}
 use Rattle.snoop_model.specs.Pictures.Sends.{value_at, value_sent}
-use Rattle.snoop_model.specs.Moves.Move.{comes_to}
+use Rattle.snoop_model.specs.Moves.Move.{moves_to}
 use Rattle.snoop_model.specs.Pictures.Sound.{IsProper}
 use Rattle.snoop_model.specs.Invariant.Fits.{Claims, claims_of, is_clean, is_reader, same, fits}
 use Rattle.snoop_model.specs.Invariant.Good.{Good, talk_of, awaited, owns}
@@ -109,11 +109,11 @@ other_cell p n flat before c q l d d_in =
     some_of _ (OrderTests.other_row p q (held_by before d).state st.shared (owns l.good.owner d) fit)
 
 -- the row that a core takes is the one that its event names
-pub takes_row : (p : Protocol) (e f : CacheEvent) (old new : Line) (r : CacheCell) → e ≡ f → cell_of p old.state f ≡ Some r → Takes p e old new → new ≡ comes_to r.next old
+pub takes_row : (p : Protocol) (e f : CacheEvent) (old new : Line) (r : CacheCell) → e ≡ f → cell_of p old.state f ≡ Some r → Takes p e old new → new ≡ moves_to r.next old
 takes_row p e f old new r is_event is_row took =
     let same_cell : cell_of p old.state e ≡ Some r = ap (λ (x : CacheEvent). cell_of p old.state x) is_event ∙ is_row in
     let is_r : took.0 ≡ r = some_is (cell_of p old.state e) took.0 r took.1 same_cell in
-    took.2 ∙ ap (λ (x : CacheCell). comes_to x.next old) is_r
+    took.2 ∙ ap (λ (x : CacheCell). moves_to x.next old) is_r
 
 pub seen_own : (c : ℕ) (q : Request) → seen_by c c q ≡ own q
 seen_own c q = rw (eq-eqb c c refl) refl
@@ -183,14 +183,14 @@ owns_next_other true (Some o) c d apart = elim (eqb_tells c o) as (λ _. owns (c
 owns_next_other false owner c d apart = sym (and-false (owns owner d))
 
 -- the states after an Order
-requestor_after : (p : Protocol) (n : ℕ) (flat : ℕ) (before : Picture) (c : ℕ) (q : Request) (after : Picture) (l : Looked p n flat before c q) → Orders p n before c q after → held_by after c ≡ comes_to l.oc.next (held_by before c)
+requestor_after : (p : Protocol) (n : ℕ) (flat : ℕ) (before : Picture) (c : ℕ) (q : Request) (after : Picture) (l : Looked p n flat before c q) → Orders p n before c q after → held_by after c ≡ moves_to l.oc.next (held_by before c)
 requestor_after p n flat before c q after l o = takes_row p (seen_by c c q) (own q) (held_by before c) (held_by after c) l.oc (seen_own c q) l.is_oc (o.taken c l.requestor_in)
 
-other_after : (p : Protocol) (n : ℕ) (flat : ℕ) (before : Picture) (c : ℕ) (q : Request) (after : Picture) (l : Looked p n flat before c q) → Orders p n before c q after → (d : ℕ) → d < n → d ≢ c → (xc : CacheCell) → cell_of p (held_by before d).state (other q) ≡ Some xc → held_by after d ≡ comes_to xc.next (held_by before d)
+other_after : (p : Protocol) (n : ℕ) (flat : ℕ) (before : Picture) (c : ℕ) (q : Request) (after : Picture) (l : Looked p n flat before c q) → Orders p n before c q after → (d : ℕ) → d < n → d ≢ c → (xc : CacheCell) → cell_of p (held_by before d).state (other q) ≡ Some xc → held_by after d ≡ moves_to xc.next (held_by before d)
 other_after p n flat before c q after l o d d_in apart xc is_xc = takes_row p (seen_by d c q) (other q) (held_by before d) (held_by after d) xc (seen_other d c q apart) is_xc (o.taken d d_in)
 
 -- a row that makes no reader of a core lets its values carry over
-pub came_to : (old new : Line) (next : CacheState) → new ≡ comes_to next old → carries old.state next ≡ true → Carried old new
+pub came_to : (old new : Line) (next : CacheState) → new ≡ moves_to next old → carries old.state next ≡ true → Carried old new
 came_to old new next comes carries_over =
     let parts = and_parts (not (is_reader next) || is_reader old.state) (not (is_clean next) || is_clean old.state) carries_over in
     record {

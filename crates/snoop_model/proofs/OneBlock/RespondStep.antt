@@ -198,7 +198,7 @@ owns_answered_other true true c d (Some o) apart e h = cc
 owns_answered_other true false c d (Some o) apart e h = cc
 owns_answered_other false owned c d owner apart e h = refl
 
--- what the requestor comes to
+-- what the requestor moves to
 pub record Arrives (p : Protocol) (n : ℕ) (flat : ℕ) (before after : Picture) (o : Open) (g : Good p n flat before) (f : Found p n flat before after o g) (row : CacheCell) : Type 0 where
   pub not_owner : owns g.owner o.core ≡ false
   pub fit : fits p f.next.shared (gains o.request o.payload) None row.next ≡ true

@@ -26,7 +26,7 @@ use Rattle.snoop_bus.specs.declared.transactions.Open.{Open}
 use Rattle.snoop_model.specs.declared.line.Line.{Line}
 use Rattle.snoop_model.specs.Pictures.Picture.{Picture, held_by, kept_on}
 use Rattle.snoop_model.specs.Pictures.Sends.{value_sent}
-use Rattle.snoop_model.specs.Moves.Move.{comes_to, written, kept_waiting}
+use Rattle.snoop_model.specs.Moves.Move.{moves_to, written, kept_waiting}
 
 -- an operation that a step performs
 pub data Done : Type 0 where
@@ -52,7 +52,7 @@ pub record IsOnlySender (p : Protocol) (n : ℕ) (before : Picture) (c : ℕ) (q
 
 -- a controller takes its row at an event and performs nothing
 abbrev pub Takes : Protocol → CacheEvent → Line → Line → Type 0
-Takes p e old new = (r : CacheCell) × (cell_of p old.state e ≡ Some r) × (new ≡ comes_to r.next old)
+Takes p e old new = (r : CacheCell) × (cell_of p old.state e ≡ Some r) × (new ≡ moves_to r.next old)
 
 abbrev pub message : ℕ → ℕ → Request → Payload → ℕ → Option ℕ → Open
 message block c q pl v from = record { core = c; request = q; block = block; payload = pl; value = v; from = from }
@@ -88,7 +88,7 @@ abbrev pub Performs : CacheAction → Op → CacheState → Line → Line → Op
 Performs action.Hit op.Load next old new made = (v : ℕ) × (old.kept ≡ Some v) × (new ≡ record { state = next; kept = Some v; waiting = old.waiting }) × (made ≡ Some (Loaded v))
 Performs action.Hit (op.Store v) next old new made = (new ≡ record { state = next; kept = Some v; waiting = old.waiting }) × (made ≡ Some (Stored v))
 Performs (action.Issue r) asking next old new made = (new ≡ record { state = next; kept = kept_on next old.kept; waiting = kept_waiting asking }) × (made ≡ None)
-Performs action.Drop asking next old new made = (new ≡ comes_to next old) × (made ≡ None)
+Performs action.Drop asking next old new made = (new ≡ moves_to next old) × (made ≡ None)
 Performs _ asking next old new made = ⊥
 
 pub record Asks (p : Protocol) (n : ℕ) (before : Picture) (c : ℕ) (asking : Op) (after : Picture) (made : Option Done) : Type 0 where

@@ -35,7 +35,7 @@ use Rattle.snoop_model.specs.declared.replies.Refused.TheVariants.{NoCore, NoBlo
 use Rattle.snoop_model.specs.Pictures.Picture.{Picture, held_at, held_by, nothing_held}
 use Rattle.snoop_model.specs.Pictures.Situation.{Situation, picture_of, with_picture, state_of}
 use Rattle.snoop_model.specs.Pictures.Sends.{Sends, value_sent}
-use Rattle.snoop_model.specs.Moves.Move.{TakesRow, Takes, Hits, Fills, ArrivesFor, ArrivesAtMemory, TakesPayload, Asks, Orders, Responds, IsAbsent, IsWithin, FirstMove, Performs, comes_to, next_did, queues_after, came_of, written}
+use Rattle.snoop_model.specs.Moves.Move.{TakesRow, Takes, Hits, Fills, ArrivesFor, ArrivesAtMemory, TakesPayload, Asks, Orders, Responds, IsAbsent, IsWithin, FirstMove, Performs, moves_to, next_did, queues_after, came_of, written}
 use Rattle.snoop_model.specs.Moves.Refuses.{Refuses, IsStall, WaitsOnNone}
 use Rattle.snoop_model.specs.Runs.Run.{GoesFirst, FirstRunFrom}
 use Rattle.snoop_model.specs.Invariant.WellKept.{IsWellKept}
@@ -253,7 +253,7 @@ asks_or_absent s core block asking answer answer' new new' entry entry' (inr a) 
 row_one : (p : Protocol) (e : CacheEvent) (old new new' : Line) → TakesRow p e old new → TakesRow p e old new' → new ≡ new'
 row_one p e old new new' a b =
     let row = Cell-one p old.state e a.0 b.0 a.1.0 b.1.0 a.1.1.0 b.1.1.0 in
-    a.1.1.1 ∙ (ap (λ next. comes_to next old) row.1 ∙ sym b.1.1.1)
+    a.1.1.1 ∙ (ap (λ next. moves_to next old) row.1 ∙ sym b.1.1.1)
 
 -- lists of lines that are equal at each place
 same_row : (xs ys : List Line) → length xs ≡ length ys → ((k : ℕ) → k < length xs → held_at xs k ≡ held_at ys k) → xs ≡ ys

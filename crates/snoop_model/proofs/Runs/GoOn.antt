@@ -41,7 +41,7 @@ use Rattle.snoop_model.specs.Pictures.Situation.{Situation, picture_of, with_pic
 use Rattle.snoop_model.specs.Pictures.Sends.{value_sent}
 use Rattle.snoop_model.specs.Pictures.Sound.{keeps, awaits, Awaits, IsProper, kind_of, load, store}
 use Rattle.snoop_model.specs.Moves.Move as Move
-use Rattle.snoop_model.specs.Moves.Move.{TakesRow, Arrives, ArrivesFor, ArrivesAtMemory, FirstMove, IsWithin, came_of, comes_to, hit_reply, kept_waiting, next_did, queues_after, written}
+use Rattle.snoop_model.specs.Moves.Move.{TakesRow, Arrives, ArrivesFor, ArrivesAtMemory, FirstMove, IsWithin, came_of, moves_to, hit_reply, kept_waiting, next_did, queues_after, written}
 use Rattle.snoop_model.specs.Runs.Run.{GoesFirst, FirstRunFrom}
 use Rattle.snoop_model.specs.Invariant.WellKept.{IsWellKept}
 use Rattle.snoop_model.specs.Turns.TurnRule.{KeepsWell}
@@ -171,7 +171,7 @@ module _ (s : Situation) (core block : ℕ) (within : IsWithin s core block) whe
       moved s (Ask core block asking) (reply.Issued r) (after_ask s core block (action.Issue r) line None) None
       (block, (tt, (refl, within, inr (record { act = action.Issue r; next = next; held = line; row = row; taken = (refl, refl, refl); after = refl }))))
   by_row asking action.Drop next row allowed kept =
-      let line : Line = comes_to next held in
+      let line : Line = moves_to next held in
       moved s (Ask core block asking) reply.Gone (after_ask s core block action.Drop line None) None
       (block, (tt, (refl, within, inr (record { act = action.Drop; next = next; held = line; row = row; taken = (refl, refl, refl); after = refl }))))
   by_row asking action.None next row allowed kept = cc
@@ -229,7 +229,7 @@ order_free s g core block q first waits free =
     let p = s.protocol in
     let before : Picture = picture_of s block in
     let finds = finds_rows s g core block q waits free in
-    let rows = lines_at (λ k x. TakesRow p (seen_by k core q) (held_by before k) x) (length before.caches) (λ k h. (let row = finds.rows k h in (comes_to row.1.0 (held_by before k), (row.0, (row.1.0, (row.1.1, refl)))))) in
+    let rows = lines_at (λ k x. TakesRow p (seen_by k core q) (held_by before k) x) (length before.caches) (λ k h. (let row = finds.rows k h in (moves_to row.1.0 (held_by before k), (row.0, (row.1.0, (row.1.1, refl)))))) in
     let from : Option ℕ = finds.sender.0 in
     let payload : Payload = finds.sender.1.0 in
     let opened : Open = record { core = core; request = q; block = block; payload = payload; value = value_sent before from payload; from = from } in

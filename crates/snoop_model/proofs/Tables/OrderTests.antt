@@ -18,7 +18,7 @@ use Rattle.snoop_history.specs.Totals.{is_put_m, is_data}
 use Rattle.snoop_model.specs.Invariant.Fits.{Claims, claims_of, is_owner, is_sharer, is_clean, is_reader, wait_fits, in_protocol, same, fits}
 use Rattle.snoop_model.proofs.Tables.Every.{either, either-at, when, when_at, given, given_at}
 use Rattle.snoop_model.proofs.OneBlock.Steps.{sent_by, sent_by_memory}
-use Rattle.snoop_model.proofs.Tables.SenderTests.{Memory, Core, Requestor, is_sender_line, is_led}
+use Rattle.snoop_model.proofs.Tables.SenderTests.{Memory, Core, Requestor, is_sender_line, follows_sender_table}
 use Rattle.snoop_model.proofs.Tables.StateTests.{carries}
 
 abbrev pub or_else : Option Payload → Option Payload → Option Payload
@@ -174,14 +174,14 @@ unfolding orders order_case other_case all_protocols all_memories all_states all
 requestor_reads_holds = refl
 
 abbrev pub order_line_of_put : EndTest
-order_line_of_put p m st sr or q mc oc pl st2 = not (is_put_m q) || is_led p q m (Requestor sr) pl mc.next
+order_line_of_put p m st sr or q mc oc pl st2 = not (is_put_m q) || follows_sender_table p q m (Requestor sr) pl mc.next
 
 pub order_line_of_put_holds : orders (end_case order_line_of_put) ≡ true
 unfolding orders order_case other_case all_protocols all_memories all_states all_requests either given when claims_of fits is_owner is_sharer is_clean is_reader wait_fits in_protocol same is_sender_line
 order_line_of_put_holds = refl
 
 abbrev pub order_line_of_memory : EndTest
-order_line_of_memory p m st sr or q mc oc pl st2 = not (is_some (sent_by_memory (Some mc))) || is_led p q m Memory pl mc.next
+order_line_of_memory p m st sr or q mc oc pl st2 = not (is_some (sent_by_memory (Some mc))) || follows_sender_table p q m Memory pl mc.next
 
 pub order_line_of_memory_holds : orders (end_case order_line_of_memory) ≡ true
 unfolding orders order_case other_case all_protocols all_memories all_states all_requests either given when claims_of fits is_owner is_sharer is_clean is_reader wait_fits in_protocol same is_sender_line
@@ -216,7 +216,7 @@ unfolding orders order_case other_case all_protocols all_memories all_states all
 other_sends_data_holds = refl
 
 abbrev pub order_line_of_core : OtherTest
-order_line_of_core p m st sr or q mc oc pl st2 s ow xc = not (is_some (sent_by (Some xc))) || is_led p q m (Core s) pl mc.next
+order_line_of_core p m st sr or q mc oc pl st2 s ow xc = not (is_some (sent_by (Some xc))) || follows_sender_table p q m (Core s) pl mc.next
 
 pub order_line_of_core_holds : orders (end_case (other_case order_line_of_core)) ≡ true
 unfolding orders order_case other_case all_protocols all_memories all_states all_requests either given when claims_of fits is_owner is_sharer is_clean is_reader wait_fits in_protocol same is_sender_line

@@ -25,7 +25,7 @@ use Rattle.snoop_model.specs.declared.line.Line.{Line}
 use Rattle.snoop_model.specs.Pictures.Picture.{kept_on}
 use Rattle.snoop_model.specs.Pictures.Sound.{keeps, awaits, Awaits, kind_of, IsProper}
 use Rattle.snoop_model.specs.Pictures.Sound.Awaits.{nothing, load, store, eviction}
-use Rattle.snoop_model.specs.Moves.Move.{comes_to, kept_waiting, IsFillFor}
+use Rattle.snoop_model.specs.Moves.Move.{moves_to, kept_waiting, IsFillFor}
 
 -- requests, or none, as numbers that a test compares
 abbrev pub same_request : Option Request → Option Request → Bool
@@ -198,7 +198,7 @@ drop_facts p s e n row =
     let r = and_parts b c l.1 in
     (same_bool-true _ _ l.0, same_awaits-true _ _ r.0, same_request-true _ _ r.1)
 
-pub IsProper-drop : (p : Protocol) (old : Line) (e : CacheEvent) (n : CacheState) → IsProper old → Cell p old.state e action.Drop n → IsProper (comes_to n old)
+pub IsProper-drop : (p : Protocol) (old : Line) (e : CacheEvent) (n : CacheState) → IsProper old → Cell p old.state e action.Drop n → IsProper (moves_to n old)
 IsProper-drop p old e n proper row =
     let f = drop_facts p old.state e n row in
     record { kept = is_some-kept_on n old.kept (keeps old.state) proper.kept ∙ sym f.0; waiting = proper.waiting ∙ f.1 }
@@ -291,7 +291,7 @@ is_ordered k core q = elim (cases_eq k core) [
     ho GetM = refl
     ho PutM = refl
 
-pub IsProper-order : (p : Protocol) (old : Line) (k core : ℕ) (q : Request) (a : CacheAction) (n : CacheState) → IsProper old → Cell p old.state (seen_by k core q) a n → IsProper (comes_to n old)
+pub IsProper-order : (p : Protocol) (old : Line) (k core : ℕ) (q : Request) (a : CacheAction) (n : CacheState) → IsProper old → Cell p old.state (seen_by k core q) a n → IsProper (moves_to n old)
 IsProper-order p old k core q a n proper row =
     let f = order_facts p old.state (seen_by k core q) a n (is_ordered k core q) row in
     record { kept = is_some-kept_on n old.kept (keeps old.state) proper.kept ∙ sym f.0; waiting = proper.waiting ∙ f.1 }

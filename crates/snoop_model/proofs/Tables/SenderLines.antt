@@ -20,8 +20,8 @@ use Rattle.snoop_rules.specs.declared.names.MemCell.{MemCell}
 use Rattle.snoop_rules.specs.MemoryRow.{memory_cell_of}
 use Rattle.snoop_rules.proofs.MemRows.{MemoryCell-found}
 use Rattle.snoop_model.specs.Pictures.Picture.{Picture, held_by}
-use Rattle.snoop_model.specs.Moves.Led.{Settles}
-use Rattle.snoop_model.proofs.Tables.SenderTests.{Sender, Memory, Core, Requestor, is_sender_line, is_led, sender_as, is_some_and, after_respond, next_memory, next_of}
+use Rattle.snoop_model.specs.Moves.SenderTable.{Settles}
+use Rattle.snoop_model.proofs.Tables.SenderTests.{Sender, Memory, Core, Requestor, is_sender_line, follows_sender_table, sender_as, is_some_and, after_respond, next_memory, next_of}
 
 -- the sender's state, if it is a core
 abbrev pub state_as : Sender → Option CacheState
@@ -91,7 +91,7 @@ pub record Line (p : Protocol) (q : Request) (m : MemState) (sender : Sender) (s
   pub settled : Settles q p next sent done
   pub line : SentAs p q m (state_as sender) sent next done
 
-pub led_line : (p : Protocol) (q : Request) (m : MemState) (sender : Sender) (sent : Payload) (next : MemState) → is_led p q m sender sent next ≡ true → Line p q m sender sent next
+pub led_line : (p : Protocol) (q : Request) (m : MemState) (sender : Sender) (sent : Payload) (next : MemState) → follows_sender_table p q m sender sent next ≡ true → Line p q m sender sent next
 led_line p q m sender sent next h = go (after_respond p q next sent) refl h
   where
     go : (found : Option MemState) → after_respond p q next sent ≡ found → is_some_and found (λ done. is_sender_line p q m sender sent next done) ≡ true → Line p q m sender sent next

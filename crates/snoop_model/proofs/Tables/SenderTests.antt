@@ -68,8 +68,8 @@ abbrev pub after_respond : Protocol → Request → MemState → Payload → Opt
 after_respond p q m pl = cond (takes_payload q m) (next_memory p m (arrival_at_memory pl)) (Some m)
 
 -- the memory state after the Respond is the last column
-abbrev pub is_led : Protocol → Request → MemState → Sender → Payload → MemState → Bool
-is_led p q m sender pl m2 = is_some_and (after_respond p q m2 pl) (λ m3. is_sender_line p q m sender pl m2 m3)
+abbrev pub follows_sender_table : Protocol → Request → MemState → Sender → Payload → MemState → Bool
+follows_sender_table p q m sender pl m2 = is_some_and (after_respond p q m2 pl) (λ m3. is_sender_line p q m sender pl m2 m3)
 
 -- the sender as the table of Orders names it
 abbrev pub sender_as : Picture → ℕ → Option ℕ → Sender

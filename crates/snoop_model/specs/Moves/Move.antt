@@ -62,9 +62,9 @@ kept_waiting op.Evict = None
 abbrev pub next_did : List Item → ℕ → ℕ → Op → ℕ → Bool → Did
 next_did log core block op value hit = record { core = core; number = next_number log core; block = block; load = is_load op; value = value; hit = hit }
 
--- a core that comes to a state with nothing performed
-abbrev pub comes_to : CacheState → Line → Line
-comes_to next held = record { state = next; kept = kept_on next held.kept; waiting = held.waiting }
+-- a core that moves to a state with nothing performed
+abbrev pub moves_to : CacheState → Line → Line
+moves_to next held = record { state = next; kept = kept_on next held.kept; waiting = held.waiting }
 
 -- a hit performs the operation on the kept value
 pub record Hits (next : CacheState) (log : List Item) (core block : ℕ) (asking : Op) (old new : Line) (answer : Reply) (entry : Option Item) : Type 0 where
@@ -79,7 +79,7 @@ pub record Hits (next : CacheState) (log : List Item) (core block : ℕ) (asking
 
 -- a core takes its row for a request, its own or another's
 abbrev pub TakesRow : Protocol → CacheEvent → Line → Line → Type 0
-TakesRow protocol event old new = (act : CacheAction) × ((next : CacheState) × (Cell protocol old.state event act next × (new ≡ comes_to next old)))
+TakesRow protocol event old new = (act : CacheAction) × ((next : CacheState) × (Cell protocol old.state event act next × (new ≡ moves_to next old)))
 
 -- a fill is for the operation that waits
 abbrev pub IsFillFor : CacheAction → Op → Type 0
@@ -87,7 +87,7 @@ IsFillFor action.FillLoad op.Load = ⊤
 IsFillFor action.FillStore (op.Store stored) = ⊤
 IsFillFor _ _ = ⊥
 
--- the data comes to its requestor, which performs its waiting operation with it
+-- the data reaches its requestor, which performs its waiting operation with it
 pub record Fills (closing : Open) (protocol : Protocol) (log : List Item) (old new : List Line) (did : Option Did) : Type 0 where
   pub event : CacheEvent
   pub act : CacheAction
@@ -152,7 +152,7 @@ Takes (action.Issue request) next log core block asking old new answer entry =
     (new ≡ record { state = next; kept = kept_on next old.kept; waiting = kept_waiting asking })
     × (answer ≡ reply.Issued request) × (entry ≡ None)
 Takes action.Drop next log core block asking old new answer entry =
-    (new ≡ comes_to next old) × (answer ≡ reply.Gone) × (entry ≡ None)
+    (new ≡ moves_to next old) × (answer ≡ reply.Gone) × (entry ≡ None)
 Takes _ next log core block asking old new answer entry = ⊥
 
 -- the queues after an Ask: an issue puts the block last

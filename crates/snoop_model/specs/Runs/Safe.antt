@@ -9,7 +9,7 @@ use Rattle.snoop_model.specs.Pictures.OneWriter.{OneWriter}
 use Rattle.snoop_model.specs.Pictures.Current.{IsCurrent}
 use Rattle.snoop_model.specs.Pictures.MemoryCurrent.{IsMemoryCurrent, NamesItsBlock}
 use Rattle.snoop_model.specs.Moves.Meets.{Meets}
-use Rattle.snoop_model.specs.Moves.Led.{OrdersAreLed}
+use Rattle.snoop_model.specs.Moves.SenderTable.{OrdersFollowSenderTable}
 use Rattle.snoop_model.specs.Pictures.Sound.{IsProper}
 use Rattle.snoop_model.specs.Pictures.InQueue.{IsInQueue}
 use Rattle.snoop_model.specs.Invariant.WellKept.{IsWellKept}
@@ -23,7 +23,7 @@ pub record IsSafe (s : Situation) : Type 0 where
   pub memory : (block : ℕ) → block < s.shape.blocks → IsMemoryCurrent s.protocol (picture_of s block) (flat s.log block)
   pub opened : (block : ℕ) → NamesItsBlock s block
   pub possible : (step : Step) → ¬ Meets s step
-  pub orders : OrdersAreLed s
+  pub orders : OrdersFollowSenderTable s
   pub proper : (core block : ℕ) → IsProper (held_by (picture_of s block) core)
   pub queued : (core block : ℕ) → IsInQueue s core block
   pub well_kept : IsWellKept s

@@ -7,9 +7,9 @@ use Rattle.snoop_model.specs.Pictures.OneWriter.{OneWriter}
 use Rattle.snoop_model.specs.Pictures.Current.{IsCurrent}
 use Rattle.snoop_model.specs.Pictures.MemoryCurrent.{IsMemoryCurrent}
 use Rattle.snoop_model.specs.Moves.Meets.{FindsRows}
-use Rattle.snoop_model.specs.Moves.Led.{IsLed}
+use Rattle.snoop_model.specs.Moves.SenderTable.{FollowsSenderTable}
 use Rattle.snoop_model.proofs.Invariant.Runs.{reset_coherent, run_keeps, run_protocol}
-use Rattle.snoop_model.proofs.Invariant.Coherence.{has_one_writer, readers_current, memory_current, names_its_block, finds_rows, is_led_order, meets_nothing}
+use Rattle.snoop_model.proofs.Invariant.Coherence.{has_one_writer, readers_current, memory_current, names_its_block, finds_rows, order_follows_sender_table, meets_nothing}
 use Rattle.snoop_model.proofs.Invariant.Safety.{all_proper}
 use Rattle.snoop_model.proofs.Once.Runs.{run_asked_once}
 use Rattle.snoop_model.proofs.Queues.Runs.{reset_queued, run_queued}
@@ -45,7 +45,7 @@ returns-clause-once c p shape steps outcomes new run = run_asked_once p shape st
 
 pub returns-clause-lines : goal.returns-clause-lines
 returns-clause-lines c p shape steps outcomes new run core block request waits free =
-    subst (λ (x : Protocol). IsLed x (picture_of new block) core request) (run_protocol steps outcomes (reset p shape) new run) (is_led_order new (run_keeps steps outcomes (reset p shape) new (reset_coherent p shape) run) core block request waits free)
+    subst (λ (x : Protocol). FollowsSenderTable x (picture_of new block) core request) (run_protocol steps outcomes (reset p shape) new run) (order_follows_sender_table new (run_keeps steps outcomes (reset p shape) new (reset_coherent p shape) run) core block request waits free)
 
 pub returns-clause-proper : goal.returns-clause-proper
 returns-clause-proper c p shape steps outcomes new run = all_proper new (run_keeps steps outcomes (reset p shape) new (reset_coherent p shape) run)

@@ -1,4 +1,4 @@
--- A run goes on, since every situation that it comes to is coherent and well kept.
+-- A run goes on, since every situation that it reaches is coherent and well kept.
 use Rattle.std.proofs.Common.{None}
 use Rattle.snoop_model.specs.Pictures.Situation.{reset}
 use Rattle.snoop_model.proofs.Invariant.Runs.{reset_coherent}

@@ -9,10 +9,10 @@ use Rattle.snoop_rules.specs.Takers.{seen_by}
 use Rattle.snoop_model.specs.declared.line.Line.{Line}
 use Rattle.snoop_model.specs.Pictures.Picture.{held_at, nothing_held}
 use Rattle.snoop_model.specs.Pictures.Sound.{IsProper, line_at}
-use Rattle.snoop_model.specs.Moves.Move.{comes_to}
+use Rattle.snoop_model.specs.Moves.Move.{moves_to}
 use Rattle.snoop_model.specs.Pictures.Message.{HasRow}
 use Rattle.snoop_model.proofs.Tables.Rows.{IsProper-order}
-use Rattle.snoop_machine.proofs.ProperLines.{comes_to_same}
+use Rattle.snoop_machine.proofs.ProperLines.{moves_to_same}
 use Rattle.snoop_machine.specs.Lines.{gone}
 use Rattle.snoop_machine.proofs.LinesGoing.{LinesGo-set, row_after}
 use Rattle.snoop_model.proofs.Lines.EachRow.{Taking, Taking-more, Taking-past, row_of}
@@ -87,8 +87,8 @@ loop-core-preserved c =
     elim c.if-not-is_same.branch [
       | then-not-is_same w ↦
           let new = w.set.new.self in
-          let line : Line = comes_to cell.next (line_at now.rows n block) in
-          let moved : w.moved_to.result ≡ line = w.moved_to.ensures ∙ ap (λ (x : Line). comes_to cell.next x) c.get-line.ensures.line in
+          let line : Line = moves_to cell.next (line_at now.rows n block) in
+          let moved : w.moved_to.result ≡ line = w.moved_to.ensures ∙ ap (λ (x : Line). moves_to cell.next x) c.get-line.ensures.line in
           let wrote : new.rows ≡ slice_set now.rows block (slice_set (row_of now.rows block) n line) =
           w.set.ensures.rows ∙ ap (λ (x : Line). slice_set now.rows block (slice_set (row_of now.rows block) n x)) moved in
           let after : row_of new.rows block ≡ slice_set (row_of now.rows block) n line = row_after block first now new n line (in_blocks d) (in_row d) wrote in
@@ -106,8 +106,8 @@ loop-core-preserved c =
           let here = line_at now.rows n block in
           let same : cell.next ≡ here.state = c.is_same.ensures.0 w.if-not-is_same.false ∙ ap (λ (x : Line). x.state) c.get-line.ensures.line in
           let proper : IsProper here = subst (λ (x : Line). IsProper x) c.get-line.ensures.line c.get-line.ensures.proper in
-          let line : comes_to cell.next here ≡ here = ap (λ state. comes_to state here) same ∙ comes_to_same here proper in
-          let as_was : row_of now.rows block ≡ slice_set (row_of now.rows block) n (comes_to cell.next here) = sym (ap (λ x. slice_set (row_of now.rows block) n x) line ∙ set-get_or (row_of now.rows block) n nothing_held) in
+          let line : moves_to cell.next here ≡ here = ap (λ state. moves_to state here) same ∙ moves_to_same here proper in
+          let as_was : row_of now.rows block ≡ slice_set (row_of now.rows block) n (moves_to cell.next here) = sym (ap (λ x. slice_set (row_of now.rows block) n x) line ∙ set-get_or (row_of now.rows block) n nothing_held) in
           rw w.self-is (
             Taking-more c.args.protocol c.args.requestor c.args.request old (row_of now.rows block) (row_of now.rows block) n cell.action cell.next within (so_far d) found as_was,
             omega arith,
@@ -134,7 +134,7 @@ set-requires-clause-proper c =
     let cell = c.in-Some-cache_cell.cell in
     let here = line_at c.loop-core.self.rows n c.args.block in
     let proper : IsProper here = subst (λ (x : Line). IsProper x) c.get-line.ensures.line c.get-line.ensures.proper in
-    let moved : c.moved_to.result ≡ comes_to cell.next here = c.moved_to.ensures ∙ ap (λ (x : Line). comes_to cell.next x) c.get-line.ensures.line in
+    let moved : c.moved_to.result ≡ moves_to cell.next here = c.moved_to.ensures ∙ ap (λ (x : Line). moves_to cell.next x) c.get-line.ensures.line in
     subst (λ (x : Line). IsProper x) (sym moved)
     (IsProper-order c.args.protocol here n c.args.requestor c.args.request cell.action cell.next proper (row (goal.at.set-requires-clause-proper c).In-Some-cache_cell))
 

@@ -24,7 +24,7 @@ Settles request protocol memory payload done =
     (done ≡ memory)
 
 -- the core's request, ordered now, is a line of the table; at a PutM the sender is the requestor itself
-pub record IsLed (protocol : Protocol) (before : Picture) (core : ℕ) (request : Request) : Type 0 where
+pub record FollowsSenderTable (protocol : Protocol) (before : Picture) (core : ℕ) (request : Request) : Type 0 where
   pub from : Option ℕ
   pub payload : Payload
   pub act : MemAction
@@ -37,7 +37,7 @@ pub record IsLed (protocol : Protocol) (before : Picture) (core : ℕ) (request 
   pub writeback : request ≡ PutM → from ≡ Some core
 
 -- every request that waits on a free block would find all its rows and exactly one sender, and be a line of the table
-abbrev pub OrdersAreLed : Situation → Type 0
-OrdersAreLed s =
+abbrev pub OrdersFollowSenderTable : Situation → Type 0
+OrdersFollowSenderTable s =
     (core block : ℕ) (request : Request) → Waits s core block request → (picture_of s block).transaction ≡ None →
-    FindsRows s.protocol (picture_of s block) core request × IsLed s.protocol (picture_of s block) core request
+    FindsRows s.protocol (picture_of s block) core request × FollowsSenderTable s.protocol (picture_of s block) core request
