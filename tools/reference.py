@@ -8,6 +8,7 @@ plain dictionaries, and it recomputes the report from the whole history at the e
     tools/reference.py steps --protocol mesi < examples/silent_upgrade.steps
     tools/reference.py run --protocol mesi < examples/producer_and_consumer.rows
     tools/reference.py states --protocol mesi < examples/silent_upgrade.steps
+    tools/reference.py getters --protocol mesi --cores 2 --blocks 1 < examples/silent_upgrade.steps
     tools/reference.py storm --cores 8 --blocks 3 --count 1000 > storm.steps
     tools/reference.py table --protocol mesi --which memory
 """
@@ -336,6 +337,39 @@ def states(options, text):
         print("| " + " | ".join([name if name == "at reset" else f"`{name}`"] + cells) + " |")
 
 
+def held(machine, core, block):
+    """What a core holds of a block: its state, the value that it keeps, and a mark where its request waits to be ordered."""
+    state, kept, _ = machine.line[core, block]
+    value = "" if kept is None else f"={kept}"
+    return state + value + "!" * (block in machine.queues[core])
+
+
+def shown(machine, block):
+    """All that is seen of a block: what each core holds, memory's state and value, and the open transaction."""
+    cells = [held(machine, core, block) for core in range(machine.cores)] + ["%s=%d" % machine.memory[block]]
+    transaction = ""
+    if block in machine.open:
+        core, request, payload, value, sender = machine.open[block]
+        carried = value if payload in ("Data", "DataE") else 0
+        transaction = f"{core}:{request}:{payload}:{carried}:{'memory' if sender is None else sender}"
+    return ",".join(cells + [transaction]) + "|"
+
+
+def getters(options, text):
+    """All that is seen of a machine after each step, a line each; at the end what its history comes to."""
+    lines = Lines(options, lambda line: None)
+    machine = lines.machine
+    cores, blocks = range(options.cores), range(options.blocks)
+    for kind, numbers in records(options, text):
+        lines.take(kind, numbers)
+        counts = [str(sum(machine.line[core, block].state != "I" for block in blocks)) + "!" * bool(machine.queues[core]) + "," for core in cores]
+        print("".join([shown(machine, block) for block in blocks] + counts))
+    dids = [item if isinstance(item, Did) else item.did for item in machine.items if not isinstance(item, Sent)]
+    performed = [sum(did is not None and did.core == core for did in dids) for core in cores]
+    values = {did.block: did.value for did in dids if did is not None and not did.load}
+    print(f"{len(machine.items)}|" + "".join(f"{count}," for count in performed) + "|" + "".join(f"{values.get(block, 0)}," for block in blocks))
+
+
 def run(options, text):
     """The lines of the steps that serve the rows, then the report: in each round each core has one turn, by rising
     number, and does its rows in the order of the text, one after another."""
@@ -388,7 +422,7 @@ def table(options):
 
 def main():
     parser = argparse.ArgumentParser(description=__doc__, formatter_class=argparse.RawDescriptionHelpFormatter)
-    parser.add_argument("command", choices=("steps", "run", "states", "storm", "table"))
+    parser.add_argument("command", choices=("steps", "run", "states", "getters", "storm", "table"))
     parser.add_argument("--protocol", choices=("msi", "mesi"), default="msi")
     parser.add_argument("--cores", type=int, default=2)
     parser.add_argument("--blocks", type=int, default=4)
@@ -403,7 +437,7 @@ def main():
         if options.command in ("storm", "table"):
             {"storm": storm, "table": table}[options.command](options)
         else:
-            {"steps": steps, "run": run, "states": states}[options.command](options, sys.stdin.buffer.read())
+            {"steps": steps, "run": run, "states": states, "getters": getters}[options.command](options, sys.stdin.buffer.read())
         sys.stdout.flush()
     except BrokenPipeError:  # the reader has gone; nothing is left to flush at the end
         os.dup2(os.open(os.devnull, os.O_WRONLY), sys.stdout.fileno())

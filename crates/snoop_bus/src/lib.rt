@@ -7,6 +7,3 @@ mod transactions;
 
 pub use bus::Bus;
 pub use transactions::Open;
-
-#[cfg(test)]
-mod tests;

@@ -12,6 +12,3 @@ pub use board::Board;
 pub use items::{Came, Did, Item, Sent, Totals};
 pub use log::Log;
 pub use report::write_report;
-
-#[cfg(test)]
-mod tests;

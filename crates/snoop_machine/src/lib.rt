@@ -11,8 +11,6 @@ mod order;
 mod parts;
 mod plan;
 mod respond;
-#[cfg(test)]
-mod tests;
 mod turn;
 
 pub use machine::{Machine, run_steps};

@@ -14,6 +14,3 @@ pub use names::{
 pub use permission::{may_load, may_store};
 pub use table::{cache_cell, mem_cell};
 pub use table_text::{Which, write_table};
-
-#[cfg(test)]
-mod tests;

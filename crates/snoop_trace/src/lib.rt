@@ -21,6 +21,3 @@ pub use sink::{AnyWriter, CHUNK, Sink, spill, write_whole};
 pub use source::{AnyReader, Source};
 pub use step::{Op, Row, Step};
 pub use text::{read_rows, read_steps};
-
-#[cfg(test)]
-mod tests;

@@ -1,7 +1,7 @@
 //! Out of memory: the test passes with any one growth refused. tools/refusals.py refuses each in turn.
 
-use crate::tests::TABLES;
-use crate::write_table;
+use crate::rules::TABLES;
+use snoop_rules::write_table;
 use std::test::Fail;
 
 #[test]

@@ -1,6 +1,6 @@
 //! Out of memory: the test passes with any one growth refused. tools/refusals.py refuses each in turn.
 
-use crate::{Shape, TextFault, WriteFault, read_steps, write_steps};
+use snoop_trace::{Shape, TextFault, WriteFault, read_steps, write_steps};
 use std::test::Fail;
 
 static TEXT: &[u8] = b"S,0,64,7\nO,0\nR,64\n";

@@ -1,8 +1,8 @@
 //! Out of memory: the test passes with any one growth refused. tools/refusals.py refuses each in turn.
 ghost use Rattle.std.specs.Prelude.{◌≡◌, ◌<◌, length, IfOk};
 
-use crate::Bus;
-use crate::tests::{issue, small_bus};
+use crate::bus::{issue, small_bus};
+use snoop_bus::Bus;
 use snoop_rules::Request;
 use snoop_trace::NoMemory;
 use std::alloc::Global;
@@ -38,7 +38,9 @@ fn a_queue_grows_by_each_request(rt: HostRuntime) -> Result<(), Fail> {
     assert_eq!(rt; bus.head(1), Some((Request::GetM, 3)));
     issue_at_last(&mut bus, 1, Request::GetS, 0)?;
     issue_at_last(&mut bus, 0, Request::GetS, 2)?;
-    assert_eq!(rt; bus.head(1), Some((Request::GetM, 3)));
-    assert_eq!(rt; bus.head(0), Some((Request::GetS, 2)));
+    assert_eq!(rt;
+        (bus.head(0), bus.head(1)),
+        (Some((Request::GetS, 2)), Some((Request::GetM, 3)))
+    );
     Ok(())
 }

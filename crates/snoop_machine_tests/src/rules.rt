@@ -1,7 +1,6 @@
 mod memory;
 
-use crate::table::STATES;
-use crate::{Protocol, Which, may_load, may_store, write_table};
+use snoop_rules::{CacheState, Protocol, Which, may_load, may_store, write_table};
 use snoop_trace::{AnyWriter, WriteFault};
 use std::alloc::Global;
 use std::io;
@@ -250,34 +249,41 @@ fn stops_at_a_failing_writer(rt: HostRuntime) -> Result<(), Fail> {
     ] {
         let beginning = table.as_bytes().get(..room).unwrap_or(&[]);
         let (written, held) = cut_off(rt.alloc(), protocol, which, room);
-        assert_eq!(rt; written, Err(WriteFault::Write));
-        assert_eq!(rt; held.as_slice(), beginning);
+        assert_eq!(rt;
+            (written, held.as_slice()),
+            (Err(WriteFault::Write), beginning)
+        );
     }
     Ok(())
 }
 
+// Whether a core may load in the state and whether it may store; `E` and `EiA` are MESI's alone.
+const PERMISSIONS: [(CacheState, bool, bool); 13] = [
+    (CacheState::I, false, false),
+    (CacheState::IsAd, false, false),
+    (CacheState::IsD, false, false),
+    (CacheState::ImAd, false, false),
+    (CacheState::ImD, false, false),
+    (CacheState::S, true, false),
+    (CacheState::SmAd, true, false),
+    (CacheState::SmD, true, false),
+    (CacheState::E, true, true),
+    (CacheState::M, true, true),
+    (CacheState::EiA, true, true),
+    (CacheState::MiA, true, true),
+    (CacheState::IiA, false, false),
+];
+
 #[test]
-fn readers_and_writers(rt: HostRuntime) -> Result<(), Fail> {
-    for (protocol, readers, writers) in [
-        (Protocol::Msi, "S SM_AD SM_D M MI_A ", "M MI_A "),
-        (
-            Protocol::Mesi,
-            "S SM_AD SM_D E M EI_A MI_A ",
-            "E M EI_A MI_A ",
-        ),
-    ] {
-        let mut may_read = String::new(rt.alloc());
-        let mut may_write = String::new(rt.alloc());
-        for state in &STATES {
-            if may_load(protocol, *state) {
-                write!(may_read, "{state} ")?;
-            }
-            if may_store(protocol, *state) {
-                write!(may_write, "{state} ")?;
-            }
+fn readers_and_writers(rt: HostRuntime) {
+    for (state, loads, stores) in PERMISSIONS {
+        let of_mesi_alone = matches!(&state, CacheState::E | CacheState::EiA);
+        for (protocol, has_state) in [(Protocol::Msi, !of_mesi_alone), (Protocol::Mesi, true)] {
+            assert_eq!(rt;
+                (may_load(protocol, state), may_store(protocol, state)),
+                (has_state && loads, has_state && stores),
+                "{state} under {protocol}"
+            );
         }
-        assert_eq!(rt; may_read.as_str(), readers);
-        assert_eq!(rt; may_write.as_str(), writers);
     }
-    Ok(())
 }

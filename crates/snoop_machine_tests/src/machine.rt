@@ -1,9 +1,5 @@
-mod core_set;
-mod holders;
 mod lines;
 mod memory;
-mod plain_reading;
 mod runs;
 mod steps;
-mod storm;
 mod support;

@@ -1,10 +1,11 @@
 //! Out of memory: each test passes with any one growth refused. tools/refusals.py refuses each in turn.
 
-use crate::tests::support::{UPGRADE_RACE, add, two_cores};
-use crate::{Machine, Refused};
+use crate::machine::support::{UPGRADE_RACE, two_cores};
+use snoop_machine::{Machine, Refused};
 use snoop_rules::{CacheState, MemState, Protocol};
 use snoop_trace::Shape;
 use std::alloc::Global;
+use std::process::Abort;
 use std::test::Fail;
 
 /// What a machine shows of block 0: its state in both caches and in memory, its waiting requests, and how many items there are.
@@ -14,6 +15,18 @@ struct BlockSeen {
     memory: Option<MemState>,
     waiting: [bool; 2],
     items: usize,
+}
+
+fn lines_of(machine: &Machine) -> [Option<usize>; 2] {
+    [machine.lines(0), machine.lines(1)]
+}
+
+/// Counts a step that was taken; of the race, one alone is refused.
+fn count(rt: &impl Abort, taken: &mut u32, outcome: Result<(), Refused>) {
+    match outcome {
+        Ok(()) => *taken = taken.saturating_add(1),
+        Err(cause) => assert_eq!(rt; cause, Refused::BusTaken(0)),
+    }
 }
 
 fn seen_of(machine: &Machine) -> BlockSeen {
@@ -37,50 +50,38 @@ fn at_reset(alloc: Global) -> Result<Machine, Fail> {
 #[test]
 fn a_step_out_of_memory_changes_nothing_and_is_taken_again(rt: HostRuntime) -> Result<(), Fail> {
     let mut machine = at_reset(rt.alloc())?;
-    let mut taken = 0u64;
+    let mut taken = 0;
     for step in UPGRADE_RACE {
-        let before = seen_of(&machine);
-        let lines = [machine.lines(0), machine.lines(1)];
+        let before = (seen_of(&machine), lines_of(&machine));
         let mut outcome = machine.step(step);
         if outcome == Err(Refused::NoMemory) {
-            assert_eq!(rt; seen_of(&machine), before);
-            assert_eq!(rt; [machine.lines(0), machine.lines(1)], lines);
+            assert_eq!(rt; (seen_of(&machine), lines_of(&machine)), before);
             outcome = machine.step(step);
         }
-        match outcome {
-            Ok(_) => add(&mut taken, true),
-            Err(cause) => assert_eq!(rt; cause, Refused::BusTaken(0)),
-        }
+        count(&rt, &mut taken, outcome.map(|_| ()));
     }
-    assert_eq!(rt; taken, 12);
-    assert_eq!(rt; machine.log().flat(0), Some(5));
-    assert_eq!(rt; machine.log().items().len(), 8);
+    let log = machine.log();
+    assert_eq!(rt; (taken, log.flat(0), log.len()), (12, Some(5), 8));
     Ok(())
 }
 
 #[test]
 fn a_prepared_step_takes_no_memory(rt: HostRuntime) -> Result<(), Fail> {
     let mut machine = at_reset(rt.alloc())?;
-    let mut taken = 0u64;
+    let mut taken = 0;
     for step in UPGRADE_RACE {
-        let before = seen_of(&machine);
-        let lines = [machine.lines(0), machine.lines(1)];
+        let before = (seen_of(&machine), lines_of(&machine));
         let mut prepared = machine.prepare(step);
         if prepared == Err(Refused::NoMemory) {
-            assert_eq!(rt; seen_of(&machine), before);
-            assert_eq!(rt; [machine.lines(0), machine.lines(1)], lines);
+            assert_eq!(rt; (seen_of(&machine), lines_of(&machine)), before);
             prepared = machine.prepare(step);
         }
-        assert_eq!(rt; seen_of(&machine), before);
-        match prepared {
-            Ok(_) => {
-                assert!(rt; machine.step(step).is_ok());
-                add(&mut taken, true);
-            }
-            Err(cause) => assert_eq!(rt; cause, Refused::BusTaken(0)),
+        assert_eq!(rt; seen_of(&machine), before.0);
+        if prepared.is_ok() {
+            assert!(rt; machine.step(step).is_ok());
         }
+        count(&rt, &mut taken, prepared.map(|_| ()));
     }
-    assert_eq!(rt; taken, 12);
-    assert_eq!(rt; machine.log().flat(0), Some(5));
+    assert_eq!(rt; (taken, machine.log().flat(0)), (12, Some(5)));
     Ok(())
 }

@@ -1,6 +1,6 @@
 //! What the tests share.
 
-use crate::Machine;
+use snoop_machine::Machine;
 use snoop_rules::Protocol;
 use snoop_trace::{Op, Shape, Step};
 use std::alloc::Global;
@@ -60,17 +60,4 @@ pub fn order(core: u32) -> Step {
 
 pub fn respond(block: u32) -> Step {
     Step::Respond { block }
-}
-
-/// A storm's next number: the upper 31 bits of a linear congruential generator.
-pub fn next(seed: &mut u64) -> u64 {
-    *seed = seed
-        .wrapping_mul(6364136223846793005)
-        .wrapping_add(1442695040888963407);
-    *seed >> 33
-}
-
-/// Counts one more, where there is one.
-pub fn add(count: &mut u64, one_more: bool) {
-    *count = count.saturating_add(u64::from(one_more));
 }

@@ -1,4 +1,6 @@
-use crate::{
+//! Readers and writers that fail, stop short or take little.
+
+use snoop_trace::{
     AnyReader, AnyWriter, Op, Shape, Step, TextFault, WriteFault, read_rows, read_steps,
     write_steps,
 };
@@ -6,6 +8,18 @@ use std::alloc::Global;
 use std::io;
 use std::io::{ErrorKind, Read, Write};
 use std::test::Fail;
+
+const STEPS: [Step; 3] = [
+    Step::Ask {
+        core: 0,
+        block: 1,
+        op: Op::Store(7),
+    },
+    Step::Order { core: 0 },
+    Step::Respond { block: 1 },
+];
+
+const TEXT: &[u8] = b"S,0,64,7\nO,0\nR,64\n";
 
 // Gives at most so many bytes a call, and fails once so many are given in all.
 #[derive(Drop)]
@@ -29,45 +43,29 @@ impl Read for Failing<'_> {
 
 #[test]
 fn a_reader_that_fails(rt: HostRuntime) -> Result<(), Fail> {
-    let alloc = rt.alloc();
     let shape = Shape::new(2, 4, 64)?;
-    let text = b"S,0,64,7\nO,0\nR,64\nL,1,127\nO,1\nR,64\n".as_slice();
-    let wanted = [
-        Step::Ask {
-            core: 0,
-            block: 1,
-            op: Op::Store(7),
-        },
-        Step::Order { core: 0 },
-        Step::Respond { block: 1 },
-        Step::Ask {
-            core: 1,
-            block: 1,
-            op: Op::Load,
-        },
-        Step::Order { core: 1 },
-        Step::Respond { block: 1 },
-    ];
+    let text = TEXT;
     for a_call in [1, 5, 100] {
         for left in 0..text.len() {
-            let found = read_steps(alloc, AnyReader(Failing { text, a_call, left }), shape).err();
+            let reader = AnyReader(Failing { text, a_call, left });
+            let found = read_steps(rt.alloc(), reader, shape).err();
             assert_eq!(rt; found, Some(TextFault::Read), "after {left} bytes");
         }
         let left = 100;
-        let steps = read_steps(alloc, AnyReader(Failing { text, a_call, left }), shape)?;
-        assert_eq!(rt; steps.as_slice(), wanted.as_slice());
+        let steps = read_steps(rt.alloc(), AnyReader(Failing { text, a_call, left }), shape)?;
+        assert_eq!(rt; steps.as_slice(), STEPS.as_slice());
     }
     Ok(())
 }
 
 #[test]
 fn an_earlier_faulty_record_decides(rt: HostRuntime) -> Result<(), Fail> {
-    let alloc = rt.alloc();
     let shape = Shape::new(2, 4, 64)?;
     let text = b"L,0,0\nO,0\nL,1,64\n".as_slice();
     for a_call in [1, 100] {
         for left in 0..text.len() {
-            let found = read_rows(alloc, AnyReader(Failing { text, a_call, left }), shape).err();
+            let reader = AnyReader(Failing { text, a_call, left });
+            let found = read_rows(rt.alloc(), reader, shape).err();
             let wanted = if left < 10 {
                 TextFault::Read
             } else {
@@ -128,46 +126,31 @@ impl Write for Stopping {
     }
 }
 
-fn some_steps() -> [Step; 3] {
-    [
-        Step::Ask {
-            core: 0,
-            block: 1,
-            op: Op::Store(7),
-        },
-        Step::Order { core: 0 },
-        Step::Respond { block: 1 },
-    ]
-}
-
 #[test]
 fn a_writer_that_fails(rt: HostRuntime) -> Result<(), Fail> {
     let alloc = rt.alloc();
     let shape = Shape::new(2, 4, 64)?;
-    let text = b"S,0,64,7\nO,0\nR,64\n".as_slice();
     for failure in [Failure::Refuses, Failure::TakesNothing] {
-        for (a_call, calls) in [(1, text.len()), (100, 1)] {
-            for call in 0..calls {
+        for (a_call, calls) in [(1, TEXT.len()), (100, 1)] {
+            for call in 0..=calls {
                 let mut writer = AnyWriter(Stopping::new(alloc, a_call, call, failure));
-                let found = write_steps(alloc, &mut writer, shape, &some_steps());
-                assert_eq!(rt; found, Err(WriteFault::Write), "at call {call}");
-                assert_eq!(rt; writer.0.held.len(), call, "at call {call}");
-                assert!(rt; text.starts_with(&writer.0.held), "at call {call}");
-                assert_eq!(rt; writer.0.calls_after, 1, "at call {call}");
+                let found = write_steps(alloc, &mut writer, shape, &STEPS);
+                let Stopping {
+                    held,
+                    calls_after,
+                    ..
+                } = &writer.0;
+                let wanted = if call < calls {
+                    (Err(WriteFault::Write), call, 1)
+                } else {
+                    (Ok(()), TEXT.len(), 0)
+                };
+                assert_eq!(rt; (found, held.len(), *calls_after), wanted, "at call {call}");
+                assert!(rt; TEXT.starts_with(held), "at call {call}");
             }
-            let mut writer = AnyWriter(Stopping::new(alloc, a_call, calls, failure));
-            write_steps(alloc, &mut writer, shape, &some_steps())?;
-            assert_eq!(rt; writer.0.held.as_slice(), text);
-            assert_eq!(rt; writer.0.calls_after, 0);
         }
     }
-    Ok(())
-}
-
-#[test]
-fn no_steps_are_no_calls(rt: HostRuntime) -> Result<(), Fail> {
-    let alloc = rt.alloc();
-    let shape = Shape::new(2, 4, 64)?;
+    // No steps are no calls.
     let mut writer = AnyWriter(Stopping::new(alloc, 1, 0, Failure::Refuses));
     write_steps(alloc, &mut writer, shape, &[])?;
     assert_eq!(rt; writer.0.calls_after, 0);

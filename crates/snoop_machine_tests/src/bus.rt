@@ -1,0 +1,87 @@
+ghost use Rattle.std.specs.Prelude.{◌≡◌, ◌<◌, length, IfOk};
+
+mod memory;
+
+use snoop_bus::{Bus, Open};
+use snoop_rules::{Payload, Request};
+use snoop_trace::{NoMemory, Shape};
+use std::alloc::Global;
+use std::test::Fail;
+
+// A bus of 2 cores and 4 blocks.
+fn small_bus(alloc: Global) -> Result<Bus, NoMemory>
+    ensures queues { IfOk result (λ bus. length bus.queues ≡ 2) }
+    ensures transactions { IfOk result (λ bus. length bus.transactions ≡ 4) }
+{
+    match Shape::new(2, 4, 64) {
+        Ok(shape) => Bus::new(alloc, shape),
+        Err(_) => Err(NoMemory),
+    }
+}
+
+// Makes room for a request and issues it.
+fn issue(bus: &mut Bus, core: u32, request: Request, block: u32) -> Result<(), NoMemory>
+    requires core { core < length bus.old.queues }
+    requires block { block < length bus.old.transactions }
+    ensures queues { length bus.new.queues ≡ length bus.old.queues }
+    ensures transactions { length bus.new.transactions ≡ length bus.old.transactions }
+{
+    bus.reserve(core)?;
+    bus.issue(core, request, block);
+    Ok(())
+}
+
+// Orders the core's oldest request, if it has one and the block has no open transaction.
+fn start(bus: &mut Bus, core: u32, payload: Payload, value: u64, from: Option<u32>) -> bool
+    requires core { core < length bus.old.queues }
+    ensures queues { length bus.new.queues ≡ length bus.old.queues }
+    ensures transactions { length bus.new.transactions ≡ length bus.old.transactions }
+{
+    let Some((_, block)) = bus.head(core) else {
+        return false;
+    };
+    if bus.open(block).is_some() {
+        return false;
+    }
+    bus.start(core, payload, value, from);
+    true
+}
+
+#[test]
+fn requests_from_issue_to_response(rt: HostRuntime) -> Result<(), Fail> {
+    let mut bus = small_bus(rt.alloc())?;
+    issue(&mut bus, 0, Request::GetM, 3)?;
+    issue(&mut bus, 1, Request::PutM, 3)?;
+    issue(&mut bus, 1, Request::GetS, 2)?;
+    let opened = Open {
+        core: 1,
+        request: Request::PutM,
+        block: 3,
+        payload: Payload::NoData,
+        value: 0,
+        from: Some(1),
+    };
+
+    // A block that is taken waits; the core's next request, for another block, does not.
+    let started = [
+        start(&mut bus, 1, Payload::NoData, 0, Some(1)),
+        start(&mut bus, 0, Payload::Data, 7, None),
+        start(&mut bus, 1, Payload::Data, 8, Some(0)),
+    ];
+    assert_eq!(rt;
+        (started, bus.head(0), bus.head(1), bus.open(3)),
+        (
+            [true, false, true],
+            Some((Request::GetM, 3)),
+            None,
+            Some(opened)
+        )
+    );
+    let finished = [bus.finish(3), bus.finish(3), bus.finish(0)];
+    let again = start(&mut bus, 0, Payload::Data, 7, None);
+    assert_eq!(rt; (finished, again), ([Some(opened), None, None], true));
+
+    bus.reserve(1)?;
+    assert_eq!(rt; (bus.has_room(1), bus.has_room(2)), (true, false));
+    Ok(())
+}

@@ -1,0 +1,297 @@
+mod memory;
+
+use snoop_history::{Board, Came, Did, Item, Log, Sent, Totals, write_report};
+use snoop_rules::{Payload, Request};
+use snoop_trace::{AnyWriter, NoMemory, Shape, WriteFault};
+use std::alloc::Global;
+use std::io;
+use std::io::{ErrorKind, Write};
+use std::test::Fail;
+
+fn did(core: u32, number: u64, block: u32, load: bool, value: u64) -> Did {
+    Did {
+        core,
+        number,
+        block,
+        load,
+        value,
+        hit: false,
+    }
+}
+
+fn sent(core: u32, request: Request, block: u32) -> Item {
+    Item::Sent(Sent {
+        core,
+        request,
+        block,
+    })
+}
+
+fn came(request: Request, from: Option<u32>, did: Did) -> Item {
+    Item::Came(
+        Came {
+            core: did.core,
+            request,
+            block: did.block,
+            from,
+            payload: Payload::Data,
+        },
+        Some(did),
+    )
+}
+
+// Core 0 stores 7 in block 1, and core 1 loads it: the scene "block boundary".
+fn block_boundary() -> [Item; 4] {
+    [
+        sent(0, Request::GetM, 1),
+        came(Request::GetM, None, did(0, 0, 1, false, 7)),
+        sent(1, Request::GetS, 1),
+        came(Request::GetS, Some(0), did(1, 0, 1, true, 7)),
+    ]
+}
+
+// Core 0 loads block 1 before block 0, both open at once: the scene "two blocks open".
+fn two_blocks_open() -> [Item; 4] {
+    [
+        sent(0, Request::GetS, 0),
+        sent(0, Request::GetS, 1),
+        came(Request::GetS, None, did(0, 0, 1, true, 0)),
+        came(Request::GetS, None, did(0, 1, 0, true, 0)),
+    ]
+}
+
+// A log of items that it takes; others are left out.
+fn log_of(alloc: Global, shape: Shape, items: &[Item]) -> Result<Log, NoMemory> {
+    let mut log = Log::new(alloc, shape)?;
+    for item in items {
+        log.reserve()?;
+        if log.has_room() && log.takes(*item) {
+            log.push(*item);
+        }
+    }
+    Ok(log)
+}
+
+fn board_of(alloc: Global, shape: Shape, items: &[Item]) -> Result<Board, NoMemory> {
+    let mut board = Board::new(alloc, shape)?;
+    for item in items {
+        board.absorb(*item);
+    }
+    Ok(board)
+}
+
+// What core 0's store and core 1's load of block 1 count.
+const BOUNDARY_TOTALS: Totals = Totals {
+    loads: 1,
+    load_hits: 0,
+    stores: 1,
+    store_hits: 0,
+    get_s: 1,
+    get_m: 1,
+    put_m: 0,
+    from_memory: 1,
+    from_caches: 1,
+    writebacks: 0,
+    clean: 0,
+    stale: 0,
+};
+
+#[test]
+fn a_log_and_its_copy(rt: HostRuntime) -> Result<(), Fail> {
+    let shape = Shape::new(2, 4, 64)?;
+    let whole = log_of(rt.alloc(), shape, block_boundary().as_slice())?;
+    let copy = whole.copy()?;
+    let [.., last] = block_boundary();
+    let performed = [did(0, 0, 1, false, 7), did(1, 0, 1, true, 7)];
+    for log in [&whole, &copy] {
+        let answers = [log.answers(0)?, log.answers(1)?];
+        assert_eq!(rt;
+            (log.items(), log.len(), log.is_empty(), log.item(3)),
+            (block_boundary().as_slice(), 4, false, Some(last))
+        );
+        assert_eq!(rt;
+            (
+                [log.flat(0), log.flat(1), log.flat(4)],
+                [log.count(0), log.count(1), log.count(2)],
+                [log.last(0), log.last(1), log.last(2)],
+                answers.each_ref().map(|dids| dids.as_slice()),
+                log.totals(),
+            ),
+            (
+                [Some(0), Some(7), None],
+                [Some(1), Some(1), None],
+                [Some(performed[0]), Some(performed[1]), None],
+                [&performed[..1], &performed[1..]],
+                BOUNDARY_TOTALS,
+            )
+        );
+    }
+    Ok(())
+}
+
+#[test]
+fn a_board_of_the_block_boundary(rt: HostRuntime) -> Result<(), Fail> {
+    let shape = Shape::new(2, 4, 64)?;
+    let board = board_of(rt.alloc(), shape, block_boundary().as_slice())?;
+    assert_eq!(rt;
+        (
+            [
+                board.has_shape(shape),
+                board.has_shape(Shape::new(3, 4, 64)?)
+            ],
+            [board.value(0), board.value(1), board.value(4)],
+            [board.count(0), board.count(1), board.count(2)],
+            [board.last(0), board.last(1), board.last(2)],
+            board.totals(),
+        ),
+        (
+            [true, false],
+            [Some(0), Some(7), None],
+            [Some(1), Some(1), None],
+            [
+                Some(did(0, 0, 1, false, 7)),
+                Some(did(1, 0, 1, true, 7)),
+                None
+            ],
+            BOUNDARY_TOTALS,
+        )
+    );
+    Ok(())
+}
+
+#[test]
+fn what_an_item_is_of(rt: HostRuntime) {
+    let loaded = did(1, 0, 3, true, 7);
+    for (item, performed) in [
+        (Item::Did(loaded), Some(loaded)),
+        (sent(1, Request::GetS, 3), None),
+        (came(Request::GetS, Some(0), loaded), Some(loaded)),
+    ] {
+        assert_eq!(rt; (item.core(), item.block(), item.did()), (1, 3, performed));
+    }
+}
+
+const EMPTY: &str = "\
+loads 0 hits 0
+stores 0 hits 0
+GetS 0 GetM 0 PutM 0
+from memory 0 from caches 0
+writebacks 0 clean 0 stale 0
+";
+
+const BLOCK_BOUNDARY: &str = "\
+loads 1 hits 0
+stores 1 hits 0
+GetS 1 GetM 1 PutM 0
+from memory 1 from caches 1
+writebacks 0 clean 0 stale 0
+block 1 value 7
+";
+
+const TWO_BLOCKS_OPEN: &str = "\
+loads 2 hits 0
+stores 0 hits 0
+GetS 2 GetM 0 PutM 0
+from memory 2 from caches 0
+writebacks 0 clean 0 stale 0
+block 0 value 0
+block 1 value 0
+";
+
+const LATER_BLOCK_FIRST: &str = "\
+loads 1 hits 1
+stores 1 hits 1
+GetS 0 GetM 0 PutM 0
+from memory 0 from caches 0
+writebacks 0 clean 0 stale 0
+block 3 value 18446744073709551615
+block 0 value 0
+";
+
+const OF_ANOTHER_BLOCK: &str = "\
+loads 0 hits 0
+stores 1 hits 0
+GetS 0 GetM 0 PutM 0
+from memory 1 from caches 0
+writebacks 0 clean 0 stale 0
+block 0 value 0
+block 1 value 7
+";
+
+#[test]
+fn reports(rt: HostRuntime) -> Result<(), Fail> {
+    let shape = Shape::new(2, 4, 64)?;
+    let hit = |core, block, load, value| {
+        Item::Did(Did {
+            core,
+            number: 0,
+            block,
+            load,
+            value,
+            hit: true,
+        })
+    };
+    let hits = [hit(1, 3, false, u64::MAX), hit(0, 0, true, 0)];
+    let operation_of_another_block = [Item::Came(
+        Came {
+            core: 0,
+            request: Request::GetM,
+            block: 0,
+            from: None,
+            payload: Payload::Data,
+        },
+        Some(did(0, 0, 1, false, 7)),
+    )];
+    for (items, text) in [
+        ([].as_slice(), EMPTY),
+        (block_boundary().as_slice(), BLOCK_BOUNDARY),
+        (two_blocks_open().as_slice(), TWO_BLOCKS_OPEN),
+        (hits.as_slice(), LATER_BLOCK_FIRST),
+        (operation_of_another_block.as_slice(), OF_ANOTHER_BLOCK),
+    ] {
+        let log = log_of(rt.alloc(), shape, items)?;
+        let mut out = Vec::new(rt.alloc());
+        write_report(rt.alloc(), &mut out, &log)?;
+        assert_eq!(rt; out.as_slice(), text.as_bytes());
+    }
+    Ok(())
+}
+
+// A writer that takes so many bytes in all, at most 5 a time, and then fails.
+#[derive(Drop)]
+struct Brief {
+    held: Vec<u8>,
+    left: usize,
+}
+
+impl Write for Brief {
+    fn write(&mut self, buf: &[u8]) -> io::Result<usize> {
+        let taken = buf.len().min(self.left).min(5);
+        if taken == 0 {
+            return Err(io::Error::from(ErrorKind::WriteZero));
+        }
+        self.held.extend_from_slice(&buf[..taken])?;
+        self.left -= taken;
+        Ok(taken)
+    }
+
+    fn flush(&mut self) -> io::Result<()> {
+        Ok(())
+    }
+}
+
+#[test]
+fn failing_writer(rt: HostRuntime) -> Result<(), Fail> {
+    let shape = Shape::new(2, 4, 64)?;
+    let log = log_of(rt.alloc(), shape, block_boundary().as_slice())?;
+    let mut writer = AnyWriter(Brief {
+        held: Vec::new(rt.alloc()),
+        left: 12,
+    });
+    let written = write_report(rt.alloc(), &mut writer, &log);
+    assert_eq!(rt;
+        (written, writer.0.held.as_slice()),
+        (Err(WriteFault::Write), b"loads 1 hits".as_slice())
+    );
+    Ok(())
+}

@@ -1,0 +1,127 @@
+//! Lists of steps, taken whole.
+
+use crate::machine::support::{UPGRADE_RACE, ask, machine_of, order, respond, two_cores};
+use snoop_history::{Came, Did, Item, Totals};
+use snoop_machine::{Machine, run_steps};
+use snoop_rules::{CacheState, Payload, Protocol, Request};
+use snoop_trace::{Op, Step};
+use std::alloc::Global;
+use std::test::Fail;
+
+#[test]
+fn a_refused_step_is_passed_over_and_not_counted(rt: HostRuntime) -> Result<(), Fail> {
+    let mut machine = two_cores(rt.alloc())?;
+    let begun = run_steps(&mut machine, &UPGRADE_RACE[..9]);
+    let state = machine.state(1, 0);
+    assert_eq!(rt; (begun, state), (9, Some(CacheState::SmD)));
+    let ended = run_steps(&mut machine, &UPGRADE_RACE[9..]);
+    assert_eq!(rt;
+        (ended, machine.kept(0, 0), machine.log().flat(0)),
+        (3, Some(5), Some(5))
+    );
+    Ok(())
+}
+
+/// The last item, the last core's value, and the totals.
+fn end_of(machine: &Machine) -> (Option<Item>, Option<u64>, Totals) {
+    let log = machine.log();
+    (
+        log.items().last().copied(),
+        machine.kept(255, 0),
+        log.totals(),
+    )
+}
+
+const LAST_STORE: Item = Item::Came(
+    Came {
+        core: 255,
+        request: Request::GetM,
+        block: 0,
+        from: Some(254),
+        payload: Payload::Data,
+    },
+    Some(Did {
+        core: 255,
+        number: 0,
+        block: 0,
+        load: false,
+        value: 255,
+        hit: false,
+    }),
+);
+
+#[test]
+fn every_core_stores_after_the_one_before_it(rt: HostRuntime) -> Result<(), Fail> {
+    let alloc = rt.alloc();
+    let mut steps = Vec::new(alloc);
+    for core in 0..256_u32 {
+        steps.push(ask(core, 0, Op::Store(core as u64)))?;
+    }
+    for core in 0..256_u32 {
+        steps.extend_from_slice(&[order(core), respond(0)])?;
+    }
+    let mut machine = machine_of(alloc, Protocol::Msi, 256)?;
+    let taken = run_steps(&mut machine, &steps);
+    let totals = Totals {
+        stores: 256,
+        get_m: 256,
+        from_memory: 1,
+        from_caches: 255,
+        ..Totals::default()
+    };
+    assert_eq!(rt;
+        (taken, end_of(&machine)),
+        (768, (Some(LAST_STORE), Some(255), totals))
+    );
+    Ok(())
+}
+
+/// Each core stores the block and asks to evict it, and only then are the evictions ordered.
+fn late_evictions(alloc: Global) -> Result<Vec<Step>, Fail> {
+    let mut steps = Vec::new(alloc);
+    for core in 0..256_u32 {
+        let store = ask(core, 0, Op::Store(core as u64));
+        let evict = ask(core, 0, Op::Evict);
+        steps.extend_from_slice(&[store, order(core), respond(0), evict])?;
+    }
+    for core in 0..256_u32 {
+        steps.extend_from_slice(&[order(core), respond(0)])?;
+    }
+    Ok(steps)
+}
+
+/// The last writeback, which alone brings data.
+const WRITTEN_BACK: Item = Item::Came(
+    Came {
+        core: 255,
+        request: Request::PutM,
+        block: 0,
+        from: Some(255),
+        payload: Payload::Data,
+    },
+    None,
+);
+
+#[test]
+fn only_the_last_of_all_writebacks_is_not_stale(rt: HostRuntime) -> Result<(), Fail> {
+    let steps = late_evictions(rt.alloc())?;
+    let totals = Totals {
+        stores: 256,
+        get_m: 256,
+        put_m: 256,
+        from_memory: 1,
+        from_caches: 255,
+        writebacks: 1,
+        stale: 255,
+        ..Totals::default()
+    };
+    for protocol in [Protocol::Msi, Protocol::Mesi] {
+        let mut machine = machine_of(rt.alloc(), protocol, 256)?;
+        let taken = run_steps(&mut machine, &steps);
+        assert_eq!(rt;
+            (taken, end_of(&machine), machine.mem_value(0)),
+            (1536, (Some(WRITTEN_BACK), None, totals), Some(255))
+        );
+    }
+    Ok(())
+}

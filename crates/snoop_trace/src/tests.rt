@@ -1,6 +1,0 @@
-mod memory;
-mod reading;
-mod rows;
-mod shapes;
-mod streams;
-mod writing;
