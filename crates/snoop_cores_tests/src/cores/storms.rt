@@ -94,9 +94,8 @@ fn storm<R: Threads + Wait + Sync + Abort>(
         let Gathered { log, steps } = perform(rt, alloc, protocol, cores, rows, in_step)?;
         let mut fresh = Machine::reset(alloc, protocol, Shape::new(cores, 4, 64)?)?;
         let taken = run_steps(&mut fresh, steps.as_slice());
-        assert_eq!(rt;
-            (taken, fresh.log().items()),
-            (steps.len(), log.items()),
+        assert!(rt;
+            taken == steps.len() && fresh.log().items() == log.items(),
             "of {cores} cores"
         );
         for core in 0..cores {
