@@ -4,8 +4,6 @@
 mod bench;
 mod outcome;
 mod recorder;
-#[cfg(test)]
-mod tests;
 mod work;
 
 pub use bench::Bench;

@@ -1,10 +1,63 @@
-mod gates;
-mod gatherings;
-mod memory;
-mod one_thread;
-mod readings;
-mod refusals;
-mod rows;
-mod scene;
-mod storms;
-mod turns;
+//! What only the lock itself shows; the other tests stand in the crate `snoop_cores_tests`.
+
+use crate::{GatherFault, SeatFault, Shared, Turn, Work, end_seats, end_watches, gather};
+use snoop_rules::Protocol;
+use snoop_trace::{Op, Shape};
+use std::test::Fail;
+
+#[test]
+fn readings_while_the_lock_is_held(rt: HostRuntime) -> Result<(), Fail> {
+    let made = Shared::new(&rt, rt.alloc(), Protocol::Msi, Shape::new(2, 4, 64)?, 1);
+    let Ok((shared, mut seats, mut watches)) = made else {
+        return Err(Fail::from("a shared machine"));
+    };
+    let store = Work {
+        block: 0,
+        op: Op::Store(7),
+    };
+    let mut held = shared.lock(&rt);
+    let watched = watches
+        .get_mut(0)
+        .map(|watch| (watch.totals().is_ok(), watch.value(0)));
+    let seated = seats
+        .get_mut(0)
+        .map(|seat| (seat.totals().is_ok(), seat.value(0)));
+    let asked = held.advance(&rt, 0, store);
+    drop(held);
+    let pending = gather(&rt, rt.alloc(), &shared, seats.as_slice()).err();
+    let mut held = shared.lock(&rt);
+    let turns = [
+        asked,
+        held.advance(&rt, 0, store),
+        held.advance(&rt, 0, store),
+    ];
+    drop(held);
+    // The seat did not make that store. Its own load is core 0's second operation.
+    let strange = seats.get_mut(0).map(|seat| (
+        seat.load(&rt, 0),
+        seat.store(&rt, 1, 2),
+        seat.load(&rt, 4),
+    ));
+    end_seats(&rt, seats);
+    end_watches(&rt, watches);
+    shared.end(&rt);
+    assert_eq!(rt;
+        (watched, seated),
+        (Some((true, Ok(0))), Some((true, Ok(0))))
+    );
+    assert_eq!(rt;
+        (turns, pending),
+        (
+            [Ok(Turn::Going), Ok(Turn::Going), Ok(Turn::Stored)],
+            Some(GatherFault::Pending { core: 0 }),
+        )
+    );
+    let Some((Err(SeatFault::Stranger(did)), again, outside)) = strange else {
+        return Err(Fail::from("no stranger"));
+    };
+    assert_eq!(rt;
+        (did.number, again, outside),
+        (1, Err(SeatFault::Stranger(did)), Err(SeatFault::NoBlock))
+    );
+    Ok(())
+}

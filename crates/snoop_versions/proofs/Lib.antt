@@ -1,4 +1,3 @@
 pub mod Versions
 pub mod Published
 pub mod Shown
-pub mod Followed

@@ -10,6 +10,3 @@ mod writer;
 
 pub use reader::{Readers, VersionReader};
 pub use writer::VersionWriter;
-
-#[cfg(test)]
-mod tests;

@@ -1,20 +1,21 @@
 //! Out of memory: the test passes with any one growth refused. tools/refusals.py refuses each in turn.
 
-use crate::tests::store;
-use crate::{AdvanceFault, Bench, Turn, Work};
+use crate::bench::turns::store;
+use snoop_cores::{AdvanceFault, Bench, Turn};
 use snoop_rules::Protocol;
 use snoop_trace::Shape;
 use std::sync::Wait;
 use std::test::Fail;
 
-// Core 0's next turn, taken again where it was out of memory; `None` where that changed something, or it fails otherwise.
-fn turn<R: Wait>(rt: &R, bench: &mut Bench, work: Work) -> Option<Turn> {
+// Core 0's next turn of its store of 5, taken again where it was out of memory; `None` where that changed something, or it fails
+// otherwise.
+fn turn<R: Wait>(rt: &R, bench: &mut Bench) -> Option<Turn> {
     let before = (bench.steps().len(), bench.log().len(), bench.work(0));
-    match bench.advance(rt, 0, work) {
+    match bench.advance(rt, 0, store(5)) {
         Ok(turn) => Some(turn),
         Err(AdvanceFault::NoMemory)
             if (bench.steps().len(), bench.log().len(), bench.work(0)) == before => bench
-            .advance(rt, 0, work)
+            .advance(rt, 0, store(5))
             .ok(),
         Err(_) => None,
     }
@@ -29,20 +30,13 @@ fn a_turn_out_of_memory_is_taken_again(rt: HostRuntime) -> Result<(), Fail> {
         Err(_) => Bench::new(alloc, Protocol::Msi, shape, 1)?,
     };
     let turns = [
-        turn(&rt, &mut bench, store(5)),
-        turn(&rt, &mut bench, store(5)),
-        turn(&rt, &mut bench, store(5)),
+        turn(&rt, &mut bench),
+        turn(&rt, &mut bench),
+        turn(&rt, &mut bench),
     ];
-    let steps = bench.steps().len();
-    let items = bench.log().len();
-    let value = bench.log().flat(0);
+    let left = (bench.steps().len(), bench.log().len(), bench.log().flat(0));
     bench.end(&rt);
-    assert_eq!(rt;
-        turns,
-        [Some(Turn::Going), Some(Turn::Going), Some(Turn::Stored)]
-    );
-    assert_eq!(rt; steps, 3);
-    assert_eq!(rt; items, 2);
-    assert_eq!(rt; value, Some(5));
+    let expected = [Some(Turn::Going), Some(Turn::Going), Some(Turn::Stored)];
+    assert_eq!(rt; (turns, left), (expected, (3, 2, Some(5))));
     Ok(())
 }

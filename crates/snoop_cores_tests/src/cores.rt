@@ -1,0 +1,7 @@
+mod gates;
+mod memory;
+mod readings;
+mod refusals;
+mod scene;
+mod seats;
+mod storms;

@@ -1,0 +1,345 @@
+//! Out of memory: each test passes with any one growth refused. tools/refusals.py refuses each in turn.
+
+use crate::cores::scene::{Scene, ask_rows, counts, row, work};
+use snoop_cores::{
+    Free, GatherFault, Gathered, RunFault, SeatFault, Stop, Turn, Work, gather, run_seats,
+};
+use snoop_history::{Came, Did, Item, Log, Sent};
+use snoop_rules::{Payload, Request};
+use snoop_trace::{Op, Row, Step};
+use std::alloc::Global;
+use std::sync::Wait;
+use std::test::Fail;
+use std::thread::Threads;
+
+const STORE_5: Work = Work {
+    block: 0,
+    op: Op::Store(5),
+};
+
+// The steps of two cores on block 0.
+const ASK_0: Step = Step::Ask {
+    core: 0,
+    block: 0,
+    op: Op::Store(5),
+};
+
+const ASK_1: Step = Step::Ask {
+    core: 1,
+    block: 0,
+    op: Op::Store(6),
+};
+
+const LOAD_1: Step = Step::Ask {
+    core: 1,
+    block: 0,
+    op: Op::Load,
+};
+
+const ORDER_0: Step = Step::Order { core: 0 };
+
+const ORDER_1: Step = Step::Order { core: 1 };
+
+const RESPOND: Step = Step::Respond { block: 0 };
+
+/// Core 0 stores 5 in block 0, and core 1 loads it.
+const HANDOVER: [Step; 6] = [ASK_0, ORDER_0, RESPOND, LOAD_1, ORDER_1, RESPOND];
+
+/// The log of the handover.
+const HANDED_OVER: [Item; 4] = [
+    Item::Sent(Sent {
+        core: 0,
+        request: Request::GetM,
+        block: 0,
+    }),
+    Item::Came(
+        Came {
+            core: 0,
+            request: Request::GetM,
+            block: 0,
+            from: None,
+            payload: Payload::Data,
+        },
+        Some(Did {
+            core: 0,
+            number: 0,
+            block: 0,
+            load: false,
+            value: 5,
+            hit: false,
+        }),
+    ),
+    Item::Sent(Sent {
+        core: 1,
+        request: Request::GetS,
+        block: 0,
+    }),
+    Item::Came(
+        Came {
+            core: 1,
+            request: Request::GetS,
+            block: 0,
+            from: Some(0),
+            payload: Payload::Data,
+        },
+        Some(Did {
+            core: 1,
+            number: 0,
+            block: 0,
+            load: true,
+            value: 5,
+            hit: false,
+        }),
+    ),
+];
+
+/// Gathers; out of memory, once more.
+fn gathers<R: Wait>(scene: &Scene, rt: &R, alloc: Global) -> Option<Gathered> {
+    match gather(rt, alloc, &scene.shared, scene.seats.as_slice()) {
+        Err(GatherFault::NoMemory) => scene.gathered(rt, alloc),
+        gathered => gathered.ok(),
+    }
+}
+
+/// Makes again core 0's store of 5, which is pending: its load and a gathering are refused before.
+fn goes_on<R: Wait>(scene: &mut Scene, rt: &R, alloc: Global) -> Option<Result<Turn, SeatFault>> {
+    let loaded = scene.call(rt, 0, work(Op::Load));
+    let gathered = gather(rt, alloc, &scene.shared, scene.seats.as_slice()).err();
+    if (loaded, gathered)
+        != (
+            Some(Err(SeatFault::Busy(STORE_5))),
+            Some(GatherFault::Pending { core: 0 }),
+        )
+    {
+        return None;
+    }
+    scene.call(rt, 0, STORE_5)
+}
+
+/// How many stores of the core the log has.
+fn stores_of(log: &Log, core: u32) -> usize {
+    log.items()
+        .iter()
+        .filter(|item| item.did().is_some_and(|did| did.core == core && !did.load))
+        .count()
+}
+
+#[test]
+fn a_pending_store_is_handed_over_once(rt: HostRuntime) -> Result<(), Fail> {
+    let mut scene = Scene::new(&rt, rt.alloc(), 2)?;
+    let mut stored = scene.call(&rt, 0, STORE_5);
+    if stored == Some(Err(SeatFault::NoMemory)) {
+        stored = goes_on(&mut scene, &rt, rt.alloc());
+    }
+    let own = scene.seats.get_mut(0).and_then(|seat| seat.value(0).ok());
+    let before = scene
+        .watches
+        .get_mut(0)
+        .and_then(|watch| watch.totals().ok());
+    let loaded = scene.call_at_last(&rt, 1, work(Op::Load));
+    let after = scene
+        .watches
+        .get_mut(0)
+        .and_then(|watch| watch.totals().ok());
+    let value = scene
+        .watches
+        .get_mut(0)
+        .and_then(|watch| watch.value(0).ok());
+    let gathered = (
+        gathers(&scene, &rt, rt.alloc()),
+        gathers(&scene, &rt, rt.alloc()),
+    );
+    scene.end(&rt);
+    assert_eq!(rt;
+        (stored, own, loaded, value),
+        (
+            Some(Ok(Turn::Stored)),
+            Some(5),
+            Some(Ok(Turn::Loaded(5))),
+            Some(5)
+        )
+    );
+    assert_eq!(rt;
+        (before.map(counts), after.map(counts)),
+        (
+            Some([0, 0, 1, 0, 0, 1, 0, 1, 0, 0, 0, 0]),
+            Some([1, 0, 1, 0, 1, 1, 0, 1, 1, 0, 0, 0]),
+        )
+    );
+    let (Some(first), Some(second)) = gathered else {
+        return Err(Fail::from("a gathering"));
+    };
+    for Gathered { log, steps } in [first, second] {
+        assert_eq!(rt;
+            (steps.as_slice(), log.items(), stores_of(&log, 0)),
+            (HANDOVER.as_slice(), HANDED_OVER.as_slice(), 1)
+        );
+    }
+    Ok(())
+}
+
+/// The steps where core 0 stores 5 and core 1 then stores 6, and the value that is left. The first is that of a store that is not out of
+/// memory. After one that is, core 0's call is made again after core 1's: its steps go on where they stopped; where its transaction is
+/// open, core 1 ends it, and no step is left.
+const ORDERS: [([Step; 6], u64); 4] = [
+    ([ASK_0, ORDER_0, RESPOND, ASK_1, ORDER_1, RESPOND], 6),
+    ([ASK_0, ORDER_0, ASK_1, RESPOND, ORDER_1, RESPOND], 6),
+    ([ASK_0, ASK_1, ORDER_1, RESPOND, ORDER_0, RESPOND], 5),
+    ([ASK_1, ORDER_1, RESPOND, ASK_0, ORDER_0, RESPOND], 5),
+];
+
+/// Whether the steps have one of the orders, after those of so many loads, and the value is its own.
+fn is_in_order(
+    steps: &[Step],
+    loads: usize,
+    value: Option<u64>,
+    orders: &[([Step; 6], u64)],
+) -> bool {
+    let before = if loads == 0 {
+        0
+    } else {
+        loads.saturating_add(2)
+    };
+    let rest = steps.get(before..);
+    orders.iter().any(|(order, left)| rest == Some(order.as_slice()) && value == Some(*left))
+}
+
+#[test]
+fn another_store_ends_an_open_transaction(rt: HostRuntime) -> Result<(), Fail> {
+    let unrelated = Work {
+        block: 1,
+        op: Op::Load,
+    };
+    let (whole, stopped) = ORDERS.as_slice().split_at(1);
+    // So many loads come first: the growths of the stores fall at other steps.
+    for count in 0..5usize {
+        let mut scene = Scene::new(&rt, rt.alloc(), 2)?;
+        let mut loaded = true;
+        for _ in 0..count {
+            loaded = loaded && scene.call_at_last(&rt, 1, unrelated) == Some(Ok(Turn::Loaded(0)));
+        }
+        let first = scene.call(&rt, 0, STORE_5);
+        let other = scene.call_at_last(&rt, 1, work(Op::Store(6)));
+        let (stored, orders) = if first == Some(Err(SeatFault::NoMemory)) {
+            (goes_on(&mut scene, &rt, rt.alloc()), stopped)
+        } else {
+            (first, whole)
+        };
+        let gathered = gathers(&scene, &rt, rt.alloc());
+        scene.end(&rt);
+        let Some(Gathered { log, steps }) = gathered else {
+            return Err(Fail::from("a gathering"));
+        };
+        let ordered = is_in_order(steps.as_slice(), count, log.flat(0), orders);
+        assert_eq!(rt;
+            (loaded, stored, other, ordered),
+            (true, Some(Ok(Turn::Stored)), Some(Ok(Turn::Stored)), true),
+            "after {count} loads"
+        );
+        assert_eq!(rt;
+            (stores_of(&log, 0), stores_of(&log, 1)),
+            (1, 1),
+            "after {count} loads"
+        );
+    }
+    Ok(())
+}
+
+/// The operation of a row, where it lies in a block.
+fn work_of(row: &Row) -> Option<Work> {
+    let block = u32::try_from(row.address / 64).ok()?;
+    Some(Work { block, op: row.op })
+}
+
+/// Ends the rows of a core that stopped: out of memory at the row that is pending now, which the same call performs.
+fn end_rows<R: Wait>(scene: &mut Scene, rt: &R, rows: &[Row], core: u32, stop: Stop) -> bool {
+    let Stop::Fault(number, SeatFault::NoMemory) = stop else {
+        return false;
+    };
+    let pending = scene
+        .seats
+        .get(core as usize)
+        .and_then(|seat| seat.pending());
+    let mut place = 0u64;
+    for row in rows {
+        if row.core == core {
+            let Some(work) = work_of(row) else {
+                return false;
+            };
+            if place == number && pending != Some(work) {
+                return false;
+            }
+            if place >= number && !matches!(scene.call(rt, core, work), Some(Ok(_))) {
+                return false;
+            }
+            place = place.saturating_add(1);
+        }
+    }
+    place > number
+}
+
+/// Whether no seat has done anything.
+fn is_unused(scene: &mut Scene) -> bool {
+    let totals = scene
+        .watches
+        .get_mut(0)
+        .and_then(|watch| watch.totals().ok());
+    totals.map(counts) == Some([0; 12])
+        && scene.seats.iter().all(|seat| seat.pending().is_none() && seat.answers().is_empty())
+}
+
+/// Lets the seats perform the rows: out of memory nothing ran, and they run when asked again. A core that stopped makes its calls.
+fn run_rows<R: Threads + Wait + Sync>(
+    scene: &mut Scene,
+    rt: &R,
+    alloc: Global,
+    rows: &[Row],
+) -> bool {
+    let mut stops = run_seats(rt, alloc, scene.seats.as_mut_slice(), rows, &Free);
+    if let Err(fault) = stops {
+        if fault != RunFault::NoMemory || !is_unused(scene) {
+            return false;
+        }
+        stops = run_seats(rt, alloc, scene.seats.as_mut_slice(), rows, &Free);
+    }
+    let Ok(stops) = stops else {
+        return false;
+    };
+    for (core, stop) in (0..).zip(stops) {
+        if let Some(stop) = stop
+            && !end_rows(scene, rt, rows, core, stop)
+        {
+            return false;
+        }
+    }
+    true
+}
+
+#[test]
+fn rows_go_on_where_they_stopped(rt: HostRuntime) -> Result<(), Fail> {
+    let rows = [
+        row(0, Op::Store(5), 0),
+        row(1, Op::Store(6), 0),
+        row(0, Op::Load, 64),
+        row(1, Op::Load, 64),
+        row(0, Op::Evict, 0),
+        row(1, Op::Evict, 64),
+        row(0, Op::Store(7), 0),
+        row(1, Op::Load, 0),
+    ];
+    let rows = rows.as_slice();
+    let mut scene = Scene::new(&rt, rt.alloc(), 2)?;
+    let ran = run_rows(&mut scene, &rt, rt.alloc(), rows);
+    let gathered = gathers(&scene, &rt, rt.alloc());
+    scene.end(&rt);
+    let Some(Gathered { log, steps }) = gathered else {
+        return Err(Fail::from("a gathering"));
+    };
+    let asked = ask_rows(steps.as_slice(), rows, 0) && ask_rows(steps.as_slice(), rows, 1);
+    let totals = log.totals();
+    assert_eq!(rt;
+        (ran, asked, totals.loads, totals.stores),
+        (true, true, 3, 3)
+    );
+    Ok(())
+}

@@ -1,0 +1,50 @@
+//! Readings of versions beside cores that store.
+
+use crate::cores::scene::{Scene, counts, row};
+use snoop_cores::{Free, Watch, run_seats};
+use snoop_trace::{Op, Row};
+use std::test::Fail;
+use std::thread;
+
+// Reads the counts so often; whether each reading was answered and no count fell.
+fn never_falls(watch: &mut Watch, times: u32) -> bool {
+    let mut before = [0; 12];
+    for _ in 0..times {
+        let Ok(totals) = watch.totals() else {
+            return false;
+        };
+        let after = counts(totals);
+        if before.iter().zip(after.iter()).any(|(was, is)| is < was) {
+            return false;
+        }
+        before = after;
+    }
+    true
+}
+
+#[test]
+fn counts_never_fall_beside_two_cores_that_store(rt: HostRuntime) -> Result<(), Fail> {
+    let mut rows: Vec<Row> = Vec::new(rt.alloc());
+    for value in 0..100u64 {
+        rows.push(row(0, Op::Store(value), 0))?;
+        rows.push(row(1, Op::Store(value), 0))?;
+    }
+    let mut scene = Scene::new(&rt, rt.alloc(), 2)?;
+    let seats = scene.seats.as_mut_slice();
+    let watches = scene.watches.as_mut_slice();
+    let (stops, risen) = thread::join(
+        &rt,
+        || run_seats(&rt, rt.alloc(), seats, rows.as_slice(), &Free),
+        || match watches.get_mut(0) {
+            Some(watch) => never_falls(watch, 1_000),
+            None => false,
+        },
+    );
+    let stores = scene
+        .gathered(&rt, rt.alloc())
+        .map(|gathered| gathered.log.totals().stores);
+    scene.end(&rt);
+    let ran = stops.is_ok_and(|stops| stops.iter().all(|stop| stop.is_none()));
+    assert_eq!(rt; (ran, risen, stores), (true, true, Some(200)));
+    Ok(())
+}

@@ -1,0 +1,110 @@
+//! Calls that are refused.
+
+use crate::cores::scene::{Scene, row, work};
+use snoop_cores::{
+    AdvanceFault, Free, GatherFault, Late, MakeFault, RunFault, Seat, SeatFault, Shared, Turn,
+    ViewFault, gather, run_seats,
+};
+use snoop_rules::Protocol;
+use snoop_trace::{Op, Shape};
+use std::test::Fail;
+
+#[test]
+fn a_row_outside_the_shape(rt: HostRuntime) -> Result<(), Fail> {
+    let mut scene = Scene::new(&rt, rt.alloc(), 2)?;
+    let rows = [row(1, Op::Store(1), 0), row(0, Op::Load, 256)];
+    let fault = run_seats(
+        &rt,
+        rt.alloc(),
+        scene.seats.as_mut_slice(),
+        rows.as_slice(),
+        &Free,
+    )
+    .err();
+    let steps = scene
+        .gathered(&rt, rt.alloc())
+        .map(|gathered| gathered.steps.len());
+    scene.end(&rt);
+    assert_eq!(rt;
+        (fault, steps),
+        (Some(RunFault::NoSeat { core: 0 }), Some(0))
+    );
+    Ok(())
+}
+
+#[test]
+fn seats_that_do_not_gather(rt: HostRuntime) -> Result<(), Fail> {
+    let scene = Scene::new(&rt, rt.alloc(), 2)?;
+    let mut other = match Scene::new(&rt, rt.alloc(), 2) {
+        Ok(other) => other,
+        Err(fail) => {
+            scene.end(&rt);
+            return Err(fail);
+        }
+    };
+    let nobody: [Seat; 0] = [];
+    let none = gather(&rt, rt.alloc(), &scene.shared, nobody.as_slice()).err();
+    let alone = scene.seats.get(0..1).and_then(|seats| gather(
+        &rt,
+        rt.alloc(),
+        &scene.shared,
+        seats,
+    ).err());
+    let stored = other.call(&rt, 0, work(Op::Store(5)));
+    let others = gather(&rt, rt.alloc(), &scene.shared, other.seats.as_slice()).err();
+    let all = scene.gathered(&rt, rt.alloc()).is_some();
+    scene.end(&rt);
+    other.end(&rt);
+    assert_eq!(rt; (stored, all), (Some(Ok(Turn::Stored)), true));
+    assert_eq!(rt;
+        [none, alone, others],
+        [
+            Some(GatherFault::NotAllSeats { core: 0 }),
+            Some(GatherFault::NotAllSeats { core: 1 }),
+            Some(GatherFault::Mismatch { core: 0, place: 0 }),
+        ]
+    );
+    Ok(())
+}
+
+#[test]
+fn places_for_seats_and_watches(rt: HostRuntime) -> Result<(), Fail> {
+    let scene = Scene::new(&rt, rt.alloc(), 256)?;
+    let most = (scene.seats.len(), scene.watches.len());
+    scene.end(&rt);
+    let shape = Shape::new(2, 4, 64)?;
+    let fault = match Shared::new(&rt, rt.alloc(), Protocol::Msi, shape, u32::MAX) {
+        Ok((shared, seats, watches)) => {
+            Scene {
+                shared,
+                seats,
+                watches,
+            }
+            .end(&rt);
+            None
+        }
+        Err(fault) => Some(fault),
+    };
+    assert_eq!(rt; (most, fault), ((256, 1), Some(MakeFault::NoPlace)));
+    Ok(())
+}
+
+#[test]
+fn faults_are_shown_by_their_names(rt: HostRuntime) -> Result<(), Fail> {
+    let shown = format!(in rt.alloc();
+        "{} {} {} {} {} {} {}",
+        MakeFault::NoPlace,
+        SeatFault::Busy(work(Op::Load)),
+        ViewFault::NoVersion,
+        RunFault::NoSeat { core: 0 },
+        GatherFault::Mismatch { core: 0, place: 0 },
+        AdvanceFault::Other(work(Op::Load)),
+        Late
+    )
+    .map_err(|_| Fail::from("memory"))?;
+    assert_eq!(rt;
+        shown.as_str(),
+        "NoPlace Busy NoVersion NoSeat Mismatch Other Late"
+    );
+    Ok(())
+}

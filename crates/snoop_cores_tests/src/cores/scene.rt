@@ -1,0 +1,131 @@
+//! A small shared machine for the tests: 4 blocks of 64 bytes, and a watch.
+
+use snoop_cores::{
+    Gathered, Seat, SeatFault, Shared, Turn, Watch, Work, end_seats, end_watches, gather,
+};
+use snoop_history::Totals;
+use snoop_rules::Protocol;
+use snoop_trace::{Op, Row, Shape, Step};
+use std::alloc::Global;
+use std::sync::Wait;
+use std::test::Fail;
+
+pub(super) struct Scene {
+    pub shared: Shared,
+    pub seats: Vec<Seat>,
+    pub watches: Vec<Watch>,
+}
+
+impl Scene {
+    /// A scene under MSI. Where one was refused, it is asked for again.
+    pub fn new<R: Wait>(rt: &R, alloc: Global, cores: u32) -> Result<Scene, Fail> {
+        let scene = Scene::make(rt, alloc, Protocol::Msi, cores);
+        match scene.or_else(|| Scene::make(rt, alloc, Protocol::Msi, cores)) {
+            Some(scene) => Ok(scene),
+            None => Err(Fail::from("a shared machine")),
+        }
+    }
+
+    /// `None` where it is refused.
+    pub fn make<R: Wait>(rt: &R, alloc: Global, protocol: Protocol, cores: u32) -> Option<Scene> {
+        let shape = Shape::new(cores, 4, 64).ok()?;
+        let (shared, seats, watches) = Shared::new(rt, alloc, protocol, shape, 1).ok()?;
+        Some(Scene {
+            shared,
+            seats,
+            watches,
+        })
+    }
+
+    /// Makes the core's call for the work. The answer is the turn that ends it.
+    pub fn call<R: Wait>(
+        &mut self,
+        rt: &R,
+        core: u32,
+        work: Work,
+    ) -> Option<Result<Turn, SeatFault>> {
+        let seat = self.seats.get_mut(core as usize)?;
+        Some(match work.op {
+            Op::Load => seat.load(rt, work.block).map(|value| Turn::Loaded(value)),
+            Op::Store(value) => seat.store(rt, work.block, value).map(|()| Turn::Stored),
+            Op::Evict => seat
+                .evict(rt, work.block)
+                .map(|evicted| Turn::Evicted(evicted)),
+        })
+    }
+
+    /// Makes the call; out of memory, once more.
+    pub fn call_at_last<R: Wait>(
+        &mut self,
+        rt: &R,
+        core: u32,
+        work: Work,
+    ) -> Option<Result<Turn, SeatFault>> {
+        match self.call(rt, core, work) {
+            Some(Err(SeatFault::NoMemory)) => self.call(rt, core, work),
+            answer => answer,
+        }
+    }
+
+    /// What gathers; `None` where it is refused.
+    pub fn gathered<R: Wait>(&self, rt: &R, alloc: Global) -> Option<Gathered> {
+        gather(rt, alloc, &self.shared, self.seats.as_slice()).ok()
+    }
+
+    pub fn end<R: Wait>(self, rt: &R) {
+        let Scene {
+            shared,
+            seats,
+            watches,
+        } = self;
+        end_seats(rt, seats);
+        end_watches(rt, watches);
+        shared.end(rt);
+    }
+}
+
+/// The counts in their order.
+pub(super) fn counts(totals: Totals) -> [u64; 12] {
+    [
+        totals.loads,
+        totals.load_hits,
+        totals.stores,
+        totals.store_hits,
+        totals.get_s,
+        totals.get_m,
+        totals.put_m,
+        totals.from_memory,
+        totals.from_caches,
+        totals.writebacks,
+        totals.clean,
+        totals.stale,
+    ]
+}
+
+pub(super) fn row(core: u32, op: Op, address: u64) -> Row {
+    Row { core, op, address }
+}
+
+pub(super) fn work(op: Op) -> Work {
+    Work { block: 0, op }
+}
+
+/// Whether the core asks for its rows and no more, in their order.
+pub(super) fn ask_rows(steps: &[Step], rows: &[Row], core: u32) -> bool {
+    let mut wanted = rows.iter().filter(|row| row.core == core);
+    for step in steps {
+        if let Step::Ask {
+            core: asking,
+            block,
+            op,
+        } = *step
+            && asking == core
+        {
+            match wanted.next() {
+                Some(row) if row.op == op && row.address / 64 == u64::from(block) => {}
+                _ => return false,
+            }
+        }
+    }
+    wanted.next().is_none()
+}

@@ -1,0 +1,127 @@
+//! Storms: rows of many seats on few blocks. Whatever order their threads take, each core asks for its rows in their order, and the
+//! gathered steps replay to an equal log.
+
+use crate::cores::scene::{Scene, ask_rows, row};
+use snoop_cores::{Gate, Gathered, Late, run_seats};
+use snoop_machine::{Machine, run_steps};
+use snoop_rules::Protocol;
+use snoop_trace::{Op, Row, Shape};
+use std::alloc::Global;
+use std::process::Abort;
+use std::sync::Wait;
+use std::sync::atomic::{AtomicU64, Ordering};
+use std::test::Fail;
+use std::thread::Threads;
+
+/// So many rows of each core, in turn, by the upper 31 bits of a linear congruential generator. A store stores the number of its row,
+/// counted from 1.
+fn storm_of(alloc: Global, cores: u32, each: u32) -> Result<Vec<Row>, Fail> {
+    let mut seed = 1u64;
+    let mut place = 0u64;
+    let mut rows = Vec::new(alloc);
+    for _ in 0..each {
+        for core in 0..cores {
+            seed = seed
+                .wrapping_mul(6364136223846793005)
+                .wrapping_add(1442695040888963407);
+            let number = seed >> 33;
+            place = place.saturating_add(1);
+            let op = match number % 3 {
+                0 => Op::Load,
+                1 => Op::Store(place),
+                _ => Op::Evict,
+            };
+            rows.push(row(core, op, number / 40 % 3 * 64))?;
+        }
+    }
+    Ok(rows)
+}
+
+/// Keeps so many cores in step: a row waits until all of them have begun those before it, but not for long.
+#[derive(Drop)]
+struct InStep {
+    cores: u32,
+    begun: AtomicU64,
+}
+
+impl Gate for InStep {
+    fn before(&self, _core: u32, number: u64) -> Result<(), Late> {
+        self.begun.fetch_add(1, Ordering::SeqCst);
+        let wanted = number.saturating_mul(u64::from(self.cores));
+        for _ in 0..100_000u64 {
+            if self.begun.load(Ordering::SeqCst) >= wanted {
+                return Ok(());
+            }
+        }
+        Ok(())
+    }
+}
+
+/// Lets the seats of a new machine perform the rows, with so many cores in step, and gathers.
+fn perform<R: Threads + Wait + Sync>(
+    rt: &R,
+    alloc: Global,
+    protocol: Protocol,
+    cores: u32,
+    rows: &[Row],
+    in_step: u32,
+) -> Result<Gathered, Fail> {
+    let Some(mut scene) = Scene::make(rt, alloc, protocol, cores) else {
+        return Err(Fail::from("a shared machine"));
+    };
+    let gate = InStep {
+        cores: in_step,
+        begun: AtomicU64::new(0),
+    };
+    let stops = run_seats(rt, alloc, scene.seats.as_mut_slice(), rows, &gate);
+    let gathered = scene.gathered(rt, alloc);
+    scene.end(rt);
+    match (stops, gathered) {
+        (Ok(stops), Some(gathered)) if stops.iter().all(|stop| stop.is_none()) => Ok(gathered),
+        _ => Err(Fail::from("rows or a gathering")),
+    }
+}
+
+/// A storm under each protocol.
+fn storm<R: Threads + Wait + Sync + Abort>(
+    rt: &R,
+    alloc: Global,
+    cores: u32,
+    rows: &[Row],
+    in_step: u32,
+) -> Result<(), Fail> {
+    for protocol in [Protocol::Msi, Protocol::Mesi] {
+        let Gathered { log, steps } = perform(rt, alloc, protocol, cores, rows, in_step)?;
+        let mut fresh = Machine::reset(alloc, protocol, Shape::new(cores, 4, 64)?)?;
+        let taken = run_steps(&mut fresh, steps.as_slice());
+        assert!(rt;
+            taken == steps.len() && fresh.log().items() == log.items(),
+            "of {cores} cores"
+        );
+        for core in 0..cores {
+            assert!(rt;
+                ask_rows(steps.as_slice(), rows, core),
+                "core {core} of {cores}"
+            );
+        }
+    }
+    Ok(())
+}
+
+#[test]
+fn storms_of_2_8_and_64_seats(rt: HostRuntime) -> Result<(), Fail> {
+    for (cores, each) in [(2, 800), (8, 200), (64, 25)] {
+        let rows = storm_of(rt.alloc(), cores, each)?;
+        storm(&rt, rt.alloc(), cores, rows.as_slice(), 0)?;
+    }
+    Ok(())
+}
+
+#[test]
+fn a_storm_on_one_block(rt: HostRuntime) -> Result<(), Fail> {
+    let mut rows = storm_of(rt.alloc(), 8, 200)?;
+    for row in &mut rows {
+        row.address = 0;
+    }
+    storm(&rt, rt.alloc(), 8, rows.as_slice(), 8)
+}
