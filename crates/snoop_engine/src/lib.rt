@@ -13,6 +13,3 @@ mod work;
 pub use fault::SimFault;
 pub use run::simulate_run;
 pub use steps::simulate_steps;
-
-#[cfg(test)]
-mod tests;

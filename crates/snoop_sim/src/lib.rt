@@ -11,6 +11,3 @@ pub use fault::ThreadsFault;
 pub use program::{command, refuse_words};
 pub use snoop_engine::{SimFault, simulate_run, simulate_steps};
 pub use threads::simulate_threads;
-
-#[cfg(test)]
-mod tests;

@@ -1,0 +1,110 @@
+//! The three simulations, each with a worked text.
+
+use snoop_rules::Protocol;
+use snoop_sim::{SimFault, ThreadsFault, simulate_run, simulate_steps, simulate_threads};
+use snoop_trace::{Shape, Sink, Source};
+use std::alloc::Global;
+use std::sync::Wait;
+use std::test::Fail;
+use std::thread::Threads;
+
+/// Steps: core 0 stores, and core 1 loads from the last byte of the same block.
+const STEPS: &str = "S,0,64,7\nO,0\nR,64\nL,1,127\nO,1\nR,64\n";
+
+const STEPS_OUTPUT: &str = "\
+S,0,64,7: issued GetM
+O,0: ordered GetM
+R,64: Data from memory, store 7
+L,1,64: issued GetS
+O,1: ordered GetS
+R,64: Data from core 0, load 7
+loads 1 hits 0
+stores 1 hits 0
+GetS 1 GetM 1 PutM 0
+from memory 1 from caches 1
+writebacks 0 clean 0 stale 0
+block 1 value 7
+";
+
+/// Rows: core 0 stores 1 and evicts, and core 1 stores 2, all in one block.
+const ROWS: &str = "S,0,0,1\nE,0,0\nS,1,0,2\n";
+
+const ROWS_OUTPUT: &str = "\
+S,0,0,1: issued GetM
+S,1,0,2: issued GetM
+O,0: ordered GetM
+R,0: Data from memory, store 1
+E,0,0: issued PutM
+O,1: ordered GetM
+R,0: Data from core 0, store 2
+O,0: ordered PutM
+R,0: NoData from core 0
+loads 0 hits 0
+stores 2 hits 0
+GetS 0 GetM 2 PutM 1
+from memory 1 from caches 1
+writebacks 0 clean 0 stale 1
+block 0 value 2
+";
+
+/// Rows of core 0 alone, so that its thread's steps are known: it stores, evicts and loads in one block.
+const ALONE: &str = "S,0,0,4\nE,0,0\nL,0,0\n";
+
+const ALONE_STEPS: &str = "S,0,0,4\nO,0\nR,0\nE,0,0\nO,0\nR,0\nL,0,0\nO,0\nR,0\n";
+
+/// One of the simulations.
+#[derive(Clone, Copy, Debug, PartialEq, Eq)]
+pub enum Engine {
+    Steps,
+    Run,
+    Threads,
+}
+
+pub static ENGINES: [Engine; 3] = [Engine::Steps, Engine::Run, Engine::Threads];
+
+impl Engine {
+    pub fn text(self) -> &'static [u8] {
+        match self {
+            Engine::Steps => STEPS.as_bytes(),
+            Engine::Run => ROWS.as_bytes(),
+            Engine::Threads => ALONE.as_bytes(),
+        }
+    }
+
+    /// The whole output of the text under MSI.
+    pub fn output(self) -> &'static [u8] {
+        match self {
+            Engine::Steps => STEPS_OUTPUT.as_bytes(),
+            Engine::Run => ROWS_OUTPUT.as_bytes(),
+            Engine::Threads => ALONE_STEPS.as_bytes(),
+        }
+    }
+
+    /// What the simulation answers with 2 cores and 4 blocks.
+    pub fn simulate<T: Threads + Wait + Sync, R: Source + Drop, W: Sink>(
+        self,
+        rt: &T,
+        alloc: Global,
+        reader: R,
+        writer: &mut W,
+        protocol: Protocol,
+    ) -> Result<Result<(), ThreadsFault>, Fail> {
+        let shape = Shape::new(2, 4, 64)?;
+        let ended = match self {
+            Engine::Steps => simulate_steps(alloc, reader, writer, protocol, shape),
+            Engine::Run => simulate_run(alloc, reader, writer, protocol, shape),
+            Engine::Threads => return Ok(simulate_threads(
+                rt, alloc, reader, writer, protocol, shape,
+            )),
+        };
+        Ok(ended.map_err(fault_of))
+    }
+}
+
+fn fault_of(fault: SimFault) -> ThreadsFault {
+    match fault {
+        SimFault::Text(fault) => ThreadsFault::Text(fault),
+        SimFault::NoMemory => ThreadsFault::NoMemory,
+        SimFault::Write => ThreadsFault::Write,
+    }
+}
