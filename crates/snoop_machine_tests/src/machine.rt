@@ -2,4 +2,5 @@ mod lines;
 mod memory;
 mod runs;
 mod steps;
+mod storm;
 mod support;

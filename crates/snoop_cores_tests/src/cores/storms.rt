@@ -3,9 +3,11 @@
 
 use crate::cores::scene::{Scene, ask_rows, row};
 use snoop_cores::{Gate, Gathered, Late, run_seats};
+use snoop_engine::simulate_steps;
+use snoop_history::write_report;
 use snoop_machine::{Machine, run_steps};
 use snoop_rules::Protocol;
-use snoop_trace::{Op, Row, Shape};
+use snoop_trace::{Op, Row, Shape, write_steps};
 use std::alloc::Global;
 use std::process::Abort;
 use std::sync::Wait;
@@ -82,6 +84,22 @@ fn perform<R: Threads + Wait + Sync>(
     }
 }
 
+/// Whether the gathered steps, written as a text and simulated, end with the report of the gathered log.
+fn ends_with_report(
+    alloc: Global,
+    protocol: Protocol,
+    shape: Shape,
+    gathered: &Gathered,
+) -> Result<bool, Fail> {
+    let mut text = Vec::new(alloc);
+    write_steps(alloc, &mut text, shape, gathered.steps.as_slice())?;
+    let mut output = Vec::new(alloc);
+    simulate_steps(alloc, text.as_slice(), &mut output, protocol, shape)?;
+    let mut report = Vec::new(alloc);
+    write_report(alloc, &mut report, &gathered.log)?;
+    Ok(output.as_slice().ends_with(report.as_slice()))
+}
+
 /// A storm under each protocol.
 fn storm<R: Threads + Wait + Sync + Abort>(
     rt: &R,
@@ -91,8 +109,11 @@ fn storm<R: Threads + Wait + Sync + Abort>(
     in_step: u32,
 ) -> Result<(), Fail> {
     for protocol in [Protocol::Msi, Protocol::Mesi] {
-        let Gathered { log, steps } = perform(rt, alloc, protocol, cores, rows, in_step)?;
-        let mut fresh = Machine::reset(alloc, protocol, Shape::new(cores, 4, 64)?)?;
+        let shape = Shape::new(cores, 4, 64)?;
+        let gathered = perform(rt, alloc, protocol, cores, rows, in_step)?;
+        assert!(rt; ends_with_report(alloc, protocol, shape, &gathered)?);
+        let Gathered { log, steps } = gathered;
+        let mut fresh = Machine::reset(alloc, protocol, shape)?;
         let taken = run_steps(&mut fresh, steps.as_slice());
         assert!(rt;
             taken == steps.len() && fresh.log().items() == log.items(),
