@@ -185,7 +185,7 @@ EorM_D,NoData,none,EorM
 EorM_D,NoDataE,none,I
 ";
 
-const TABLES: [(Protocol, Which, &str); 4] = [
+static TABLES: [(Protocol, Which, &str); 4] = [
     (Protocol::Msi, Which::Cache, MSI_CACHE),
     (Protocol::Mesi, Which::Cache, MESI_CACHE),
     (Protocol::Msi, Which::Memory, MSI_MEMORY),
@@ -194,9 +194,9 @@ const TABLES: [(Protocol, Which, &str); 4] = [
 
 #[test]
 fn writes_the_four_tables(rt: HostRuntime) -> Result<(), Fail> {
-    for (protocol, which, table) in TABLES {
+    for (protocol, which, table) in &TABLES {
         let mut text = Vec::new(rt.alloc());
-        write_table(rt.alloc(), &mut text, protocol, which)?;
+        write_table(rt.alloc(), &mut text, *protocol, *which)?;
         assert_eq!(rt; text.as_slice(), table.as_bytes(), "{protocol}, {which:?}");
     }
     Ok(())
@@ -258,7 +258,7 @@ fn stops_at_a_failing_writer(rt: HostRuntime) -> Result<(), Fail> {
 }
 
 // Whether a core may load in the state and whether it may store; `E` and `EiA` are MESI's alone.
-const PERMISSIONS: [(CacheState, bool, bool); 13] = [
+static PERMISSIONS: [(CacheState, bool, bool); 13] = [
     (CacheState::I, false, false),
     (CacheState::IsAd, false, false),
     (CacheState::IsD, false, false),
@@ -276,12 +276,12 @@ const PERMISSIONS: [(CacheState, bool, bool); 13] = [
 
 #[test]
 fn readers_and_writers(rt: HostRuntime) {
-    for (state, loads, stores) in PERMISSIONS {
-        let of_mesi_alone = matches!(&state, CacheState::E | CacheState::EiA);
+    for (state, loads, stores) in &PERMISSIONS {
+        let of_mesi_alone = matches!(state, CacheState::E | CacheState::EiA);
         for (protocol, has_state) in [(Protocol::Msi, !of_mesi_alone), (Protocol::Mesi, true)] {
             assert_eq!(rt;
-                (may_load(protocol, state), may_store(protocol, state)),
-                (has_state && loads, has_state && stores),
+                (may_load(protocol, *state), may_store(protocol, *state)),
+                (has_state && *loads, has_state && *stores),
                 "{state} under {protocol}"
             );
         }

@@ -51,12 +51,12 @@ fn at_reset(alloc: Global) -> Result<Machine, Fail> {
 fn a_step_out_of_memory_changes_nothing_and_is_taken_again(rt: HostRuntime) -> Result<(), Fail> {
     let mut machine = at_reset(rt.alloc())?;
     let mut taken = 0;
-    for step in UPGRADE_RACE {
+    for step in &UPGRADE_RACE {
         let before = (seen_of(&machine), lines_of(&machine));
-        let mut outcome = machine.step(step);
+        let mut outcome = machine.step(*step);
         if outcome == Err(Refused::NoMemory) {
             assert_eq!(rt; (seen_of(&machine), lines_of(&machine)), before);
-            outcome = machine.step(step);
+            outcome = machine.step(*step);
         }
         count(&rt, &mut taken, outcome.map(|_| ()));
     }
@@ -69,16 +69,16 @@ fn a_step_out_of_memory_changes_nothing_and_is_taken_again(rt: HostRuntime) -> R
 fn a_prepared_step_takes_no_memory(rt: HostRuntime) -> Result<(), Fail> {
     let mut machine = at_reset(rt.alloc())?;
     let mut taken = 0;
-    for step in UPGRADE_RACE {
+    for step in &UPGRADE_RACE {
         let before = (seen_of(&machine), lines_of(&machine));
-        let mut prepared = machine.prepare(step);
+        let mut prepared = machine.prepare(*step);
         if prepared == Err(Refused::NoMemory) {
             assert_eq!(rt; (seen_of(&machine), lines_of(&machine)), before);
-            prepared = machine.prepare(step);
+            prepared = machine.prepare(*step);
         }
         assert_eq!(rt; seen_of(&machine), before.0);
         if prepared.is_ok() {
-            assert!(rt; machine.step(step).is_ok());
+            assert!(rt; machine.step(*step).is_ok());
         }
         count(&rt, &mut taken, prepared.map(|_| ()));
     }

@@ -1,15 +1,15 @@
 //! Steps taken one at a time, and what is prepared before them.
 
-use crate::machine::support::{UPGRADE_RACE, ask, order, respond, two_cores};
+use crate::machine::support::{UPGRADE_RACE, two_cores};
 use snoop_bus::Open;
 use snoop_history::{Came, Did, Item, Sent};
 use snoop_machine::{Machine, Refused, Reply};
 use snoop_rules::{CacheState, MemState, Payload, Protocol, Request};
-use snoop_trace::Op;
+use snoop_trace::{Op, Step};
 use std::test::Fail;
 
 /// The answers of the upgrade race, and after each step the states of block 0: in core 0, in core 1 and in memory.
-const RACE_ANSWERS: [(Result<Reply, Refused>, CacheState, CacheState, MemState); 13] = [
+static RACE_ANSWERS: [(Result<Reply, Refused>, CacheState, CacheState, MemState); 13] = [
     (
         Ok(Reply::Issued(Request::GetS)),
         CacheState::IsAd,
@@ -136,14 +136,14 @@ const STORE_OF_6: Did = Did {
 #[test]
 fn the_loser_of_an_upgrade_race_asks_for_the_whole_block(rt: HostRuntime) -> Result<(), Fail> {
     let mut machine = two_cores(rt.alloc())?;
-    for (step, (answer, first, second, memory)) in UPGRADE_RACE.iter().zip(RACE_ANSWERS) {
+    for (step, (answer, first, second, memory)) in UPGRADE_RACE.iter().zip(&RACE_ANSWERS) {
         assert_eq!(rt;
             (
                 machine.step(*step),
                 [machine.state(0, 0), machine.state(1, 0)],
                 machine.mem_state(0),
             ),
-            (answer, [Some(first), Some(second)], Some(memory)),
+            (*answer, [Some(*first), Some(*second)], Some(*memory)),
             "at {step:?}"
         );
     }
@@ -185,86 +185,147 @@ const STORE_OF_7: Did = Did {
     hit: false,
 };
 
-fn sent(core: u32, request: Request) -> Option<Item> {
-    Some(Item::Sent(Sent {
-        core,
-        request,
-        block: 1,
-    }))
-}
+/// The answer to core 0's GetM.
+const FILLED: Came = Came {
+    core: 0,
+    request: Request::GetM,
+    block: 1,
+    from: None,
+    payload: Payload::Data,
+};
 
-fn came(core: u32, request: Request, from: Option<u32>, did: Option<Did>) -> Option<Item> {
-    Some(Item::Came(
-        Came {
-            core,
-            request,
+/// Core 0 stores block 1, loads it and evicts it: each step, and the item that it adds.
+static STORED_AND_EVICTED: [(Step, Option<Item>); 8] = [
+    (
+        Step::Ask {
+            core: 0,
             block: 1,
-            from,
-            payload: Payload::Data,
+            op: Op::Store(7),
         },
-        did,
-    ))
-}
+        None,
+    ),
+    (
+        Step::Order { core: 0 },
+        Some(Item::Sent(Sent {
+            core: 0,
+            request: Request::GetM,
+            block: 1,
+        })),
+    ),
+    (
+        Step::Respond { block: 1 },
+        Some(Item::Came(FILLED, Some(STORE_OF_7))),
+    ),
+    (
+        Step::Ask {
+            core: 0,
+            block: 1,
+            op: Op::Load,
+        },
+        Some(Item::Did(Did {
+            number: 1,
+            load: true,
+            hit: true,
+            ..STORE_OF_7
+        })),
+    ),
+    (
+        Step::Ask {
+            core: 0,
+            block: 1,
+            op: Op::Evict,
+        },
+        None,
+    ),
+    (
+        Step::Order { core: 0 },
+        Some(Item::Sent(Sent {
+            core: 0,
+            request: Request::PutM,
+            block: 1,
+        })),
+    ),
+    (
+        Step::Respond { block: 1 },
+        Some(Item::Came(
+            Came {
+                request: Request::PutM,
+                from: Some(0),
+                ..FILLED
+            },
+            None,
+        )),
+    ),
+    (
+        Step::Ask {
+            core: 0,
+            block: 1,
+            op: Op::Evict,
+        },
+        None,
+    ),
+];
 
 #[test]
 fn preparing_tells_the_item_and_changes_nothing(rt: HostRuntime) -> Result<(), Fail> {
     let mut machine = two_cores(rt.alloc())?;
-    let load = Did {
-        core: 1,
-        load: true,
-        ..STORE_OF_7
-    };
-    let hit = Did {
-        number: 1,
-        load: true,
-        hit: true,
-        ..STORE_OF_7
-    };
-    for (step, entry) in [
-        (ask(0, 1, Op::Store(7)), None),
-        (order(0), sent(0, Request::GetM)),
-        (respond(1), came(0, Request::GetM, None, Some(STORE_OF_7))),
-        (ask(1, 1, Op::Load), None),
-        (order(1), sent(1, Request::GetS)),
-        (respond(1), came(1, Request::GetS, Some(0), Some(load))),
-        (ask(0, 1, Op::Load), Some(Item::Did(hit))),
-        (ask(0, 1, Op::Evict), None),
-        (ask(0, 1, Op::Evict), None),
-    ] {
+    for (step, entry) in &STORED_AND_EVICTED {
         let before = seen_of(&machine);
+        let prepared = machine.prepare(*step);
         assert_eq!(rt;
-            (machine.prepare(step), seen_of(&machine)),
-            (Ok(entry), before),
+            (prepared, seen_of(&machine)),
+            (Ok(*entry), before),
             "at {step:?}"
         );
-        machine.step(step)?;
-        assert_eq!(rt; machine.log().item(before.items), entry, "at {step:?}");
+        machine.step(*step)?;
+        assert_eq!(rt; machine.log().item(before.items), *entry, "at {step:?}");
     }
+    let refused = machine.prepare(Step::Order { core: 0 });
     assert_eq!(rt;
-        (machine.prepare(order(0)), machine.mem_value(1)),
+        (refused, machine.mem_value(1)),
         (Err(Refused::NothingWaiting), Some(7))
     );
     Ok(())
 }
 
-/// Core 1's work waits for core 0's: it brings core 0's answer, and then has its own request ordered.
+/// Turns with works on block 0, each with whether it was asked for, and the step that is taken. Core 1's work waits for core 0's: it
+/// brings core 0's answer, and then has its own request ordered.
+static TURNS: [(u32, Op, bool, Option<Step>); 8] = [
+    (
+        0,
+        Op::Load,
+        false,
+        Some(Step::Ask {
+            core: 0,
+            block: 0,
+            op: Op::Load,
+        }),
+    ),
+    (
+        1,
+        Op::Store(5),
+        false,
+        Some(Step::Ask {
+            core: 1,
+            block: 0,
+            op: Op::Store(5),
+        }),
+    ),
+    (0, Op::Load, true, Some(Step::Order { core: 0 })),
+    (1, Op::Store(5), true, Some(Step::Respond { block: 0 })),
+    (0, Op::Load, true, None),
+    (1, Op::Store(5), true, Some(Step::Order { core: 1 })),
+    (1, Op::Store(5), true, Some(Step::Respond { block: 0 })),
+    (1, Op::Store(5), true, None),
+];
+
 #[test]
 fn turns_of_two_cores(rt: HostRuntime) -> Result<(), Fail> {
     let mut machine = two_cores(rt.alloc())?;
-    let store = Op::Store(5);
-    for (core, op, under_way, step) in [
-        (0, Op::Load, false, Some(ask(0, 0, Op::Load))),
-        (1, store, false, Some(ask(1, 0, store))),
-        (0, Op::Load, true, Some(order(0))),
-        (1, store, true, Some(respond(0))),
-        (0, Op::Load, true, None),
-        (1, store, true, Some(order(1))),
-        (1, store, true, Some(respond(0))),
-        (1, store, true, None),
-    ] {
-        assert!(rt; core < machine.shape().cores());
-        let found = machine.turn_step(core, 0, op, under_way);
-        assert_eq!(rt; found, step, "of core {core}");
+    for (core, op, under_way, step) in &TURNS {
+        assert!(rt; *core < machine.shape().cores());
+        let found = machine.turn_step(*core, 0, *op, *under_way);
+        assert_eq!(rt; found, *step, "of core {core}");
         if let Some(step) = found {
             machine.step(step)?;
         }

@@ -7,7 +7,7 @@ use std::alloc::Global;
 use std::test::Fail;
 
 /// Two sharers ask to store; the second one's request is ordered first, and the first one's waits for its answer.
-pub const UPGRADE_RACE: [Step; 13] = [
+pub static UPGRADE_RACE: [Step; 13] = [
     Step::Ask {
         core: 0,
         block: 0,

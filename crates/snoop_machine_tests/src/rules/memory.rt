@@ -6,16 +6,16 @@ use std::test::Fail;
 
 #[test]
 fn a_table_is_whole_or_a_beginning(rt: HostRuntime) -> Result<(), Fail> {
-    for (protocol, which, table) in TABLES {
+    for (protocol, which, table) in &TABLES {
         let mut text = Vec::new(rt.alloc());
         // A vector that can't grow is a writer that fails.
-        if write_table(rt.alloc(), &mut text, protocol, which).is_err() {
+        if write_table(rt.alloc(), &mut text, *protocol, *which).is_err() {
             assert!(rt;
                 table.as_bytes().starts_with(&text),
                 "{protocol}, {which:?}"
             );
             text.clear();
-            write_table(rt.alloc(), &mut text, protocol, which)?;
+            write_table(rt.alloc(), &mut text, *protocol, *which)?;
         }
         assert_eq!(rt; text.as_slice(), table.as_bytes(), "{protocol}, {which:?}");
     }

@@ -9,7 +9,7 @@ use std::io;
 use std::io::{ErrorKind, Read, Write};
 use std::test::Fail;
 
-const STEPS: [Step; 3] = [
+static STEPS: [Step; 3] = [
     Step::Ask {
         core: 0,
         block: 1,
@@ -19,7 +19,7 @@ const STEPS: [Step; 3] = [
     Step::Respond { block: 1 },
 ];
 
-const TEXT: &[u8] = b"S,0,64,7\nO,0\nR,64\n";
+static TEXT: &[u8] = b"S,0,64,7\nO,0\nR,64\n";
 
 // Gives at most so many bytes a call, and fails once so many are given in all.
 #[derive(Drop)]

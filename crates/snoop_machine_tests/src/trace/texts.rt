@@ -7,7 +7,7 @@ use std::io;
 use std::test::Fail;
 
 /// Each kind of step, at the ends of the largest shape.
-const STEPS: [Step; 5] = [
+static STEPS: [Step; 5] = [
     Step::Ask {
         core: 0,
         block: 0,
@@ -44,7 +44,7 @@ fn steps_are_written_and_read_again(rt: HostRuntime) -> Result<(), Fail> {
     Ok(())
 }
 
-const ROWS: [Row; 3] = [
+static ROWS: [Row; 3] = [
     Row {
         core: 1,
         op: Op::Store(2),
