@@ -76,10 +76,13 @@ fn perform<R: Threads + Wait + Sync>(
     let stops = run_seats(rt, alloc, scene.seats.as_mut_slice(), rows, &gate);
     let gathered = scene.gathered(rt, alloc);
     scene.end(rt);
-    match (stops, gathered) {
-        (Ok(stops), Some(gathered)) if stops.iter().all(|stop| stop.is_none()) => Ok(gathered),
-        _ => Err(Fail::from("rows or a gathering")),
+    let (Ok(stops), Some(gathered)) = (stops, gathered) else {
+        return Err(Fail::from("rows or a gathering"));
+    };
+    if stops.iter().any(|stop| stop.is_some()) {
+        return Err(Fail::from("a seat stopped"));
     }
+    Ok(gathered)
 }
 
 /// A storm under each protocol.
