@@ -145,10 +145,8 @@ fn a_pending_store_is_handed_over_once(rt: HostRuntime) -> Result<(), Fail> {
         .watches
         .get_mut(0)
         .and_then(|watch| watch.value(0).ok());
-    let gathered = (
-        gathers(&scene, &rt, rt.alloc()),
-        gathers(&scene, &rt, rt.alloc()),
-    );
+    let first = gathers(&scene, &rt, rt.alloc());
+    let second = gathers(&scene, &rt, rt.alloc());
     scene.end(&rt);
     assert_eq!(rt;
         (stored, own, loaded, value),
@@ -166,12 +164,13 @@ fn a_pending_store_is_handed_over_once(rt: HostRuntime) -> Result<(), Fail> {
             Some([1, 0, 1, 0, 1, 1, 0, 1, 1, 0, 0, 0]),
         )
     );
-    let (Some(first), Some(second)) = gathered else {
+    let (Some(first), Some(second)) = (first, second) else {
         return Err(Fail::from("a gathering"));
     };
-    for Gathered { log, steps } in [first, second] {
+    for gathered in [first, second] {
+        let (steps, log) = (gathered.steps.as_slice(), &gathered.log);
         assert_eq!(rt;
-            (steps.as_slice(), log.items(), stores_of(&log, 0)),
+            (steps, log.items(), stores_of(log, 0)),
             (HANDOVER.as_slice(), HANDED_OVER.as_slice(), 1)
         );
     }

@@ -78,10 +78,13 @@ fn perform<R: Threads + Wait + Sync>(
     let stops = run_seats(rt, alloc, scene.seats.as_mut_slice(), rows, &gate);
     let gathered = scene.gathered(rt, alloc);
     scene.end(rt);
-    match (stops, gathered) {
-        (Ok(stops), Some(gathered)) if stops.iter().all(|stop| stop.is_none()) => Ok(gathered),
-        _ => Err(Fail::from("rows or a gathering")),
+    let (Ok(stops), Some(gathered)) = (stops, gathered) else {
+        return Err(Fail::from("rows or a gathering"));
+    };
+    if stops.iter().any(|stop| stop.is_some()) {
+        return Err(Fail::from("a seat stopped"));
     }
+    Ok(gathered)
 }
 
 /// Whether the gathered steps, written as a text and simulated, end with the report of the gathered log.
