@@ -20,12 +20,12 @@ abbrev pub AddsLine : ℕ → ℕ → Standing → Standing → ℕ → Type 0
 AddsLine asker block old new core =
     (lines_of new core ≡ lines_of old core) ⊎ ((asker ≡ core) × (state_of old.situation asker block ≡ I) × (lines_of new core ≡ lines_of old core + 1))
 
--- the room for an Ask adds a line where it issues a request out of I
+-- the room for an Ask adds one line at most, and only where it issues a request out of I
 abbrev pub AddsLinesToAsk : Asked → ℕ → ℕ → Standing → Standing → ℕ → Type 0
 AddsLinesToAsk (asked.Issue request line) asker block old new core = AddsLine asker block old new core
 AddsLinesToAsk _ asker block old new core = lines_of new core ≡ lines_of old core
 
--- the room for a step adds a line where it is an Ask that issues a request out of I
+-- the room for a step adds one line at most, and only where it is an Ask that issues a request out of I
 abbrev pub AddsLines : Plan → Standing → Standing → ℕ → Type 0
 AddsLines (Ask asker block asking way) old new core = AddsLinesToAsk way asker block old new core
 AddsLines _ old new core = lines_of new core ≡ lines_of old core

@@ -8,7 +8,7 @@ ghost use Rattle.snoop_machine.specs.Holders.{is_concerned, HaveMoved};
 use crate::core_set::CoreSet;
 use snoop_rules::{CacheState, Request};
 
-/// The cores that hold a block, by what another's request asks of them.
+/// The cores that keep a block's value, by what another's request asks of them.
 #[derive(Clone, Copy, Debug)]
 pub(crate) struct Holders {
     /// The cores that may write.
@@ -18,7 +18,7 @@ pub(crate) struct Holders {
 }
 
 impl Holders {
-    /// No core holds the block.
+    /// No core keeps the block's value.
     pub(crate) fn empty() -> Holders
         ensures owners { (k : ℕ) → has result.owners k ≡ false }
         ensures readers { (k : ℕ) → has result.readers k ≡ false }

@@ -168,8 +168,8 @@ impl Machine {
         self.parts.waiting(core)
     }
 
-    /// How many lines the core's map has, or `None` outside the shape: one for each block that the core holds, and one for each block in I
-    /// for which an Ask that was prepared, and not taken yet, made room.
+    /// How many lines the core's map has, or `None` outside the shape: one for each block in which the core isn't in
+    /// I, and perhaps some in I, at most one for each Ask that was prepared.
     pub fn lines(&self, core: u32) -> Option<usize>
         ensures inside { core < self.now.situation.shape.cores → result ≡ Some (lines_of self.now core) }
         ensures held { HasHeldLines self.now core }

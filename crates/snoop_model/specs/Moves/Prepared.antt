@@ -26,7 +26,7 @@ room_to Hit before core block = before.room
 room_to (Issue request) before core block = room_to_issue before core block
 room_to _ before core block = 1
 
--- there is no room for what the step adds: an item, or a request in the core's queue and the line that waits for it
+-- there is no room for the item or the request that the step adds, or no line for the block yet
 abbrev pub IsFull : Standing → Step → Type 0
 IsFull before (Ask core block asking) =
     (act : CacheAction) × ((next : CacheState) × (Cell before.situation.protocol (state_of before.situation core block) (asked asking) act next × (room_to act before core block ≡ 0)))
