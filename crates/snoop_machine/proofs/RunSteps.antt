@@ -11,6 +11,7 @@ use Rattle.snoop_model.specs.declared.replies.Refused.TheVariants.{NoMemory}
 use Rattle.snoop_model.specs.Pictures.Situation.{Situation}
 use Rattle.snoop_model.specs.Moves.Standing.{Standing, KeepsRoom}
 use Rattle.snoop_model.specs.Moves.Prepared.{IsFull}
+use Rattle.snoop_model.specs.Moves.Holding.{HoldsOn}
 use Rattle.snoop_model.specs.Moves.Move.{FirstMove}
 use Rattle.snoop_model.specs.Moves.StepMove.{RefusedFor}
 use Rattle.snoop_model.specs.Runs.Run.{IsRefusal, RunFrom}
@@ -23,9 +24,9 @@ use Rattle.snoop_model.specs.Runs.Runs.{Answers, RunsOn, HasRun}
 
 -- what a machine's step answers
 pub answers : (old new : Standing) (step : Step) (result : Result Reply Refused) → IfOk result (λ reply. (entry : Option Item) × FirstMove old.situation step reply new.situation entry)
-    → IfErr result (λ cause. RefusedFor old.situation step cause × (new ≡ old)) → (result ≡ Err NoMemory → IsFull old step) → KeepsRoom old new → Answers old step result new
-answers old new step (Ok reply) taken refused full room = (taken, room)
-answers old new step (Err cause) taken refused full room = (refused.0, λ e. full (ap (λ (x : Refused). Err x) e), refused.1)
+    → IfErr result (λ cause. RefusedFor old.situation step cause × (new ≡ old)) → (result ≡ Err NoMemory → IsFull old step) → KeepsRoom old new → ((core : ℕ) → HoldsOn old new step core) → Answers old step result new
+answers old new step (Ok reply) taken refused full room lines = (taken, room, lines)
+answers old new step (Err cause) taken refused full room lines = (refused.0, λ e. full (ap (λ (x : Refused). Err x) e), refused.1)
 
 runs_push : (steps : List Step) (outcomes : List (Result Reply Refused)) (old middle : Standing) (step : Step) (outcome : Result Reply Refused) (new : Standing) → RunsOn old steps outcomes middle → Answers middle step outcome new → IsSafe new.situation → RunsOn old (steps ++ step ∷ []) (outcomes ++ outcome ∷ []) new
 runs_push [] [] old middle step outcome new r goes safe = (new, (subst (λ (s : Standing). Answers s step outcome new) r goes, safe, refl))
@@ -75,9 +76,9 @@ has_run old new steps taken g r = record { outcomes = r.outcomes; run = r.run; m
 -- one step more of a list
 module _ (old middle new : Standing) (steps : List Step) (i : ℕ) (d : Step) (taken : ℕ) (result : Result Reply Refused) (within : i < length steps) (so_far : Going old (take i steps) taken middle)
     (moved : IfOk result (λ reply. (entry : Option Item) × FirstMove middle.situation (get_or steps i d) reply new.situation entry))
-    (refused : IfErr result (λ cause. RefusedFor middle.situation (get_or steps i d) cause × (new ≡ middle))) (full : result ≡ Err NoMemory → IsFull middle (get_or steps i d)) (room : KeepsRoom middle new) where
+    (refused : IfErr result (λ cause. RefusedFor middle.situation (get_or steps i d) cause × (new ≡ middle))) (full : result ≡ Err NoMemory → IsFull middle (get_or steps i d)) (room : KeepsRoom middle new) (lines : (core : ℕ) → HoldsOn middle new (get_or steps i d) core) where
   goes : Answers middle (get_or steps i d) result new
-  goes = answers middle new (get_or steps i d) result moved refused full room
+  goes = answers middle new (get_or steps i d) result moved refused full room lines
 
   keeps : MachineKeeps new.situation
   keeps = step_keeps middle new (get_or steps i d) result so_far.keeps moved refused

@@ -10,12 +10,13 @@ use Rattle.snoop_model.specs.Moves.Standing.{Standing, KeepsRoom}
 use Rattle.snoop_model.specs.Moves.Move.{FirstMove}
 use Rattle.snoop_model.specs.Moves.StepMove.{RefusedFor}
 use Rattle.snoop_model.specs.Moves.Prepared.{IsFull}
+use Rattle.snoop_model.specs.Moves.Holding.{HoldsOn}
 use Rattle.snoop_model.specs.Runs.Once.{OnceMore}
 use Rattle.snoop_model.specs.Runs.Safe.{IsSafe}
 
--- one step as a machine answers it: a move, an Order being on the block that stands first, by which no room is lost; or a refusal, which leaves all equal, the room too; memory is wanted only where there is no room
+-- one step as a machine answers it: a move, an Order being on the block that stands first, by which no room is lost and lines come and go as they should; or a refusal, which leaves all equal, the room too, and is out of memory only where there is no room
 abbrev pub Answers : Standing → Step → Result Reply Refused → Standing → Type 0
-Answers old step (Ok answer) new = ((entry : Option Item) × FirstMove old.situation step answer new.situation entry) × KeepsRoom old new
+Answers old step (Ok answer) new = ((entry : Option Item) × FirstMove old.situation step answer new.situation entry) × KeepsRoom old new × ((core : ℕ) → HoldsOn old new step core)
 Answers old step (Err cause) new = RefusedFor old.situation step cause × (cause ≡ NoMemory → IsFull old step) × (new ≡ old)
 
 -- from old, these steps with these outcomes lead a machine to new, and it is safe between them too

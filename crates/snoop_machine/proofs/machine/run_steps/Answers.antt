@@ -29,12 +29,12 @@ loop-step-preserved c =
     elim c.if-is_ok.branch [
       | then-is_ok w ↦
           let ok : is_ok c.step.result ≡ true = sym c.is_ok.ensures.value ∙ w.if-is_ok.true in
-          let more = more_taken old middle new c.args.steps.now i _ c.loop-step.taken c.step.result c.loop-step-test.true c.loop-step.invariant.0 c.step.ensures.taken c.step.ensures.refused c.step.ensures.full c.step.ensures.room ok in
+          let more = more_taken old middle new c.args.steps.now i _ c.loop-step.taken c.step.result c.loop-step-test.true c.loop-step.invariant.0 c.step.ensures.taken c.step.ensures.refused c.step.ensures.full c.step.ensures.room c.step.ensures.lines ok in
           let bound : c.loop-step.taken + 1 ≤ i + 1 = omega arith in
           rw w.taken-is (more, bound)
       | else-is_ok w ↦
           let err : is_ok c.step.result ≡ false = sym c.is_ok.ensures.value ∙ w.if-is_ok.false in
-          let more = more_refused old middle new c.args.steps.now i _ c.loop-step.taken c.step.result c.loop-step-test.true c.loop-step.invariant.0 c.step.ensures.taken c.step.ensures.refused c.step.ensures.full c.step.ensures.room err in
+          let more = more_refused old middle new c.args.steps.now i _ c.loop-step.taken c.step.result c.loop-step-test.true c.loop-step.invariant.0 c.step.ensures.taken c.step.ensures.refused c.step.ensures.full c.step.ensures.room c.step.ensures.lines err in
           let bound : c.loop-step.taken ≤ i + 1 = omega arith in
           rw w.taken-is (more, bound)
     ]
