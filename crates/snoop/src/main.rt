@@ -2,7 +2,7 @@
 #![tactic(auto)]
 
 use snoop_sim::{command, refuse_words};
-use snoop_trace::{AnyReader, AnyWriter};
+use snoop_trace::streams::{AnyReader, AnyWriter};
 use std::io;
 use std::process::ExitCode;
 

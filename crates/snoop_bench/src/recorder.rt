@@ -102,7 +102,7 @@ impl Recorder {
         let Ok(reply) = self.machine.step(step) else {
             unreachable!()
         };
-        let _ = self.machine.log().items();
+        self.machine.log().kept();
         self.steps.push_reserved(step);
         self.writer.publish(rt);
         Ok(reply)

@@ -4,6 +4,7 @@ ghost use Rattle.snoop_bus.specs.Traffic.{Traffic, Waiting, waiting_of, head_of,
 
 use crate::queues::Queue;
 use crate::transactions::Open;
+use snoop_blocks::BlockTable;
 use snoop_rules::{Payload, Request};
 use snoop_trace::{NoMemory, Shape};
 use std::alloc::Global;
@@ -16,7 +17,7 @@ use std::marker::Model;
 #[derive(Debug, Drop)]
 pub struct Bus {
     queues: Vec<Queue>,
-    transactions: Vec<Option<Open>>,
+    transactions: BlockTable<Option<Open>>,
 }
 
 impl Model for Bus {
@@ -25,9 +26,9 @@ impl Model for Bus {
 
     ghost Value = { Traffic };
 
-    ghost view = { λ b. record { queues = b.queues.items; transactions = b.transactions.items } };
+    ghost view = { λ b. record { queues = b.queues.items; transactions = b.transactions } };
 
-    ghost invariant = { λ b. AreBlocksWithin b.queues.items (length b.transactions.items) };
+    ghost invariant = { λ b. AreBlocksWithin b.queues.items (length b.transactions) };
 }
 
 impl Bus {
@@ -37,12 +38,11 @@ impl Bus {
         ensures transactions { IfOk result (λ bus. bus.transactions ≡ replicate shape.blocks None) }
     {
         let cores = shape.cores() as usize;
-        let blocks = shape.blocks() as usize;
         let mut queues = Vec::with_capacity(alloc, cores)?;
         for _ in 0..cores {
             queues.push_reserved(Queue::new(alloc));
         }
-        let transactions = vec![in alloc; None; blocks]?;
+        let transactions = BlockTable::new(alloc, shape.blocks(), None)?;
         Ok(Bus {
             queues,
             transactions,
@@ -99,7 +99,7 @@ impl Bus {
     pub fn open(&self, block: u32) -> Option<Open>
         ensures { result ≡ transaction_on self.now block }
     {
-        *self.transactions.get(block as usize)?
+        self.transactions.get_or(block, None)
     }
 
     /// Orders the core's oldest request: it leaves the queue, and its transaction opens with the
@@ -112,14 +112,15 @@ impl Bus {
     {
         let queue = &mut self.queues[core as usize];
         let (request, block) = queue.pop().unwrap();
-        self.transactions[block as usize] = Some(Open {
+        let opened = Open {
             core,
             request,
             block,
             payload,
             value,
             from,
-        });
+        };
+        self.transactions.set(block, Some(opened));
     }
 
     /// Closes the block's transaction and hands it out; where none is open, nothing changes.
@@ -128,6 +129,10 @@ impl Bus {
         ensures after { self.new ≡ record self.old { transactions = slice_set self.old.transactions block None } }
         ensures unchanged { IsNone result → self.new ≡ self.old }
     {
-        self.transactions.get_mut(block as usize)?.take()
+        let closed = self.open(block);
+        if closed.is_some() {
+            self.transactions.set(block, None);
+        }
+        closed
     }
 }

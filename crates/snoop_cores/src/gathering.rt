@@ -57,7 +57,7 @@ fn join(alloc: Global, bench: &Bench, seats: &[Seat]) -> Result<Gathered, Gather
     if let Some(core) = busy_core(bench, seats) {
         return Err(GatherFault::Pending { core });
     }
-    if let Some((core, place)) = difference(bench.log().items(), seats, bench.shape().cores()) {
+    if let Some((core, place)) = difference(bench.log(), seats, bench.shape().cores()) {
         return Err(GatherFault::Mismatch { core, place });
     }
     let Ok(gathered) = copy(alloc, bench) else {
@@ -134,12 +134,12 @@ fn is_idle(seats: &[Seat], core: u32) -> bool
 }
 
 // The least core whose operations among the items differ from the answers of its seat, and where.
-fn difference(items: &[Item], seats: &[Seat], cores: u32) -> Option<(u32, u64)>
-    ensures none { IfNone result ((core : ℕ) → core < cores → IsAnswered items.now seats.now core) }
-    ensures some { IfSome result (λ at. (at.0 < cores) × ((lower : ℕ) → lower < at.0 → IsAnswered items.now seats.now lower) × DiffersAt items.now seats.now at.0 at.1) }
+fn difference(log: &Log, seats: &[Seat], cores: u32) -> Option<(u32, u64)>
+    ensures none { IfNone result ((core : ℕ) → core < cores → IsAnswered log.now.items seats.now core) }
+    ensures some { IfSome result (λ at. (at.0 < cores) × ((lower : ℕ) → lower < at.0 → IsAnswered log.now.items seats.now lower) × DiffersAt log.now.items seats.now at.0 at.1) }
 {
     for core in 0..cores {
-        if let Some(place) = difference_of(items, seats, core) {
+        if let Some(place) = difference_of(log, seats, core) {
             return Some((core, place));
         }
     }
@@ -147,13 +147,13 @@ fn difference(items: &[Item], seats: &[Seat], cores: u32) -> Option<(u32, u64)>
 }
 
 // Where the answers of a seat of the core differ from its operations.
-fn difference_of(items: &[Item], seats: &[Seat], core: u32) -> Option<u64>
-    ensures none { IfNone result (IsAnswered items.now seats.now core) }
-    ensures some { IfSome result (λ place. DiffersAt items.now seats.now core place) }
+fn difference_of(log: &Log, seats: &[Seat], core: u32) -> Option<u64>
+    ensures none { IfNone result (IsAnswered log.now.items seats.now core) }
+    ensures some { IfSome result (λ place. DiffersAt log.now.items seats.now core place) }
 {
     for seat in seats {
         if seat.core() == core {
-            if let Some(place) = first_difference(items, core, seat.answers()) {
+            if let Some(place) = first_difference(log, core, seat.answers()) {
                 return Some(place);
             }
         }
@@ -162,12 +162,15 @@ fn difference_of(items: &[Item], seats: &[Seat], core: u32) -> Option<u64>
 }
 
 // The first place where the core's operations among the items differ from the answers.
-fn first_difference(items: &[Item], core: u32, answers: &[Did]) -> Option<u64>
-    ensures none { IfNone result (answers_of items.now core ≡ answers.now) }
-    ensures some { IfSome result (λ place. IsFirst (answers_of items.now core) answers.now place) }
+fn first_difference(log: &Log, core: u32, answers: &[Did]) -> Option<u64>
+    ensures none { IfNone result (answers_of log.now.items core ≡ answers.now) }
+    ensures some { IfSome result (λ place. IsFirst (answers_of log.now.items core) answers.now place) }
 {
     let mut next = 0usize;
-    for item in items {
+    for place in 0..log.len() {
+        let Some(item) = log.item(place) else {
+            unreachable!()
+        };
         if let Some(did) = own_did(item, core) {
             if !stands_at(answers, next, did) {
                 return Some(next as u64);
@@ -198,8 +201,8 @@ fn is_same(one: Did, other: Did) -> bool
 }
 
 // The item's operation, if it is the core's.
-fn own_did(item: &Item, core: u32) -> Option<Did>
-    ensures { option_to_list result ≡ answers_of (item.now ∷ []) core }
+fn own_did(item: Item, core: u32) -> Option<Did>
+    ensures { option_to_list result ≡ answers_of (item ∷ []) core }
 {
     item.did().filter(|did| did.core == core)
 }

@@ -8,7 +8,8 @@ ghost use Rattle.snoop_engine.specs.Line.{line_text, outcome_text};
 use snoop_history::Did;
 use snoop_machine::{Refused, Reply};
 use snoop_rules::Payload;
-use snoop_trace::{NoMemory, Shape, Step, push_byte, push_decimal, push_step, push_text};
+use snoop_trace::streams::{push_byte, push_decimal, push_step, push_text};
+use snoop_trace::{NoMemory, Shape, Step};
 
 // Appends a text and then a number.
 fn push_numbered(out: &mut Vec<u8>, text: &str, number: u64) -> Result<(), NoMemory>

@@ -10,7 +10,8 @@ use crate::fault::SimFault;
 use crate::line::push_line;
 use snoop_history::write_report;
 use snoop_rules::Protocol;
-use snoop_trace::{Row, Shape, Sink, Source, WriteFault, read_rows, spill, write_whole};
+use snoop_trace::streams::{Sink, Source, spill, write_whole};
+use snoop_trace::{Row, Shape, WriteFault, read_rows};
 use std::alloc::Global;
 
 /// Reads a text of rows to its end, and lets each core do its rows in the order of the text, one at a time, on a

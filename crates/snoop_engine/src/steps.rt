@@ -14,9 +14,8 @@ use snoop_history::write_report;
 use snoop_machine::laws::runs_go_on;
 use snoop_machine::{Machine, Refused};
 use snoop_rules::Protocol;
-use snoop_trace::{
-    NoMemory, Shape, Sink, Source, Step, WriteFault, read_steps, spill, write_whole,
-};
+use snoop_trace::streams::{Sink, Source, spill, write_whole};
+use snoop_trace::{NoMemory, Shape, Step, WriteFault, read_steps};
 use std::alloc::Global;
 
 /// Reads a text of steps to its end, takes them in order on a machine at reset, and writes the line of each

@@ -7,7 +7,8 @@ use snoop_bus::Open;
 use snoop_history::Log;
 use snoop_machine::Machine;
 use snoop_rules::Protocol;
-use snoop_trace::{AnyReader, Shape, read_steps};
+use snoop_trace::streams::AnyReader;
+use snoop_trace::{Shape, read_steps};
 use std::alloc::Global;
 
 /// What the command line asks for: a protocol and a shape, with blocks of 64 bytes.

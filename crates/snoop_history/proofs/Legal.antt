@@ -1,5 +1,5 @@
 -- What a legal list and flat memory are after one more item.
-use Rattle.std.proofs.Common.{◌≡◌, ℕ, zero, suc, List, [], ◌∷◌, ◌++◌, take, Option, Some, None, ◌⊎◌, inl, inr, refl, ap, subst, true, false, cond, map}
+use Rattle.std.proofs.Common.{◌≡◌, ℕ, zero, suc, List, [], ◌∷◌, ◌++◌, take, Option, Some, None, ◌⊎◌, inl, inr, refl, ap, true, false, cond, map}
 use Rattle.std.specs.Prelude.{slice_get, filter, if◌then◌else◌}
 use Rattle.std.specs.List.{cons_option}
 use Rattle.std.specs.Option.{option_map_or}
@@ -10,7 +10,7 @@ use Rattle.snoop_history.specs.declared.items.Did.{Did}
 use Rattle.snoop_history.proofs.Pushed.{last_or-append}
 use Rattle.snoop_history.specs.History.{Legal, Follows, flat, stores, stored_values, operations, operation_of, is_store_to, last_or, IsNumbered}
 use Rattle.snoop_history.specs.Within.{IsWithin}
-use Rattle.snoop_history.specs.Tallied.{IsKeptList}
+use Rattle.snoop_history.specs.Kept.{IsKeptList}
 
 -- an element of a list with one more at its end: an earlier one, or the new one
 slice_get-snoc : {A : Type 0} (items : List A) (entry : A) (k : ℕ) (x : A) → slice_get (items ++ entry ∷ []) k ≡ Some x →
@@ -39,26 +39,8 @@ listed-push cores blocks items entry kept within numbered =
       in_order = each-grows IsNumbered items entry kept.in_order numbered;
     }
 
--- the same under other names of the sizes
-pub listed-same : (cores blocks cores' blocks' : ℕ) (items : List Item) → cores ≡ cores' → blocks ≡ blocks' → IsKeptList cores blocks items → IsKeptList cores' blocks' items
-listed-same cores blocks cores' blocks' items c b kept =
-    let P : ℕ → Type 0 = λ n. IsKeptList n blocks items in
-    let Q : ℕ → Type 0 = λ n. IsKeptList cores' n items in
-    subst Q b (subst P c kept)
-
 pub legal-grows : (items : List Item) (entry : Item) → Legal items → Follows items entry → Legal (items ++ entry ∷ [])
 legal-grows items entry legal follows = each-grows Follows items entry legal follows
-
-slice_get-front : {A : Type 0} (items rest : List A) (k : ℕ) (x : A) → slice_get items k ≡ Some x →
-    (slice_get (items ++ rest) k ≡ Some x) × (take k (items ++ rest) ≡ take k items)
-slice_get-front [] rest k x at = cc
-slice_get-front (y ∷ ys) rest zero x at = (at, refl)
-slice_get-front (y ∷ ys) rest (suc k) x at =
-    let p = slice_get-front ys rest k x at in (p.0, ap (λ l. y ∷ l) p.1)
-
-pub legal-begins : (items rest : List Item) → Legal (items ++ rest) → Legal items
-legal-begins items rest legal k x at =
-    let p = slice_get-front items rest k x at in rw (← p.1) (legal k x p.0)
 
 -- the last value stored by one item, after another
 flat-one : (before : ℕ) (block : ℕ) (did : Option Did) →

@@ -2,4 +2,6 @@ pub mod Pushed
 pub mod Legal
 pub mod Boards
 pub mod Touching
+pub mod Marks
+pub mod Kept
 pub mod Outcomes

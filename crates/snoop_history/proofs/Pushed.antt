@@ -1,10 +1,7 @@
 -- One more item: the operations, counts, flat values and totals of the longer list.
-use Rattle.std.proofs.Common.{◌≡◌, ℕ, suc, ◌+◌, ◌-◌, ◌^◌, ◌<◌, ◌≤◌, Bool, true, false, not, ◌&&◌, List, [], ◌∷◌, ◌++◌, length, Option, Some, None, refl, sym, ◌∙◌, ap, arith, map, filter, cond}
-use Rattle.std.specs.Prelude.{option_to_list, slice_get, slice_index, slice_set, ◌==◌, is_some, is_none}
-use Rattle.std.proofs.Common.{eqb, get_or, inl, inr}
-use Rattle.std.proofs.lemmas.Bool.{cases_eq, eq-eqb, ne_eqb}
-use Rattle.std.proofs.lemmas.List.{map-append, length-append, length-set, get_or-set_same, get_or-set_other, get_or_read}
-use Rattle.std.proofs.lemmas.Option.{slice_get-get_or, get_or_from_slice_get}
+use Rattle.std.proofs.Common.{◌≡◌, ℕ, suc, ◌+◌, ◌^◌, ◌<◌, ◌≤◌, Bool, true, false, not, ◌&&◌, List, [], ◌∷◌, ◌++◌, length, Option, Some, None, refl, sym, ◌∙◌, ap, arith, map, filter, cond}
+use Rattle.std.specs.Prelude.{option_to_list, ◌==◌, is_some, is_none}
+use Rattle.std.proofs.lemmas.List.{map-append, length-append}
 use Rattle.std.proofs.lemmas.List.Elements.{filter-append, filter_map-append}
 use Rattle.snoop_history.specs.declared.items.Did.{Did}
 use Rattle.snoop_history.specs.declared.items.Item.{Item}
@@ -78,38 +75,9 @@ counted-capped : (n : ℕ) (here : Bool) → counted (capped n) here ≡ capped 
 counted-capped n true = omega arith
 counted-capped n false = omega arith
 
-counted-below : (n : ℕ) (here : Bool) → n + one_if here < 2 ^ 64 → counted n here ≡ n + one_if here
-counted-below n true below = omega arith
-counted-below n false below = omega arith
-
--- a capped count of a list, and one of a list that is not of the greatest length
+-- a capped count of a list with one more item
 how_many-capped : (test : Item → Bool) (items : List Item) (entry : Item) → counted (capped (how_many test items)) (test entry) ≡ capped (how_many test (items ++ entry ∷ []))
 how_many-capped test items entry = counted-capped (how_many test items) (test entry) ∙ ap capped (sym (how_many-more test items entry))
-
-how_many-push : (test : Item → Bool) (items : List Item) (entry : Item) → length items < 2 ^ 64 - 1 → counted (how_many test items) (test entry) ≡ how_many test (items ++ entry ∷ [])
-how_many-push test items entry few =
-    let more = how_many-more test items entry in
-    let all : length (items ++ entry ∷ []) ≡ length items + 1 = length-append items (entry ∷ []) in
-    let bound_after : how_many test (items ++ entry ∷ []) ≤ length (items ++ entry ∷ []) = length-filter-le test (items ++ entry ∷ []) in
-    counted-below (how_many test items) (test entry) (omega arith) ∙ sym more
-
-pub totals_of-push : (items : List Item) (entry : Item) → length items < 2 ^ 64 - 1 → tallied (totals_of items) entry ≡ totals_of (items ++ entry ∷ [])
-totals_of-push items entry few =
-    let step : (test : Item → Bool) → counted (how_many test items) (test entry) ≡ how_many test (items ++ entry ∷ []) = λ test. how_many-push test items entry few in
-    simp (
-      step (performed (λ did. did.load)),
-      step (performed (λ did. did.load && did.hit)),
-      step (performed (λ did. not did.load)),
-      step (performed (λ did. not did.load && did.hit)),
-      step (ordered is_get_s),
-      step (ordered is_get_m),
-      step (ordered is_put_m),
-      step (responded (λ came. is_none came.from)),
-      step (responded (λ came. is_some came.from && not (is_put_m came.request))),
-      step (responded (λ came. is_put_m came.request && is_data came.payload)),
-      step (responded (λ came. is_put_m came.request && is_no_data_e came.payload)),
-      step (responded (λ came. is_put_m came.request && is_no_data came.payload)),
-    )
 
 pub capped_totals-push : (items : List Item) (entry : Item) → tallied (capped_totals (totals_of items)) entry ≡ capped_totals (totals_of (items ++ entry ∷ []))
 capped_totals-push items entry =
@@ -129,88 +97,6 @@ capped_totals-push items entry =
       step (responded (λ came. is_put_m came.request && is_no_data came.payload)),
     )
 
--- the counts and flat values after one more item
-module _ (items : List Item) (entry : Item) (did : Did) (performs : operation_of entry ≡ Some did) where
-  pub numbered-did : (counts : List ℕ) (n : ℕ) → ((core : ℕ) → core < length counts → slice_index counts core ≡ next_number items core)
-      → did.core < length counts → n ≡ get_or counts did.core n → (core : ℕ) → core < length (slice_set counts did.core (n + 1)) → slice_index (slice_set counts did.core (n + 1)) core ≡ next_number (items ++ entry ∷ []) core
-  numbered-did counts n numbered within read core inside =
-      let same_length : length (slice_set counts did.core (n + 1)) ≡ length counts = length-set counts did.core (n + 1) in
-      let more : next_number (items ++ entry ∷ []) core ≡ next_number items core + length (of_core core (Some did)) = rw performs at (next_number-push items entry core) in
-      elim (cases_eq did.core core) [
-        | inl e ↦
-            let t : eqb did.core core ≡ true = eq-eqb _ _ e in
-            let new : slice_index (slice_set counts did.core (n + 1)) did.core ≡ n + 1 = get_or-set_same counts did.core (n + 1) 0 within in
-            let old : n ≡ slice_index counts did.core = get_or_read counts did.core n within read 0 in
-            let was : slice_index counts did.core ≡ next_number items did.core = numbered did.core within in
-            let one : length (of_core core (Some did)) ≡ 1 = rw t refl in
-            let a : slice_index (slice_set counts did.core (n + 1)) core ≡ n + 1 = rw (← e) new in
-            let b : n ≡ next_number items core = rw (← e) (old ∙ was) in
-            omega arith
-        | inr ne ↦
-            let t : eqb did.core core ≡ false = ne_eqb _ _ ne in
-            let none : length (of_core core (Some did)) ≡ 0 = rw t refl in
-            let kept : slice_index (slice_set counts did.core (n + 1)) core ≡ slice_index counts core = get_or-set_other counts did.core core (n + 1) 0 (λ e. ne (sym e)) in
-            let was : slice_index counts core ≡ next_number items core = numbered core (omega arith) in
-            omega arith
-      ]
-
-  pub latest-did : (lasts : List (Option Did)) (cores after : ℕ) → length lasts ≡ cores → after ≡ cores → ((core : ℕ) → core < cores → slice_get lasts core ≡ Some (last_of items core))
-      → did.core < cores → (core : ℕ) → core < after → slice_get (slice_set lasts did.core (Some did)) core ≡ Some (last_of (items ++ entry ∷ []) core)
-  latest-did lasts cores after as_many same latest within core inside =
-      let same_length : length (slice_set lasts did.core (Some did)) ≡ length lasts = length-set lasts did.core (Some did) in
-      let more : last_of (items ++ entry ∷ []) core ≡ last_or (last_of items core) (map Some (of_core core (Some did))) = rw performs at (last_of-push items entry core) in
-      let there : slice_get (slice_set lasts did.core (Some did)) core ≡ Some (get_or (slice_set lasts did.core (Some did)) core None) = slice_get-get_or (slice_set lasts did.core (Some did)) core None (omega arith) in
-      there ∙ ap Some (elim (cases_eq did.core core) [
-        | inl e ↦
-            let t : eqb did.core core ≡ true = eq-eqb _ _ e in
-            let new : get_or (slice_set lasts did.core (Some did)) did.core None ≡ Some did = get_or-set_same lasts did.core (Some did) None (omega arith) in
-            let one : last_or (last_of items core) (map Some (of_core core (Some did))) ≡ Some did = rw t refl in
-            let here : get_or (slice_set lasts did.core (Some did)) core None ≡ Some did = rw (← e) new in
-            here ∙ sym (more ∙ one)
-        | inr ne ↦
-            let t : eqb did.core core ≡ false = ne_eqb _ _ ne in
-            let none : last_or (last_of items core) (map Some (of_core core (Some did))) ≡ last_of items core = rw t refl in
-            let kept : get_or (slice_set lasts did.core (Some did)) core None ≡ get_or lasts core None = get_or-set_other lasts did.core core (Some did) None (λ e. ne (sym e)) in
-            let was : get_or lasts core None ≡ last_of items core = get_or_from_slice_get lasts core (last_of items core) None (latest core (omega arith)) in
-            kept ∙ was ∙ sym (more ∙ none)
-      ])
-
-  pub flat-load : (flats : List ℕ) → ((block : ℕ) → block < length flats → slice_index flats block ≡ flat items block)
-      → did.load ≡ true → (block : ℕ) → block < length flats → slice_index flats block ≡ flat (items ++ entry ∷ []) block
-  flat-load flats flattened loads block inside =
-      let more : flat (items ++ entry ∷ []) block ≡ last_or (flat items block) (stored_in block (Some did)) = rw performs at (flat-push items entry block) in
-      let none : stored_in block (Some did) ≡ [] = rw loads refl in
-      rw (more, none) (flattened block inside)
-
-  pub flat-store : (flats : List ℕ) → ((block : ℕ) → block < length flats → slice_index flats block ≡ flat items block)
-      → did.load ≡ false → did.block < length flats → (block : ℕ) → block < length (slice_set flats did.block did.value) → slice_index (slice_set flats did.block did.value) block ≡ flat (items ++ entry ∷ []) block
-  flat-store flats flattened stores within block inside =
-      let same_length : length (slice_set flats did.block did.value) ≡ length flats = length-set flats did.block did.value in
-      let more : flat (items ++ entry ∷ []) block ≡ last_or (flat items block) (stored_in block (Some did)) = rw performs at (flat-push items entry block) in
-      elim (cases_eq did.block block) [
-        | inl e ↦
-            let t : eqb did.block block ≡ true = eq-eqb _ _ e in
-            let one : stored_in block (Some did) ≡ did.value ∷ [] = rw (stores, t) refl in
-            let new : slice_index (slice_set flats did.block did.value) did.block ≡ did.value = get_or-set_same flats did.block did.value 0 within in
-            rw (more, one, ← e) new
-        | inr ne ↦
-            let t : eqb did.block block ≡ false = ne_eqb _ _ ne in
-            let none : stored_in block (Some did) ≡ [] = rw (stores, t) refl in
-            let kept : slice_index (slice_set flats did.block did.value) block ≡ slice_index flats block = get_or-set_other flats did.block block did.value 0 (λ e. ne (sym e)) in
-            rw (more, none) (kept ∙ flattened block (omega arith))
-      ]
-
--- no operation, no change
-module _ (items : List Item) (entry : Item) (performs : operation_of entry ≡ None) where
-  pub numbered-none : (core : ℕ) → next_number (items ++ entry ∷ []) core ≡ next_number items core
-  numbered-none core = let more : next_number (items ++ entry ∷ []) core ≡ next_number items core + length (of_core core None) = rw performs at (next_number-push items entry core) in omega arith
-
-  pub last-none : (core : ℕ) → last_of (items ++ entry ∷ []) core ≡ last_of items core
-  last-none core = rw performs at (last_of-push items entry core)
-
-  pub flat-none : (block : ℕ) → flat (items ++ entry ∷ []) block ≡ flat items block
-  flat-none block = rw performs at (flat-push items entry block)
-
 length-filter_did : (test : Did → Bool) (dids : List Did) → length (filter test dids) ≤ length dids
 length-filter_did test [] = omega arith
 length-filter_did test (x ∷ xs) =
@@ -226,6 +112,31 @@ length-operations (item.Came came (Some did) ∷ xs) = omega (arith, length-oper
 
 pub next_number_le : (items : List Item) (core : ℕ) → next_number items core ≤ length items
 next_number_le items core = omega (arith, length-filter_did (λ did. did.core == core) (operations items), length-operations items)
+
+-- a count below the largest u64 is not capped
+capped-few : (n : ℕ) → n < 2 ^ 64 → capped n ≡ n
+capped-few n few = omega arith
+
+pub next_number-few : (items : List Item) (core : ℕ) → length items < 2 ^ 64 → capped (next_number items core) ≡ next_number items core
+next_number-few items core few = capped-few (next_number items core) (omega (arith, next_number_le items core))
+
+pub totals-few : (items : List Item) → length items < 2 ^ 64 → capped_totals (totals_of items) ≡ totals_of items
+totals-few items few =
+    let step : (test : Item → Bool) → capped (how_many test items) ≡ how_many test items = λ test. capped-few (how_many test items) (omega (arith, length-filter-le test items)) in
+    simp (
+      step (performed (λ did. did.load)),
+      step (performed (λ did. did.load && did.hit)),
+      step (performed (λ did. not did.load)),
+      step (performed (λ did. not did.load && did.hit)),
+      step (ordered is_get_s),
+      step (ordered is_get_m),
+      step (ordered is_put_m),
+      step (responded (λ came. is_none came.from)),
+      step (responded (λ came. is_some came.from && not (is_put_m came.request))),
+      step (responded (λ came. is_put_m came.request && is_data came.payload)),
+      step (responded (λ came. is_put_m came.request && is_no_data_e came.payload)),
+      step (responded (λ came. is_put_m came.request && is_no_data came.payload)),
+    )
 
 pub none_from_not_some : (op : Option Did) → ((did : Did) → op ≡ Some did → ⊥) → op ≡ None
 none_from_not_some None h = refl

@@ -13,7 +13,6 @@ use Rattle.std.proofs.lemmas.Map.Views.{any-filter_same}
 use Rattle.indexmap.specs.IndexSet.{insert_key}
 use Rattle.snoop_history.specs.declared.items.Did.{Did}
 use Rattle.snoop_history.specs.declared.items.Item.{Item}
-use Rattle.snoop_history.specs.declared.items.Item.TheVariants as item
 use Rattle.snoop_history.specs.Within.{block_of, IsWithin}
 use Rattle.snoop_history.specs.Totals.{each_once, mentioned, touched, totals_of}
 use Rattle.snoop_history.specs.declared.items.Totals.{Totals}
@@ -76,6 +75,15 @@ touched-more items entry =
     ap each_once (flat_map-append mentioned items (entry ∷ []) ∙ ap (λ (l : List ℕ). flat_map mentioned items ++ l) (append-nil (mentioned entry)))
     ∙ each_once-blocks (flat_map mentioned items) (block_of entry) (operation_of entry)
 
+-- the same under other names
+pub touched-add : (items : List Item) (entry : Item) (before after : List ℕ) (block : ℕ) (op : Option Did) → before ≡ touched items → block ≡ block_of entry → op ≡ operation_of entry →
+    after ≡ with_operation (insert_key nat_eq before block) op → after ≡ touched (items ++ entry ∷ [])
+touched-add items entry before after block op was is performs added =
+    added
+    ∙ (ap (λ (l : List ℕ). with_operation (insert_key nat_eq l block) op) was
+    ∙ (ap (λ (b : ℕ). with_operation (insert_key nat_eq (touched items) b) op) is
+    ∙ (ap (λ (o : Option Did). with_operation (insert_key nat_eq (touched items) (block_of entry)) o) performs ∙ sym (touched-more items entry))))
+
 each_once-all : (P : ℕ → Type 0) (xs : List ℕ) → All P xs → All P (each_once xs)
 each_once-all P [] all = All-nil P
 each_once-all P (x ∷ xs) all = All-cons P x (but x (each_once xs)) (All-head P x xs all) (All-filter (λ z. not (z == x)) P (each_once xs) (each_once-all P xs (All-tail P x xs all)))
@@ -98,19 +106,6 @@ mentioned_within cores blocks (x ∷ xs) all =
 pub touched_within : (cores blocks : ℕ) (items : List Item) → All (IsWithin cores blocks) items → All (λ block. block < blocks) (touched items)
 touched_within cores blocks items all =
     each_once-all (λ block. block < blocks) (flat_map mentioned items) (mentioned_within cores blocks items all)
-
--- what is read past the end of a list
-abbrev some_item : Item
-some_item = item.Did (record { core = 0; number = 0; block = 0; load = false; value = 0; hit = false })
-
--- a step of the loop over the items
-pub touched_step : (items : List Item) (i : ℕ) (keys keys' : List ℕ) (block : ℕ) (op : Option Did) (within : i < length items) → keys ≡ touched (take i items) →
-    block ≡ block_of (get_or items i some_item) → op ≡ operation_of (get_or items i some_item) → keys' ≡ with_operation (insert_key nat_eq keys block) op → keys' ≡ touched (take (i + 1) items)
-touched_step items i keys keys' block op within so_far is performs inserted =
-    let entry = get_or items i some_item in
-    inserted ∙ (ap (λ (l : List ℕ). with_operation (insert_key nat_eq l block) op) so_far ∙ (ap (λ (b : ℕ). with_operation (insert_key nat_eq (touched (take i items)) b) op) is
-    ∙ (ap (λ (o : Option Did). with_operation (insert_key nat_eq (touched (take i items)) (block_of entry)) o) performs
-    ∙ (sym (touched-more (take i items) entry) ∙ ap touched (sym (take_more items i _ within))))))
 
 -- a step of the loop over the blocks
 pub blocks_step : (items : List Item) (blocks : List ℕ) (i : ℕ) (old before after : List ℕ) (value : ℕ) → i < length blocks → before ≡ old ++ blocks_text items (take i blocks) →

@@ -2,7 +2,10 @@ pub mod History
 pub mod Within
 pub mod Totals
 pub mod Journal
-pub mod Tallied
+pub mod Packed
+pub mod Mentions
+pub mod Marked
+pub mod Kept
 pub mod Board
 pub mod Report
 pub mod Joins

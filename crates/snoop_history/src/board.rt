@@ -1,5 +1,5 @@
 //! The running tables of a history.
-ghost use Rattle.std.specs.Prelude.{◌≡◌, ℕ, List, [], ◌∷◌, ◌++◌, length, Some, None, slice_get, option_and_then, if◌then◌else◌, nat_lt, IsTrue, ◌↔◌, IfOk};
+ghost use Rattle.std.specs.Prelude.{◌≡◌, ℕ, List, [], ◌∷◌, ◌++◌, length, Some, None, slice_get, option_and_then, if◌then◌else◌, nat_lt, ◌<◌, slice_set, IsTrue, ◌↔◌, IfOk};
 ghost use Rattle.snoop_history.specs.declared.items.Item.{Item};
 ghost use Rattle.snoop_history.specs.History.{next_number, flat, last_of};
 ghost use Rattle.snoop_history.specs.Within.{inside};
@@ -57,6 +57,20 @@ impl Board {
         self.counts.len() == shape.cores() as usize && self.values.len() == shape.blocks() as usize
     }
 
+    /// How many cores there are.
+    pub(crate) fn cores(&self) -> usize
+        ensures { result ≡ length self.now.counts }
+    {
+        self.counts.len()
+    }
+
+    /// How many blocks there are.
+    pub(crate) fn blocks(&self) -> usize
+        ensures { result ≡ length self.now.values }
+    {
+        self.values.len()
+    }
+
     /// Takes in one more item, of any kind. It takes no memory and cannot fail.
     pub fn absorb(&mut self, item: Item)
         ensures value { self.new ≡ absorbed self.old item }
@@ -70,9 +84,7 @@ impl Board {
             let core = did.core as usize;
             self.counts[core] = self.counts[core].saturating_add(1);
             self.lasts[core] = Some(did);
-            if !did.load {
-                self.values[did.block as usize] = did.value;
-            }
+            write_value(&mut self.values, did);
         }
     }
 
@@ -106,5 +118,27 @@ impl Board {
         ensures board { (cores blocks : ℕ) (items : List Item) → self.now ≡ board_of cores blocks items → result ≡ capped_totals (totals_of items) }
     {
         self.totals
+    }
+
+    /// An equal board. `NoMemory` where a table was refused.
+    pub(crate) fn copy(&self, alloc: Global) -> Result<Board, NoMemory>
+        ensures { IfOk result (λ board. board ≡ self.now) }
+    {
+        Ok(Board {
+            values: Vec::from_slice(alloc, &self.values)?,
+            counts: Vec::from_slice(alloc, &self.counts)?,
+            lasts: Vec::from_slice(alloc, &self.lasts)?,
+            totals: self.totals,
+        })
+    }
+}
+
+// Writes what a store stores, in its block's place.
+fn write_value(values: &mut Vec<u64>, did: Did)
+    requires { did.block < length values.old.items }
+    ensures { values.new.items ≡ (if did.load then values.old.items else slice_set values.old.items did.block did.value) }
+{
+    if !did.load {
+        values[did.block as usize] = did.value;
     }
 }

@@ -132,8 +132,8 @@ pub struct Totals {
     pub from_caches: u64,
     /// Responses to PutM that carry the block's data.
     pub writebacks: u64,
-    /// Responses with NoDataE: the copy was not written since it came. A machine sends them only for PutM.
+    /// Responses to PutM with NoDataE: the copy was not written since it came.
     pub clean: u64,
-    /// Responses with NoData: the requestor is the owner no more. A machine sends them only for PutM.
+    /// Responses to PutM with NoData: the requestor is the owner no more.
     pub stale: u64,
 }

@@ -5,8 +5,10 @@ mod board;
 mod items;
 pub mod laws;
 mod log;
+mod packed;
 mod report;
 mod totals;
+mod touched;
 
 pub use board::Board;
 pub use items::{Came, Did, Item, Sent, Totals};

@@ -2,22 +2,23 @@
 ghost use Rattle.std.specs.Prelude.{All, ◌&&◌, ◌==◌, ◌≡◌, ◌-◌, ◌<◌, ◌≤◌, ◌↔◌, [], ◌∷◌, ◌++◌, length, take, IsTrue, IfOk, IfSome, OnOk, OnErr, Some, None, slice_get, if◌then◌else◌, nat_lt};
 ghost use Rattle.snoop_history.specs.History.{next_number, flat, answers_of, last_of, IsNumbered};
 ghost use Rattle.snoop_history.specs.Within.{IsWithin};
-ghost use Rattle.snoop_history.specs.Totals.{totals_of};
+ghost use Rattle.snoop_history.specs.Totals.{totals_of, touched};
 
+use crate::board::Board;
 use crate::items::{Did, Item, Totals};
+use crate::packed::Packed;
+use crate::touched::TouchedBlocks;
 use snoop_trace::{NoMemory, Shape};
 use std::alloc::Global;
 use std::marker::Model;
 
-/// The history of a machine: the items of its steps in order, with running totals, counts and last
-/// operations by core, and values of flat memory by block, so that none is worked out anew.
+/// The history of a machine: the items of its steps in order, with their board and the blocks that they mention,
+/// so that none is worked out anew.
 #[derive(Debug, Drop)]
 pub struct Log {
-    items: Vec<Item>,
-    totals: Totals,
-    counts: Vec<u64>,
-    lasts: Vec<Option<Did>>,
-    flat: Vec<u64>,
+    items: Vec<Packed>,
+    board: Board,
+    touched: TouchedBlocks,
 }
 
 impl Model for Log {
@@ -25,11 +26,11 @@ impl Model for Log {
 
     ghost Value = { Journal };
 
-    ghost use Rattle.snoop_history.specs.Tallied.{journal, IsKept};
+    ghost use Rattle.snoop_history.specs.Kept.{journal, IsWellKept};
 
     ghost view = { journal };
 
-    ghost invariant = { IsKept };
+    ghost invariant = { IsWellKept };
 }
 
 impl Log {
@@ -37,15 +38,11 @@ impl Log {
     pub fn new(alloc: Global, shape: Shape) -> Result<Self, NoMemory>
         ensures { IfOk result (λ log. log ≡ record { cores = shape.cores; blocks = shape.blocks; items = []; room = 0 }) }
     {
-        let counts = vec![in alloc; 0; shape.cores() as usize]?;
-        let lasts = vec![in alloc; None; shape.cores() as usize]?;
-        let flat = vec![in alloc; 0; shape.blocks() as usize]?;
+        prove!(shape.cores() <= 256);
         Ok(Log {
             items: Vec::new(alloc),
-            totals: Totals::default(),
-            counts,
-            lasts,
-            flat,
+            board: Board::new(alloc, shape)?,
+            touched: TouchedBlocks::new(alloc, shape.blocks() as usize)?,
         })
     }
 
@@ -90,43 +87,51 @@ impl Log {
         // The k-th operation of a core, from 0, carries number k.
         ensures numbered { IfSome result (λ entry. IsNumbered (take place self.now.items) entry) }
     {
-        self.items.get(place).copied()
+        let packed = self.items.get(place).copied()?;
+        Some(packed.unpack())
     }
 
-    /// All items, in order.
-    pub fn items(&self) -> &[Item]
-        ensures value { result.now ≡ self.now.items }
-        ensures within { All (IsWithin self.now.cores self.now.blocks) result.now }
+    /// Does nothing: every item lies within the shape.
+    pub fn kept(&self)
+        ensures { All (IsWithin self.now.cores self.now.blocks) self.now.items }
     {
-        &self.items
+        let _ = &self.items;
     }
 
     /// How many operations of the core were performed, and so the number of its next one; `None` outside the shape.
     pub fn count(&self, core: u32) -> Option<u64>
         ensures { result ≡ (if nat_lt core self.now.cores then Some (next_number self.now.items core) else None) }
     {
-        self.counts.get(core as usize).copied()
+        self.board.count(core)
     }
 
     /// The core's last operation; `None` where it has none, and outside the shape. It takes no memory.
     pub fn last(&self, core: u32) -> Option<Did>
         ensures { result ≡ (if nat_lt core self.now.cores then last_of self.now.items core else None) }
     {
-        self.lasts.get(core as usize).copied().flatten()
+        self.board.last(core)
     }
 
     /// The block's value in flat memory: the last one stored, 0 if there is none; `None` outside the shape.
     pub fn flat(&self, block: u32) -> Option<u64>
         ensures { result ≡ (if nat_lt block self.now.blocks then Some (flat self.now.items block) else None) }
     {
-        self.flat.get(block as usize).copied()
+        self.board.value(block)
     }
 
     /// The counts of the items.
     pub fn totals(&self) -> Totals
         ensures { result ≡ totals_of self.now.items }
     {
-        self.totals
+        self.board.totals()
+    }
+
+    /// The blocks that an item mentions, in order of first mention.
+    pub(crate) fn touched(&self) -> &[u32]
+        ensures value { result.now ≡ touched self.now.items }
+        ensures within { All (λ block. block < self.now.blocks) result.now }
+    {
+        self.touched.as_slice()
     }
 
     /// The operations of one core, in order: none for a core outside the shape. `NoMemory` where the list
@@ -137,7 +142,7 @@ impl Log {
         let dids = self
             .items
             .iter()
-            .filter_map(|item| item.did())
+            .filter_map(|packed| packed.operation())
             .filter(|did| did.core == core)
             .collect(*self.items.allocator())?;
         Ok(dids)
@@ -149,12 +154,36 @@ impl Log {
     {
         let alloc = *self.items.allocator();
         Ok(Log {
-            items: Vec::from_slice(alloc, self.items())?,
-            totals: self.totals,
-            counts: Vec::from_slice(alloc, &self.counts)?,
-            lasts: Vec::from_slice(alloc, &self.lasts)?,
-            flat: Vec::from_slice(alloc, &self.flat)?,
+            items: Vec::from_slice(alloc, &self.items)?,
+            board: self.board.copy(alloc)?,
+            touched: self.touched.copy(alloc)?,
         })
+    }
+
+    /// Whether the logs are equal: of one shape, and with the same items in order, whatever room they have.
+    pub fn equals(&self, other: &Log) -> bool
+        ensures { IsTrue result ↔ ((self.now.cores ≡ other.now.cores) × (self.now.blocks ≡ other.now.blocks) × (self.now.items ≡ other.now.items)) }
+    {
+        self.board.cores() == other.board.cores()
+            && self.board.blocks() == other.board.blocks()
+            && self.has_items_of(other)
+    }
+
+    // Whether the items are the same.
+    fn has_items_of(&self, other: &Log) -> bool
+        ensures { IsTrue result ↔ (self.now.items ≡ other.now.items) }
+    {
+        if self.len() != other.len() {
+            return false;
+        }
+        for place in 0..self.len() {
+            let one = self.items[place].unpack();
+            let other = other.items[place].unpack();
+            if !is_same(one, other) {
+                return false;
+            }
+        }
+        true
     }
 
     /// Whether `push` may take the item, room aside: it lies within the shape, and an operation carries its
@@ -167,7 +196,7 @@ impl Log {
             Some(did) => self.is_next(did),
             None => true,
         };
-        numbered && item.is_within(self.counts.len(), self.flat.len())
+        numbered && item.is_within(self.board.cores(), self.board.blocks())
     }
 
     // Whether the operation carries its core's next number.
@@ -187,14 +216,16 @@ impl Log {
         requires numbered { IsNumbered self.old.items item }
         ensures { self.new ≡ record self.old { items = self.old.items ++ item ∷ []; room = self.old.room - 1 } }
     {
-        self.totals.add(item);
-        if let Some(did) = item.did() {
-            self.counts[did.core as usize] += 1;
-            self.lasts[did.core as usize] = Some(did);
-            if !did.load {
-                self.flat[did.block as usize] = did.value;
-            }
-        }
-        self.items.push_reserved(item);
+        self.board.absorb(item);
+        self.touched.add(item);
+        self.items.push_reserved(Packed::new(item));
     }
+}
+
+// Whether both items are one.
+fn is_same(one: Item, other: Item) -> bool
+    ensures sound { IsTrue result → one ≡ other }
+    ensures whole { one ≡ other → IsTrue result }
+{
+    one == other
 }

@@ -1,14 +1,14 @@
 //! The report of a history.
-ghost use Rattle.std.specs.Prelude.{All, ◌≡◌, ◌≢◌, ◌<◌, ◌++◌, true, OnOk, OnErr, IfOk, Err};
+ghost use Rattle.std.specs.Prelude.{All, ◌≡◌, ◌≢◌, ◌<◌, ◌++◌, true, OnOk, OnErr, Err};
 ghost use Rattle.std.specs.Io.KnownBytes.{Appends};
 ghost use Rattle.snoop_trace.specs.Output.{AppendsFront};
 ghost use Rattle.snoop_history.specs.Totals.{touched};
 ghost use Rattle.snoop_history.specs.Report.{loads_text, stores_text, requests_text, sources_text, writebacks_text, totals_text, block_text, blocks_text, report_of};
 
-use crate::items::{Item, Totals};
+use crate::items::Totals;
 use crate::log::Log;
-use indexmap::IndexSet;
-use snoop_trace::{NoMemory, Sink, WriteFault, write_whole};
+use snoop_trace::streams::{Sink, write_whole};
+use snoop_trace::{NoMemory, WriteFault};
 use std::alloc::Global;
 use std::io::Write;
 
@@ -80,20 +80,6 @@ fn push_block(out: &mut Vec<u8>, block: u32, value: u64) -> Result<(), NoMemory>
     writeln!(out, "block {block} value {value}").map_err(|_| NoMemory)
 }
 
-// The blocks that an item mentions, in order of first mention.
-fn touched(alloc: Global, items: &[Item]) -> Result<IndexSet<u32>, NoMemory>
-    ensures { IfOk result (λ blocks. blocks.keys ≡ touched items.now) }
-{
-    let mut blocks = IndexSet::new(alloc);
-    for item in items {
-        blocks.insert(item.block()).map_err(|_| NoMemory)?;
-        if let Some(did) = item.did() {
-            blocks.insert(did.block).map_err(|_| NoMemory)?;
-        }
-    }
-    Ok(blocks)
-}
-
 // Appends a line for each of the blocks.
 fn push_blocks(out: &mut Vec<u8>, log: &Log, blocks: &[u32]) -> Result<(), NoMemory>
     requires { All (λ block. block < log.now.blocks) blocks.now }
@@ -129,8 +115,7 @@ pub fn write_report<W: Sink>(alloc: Global, writer: &mut W, log: &Log) -> Result
 
     ensures never_blamed { W.never_fails ≡ true → result ≢ Err WriteFault.Write }
 {
-    let blocks = touched(alloc, log.items())?;
     let mut report = Vec::new(alloc);
-    push_report(&mut report, log, blocks.as_slice())?;
+    push_report(&mut report, log, log.touched())?;
     write_whole(writer, &report)
 }

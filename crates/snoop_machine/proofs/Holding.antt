@@ -13,8 +13,8 @@ use Rattle.snoop_model.specs.declared.replies.Reply.{Reply}
 use Rattle.snoop_model.specs.Pictures.Picture.{held_at}
 use Rattle.snoop_model.specs.Pictures.Situation.{Situation, state_of}
 use Rattle.snoop_model.specs.Moves.Move.{FirstMove}
-use Rattle.snoop_model.specs.Moves.Standing.{Standing, lines_of}
-use Rattle.snoop_model.specs.Moves.Holding.{LeavesI, MovesToI, HoldsOn}
+use Rattle.snoop_model.specs.Moves.Standing.{Standing, lines_of, has_line}
+use Rattle.snoop_model.specs.Moves.Holding.{NeedsLine, MovesToI, HoldsOn}
 use Rattle.snoop_model.proofs.Lines.EachRow.{row_of}
 use Rattle.snoop_model.proofs.Tables.EvictInI.{no_row}
 use Rattle.snoop_machine.specs.declared.ask.Asked.TheVariants.{Absent, Hit, Issue, Drop}
@@ -24,8 +24,8 @@ use Rattle.snoop_machine.specs.Plan.{IsPlan, IsPlanFor, step_of}
 use Rattle.snoop_machine.specs.Following.{LosesLines, AddsLines}
 
 -- a core that leaves I on a block moves to I on none
-stays_out : (old new : Situation) (taking : Step) (core : ℕ) (answer : Reply) (entry : Option Item) → FirstMove old taking answer new entry → LeavesI old taking core → ¬ MovesToI old new core
-stays_out old new (step.Ask asker block asking) core answer entry m leaves moved = elim m.1.1.2 [
+stays_out : (before : Standing) (new : Situation) (taking : Step) (core : ℕ) (answer : Reply) (entry : Option Item) → FirstMove before.situation taking answer new entry → NeedsLine before taking core → ¬ MovesToI before.situation new core
+stays_out before new (step.Ask asker block asking) core answer entry m leaves moved = let old = before.situation in elim m.1.1.2 [
   | inl absent ↦ moved.1.0 (subst (λ (s : Situation). state_of s core moved.0 ≡ I) absent.3 moved.1.1)
   | inr asks ↦ elim (cases_eq moved.0 m.0) [
     | inl e ↦
@@ -38,15 +38,15 @@ stays_out old new (step.Ask asker block asking) core answer entry m leaves moved
         moved.1.0 (ap (λ (row : List Line). (held_at row core).state) (sym other) ∙ moved.1.1)
   ]
 ]
-stays_out old new (step.Order orderer) core answer entry m leaves moved = leaves
-stays_out old new (step.Respond block) core answer entry m leaves moved = leaves
+stays_out before new (step.Order orderer) core answer entry m leaves moved = leaves
+stays_out before new (step.Respond block) core answer entry m leaves moved = leaves
 
--- the room for a step adds a line where the step is an Ask that leaves I
-adds_plan : (old new : Standing) (x : Plan) (core : ℕ) → IsPlan old.situation x → AddsLines x old new core → (lines_of new core ≡ lines_of old core) ⊎ (LeavesI old.situation (step_of x) core × (lines_of new core ≡ lines_of old core + 1))
+-- the room for a step adds a line where the step needs one
+adds_plan : (old new : Standing) (x : Plan) (core : ℕ) → IsPlan old.situation x → AddsLines x old new core → (lines_of new core ≡ lines_of old core) ⊎ (NeedsLine old (step_of x) core × (lines_of new core ≡ lines_of old core + 1))
 adds_plan old new (plan.Ask asker block asking (Issue request line)) core h (inl same) = inl same
 adds_plan old new (plan.Ask asker block asking (Issue request line)) core h (inr more) =
     let s = old.situation in
-    inr ((more.0, h.0, (λ e. no_row s.protocol (state_of s asker block) asking (action.Issue request) h.1.0 e more.1 h.1.1.0), more.1), more.2)
+    inr ((more.0, h.0, (λ e. no_row s.protocol (state_of s asker block) asking (action.Issue request) h.1.0 e more.1 h.1.1.0), more.1, more.2), more.3)
 adds_plan old new (plan.Ask asker block asking Absent) core h same = inl same
 adds_plan old new (plan.Ask asker block asking (Hit line value)) core h same = inl same
 adds_plan old new (plan.Ask asker block asking (Drop line)) core h same = inl same
@@ -54,9 +54,9 @@ adds_plan old new (plan.Order orderer request block message memory) core h same 
 adds_plan old new (plan.Writeback block closing memory) core h same = inl same
 adds_plan old new (plan.Fill block closing memory filled) core h same = inl same
 
-adds_step : (old new : Standing) (taking : Step) (x : Plan) (core : ℕ) → IsPlanFor old.situation taking x → AddsLines x old new core → (lines_of new core ≡ lines_of old core) ⊎ (LeavesI old.situation taking core × (lines_of new core ≡ lines_of old core + 1))
+adds_step : (old new : Standing) (taking : Step) (x : Plan) (core : ℕ) → IsPlanFor old.situation taking x → AddsLines x old new core → (lines_of new core ≡ lines_of old core) ⊎ (NeedsLine old taking core × (lines_of new core ≡ lines_of old core + 1))
 adds_step old new taking x core h adds =
-    let P : Step → Type 0 = λ t. (lines_of new core ≡ lines_of old core) ⊎ (LeavesI old.situation t core × (lines_of new core ≡ lines_of old core + 1)) in
+    let P : Step → Type 0 = λ t. (lines_of new core ≡ lines_of old core) ⊎ (NeedsLine old t core × (lines_of new core ≡ lines_of old core + 1)) in
     subst P h.0 (adds_plan old new x core h.1 adds)
 
 -- the room for the step was made, and nothing else
@@ -88,11 +88,11 @@ HoldsOn-taken old middle new taking x core answer entry h unchanged adds loses m
     loses.same (λ moved. still (moved.0, (subst (λ (s : Situation). state_of s core moved.0 ≢ I) unchanged moved.1.0, moved.1.1))) in
     record {
       raised = λ leaves.
-          let same = still_in (stays_out old.situation new.situation taking core answer entry move leaves) in
+          let same = still_in (stays_out old new.situation taking core answer entry move leaves) in
           elim all [ inl none ↦ (omega arith, omega arith) | inr more ↦ let one = more.1 in (omega arith, omega arith) ];
       lowered = λ moved.
           let fewer = loses.lowered (moved.0, (subst (λ (s : Situation). state_of s core moved.0 ≢ I) (sym unchanged) moved.1.0, moved.1.1)) in
-          elim all [ inl none ↦ omega arith | inr more ↦ absurd (stays_out old.situation new.situation taking core answer entry move more.0 moved) ];
+          elim all [ inl none ↦ omega arith | inr more ↦ absurd (stays_out old new.situation taking core answer entry move more.0 moved) ];
       same = λ stays still.
           let same = still_in still in
           elim all [ inl none ↦ omega arith | inr more ↦ absurd (stays more.0) ];

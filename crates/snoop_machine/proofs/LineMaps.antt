@@ -25,17 +25,17 @@ module _ (l : Inside) (now : Held) (view : held l ≡ now) where
   maps-long = sym (ap (λ (h : Held). length h.lines) view) ∙ length-map l.caches.items blocks_of
 
   -- a block and a core with a place in the rows
-  pub in_rows : (core block : ℕ) → block < length now.rows → core < length (row_of now.rows block) → (block < length l.holders.items) × (core < length l.caches.items)
+  pub in_rows : (core block : ℕ) → block < length now.rows → core < length (row_of now.rows block) → (block < length l.holders) × (core < length l.caches.items)
   in_rows core block in_blocks in_cores =
       let P : Held → Type 0 = λ h. block < length h.rows in
       let Q : Held → Type 0 = λ h. core < length (row_of h.rows block) in
-      within-rows (length l.holders.items) l.caches.items core block (subst P (sym view) in_blocks) (subst Q (sym view) in_cores)
+      within-rows (length l.holders) l.caches.items core block (subst P (sym view) in_blocks) (subst Q (sym view) in_cores)
 
-  pub row_seen : (block : ℕ) → block < length l.holders.items → row_in l.caches.items block ≡ row_of now.rows block
-  row_seen block within = sym (row-rows (length l.holders.items) l.caches.items block within) ∙ ap (λ (h : Held). row_of h.rows block) view
+  pub row_seen : (block : ℕ) → block < length l.holders → row_in l.caches.items block ≡ row_of now.rows block
+  row_seen block within = sym (row-rows (length l.holders) l.caches.items block within) ∙ ap (λ (h : Held). row_of h.rows block) view
 
-  pub line_seen : (core block : ℕ) → block < length l.holders.items → line_in (slice_index_or l.caches.items core no_cache) block ≡ line_at now.rows core block
-  line_seen core block within = sym (line-rows (length l.holders.items) l.caches.items core block within) ∙ ap (λ (h : Held). line_at h.rows core block) view
+  pub line_seen : (core block : ℕ) → block < length l.holders → line_in (slice_index_or l.caches.items core no_cache) block ≡ line_at now.rows core block
+  line_seen core block within = sym (line-rows (length l.holders) l.caches.items core block within) ∙ ap (λ (h : Held). line_at h.rows core block) view
 
   pub blocks_seen : (core : ℕ) → blocks_of (slice_index_or l.caches.items core no_cache) ≡ slice_index_or now.lines core []
   blocks_seen core = sym (blocks-at l.caches.items core) ∙ ap (λ (h : Held). slice_index_or h.lines core []) view
@@ -50,7 +50,7 @@ module _ (l : Inside) (now : Held) (view : held l ≡ now) where
   pub none_held : (core block : ℕ) → is_some (lookup (nat_eq block) (slice_index_or l.caches.items core no_cache).entries) ≡ false → (line_at now.rows core block).state ≡ I
   none_held core block none =
       let nothing = found-lookup (slice_index_or l.caches.items core no_cache).entries block none in
-      ap (λ (x : Line). x.state) (sym (ap (λ (h : Held). line_at h.rows core block) view) ∙ line-none (length l.holders.items) l.caches.items core block nothing)
+      ap (λ (x : Line). x.state) (sym (ap (λ (h : Held). line_at h.rows core block) view) ∙ line-none (length l.holders) l.caches.items core block nothing)
 
   -- where the core holds the block the map has a line
   pub held_placed : (core block : ℕ) → (line_at now.rows core block).state ≢ I → is_some (lookup (nat_eq block) (slice_index_or l.caches.items core no_cache).entries) ≡ true

@@ -42,7 +42,7 @@ use Rattle.snoop_model.specs.Moves.Refuses.{Refuses}
 use Rattle.snoop_model.specs.Moves.StepMove.{IsDenied, RefusedFor}
 use Rattle.snoop_model.specs.Moves.Prepared.{room_to, IsFull, IsPrepared}
 use Rattle.snoop_model.proofs.Tables.EvictInI.{no_row}
-use Rattle.snoop_machine.specs.Plan.{IsPlan, IsPlanFor, step_of, room_for, room_for_ask, entry_of, entry_of_ask}
+use Rattle.snoop_machine.specs.Plan.{IsPlan, IsPlanFor, HasRoom, HasRoomToAsk, step_of, room_for, room_for_ask, entry_of, entry_of_ask}
 
 -- the action of the row that an Ask takes
 abbrev pub act_of : Asked → CacheAction
@@ -221,6 +221,19 @@ plan-room before (plan.Order core request block message memory) h some full = ab
 plan-room before (plan.Writeback block closing memory) h some full = absurd (omega arith)
 plan-room before (plan.Fill block closing memory filled) h some full = absurd (omega arith)
 
+ask-room : (before : Standing) (core block : ℕ) (way : Asked) → HasRoomToAsk before core block way → 0 < room_for_ask before core block way
+ask-room before core block Absent h = omega arith
+ask-room before core block (Hit line value) h = h
+ask-room before core block (Issue request line) h = rw (h.0) h.1
+ask-room before core block (Drop line) h = omega arith
+
+-- where the room for a plan was made there is room for one such step at least
+some-room : (before : Standing) (x : Plan) → HasRoom before x → 0 < room_for before x
+some-room before (plan.Ask core block asking way) h = ask-room before core block way h
+some-room before (plan.Order core request block message memory) h = h
+some-room before (plan.Writeback block closing memory) h = h
+some-room before (plan.Fill block closing memory filled) h = h
+
 -- a planned step is refused as out of memory alone
 pub RefusedFor-memory : (s : Situation) (taking : Step) (x : Plan) → IsPlanFor s taking x → RefusedFor s taking NoMemory
 RefusedFor-memory s taking x h =
@@ -228,12 +241,12 @@ RefusedFor-memory s taking x h =
     subst P h.0 (plan-allowed s x h.1)
 
 -- a planned step with its room is prepared
-pub IsPrepared-plan : (before : Standing) (taking : Step) (x : Plan) (entry : Option Item) → IsPlanFor before.situation taking x → 0 < room_for before x → entry ≡ entry_of before.situation.log x
+pub IsPrepared-plan : (before : Standing) (taking : Step) (x : Plan) (entry : Option Item) → IsPlanFor before.situation taking x → HasRoom before x → entry ≡ entry_of before.situation.log x
     → IsPrepared before taking entry
 IsPrepared-plan before taking x entry h some is =
     let P : Step → Type 0 = λ t. IsPrepared before t entry in
     subst P h.0 (record {
       allowed = plan-allowed before.situation x h.1;
-      room = plan-room before x h.1 some;
+      room = plan-room before x h.1 (some-room before x some);
       adds = λ answer new added move. plan-adds before.situation x h.1 answer new added move ∙ sym is;
     })

@@ -1,13 +1,13 @@
 -- What a step does to how many lines each core's map has.
 -- Source: this project's profile.
-use Rattle.std.specs.Prelude.{◌≡◌, ℕ, ◌+◌, ◌⊎◌}
+use Rattle.std.specs.Prelude.{◌≡◌, ℕ, ◌+◌, ◌⊎◌, false}
 use Rattle.snoop_machine.specs.declared.ask.Asked.{Asked}
 use Rattle.snoop_machine.specs.declared.ask.Asked.TheVariants as asked
 use Rattle.snoop_machine.specs.declared.plan.Plan.{Plan}
 use Rattle.snoop_machine.specs.declared.plan.Plan.TheVariants.{Ask}
 use Rattle.snoop_rules.specs.declared.names.CacheState.TheVariants.{I}
 use Rattle.snoop_model.specs.Pictures.Situation.{state_of}
-use Rattle.snoop_model.specs.Moves.Standing.{Standing, lines_of}
+use Rattle.snoop_model.specs.Moves.Standing.{Standing, lines_of, has_line}
 use Rattle.snoop_model.specs.Moves.Holding.{MovesToI}
 
 -- of a core's map as many lines go as blocks on which it moves to I, which is one at most
@@ -15,17 +15,17 @@ pub record LosesLines (old new : Standing) (core : ℕ) : Type 0 where
   pub lowered : MovesToI old.situation new.situation core → lines_of new core + 1 ≡ lines_of old core
   pub same : ¬ MovesToI old.situation new.situation core → lines_of new core ≡ lines_of old core
 
--- a core's map has as many lines as before, or one more where this is the core that leaves I on the block
+-- a core's map has as many lines as before, or one more where this is the core that leaves I on the block, and its map had no line for it
 abbrev pub AddsLine : ℕ → ℕ → Standing → Standing → ℕ → Type 0
 AddsLine asker block old new core =
-    (lines_of new core ≡ lines_of old core) ⊎ ((asker ≡ core) × (state_of old.situation asker block ≡ I) × (lines_of new core ≡ lines_of old core + 1))
+    (lines_of new core ≡ lines_of old core) ⊎ ((asker ≡ core) × (state_of old.situation asker block ≡ I) × (has_line old asker block ≡ false) × (lines_of new core ≡ lines_of old core + 1))
 
--- the room for an Ask adds one line at most, and only where it issues a request out of I
+-- the room for an Ask adds one line at most, and only where it issues a request that has no line yet
 abbrev pub AddsLinesToAsk : Asked → ℕ → ℕ → Standing → Standing → ℕ → Type 0
 AddsLinesToAsk (asked.Issue request line) asker block old new core = AddsLine asker block old new core
 AddsLinesToAsk _ asker block old new core = lines_of new core ≡ lines_of old core
 
--- the room for a step adds one line at most, and only where it is an Ask that issues a request out of I
+-- the room for a step adds one line at most, and only where it is an Ask that issues a request that has no line yet
 abbrev pub AddsLines : Plan → Standing → Standing → ℕ → Type 0
 AddsLines (Ask asker block asking way) old new core = AddsLinesToAsk way asker block old new core
 AddsLines _ old new core = lines_of new core ≡ lines_of old core

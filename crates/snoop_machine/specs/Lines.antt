@@ -25,7 +25,7 @@ rows_of blocks caches = map (row_in caches) (range_with_len 0 blocks)
 abbrev pub held : Inside → Held
 held l =
     record {
-      rows = rows_of (length l.holders.items) l.caches.items;
+      rows = rows_of (length l.holders) l.caches.items;
       lines = map blocks_of l.caches.items;
       spares = map (λ cache. cache.spare) l.caches.items;
     }

@@ -1,6 +1,6 @@
 -- What is seen of a machine's parts, and what holds between them.
 -- Source: this project's profile.
-use Rattle.std.specs.Prelude.{◌≡◌, ◌<◌, ℕ, length, List, map}
+use Rattle.std.specs.Prelude.{◌≡◌, ◌<◌, ℕ, min, length, List, [], ◌∷◌, map}
 use Rattle.snoop_bus.specs.Traffic.{Waiting}
 use Rattle.snoop_machine.specs.declared.parts.Parts.TheInside.{Inside}
 use Rattle.snoop_model.specs.Pictures.Sound.{IsSound}
@@ -10,6 +10,11 @@ use Rattle.snoop_model.specs.Moves.Standing.{Standing}
 abbrev pub queues_of : List Waiting → List (List ℕ)
 queues_of queues = map (λ queue. map (λ r. r.1) queue.requests) queues
 
+-- for how many more requests that need a line there is room: the queue needs a place for each, and the map too
+abbrev pub places_of : List Waiting → List ℕ → List ℕ
+places_of (queue ∷ queues) (spare ∷ spares) = min queue.room spare ∷ places_of queues spares
+places_of _ _ = []
+
 -- the view of the parts
 abbrev pub standing : Inside → Standing
 standing m =
@@ -18,12 +23,13 @@ standing m =
         protocol = m.protocol;
         shape = m.shape;
         caches = m.lines.rows;
-        memory = m.memory.items;
+        memory = m.memory;
         transactions = m.bus.transactions;
         queues = queues_of m.bus.queues;
         log = m.log.items;
       };
       rooms = map (λ queue. queue.room) m.bus.queues;
+      places = places_of m.bus.queues m.lines.spares;
       room = m.log.room;
       lines = m.lines.lines;
     }
@@ -33,6 +39,6 @@ pub record IsWhole (m : Inside) : Type 0 where
   pub few : m.shape.cores < 257
   pub sound : IsSound m.shape m.lines.rows m.bus
   pub lines : length m.lines.lines ≡ m.shape.cores
-  pub memory : length m.memory.items ≡ m.shape.blocks
+  pub memory : length m.memory ≡ m.shape.blocks
   pub cores : m.log.cores ≡ m.shape.cores
   pub blocks : m.log.blocks ≡ m.shape.blocks

@@ -1,6 +1,6 @@
 -- What a step will do, found before anything changes: a plan, the room that it needs, and the item that it adds.
 -- Source: this project's profile.
-use Rattle.std.specs.Prelude.{◌≡◌, ◌≢◌, ℕ, ◌<◌, true, false, List, Option, Some, None, slice_index_or}
+use Rattle.std.specs.Prelude.{◌≡◌, ◌≢◌, ℕ, ◌<◌, true, false, List, Option, Some, None, slice_index, slice_index_or, ⊤}
 use Rattle.snoop_trace.specs.declared.step.Op.{Op}
 use Rattle.snoop_trace.specs.declared.step.Step.{Step}
 use Rattle.snoop_trace.specs.declared.step.Step.TheVariants as step
@@ -16,7 +16,7 @@ use Rattle.snoop_model.specs.declared.memory.MemLine.{MemLine}
 use Rattle.snoop_model.specs.declared.message.Message.{Message}
 use Rattle.snoop_machine.specs.declared.plan.Plan.{Plan}
 use Rattle.snoop_machine.specs.declared.plan.Plan.TheVariants.{Ask, Order, Writeback, Fill}
-use Rattle.snoop_model.specs.Moves.Standing.{Standing}
+use Rattle.snoop_model.specs.Moves.Standing.{Standing, has_line}
 use Rattle.snoop_model.specs.Moves.Prepared.{room_to_issue}
 use Rattle.snoop_model.specs.Pictures.Situation.{Situation, picture_of, no_memory}
 use Rattle.snoop_model.specs.Pictures.Sound.{IsProper, line_at}
@@ -67,12 +67,26 @@ room_for_ask before core block (asked.Hit line value) = before.room
 room_for_ask before core block (asked.Issue request line) = room_to_issue before core block
 room_for_ask before core block (asked.Drop line) = 1
 
+-- there is room for what such an Ask of the core adds; and where it issues a request, there is the line that will wait for it
+abbrev pub HasRoomToAsk : Standing → ℕ → ℕ → Asked → Type 0
+HasRoomToAsk before core block asked.Absent = ⊤
+HasRoomToAsk before core block (asked.Hit line value) = 0 < before.room
+HasRoomToAsk before core block (asked.Issue request line) = (has_line before core block ≡ true) × (0 < slice_index before.rooms core)
+HasRoomToAsk before core block (asked.Drop line) = ⊤
+
 -- for how many more such steps there is room
 abbrev pub room_for : Standing → Plan → ℕ
 room_for before (Ask core block asking way) = room_for_ask before core block way
 room_for before (Order core request block message memory) = before.room
 room_for before (Writeback block closing memory) = before.room
 room_for before (Fill block closing memory filled) = before.room
+
+-- there is room for what the planned step adds
+abbrev pub HasRoom : Standing → Plan → Type 0
+HasRoom before (Ask core block asking way) = HasRoomToAsk before core block way
+HasRoom before (Order core request block message memory) = 0 < before.room
+HasRoom before (Writeback block closing memory) = 0 < before.room
+HasRoom before (Fill block closing memory filled) = 0 < before.room
 
 -- the item that an Ask adds: a hit is performed at once
 abbrev pub entry_of_ask : List Item → ℕ → ℕ → Op → Asked → Option Item

@@ -1,5 +1,5 @@
 //! The lines of one core.
-ghost use Rattle.std.specs.Prelude.{◌≡◌, ℕ, ◌+◌, ◌<◌, ◌∷◌, ◌++◌, [], length, OnOk, IsSome, true, false, is_some, nat_eq};
+ghost use Rattle.std.specs.Prelude.{◌≡◌, ℕ, ◌+◌, ◌<◌, ◌∷◌, ◌++◌, [], length, OnOk, OnErr, IsTrue, ◌↔◌, IsSome, true, false, is_some, nat_eq};
 ghost use Rattle.std.specs.Map.{lookup};
 ghost use Rattle.snoop_rules.specs.declared.names.CacheState.TheVariants.{I};
 ghost use Rattle.snoop_model.specs.Pictures.Picture.{nothing_held};
@@ -64,12 +64,25 @@ impl Cache {
         self.lines.get(&block).copied().unwrap_or(NOTHING)
     }
 
-    /// Makes room for one more line.
+    /// Whether there is room for one more line.
+    fn has_room(&self) -> bool
+        ensures { IsTrue result ↔ (0 < self.now.spare) }
+    {
+        self.lines.len() < self.lines.capacity()
+    }
+
+    /// Makes room for one more line. `NoMemory` leaves all as it was, and comes only where there was no room.
     pub(crate) fn reserve(&mut self) -> Result<(), NoMemory>
         ensures ok { OnOk result (0 < self.new.spare) }
+        ensures full { OnErr result (self.old.spare ≡ 0) }
+        ensures refused { OnErr result (self.new ≡ self.old) }
         ensures same { self.new.entries ≡ self.old.entries }
     {
-        self.lines.reserve(1)?;
+        // The room alone decides: a refused growth may have left some.
+        let grown = self.lines.reserve(1);
+        if !self.has_room() {
+            grown?;
+        }
         Ok(())
     }
 

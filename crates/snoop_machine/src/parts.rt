@@ -14,6 +14,7 @@ mod respond;
 mod step;
 
 use crate::lines::Lines;
+use snoop_blocks::BlockTable;
 use snoop_bus::{Bus, Open};
 use snoop_history::{Did, Log};
 use snoop_model::{Line, MemLine};
@@ -22,13 +23,19 @@ use snoop_trace::{NoMemory, Op, Shape};
 use std::alloc::Global;
 use std::marker::Model;
 
+/// What stands for memory's line of a block that there isn't.
+const NO_MEMORY: MemLine = MemLine {
+    state: MemState::IorS,
+    value: 0,
+};
+
 /// The caches, memory, the bus that joins them, and the history of what they did.
 #[derive(Debug, Drop)]
 pub(crate) struct Parts {
     protocol: Protocol,
     shape: Shape,
     lines: Lines,
-    memory: Vec<MemLine>,
+    memory: BlockTable<MemLine>,
     bus: Bus,
     log: Log,
 }
@@ -59,7 +66,7 @@ impl Parts {
             state: first_state(protocol),
             value: 0,
         };
-        let memory = vec![in alloc; first; shape.blocks() as usize]?;
+        let memory = BlockTable::new(alloc, shape.blocks(), first)?;
         Ok(Parts {
             protocol,
             shape,
@@ -114,7 +121,7 @@ impl Parts {
         ensures inside { block < self.now.situation.shape.blocks → result ≡ Some (picture_of self.now.situation block).memory }
         ensures outside { IfSome result (λ _. block < self.now.situation.shape.blocks) }
     {
-        let line = self.memory.get(block as usize)?;
+        let line = self.memory.get(block)?;
         Some(line.state)
     }
 
@@ -123,7 +130,7 @@ impl Parts {
         ensures inside { block < self.now.situation.shape.blocks → result ≡ Some (picture_of self.now.situation block).value }
         ensures outside { IfSome result (λ _. block < self.now.situation.shape.blocks) }
     {
-        let line = self.memory.get(block as usize)?;
+        let line = self.memory.get(block)?;
         Some(line.value)
     }
 

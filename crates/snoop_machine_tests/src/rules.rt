@@ -1,7 +1,8 @@
 mod memory;
 
 use snoop_rules::{CacheState, Protocol, Which, may_load, may_store, write_table};
-use snoop_trace::{AnyWriter, WriteFault};
+use snoop_trace::WriteFault;
+use snoop_trace::streams::AnyWriter;
 use std::alloc::Global;
 use std::io;
 use std::test::Fail;

@@ -5,3 +5,4 @@ pub mod Runs
 pub mod Coherence
 pub mod Safety
 pub mod Steps
+pub mod TableLines

@@ -8,7 +8,8 @@ ghost use Rattle.snoop_rules.specs.TableText.{cache_line_at, cache_text, memory_
 
 use crate::names::{CacheEvent, CacheState, MemEvent, MemState, Protocol};
 use crate::table::{EVENTS, MEM_EVENTS, MEM_STATES, STATES, cache_cell, mem_cell};
-use snoop_trace::{NoMemory, Sink, WriteFault, write_whole};
+use snoop_trace::streams::{Sink, write_whole};
+use snoop_trace::{NoMemory, WriteFault};
 use std::alloc::Global;
 use std::fmt::Display;
 use std::io::Write;

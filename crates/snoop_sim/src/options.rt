@@ -34,12 +34,13 @@ macro_rules! help_text {
 
 Exit status:
   0  done, even where steps were refused
-  1  the text was refused; nothing was written
+  1  the text was refused, or could not be read (Read); nothing was written
      Of its first faulty record, counted without blank lines:
        BadKind, BadFields  no such letter; another number of fields
        BadNumber           no number up to 2^64 - 1
        NoCore, NoBlock     outside --cores; outside --blocks
-  2  the command line or the shape was refused; nothing was written
+  2  the command line was refused, or the shape (BadCores, BadBlocks, BadBytes:
+     outside the limits of its options); nothing was written
   3  out of memory
   4  a write failed
   5  the threads of `snoop threads` were refused; nothing was written
@@ -51,7 +52,7 @@ More in docs/TEXTS.md."
 
 static PROGRAM_HELP: &str = help_text!(
     "\
-A text comes in on standard input, and one goes out on standard output:
+Reads a text from standard input, and writes one to standard output:
   snoop steps < FILE
   printf 'L,0,0\\nO,0\\nR,0\\n' | snoop steps
 
@@ -62,7 +63,7 @@ report: counts, and the last value of each block. `snoop COMMAND --help` says mo
 
 static STEPS_HELP: &str = help_text!(
     "\
-Input comes by `snoop steps < FILE`. Each line is a step:
+Reads standard input: `snoop steps < FILE`. Each line is a step:
   L,core,address        the core loads from the address
   S,core,address,value  the core stores the value at the address
   E,core,address        the core evicts the block of the address
@@ -86,14 +87,14 @@ stale ones; and the last value stored in each block."
 
 static RUN_HELP: &str = help_text!(
     "\
-Input comes by `snoop run < FILE`. Each line is what a core does next:
+Reads standard input: `snoop run < FILE`. Each line is what a core does next:
   L,core,address        the core loads from the address
   S,core,address,value  the core stores the value at the address
   E,core,address        the core evicts the block of the address
 Numbers are decimal, or hexadecimal after 0x. An address is in bytes.
 Example: printf 'S,0,0,5\\nL,1,0\\n' | snoop run
 
-The bus steps between are found: O,core orders the core's oldest request, and
+Snoop finds the bus steps itself: O,core orders the core's oldest request, and
 R,address brings the response. Each step has a line of output: the step, a colon
 and the reply.
   hit 5, store hit          done in the core's own copy; the load read 5
@@ -109,7 +110,7 @@ stale ones; and the last value stored in each block."
 
 static THREADS_HELP: &str = help_text!(
     "\
-Input comes by `snoop threads < FILE`. Each line is what a core does next:
+Reads standard input: `snoop threads < FILE`. Each line is what a core does next:
   L,core,address        the core loads from the address
   S,core,address,value  the core stores the value at the address
   E,core,address        the core evicts the block of the address

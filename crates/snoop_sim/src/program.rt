@@ -9,7 +9,7 @@ use crate::options::{Task, task_in};
 use crate::threads::simulate_threads;
 use snoop_engine::{SimFault, simulate_run, simulate_steps};
 use snoop_rules::write_table;
-use snoop_trace::{Sink, Source, write_whole};
+use snoop_trace::streams::{Sink, Source, write_whole};
 use std::alloc::Global;
 use std::io;
 use std::io::{ErrorKind, Write};

@@ -2,7 +2,8 @@
 
 use snoop_rules::Protocol;
 use snoop_sim::{SimFault, ThreadsFault, simulate_run, simulate_steps, simulate_threads};
-use snoop_trace::{Shape, Sink, Source};
+use snoop_trace::Shape;
+use snoop_trace::streams::{Sink, Source};
 use std::alloc::Global;
 use std::sync::Wait;
 use std::test::Fail;

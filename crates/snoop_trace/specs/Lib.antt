@@ -4,3 +4,4 @@ pub mod Grammar
 pub mod Text
 pub mod Progress
 pub mod Output
+pub mod Records

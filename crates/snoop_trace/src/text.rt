@@ -9,8 +9,9 @@ ghost use Rattle.snoop_trace.specs.Text.{Gives, entries_from, records_of, rows_o
 use crate::fault::TextFault;
 use crate::record::Entry;
 use crate::shape::Shape;
-use crate::source::{Source, Watched};
 use crate::step::{Row, Step};
+use crate::streams::Source;
+use crate::streams::source::Watched;
 use csv::{ByteRecord, Reader, ReaderBuilder};
 use std::alloc::Global;
 

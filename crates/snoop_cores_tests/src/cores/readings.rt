@@ -6,10 +6,12 @@ use snoop_trace::{Op, Row};
 use std::test::Fail;
 use std::thread;
 
-// Reads the counts so often; whether each reading was answered and no count fell.
-fn never_falls(watch: &mut Watch, times: u32) -> bool {
+// Reads the counts until so many stores are seen, and at least so often from the first store on; whether each reading was answered and
+// no count fell.
+fn never_falls(watch: &mut Watch, times: u32, stores: u64) -> bool {
     let mut before = [0; 12];
-    for _ in 0..times {
+    let mut shown = 0u32;
+    for _ in 0..100_000_000u32 {
         let Ok(totals) = watch.totals() else {
             return false;
         };
@@ -17,9 +19,15 @@ fn never_falls(watch: &mut Watch, times: u32) -> bool {
         if before.iter().zip(after.iter()).any(|(was, is)| is < was) {
             return false;
         }
+        if totals.stores > 0 {
+            shown = shown.saturating_add(1);
+        }
+        if shown >= times && totals.stores >= stores {
+            return true;
+        }
         before = after;
     }
-    true
+    false
 }
 
 #[test]
@@ -36,7 +44,7 @@ fn counts_never_fall_beside_two_cores_that_store(rt: HostRuntime) -> Result<(), 
         &rt,
         || run_seats(&rt, rt.alloc(), seats, rows.as_slice(), &Free),
         || match watches.get_mut(0) {
-            Some(watch) => never_falls(watch, 1_000),
+            Some(watch) => never_falls(watch, 1_000, 200),
             None => false,
         },
     );

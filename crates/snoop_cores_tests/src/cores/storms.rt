@@ -119,7 +119,7 @@ fn storm<R: Threads + Wait + Sync + Abort>(
         let mut fresh = Machine::reset(alloc, protocol, shape)?;
         let taken = run_steps(&mut fresh, steps.as_slice());
         assert!(rt;
-            taken == steps.len() && fresh.log().items() == log.items(),
+            taken == steps.len() && fresh.log().equals(&log),
             "of {cores} cores"
         );
         for core in 0..cores {

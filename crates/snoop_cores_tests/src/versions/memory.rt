@@ -67,7 +67,7 @@ fn add<R: Wait>(rt: &R, log: &mut Log, writer: &mut VersionWriter, item: Item) -
         return false;
     };
     log.push(item);
-    let _items = log.items();
+    log.kept();
     writer.publish(rt);
     true
 }

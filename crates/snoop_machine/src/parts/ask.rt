@@ -1,19 +1,18 @@
 //! An Ask: found, and made.
-ghost use Rattle.std.specs.Prelude.{◌≡◌, ◌≢◌, ◌+◌, ◌<◌, ℕ, [], ◌∷◌, ◌++◌, slice_index_or, slice_set, IfOk, IfErr, None, Some, true, Err};
+ghost use Rattle.std.specs.Prelude.{◌≡◌, ◌≢◌, ◌+◌, ◌<◌, ℕ, [], ◌∷◌, ◌++◌, slice_index, slice_index_or, slice_set, IfOk, IfErr, None, Some, true, Err};
 ghost use Rattle.snoop_trace.specs.declared.step.Step.TheVariants.{Ask};
 ghost use Rattle.snoop_rules.specs.Waits.{waiting_request};
 ghost use Rattle.snoop_bus.specs.Queues.{after_issue};
 ghost use Rattle.snoop_history.specs.declared.items.Item.TheVariants.{Did as ItemDid};
 ghost use Rattle.snoop_rules.specs.declared.names.CacheState.TheVariants.{I};
-ghost use Rattle.snoop_model.specs.Moves.Standing.{KeepsRoom};
-ghost use Rattle.snoop_model.specs.Moves.Prepared.{room_to_issue};
+ghost use Rattle.snoop_model.specs.Moves.Standing.{KeepsRoom, has_line};
 ghost use Rattle.snoop_machine.specs.Following.{LosesLines};
 ghost use Rattle.snoop_model.specs.Pictures.Sound.{IsProper, line_at};
 ghost use Rattle.snoop_model.specs.Moves.Move.{next_did, hit_reply as reply_to_hit};
 ghost use Rattle.snoop_machine.specs.Asked.{TakesAsk};
 ghost use Rattle.snoop_model.specs.Moves.AskMove.{MovesAsk};
 ghost use Rattle.snoop_model.specs.Moves.StepMove.{IsDenied};
-ghost use Rattle.snoop_machine.specs.Plan.{IsPlanFor, room_for_ask, entry_of_ask};
+ghost use Rattle.snoop_machine.specs.Plan.{IsPlanFor, HasRoomToAsk, entry_of_ask};
 ghost use Rattle.snoop_model.specs.Moves.Refuses.{Refuses};
 ghost use Rattle.snoop_model.specs.Invariant.Coherent.{IsCoherent};
 ghost use Rattle.snoop_model.specs.declared.replies.Refused.{Refused};
@@ -52,7 +51,7 @@ impl Parts {
         requires block { block < self.old.situation.shape.blocks }
         requires found { TakesAsk self.old.situation.protocol (line_at self.old.situation.caches core block) op asked }
         requires proper { IsProper (line_at self.old.situation.caches core block) }
-        requires room { 0 < room_for_ask self.old core block asked }
+        requires room { HasRoomToAsk self.old core block asked }
         ensures moved { MovesAsk self.old.situation core block op result self.new.situation (entry_of_ask self.old.situation.log core block op asked) }
         ensures room { KeepsRoom self.old self.new }
         ensures lines { (k : ℕ) → LosesLines self.old self.new k }
@@ -78,7 +77,7 @@ impl Parts {
     fn issue_line(&mut self, core: u32, block: u32, line: Line, request: Request)
         requires core { core < self.old.situation.shape.cores }
         requires block { block < self.old.situation.shape.blocks }
-        requires room { 0 < room_to_issue self.old core block }
+        requires room { (has_line self.old core block ≡ true) × (0 < slice_index self.old.rooms core) }
         requires idle { waiting_request (line_at self.old.situation.caches core block).state ≡ None }
         requires waits { waiting_request line.state ≡ Some request }
         requires proper { IsProper line }

@@ -14,11 +14,11 @@ ghost use Rattle.snoop_model.specs.Moves.StepMove.{IsDenied};
 ghost use Rattle.snoop_machine.specs.Plan.{IsPlanFor};
 ghost use Rattle.snoop_model.specs.Invariant.Coherent.{IsCoherent};
 
-use super::Parts;
+use super::{NO_MEMORY, Parts};
 use crate::order::event_at_memory;
 use crate::plan::Plan;
 use snoop_history::{Item, Sent};
-use snoop_model::{Message, Refused};
+use snoop_model::{MemLine, Message, Refused};
 use snoop_rules::{MemState, Request, mem_cell};
 
 impl Parts {
@@ -46,7 +46,7 @@ impl Parts {
         if self.bus.open(block).is_some() {
             return Err(Refused::BusTaken(block));
         }
-        let memory = self.memory[block as usize];
+        let memory = self.memory.get_or(block, NO_MEMORY);
         let Some(cell) = mem_cell(self.protocol, memory.state, event_at_memory(request)) else {
             unreachable!();
         };
@@ -81,8 +81,13 @@ impl Parts {
         ensures room { KeepsRoom self.old self.new }
         ensures lines { (k : ℕ) → LosesLines self.old self.new k }
     {
+        let before = self.memory.get_or(block, NO_MEMORY);
         self.lines.take_rows(self.protocol, core, request, block);
-        self.memory[block as usize].state = memory;
+        let after = MemLine {
+            state: memory,
+            value: before.value,
+        };
+        self.memory.set(block, after);
         self.bus
             .start(core, message.payload, message.value, message.from);
         self.log.push(Item::Sent(Sent {

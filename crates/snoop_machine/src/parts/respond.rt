@@ -14,7 +14,7 @@ ghost use Rattle.snoop_model.specs.Invariant.Coherent.{IsCoherent};
 ghost use Rattle.snoop_model.specs.Moves.Refuses.{Refuses};
 ghost use Rattle.snoop_model.specs.declared.replies.Refused.{Refused};
 
-use super::Parts;
+use super::{NO_MEMORY, Parts};
 use crate::plan::Plan;
 use crate::respond::{Filled, arrive, fill};
 use snoop_bus::Open;
@@ -42,7 +42,7 @@ impl Parts {
         let Some(closing) = self.transaction(block) else {
             return Err(Refused::NoTransaction);
         };
-        let before = self.memory[block as usize];
+        let before = self.memory.get_or(block, NO_MEMORY);
         let memory = arrive(
             self.protocol,
             before,
@@ -78,7 +78,7 @@ impl Parts {
         ensures room { KeepsRoom self.old self.new }
         ensures lines { (k : ℕ) → LosesLines self.old self.new k }
     {
-        self.memory[block as usize] = memory;
+        self.memory.set(block, memory);
         let _ = self.bus.finish(block);
         self.log.push(Item::Came(came(closing), None));
     }
@@ -105,7 +105,7 @@ impl Parts {
     {
         let did = self.next_did(closing.core, closing.block, filled.op, filled.value, false);
         self.lines.set(closing.core, block, filled.line);
-        self.memory[block as usize] = memory;
+        self.memory.set(block, memory);
         let _ = self.bus.finish(block);
         self.log.push(Item::Came(came(closing), Some(did)));
         did

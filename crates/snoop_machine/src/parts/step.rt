@@ -11,7 +11,7 @@ ghost use Rattle.snoop_model.specs.Moves.Standing.{KeepsRoom, lines_of, has_line
 ghost use Rattle.snoop_model.specs.Moves.Holding.{HoldsOn};
 ghost use Rattle.snoop_model.specs.Moves.Prepared.{IsFull, IsPrepared, room_to_issue};
 ghost use Rattle.snoop_machine.specs.Following.{LosesLines, AddsLine, AddsLinesToAsk, AddsLines};
-ghost use Rattle.snoop_machine.specs.Plan.{IsPlan, IsPlanFor, step_of, room_for, room_for_ask, entry_of};
+ghost use Rattle.snoop_machine.specs.Plan.{IsPlan, IsPlanFor, HasRoom, HasRoomToAsk, step_of, room_for, room_for_ask, entry_of};
 ghost use Rattle.snoop_model.specs.Moves.Refuses.{Refuses};
 ghost use Rattle.snoop_model.specs.Invariant.Coherent.{IsCoherent};
 ghost use Rattle.snoop_model.specs.declared.replies.Refused.{Refused};
@@ -83,7 +83,7 @@ impl Parts {
     /// Makes room for what the plan adds.
     fn make_room(&mut self, plan: Plan) -> Result<(), NoMemory>
         requires { IsPlan self.old.situation plan }
-        ensures ok { OnOk result (0 < room_for self.new plan) }
+        ensures ok { OnOk result (HasRoom self.new plan) }
         ensures full { OnErr result (room_for self.old plan ≡ 0) }
         ensures refused { OnErr result (self.new ≡ self.old) }
         ensures room { KeepsRoom self.old self.new }
@@ -104,7 +104,7 @@ impl Parts {
     /// Makes room for what an Ask of the core adds.
     fn make_room_to_ask(&mut self, core: u32, block: u32, asked: Asked) -> Result<(), NoMemory>
         requires { core < self.old.situation.shape.cores }
-        ensures ok { OnOk result (0 < room_for_ask self.new core block asked) }
+        ensures ok { OnOk result (HasRoomToAsk self.new core block asked) }
         ensures full { OnErr result (room_for_ask self.old core block asked ≡ 0) }
         ensures refused { OnErr result (self.new ≡ self.old) }
         ensures room { KeepsRoom self.old self.new }
@@ -121,7 +121,7 @@ impl Parts {
     /// Makes room for one more request of the core for the block, and puts in the line that will wait for it.
     fn make_room_to_issue(&mut self, core: u32, block: u32) -> Result<(), NoMemory>
         requires { core < self.old.situation.shape.cores }
-        ensures ok { OnOk result (0 < room_to_issue self.new core block) }
+        ensures ok { OnOk result ((has_line self.new core block ≡ true) × (0 < slice_index self.new.rooms core)) }
         ensures full { OnErr result (room_to_issue self.old core block ≡ 0) }
         ensures refused { OnErr result (self.new ≡ self.old) }
         ensures room { KeepsRoom self.old self.new }
@@ -149,6 +149,7 @@ impl Parts {
         requires core { core < self.old.situation.shape.cores }
         requires absent { has_line self.old core block ≡ false }
         ensures ok { OnOk result ((has_line self.new core block ≡ true) × (0 < slice_index self.new.rooms core)) }
+        ensures full { OnErr result (slice_index self.old.places core ≡ 0) }
         ensures refused { OnErr result (self.new ≡ self.old) }
         ensures room { KeepsRoom self.old self.new }
         ensures more { OnOk result (lines_of self.new core ≡ lines_of self.old core + 1) }
@@ -197,7 +198,7 @@ impl Parts {
     /// Does what the plan says.
     fn perform(&mut self, plan: Plan) -> Reply
         requires found { IsPlan self.old.situation plan }
-        requires room { 0 < room_for self.old plan }
+        requires room { HasRoom self.old plan }
         ensures moved { FirstMove self.old.situation (step_of plan) result self.new.situation (entry_of self.old.situation.log plan) }
         ensures room { KeepsRoom self.old self.new }
         ensures lines { (core : ℕ) → LosesLines self.old self.new core }

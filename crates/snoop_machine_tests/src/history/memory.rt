@@ -1,6 +1,6 @@
 //! Out of memory: each test passes with any one growth refused. tools/refusals.py refuses each in turn.
 
-use crate::history::{BLOCK_BOUNDARY, block_boundary, did};
+use crate::history::{BLOCK_BOUNDARY, block_boundary, did, has_items};
 use snoop_history::{Board, Item, Log, write_report};
 use snoop_trace::{NoMemory, Shape};
 use std::alloc::Global;
@@ -40,15 +40,14 @@ fn full_log(alloc: Global, shape: Shape) -> Result<Log, Fail> {
 fn a_log_grows_by_each_item(rt: HostRuntime) -> Result<(), Fail> {
     let alloc = rt.alloc();
     let log = full_log(alloc, Shape::new(2, 4, 64)?)?;
-    assert_eq!(rt;
-        (log.items(), log.flat(1)),
-        (block_boundary().as_slice(), Some(7))
-    );
+    assert!(rt; has_items(&log, &block_boundary()));
+    assert_eq!(rt; log.flat(1), Some(7));
     let copy = match log.copy() {
         Ok(copy) => copy,
         Err(_) => log.copy()?,
     };
-    assert_eq!(rt; (copy.items(), copy.totals()), (log.items(), log.totals()));
+    assert!(rt; copy.equals(&log));
+    assert_eq!(rt; copy.totals(), log.totals());
     let answers = match log.answers(1) {
         Ok(answers) => answers,
         Err(_) => log.answers(1)?,

@@ -1,6 +1,8 @@
 //! Out of memory: each test passes with any one growth refused. tools/refusals.py refuses each in turn.
 
 use crate::machine::support::{UPGRADE_RACE, two_cores};
+use snoop_bus::Open;
+use snoop_history::{Item, Totals};
 use snoop_machine::{Machine, Refused};
 use snoop_rules::{CacheState, MemState, Protocol};
 use snoop_trace::Shape;
@@ -8,13 +10,19 @@ use std::alloc::Global;
 use std::process::Abort;
 use std::test::Fail;
 
-/// What a machine shows of block 0: its state in both caches and in memory, its waiting requests, and how many items there are.
+/// What a machine shows of block 0: what both caches and memory hold, its waiting requests and its transaction; and of its history how many
+/// items there are, the last one and the counts.
 #[derive(Clone, Copy, Debug, PartialEq, Eq)]
 struct BlockSeen {
     caches: [Option<CacheState>; 2],
+    kept: [Option<u64>; 2],
     memory: Option<MemState>,
+    value: Option<u64>,
     waiting: [bool; 2],
+    open: Option<Open>,
     items: usize,
+    last: Option<Item>,
+    totals: Totals,
 }
 
 fn lines_of(machine: &Machine) -> [Option<usize>; 2] {
@@ -30,11 +38,17 @@ fn count(rt: &impl Abort, taken: &mut u32, outcome: Result<(), Refused>) {
 }
 
 fn seen_of(machine: &Machine) -> BlockSeen {
+    let log = machine.log();
     BlockSeen {
         caches: [machine.state(0, 0), machine.state(1, 0)],
+        kept: [machine.kept(0, 0), machine.kept(1, 0)],
         memory: machine.mem_state(0),
+        value: machine.mem_value(0),
         waiting: [machine.waits_on(0, 0), machine.waits_on(1, 0)],
-        items: machine.log().items().len(),
+        open: machine.open(0),
+        items: log.len(),
+        last: log.item(log.len().wrapping_sub(1)),
+        totals: log.totals(),
     }
 }
 
@@ -77,8 +91,9 @@ fn a_prepared_step_takes_no_memory(rt: HostRuntime) -> Result<(), Fail> {
             prepared = machine.prepare(*step);
         }
         assert_eq!(rt; seen_of(&machine), before.0);
-        if prepared.is_ok() {
+        if let Ok(told) = prepared {
             assert!(rt; machine.step(*step).is_ok());
+            assert_eq!(rt; machine.log().item(before.0.items), told);
         }
         count(&rt, &mut taken, prepared.map(|_| ()));
     }

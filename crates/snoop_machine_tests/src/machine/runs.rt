@@ -26,7 +26,7 @@ fn a_refused_step_is_passed_over_and_not_counted(rt: HostRuntime) -> Result<(), 
 fn end_of(machine: &Machine) -> (Option<Item>, Option<u64>, Totals) {
     let log = machine.log();
     (
-        log.items().last().copied(),
+        log.item(log.len().saturating_sub(1)),
         machine.kept(255, 0),
         log.totals(),
     )

@@ -182,7 +182,7 @@ fn storm(rt: &impl Abort, alloc: Global, protocol: Protocol) -> Result<(), Fail>
     // Taken whole, the same steps do the same.
     let mut whole = machine_of(alloc, protocol, CORES)?;
     assert_eq!(rt; run_steps(&mut whole, &steps), taken);
-    assert!(rt; whole.log().items() == machine.log().items());
+    assert!(rt; whole.log().equals(machine.log()));
     Ok(())
 }
 

@@ -1,9 +1,7 @@
 //! Readers and writers that fail, stop short or take little.
 
-use snoop_trace::{
-    AnyReader, AnyWriter, Op, Shape, Step, TextFault, WriteFault, read_rows, read_steps,
-    write_steps,
-};
+use snoop_trace::streams::{AnyReader, AnyWriter};
+use snoop_trace::{Op, Shape, Step, TextFault, WriteFault, read_rows, read_steps, write_steps};
 use std::alloc::Global;
 use std::io;
 use std::io::{ErrorKind, Read, Write};

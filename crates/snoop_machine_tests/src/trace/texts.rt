@@ -1,8 +1,7 @@
 //! Texts that are read and written whole.
 
-use snoop_trace::{
-    CHUNK, Op, Row, Shape, Step, read_rows, read_steps, spill, write_steps, write_whole,
-};
+use snoop_trace::streams::{CHUNK, spill, write_whole};
+use snoop_trace::{Op, Row, Shape, Step, read_rows, read_steps, write_steps};
 use std::io;
 use std::test::Fail;
 

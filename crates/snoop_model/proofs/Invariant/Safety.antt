@@ -19,6 +19,7 @@ use Rattle.snoop_model.specs.Moves.StepMove.{RefusedFor}
 use Rattle.snoop_model.specs.Invariant.Coherent.{IsCoherent}
 use Rattle.snoop_model.specs.Invariant.MachineKeeps.{MachineKeeps}
 use Rattle.snoop_model.specs.Runs.Safe.{IsSafe}
+use Rattle.snoop_model.proofs.Invariant.TableLines.{moves_are_by_table}
 use Rattle.snoop_model.proofs.Invariant.Coherence.{has_one_writer, readers_current, memory_current, names_its_block, meets_nothing, orders_follow_sender_table, place}
 use Rattle.snoop_model.proofs.Invariant.Runs.{reset_coherent, nothing_proper}
 use Rattle.snoop_model.proofs.Queues.Runs.{reset_queued, move_queued}
@@ -50,6 +51,7 @@ is_safe s keeps = record {
   opened = names_its_block s keeps.coherent;
   possible = meets_nothing s keeps.coherent;
   orders = orders_follow_sender_table s keeps.coherent;
+  by_table = moves_are_by_table s keeps.coherent;
   proper = all_proper s keeps.coherent;
   queued = keeps.queued.each;
   well_kept = keeps.well_kept;

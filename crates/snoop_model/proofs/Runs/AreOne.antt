@@ -260,7 +260,7 @@ same_row : (xs ys : List Line) → length xs ≡ length ys → ((k : ℕ) → k 
 same_row xs ys long each = same_lists xs ys long (λ k d h. get_or_default xs k d nothing_held h ∙ (each k h ∙ get_or_default ys k nothing_held d (rw (← long) h)))
 
 -- a sender sends one payload
-sends_one : (p : Protocol) (before : Picture) (core : ℕ) (q : Request) (from : Option ℕ) (payload payload' : Payload) → Sends p before core q from payload → Sends p before core q from payload' → payload ≡ payload'
+pub sends_one : (p : Protocol) (before : Picture) (core : ℕ) (q : Request) (from : Option ℕ) (payload payload' : Payload) → Sends p before core q from payload → Sends p before core q from payload' → payload ≡ payload'
 sends_one p before core q None payload payload' a b =
     let same : mem_action.Send payload ≡ mem_action.Send payload' = (MemoryCell-one p before.memory (at_memory q) (mem_action.Send payload) (mem_action.Send payload') a.0 b.0 a.1 b.1).0 in cc
 sends_one p before core q (Some d) payload payload' a b =

@@ -16,9 +16,9 @@ use Rattle.snoop_model.specs.Pictures.Situation.{Situation, state_of}
 use Rattle.snoop_model.specs.Moves.Move.{FirstMove}
 use Rattle.snoop_model.specs.Moves.Refuses.{Refuses}
 
--- for how many more requests of the core for the block there is room: for none where the core's map has no line for it
+-- for how many more requests of the core for the block there is room, by whether the core's map has a line for it
 abbrev pub room_to_issue : Standing → ℕ → ℕ → ℕ
-room_to_issue before core block = if has_line before core block then slice_index before.rooms core else 0
+room_to_issue before core block = if has_line before core block then slice_index before.rooms core else slice_index before.places core
 
 -- for how many more Asks of the core for the block by this action there is room: a hit adds an item, an issue adds a request, and no other adds any
 abbrev pub room_to : CacheAction → Standing → ℕ → ℕ → ℕ
@@ -26,7 +26,7 @@ room_to Hit before core block = before.room
 room_to (Issue request) before core block = room_to_issue before core block
 room_to _ before core block = 1
 
--- there is no room for the item or the request that the step adds, or no line for the block yet
+-- there is no room for the item or the request that the step adds, or none for the line that its request needs
 abbrev pub IsFull : Standing → Step → Type 0
 IsFull before (Ask core block asking) =
     (act : CacheAction) × ((next : CacheState) × (Cell before.situation.protocol (state_of before.situation core block) (asked asking) act next × (room_to act before core block ≡ 0)))

@@ -1,6 +1,8 @@
 -- Each Order is a line of the table of senders.
 -- Source: "A Primer on Memory Consistency and Cache Coherence", 2nd edition, chapter 7; MESI's memory is this project's profile.
-use Rattle.std.specs.Prelude.{◌≡◌, ℕ, Option, Some, None, option_map, MatchBool}
+use Rattle.std.specs.Prelude.{◌≡◌, ℕ, Option, Some, None, option_map, MatchBool, ⊤}
+use Rattle.snoop_trace.specs.declared.step.Step.{Step}
+use Rattle.snoop_trace.specs.declared.step.Step.TheVariants.{Ask, Order, Respond}
 use Rattle.snoop_rules.specs.declared.names.Protocol.{Protocol}
 use Rattle.snoop_rules.specs.declared.names.MemState.{MemState}
 use Rattle.snoop_rules.specs.declared.names.MemEvent.{MemEvent}
@@ -11,9 +13,13 @@ use Rattle.snoop_rules.specs.declared.names.Payload.{Payload}
 use Rattle.snoop_rules.specs.MemoryCell.{MemoryCell}
 use Rattle.snoop_rules.specs.Takers.{at_memory, takes_payload, arrival_at_memory}
 use Rattle.snoop_rules.specs.WhoSends.{SentAs}
+use Rattle.snoop_history.specs.declared.items.Item.{Item}
+use Rattle.snoop_bus.specs.declared.transactions.Open.{Open}
+use Rattle.snoop_model.specs.declared.replies.Reply.{Reply}
 use Rattle.snoop_model.specs.Pictures.Picture.{Picture, held_by}
 use Rattle.snoop_model.specs.Pictures.Situation.{Situation, picture_of, Waits}
 use Rattle.snoop_model.specs.Moves.Meets.{FindsRows}
+use Rattle.snoop_model.specs.Moves.Move.{MoveOn}
 use Rattle.snoop_model.specs.Pictures.Sends.{IsOnlySender}
 
 -- memory's state after the Respond: it takes a PutM's payload, and another's where it waits for one
@@ -35,6 +41,34 @@ pub record FollowsSenderTable (protocol : Protocol) (before : Picture) (core : �
   pub settled : Settles request protocol next payload done
   pub line : SentAs protocol request before.memory (option_map (λ k. (held_by before k).state) from) payload next done
   pub writeback : request ≡ PutM → from ≡ Some core
+
+-- an Order that led from old to new is a line of the table: memory's state before it, the sender's state and payload, and memory's state after it and after the response
+pub record IsOrderedByTable (old : Situation) (core block : ℕ) (request : Request) (new : Situation) : Type 0 where
+  pub from : Option ℕ
+  pub payload : Payload
+  pub value : ℕ
+  pub done : MemState
+  pub opened : (picture_of new block).transaction ≡ Some (record { core = core; request = request; block = block; payload = payload; value = value; from = from })
+  pub settled : Settles request old.protocol (picture_of new block).memory payload done
+  pub line : SentAs old.protocol request (picture_of old block).memory (option_map (λ k. (held_by (picture_of old block) k).state) from) payload (picture_of new block).memory done
+  pub writeback : request ≡ PutM → from ≡ Some core
+
+-- a Respond that led from old to new closed the block's transaction, and memory took its row for the response, or stayed where it takes none
+pub record IsSettledByTable (old : Situation) (block : ℕ) (new : Situation) : Type 0 where
+  pub closing : Open
+  pub opened : (picture_of old block).transaction ≡ Some closing
+  pub settled : Settles closing.request old.protocol (picture_of old block).memory closing.payload (picture_of new block).memory
+  pub closed : (picture_of new block).transaction ≡ None
+
+-- the step, on this block, is by the table, where it is an Order of what the core waits for or a Respond
+abbrev pub IsByTable : ℕ → Situation → Step → Situation → Type 0
+IsByTable block old (Order core) new = (request : Request) × (Waits old core block request × IsOrderedByTable old core block request new)
+IsByTable block old (Respond on) new = IsSettledByTable old block new
+IsByTable block old (Ask core on asking) new = ⊤
+
+-- each move from here is by the table
+abbrev pub MovesAreByTable : Situation → Type 0
+MovesAreByTable s = (block : ℕ) (step : Step) (answer : Reply) (new : Situation) (entry : Option Item) → MoveOn block s step answer new entry → IsByTable block s step new
 
 -- every request that waits on a free block would find all its rows and exactly one sender, and be a line of the table
 abbrev pub OrdersFollowSenderTable : Situation → Type 0

@@ -5,10 +5,11 @@ use Rattle.std.specs.List.{list_any}
 use Rattle.snoop_bus.specs.Queues.{queue_of}
 use Rattle.snoop_model.specs.Pictures.Situation.{Situation}
 
--- the situation, for how many more requests of each core there is room, for how many more items, and the blocks that each core's map has a line for
+-- the situation; for how many more requests of each core there is room, and for how many more that need a line first; for how many more items; and the blocks that each core's map has a line for
 pub record Standing : Type 0 where
   pub situation : Situation
   pub rooms : List ℕ
+  pub places : List ℕ
   pub room : ℕ
   pub lines : List (List ℕ)
 

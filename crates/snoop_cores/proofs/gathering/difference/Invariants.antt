@@ -3,4 +3,4 @@ use Rattle.snoop_cores.specs.Joined.{IsAnswered}
 use Rattle.snoop_cores.proofs.gathering.difference.Given as goal
 
 abbrev pub invariant-loop-core : goal.invariant-loop-core
-invariant-loop-core l = (core : ℕ) → core < l.core → IsAnswered l.items l.seats core
+invariant-loop-core l = (core : ℕ) → core < l.core → IsAnswered l.log.items l.seats core

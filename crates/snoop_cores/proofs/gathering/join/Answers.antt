@@ -8,7 +8,7 @@ use Rattle.snoop_cores.proofs.gathering.join.Goals as goal
 pub returns-in-Some-difference-clause-err : goal.returns-in-Some-difference-clause-err
 returns-in-Some-difference-clause-err c =
     let s = c.in-Some-difference.ensures.some in
-    let items : c.items.result.now ≡ c.args.bench.now.situation.log = c.items.ensures.value ∙ c.log.ensures.items in
+    let items : c.log.result.now.items ≡ c.args.bench.now.situation.log = c.log.ensures.items in
     let cores : c.cores.result ≡ c.args.bench.now.situation.shape.cores = c.cores.ensures.value ∙ ap (λ (e : Extent). e.cores) c.shape.ensures in (
       c.requires,
       subst (λ (n : ℕ). c.in-Some-difference.core < n) cores s.0,
@@ -23,7 +23,7 @@ returns-in-Some-difference-clause-err c =
 
 pub returns-in_default-copy-clause-err : goal.returns-in_default-copy-clause-err
 returns-in_default-copy-clause-err c =
-    let items : c.items.result.now ≡ c.args.bench.now.situation.log = c.items.ensures.value ∙ c.log.ensures.items in
+    let items : c.log.result.now.items ≡ c.args.bench.now.situation.log = c.log.ensures.items in
     let cores : c.cores.result ≡ c.args.bench.now.situation.shape.cores = c.cores.ensures.value ∙ ap (λ (e : Extent). e.cores) c.shape.ensures in (
       c.requires,
       (
@@ -36,7 +36,7 @@ returns-in_default-copy-clause-err c =
 
 pub returns-clause-ok : goal.returns-clause-ok
 returns-clause-ok c =
-    let items : c.items.result.now ≡ c.args.bench.now.situation.log = c.items.ensures.value ∙ c.log.ensures.items in
+    let items : c.log.result.now.items ≡ c.args.bench.now.situation.log = c.log.ensures.items in
     let cores : c.cores.result ≡ c.args.bench.now.situation.shape.cores = c.cores.ensures.value ∙ ap (λ (e : Extent). e.cores) c.shape.ensures in
     joins c.args.bench.now c.args.seats.now c.in-Ok.gathered.log.items c.in-Ok.gathered.steps.items c.kept.ensures.kept c.kept.ensures.safe c.turns_are_served.ensures.comes_to_rest c.asked_are_tallied.ensures
     c.requires c.in_default.ensures.none

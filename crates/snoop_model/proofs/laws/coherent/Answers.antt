@@ -11,6 +11,7 @@ use Rattle.snoop_model.specs.Moves.SenderTable.{FollowsSenderTable}
 use Rattle.snoop_model.proofs.Invariant.Runs.{reset_coherent, run_keeps, run_protocol}
 use Rattle.snoop_model.proofs.Invariant.Coherence.{has_one_writer, readers_current, memory_current, names_its_block, finds_rows, order_follows_sender_table, meets_nothing}
 use Rattle.snoop_model.proofs.Invariant.Safety.{all_proper}
+use Rattle.snoop_model.proofs.Invariant.TableLines.{moves_are_by_table}
 use Rattle.snoop_model.proofs.Once.Runs.{run_asked_once}
 use Rattle.snoop_model.proofs.Queues.Runs.{reset_queued, run_queued}
 use Rattle.snoop_model.proofs.laws.coherent.Goals as goal
@@ -46,6 +47,9 @@ returns-clause-once c p shape steps outcomes new run = run_asked_once p shape st
 pub returns-clause-lines : goal.returns-clause-lines
 returns-clause-lines c p shape steps outcomes new run core block request waits free =
     subst (λ (x : Protocol). FollowsSenderTable x (picture_of new block) core request) (run_protocol steps outcomes (reset p shape) new run) (order_follows_sender_table new (run_keeps steps outcomes (reset p shape) new (reset_coherent p shape) run) core block request waits free)
+
+pub returns-clause-by_table : goal.returns-clause-by_table
+returns-clause-by_table c p shape steps outcomes new run = moves_are_by_table new (run_keeps steps outcomes (reset p shape) new (reset_coherent p shape) run)
 
 pub returns-clause-proper : goal.returns-clause-proper
 returns-clause-proper c p shape steps outcomes new run = all_proper new (run_keeps steps outcomes (reset p shape) new (reset_coherent p shape) run)

@@ -1,7 +1,12 @@
-use Rattle.std.proofs.Common.{take}
-use Rattle.snoop_trace.specs.Output.{Gathers, steps_text}
+use Rattle.std.proofs.Common.{◌≤◌, length, take}
+use Rattle.std.specs.Prelude.{◌-◌}
+use Rattle.std.specs.Io.KnownBytes.{Appends}
+use Rattle.snoop_trace.specs.Output.{steps_text}
 use Rattle.snoop_trace.proofs.output.write_steps.Given as goal
 
--- the lines so far were written or stand in the chunk
-abbrev pub invariant-loop-step : goal.invariant-loop-step
-invariant-loop-step g l = Gathers (g.W.Write.contents l.fn.writer) (g.W.Write.contents l.writer) l.chunk.items (steps_text l.shape (take l.step-index l.steps))
+-- the first records were written
+abbrev pub invariant-loop-at : goal.invariant-loop-at
+invariant-loop-at g l = (l.at ≤ length l.steps) × Appends (g.W.Write.contents l.fn.writer) (g.W.Write.contents l.writer) (steps_text l.shape (take l.at l.steps))
+
+abbrev pub decreases-loop-at : goal.decreases-loop-at
+decreases-loop-at g l = length l.steps - l.at

@@ -5,7 +5,6 @@ use Rattle.snoop_history.specs.Journal.{Journal}
 use Rattle.snoop_versions.specs.Readings.{Publishing}
 use Rattle.snoop_cores_tests.proofs.Followed.{legal_on}
 use Rattle.snoop_cores_tests.proofs.versions.memory.add.Goals as goal
-use Rattle.snoop_cores_tests.proofs.versions.memory.add.Goals.{After-items-items}
 
 pub publish-requires-clause-legal : goal.publish-requires-clause-legal
 publish-requires-clause-legal g c =

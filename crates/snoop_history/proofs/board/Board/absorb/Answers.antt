@@ -6,22 +6,8 @@ use Rattle.snoop_history.specs.Board.{Tables, operation_within, absorbed}
 use Rattle.snoop_history.proofs.Boards.{board_after, absorbed_as, operation_within-lies}
 use Rattle.snoop_history.proofs.board.Board.absorb.Goals as goal
 
-pub returns-then-not-did : goal.returns-then-not-did
-returns-then-not-did c =
-    let counts = c.self.inside.counts.items in
-    let core = c.in-Some.did.core in
-    let own : operation_within (length counts) (length c.self.inside.values.items) c.args.item ≡ Some c.in-Some.did = search rules in
-    let within : core < length counts = (operation_within-lies _ _ c.args.item c.in-Some.did own).0 in
-    let read : c.index.result.now ≡ slice_index counts core = get_or_read _ _ _ within c.index.ensures 0 in
-    let one_more : c.saturating_add.result ≡ counted (slice_index counts core) true = omega arith in
-    record {
-      value = (absorbed_as _ _ c.args.item c.in-Some.did own (search rules) (ap (λ n. slice_set counts core n) one_more) (search rules) (search rules)) ∙ ap (λ (t : Tables). absorbed t c.args.item) c.self.view_is;
-      board = board_after _ _ _ c.args.item c.self.view_is
-          (absorbed_as _ _ c.args.item c.in-Some.did own (search rules) (ap (λ n. slice_set counts core n) one_more) (search rules) (search rules));
-    }
-
-pub returns-else-not-did : goal.returns-else-not-did
-returns-else-not-did c =
+pub returns-in-Some : goal.returns-in-Some
+returns-in-Some c =
     let counts = c.self.inside.counts.items in
     let core = c.in-Some.did.core in
     let own : operation_within (length counts) (length c.self.inside.values.items) c.args.item ≡ Some c.in-Some.did = search rules in

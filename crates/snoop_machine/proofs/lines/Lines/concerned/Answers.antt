@@ -1,6 +1,6 @@
-use Rattle.std.proofs.Common.{◌<◌, List, [], length, sym, ◌∙◌, ap, subst, arith}
+use Rattle.std.proofs.Common.{◌≡◌, ◌<◌, List, [], length, sym, ◌∙◌, ap, subst, arith}
 use Rattle.std.specs.Prelude.{slice_index_or}
-use Rattle.std.proofs.lemmas.List.{get_or_read}
+use Rattle.std.proofs.lemmas.List.{get_or_default}
 use Rattle.snoop_model.specs.declared.line.Line.{Line}
 use Rattle.snoop_model.specs.Pictures.Picture.{held_at}
 use Rattle.snoop_model.specs.Pictures.Sound.{IsProper}
@@ -14,31 +14,26 @@ use Rattle.snoop_machine.proofs.LineMaps.{in_rows, row_seen, line_seen}
 use Rattle.snoop_machine.proofs.lines.Lines.concerned.Goals as goal
 use Rattle.snoop_machine.proofs.lines.Lines.concerned.Goals.{After-concerned}
 
-pub index-holders-requires : goal.index-holders-requires
-index-holders-requires c =
-    let h = (in_rows c.self.inside c.args.self.now c.self.view_is c.args.requestor c.args.block c.requires.block c.requires.requestor).0 in
-    omega (arith, h)
-
 pub concerned-requires : goal.concerned-requires
 concerned-requires c =
     let h = (in_rows c.self.inside c.args.self.now c.self.view_is c.args.requestor c.args.block c.requires.block c.requires.requestor).1 in
     let few = c.self.invariant.few in
     omega (arith, h, few)
 
-in_block : (c : After-concerned) → c.args.block < length c.self.inside.holders.items
+in_block : (c : After-concerned) → c.args.block < length c.self.inside.holders
 in_block c = (in_rows c.self.inside c.args.self.now c.self.view_is c.args.requestor c.args.block c.requires.block c.requires.requestor).0
 
 -- the holders are those of the row
-fits : (c : After-concerned) → AreHolders c.index-holders.result.now (slice_index_or c.args.self.now.rows c.args.block [])
+fits : (c : After-concerned) → AreHolders c.get_or-holders.result (slice_index_or c.args.self.now.rows c.args.block [])
 fits c =
-    let read = get_or_read c.self.inside.holders.items c.args.block c.index-holders.result.now (in_block c) c.index-holders.ensures no_holders in
-    subst (λ (row : List Line). AreHolders c.index-holders.result.now row) (row_seen c.self.inside c.args.self.now c.self.view_is c.args.block (in_block c))
+    let read : c.get_or-holders.result ≡ slice_index_or c.self.inside.holders c.args.block no_holders = c.get_or-holders.ensures ∙ get_or_default c.self.inside.holders c.args.block c.empty.result no_holders (in_block c) in
+    subst (λ (row : List Line). AreHolders c.get_or-holders.result row) (row_seen c.self.inside c.args.self.now c.self.view_is c.args.block (in_block c))
     (subst (λ (h : Holders). AreHolders h (row_in c.self.inside.caches.items c.args.block)) (sym read) (c.self.invariant.indexed c.args.block (in_block c)))
 
 pub returns-clause-others : goal.returns-clause-others
 returns-clause-others c k ne =
     let f = fits (goal.at.returns-clause-others c).After-concerned in
-    c.concerned.ensures.others k ne ∙ (ap (λ owner. is_concerned c.args.request owner (has c.index-holders.result.now.readers k)) (f.owners k) ∙ ap (λ reader. is_concerned c.args.request (is_owner (held_at (slice_index_or c.args.self.now.rows c.args.block []) k).state) reader) (f.readers k))
+    c.concerned.ensures.others k ne ∙ (ap (λ owner. is_concerned c.args.request owner (has c.get_or-holders.result.readers k)) (f.owners k) ∙ ap (λ reader. is_concerned c.args.request (is_owner (held_at (slice_index_or c.args.self.now.rows c.args.block []) k).state) reader) (f.readers k))
 
 pub returns-clause-proper : goal.returns-clause-proper
 returns-clause-proper c k =

@@ -8,7 +8,7 @@ use Rattle.snoop_machine.proofs.LineMaps.{in_rows, line_seen}
 use Rattle.snoop_machine.proofs.lines.Lines.get.Goals as goal
 use Rattle.snoop_machine.proofs.lines.Lines.get.Goals.{After-get}
 
-within : (c : After-get) → (c.args.block < length c.self.inside.holders.items) × (c.args.core < length c.self.inside.caches.items)
+within : (c : After-get) → (c.args.block < length c.self.inside.holders) × (c.args.core < length c.self.inside.caches.items)
 within c = in_rows c.self.inside c.args.self.now c.self.view_is c.args.core c.args.block c.requires.block c.requires.core
 
 read : (c : After-get) → c.get.result ≡ line_in (slice_index_or c.self.inside.caches.items c.args.core no_cache) c.args.block

@@ -19,15 +19,15 @@ counted c =
     let many = c.loop.invariant.1 in
     omega (arith, many, c.loop-test.false, c.loop.auto.counter-end, c.cores-cores.ensures.value)
 
-holders_are : (c : In_ok-holders) → c.in_ok-holders.holders.items ≡ replicate c.args.shape.blocks c.empty.result
-holders_are c = c.in_ok-holders.ensures.items_if_clones_equal (λ y h. h) ∙ ap (λ (n : ℕ). replicate n c.empty.result) c.blocks-2.ensures.value
+holders_are : (c : In_ok-holders) → c.in_ok-holders.holders ≡ replicate c.args.shape.blocks c.empty.result
+holders_are c = c.in_ok-holders.ensures ∙ ap (λ (n : ℕ). replicate n c.empty.result) c.blocks-2.ensures.value
 
 pub invariant_of-result : goal.invariant_of-result
 unfolding is_owner
 invariant_of-result c =
     let d = (goal.at.invariant_of-result c).In_ok-holders in
     let caches = c.loop.caches.items in
-    let holders = c.in_ok-holders.holders.items in
+    let holders = c.in_ok-holders.holders in
     let many = counted d in
     let few = c.requires in
     record {
@@ -48,7 +48,7 @@ pub returns-clause-rows : goal.returns-clause-rows
 returns-clause-rows c =
     let d = (goal.at.returns-clause-rows c).In_ok-holders in
     let caches = c.loop.caches.items in
-    let long : length c.in_ok-holders.holders.items ≡ c.args.shape.blocks = ap (λ (l : List Holders). length l) (holders_are d) ∙ length-replicate c.args.shape.blocks c.empty.result in
+    let long : length c.in_ok-holders.holders ≡ c.args.shape.blocks = ap (λ (l : List Holders). length l) (holders_are d) ∙ length-replicate c.args.shape.blocks c.empty.result in
     ap (λ (n : ℕ). rows_of n caches) long ∙ (rows-empty caches c.loop.invariant.0 c.args.shape.blocks ∙ ap (λ (n : ℕ). replicate c.args.shape.blocks (replicate n nothing_held)) (counted d))
 
 pub returns-clause-lines : goal.returns-clause-lines

@@ -29,13 +29,13 @@ put_ahead-requires-clause-room c =
 pub invariant_of-self : goal.invariant_of-self
 invariant_of-self c =
     let d = (goal.at.invariant_of-self c).After-index_mut-cache in
-    AreLines-alike c.self.inside.caches.items c.self.inside.holders.items c.self.invariant c.args.core c.put_ahead.new.self (within d)
+    AreLines-alike c.self.inside.caches.items c.self.inside.holders c.self.invariant c.args.core c.put_ahead.new.self (within d)
     (λ b. c.put_ahead.ensures.same b ∙ ap (λ (cache : Contents). line_in cache b) (read d))
 
 pub returns-clause-rows : goal.returns-clause-rows
 returns-clause-rows c =
     let d = (goal.at.returns-clause-rows c).After-index_mut-cache in
-    rows-same (length c.self.inside.holders.items) c.self.inside.caches.items c.args.core c.put_ahead.new.self
+    rows-same (length c.self.inside.holders) c.self.inside.caches.items c.args.core c.put_ahead.new.self
     (λ b. c.put_ahead.ensures.same b ∙ ap (λ (cache : Contents). line_in cache b) (read d))
     ∙ ap (λ (h : Held). h.rows) c.self.view_is
 

@@ -1,6 +1,6 @@
-use Rattle.std.proofs.Common.{◌≡◌, ℕ, ◌<◌, length, sym, ◌∙◌, ap, subst}
+use Rattle.std.proofs.Common.{◌≡◌, ℕ, ◌<◌, List, length, sym, ◌∙◌, ap, subst}
 use Rattle.std.specs.Prelude.{slice_index_or, slice_set, map, OnOk}
-use Rattle.std.proofs.lemmas.List.{get_or_read, get_or-set_same}
+use Rattle.std.proofs.lemmas.List.{get_or_read, get_or-set_same, map-set}
 use Rattle.snoop_machine.specs.Cache.{Contents, no_cache}
 use Rattle.snoop_machine.specs.Lines.{Held}
 use Rattle.snoop_machine.proofs.MapRows.{rows-same, line-same, blocks-same, spare-at}
@@ -21,13 +21,13 @@ same c =
 pub invariant_of-self : goal.invariant_of-self
 invariant_of-self c =
     let d = (goal.at.invariant_of-self c).After-reserve in
-    AreLines-alike c.self.inside.caches.items c.self.inside.holders.items c.self.invariant c.args.core c.reserve.new.self (within d)
+    AreLines-alike c.self.inside.caches.items c.self.inside.holders c.self.invariant c.args.core c.reserve.new.self (within d)
     (line-same c.reserve.new.self (slice_index_or c.self.inside.caches.items c.args.core no_cache) (same d))
 
 pub returns-clause-rows : goal.returns-clause-rows
 returns-clause-rows c =
     let d = (goal.at.returns-clause-rows c).After-reserve in
-    rows-same (length c.self.inside.holders.items) c.self.inside.caches.items c.args.core c.reserve.new.self (line-same c.reserve.new.self (slice_index_or c.self.inside.caches.items c.args.core no_cache) (same d))
+    rows-same (length c.self.inside.holders) c.self.inside.caches.items c.args.core c.reserve.new.self (line-same c.reserve.new.self (slice_index_or c.self.inside.caches.items c.args.core no_cache) (same d))
     ∙ ap (λ (h : Held). h.rows) c.self.view_is
 
 pub returns-clause-lines : goal.returns-clause-lines
@@ -35,9 +35,24 @@ returns-clause-lines c =
     let d = (goal.at.returns-clause-lines c).After-reserve in
     blocks-same c.self.inside.caches.items c.args.core c.reserve.new.self (same d) ∙ ap (λ (h : Held). h.lines) c.self.view_is
 
+-- the room that callers see of each map after it
+abbrev spares : (c : After-reserve) → List ℕ
+spares c = map (λ (cache : Contents). cache.spare) (slice_set c.self.inside.caches.items c.args.core c.reserve.new.self)
+
+-- for this core it is the map's
+here : (c : After-reserve) → slice_index_or (spares c) c.args.core 0 ≡ c.reserve.new.self.spare
+here c =
+    spare-at (slice_set c.self.inside.caches.items c.args.core c.reserve.new.self) c.args.core
+    ∙ ap (λ (cache : Contents). cache.spare) (get_or-set_same c.self.inside.caches.items c.args.core c.reserve.new.self no_cache (within c))
+
 pub returns-clause-ok : goal.returns-clause-ok
 returns-clause-ok c =
     let d = (goal.at.returns-clause-ok c).After-reserve in
-    let is : slice_index_or (map (λ (cache : Contents). cache.spare) (slice_set c.self.inside.caches.items c.args.core c.reserve.new.self)) c.args.core 0 ≡ c.reserve.new.self.spare =
-    spare-at (slice_set c.self.inside.caches.items c.args.core c.reserve.new.self) c.args.core ∙ ap (λ (cache : Contents). cache.spare) (get_or-set_same c.self.inside.caches.items c.args.core c.reserve.new.self no_cache (within d)) in
-    subst (λ (n : ℕ). OnOk c.reserve.result (0 < n)) (sym is) c.reserve.ensures.ok
+    subst (λ (n : ℕ). OnOk c.reserve.result (0 < n)) (sym (here d)) c.reserve.ensures.ok
+
+pub returns-clause-spares : goal.returns-clause-spares
+returns-clause-spares c =
+    let d = (goal.at.returns-clause-spares c).After-reserve in
+    map-set (λ (cache : Contents). cache.spare) c.self.inside.caches.items c.args.core c.reserve.new.self
+    ∙ (ap (λ (n : ℕ). slice_set (map (λ (cache : Contents). cache.spare) c.self.inside.caches.items) c.args.core n) (sym (here d))
+    ∙ ap (λ (h : Held). slice_set h.spares c.args.core (slice_index_or (spares d) c.args.core 0)) c.self.view_is)

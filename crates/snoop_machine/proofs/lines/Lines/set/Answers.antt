@@ -1,7 +1,7 @@
 use Rattle.std.proofs.Common.{◌≡◌, ◌≢◌, ℕ, ◌<◌, List, [], is_some, length, sym, ◌∙◌, ap, subst, arith, inl, inr}
 use Rattle.std.specs.Prelude.{slice_index_or, slice_set, nat_eq, map}
 use Rattle.std.specs.Map.{lookup}
-use Rattle.std.proofs.lemmas.List.{get_or_read, length-set, get_or-set_same, get_or-set_other}
+use Rattle.std.proofs.lemmas.List.{get_or_read, get_or_default, length-set, get_or-set_same, get_or-set_other}
 use Rattle.snoop_rules.specs.declared.names.CacheState.TheVariants.{I}
 use Rattle.snoop_model.specs.Pictures.Sound.{line_at}
 use Rattle.snoop_machine.specs.declared.holders.Holders.{Holders}
@@ -15,7 +15,7 @@ use Rattle.snoop_machine.proofs.LineParts.{AreLines-set}
 use Rattle.snoop_machine.proofs.lines.Lines.set.Goals as goal
 use Rattle.snoop_machine.proofs.lines.Lines.set.Goals.{After-index_mut-cache}
 
-within : (c : After-index_mut-cache) → (c.args.block < length c.self.inside.holders.items) × (c.args.core < length c.self.inside.caches.items)
+within : (c : After-index_mut-cache) → (c.args.block < length c.self.inside.holders) × (c.args.core < length c.self.inside.caches.items)
 within c = in_rows c.self.inside c.args.self.now c.self.view_is c.args.core c.args.block c.requires.block c.requires.core
 
 read : (c : After-index_mut-cache) → c.index_mut-cache.result.now ≡ slice_index_or c.self.inside.caches.items c.args.core no_cache
@@ -34,11 +34,8 @@ set-requires-clause-place c =
 pub set-requires-clause-settled : goal.set-requires-clause-settled
 set-requires-clause-settled c = settled c.args.line c.requires.proper
 
-pub index_mut-holders-requires : goal.index_mut-holders-requires
-index_mut-holders-requires c =
-    let d = (goal.at.index_mut-holders-requires c).After-index_mut-cache in
-    let h = (within d).0 in
-    omega (arith, h)
+pub set-requires-2 : goal.set-requires-2
+set-requires-2 c = (within (goal.at.set-requires-2 c).After-index_mut-cache).0
 
 pub move_to-requires : goal.move_to-requires
 move_to-requires c =
@@ -50,18 +47,19 @@ move_to-requires c =
 pub invariant_of-self : goal.invariant_of-self
 invariant_of-self c =
     let d = (goal.at.invariant_of-self c).After-index_mut-cache in
-    let holders = c.self.inside.holders.items in
-    let is : c.index_mut-holders.result.now ≡ slice_index_or holders c.args.block no_holders = get_or_read holders c.args.block c.index_mut-holders.result.now (within d).0 c.index_mut-holders.ensures.value no_holders in
-    AreLines-set c.self.inside.caches.items holders c.self.invariant c.args.core c.set.new.self (within d).1 c.args.block c.args.line c.move_to.new.self (within d).0 c.requires.proper
+    let holders = c.self.inside.holders in
+    let is : c.get_or-holders.result ≡ slice_index_or holders c.args.block no_holders = c.get_or-holders.ensures ∙ get_or_default holders c.args.block c.empty.result no_holders (within d).0 in
+    rw c.set-2.ensures (AreLines-set c.self.inside.caches.items holders c.self.invariant c.args.core c.set.new.self (within d).1 c.args.block c.args.line c.move_to.new.self (within d).0 c.requires.proper
     c.set.ensures.here (λ b ne. c.set.ensures.others b ne ∙ ap (λ (cache : Contents). line_in cache b) (read d))
-    (subst (λ (h : Holders). HaveMoved c.args.core c.args.line.state h c.move_to.new.self) is c.move_to.ensures)
+    (subst (λ (h : Holders). HaveMoved c.args.core c.args.line.state h c.move_to.new.self) is c.move_to.ensures))
 
 pub returns-clause-rows : goal.returns-clause-rows
 returns-clause-rows c =
     let d = (goal.at.returns-clause-rows c).After-index_mut-cache in
     let caches = c.self.inside.caches.items in
-    let holders = c.self.inside.holders.items in
-    ap (λ (n : ℕ). rows_of n (slice_set caches c.args.core c.set.new.self)) (length-set holders c.args.block c.move_to.new.self)
+    let holders = c.self.inside.holders in
+    ap (λ (l : List Holders). rows_of (length l) (slice_set caches c.args.core c.set.new.self)) c.set-2.ensures
+    ∙ ap (λ (n : ℕ). rows_of n (slice_set caches c.args.core c.set.new.self)) (length-set holders c.args.block c.move_to.new.self)
     ∙ (rows-set (length holders) caches c.args.core c.args.block c.set.new.self c.args.line (within d).0 c.set.ensures.here (λ b ne. c.set.ensures.others b ne ∙ ap (λ (cache : Contents). line_in cache b) (read d))
     ∙ ap (λ (h : Held). slice_set h.rows c.args.block (slice_set (slice_index_or h.rows c.args.block []) c.args.core c.args.line)) c.self.view_is)
 

@@ -1,12 +1,14 @@
 use Rattle.std.proofs.Common.{◌≡◌, ◌<◌, ◌≤◌, ◌++◌, ◌∷◌, [], ◌∙◌, ℕ, List, sym, ap, subst, length, arith}
-use Rattle.std.specs.Prelude.{slice_set, slice_index_or}
+use Rattle.std.specs.Prelude.{slice_set, slice_index, slice_index_or}
+use Rattle.std.proofs.lemmas.Result.{err_from_is_err_and}
 use Rattle.std.proofs.lemmas.List.{length-set}
 use Rattle.snoop_bus.specs.Traffic.{Traffic, Waiting, waiting_of}
+use Rattle.snoop_machine.specs.PartsView.{places_of}
 use Rattle.snoop_machine.specs.declared.parts.Parts.TheInside.{Inside}
 use Rattle.snoop_model.specs.declared.line.Line.{Line}
 use Rattle.snoop_model.specs.Moves.Standing.{Standing}
 use Rattle.snoop_model.specs.Pictures.Sound.{IsSound}
-use Rattle.snoop_machine.proofs.Room.{held_in, held_in-set, keeps_room}
+use Rattle.snoop_machine.proofs.Room.{held_in, held_in-set, keeps_room, places-full, places-map, places-queue}
 use Rattle.snoop_machine.proofs.QueueViews.{queues_of-room, same_traffic, IsSound-room}
 use Rattle.snoop_machine.proofs.parts.Parts.add_line.Goals as goal
 use Rattle.snoop_machine.proofs.parts.Parts.add_line.Goals.{After-put_ahead}
@@ -37,6 +39,29 @@ invariant_of-self-2 c =
       cores = c.self.invariant.cores;
       blocks = c.self.invariant.blocks;
     }
+
+pub returns-in_err-reserve-clause-full : goal.returns-in_err-reserve-clause-full
+returns-in_err-reserve-clause-full c =
+    let m = c.self.inside in
+    let p = err_from_is_err_and c.from_residual.result c.from_residual.ensures.1 in
+    let P : Standing → Type 0 = λ s. slice_index s.places c.args.core ≡ 0 in
+    rw p.1 (subst P c.self.view_is (places-map m.bus.queues m.lines.spares c.args.core c.in_err-reserve.ensures.full))
+
+pub returns-in_err-reserve-2-clause-full : goal.returns-in_err-reserve-2-clause-full
+returns-in_err-reserve-2-clause-full c =
+    let m = c.self.inside in
+    let p = err_from_is_err_and c.from_residual-in_err-reserve-2.result c.from_residual-in_err-reserve-2.ensures.1 in
+    let P : Standing → Type 0 = λ s. slice_index s.places c.args.core ≡ 0 in
+    rw p.1 (subst P c.self.view_is (places-queue m.bus.queues m.lines.spares c.args.core c.in_err-reserve-2.ensures.full))
+
+pub returns-in_err-reserve-2-clause-refused : goal.returns-in_err-reserve-2-clause-refused
+returns-in_err-reserve-2-clause-refused c =
+    let m = c.self.inside in
+    let after = c.reserve.new.self in
+    let p = err_from_is_err_and c.from_residual-in_err-reserve-2.result c.from_residual-in_err-reserve-2.ensures.1 in
+    let places : places_of m.bus.queues after.spares ≡ places_of m.bus.queues m.lines.spares =
+    ap (λ (spares : List ℕ). places_of m.bus.queues spares) c.reserve.ensures.spares ∙ places-full m.bus.queues m.lines.spares c.args.core _ c.in_err-reserve-2.ensures.full in
+    rw (p.1, c.in_err-reserve-2.ensures.refused, c.reserve.ensures.rows, c.reserve.ensures.lines, places) c.self.view_is
 
 pub returns-clause-unchanged : goal.returns-clause-unchanged
 returns-clause-unchanged c =

@@ -1,4 +1,4 @@
-use Rattle.std.proofs.Common.{◌≡◌, ◌<◌, ◌++◌, ◌∷◌, [], List, Some, None, false, ◌∙◌, refl, sym, ap, subst}
+use Rattle.std.proofs.Common.{◌≡◌, ◌<◌, ◌++◌, ◌∷◌, [], List, length, Some, None, false, ◌∙◌, refl, sym, ap, subst}
 use Rattle.std.specs.Prelude.{slice_set, slice_index_or}
 use Rattle.std.proofs.lemmas.List.{length-set}
 use Rattle.snoop_rules.specs.Waits.{waiting_request}
@@ -8,6 +8,7 @@ use Rattle.snoop_history.specs.declared.items.Came.{Came}
 use Rattle.snoop_history.specs.declared.items.Item.TheVariants as item
 use Rattle.snoop_bus.specs.Traffic.{Traffic}
 use Rattle.snoop_model.specs.declared.line.Line.{Line}
+use Rattle.snoop_model.specs.declared.memory.MemLine.{MemLine}
 use Rattle.snoop_model.specs.Pictures.Picture.{Picture}
 use Rattle.snoop_model.specs.Moves.Standing.{Standing}
 use Rattle.snoop_model.specs.Pictures.Situation.{Situation, picture_of, with_picture, no_memory}
@@ -47,7 +48,7 @@ invariant_of-self c =
       few = c.self.invariant.few;
       lines = c.set.ensures.many ∙ c.self.invariant.lines;
       sound = subst S (sym c.set.ensures.rows) (subst R (sym c.finish.ensures.after) (IsSound-close m.shape (placed m.lines.rows core block filled.line) m.bus block in_blocks placed_sound));
-      memory = length-set m.memory.items c.args.block c.args.memory ∙ c.self.invariant.memory;
+      memory = ap (λ (l : List MemLine). length l) c.set-2.ensures ∙ (length-set m.memory c.args.block c.args.memory ∙ c.self.invariant.memory);
       cores = ap (λ (j : Journal). j.cores) c.push.ensures ∙ c.self.invariant.cores;
       blocks = ap (λ (j : Journal). j.blocks) c.push.ensures ∙ c.self.invariant.blocks;
     }
@@ -66,9 +67,9 @@ returns-clause-responded c =
     let D : Standing → Did = λ x. next_did x.situation.log core closing.block filled.op filled.value false in
     let did_is : c.next_did-did.result ≡ next_did m.log.items core closing.block filled.op filled.value false = c.next_did-did.ensures ∙ sym (ap D c.self.view_is) in
     let did = c.next_did-did.result in
-    let old : Situation = record { protocol = m.protocol; shape = m.shape; caches = m.lines.rows; memory = m.memory.items; transactions = m.bus.transactions; queues = queues_of m.bus.queues; log = m.log.items } in
+    let old : Situation = record { protocol = m.protocol; shape = m.shape; caches = m.lines.rows; memory = m.memory; transactions = m.bus.transactions; queues = queues_of m.bus.queues; log = m.log.items } in
     let is : old ≡ c.args.self.now.situation = ap (λ (x : Standing). x.situation) c.self.view_is in
-    let new : Situation = record { protocol = m.protocol; shape = m.shape; caches = c.set.new.self.rows; memory = slice_set m.memory.items block c.args.memory; transactions = c.finish.new.self.transactions; queues = queues_of c.finish.new.self.queues; log = c.push.new.self.items } in
+    let new : Situation = record { protocol = m.protocol; shape = m.shape; caches = c.set.new.self.rows; memory = c.set-2.new.self; transactions = c.finish.new.self.transactions; queues = queues_of c.finish.new.self.queues; log = c.push.new.self.items } in
     let G : Situation → Type 0 = λ x. Responds x block closing (Some did) new in
     let F : Situation → Type 0 = λ x. (picture_of x block).transaction ≡ Some closing in
     let N : Situation → Type 0 = λ x. ArrivesIn closing.request x.protocol closing.payload closing.value (slice_index_or x.memory block no_memory) c.args.memory in
@@ -79,10 +80,10 @@ returns-clause-responded c =
       opened = subst F (sym is) c.requires.opened;
       next = next;
       requestor = subst A (sym did_is) (Arrives-get closing m.protocol m.log.items (row_of m.lines.rows block) filled c.requires.get (subst T (sym is) c.requires.filled));
-      memory = ArrivesAtMemory-in closing m.protocol (picture_of old block) next (slice_index_or m.memory.items block no_memory) c.args.memory refl refl refl refl (subst N (sym is) c.requires.memory);
+      memory = ArrivesAtMemory-in closing m.protocol (picture_of old block) next (slice_index_or m.memory block no_memory) c.args.memory refl refl refl refl (subst N (sym is) c.requires.memory);
       closed = refl;
       after = same_situation new (record (with_picture old block next) { log = m.log.items ++ item.Came (came_of closing) (Some did) ∷ [] })
-          refl refl c.set.ensures.rows refl
+          refl refl c.set.ensures.rows c.set-2.ensures
           (ap (λ (b : Traffic). b.transactions) c.finish.ensures.after) (ap (λ (b : Traffic). queues_of b.queues) c.finish.ensures.after)
           (ap (λ (j : Journal). j.items) c.push.ensures ∙ ap (λ (x : Came). m.log.items ++ item.Came x (Some did) ∷ []) c.came.ensures);
     })

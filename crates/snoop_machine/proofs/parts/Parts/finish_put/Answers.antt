@@ -1,4 +1,5 @@
-use Rattle.std.proofs.Common.{◌≡◌, ◌<◌, ◌++◌, ◌∷◌, [], Some, None, ◌∙◌, refl, sym, ap, subst}
+use Rattle.std.proofs.Common.{◌≡◌, ◌<◌, ◌++◌, ◌∷◌, [], List, length, Some, None, ◌∙◌, refl, sym, ap, subst}
+use Rattle.snoop_model.specs.declared.memory.MemLine.{MemLine}
 use Rattle.std.specs.Prelude.{slice_set, slice_index_or}
 use Rattle.std.proofs.lemmas.List.{length-set, set-get_or}
 use Rattle.snoop_history.specs.Journal.{Journal}
@@ -27,7 +28,7 @@ invariant_of-self c =
       few = c.self.invariant.few;
       lines = c.self.invariant.lines;
       sound = subst R (sym c.finish.ensures.after) (IsSound-close m.shape m.lines.rows m.bus c.args.block (subst Q (sym c.self.view_is) c.requires.block) c.self.invariant.sound);
-      memory = length-set m.memory.items c.args.block c.args.memory ∙ c.self.invariant.memory;
+      memory = ap (λ (l : List MemLine). length l) c.set.ensures ∙ (length-set m.memory c.args.block c.args.memory ∙ c.self.invariant.memory);
       cores = ap (λ (j : Journal). j.cores) c.push.ensures ∙ c.self.invariant.cores;
       blocks = ap (λ (j : Journal). j.blocks) c.push.ensures ∙ c.self.invariant.blocks;
     }
@@ -37,9 +38,9 @@ returns-clause-responded c =
     let m = c.self.inside in
     let block = c.args.block in
     let closing = c.args.closing in
-    let old : Situation = record { protocol = m.protocol; shape = m.shape; caches = m.lines.rows; memory = m.memory.items; transactions = m.bus.transactions; queues = queues_of m.bus.queues; log = m.log.items } in
+    let old : Situation = record { protocol = m.protocol; shape = m.shape; caches = m.lines.rows; memory = m.memory; transactions = m.bus.transactions; queues = queues_of m.bus.queues; log = m.log.items } in
     let is : old ≡ c.args.self.now.situation = ap (λ (x : Standing). x.situation) c.self.view_is in
-    let new : Situation = record { protocol = m.protocol; shape = m.shape; caches = m.lines.rows; memory = slice_set m.memory.items block c.args.memory; transactions = c.finish.new.self.transactions; queues = queues_of c.finish.new.self.queues; log = c.push.new.self.items } in
+    let new : Situation = record { protocol = m.protocol; shape = m.shape; caches = m.lines.rows; memory = c.set.new.self; transactions = c.finish.new.self.transactions; queues = queues_of c.finish.new.self.queues; log = c.push.new.self.items } in
     let G : Situation → Type 0 = λ x. Responds x block closing None new in
     let F : Situation → Type 0 = λ x. (picture_of x block).transaction ≡ Some closing in
     let N : Situation → Type 0 = λ x. ArrivesIn closing.request x.protocol closing.payload closing.value (slice_index_or x.memory block no_memory) c.args.memory in
@@ -48,10 +49,10 @@ returns-clause-responded c =
       opened = subst F (sym is) c.requires.opened;
       next = next;
       requestor = Arrives-put closing m.protocol m.log.items (row_of m.lines.rows block) c.requires.put;
-      memory = ArrivesAtMemory-in closing m.protocol (picture_of old block) next (slice_index_or m.memory.items block no_memory) c.args.memory refl refl refl refl (subst N (sym is) c.requires.memory);
+      memory = ArrivesAtMemory-in closing m.protocol (picture_of old block) next (slice_index_or m.memory block no_memory) c.args.memory refl refl refl refl (subst N (sym is) c.requires.memory);
       closed = refl;
       after = same_situation new (record (with_picture old block next) { log = m.log.items ++ item.Came (came_of closing) None ∷ [] })
-          refl refl (sym (set-get_or m.lines.rows block [])) refl
+          refl refl (sym (set-get_or m.lines.rows block [])) c.set.ensures
           (ap (λ (b : Traffic). b.transactions) c.finish.ensures.after) (ap (λ (b : Traffic). queues_of b.queues) c.finish.ensures.after)
           (ap (λ (j : Journal). j.items) c.push.ensures ∙ ap (λ (x : Came). m.log.items ++ item.Came x None ∷ []) c.came.ensures);
     })

@@ -1,6 +1,5 @@
 use Rattle.std.proofs.Common.{◌≡◌, ◌<◌, Option, Some, None, refl, sym, ap, subst, arith, ◌∙◌, false}
 use Rattle.std.specs.Prelude.{slice_index_or, is_some}
-use Rattle.std.proofs.lemmas.List.{get_or_read}
 use Rattle.snoop_rules.specs.declared.names.MemEvent.{MemEvent}
 use Rattle.snoop_rules.specs.MemoryCell.{MemoryCell}
 use Rattle.snoop_rules.specs.Possible.{IsMemImpossible}
@@ -16,6 +15,8 @@ use Rattle.snoop_model.specs.Pictures.Message.{free_picture, IsMessage}
 use Rattle.snoop_model.specs.Moves.OrderMove.{TakesMemRow}
 use Rattle.snoop_model.proofs.Lines.EachRow.{row_of}
 use Rattle.snoop_model.proofs.Invariant.Coherence.{finds_rows}
+use Rattle.snoop_machine.specs.declared.plan.Plan.TheVariants as plan
+use Rattle.snoop_machine.proofs.Plans.{plan-allowed}
 use Rattle.snoop_machine.proofs.parts.Parts.plan_order.Goals as goal
 use Rattle.snoop_machine.proofs.parts.Parts.plan_order.Goals.{In-Some-mem_cell}
 
@@ -24,20 +25,16 @@ none_from_is_some None h = refl
 none_from_is_some (Some x) h = cc
 
 -- what memory holds
-memory_is : (c : In-Some-mem_cell) → c.index-memory.result.now ≡ slice_index_or c.self.inside.memory.items c.in-Some.block no_memory
-memory_is c =
-    let P : Standing → Type 0 = λ s. c.in-Some.block < s.situation.shape.blocks in
-    let within : c.in-Some.block < c.self.inside.shape.blocks = subst P (sym c.self.view_is) c.in-Some.ensures.some.within in
-    let long = c.self.invariant.memory in
-    get_or_read c.self.inside.memory.items c.in-Some.block c.index-memory.result.now (omega arith) c.index-memory.ensures no_memory
+memory_is : (c : In-Some-mem_cell) → c.get_or-memory.result ≡ slice_index_or c.self.inside.memory c.in-Some.block no_memory
+memory_is c = c.get_or-memory.ensures
 
 -- the block that stands first has no open transaction, and this picture
-picture : (c : In-Some-mem_cell) → free_picture (row_of c.self.inside.lines.rows c.in-Some.block) c.index-memory.result.now ≡ picture_of c.args.self.now.situation c.in-Some.block
+picture : (c : In-Some-mem_cell) → free_picture (row_of c.self.inside.lines.rows c.in-Some.block) c.get_or-memory.result ≡ picture_of c.args.self.now.situation c.in-Some.block
 picture c =
     let m = c.self.inside in
     let free : transaction_on m.bus c.in-Some.block ≡ None = none_from_is_some _ (ap is_some (sym c.open.ensures) ∙ (sym c.is_some.ensures ∙ c.if-is_some.false)) in
     ap (λ (x : MemLine). free_picture (row_of m.lines.rows c.in-Some.block) x) (memory_is c)
-    ∙ (ap (λ (o : Option Open). let p : Picture = record (free_picture (row_of m.lines.rows c.in-Some.block) (slice_index_or m.memory.items c.in-Some.block no_memory)) { transaction = o } in p) (sym free)
+    ∙ (ap (λ (o : Option Open). let p : Picture = record (free_picture (row_of m.lines.rows c.in-Some.block) (slice_index_or m.memory c.in-Some.block no_memory)) { transaction = o } in p) (sym free)
     ∙ ap (λ (s : Standing). picture_of s.situation c.in-Some.block) c.self.view_is)
 
 protocol : (c : In-Some-mem_cell) → c.self.inside.protocol ≡ c.args.self.now.situation.protocol
@@ -45,7 +42,7 @@ protocol c = ap (λ (s : Standing). s.situation.protocol) c.self.view_is
 
 memory_row : (c : In-Some-mem_cell) → TakesMemRow c.args.self.now.situation.protocol (picture_of c.args.self.now.situation c.in-Some.block).memory c.in-Some.request c.in-Some-mem_cell.cell.next
 memory_row c =
-    let P : MemEvent → Type 0 = λ e. MemoryCell c.self.inside.protocol c.index-memory.result.now.state e c.in-Some-mem_cell.cell.action c.in-Some-mem_cell.cell.next in
+    let P : MemEvent → Type 0 = λ e. MemoryCell c.self.inside.protocol c.get_or-memory.result.state e c.in-Some-mem_cell.cell.action c.in-Some-mem_cell.cell.next in
     let Q : Picture → Type 0 = λ p. TakesMemRow c.self.inside.protocol p.memory c.in-Some.request c.in-Some-mem_cell.cell.next in
     rw (← protocol c) (subst Q (picture c) (c.in-Some-mem_cell.cell.action, subst P c.event_at_memory.ensures c.in-Some-mem_cell.ensures.row))
 
@@ -73,6 +70,15 @@ returns-clause-found c =
       (c.requires.core, record { head = c.in-Some.ensures.some; free = free_here d; memory_row = memory_row d; sent = rw (← protocol d) sent }),
     )
 
+pub returns-clause-exactly : goal.returns-clause-exactly
+returns-clause-exactly c =
+    let d = (goal.at.returns-clause-exactly c).In-Some-mem_cell in
+    let Q : Picture → Type 0 = λ p. IsMessage c.self.inside.protocol p c.args.core c.in-Some.request c.message-message.result in
+    let sent = subst Q (picture d) c.message-message.ensures in
+    λ cause refuses. absurd (plan-allowed c.args.self.now.situation (plan.Order c.args.core c.in-Some.request c.in-Some.block c.message-message.result c.in-Some-mem_cell.cell.next)
+    (c.requires.core, record { head = c.in-Some.ensures.some; free = free_here d; memory_row = memory_row d; sent = rw (← protocol d) sent })
+    cause refuses)
+
 pub unreachable-requires : goal.unreachable-requires
 unreachable-requires c =
     let s = c.args.self.now.situation in
@@ -85,8 +91,8 @@ unreachable-requires c =
     let W : Standing → Type 0 = λ x. block < x.situation.shape.blocks in
     let within : block < m.shape.blocks = subst W (sym c.self.view_is) head.within in
     let long = c.self.invariant.memory in
-    let held : c.index-memory.result.now ≡ slice_index_or m.memory.items block no_memory = get_or_read m.memory.items block c.index-memory.result.now (omega arith) c.index-memory.ensures no_memory in
-    let P : MemEvent → Type 0 = λ event. IsMemImpossible m.protocol c.index-memory.result.now.state event in
+    let held : c.get_or-memory.result ≡ slice_index_or m.memory block no_memory = c.get_or-memory.ensures in
+    let P : MemEvent → Type 0 = λ event. IsMemImpossible m.protocol c.get_or-memory.result.state event in
     let Q : MemLine → Type 0 = λ x. IsMemImpossible m.protocol x.state (at_memory request) in
     let R : Standing → Type 0 = λ x. IsMemImpossible x.situation.protocol (picture_of x.situation block).memory (at_memory request) in
     let none : IsMemImpossible s.protocol (picture_of s block).memory (at_memory request) = subst R c.self.view_is (subst Q held (subst P c.event_at_memory.ensures c.in_default-mem_cell.ensures.impossible)) in

@@ -19,7 +19,7 @@ arrive-memory-requires c = λ lacks.
     let W : Standing → Type 0 = λ x. c.args.block < x.situation.shape.blocks in
     let within : c.args.block < m.shape.blocks = subst W (sym c.self.view_is) c.requires.block in
     let long = c.self.invariant.memory in
-    let held : c.index-before.result.now ≡ slice_index_or m.memory.items c.args.block no_memory = get_or_read m.memory.items c.args.block c.index-before.result.now (omega arith) c.index-before.ensures no_memory in
+    let held : c.get_or-before.result ≡ slice_index_or m.memory c.args.block no_memory = c.get_or-before.ensures in
     let P : MemLine → Type 0 = λ x. LacksAtMemory c.in-Some.closing.request m.protocol x.state c.in-Some.closing.payload in
     let Q : Standing → Type 0 = λ x. LacksAtMemory c.in-Some.closing.request x.situation.protocol (picture_of x.situation c.args.block).memory c.in-Some.closing.payload in
     arrival_possible s c.requires.coherent c.args.block c.in-Some.closing c.requires.block (sym c.transaction.ensures.value ∙ c.in-Some.is)

@@ -20,15 +20,15 @@ invariant_of-result c =
       few = search rules;
       lines = ap (λ (l : List (List ℕ)). length l) c.in_ok-lines.ensures.lines ∙ length-replicate c.args.shape.cores [];
       sound = subst S (sym c.in_ok-lines.ensures.rows) (IsSound-reset c.args.shape c.in_ok-bus.bus c.in_ok-bus.ensures.queues.0 c.in_ok-bus.ensures.queues.1 c.in_ok-bus.ensures.transactions);
-      memory = omega (arith, c.in_ok-memory.memory.ok.0, c.in_ok-memory.ensures.len, c.blocks-2.ensures.value);
+      memory = ap (λ (l : List MemLine). length l) c.in_ok-memory.ensures ∙ (length-replicate c.blocks-2.result (record { state = c.first_state.result; value = 0 }) ∙ c.blocks-2.ensures.value);
       cores = ap (λ (j : Journal). j.cores) c.in_ok-log.ensures;
       blocks = ap (λ (j : Journal). j.blocks) c.in_ok-log.ensures;
     }
 
 pub returns-clause-situation : goal.returns-clause-situation
 returns-clause-situation c =
-    let items : c.in_ok-memory.memory.items ≡ replicate c.args.shape.blocks (record { state = first_memory c.args.protocol; value = 0 }) =
-    c.in_ok-memory.ensures.items_if_clones_equal (λ y h. h)
+    let items : c.in_ok-memory.memory ≡ replicate c.args.shape.blocks (record { state = first_memory c.args.protocol; value = 0 }) =
+    c.in_ok-memory.ensures
     ∙ (ap (λ (n : ℕ). let l : List MemLine = replicate n (record { state = c.first_state.result; value = 0 }) in l) c.blocks-2.ensures.value
     ∙ ap (λ (x : MemState). let l : List MemLine = replicate c.args.shape.blocks (record { state = x; value = 0 }) in l) c.first_state.ensures) in
     same_situation _ (reset c.args.protocol c.args.shape) refl refl c.in_ok-lines.ensures.rows items c.in_ok-bus.ensures.transactions

@@ -1,6 +1,6 @@
 use Rattle.std.proofs.Common.{◌≡◌, ℕ, List, ◌<◌, ◌≤◌, ◌+◌, ◌++◌, ◌∷◌, [], length, drop, Option, Some, None, ◌∙◌, refl, sym, ap, subst, arith}
 use Rattle.std.specs.Prelude.{◌==◌, not, filter, slice_set, slice_index_or, IsSome, IfSome}
-use Rattle.std.proofs.lemmas.List.{length-set, length-append, length-drop, get_or_read}
+use Rattle.std.proofs.lemmas.List.{length-set, length-append, length-drop}
 use Rattle.snoop_rules.specs.declared.names.Request.{Request}
 use Rattle.snoop_rules.specs.Takers.{seen_by}
 use Rattle.snoop_history.specs.Journal.{Journal}
@@ -16,7 +16,6 @@ use Rattle.snoop_model.specs.Pictures.Situation.{Situation, picture_of, no_memor
 use Rattle.snoop_model.specs.Pictures.Sends.{value_sent}
 use Rattle.snoop_model.specs.Pictures.Sound.{IsSound}
 use Rattle.snoop_machine.specs.PartsView.{queues_of}
-use Rattle.std.specs.Vec.{with_item}
 use Rattle.snoop_model.specs.Moves.Move.{Orders}
 use Rattle.snoop_model.specs.Pictures.Message.{HasRow, IsMessage}
 use Rattle.snoop_model.specs.Moves.OrderMove.{IsHead, TakesMemRow}
@@ -27,7 +26,7 @@ use Rattle.snoop_machine.proofs.AfterOrders.{IsSound-order, blocks_of-rest}
 use Rattle.snoop_machine.proofs.QueueViews.{queues_of-set, queue_of-queues_of, same_traffic}
 use Rattle.snoop_machine.proofs.Following.{follows-rows}
 use Rattle.snoop_machine.proofs.parts.Parts.start.Goals as goal
-use Rattle.snoop_machine.proofs.parts.Parts.start.Goals.{After-take_rows, After-index_mut, After-start}
+use Rattle.snoop_machine.proofs.parts.Parts.start.Goals.{After-take_rows, After-start}
 
 pub take_rows-requires-clause-rows : goal.take_rows-requires-clause-rows
 take_rows-requires-clause-rows c =
@@ -80,7 +79,7 @@ invariant_of-self c =
       sound = subst R (sym same)
           (IsSound-order m.shape m.lines.rows c.take_rows.new.self.rows m.bus m.protocol c.args.core c.args.block c.args.request c.args.message.payload c.args.message.value c.args.message.from
           c.self.invariant.sound (subst P (sym c.self.view_is) c.requires.core) (subst Q (sym c.self.view_is) c.requires.head.within) h c.take_rows.ensures.others c.take_rows.ensures.taken s.room);
-      memory = length-set m.memory.items c.args.block (record { state = c.args.memory; value = c.index_mut.result.now.value }) ∙ c.self.invariant.memory;
+      memory = ap (λ (l : List MemLine). length l) c.set.ensures ∙ (length-set m.memory c.args.block (record { state = c.args.memory; value = c.get_or-before.result.value }) ∙ c.self.invariant.memory);
       cores = ap (λ (j : Journal). j.cores) c.push.ensures ∙ c.self.invariant.cores;
       blocks = ap (λ (j : Journal). j.blocks) c.push.ensures ∙ c.self.invariant.blocks;
     }
@@ -95,19 +94,16 @@ returns-clause-ordered c =
     let block = c.args.block in
     let request = c.args.request in
     let message = c.args.message in
-    let old : Situation = record { protocol = m.protocol; shape = m.shape; caches = m.lines.rows; memory = m.memory.items; transactions = m.bus.transactions; queues = queues_of m.bus.queues; log = m.log.items } in
+    let old : Situation = record { protocol = m.protocol; shape = m.shape; caches = m.lines.rows; memory = m.memory; transactions = m.bus.transactions; queues = queues_of m.bus.queues; log = m.log.items } in
     let is : old ≡ c.args.self.now.situation = ap (λ (x : Standing). x.situation) c.self.view_is in
-    let new : Situation = record { protocol = m.protocol; shape = m.shape; caches = c.take_rows.new.self.rows; memory = slice_set m.memory.items block (record { state = c.args.memory; value = c.index_mut.result.now.value }); transactions = c.start.new.self.transactions; queues = queues_of c.start.new.self.queues; log = c.push.new.self.items } in
+    let new : Situation = record { protocol = m.protocol; shape = m.shape; caches = c.take_rows.new.self.rows; memory = c.set.new.self; transactions = c.start.new.self.transactions; queues = queues_of c.start.new.self.queues; log = c.push.new.self.items } in
     let G : Situation → Type 0 = λ x. Orders x core block request new in
     let W : Situation → Type 0 = λ x. Waits x core block request in
     let F : Situation → Type 0 = λ x. (picture_of x block).transaction ≡ None in
     let M : Situation → Type 0 = λ x. IsMessage x.protocol (picture_of x block) core request message in
     let N : Situation → Type 0 = λ x. TakesMemRow x.protocol (picture_of x block).memory request c.args.memory in
     let sent : IsMessage m.protocol (picture_of old block) core request message = subst M (sym is) c.requires.message in
-    let B : Standing → Type 0 = λ x. block < x.situation.shape.blocks in
-    let in_shape : block < m.shape.blocks = subst B (sym c.self.view_is) c.requires.head.within in
-    let in_blocks : block < length m.memory.items = omega (arith, c.self.invariant.memory) in
-    let value : c.index_mut.result.now ≡ slice_index_or m.memory.items block no_memory = get_or_read m.memory.items block c.index_mut.result.now in_blocks c.index_mut.ensures.value no_memory in
+    let value : c.get_or-before.result ≡ slice_index_or m.memory block no_memory = c.get_or-before.ensures in
     let next : Picture = record {
       caches = row_of c.take_rows.new.self.rows block;
       memory = c.args.memory;
@@ -130,13 +126,13 @@ returns-clause-ordered c =
       after = same_situation new
           (record old {
             caches = slice_set m.lines.rows block next.caches;
-            memory = slice_set m.memory.items block (record { state = next.memory; value = next.value });
+            memory = slice_set m.memory block (record { state = next.memory; value = next.value });
             transactions = slice_set m.bus.transactions block next.transaction;
             queues = after_order old.queues core block;
             log = m.log.items ++ item.Sent (record { core = core; request = request; block = block }) ∷ [];
           })
           refl refl c.take_rows.ensures.others
-          (ap (λ (x : MemLine). slice_set m.memory.items block (let r : MemLine = record { state = c.args.memory; value = x.value } in r)) value)
+          (c.set.ensures ∙ ap (λ (x : MemLine). slice_set m.memory block (let r : MemLine = record { state = c.args.memory; value = x.value } in r)) value)
           (s.transactions ∙ ap (λ (x : ℕ). slice_set m.bus.transactions block (let o : Option Open = Some (record { core = core; request = request; block = block; payload = message.payload; value = x; from = message.from }) in o)) sent.value)
           (ap queues_of s.queues ∙ (queues_of-set m.bus.queues core (record { requests = drop 1 (waiting_of m.bus core).requests; room = s.room })
           ∙ ap (λ l. slice_set (queues_of m.bus.queues) core l)
@@ -164,7 +160,7 @@ returns-clause-room c =
     subst Q (sym s.queues) (held_in-set m.bus.queues core queue in_queues (omega arith))) in
     let new : Inside = record m {
       lines = c.take_rows.new.self;
-      memory = with_item m.memory c.args.block (record { state = c.args.memory; value = c.index_mut.result.now.value });
+      memory = c.set.new.self;
       bus = c.start.new.self;
       log = c.push.new.self;
     } in

@@ -1,0 +1,130 @@
+-- What a log's board says of its items.
+use Rattle.std.proofs.Common.{◌≡◌, ℕ, suc, ◌^◌, ◌<◌, ◌≤◌, List, [], ◌∷◌, ◌++◌, length, Option, Some, None, arith, refl, sym, ap, ◌∙◌, map, get_or}
+use Rattle.std.specs.Prelude.{All, IfSome, slice_get, nat_lt, is_some, if◌then◌else◌}
+use Rattle.std.specs.Option.{option_map}
+use Rattle.std.proofs.lemmas.Bool.{ltb-true}
+use Rattle.std.proofs.lemmas.Option.{slice_get_read, slice_get-map}
+use Rattle.std.specs.List.{filter_map}
+use Rattle.snoop_history.specs.declared.items.Did.{Did}
+use Rattle.snoop_history.specs.declared.items.Item.{Item}
+use Rattle.snoop_history.specs.declared.items.Totals.{Totals}
+use Rattle.snoop_history.specs.History.{next_number, flat, last_of, IsNumbered}
+use Rattle.snoop_history.specs.Within.{IsWithin, inside}
+use Rattle.snoop_history.specs.Totals.{totals_of, touched, capped, capped_totals}
+use Rattle.snoop_history.specs.Journal.{Journal}
+use Rattle.snoop_history.specs.Board.{Tables, board_of}
+use Rattle.snoop_history.specs.Packed.{unpacked}
+use Rattle.snoop_history.specs.declared.packed.Packed.{Packed}
+use Rattle.snoop_history.specs.Kept.{IsKept}
+use Rattle.snoop_history.proofs.Pushed.{next_number-few, totals-few}
+use Rattle.snoop_history.proofs.Legal.{listed-push}
+use Rattle.snoop_history.proofs.Boards.{inside_all, board_lengths}
+use Rattle.snoop_history.proofs.Touching.{all_places, touched_within}
+
+-- what a `get` found, read by a function of it
+pub read-at : {A B : Type 0} (now : B → A) (xs : List A) (place : ℕ) (got : Option B) (x : A) → is_some got ≡ nat_lt place (length xs) → IfSome got (λ y. now y ≡ get_or xs place (now y)) →
+    option_map now got ≡ Some x → slice_get xs place ≡ Some x
+read-at now xs place None x some at is = cc
+read-at now xs place (Some y) x some at is = slice_get_read xs (length xs) place (now y) refl (ltb-true place (length xs) (sym some)) at ∙ is
+
+-- lists that are as long and have the same at each place
+pub same-places : {A : Type 0} (xs ys : List A) → length xs ≡ length ys → ((k : ℕ) → k < length xs → slice_get xs k ≡ slice_get ys k) → xs ≡ ys
+same-places [] [] many same = refl
+same-places [] (y ∷ ys) many same = absurd (omega arith)
+same-places (x ∷ xs) [] many same = absurd (omega arith)
+same-places (x ∷ xs) (y ∷ ys) many same =
+    let first : Some x ≡ Some y = same 0 (omega arith) in
+    let head : x ≡ y = cc in
+    rw head (ap (λ l. y ∷ l) (same-places xs ys (omega arith) (λ k within. same (suc k) (omega arith))))
+
+-- an item that was unpacked, in the list of items
+pub item-at : (xs : List Packed) (place : ℕ) (p : Packed) (entry : Item) → place < length xs → p ≡ get_or xs place p → entry ≡ unpacked p → slice_get (map unpacked xs) place ≡ Some entry
+item-at xs place p entry within read is = slice_get-map unpacked xs place ∙ (ap (option_map unpacked) (slice_get_read xs (length xs) place p refl within read) ∙ ap Some (sym is))
+
+-- what a function gives of each of a list of values of another
+pub filter_map-map : {X Y Z : Type 0} (f : X → Y) (g : Y → Option Z) (xs : List X) → filter_map (λ x. g (f x)) xs ≡ filter_map g (map f xs)
+filter_map-map f g [] = refl
+filter_map-map f g (x ∷ xs) = rw (filter_map-map f g xs)
+
+module _ {cores blocks : ℕ} {items : List Item} {board : Tables} {order : List ℕ} (kept : IsKept cores blocks items board order) where
+  pub within_all : All (IsWithin cores blocks) items
+  within_all = all_places (IsWithin cores blocks) items kept.listed.within
+
+  whole : inside cores blocks items ≡ items
+  whole = inside_all cores blocks items within_all
+
+  pub kept-count : (core : ℕ) (answer : Option ℕ) → length items < 2 ^ 64 → answer ≡ (if nat_lt core cores then Some (capped (next_number (inside cores blocks items) core)) else None) →
+      answer ≡ (if nat_lt core cores then Some (next_number items core) else None)
+  kept-count core answer few is =
+      is
+      ∙ (ap (λ (l : List Item). if nat_lt core cores then Some (capped (next_number l core)) else None) whole
+      ∙ ap (λ (n : ℕ). if nat_lt core cores then Some n else None) (next_number-few items core few))
+
+  pub kept-last : (core : ℕ) (answer : Option Did) → answer ≡ (if nat_lt core cores then last_of (inside cores blocks items) core else None) → answer ≡ (if nat_lt core cores then last_of items core else None)
+  kept-last core answer is = is ∙ ap (λ (l : List Item). if nat_lt core cores then last_of l core else None) whole
+
+  pub kept-flat : (block : ℕ) (answer : Option ℕ) → answer ≡ (if nat_lt block blocks then Some (flat (inside cores blocks items) block) else None) → answer ≡ (if nat_lt block blocks then Some (flat items block) else None)
+  kept-flat block answer is = is ∙ ap (λ (l : List Item). if nat_lt block blocks then Some (flat l block) else None) whole
+
+  pub kept-totals : (answer : Totals) → length items < 2 ^ 64 → answer ≡ capped_totals (totals_of items) → answer ≡ totals_of items
+  kept-totals answer few is = is ∙ totals-few items few
+
+  pub kept-touched : (answer : List ℕ) → answer ≡ order → All (λ block. block < blocks) answer
+  kept-touched answer is = rw (is ∙ kept.mentioned) (touched_within cores blocks items within_all)
+
+  -- an item of the shape is one of the largest shape
+  pub fits : (entry : Item) → IsWithin cores blocks entry → IsWithin 256 65536 entry
+  fits entry lies =
+      let few_cores = kept.few_cores in
+      let few_blocks = kept.few_blocks in
+      let core = lies.core in
+      let block = lies.block in
+      record {
+        core = omega arith;
+        block = omega arith;
+        operation = λ did is. let p = lies.operation did is in (omega (arith, p.0), omega (arith, p.1));
+      }
+
+  -- a log with one item more
+  pub kept-push : (entry : Item) (items' : List Item) (board' : Tables) (order' : List ℕ) → IsWithin cores blocks entry → IsNumbered items entry →
+      items' ≡ items ++ entry ∷ [] → board' ≡ board_of cores blocks (items ++ entry ∷ []) → order' ≡ touched (items ++ entry ∷ []) → IsKept cores blocks items' board' order'
+  kept-push entry items' board' order' lies numbered more tallied mentioned =
+      rw more (record {
+        few_cores = kept.few_cores;
+        few_blocks = kept.few_blocks;
+        listed = listed-push cores blocks items entry kept.listed lies numbered;
+        tallied = tallied;
+        mentioned = mentioned;
+      })
+
+-- the shape of a log is that of its board
+pub board-shape : {cores blocks : ℕ} (items : List Item) {board : Tables} → board ≡ board_of cores blocks items → (length board.counts ≡ cores) × (length board.values ≡ blocks)
+board-shape {cores} {blocks} items {board} is =
+    let lengths = board_lengths cores blocks items in
+    (ap (λ (t : Tables). length t.counts) is ∙ lengths.0, ap (λ (t : Tables). length t.values) is ∙ lengths.1)
+
+-- the same log under other names of its sizes
+pub kept-as : {cores blocks : ℕ} (cores' blocks' : ℕ) {items : List Item} {board : Tables} {order : List ℕ} → cores' ≡ cores → blocks' ≡ blocks → IsKept cores blocks items board order → IsKept cores' blocks' items board order
+kept-as cores' blocks' c b kept = rw (c, b) kept
+
+-- an empty log
+pub kept-at_first : (cores blocks : ℕ) (board : Tables) (order : List ℕ) → cores ≤ 256 → blocks ≤ 65536 → board ≡ board_of cores blocks [] → order ≡ [] → IsKept cores blocks [] board order
+kept-at_first cores blocks board order few_cores few_blocks tallied mentioned =
+    record {
+      few_cores = few_cores;
+      few_blocks = few_blocks;
+      listed = record { within = λ k entry at. cc; in_order = λ k entry at. cc };
+      tallied = tallied;
+      mentioned = mentioned;
+    }
+
+pub kept-empty : {cores blocks : ℕ} {items : List Item} {board : Tables} {order : List ℕ} → items ≡ [] → IsKept cores blocks [] board order → IsKept cores blocks items board order
+kept-empty none kept = rw none kept
+
+-- two journals of equal parts
+pub same-journal : (j k : Journal) → j.cores ≡ k.cores → j.blocks ≡ k.blocks → j.items ≡ k.items → j.room ≡ k.room → j ≡ k
+same-journal j k c b i r =
+    ap (λ (n : ℕ). let s : Journal = record j { cores = n } in s) c
+    ∙ (ap (λ (n : ℕ). let s : Journal = record k { blocks = n; items = j.items; room = j.room } in s) b
+    ∙ (ap (λ (l : List Item). let s : Journal = record k { items = l; room = j.room } in s) i
+    ∙ ap (λ (n : ℕ). let s : Journal = record k { room = n } in s) r))

@@ -1,0 +1,39 @@
+-- What a log keeps.
+-- Source: this project's profile.
+use Rattle.std.specs.Prelude.{◌≡◌, ℕ, ◌≤◌, ◌-◌, List, length, map, take, Some, slice_get, vec_len, vec_capacity}
+use Rattle.snoop_history.specs.declared.items.Item.{Item}
+use Rattle.snoop_history.specs.declared.log.Log.TheInside.{Inside}
+use Rattle.snoop_history.specs.History.{IsNumbered}
+use Rattle.snoop_history.specs.Totals.{touched}
+use Rattle.snoop_history.specs.Journal.{Journal}
+use Rattle.snoop_history.specs.Within.{IsWithin}
+use Rattle.snoop_history.specs.Packed.{unpacked}
+use Rattle.snoop_history.specs.Board.{Tables, board_of}
+
+-- a log as callers see it
+abbrev pub journal : Inside → Journal
+journal l =
+    record {
+      cores = length l.board.counts;
+      blocks = length l.board.values;
+      items = map unpacked l.items.items;
+      room = vec_capacity l.items - vec_len l.items;
+    }
+
+-- each item lies within the shape, and its operation carries its core's next number
+pub record IsKeptList (cores blocks : ℕ) (items : List Item) : Type 0 where
+  pub within : (k : ℕ) (entry : Item) → slice_get items k ≡ Some entry → IsWithin cores blocks entry
+  pub in_order : (k : ℕ) (entry : Item) → slice_get items k ≡ Some entry → IsNumbered (take k items) entry
+
+-- the shape is within the limits, the board is that of the items, and the blocks are those that they touch
+pub record IsKept (cores blocks : ℕ) (items : List Item) (board : Tables) (order : List ℕ) : Type 0 where
+  pub few_cores : cores ≤ 256
+  pub few_blocks : blocks ≤ 65536
+  pub listed : IsKeptList cores blocks items
+  pub tallied : board ≡ board_of cores blocks items
+  pub mentioned : order ≡ touched items
+
+-- what holds of every log
+pub record IsWellKept (l : Inside) : Type 0 where
+  pub kept : IsKept (length l.board.counts) (length l.board.values) (map unpacked l.items.items) l.board l.touched.order
+  pub as_many : l.touched.blocks ≡ length l.board.values
