@@ -28,7 +28,7 @@ at_seam before x rest n e = slice_get-get_or (before ++ x ∷ rest) n x (let l =
     read : {A : Type 0} (before : List A) (x : A) (rest : List A) (n : ℕ) → length before ≡ n → get_or (before ++ x ∷ rest) n x ≡ x
     read before x rest n e = grind (arith, common_steps)
 
-length_take : (dids : List Did) (n : ℕ) → n ≤ length dids → length (take n dids) ≡ n
+pub length_take : (dids : List Did) (n : ℕ) → n ≤ length dids → length (take n dids) ≡ n
 length_take dids n h = grind (arith, common_steps)
 
 take_seam : (before rest : List Did) (n : ℕ) → length before ≡ n → take n (before ++ rest) ≡ before

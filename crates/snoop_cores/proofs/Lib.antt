@@ -1,3 +1,4 @@
+mod Answering
 mod Beginnings
 mod Shown
 mod Joining

@@ -1,5 +1,5 @@
 -- A seat that notes where its rows stopped has done no more.
-use Rattle.std.proofs.Common.{ℕ, List, [], ◌∷◌, take, Option, Some, None, ap}
+use Rattle.std.proofs.Common.{ℕ, List, [], ◌∷◌, take, Option, Some, None, inl, inr, ap}
 use Rattle.snoop_trace.specs.declared.step.Op.{Op}
 use Rattle.snoop_trace.specs.declared.step.Row.{Row}
 use Rattle.snoop_bench.specs.declared.work.Work.{Work}
@@ -8,7 +8,7 @@ use Rattle.snoop_cores.specs.declared.fault.SeatFault.TheVariants.{NoBlock, NoMe
 use Rattle.snoop_cores.specs.declared.stop.Stop.{Stop}
 use Rattle.snoop_cores.specs.declared.stop.Stop.TheVariants.{Late, Fault}
 use Rattle.snoop_cores.specs.Seats.{Seating}
-use Rattle.snoop_cores.specs.Calls.{Stays, Keeps, Fails}
+use Rattle.snoop_cores.specs.Calls.{Stays, Keeps, MayBegin, Fails}
 use Rattle.snoop_cores.specs.Rows.{Leaves, Grows, FailsOn, RanTo, rows_of}
 
 -- the seat, with another note
@@ -21,6 +21,9 @@ stays_noted stop s t h = record { core = h.core; shape = h.shape; begins = h.beg
 keeps_noted : (stop : Option Stop) (s t : Seating) → Keeps s t → Keeps (noted stop s) (noted stop t)
 keeps_noted stop s t h = record { stays = record { core = h.stays.core; shape = h.stays.shape; begins = h.stays.begins }; answers = h.answers }
 
+begins_noted : (stop : Option Stop) (work : Work) (s : Seating) → MayBegin work s → MayBegin work (noted stop s)
+begins_noted stop work s h = record { strange = h.strange; pending = h.pending }
+
 leaves_noted : (stop : Option Stop) (rows : List Row) (s t : Seating) → Leaves rows s t → Leaves rows s (noted stop t)
 leaves_noted stop [] s t h = h
 leaves_noted stop (row ∷ rows) s t h = h
@@ -30,9 +33,10 @@ grows_noted stop rows s t h = record { stays = stays_noted stop s t h.stays; add
 
 fails_noted : (stop : Option Stop) (fault : SeatFault) (work : Work) (s t : Seating) → Fails fault work s t → Fails fault work (noted stop s) (noted stop t)
 fails_noted stop NoBlock work s t h = (h.0, ap (noted stop) h.1)
-fails_noted stop NoMemory work s t h = (keeps_noted stop s t h.0, h.1, h.2, h.3)
-fails_noted stop (Busy other) work s t h = (h.0, h.1, ap (noted stop) h.2)
-fails_noted stop (Stranger did) work s t h = (keeps_noted stop s t h.0, h.1, h.2)
+fails_noted stop NoMemory work s t h = (begins_noted stop work s h.0, keeps_noted stop s t h.1, h.2, h.3, h.4)
+fails_noted stop (Busy other) work s t h = (h.0, h.1, h.2, ap (noted stop) h.3)
+fails_noted stop (Stranger did) work s t (inl h) = inl (h.0, ap (noted stop) h.1)
+fails_noted stop (Stranger did) work s t (inr h) = inr (begins_noted stop work s h.0, keeps_noted stop s t h.1, h.2, h.3)
 
 fails_on_noted : (stop : Option Stop) (block : Option ℕ) (fault : SeatFault) (wanted : Op) (s t : Seating) → FailsOn block fault wanted s t → FailsOn block fault wanted (noted stop s) (noted stop t)
 fails_on_noted stop None fault wanted s t h = (h.0, ap (noted stop) h.1)

@@ -16,8 +16,14 @@ pub record Stays (s t : Seating) : Type 0 where
   pub shape : t.shape ≡ s.shape
   pub begins : StartsWith t.seen s.seen
 
--- the call is over: what is seen is legal and begins with what was seen; the core's operations in it are the answers from before and then these, and are the answers now; nothing is pending
-pub record Completes (dids : List Did) (s t : Seating) : Type 0 where
+-- the operation may begin: no stranger's was reported, and no other is pending
+pub record MayBegin (work : Work) (s : Seating) : Type 0 where
+  pub strange : s.strange ≡ None
+  pub pending : (s.pending ≡ None) ⊎ (s.pending ≡ Some work)
+
+-- the call is over: the operation could begin; what is seen is legal and begins with what was seen; the core's operations in it are the answers from before and then these, and are the answers now; nothing is pending
+pub record Completes (work : Work) (dids : List Did) (s t : Seating) : Type 0 where
+  pub began : MayBegin work s
   pub stays : Stays s t
   pub legal : Legal t.seen
   pub answers : t.answers ≡ s.answers ++ dids
@@ -39,9 +45,9 @@ pub record IsStranger (did : Did) (work : Work) (dids answers : List Did) : Type
 -- when each fault comes, and what it leaves
 abbrev pub Fails : SeatFault → Work → Seating → Seating → Type 0
 Fails NoBlock work s t = (s.shape.blocks ≤ work.block) × (t ≡ s)
-Fails (Busy other) work s t = (s.pending ≡ Some other) × (other ≢ work) × (t ≡ s)
-Fails NoMemory work s t = Keeps s t × (t.pending ≡ Some work) × (t.strange ≡ None) × (t.seen ≡ s.seen)
-Fails (Stranger did) work s t = Keeps s t × (t.strange ≡ Some did) × ((s.strange ≡ Some did) ⊎ IsStranger did work (answers_of t.seen s.core) s.answers)
+Fails (Busy other) work s t = (s.strange ≡ None) × (s.pending ≡ Some other) × (other ≢ work) × (t ≡ s)
+Fails NoMemory work s t = MayBegin work s × Keeps s t × (t.pending ≡ Some work) × (t.strange ≡ None) × (t.seen ≡ s.seen)
+Fails (Stranger did) work s t = ((s.strange ≡ Some did) × (t ≡ s)) ⊎ (MayBegin work s × Keeps s t × (t.strange ≡ Some did) × IsStranger did work (answers_of t.seen s.core) s.answers)
 
 -- the fault that is answered before any turn
 pub record RefusedAtOnce (work : Work) (s : Seating) (answered : SeatFault → Type 0) : Type 0 where

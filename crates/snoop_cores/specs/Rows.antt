@@ -1,6 +1,6 @@
 -- What a seat has done of its rows.
 -- Source: this project's profile.
-use Rattle.std.specs.Prelude.{◌≡◌, ℕ, ◌<◌, ◌==◌, List, [], ◌∷◌, ◌++◌, length, take, filter, Option, Some, None, Bool, true, false, All, IsSome, slice_get, slice_index_or}
+use Rattle.std.specs.Prelude.{◌≡◌, ℕ, ◌<◌, ◌==◌, List, [], ◌∷◌, ◌++◌, length, take, filter, Option, Some, None, Bool, true, false, All, IsSome, ⊤, slice_get, slice_index_or}
 use Rattle.std.specs.List.{AllZip}
 use Rattle.snoop_trace.specs.Extent.{Extent}
 use Rattle.snoop_trace.specs.Grammar.{block_at}
@@ -16,7 +16,7 @@ use Rattle.snoop_cores.specs.declared.fault.RunFault.TheVariants.{NoSeat, NoMemo
 use Rattle.snoop_cores.specs.declared.stop.Stop.{Stop}
 use Rattle.snoop_cores.specs.declared.stop.Stop.TheVariants.{Late, Fault}
 use Rattle.snoop_cores.specs.Seats.{Seating}
-use Rattle.snoop_cores.specs.Calls.{Stays, Fails}
+use Rattle.snoop_cores.specs.Calls.{Stays, MayBegin, Fails}
 
 -- the operation adds an answer: a load or a store
 abbrev pub is_answered : Op → Bool
@@ -36,10 +36,14 @@ rows_of core rows = filter (λ (row : Row). row.core == core) rows
 abbrev pub Answers : Extent → List Row → List Did → Type 0
 Answers shape rows dids = AllZip (DoesRow shape) (filter (λ (row : Row). is_answered row.op) rows) dids
 
--- what is left pending or reported as a stranger's: nothing after a row that was done; where there was none, what it was before
+-- the row's operation, on the block of its address, may begin
+abbrev pub MayDo : Row → Seating → Type 0
+MayDo row s = (block : ℕ) × (block_at s.shape row.address ≡ Some block) × MayBegin (record { block = block; op = row.op }) s
+
+-- what is pending or reported as a stranger's: the first row could begin, and nothing is left after the last; where there was no row, it is what it was before
 abbrev pub Leaves : List Row → Seating → Seating → Type 0
 Leaves [] s t = (t.pending ≡ s.pending) × (t.strange ≡ s.strange)
-Leaves (row ∷ rows) s t = (t.pending ≡ None) × (t.strange ≡ None)
+Leaves (row ∷ rows) s t = MayDo row s × (t.pending ≡ None) × (t.strange ≡ None)
 
 -- the seat has done these rows: its answers have grown by their loads and stores
 pub record Grows (rows : List Row) (s t : Seating) : Type 0 where
@@ -67,6 +71,11 @@ pub record IsRefused (number : ℕ) (fault : SeatFault) (rows : List Row) (s t :
   pub between : Seating
   pub grown : Grows (take number (rows_of s.core rows)) s between
   pub fails : FailsRow fault row between t
+
+-- the gate did not stop it
+abbrev pub IsUnheld : Option Stop → Type 0
+IsUnheld (Some (Late number)) = ⊥
+IsUnheld _ = ⊤
 
 -- the seat has done all its rows; or it stopped at a row, and has done those before it
 abbrev pub RanTo : Option Stop → List Row → Seating → Seating → Type 0

@@ -47,6 +47,10 @@ pub record IsNew (core : ℕ) (shape : Extent) (seat : Seating) : Type 0 where
 abbrev pub AreSeats : Extent → List Seating → Type 0
 AreSeats shape seats = (length seats ≡ shape.cores) × ((core : ℕ) (d : Seating) → core < shape.cores → IsNew core shape (slice_index_or seats core d))
 
+-- each seat stands at its core's place
+abbrev pub InOrder : List Seating → Type 0
+InOrder seats = (core : ℕ) (d : Seating) → core < length seats → (slice_index_or seats core d).core ≡ core
+
 -- so many watches, of this shape
 abbrev pub AreWatches : ℕ → Extent → List Watching → Type 0
 AreWatches count shape watches = (length watches ≡ count) × All (λ watch. watch.shape ≡ shape) watches

@@ -1,10 +1,12 @@
 //! The log of the lock, joined with what the seats were answered.
-ghost use Rattle.std.specs.Prelude.{◌≡◌, ℕ, ◌<◌, Err, IfOk, IfErr, IfSome, IfNone, IsTrue, [], ◌∷◌, option_to_list, Some, slice_get};
-ghost use Rattle.snoop_history.specs.History.{answers_of};
+ghost use Rattle.std.specs.Prelude.{◌≡◌, ℕ, ◌<◌, Err, IfOk, IfErr, IfSome, IfNone, IsTrue, [], ◌∷◌, length, option_to_list, Some, slice_get, slice_index_or};
+ghost use Rattle.snoop_history.specs.History.{answers_of, next_number};
+ghost use Rattle.snoop_cores.specs.Seats.{Seating, InOrder};
 ghost use Rattle.snoop_cores.specs.Joined.{seats_of, OneForEach, IsNotAllSeats, IsIdle, IsFree, IsAnswered, IsFirst, DiffersAt, IsJoined, RefusesGather};
 ghost use Rattle.snoop_cores.specs.declared.fault.GatherFault.TheVariants.{NotAllSeats};
 
 use crate::fault::GatherFault;
+use crate::rows::in_order;
 use crate::seat::Seat;
 use crate::shared::Shared;
 use snoop_bench::Bench;
@@ -138,12 +140,58 @@ fn difference(log: &Log, seats: &[Seat], cores: u32) -> Option<(u32, u64)>
     ensures none { IfNone result ((core : ℕ) → core < cores → IsAnswered log.now.items seats.now core) }
     ensures some { IfSome result (λ at. (at.0 < cores) × ((lower : ℕ) → lower < at.0 → IsAnswered log.now.items seats.now lower) × DiffersAt log.now.items seats.now at.0 at.1) }
 {
+    if are_answered(log, seats) {
+        return None;
+    }
     for core in 0..cores {
         if let Some(place) = difference_of(log, seats, core) {
             return Some((core, place));
         }
     }
     None
+}
+
+// Whether the seats, in order of core, were answered the operations of the items: one pass over these.
+fn are_answered(log: &Log, seats: &[Seat]) -> bool
+    ensures sound { IsTrue result → (core : ℕ) → IsAnswered log.now.items seats.now core }
+{
+    if !in_order(seats) || !have_as_many(log, seats) {
+        return false;
+    }
+    for place in 0..log.len() {
+        let Some(item) = log.item(place) else {
+            unreachable!()
+        };
+        if let Some(did) = item.did() {
+            if !was_answered(seats, did) {
+                return false;
+            }
+        }
+    }
+    true
+}
+
+// Whether each seat, in order of core, has as many answers as its core has operations.
+fn have_as_many(log: &Log, seats: &[Seat]) -> bool
+    requires { InOrder seats.now }
+    ensures sound { IsTrue result → (core : ℕ) (d : Seating) → core < length seats.now → length (slice_index_or seats.now core d).answers ≡ next_number log.now.items core }
+{
+    for seat in seats {
+        if log.count(seat.core()) != Some(seat.answers().len() as u64) {
+            return false;
+        }
+    }
+    true
+}
+
+// Whether the operation stands at its number among the answers at its core's place.
+fn was_answered(seats: &[Seat], did: Did) -> bool
+    ensures sound { IsTrue result → (d : Seating) → slice_get (slice_index_or seats.now did.core d).answers did.number ≡ Some did }
+{
+    match seats.get(did.core as usize) {
+        Some(seat) => stands_at(seat.answers(), did.number as usize, did),
+        None => false,
+    }
 }
 
 // Where the answers of a seat of the core differ from its operations.

@@ -1,7 +1,7 @@
 //! Rows that threads perform, one thread for each seat.
-ghost use Rattle.std.specs.Prelude.{◌≡◌, ℕ, ◌<◌, length, IfOk, IfErr, IfSome, IfNone, OnOk, OnErr, All, IsTrue, None, slice_index_or};
-ghost use Rattle.snoop_cores.specs.Seats.{Seating};
-ghost use Rattle.snoop_cores.specs.Rows.{RanTo, IsServed, IsUnserved, RefusesRows};
+ghost use Rattle.std.specs.Prelude.{◌≡◌, ℕ, ◌<◌, true, length, IfOk, IfErr, IfSome, IfNone, OnOk, OnErr, All, IsTrue, None, slice_index_or};
+ghost use Rattle.snoop_cores.specs.Seats.{Seating, InOrder};
+ghost use Rattle.snoop_cores.specs.Rows.{RanTo, IsUnheld, IsServed, IsUnserved, RefusesRows};
 
 use crate::fault::RunFault;
 use crate::gate::Gate;
@@ -28,6 +28,7 @@ pub fn run_seats<R: Threads + Wait + Sync, G: Gate + Sync>(
 ) -> Result<Vec<Option<Stop>>, RunFault>
     ensures stops { IfOk result (λ stops. length stops.items ≡ length seats.old) }
     ensures ran { IfOk result (λ stops. (place : ℕ) (d : Seating) → place < length seats.old → RanTo (slice_index_or stops.items place None) rows.now (slice_index_or seats.old place d) (slice_index_or seats.new place d)) }
+    ensures held { G.never_late ≡ true → IfOk result (λ stops. All IsUnheld stops.items) }
     ensures len { length seats.new ≡ length seats.old }
     ensures served { OnOk result (All (IsServed seats.old) rows.now) }
     ensures denied { IfErr result (λ fault. RefusesRows seats.old rows.now fault) }
@@ -54,12 +55,45 @@ fn unserved(seats: &[Seat], rows: &[Row]) -> Option<Row>
     ensures some { IfSome result (λ row. IsUnserved seats.now rows.now row) }
     ensures none { IfNone result (All (IsServed seats.now) rows.now) }
 {
+    let ordered = in_order(seats);
     for row in rows {
-        if !is_served(seats, row) {
+        if !serves(seats, ordered, row) {
             return Some(*row);
         }
     }
     None
+}
+
+// Whether the row is served. Seats in order of core are not searched for it.
+fn serves(seats: &[Seat], ordered: bool, row: &Row) -> bool
+    requires { ordered ≡ true → InOrder seats.now }
+    ensures sound { IsTrue result → IsServed seats.now row.now }
+    ensures whole { IsServed seats.now row.now → IsTrue result }
+{
+    (ordered && is_served_in_order(seats, row)) || is_served(seats, row)
+}
+
+// Whether each seat stands at its core's place.
+pub(crate) fn in_order(seats: &[Seat]) -> bool
+    ensures sound { IsTrue result → InOrder seats.now }
+{
+    for place in 0..seats.len() {
+        if seats[place].core() as usize != place {
+            return false;
+        }
+    }
+    true
+}
+
+// Whether the row is served, by the one seat that its core has where seats stand in order of core.
+fn is_served_in_order(seats: &[Seat], row: &Row) -> bool
+    requires { InOrder seats.now }
+    ensures sound { IsTrue result → IsServed seats.now row.now }
+{
+    match seats.get(row.core as usize) {
+        Some(seat) => seat.shape().block_of(row.address).is_some(),
+        None => false,
+    }
 }
 
 // Whether the row's core has a seat, and the row's address lies within the shape of each of its seats.
@@ -89,6 +123,7 @@ fn run_all<R: Threads + Wait + Sync, G: Gate + Sync>(
     requires { 0 < length seats.old }
     ensures len { length seats.new ≡ length seats.old }
     ensures ran { (place : ℕ) (d : Seating) → place < length seats.old → RanTo (slice_index_or seats.new place d).stop rows.now (slice_index_or seats.old place d) (slice_index_or seats.new place d) }
+    ensures held { (place : ℕ) (d : Seating) → place < length seats.old → G.never_late ≡ true → IsUnheld (slice_index_or seats.new place d).stop }
 {
     let threads = seats.len();
     thread::for_each_mut(
@@ -96,7 +131,7 @@ fn run_all<R: Threads + Wait + Sync, G: Gate + Sync>(
         seats,
         threads,
         &|_, seat: &mut Seat|
-            ensures { RanTo seat.exit.now.stop rows.entry.now seat.entry.now seat.exit.now }
+            ensures { RanTo seat.exit.now.stop rows.entry.now seat.entry.now seat.exit.now × (G.never_late ≡ true → IsUnheld seat.exit.now.stop) }
         { seat.run(rt, rows, gate) },
     );
 }

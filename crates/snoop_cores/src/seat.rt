@@ -1,5 +1,5 @@
 //! The right to a core's operations.
-ghost use Rattle.std.specs.Prelude.{◌≡◌, ◌<◌, ◌≤◌, ◌↔◌, ◌∷◌, [], Err, Some, None, IfOk, IfErr, OnOk, OnErr};
+ghost use Rattle.std.specs.Prelude.{◌≡◌, ◌<◌, ◌≤◌, ◌↔◌, ◌∷◌, [], true, Err, Some, None, IfOk, IfErr, OnOk, OnErr};
 ghost use Rattle.snoop_trace.specs.declared.step.Op.TheVariants.{Load, Store, Evict};
 ghost use Rattle.snoop_history.specs.declared.items.Did.{Did};
 ghost use Rattle.snoop_history.specs.History.{answers_of, flat};
@@ -7,8 +7,8 @@ ghost use Rattle.snoop_history.specs.Totals.{capped_totals, totals_of};
 ghost use Rattle.snoop_bench.specs.Works.{Does};
 ghost use Rattle.snoop_versions.specs.Readings.{StartsWith};
 ghost use Rattle.snoop_cores.specs.Seats.{IsNew, Sees};
-ghost use Rattle.snoop_cores.specs.Calls.{Completes, Fails, RefusedAtOnce};
-ghost use Rattle.snoop_cores.specs.Rows.{FailsRow, Grows, RanTo};
+ghost use Rattle.snoop_cores.specs.Calls.{MayBegin, Completes, Fails, RefusedAtOnce};
+ghost use Rattle.snoop_cores.specs.Rows.{FailsRow, Grows, IsUnheld, RanTo};
 ghost use Rattle.snoop_cores.specs.declared.fault.ViewFault.TheVariants.{NoBlock, NoVersion};
 
 use crate::fault::{SeatFault, ViewFault};
@@ -112,7 +112,7 @@ impl Seat {
     /// make; from then on `load`, `store` and `evict` answer the same wherever `NoBlock` does not come. `Busy` where another
     /// operation is pending. `NoMemory` leaves this one pending: the same call, made again, goes on with it and does it once.
     pub fn load<R: Wait>(&mut self, rt: &R, block: u32) -> Result<u64, SeatFault>
-        ensures ok { IfOk result (λ value. (did : Did) × Completes (did ∷ []) self.old self.new × Does did (record { block = block; op = Load }) × (did.value ≡ value)) }
+        ensures ok { IfOk result (λ value. (did : Did) × Completes (record { block = block; op = Load }) (did ∷ []) self.old self.new × Does did (record { block = block; op = Load }) × (did.value ≡ value)) }
         ensures err { IfErr result (λ fault. Fails fault (record { block = block; op = Load }) self.old self.new) }
         ensures at_once { RefusedAtOnce (record { block = block; op = Load }) self.old (λ fault. result ≡ Err fault) }
     {
@@ -130,7 +130,7 @@ impl Seat {
     /// make; from then on `load`, `store` and `evict` answer the same wherever `NoBlock` does not come. `Busy` where another
     /// operation is pending. `NoMemory` leaves this one pending: the same call, made again, goes on with it and does it once.
     pub fn store<R: Wait>(&mut self, rt: &R, block: u32, value: u64) -> Result<(), SeatFault>
-        ensures ok { OnOk result ((did : Did) × Completes (did ∷ []) self.old self.new × Does did (record { block = block; op = Store value })) }
+        ensures ok { OnOk result ((did : Did) × Completes (record { block = block; op = Store value }) (did ∷ []) self.old self.new × Does did (record { block = block; op = Store value })) }
         ensures err { IfErr result (λ fault. Fails fault (record { block = block; op = Store value }) self.old self.new) }
         ensures at_once { RefusedAtOnce (record { block = block; op = Store value }) self.old (λ fault. result ≡ Err fault) }
     {
@@ -148,7 +148,7 @@ impl Seat {
     /// make; from then on `load`, `store` and `evict` answer the same wherever `NoBlock` does not come. `Busy` where another
     /// operation is pending. `NoMemory` leaves this one pending: the same call, made again, goes on with it and does it once.
     pub fn evict<R: Wait>(&mut self, rt: &R, block: u32) -> Result<Evicted, SeatFault>
-        ensures ok { OnOk result (Completes [] self.old self.new) }
+        ensures ok { OnOk result (Completes (record { block = block; op = Evict }) [] self.old self.new) }
         ensures err { IfErr result (λ fault. Fails fault (record { block = block; op = Evict }) self.old self.new) }
         ensures at_once { RefusedAtOnce (record { block = block; op = Evict }) self.old (λ fault. result ≡ Err fault) }
     {
@@ -216,7 +216,7 @@ impl Seat {
 
     // Takes the work up, which is not pending yet or is the pending one.
     fn begin(&mut self, work: Work) -> Result<(), SeatFault>
-        ensures ok { OnOk result ((self.new ≡ record self.old { pending = Some work; strange = None }) × (self.old.strange ≡ None)) }
+        ensures ok { OnOk result ((self.new ≡ record self.old { pending = Some work; strange = None }) × MayBegin work self.old) }
         ensures err { IfErr result (λ fault. Fails fault work self.old self.new) }
         ensures at_once { RefusedAtOnce work self.old (λ fault. result ≡ Err fault) }
     {
@@ -237,7 +237,7 @@ impl Seat {
 
     // Performs a load or a store, and adds its answer.
     fn perform<R: Wait>(&mut self, rt: &R, work: Work) -> Result<Did, SeatFault>
-        ensures ok { IfOk result (λ did. Completes (did ∷ []) self.old self.new × Does did work) }
+        ensures ok { IfOk result (λ did. Completes work (did ∷ []) self.old self.new × Does did work) }
         ensures err { IfErr result (λ fault. Fails fault work self.old self.new) }
         ensures at_once { RefusedAtOnce work self.old (λ fault. result ≡ Err fault) }
     {
@@ -262,7 +262,8 @@ impl Seat {
 
     /// Performs the core's rows, in order, and keeps where it stopped.
     pub(crate) fn run<R: Wait, G: Gate>(&mut self, rt: &R, rows: &[Row], gate: &G)
-        ensures { RanTo self.new.stop rows.now self.old self.new }
+        ensures ran { RanTo self.new.stop rows.now self.old self.new }
+        ensures held { G.never_late ≡ true → IsUnheld self.new.stop }
     {
         let stop = self.run_rows(rt, rows, gate);
         self.stop = stop;
@@ -270,7 +271,8 @@ impl Seat {
 
     // Performs the core's rows, in order, and reports where it stopped.
     fn run_rows<R: Wait, G: Gate>(&mut self, rt: &R, rows: &[Row], gate: &G) -> Option<Stop>
-        ensures { RanTo result rows.now self.old self.new }
+        ensures ran { RanTo result rows.now self.old self.new }
+        ensures held { G.never_late ≡ true → IsUnheld result }
     {
         let core = self.core();
         let mut number = 0usize;

@@ -7,13 +7,12 @@ use Rattle.snoop_cores.specs.declared.fault.MakeFault.{MakeFault}
 use Rattle.snoop_cores.specs.declared.fault.MakeFault.TheVariants as make
 use Rattle.snoop_cores.specs.declared.fault.RunFault.{RunFault}
 use Rattle.snoop_cores.specs.declared.fault.RunFault.TheVariants as run
+use Rattle.snoop_cores.specs.declared.fault.SeatFault.{SeatFault}
 use Rattle.snoop_cores.specs.declared.fault.SeatFault.TheVariants as seat
 use Rattle.snoop_cores.specs.declared.fault.GatherFault.{GatherFault}
 use Rattle.snoop_cores.specs.declared.fault.GatherFault.TheVariants as joining
-use Rattle.snoop_cores.specs.declared.stop.Stop.{Stop}
-use Rattle.snoop_cores.specs.declared.stop.Stop.TheVariants as stop
 use Rattle.snoop_sim.specs.declared.fault.ThreadsFault.{ThreadsFault}
-use Rattle.snoop_sim.specs.declared.fault.ThreadsFault.TheVariants.{Text, NoMemory, Write, Make, Run, Late, Seat, Gather}
+use Rattle.snoop_sim.specs.declared.fault.ThreadsFault.TheVariants.{Text, NoMemory, Write, Make, Run, Seat, Gather}
 
 -- where the steps could not be written
 abbrev pub unwritten : WriteFault → ThreadsFault
@@ -30,11 +29,10 @@ abbrev pub not_run : RunFault → ThreadsFault
 not_run run.NoMemory = NoMemory
 not_run fault = Run fault
 
--- where a seat stopped at a row
-abbrev pub stopped : Stop → ThreadsFault
-stopped (stop.Late row) = Late
-stopped (stop.Fault row seat.NoMemory) = NoMemory
-stopped (stop.Fault row fault) = Seat fault
+-- where a seat was refused a row
+abbrev pub stopped : SeatFault → ThreadsFault
+stopped seat.NoMemory = NoMemory
+stopped fault = Seat fault
 
 -- where the steps were not gathered
 abbrev pub ungathered : GatherFault → ThreadsFault

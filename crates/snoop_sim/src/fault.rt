@@ -1,6 +1,6 @@
 //! Why a simulation in threads stopped.
 
-use snoop_cores::{GatherFault, MakeFault, RunFault, SeatFault, Stop};
+use snoop_cores::{GatherFault, MakeFault, RunFault, SeatFault};
 use snoop_trace::{TextFault, WriteFault};
 use thiserror::Error;
 
@@ -22,9 +22,6 @@ pub enum ThreadsFault {
     /// The rows were not begun.
     #[error(transparent)]
     Run(RunFault),
-    /// A seat was held at the gate for too long, which `Free` never does.
-    #[error("Late")]
-    Late,
     /// A seat was refused a row.
     #[error(transparent)]
     Seat(SeatFault),
@@ -75,17 +72,16 @@ impl From<RunFault> for ThreadsFault {
     }
 }
 
-impl From<Stop> for ThreadsFault {
+impl From<SeatFault> for ThreadsFault {
     ghost use Rattle.std.specs.Prelude.{◌≡◌};
     ghost use Rattle.snoop_sim.specs.ThreadsFault.{stopped};
 
     ghost from_gives = { λ e r. r ≡ stopped e };
 
-    fn from(stop: Stop) -> Self {
-        match stop {
-            Stop::Late(_) => ThreadsFault::Late,
-            Stop::Fault(_, SeatFault::NoMemory) => ThreadsFault::NoMemory,
-            Stop::Fault(_, fault) => ThreadsFault::Seat(fault),
+    fn from(fault: SeatFault) -> Self {
+        match fault {
+            SeatFault::NoMemory => ThreadsFault::NoMemory,
+            other => ThreadsFault::Seat(other),
         }
     }
 }

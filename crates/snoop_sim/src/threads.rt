@@ -1,10 +1,12 @@
 //! The command `threads`: the rows of a text, each core's in a thread of its own.
-ghost use Rattle.std.specs.Prelude.{◌≡◌, ◌≢◌, ◌<◌, ◌-◌, ◌^◌, true, length, All, Contains, Err, Some, None, IfErr, IfOk, OnErr, OnOk, IsSomeAnd};
+ghost use Rattle.std.specs.Prelude.{◌≡◌, ◌≢◌, ℕ, ◌<◌, ◌-◌, ◌^◌, true, length, All, Contains, Err, Some, None, IfErr, IfOk, OnErr, OnOk, IsSomeAnd};
 ghost use Rattle.snoop_cores.specs.Seats.{AreSeats};
 ghost use Rattle.snoop_trace.specs.Grammar.{IsRowWithin};
 ghost use Rattle.snoop_trace.specs.declared.fault.TextFault.TheVariants as text_fault;
 ghost use Rattle.snoop_sim.specs.Threaded.{SimulatesThreads, Threaded};
-ghost use Rattle.snoop_cores.specs.declared.stop.Stop.{Stop};
+ghost use Rattle.snoop_cores.specs.Rows.{IsUnheld};
+ghost use Rattle.snoop_cores.specs.declared.stop.Stop.TheVariants.{Fault as StopFault};
+ghost use Rattle.snoop_cores.specs.declared.fault.SeatFault.{SeatFault};
 ghost use Rattle.snoop_sim.specs.ThreadsFault.{IsOfThreads, stopped};
 
 use crate::fault::ThreadsFault;
@@ -79,15 +81,18 @@ fn take_seated<T: Threads + Wait + Sync>(
     Ok(gathered.steps)
 }
 
-/// The fault of the first seat that stopped at one of its rows.
+/// The fault of the first seat that stopped at one of its rows. No gate stopped it.
 fn check_stops(stops: &[Option<Stop>]) -> Result<(), ThreadsFault>
+    requires { All IsUnheld stops.now }
     ensures ok { OnOk result (All (λ stop. stop ≡ None) stops.now) }
     ensures err { IfErr result IsOfThreads }
-    ensures which { IfErr result (λ fault. (stop : Stop) × Contains stops.now (Some stop) × (fault ≡ stopped stop)) }
+    ensures which { IfErr result (λ fault. (number : ℕ) × (refused : SeatFault) × Contains stops.now (Some (StopFault number refused)) × (fault ≡ stopped refused)) }
 {
     for stop in stops {
-        if let Some(stop) = *stop {
-            return Err(ThreadsFault::from(stop));
+        match *stop {
+            None => {}
+            Some(Stop::Fault(_, fault)) => return Err(ThreadsFault::from(fault)),
+            Some(Stop::Late(_)) => unreachable!(),
         }
     }
     Ok(())

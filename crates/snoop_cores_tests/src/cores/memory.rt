@@ -101,13 +101,30 @@ fn gathers<R: Wait>(scene: &Scene, rt: &R, alloc: Global) -> Option<Gathered> {
     }
 }
 
-/// Makes again core 0's store of 5, which is pending: its load and a gathering are refused before.
-fn goes_on<R: Wait>(scene: &mut Scene, rt: &R, alloc: Global) -> Option<Result<Turn, SeatFault>> {
+/// Makes again core 0's store of 5, which is pending: its load, as a call and as a row, and a gathering are refused before.
+fn goes_on<R: Threads + Wait + Sync>(
+    scene: &mut Scene,
+    rt: &R,
+    alloc: Global,
+) -> Option<Result<Turn, SeatFault>> {
     let loaded = scene.call(rt, 0, work(Op::Load));
+    let rows = [row(0, Op::Load, 0)];
+    let stops = run_seats(
+        rt,
+        alloc,
+        scene.seats.as_mut_slice(),
+        rows.as_slice(),
+        &Free,
+    );
+    let stop = stops
+        .ok()
+        .and_then(|stops| stops.first().copied().flatten());
     let gathered = gather(rt, alloc, &scene.shared, scene.seats.as_slice()).err();
-    if (loaded, gathered)
+    let busy = SeatFault::Busy(STORE_5);
+    if (loaded, stop, gathered)
         != (
-            Some(Err(SeatFault::Busy(STORE_5))),
+            Some(Err(busy)),
+            Some(Stop::Fault(0, busy)),
             Some(GatherFault::Pending { core: 0 }),
         )
     {

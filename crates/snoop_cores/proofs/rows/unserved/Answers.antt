@@ -14,5 +14,5 @@ pub loop-row-preserved : goal.loop-row-preserved
 loop-row-preserved c =
     let P : ℕ → Type 0 = λ k. (d : Row) → IsServed c.args.seats.now (slice_index_or c.args.rows.now k d) in
     let before : (k : ℕ) → k < c.loop-row.row-index → P k = λ k lt d. c.loop-row.invariant k d lt in
-    let here : P c.loop-row.row-index = λ d. subst (IsServed c.args.seats.now) (get_or_default c.args.rows.now c.loop-row.row-index none d c.loop-row-test.true) (c.if-not-is_served.ensures.sound refl) in
+    let here : P c.loop-row.row-index = λ d. subst (IsServed c.args.seats.now) (get_or_default c.args.rows.now c.loop-row.row-index none d c.loop-row-test.true) (c.if-not-serves.ensures.sound refl) in
     λ k d lt. below_next P c.loop-row.row-index before here k lt d

@@ -8,11 +8,11 @@ use Rattle.snoop_cores.proofs.seat.Seat.run_rows.Goals as goal
 abbrev none : Row
 none = record { core = 0; op = Load; address = 0 }
 
-pub returns-then-is_err : goal.returns-then-is_err
-returns-then-is_err g c = stopped c.args.self.now.core c.loop-row.number c.args.rows.now c.loop-row.row-index none c.args.self.now c.loop-row.self c.loop-row-test.true (c.if-row-core.true ∙ c.core-core.ensures) c.loop-row.invariant.1 c.loop-row.invariant.0
+pub returns-then-is_err-clause-ran : goal.returns-then-is_err-clause-ran
+returns-then-is_err-clause-ran g c = stopped c.args.self.now.core c.loop-row.number c.args.rows.now c.loop-row.row-index none c.args.self.now c.loop-row.self c.loop-row-test.true (c.if-row-core.true ∙ c.core-core.ensures) c.loop-row.invariant.1 c.loop-row.invariant.0
 
-pub returns-in-Err : goal.returns-in-Err
-returns-in-Err g c =
+pub returns-in-Err-clause-ran : goal.returns-in-Err-clause-ran
+returns-in-Err-clause-ran g c =
     refused c.loop-row.number c.args.rows.now c.loop-row.row-index none c.args.self.now c.loop-row.self c.perform_row.new.self c.in-Err.fault c.loop-row-test.true (c.if-row-core.true ∙ c.core-core.ensures) c.loop-row.invariant.1 c.loop-row.invariant.0 c.in-Err.ensures.err
 
 pub overflow_add-number : goal.overflow_add-number

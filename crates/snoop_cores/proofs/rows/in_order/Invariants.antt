@@ -1,0 +1,7 @@
+use Rattle.std.proofs.Common.{◌≡◌, ◌<◌, ℕ}
+use Rattle.std.specs.Prelude.{slice_index_or}
+use Rattle.snoop_cores.specs.Seats.{Seating}
+use Rattle.snoop_cores.proofs.rows.in_order.Given as goal
+
+abbrev pub invariant-loop-place : goal.invariant-loop-place
+invariant-loop-place l = (core : ℕ) (d : Seating) → core < l.place → (slice_index_or l.seats core d).core ≡ core

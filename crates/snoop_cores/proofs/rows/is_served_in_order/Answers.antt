@@ -1,0 +1,13 @@
+use Rattle.std.proofs.Common.{◌∙◌, Some, ap, sym}
+use Rattle.std.specs.Option.{is_some}
+use Rattle.std.proofs.lemmas.Option.{slice_get-get_or}
+use Rattle.snoop_trace.specs.Extent.{Extent}
+use Rattle.snoop_trace.specs.Grammar.{block_at}
+use Rattle.snoop_cores.proofs.Answering.{serves_one}
+use Rattle.snoop_cores.proofs.rows.is_served_in_order.Goals as goal
+
+pub returns-in-Some : goal.returns-in-Some
+returns-in-Some c = record {
+  sound = λ yes. serves_one c.args.seats.now c.args.row.now c.in-Some.seat.now c.requires (slice_get-get_or c.args.seats.now c.args.row.now.core c.in-Some.seat.now c.in-Some.ensures.lookup.3.0 ∙ ap Some (sym c.in-Some.ensures.lookup.1))
+      (sym (c.is_some.ensures ∙ ap is_some (c.block_of.ensures ∙ ap (λ (shape : Extent). block_at shape c.args.row.now.address) c.shape.ensures)) ∙ yes);
+}
