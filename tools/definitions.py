@@ -1,11 +1,11 @@
 #!/usr/bin/env python3
-"""Prints docs/DEFINITIONS.md, or writes it: each definition of specs/ with the comment that stands above it.
+"""Prints docs/DEFINITIONS.md, or writes it: each definition of crates/*/specs with the comment above it.
 
     tools/definitions.py --write
     tools/definitions.py --headline
 
-The second lists the definitions that the coherence theorem stands on, each after those that it is made of, and counts them with their files and lines.
-Where a file has no comment at its head, or a definition none above it, these are named, nothing is written and the status is 1.
+The second lists the definitions that the coherence theorem uses, each after those that it is made of, and counts them with their files
+and lines. If a file has no comment at its head, or a definition none above it, these are named, nothing is written and the status is 1.
 """
 import argparse
 import pathlib
@@ -66,7 +66,7 @@ def files_of(specs):
 
 
 def imports_in(text):
-    """The module that each imported name is had from, by the name that it goes under."""
+    """The module of each imported name, by the name that the file uses for it."""
     found = {}
     for crate, module, names in IMPORT.findall(text):
         for name in names.split(","):
@@ -82,7 +82,7 @@ def page_of(path):
         if line.startswith("--"):
             comment.append(line[2:].strip())
             continue
-        if line.startswith("infix"):  # stands between an operator and its comment
+        if line.startswith("infix"):  # between an operator and its comment
             continue
         if is_at_head:
             head, comment, is_at_head = "\n".join(comment), [], False
@@ -108,7 +108,7 @@ def made_of(page, text):
 
 
 def headline(pages):
-    """The definitions that the coherence theorem stands on, each after those that it is made of, with their pages."""
+    """The definitions that the coherence theorem uses, each after those that it is made of, with their pages."""
     known = {key_of(page, definition.name): (page, definition) for page in pages for definition in page.definitions}
     source = THEOREM.read_text()
     imports = imports_in(source.replace("ghost use", "use"))
@@ -159,8 +159,8 @@ def listed(found):
 
 def main():
     parser = argparse.ArgumentParser(description=__doc__, formatter_class=argparse.RawDescriptionHelpFormatter)
-    parser.add_argument("--write", action="store_true", help="write the page, in place of printing it")
-    parser.add_argument("--headline", action="store_true", help="list what the coherence theorem stands on, in place of the page")
+    parser.add_argument("--write", action="store_true", help="write the page instead of printing it")
+    parser.add_argument("--headline", action="store_true", help="list what the coherence theorem uses, instead of the page")
     options = parser.parse_args()
     pages = {crate: [page_of(path) for path in files_of(TOP / "crates" / crate / "specs")] for crate in CRATES}
     missing = [what for found in pages.values() for page in found for what in missing_in(page)]

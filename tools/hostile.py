@@ -1,10 +1,10 @@
 #!/usr/bin/env python3
-"""Texts of every kind of fault, made by chance from a seed, through the program and through tools/reference.py.
+"""Runs random texts, many of them faulty, through the program and through tools/reference.py, and compares what they answer.
 
     tools/hostile.py --seed 1 --count 2000
 
-compares standard output, standard error and status of each, prints each text that they answer differently, and ends with 1 where there
-is one. The program is $SNOOP, or else the one that was built last.
+compares standard output, standard error and status for each text, prints each text that they answer differently, and ends with 1 if
+there is one. The program is $SNOOP, or else the one that was built last (crates/snoop/out/snoop).
 """
 import argparse
 import contextlib
@@ -113,8 +113,8 @@ def by_program(options, given):
 
 def main():
     parser = argparse.ArgumentParser(description=__doc__, formatter_class=argparse.RawDescriptionHelpFormatter)
-    parser.add_argument("--seed", type=int, default=1)
-    parser.add_argument("--count", type=int, default=2000)
+    parser.add_argument("--seed", type=int, default=1, help="the same seed makes the same texts (default 1)")
+    parser.add_argument("--count", type=int, default=2000, help="how many texts (default 2000)")
     asked = parser.parse_args()
     chance = random.Random(asked.seed)
     refused = different = 0

@@ -1,13 +1,22 @@
 #!/usr/bin/env python3
-"""An independent reading of the protocol, to hold the program against.
+"""A second reading of the protocol, with which the program is compared.
 
-It knows no Rattle: its tables are those of docs/PROTOCOL.md, its texts those of docs/TEXTS.md, it keeps every block of every core in
-plain dictionaries, and it recomputes the report from the whole history at the end. A refused text is reported as the program reports it
-(a line on standard error, status 1, nothing on standard output). Use:
+It shares no code with Snoop: its tables are those of docs/PROTOCOL.md, its texts those of docs/TEXTS.md, it keeps every block of every
+core in plain dictionaries, and it recomputes the report from the whole history at the end. Texts are read from standard input. A refused
+text is reported as the program reports it (a line on standard error, status 1, nothing on standard output).
+
+  steps    the line of each step of a text of steps, then the report, as `snoop steps`
+  run      the same for a text of rows, as `snoop run`
+  states   a Markdown table with a row for each step: its line, the state of one block (--block) in each core that ever holds it,
+           memory's state and memory's value
+  getters  all that a machine's getters answer after each step, as crates/snoop_getters prints it
+  storm    makes a text of random steps
+  table    a controller's table, as `snoop table`
 
     tools/reference.py steps --protocol mesi < examples/silent_upgrade.steps
     tools/reference.py run --protocol mesi < examples/producer_and_consumer.rows
     tools/reference.py states --protocol mesi < examples/silent_upgrade.steps
+    tools/reference.py states --block 1 < examples/two_blocks_open.steps
     tools/reference.py getters --protocol mesi --cores 2 --blocks 1 < examples/silent_upgrade.steps
     tools/reference.py storm --cores 8 --blocks 3 --count 1000 > storm.steps
     tools/reference.py table --protocol mesi --which memory
@@ -199,8 +208,12 @@ class Faulty(Exception):
     """The first faulty record of a text, and its fault."""
 
 
+class NoSuchBlock(Exception):
+    """A block outside the shape was asked for."""
+
+
 def fields_of(text):
-    """The records of a text, each a list of its fields, byte by byte: a quote opens a field that it begins, where two stand for one; what
+    """The records of a text, each a list of its fields, byte by byte: a quote opens a field that it begins, where two mean one; what
     follows the quote that closes it is part of the field as it stands, up to a comma or the end of the line; a quote that is never closed
     takes the rest of the text; blank lines are no records."""
     text = text.removeprefix(b"\xef\xbb\xbf")
@@ -248,7 +261,7 @@ def number(field):
 
 
 def fault_in(record, kinds, options):
-    """The fault of a record, if it has one: the one that stands highest in the table of docs/TEXTS.md."""
+    """The fault of a record, if it has one: the first one in the table of docs/TEXTS.md."""
     kind = record[0].decode("latin-1")
     if len(kind) != 1 or kind not in kinds:
         return "BadKind"
@@ -322,16 +335,22 @@ def steps(options, text):
 
 
 def states(options, text):
-    """A row of a Markdown table for each step: its line, the states of block 0 in the cores that ever hold it and in memory, and memory's
-    value; what a step changes is bold."""
+    """A Markdown table with a row for each step: its line, the states of one block in the cores that ever hold it and in memory, and
+    memory's value; what a step changes is bold."""
+    block = options.block
+    if not 0 <= block < options.blocks:
+        raise NoSuchBlock(f"no block {block}: the machine has blocks 0 to {options.blocks - 1} (--blocks {options.blocks})")
     written = ["at reset"]
     lines = Lines(options, written.append)
-    held = lambda: [lines.machine.line[core, 0].state for core in range(options.cores)] + [str(part) for part in lines.machine.memory[0]]
+    held = lambda: [lines.machine.line[core, block].state for core in range(options.cores)] + [str(part) for part in lines.machine.memory[block]]
     rows = [held()]
     for kind, numbers in records(options, text):
         lines.take(kind, numbers)
         rows.append(held())
     shown = [place for place in range(options.cores + 2) if place >= options.cores or any(row[place] != "I" for row in rows)]
+    names = [f"Core {core}" for core in range(options.cores)] + ["Memory", "Its value"]
+    print("| " + " | ".join(["Line"] + [names[place] for place in shown]) + " |")
+    print("|---" * (len(shown) + 1) + "|")
     for name, row, before in zip(written, rows, rows[:1] + rows):
         cells = [row[place] if row[place] == before[place] else f"**{row[place]}**" for place in shown]
         print("| " + " | ".join([name if name == "at reset" else f"`{name}`"] + cells) + " |")
@@ -356,7 +375,7 @@ def shown(machine, block):
 
 
 def getters(options, text):
-    """All that is seen of a machine after each step, a line each; at the end what its history comes to."""
+    """All that is seen of a machine after each step, a line each; at the end the counts and values of its history."""
     lines = Lines(options, lambda line: None)
     machine = lines.machine
     cores, blocks = range(options.cores), range(options.blocks)
@@ -387,7 +406,7 @@ def run(options, text):
             if waits and transaction is None:
                 return lines.order(core)
             if waits:
-                return lines.respond(block)  # another core's transaction stands in the way
+                return lines.respond(block)  # another core's transaction is in the way
             del asked_for[core]
             if transaction is not None and transaction.core == core:
                 return lines.respond(block)
@@ -404,7 +423,7 @@ def run(options, text):
 
 
 def storm(options):
-    """Steps from a linear congruential generator: every kind, core and block in a long mixture."""
+    """Random steps of every kind, core and block, from a linear congruential generator."""
     x = options.seed
     for n in range(1, options.count + 1):
         x = (x * 6364136223846793005 + 1442695040888963407) % 2**64
@@ -423,13 +442,14 @@ def table(options):
 def main():
     parser = argparse.ArgumentParser(description=__doc__, formatter_class=argparse.RawDescriptionHelpFormatter)
     parser.add_argument("command", choices=("steps", "run", "states", "getters", "storm", "table"))
-    parser.add_argument("--protocol", choices=("msi", "mesi"), default="msi")
-    parser.add_argument("--cores", type=int, default=2)
-    parser.add_argument("--blocks", type=int, default=4)
-    parser.add_argument("--block-bytes", type=int, default=64)
-    parser.add_argument("--which", choices=("cache", "memory"), default="cache")
-    parser.add_argument("--count", type=int, default=1000)
-    parser.add_argument("--seed", type=int, default=1)
+    parser.add_argument("--protocol", choices=("msi", "mesi"), default="msi", help="default msi")
+    parser.add_argument("--cores", type=int, default=2, help="how many cores, 1 to 256 (default 2)")
+    parser.add_argument("--blocks", type=int, default=4, help="how many blocks of memory, 1 to 65536 (default 4)")
+    parser.add_argument("--block-bytes", type=int, default=64, help="bytes of a block, a power of two up to 4096 (default 64)")
+    parser.add_argument("--block", type=int, default=0, metavar="N", help="states: the number of the block (default 0)")
+    parser.add_argument("--which", choices=("cache", "memory"), default="cache", help="table: whose table (default cache)")
+    parser.add_argument("--count", type=int, default=1000, help="storm: how many steps (default 1000)")
+    parser.add_argument("--seed", type=int, default=1, help="storm: where the generator begins (default 1)")
     options = parser.parse_args()
     if not (1 <= options.cores <= 256 and 1 <= options.blocks <= 65536 and options.block_bytes in [2**k for k in range(13)]):
         parser.error("no such shape: 1 to 256 cores, 1 to 65536 blocks, block bytes a power of two up to 4096")
@@ -444,6 +464,8 @@ def main():
         sys.exit(1)
     except Faulty as fault:
         parser.exit(1, f"snoop: {fault}\n")
+    except NoSuchBlock as fault:
+        parser.error(str(fault))
 
 
 if __name__ == "__main__":

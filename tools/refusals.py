@@ -1,12 +1,13 @@
 #!/usr/bin/env python3
-"""Refuses each growth of the program in turn, and of each test that bears it.
+"""Refuses each growth (each call that asks for memory) of the program in turn, and of each test that is made for it.
 
     tools/refusals.py
 
-runs each command line below with its first growth refused, then its second, until a run has fewer growths. Each answer has to be the
-full one, or status 3 with `snoop: NoMemory` on standard error and a beginning of the full output. Of the test programs that the gate
-leaves it runs so each test in a module `memory`, which has to pass each time. It needs `cc` and glibc. The program is $SNOOP, or else the
-one that was built last. It prints each answer that is neither, then the counts, and ends with 1 where there was one.
+runs each command line of CASES with its first growth refused, then its second, until a run has no such growth. Each answer has to be the
+full one, or status 3 with `snoop: NoMemory` on standard error and a beginning of the full output. In the same way it runs each test in a
+module `memory`, from the test programs that `./check` or `rt test` has built; such a test has to pass each time. It needs `cc` and glibc.
+The program is $SNOOP, or else the one that was built last (crates/snoop/out/snoop). It prints each wrong answer, then the counts, and ends
+with 1 if there was one.
 """
 import os
 import pathlib
@@ -54,7 +55,7 @@ class Refuser:
         subprocess.run(["cc", "-O1", "-shared", "-fPIC", "-o", self.shim, str(TOP / "tools" / "refuse.c")], check=True)
 
     def run(self, words, text, growth):
-        """The status, output and errors of a run, and whether it came to the growth; growth 0 refuses none."""
+        """The status, output and errors of a run, and whether it reached the growth; growth 0 refuses none."""
         if os.path.exists(self.met):
             os.unlink(self.met)
         environment = dict(os.environ, LD_PRELOAD=self.shim, REFUSE=str(growth), REFUSED=self.met)
@@ -94,7 +95,7 @@ def wrong_in_threads(refuser):
 
 
 def tests():
-    """The test programs that there are, and of each the tests that bear a refused growth."""
+    """The test programs that there are, each with its tests that are made for refused growths."""
     for program in sorted(TOP.glob("crates/*/out/*_tests")):
         if os.access(program, os.X_OK):
             listed = subprocess.run([program, "--list"], capture_output=True, text=True, check=False).stdout.splitlines()
