@@ -1,5 +1,5 @@
 -- One pass over a log beside the answers of seats in order of core.
-use Rattle.std.proofs.Common.{◌≡◌, ◌≢◌, ◌⊎◌, ℕ, ◌+◌, ◌<◌, ◌≤◌, ◌==◌, List, [], ◌∷◌, length, take, Option, Some, None, Bool, true, false, get_or, refl, sym, ap, ◌∙◌, subst, arith, inl, inr}
+use Rattle.std.proofs.Common.{◌≡◌, ◌⊎◌, ℕ, ◌+◌, ◌<◌, ◌≤◌, ◌==◌, List, [], ◌∷◌, length, take, Option, Some, None, Bool, true, false, get_or, refl, sym, ap, ◌∙◌, subst, arith, inl, inr}
 use Rattle.std.specs.Prelude.{slice_get, slice_index_or, IsSome}
 use Rattle.std.proofs.lemmas.Bool.{cases_order}
 use Rattle.std.proofs.lemmas.Bool.Decides.{nat_tests}
@@ -11,7 +11,7 @@ use Rattle.snoop_history.specs.declared.items.Item.{Item}
 use Rattle.snoop_history.specs.History.{answers_of, next_number, operation_of, IsNumbered}
 use Rattle.snoop_cores.specs.Seats.{Seating, InOrder}
 use Rattle.snoop_cores.specs.Rows.{IsServed}
-use Rattle.snoop_cores.proofs.Joining.{length_take, next_passes, next_stands, no_seat}
+use Rattle.snoop_cores.proofs.Joining.{length_take, next_passes, next_stands}
 
 within : {A : Type 0} (xs : List A) (n : ℕ) (x : A) → slice_get xs n ≡ Some x → n < length xs
 within xs n x there = by_order (cases_order n (length xs))
@@ -46,9 +46,6 @@ pub first_on : (items : List Item) (i : ℕ) (entry : Item) (core : ℕ) (answer
 first_on items i entry core answers there numbered stands first =
     by_operation (operation_of entry) refl
   where
-    n : ℕ
-    n = next_number (take i items) core
-
     lt : i < length items
     lt = within items i entry there
 

@@ -1,4 +1,4 @@
-use Rattle.std.proofs.Common.{◌∙◌, ◌<◌, length, None, arith, subst, sym}
+use Rattle.std.proofs.Common.{◌∙◌, None, arith, subst, sym}
 use Rattle.std.proofs.lemmas.List.{get_or_default}
 use Rattle.snoop_cores.specs.Rows.{IsUnheld}
 use Rattle.snoop_cores.proofs.Joining.{no_seat}
