@@ -1,20 +1,19 @@
 -- What a seat has done of its rows.
-use Rattle.std.proofs.Common.{◌≡◌, ℕ, ◌+◌, ◌<◌, ◌≤◌, ◌≢◌, ◌==◌, List, [], ◌∷◌, ◌++◌, length, take, drop, filter, Option, Some, None, Bool, true, false, get_or, refl, sym, ap, ◌∙◌, subst, arith, append-nil, append_assoc, length-append}
-use Rattle.std.specs.Prelude.{◌⊎◌, slice_get}
+use Rattle.std.proofs.Common.{◌≡◌, ℕ, ◌+◌, ◌<◌, ◌≤◌, ◌≢◌, ◌==◌, List, [], ◌∷◌, ◌++◌, length, take, drop, filter, Option, Bool, true, false, get_or, refl, sym, ap, ◌∙◌, subst, arith, append-nil, append_assoc, length-append}
+use Rattle.std.specs.Prelude.{slice_get}
 use Rattle.std.specs.List.{AllZip}
 use Rattle.std.proofs.lemmas.List.{take_more, drop_more, take-append-drop}
 use Rattle.std.proofs.Math.Seq.{take-append_seam}
 use Rattle.std.proofs.lemmas.List.Elements.{filter-append}
 use Rattle.std.proofs.lemmas.Bool.Decides.{nat_tests}
 use Rattle.snoop_trace.specs.Extent.{Extent}
-use Rattle.snoop_trace.specs.Grammar.{block_at}
 use Rattle.snoop_trace.specs.declared.step.Row.{Row}
 use Rattle.snoop_history.specs.declared.items.Did.{Did}
-use Rattle.snoop_bench.specs.declared.work.Work.{Work}
 use Rattle.snoop_cores.specs.Seats.{Seating}
 use Rattle.snoop_cores.specs.declared.fault.SeatFault.{SeatFault}
-use Rattle.snoop_cores.specs.Calls.{Stays, MayBegin}
-use Rattle.snoop_cores.specs.Rows.{is_answered, DoesRow, Answers, Leaves, Grows, FailsRow, IsRefused, rows_of}
+use Rattle.snoop_cores.specs.declared.stop.Stop.{Stop}
+use Rattle.snoop_cores.specs.Calls.{Stays, IsSettled}
+use Rattle.snoop_cores.specs.Rows.{is_answered, DoesRow, Answers, MayDo, MayDoFirst, Leaves, Grows, FailsRow, IsRefused, rows_of}
 use Rattle.snoop_cores.proofs.Beginnings.{starts_on, starts_same}
 use Rattle.snoop_cores.proofs.Joining.{at_seam}
 
@@ -32,29 +31,35 @@ answers-append shape rows more dids also h k =
 pub stays_on : (s t u : Seating) → Stays s t → Stays t u → Stays s u
 stays_on s t u h k = record { core = k.core ∙ h.core; shape = k.shape ∙ h.shape; begins = starts_on u.seen t.seen s.seen k.begins h.begins }
 
--- what may begin now could begin before, where nothing was done
-may_before : (work : Work) (s t : Seating) → t.pending ≡ s.pending → t.strange ≡ s.strange → MayBegin work t → MayBegin work s
-may_before work s t pending strange m = record { strange = sym strange ∙ m.strange; pending = subst (λ (o : Option Work). (o ≡ None) ⊎ (o ≡ Some work)) pending m.pending }
+-- the seat, stopped elsewhere, is as settled
+pub settled_noted : (stop : Option Stop) (s : Seating) → IsSettled s → IsSettled (record s { stop = stop })
+settled_noted stop s h = record { legal = h.legal; shown = h.shown; pending = h.pending; strange = h.strange }
 
-leaves_more : (rows more : List Row) (s t u : Seating) → t.shape ≡ s.shape → Leaves rows s t → Leaves more t u → Leaves (rows ++ more) s u
-leaves_more [] [] s t u e h k = (k.0 ∙ h.0, k.1 ∙ h.1)
-leaves_more [] (row ∷ more) s t u e h k =
-    ((k.0.0, ap (λ (shape : Extent). block_at shape row.address) (sym e) ∙ k.0.1, may_before (record { block = k.0.0; op = row.op }) s t h.0 h.1 k.0.2), k.1, k.2)
-leaves_more (row ∷ rows) [] s t u e h k = (h.0, k.0 ∙ h.1, k.1 ∙ h.2)
-leaves_more (row ∷ rows) (other ∷ more) s t u e h k = (h.0, k.1, k.2)
+began_more : (rows more : List Row) (s t : Seating) → Leaves rows s t → MayDoFirst rows s → MayDoFirst more t → MayDoFirst (rows ++ more) s
+began_more [] [] s t h b k = tt
+began_more [] (row ∷ more) s t h b k =
+    let same : MayDo row (record s { stop = t.stop }) = subst (MayDo row) h k in (same.0, same.1, record { strange = same.2.strange; pending = same.2.pending })
+began_more (row ∷ rows) more s t h b k = b
+
+leaves_more : (rows more : List Row) (s t u : Seating) → Leaves rows s t → Leaves more t u → Leaves (rows ++ more) s u
+leaves_more [] [] s t u h k = k ∙ ap (λ (x : Seating). record x { stop = u.stop }) h
+leaves_more [] (row ∷ more) s t u h k = k
+leaves_more (row ∷ rows) [] s t u h k = subst IsSettled (sym k) (settled_noted u.stop t h)
+leaves_more (row ∷ rows) (other ∷ more) s t u h k = k
 
 pub grows_none : (s : Seating) → Grows [] s s
-grows_none s = record { stays = record { core = refl; shape = refl; begins = starts_same s.seen }; added = ([], sym (append-nil s.answers), tt); leaves = (refl, refl) }
+grows_none s = record { began = tt; stays = record { core = refl; shape = refl; begins = starts_same s.seen }; added = ([], sym (append-nil s.answers), tt); leaves = refl }
 
 pub grows_more : (rows more : List Row) (s t u : Seating) → Grows rows s t → Grows more t u → Grows (rows ++ more) s u
 grows_more rows more s t u h k = record {
+  began = began_more rows more s t h.leaves h.began k.began;
   stays = stays_on s t u h.stays k.stays;
   added = (
     h.added.0 ++ k.added.0,
     k.added.1 ∙ ap (λ (l : List Did). l ++ k.added.0) h.added.1 ∙ append_assoc s.answers h.added.0 k.added.0,
     answers-append s.shape rows more h.added.0 k.added.0 h.added.2 (subst (λ (shape : Extent). Answers shape more k.added.0) h.stays.shape k.added.2),
   );
-  leaves = leaves_more rows more s t u h.stays.shape h.leaves k.leaves;
+  leaves = leaves_more rows more s t u h.leaves k.leaves;
 }
 
 tests_true : (core : ℕ) (row : Row) → row.core ≡ core → (row.core == core) ≡ true

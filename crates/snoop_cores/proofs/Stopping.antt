@@ -9,6 +9,7 @@ use Rattle.snoop_cores.specs.declared.stop.Stop.{Stop}
 use Rattle.snoop_cores.specs.declared.stop.Stop.TheVariants.{Late, Fault}
 use Rattle.snoop_cores.specs.Seats.{Seating}
 use Rattle.snoop_cores.specs.Calls.{Stays, Keeps, MayBegin, Fails}
+use Rattle.snoop_cores.proofs.Performed.{settled_noted}
 use Rattle.snoop_cores.specs.Rows.{Leaves, Grows, FailsOn, RanTo, rows_of}
 
 -- the seat, with another note
@@ -25,11 +26,11 @@ begins_noted : (stop : Option Stop) (work : Work) (s : Seating) → MayBegin wor
 begins_noted stop work s h = record { strange = h.strange; pending = h.pending }
 
 leaves_noted : (stop : Option Stop) (rows : List Row) (s t : Seating) → Leaves rows s t → Leaves rows s (noted stop t)
-leaves_noted stop [] s t h = h
-leaves_noted stop (row ∷ rows) s t h = h
+leaves_noted stop [] s t h = ap (noted stop) h
+leaves_noted stop (row ∷ rows) s t h = settled_noted stop t h
 
 grows_noted : (stop : Option Stop) (rows : List Row) (s t : Seating) → Grows rows s t → Grows rows s (noted stop t)
-grows_noted stop rows s t h = record { stays = stays_noted stop s t h.stays; added = h.added; leaves = leaves_noted stop rows s t h.leaves }
+grows_noted stop rows s t h = record { began = h.began; stays = stays_noted stop s t h.stays; added = h.added; leaves = leaves_noted stop rows s t h.leaves }
 
 fails_noted : (stop : Option Stop) (fault : SeatFault) (work : Work) (s t : Seating) → Fails fault work s t → Fails fault work (noted stop s) (noted stop t)
 fails_noted stop NoBlock work s t h = (h.0, ap (noted stop) h.1)

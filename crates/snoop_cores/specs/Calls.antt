@@ -16,20 +16,24 @@ pub record Stays (s t : Seating) : Type 0 where
   pub shape : t.shape ≡ s.shape
   pub begins : StartsWith t.seen s.seen
 
--- the operation may begin: no stranger's was reported, and no other is pending
+-- the operation may begin: no stranger's operation was reported, and no other is pending
 pub record MayBegin (work : Work) (s : Seating) : Type 0 where
   pub strange : s.strange ≡ None
   pub pending : (s.pending ≡ None) ⊎ (s.pending ≡ Some work)
 
--- the call is over: the operation could begin; what is seen is legal and begins with what was seen; the core's operations in it are the answers from before and then these, and are the answers now; nothing is pending
+-- nothing is pending or reported, and what was seen is legal and has the core's operations exactly as the seat was answered them
+pub record IsSettled (s : Seating) : Type 0 where
+  pub legal : Legal s.seen
+  pub shown : answers_of s.seen s.core ≡ s.answers
+  pub pending : s.pending ≡ None
+  pub strange : s.strange ≡ None
+
+-- the call is over: the operation could begin, these are its answers, and the seat is settled
 pub record Completes (work : Work) (dids : List Did) (s t : Seating) : Type 0 where
   pub began : MayBegin work s
   pub stays : Stays s t
-  pub legal : Legal t.seen
   pub answers : t.answers ≡ s.answers ++ dids
-  pub shown : answers_of t.seen s.core ≡ t.answers
-  pub pending : t.pending ≡ None
-  pub strange : t.strange ≡ None
+  pub settled : IsSettled t
 
 -- no answer was added
 pub record Keeps (s t : Seating) : Type 0 where

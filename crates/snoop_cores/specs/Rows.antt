@@ -16,7 +16,7 @@ use Rattle.snoop_cores.specs.declared.fault.RunFault.TheVariants.{NoSeat, NoMemo
 use Rattle.snoop_cores.specs.declared.stop.Stop.{Stop}
 use Rattle.snoop_cores.specs.declared.stop.Stop.TheVariants.{Late, Fault}
 use Rattle.snoop_cores.specs.Seats.{Seating}
-use Rattle.snoop_cores.specs.Calls.{Stays, MayBegin, Fails}
+use Rattle.snoop_cores.specs.Calls.{Stays, MayBegin, IsSettled, Fails}
 
 -- the operation adds an answer: a load or a store
 abbrev pub is_answered : Op → Bool
@@ -40,13 +40,19 @@ Answers shape rows dids = AllZip (DoesRow shape) (filter (λ (row : Row). is_ans
 abbrev pub MayDo : Row → Seating → Type 0
 MayDo row s = (block : ℕ) × (block_at s.shape row.address ≡ Some block) × MayBegin (record { block = block; op = row.op }) s
 
--- what is pending or reported as a stranger's: the first row could begin, and nothing is left after the last; where there was no row, it is what it was before
-abbrev pub Leaves : List Row → Seating → Seating → Type 0
-Leaves [] s t = (t.pending ≡ s.pending) × (t.strange ≡ s.strange)
-Leaves (row ∷ rows) s t = MayDo row s × (t.pending ≡ None) × (t.strange ≡ None)
+-- the first of the rows may begin
+abbrev pub MayDoFirst : List Row → Seating → Type 0
+MayDoFirst [] s = ⊤
+MayDoFirst (row ∷ rows) s = MayDo row s
 
--- the seat has done these rows: its answers have grown by their loads and stores
+-- the seat after these rows is settled; after none, it is as it was, but for where its rows stopped
+abbrev pub Leaves : List Row → Seating → Seating → Type 0
+Leaves [] s t = t ≡ record s { stop = t.stop }
+Leaves (row ∷ rows) s t = IsSettled t
+
+-- the seat has done these rows: the first could begin, and the answers have grown by their loads and stores
 pub record Grows (rows : List Row) (s t : Seating) : Type 0 where
+  pub began : MayDoFirst rows s
   pub stays : Stays s t
   pub added : (dids : List Did) × (t.answers ≡ s.answers ++ dids) × Answers s.shape rows dids
   pub leaves : Leaves rows s t
@@ -73,9 +79,9 @@ pub record IsRefused (number : ℕ) (fault : SeatFault) (rows : List Row) (s t :
   pub fails : FailsRow fault row between t
 
 -- the gate did not stop it
-abbrev pub IsUnheld : Option Stop → Type 0
-IsUnheld (Some (Late number)) = ⊥
-IsUnheld _ = ⊤
+abbrev pub IsNotLate : Option Stop → Type 0
+IsNotLate (Some (Late number)) = ⊥
+IsNotLate _ = ⊤
 
 -- the seat has done all its rows; or it stopped at a row, and has done those before it
 abbrev pub RanTo : Option Stop → List Row → Seating → Seating → Type 0

@@ -140,7 +140,7 @@ fn difference(log: &Log, seats: &[Seat], cores: u32) -> Option<(u32, u64)>
     ensures none { IfNone result ((core : ℕ) → core < cores → IsAnswered log.now.items seats.now core) }
     ensures some { IfSome result (λ at. (at.0 < cores) × ((lower : ℕ) → lower < at.0 → IsAnswered log.now.items seats.now lower) × DiffersAt log.now.items seats.now at.0 at.1) }
 {
-    if are_answered(log, seats) {
+    if answers_match(log, seats) {
         return None;
     }
     for core in 0..cores {
@@ -152,10 +152,10 @@ fn difference(log: &Log, seats: &[Seat], cores: u32) -> Option<(u32, u64)>
 }
 
 // Whether the seats, in order of core, were answered the operations of the items: one pass over these.
-fn are_answered(log: &Log, seats: &[Seat]) -> bool
+fn answers_match(log: &Log, seats: &[Seat]) -> bool
     ensures sound { IsTrue result → (core : ℕ) → IsAnswered log.now.items seats.now core }
 {
-    if !in_order(seats) || !have_as_many(log, seats) {
+    if !in_order(seats) || !counts_match(log, seats) {
         return false;
     }
     for place in 0..log.len() {
@@ -163,7 +163,7 @@ fn are_answered(log: &Log, seats: &[Seat]) -> bool
             unreachable!()
         };
         if let Some(did) = item.did() {
-            if !was_answered(seats, did) {
+            if !is_at_its_number(seats, did) {
                 return false;
             }
         }
@@ -172,7 +172,7 @@ fn are_answered(log: &Log, seats: &[Seat]) -> bool
 }
 
 // Whether each seat, in order of core, has as many answers as its core has operations.
-fn have_as_many(log: &Log, seats: &[Seat]) -> bool
+fn counts_match(log: &Log, seats: &[Seat]) -> bool
     requires { InOrder seats.now }
     ensures sound { IsTrue result → (core : ℕ) (d : Seating) → core < length seats.now → length (slice_index_or seats.now core d).answers ≡ next_number log.now.items core }
 {
@@ -185,7 +185,7 @@ fn have_as_many(log: &Log, seats: &[Seat]) -> bool
 }
 
 // Whether the operation stands at its number among the answers at its core's place.
-fn was_answered(seats: &[Seat], did: Did) -> bool
+fn is_at_its_number(seats: &[Seat], did: Did) -> bool
     ensures sound { IsTrue result → (d : Seating) → slice_get (slice_index_or seats.now did.core d).answers did.number ≡ Some did }
 {
     match seats.get(did.core as usize) {

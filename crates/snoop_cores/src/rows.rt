@@ -1,7 +1,7 @@
 //! Rows that threads perform, one thread for each seat.
 ghost use Rattle.std.specs.Prelude.{◌≡◌, ℕ, ◌<◌, true, length, IfOk, IfErr, IfSome, IfNone, OnOk, OnErr, All, IsTrue, None, slice_index_or};
 ghost use Rattle.snoop_cores.specs.Seats.{Seating, InOrder};
-ghost use Rattle.snoop_cores.specs.Rows.{RanTo, IsUnheld, IsServed, IsUnserved, RefusesRows};
+ghost use Rattle.snoop_cores.specs.Rows.{RanTo, IsNotLate, IsServed, IsUnserved, RefusesRows};
 
 use crate::fault::RunFault;
 use crate::gate::Gate;
@@ -16,9 +16,9 @@ use std::thread::Threads;
 /// Performs each core's rows in order, with a thread for each seat, and reports where each seat stopped: `None` where it has done
 /// all its rows.
 ///
-/// Before each row it waits for the gate. Where a thread cannot be made, seats share one. A fault leaves all as it was: `NoSeat` names
-/// the core of the first row that has no seat, or whose address is outside the shape of a seat of its core; `NoMemory` where the list
-/// of stops was refused.
+/// Before each row it waits for the gate; a gate that is never late stops no seat. Where a thread cannot be made, seats share one. A
+/// fault leaves all as it was: `NoSeat` names the core of the first row that has no seat, or whose address is outside the shape of a
+/// seat of its core; `NoMemory` where the list of stops was refused.
 pub fn run_seats<R: Threads + Wait + Sync, G: Gate + Sync>(
     rt: &R,
     alloc: Global,
@@ -28,7 +28,7 @@ pub fn run_seats<R: Threads + Wait + Sync, G: Gate + Sync>(
 ) -> Result<Vec<Option<Stop>>, RunFault>
     ensures stops { IfOk result (λ stops. length stops.items ≡ length seats.old) }
     ensures ran { IfOk result (λ stops. (place : ℕ) (d : Seating) → place < length seats.old → RanTo (slice_index_or stops.items place None) rows.now (slice_index_or seats.old place d) (slice_index_or seats.new place d)) }
-    ensures held { G.never_late ≡ true → IfOk result (λ stops. All IsUnheld stops.items) }
+    ensures on_time { G.never_late ≡ true → IfOk result (λ stops. All IsNotLate stops.items) }
     ensures len { length seats.new ≡ length seats.old }
     ensures served { OnOk result (All (IsServed seats.old) rows.now) }
     ensures denied { IfErr result (λ fault. RefusesRows seats.old rows.now fault) }
@@ -64,13 +64,13 @@ fn unserved(seats: &[Seat], rows: &[Row]) -> Option<Row>
     None
 }
 
-// Whether the row is served. Seats in order of core are not searched for it.
+// Whether the row is served. Where seats stand in order of core, the one at its core's place is looked at first.
 fn serves(seats: &[Seat], ordered: bool, row: &Row) -> bool
     requires { ordered ≡ true → InOrder seats.now }
     ensures sound { IsTrue result → IsServed seats.now row.now }
     ensures whole { IsServed seats.now row.now → IsTrue result }
 {
-    (ordered && is_served_in_order(seats, row)) || is_served(seats, row)
+    (ordered && is_served_at_its_place(seats, row)) || is_served(seats, row)
 }
 
 // Whether each seat stands at its core's place.
@@ -86,7 +86,7 @@ pub(crate) fn in_order(seats: &[Seat]) -> bool
 }
 
 // Whether the row is served, by the one seat that its core has where seats stand in order of core.
-fn is_served_in_order(seats: &[Seat], row: &Row) -> bool
+fn is_served_at_its_place(seats: &[Seat], row: &Row) -> bool
     requires { InOrder seats.now }
     ensures sound { IsTrue result → IsServed seats.now row.now }
 {
@@ -123,7 +123,7 @@ fn run_all<R: Threads + Wait + Sync, G: Gate + Sync>(
     requires { 0 < length seats.old }
     ensures len { length seats.new ≡ length seats.old }
     ensures ran { (place : ℕ) (d : Seating) → place < length seats.old → RanTo (slice_index_or seats.new place d).stop rows.now (slice_index_or seats.old place d) (slice_index_or seats.new place d) }
-    ensures held { (place : ℕ) (d : Seating) → place < length seats.old → G.never_late ≡ true → IsUnheld (slice_index_or seats.new place d).stop }
+    ensures on_time { (place : ℕ) (d : Seating) → place < length seats.old → G.never_late ≡ true → IsNotLate (slice_index_or seats.new place d).stop }
 {
     let threads = seats.len();
     thread::for_each_mut(
@@ -131,7 +131,7 @@ fn run_all<R: Threads + Wait + Sync, G: Gate + Sync>(
         seats,
         threads,
         &|_, seat: &mut Seat|
-            ensures { RanTo seat.exit.now.stop rows.entry.now seat.entry.now seat.exit.now × (G.never_late ≡ true → IsUnheld seat.exit.now.stop) }
+            ensures { RanTo seat.exit.now.stop rows.entry.now seat.entry.now seat.exit.now × (G.never_late ≡ true → IsNotLate seat.exit.now.stop) }
         { seat.run(rt, rows, gate) },
     );
 }

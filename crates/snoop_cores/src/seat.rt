@@ -8,7 +8,7 @@ ghost use Rattle.snoop_bench.specs.Works.{Does};
 ghost use Rattle.snoop_versions.specs.Readings.{StartsWith};
 ghost use Rattle.snoop_cores.specs.Seats.{IsNew, Sees};
 ghost use Rattle.snoop_cores.specs.Calls.{MayBegin, Completes, Fails, RefusedAtOnce};
-ghost use Rattle.snoop_cores.specs.Rows.{FailsRow, Grows, IsUnheld, RanTo};
+ghost use Rattle.snoop_cores.specs.Rows.{FailsRow, Grows, IsNotLate, RanTo};
 ghost use Rattle.snoop_cores.specs.declared.fault.ViewFault.TheVariants.{NoBlock, NoVersion};
 
 use crate::fault::{SeatFault, ViewFault};
@@ -263,7 +263,7 @@ impl Seat {
     /// Performs the core's rows, in order, and keeps where it stopped.
     pub(crate) fn run<R: Wait, G: Gate>(&mut self, rt: &R, rows: &[Row], gate: &G)
         ensures ran { RanTo self.new.stop rows.now self.old self.new }
-        ensures held { G.never_late ≡ true → IsUnheld self.new.stop }
+        ensures on_time { G.never_late ≡ true → IsNotLate self.new.stop }
     {
         let stop = self.run_rows(rt, rows, gate);
         self.stop = stop;
@@ -272,7 +272,7 @@ impl Seat {
     // Performs the core's rows, in order, and reports where it stopped.
     fn run_rows<R: Wait, G: Gate>(&mut self, rt: &R, rows: &[Row], gate: &G) -> Option<Stop>
         ensures ran { RanTo result rows.now self.old self.new }
-        ensures held { G.never_late ≡ true → IsUnheld result }
+        ensures on_time { G.never_late ≡ true → IsNotLate result }
     {
         let core = self.core();
         let mut number = 0usize;

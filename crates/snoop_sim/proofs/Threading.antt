@@ -1,9 +1,13 @@
 -- From the threads' answers and the gathered log to the rows.
-use Rattle.std.proofs.Common.{◌≡◌, ℕ, ◌<◌, List, [], ◌++◌, length, All, Option, None, sym, ap, subst, ◌∙◌, arith, inr}
-use Rattle.std.specs.Prelude.{slice_index_or, Result, Ok, Err}
+use Rattle.std.proofs.Common.{◌≡◌, ℕ, ◌<◌, ◌/◌, ◌==◌, List, [], ◌∷◌, ◌++◌, length, take, All, Option, Some, None, Bool, true, nat_lt, if◌then◌else◌, refl, sym, ap, subst, ◌∙◌, arith, inr}
+use Rattle.std.specs.Prelude.{slice_index_or, IsSome, IfErr, Result, Ok, Err}
 use Rattle.std.specs.Result.{IsErrAnd}
-use Rattle.std.proofs.lemmas.List.Elements.{All-get_or}
+use Rattle.std.proofs.lemmas.Bool.Decides.{nat_tests}
+use Rattle.std.proofs.lemmas.List.Elements.{All-filter, All-from_get_or, All-get_or}
+use Rattle.std.proofs.lemmas.Option.{get_or_from_slice_get, slice_get_within}
 use Rattle.snoop_trace.specs.Extent.{Extent}
+use Rattle.snoop_trace.specs.Grammar.{block_at, IsRowWithin}
+use Rattle.snoop_trace.specs.declared.step.Op.{Op}
 use Rattle.snoop_trace.specs.Output.{AppendsFront, steps_text}
 use Rattle.snoop_trace.specs.declared.fault.WriteFault.{WriteFault}
 use Rattle.snoop_trace.specs.declared.fault.WriteFault.TheVariants as write
@@ -13,13 +17,18 @@ use Rattle.snoop_rules.specs.declared.names.Protocol.{Protocol}
 use Rattle.snoop_history.specs.declared.items.Did.{Did}
 use Rattle.snoop_history.specs.declared.items.Item.{Item}
 use Rattle.snoop_history.specs.History.{answers_of}
+use Rattle.snoop_cores.specs.declared.fault.RunFault.{RunFault}
+use Rattle.snoop_cores.specs.declared.fault.RunFault.TheVariants as run
+use Rattle.snoop_cores.specs.declared.fault.SeatFault.{SeatFault}
+use Rattle.snoop_cores.specs.declared.fault.SeatFault.TheVariants as seat
 use Rattle.snoop_cores.specs.declared.stop.Stop.{Stop}
+use Rattle.snoop_cores.specs.declared.stop.Stop.TheVariants.{Fault}
 use Rattle.snoop_cores.specs.Seats.{AreSeats, IsNew, Seating}
-use Rattle.snoop_cores.specs.Rows.{Answers, Grows, RanTo, rows_of}
+use Rattle.snoop_cores.specs.Rows.{Answers, Leaves, Grows, FailsOn, IsRefused, IsServed, RanTo, RefusesRows, rows_of}
 use Rattle.snoop_cores.specs.Joined.{IsJoined}
 use Rattle.snoop_engine.specs.SimulatedRun.{ReadsRows}
 use Rattle.snoop_sim.specs.Threaded.{SimulatesThreads, Threaded}
-use Rattle.snoop_sim.specs.ThreadsFault.{unwritten}
+use Rattle.snoop_sim.specs.ThreadsFault.{IsOfThreads, IsOfFirstStop, not_run, stopped, unwritten}
 use Rattle.snoop_sim.specs.declared.fault.ThreadsFault.{ThreadsFault}
 
 -- a seat that did nothing before has done its rows: its answers, which are its core's operations, are theirs
@@ -52,6 +61,78 @@ threaded protocol shape rows stops old new log steps fresh each same ran none jo
           subst (λ (l : List Item). Answers shape (rows_of core rows) (answers_of l core)) joined.log_is
           (answered_rows shape rows core (slice_index_or old core d) (slice_index_or new core d) log (fresh.1 core d lt) done told);
     }
+
+-- a row within the shape lies in a block of it
+row_block : (shape : Extent) (row : Row) → IsRowWithin shape row → block_at shape row.address ≡ Some (row.address / shape.block_bytes)
+row_block shape row within = ap (λ (b : Bool). if b then Some (row.address / shape.block_bytes) else None) (tests (row.address / shape.block_bytes) shape.blocks within.1)
+  where
+    tests : (block blocks : ℕ) → block < blocks → nat_lt block blocks ≡ true
+    tests block blocks lt = grind (arith, nat_tests)
+
+-- where each core has a new seat, each row within the shape is served
+row_served : (shape : Extent) (seats : List Seating) (row : Row) → AreSeats shape seats → IsRowWithin shape row → IsServed seats row
+row_served shape seats row fresh within = record {
+  has = (row.core, let lt = within.0 in omega (arith, lt, fresh.0), λ d. (fresh.1 row.core d within.0).core_is);
+  within = All-from_get_or (λ (seat : Seating). seat.core ≡ row.core → IsSome (block_at seat.shape row.address)) seats nobody
+      (λ k lt same. subst (λ (e : Extent). IsSome (block_at e row.address)) (sym (fresh.1 k nobody (omega (arith, lt, fresh.0))).shape_is) found);
+}
+  where
+    nobody : Seating
+    nobody = record { core = 0; shape = shape; seen = []; answers = []; pending = None; strange = None; stop = None }
+
+    found : IsSome (block_at shape row.address)
+    found = let some : IsSome (Some (row.address / shape.block_bytes)) = refl in subst (λ (o : Option ℕ). IsSome o) (sym (row_block shape row within)) some
+
+-- so rows within the shape are refused for memory alone
+pub begun : (shape : Extent) (seats : List Seating) (rows : List Row) (fault : RunFault) → AreSeats shape seats → All (IsRowWithin shape) rows → RefusesRows seats rows fault → IsOfThreads (not_run fault)
+begun shape seats rows run.NoMemory fresh within refuses = tt
+begun shape seats rows (run.NoSeat core) fresh within refuses =
+    let row : Row = refuses.0 in
+    let there : slice_index_or rows refuses.1.place row ≡ row = refuses.1.there row in
+    absurd (refuses.1.unserved (row_served shape seats row fresh (subst (IsRowWithin shape) there (All-get_or (IsRowWithin shape) rows refuses.1.place row refuses.1.inside within))))
+
+-- a fault that was turned into this one
+pub turned : {A : Type 0} (answer : Result A ThreadsFault) (fault : ThreadsFault) → IsErrAnd answer (λ (f : ThreadsFault). f ≡ fault) → IsOfThreads fault → IfErr answer IsOfThreads
+turned (Ok a) fault is of = tt
+turned (Err f) fault is of = subst IsOfThreads (sym is) of
+
+-- a seat that was new has nothing pending after its rows
+idle_after : (rows : List Row) (s t : Seating) → s.pending ≡ None → Leaves rows s t → t.pending ≡ None
+idle_after [] s t new leaves = ap (λ (x : Seating). x.pending) leaves ∙ new
+idle_after (row ∷ rows) s t new leaves = leaves.pending
+
+-- what a row within the shape, of a seat with nothing pending, is refused for
+why_refused : (block blocks : ℕ) (fault : SeatFault) (wanted : Op) (s t : Seating) → block < blocks → s.shape.blocks ≡ blocks → s.pending ≡ None → FailsOn (Some block) fault wanted s t → IsOfThreads (stopped fault)
+why_refused block blocks seat.NoBlock wanted s t lt is idle fails = absurd (let outside = fails.0 in omega (arith, lt, is, outside))
+why_refused block blocks seat.NoMemory wanted s t lt is idle fails = tt
+why_refused block blocks (seat.Busy other) wanted s t lt is idle fails = absurd (let e : None ≡ Some other = sym idle ∙ fails.1 in cc)
+why_refused block blocks (seat.Stranger did) wanted s t lt is idle fails = tt
+
+-- what new seats' rows within the shape are refused for
+row_refused : (shape : Extent) (core number : ℕ) (rows : List Row) (s t : Seating) (fault : SeatFault) → IsNew core shape s → All (IsRowWithin shape) rows → IsRefused number fault rows s t → IsOfThreads (stopped fault)
+row_refused shape core number rows s t fault new within refused =
+    let own : List Row = rows_of s.core rows in
+    let lt : number < length own = slice_get_within own number refused.row refused.there in
+    let all : All (IsRowWithin shape) own = All-filter (λ (row : Row). row.core == s.core) (IsRowWithin shape) rows within in
+    let inside : IsRowWithin shape refused.row = subst (IsRowWithin shape) (get_or_from_slice_get own number refused.row refused.row refused.there) (All-get_or (IsRowWithin shape) own number refused.row lt all) in
+    let same : refused.between.shape ≡ shape = refused.grown.stays.shape ∙ new.shape_is in
+    let at : block_at refused.between.shape refused.row.address ≡ Some (refused.row.address / shape.block_bytes) = ap (λ (e : Extent). block_at e refused.row.address) same ∙ row_block shape refused.row inside in
+    why_refused (refused.row.address / shape.block_bytes) shape.blocks fault refused.row.op refused.between t inside.1 (ap (λ (e : Extent). e.blocks) same)
+    (idle_after (take number own) s refused.between new.pending refused.grown.leaves)
+    (subst (λ (o : Option ℕ). FailsOn o fault refused.row.op refused.between t) at refused.fails)
+
+-- the fault of the first seat that stopped is one of threads
+pub first_refused : (shape : Extent) (rows : List Row) (stops : List (Option Stop)) (old new : List Seating) (fault : ThreadsFault)
+    → AreSeats shape old → length stops ≡ length old → All (IsRowWithin shape) rows
+    → ((i : ℕ) (d : Seating) → i < length old → RanTo (slice_index_or stops i None) rows (slice_index_or old i d) (slice_index_or new i d))
+    → IsOfFirstStop stops fault → IsOfThreads fault
+first_refused shape rows stops old new fault fresh each within ran first =
+    let d : Seating = record { core = 0; shape = shape; seen = []; answers = []; pending = None; strange = None; stop = None } in
+    let inside : first.place < length old = let lt = slice_get_within stops first.place (Some (Fault first.number first.refused)) first.there in omega (arith, lt, each) in
+    let stop : slice_index_or stops first.place None ≡ Some (Fault first.number first.refused) = get_or_from_slice_get stops first.place (Some (Fault first.number first.refused)) None first.there in
+    let refused : IsRefused first.number first.refused rows (slice_index_or old first.place d) (slice_index_or new first.place d) =
+    subst (λ (o : Option Stop). RanTo o rows (slice_index_or old first.place d) (slice_index_or new first.place d)) stop (ran first.place d inside) in
+    subst IsOfThreads (sym first.is) (row_refused shape first.place first.number rows (slice_index_or old first.place d) (slice_index_or new first.place d) first.refused (fresh.1 first.place d (omega (arith, inside, fresh.0))) within refused)
 
 -- the steps stand, and their writing broke off
 pub broken_off : (protocol : Protocol) (shape : Extent) (input : Option (List ℕ)) (rows : List Row) (steps : List Step) (fault : WriteFault) (answer : Result (Unit {0}) ThreadsFault) (old new : Option (List ℕ))

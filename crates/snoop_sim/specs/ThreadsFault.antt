@@ -1,6 +1,6 @@
 -- The faults of a simulation in threads.
 -- Source: this project's profile.
-use Rattle.std.specs.Prelude.{⊤}
+use Rattle.std.specs.Prelude.{◌≡◌, ℕ, ⊤, List, take, All, Option, Some, None, slice_get}
 use Rattle.snoop_trace.specs.declared.fault.WriteFault.{WriteFault}
 use Rattle.snoop_trace.specs.declared.fault.WriteFault.TheVariants as write
 use Rattle.snoop_cores.specs.declared.fault.MakeFault.{MakeFault}
@@ -10,6 +10,8 @@ use Rattle.snoop_cores.specs.declared.fault.RunFault.TheVariants as run
 use Rattle.snoop_cores.specs.declared.fault.SeatFault.{SeatFault}
 use Rattle.snoop_cores.specs.declared.fault.SeatFault.TheVariants as seat
 use Rattle.snoop_cores.specs.declared.fault.GatherFault.{GatherFault}
+use Rattle.snoop_cores.specs.declared.stop.Stop.{Stop}
+use Rattle.snoop_cores.specs.declared.stop.Stop.TheVariants.{Fault}
 use Rattle.snoop_cores.specs.declared.fault.GatherFault.TheVariants as joining
 use Rattle.snoop_sim.specs.declared.fault.ThreadsFault.{ThreadsFault}
 use Rattle.snoop_sim.specs.declared.fault.ThreadsFault.TheVariants.{Text, NoMemory, Write, Make, Run, Seat, Gather}
@@ -34,17 +36,28 @@ abbrev pub stopped : SeatFault → ThreadsFault
 stopped seat.NoMemory = NoMemory
 stopped fault = Seat fault
 
+-- the fault is that of the first seat that stopped, which was refused a row
+pub record IsOfFirstStop (stops : List (Option Stop)) (fault : ThreadsFault) : Type 0 where
+  pub place : ℕ
+  pub number : ℕ
+  pub refused : SeatFault
+  pub there : slice_get stops place ≡ Some (Some (Fault number refused))
+  pub before : All (λ stop. stop ≡ None) (take place stops)
+  pub is : fault ≡ stopped refused
+
 -- where the steps were not gathered
 abbrev pub ungathered : GatherFault → ThreadsFault
 ungathered joining.NoMemory = NoMemory
 ungathered fault = Gather fault
 
--- a fault of the threads, and none of the text or the writer; out of memory has one name
+-- a fault of the threads: none of the text or the writer, and none that new seats, one for each core, never give for rows within the shape; out of memory has one name
 abbrev pub IsOfThreads : ThreadsFault → Type 0
 IsOfThreads (Text fault) = ⊥
 IsOfThreads Write = ⊥
 IsOfThreads (Make make.NoMemory) = ⊥
-IsOfThreads (Run run.NoMemory) = ⊥
+IsOfThreads (Run fault) = ⊥
 IsOfThreads (Seat seat.NoMemory) = ⊥
+IsOfThreads (Seat seat.NoBlock) = ⊥
+IsOfThreads (Seat (seat.Busy other)) = ⊥
 IsOfThreads (Gather joining.NoMemory) = ⊥
 IsOfThreads _ = ⊤

@@ -19,7 +19,7 @@ pub enum ThreadsFault {
     /// The shared machine was not made.
     #[error(transparent)]
     Make(MakeFault),
-    /// The rows were not begun.
+    /// The rows were not begun. It never comes for rows within the shape, where each core has a seat.
     #[error(transparent)]
     Run(RunFault),
     /// A seat was refused a row.

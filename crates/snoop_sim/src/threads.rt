@@ -1,13 +1,11 @@
 //! The command `threads`: the rows of a text, each core's in a thread of its own.
-ghost use Rattle.std.specs.Prelude.{◌≡◌, ◌≢◌, ℕ, ◌<◌, ◌-◌, ◌^◌, true, length, All, Contains, Err, Some, None, IfErr, IfOk, OnErr, OnOk, IsSomeAnd};
+ghost use Rattle.std.specs.Prelude.{◌≡◌, ◌≢◌, ◌<◌, ◌-◌, ◌^◌, true, length, All, Err, None, IfErr, IfOk, OnOk, IsSomeAnd};
 ghost use Rattle.snoop_cores.specs.Seats.{AreSeats};
 ghost use Rattle.snoop_trace.specs.Grammar.{IsRowWithin};
 ghost use Rattle.snoop_trace.specs.declared.fault.TextFault.TheVariants as text_fault;
 ghost use Rattle.snoop_sim.specs.Threaded.{SimulatesThreads, Threaded};
-ghost use Rattle.snoop_cores.specs.Rows.{IsUnheld};
-ghost use Rattle.snoop_cores.specs.declared.stop.Stop.TheVariants.{Fault as StopFault};
-ghost use Rattle.snoop_cores.specs.declared.fault.SeatFault.{SeatFault};
-ghost use Rattle.snoop_sim.specs.ThreadsFault.{IsOfThreads, stopped};
+ghost use Rattle.snoop_cores.specs.Rows.{IsNotLate};
+ghost use Rattle.snoop_sim.specs.ThreadsFault.{IsOfThreads, IsOfFirstStop};
 
 use crate::fault::ThreadsFault;
 use snoop_cores::{Free, Seat, Shared, Stop, gather, run_seats};
@@ -71,7 +69,8 @@ fn take_seated<T: Threads + Wait + Sync>(
     seats: &mut [Seat],
     rows: &[Row],
 ) -> Result<Vec<Step>, ThreadsFault>
-    requires { AreSeats shared.now.shape seats.old }
+    requires seats { AreSeats shared.now.shape seats.old }
+    requires rows { All (IsRowWithin shared.now.shape) rows.now }
     ensures ok { IfOk result (λ steps. Threaded shared.now.protocol shared.now.shape rows.now steps.items) }
     ensures err { IfErr result IsOfThreads }
 {
@@ -81,12 +80,11 @@ fn take_seated<T: Threads + Wait + Sync>(
     Ok(gathered.steps)
 }
 
-/// The fault of the first seat that stopped at one of its rows. No gate stopped it.
+/// The fault of the first seat that stopped, which a gate did not stop.
 fn check_stops(stops: &[Option<Stop>]) -> Result<(), ThreadsFault>
-    requires { All IsUnheld stops.now }
+    requires { All IsNotLate stops.now }
     ensures ok { OnOk result (All (λ stop. stop ≡ None) stops.now) }
-    ensures err { IfErr result IsOfThreads }
-    ensures which { IfErr result (λ fault. (number : ℕ) × (refused : SeatFault) × Contains stops.now (Some (StopFault number refused)) × (fault ≡ stopped refused)) }
+    ensures err { IfErr result (λ fault. IsOfFirstStop stops.now fault) }
 {
     for stop in stops {
         match *stop {

@@ -2,7 +2,7 @@ use Rattle.std.proofs.Common.{◌≡◌, ◌<◌, ℕ, length}
 use Rattle.std.specs.Prelude.{slice_index_or}
 use Rattle.snoop_history.specs.History.{next_number}
 use Rattle.snoop_cores.specs.Seats.{Seating}
-use Rattle.snoop_cores.proofs.gathering.have_as_many.Given as goal
+use Rattle.snoop_cores.proofs.gathering.counts_match.Given as goal
 
 abbrev pub invariant-loop-seat : goal.invariant-loop-seat
 invariant-loop-seat l = (core : ℕ) (d : Seating) → core < l.seat-index → length (slice_index_or l.seats core d).answers ≡ next_number l.log.items core

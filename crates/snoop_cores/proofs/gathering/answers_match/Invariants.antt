@@ -2,7 +2,7 @@ use Rattle.std.proofs.Common.{◌≡◌, ◌≤◌, ◌<◌, ℕ, length, take}
 use Rattle.std.specs.Prelude.{slice_index_or}
 use Rattle.snoop_history.specs.History.{answers_of, next_number}
 use Rattle.snoop_cores.specs.Seats.{Seating}
-use Rattle.snoop_cores.proofs.gathering.are_answered.Given as goal
+use Rattle.snoop_cores.proofs.gathering.answers_match.Given as goal
 
 -- so far each core's operations are the first answers at its place
 abbrev pub invariant-loop-place : goal.invariant-loop-place
