@@ -1,4 +1,4 @@
--- A pair's line in the text of a table, by the relation.
+-- A pair's line in the text of a table.
 use Rattle.std.proofs.Common.{◌≡◌, Option, [], ap}
 use Rattle.std.specs.Option.{option_map_or}
 use Rattle.snoop_rules.specs.declared.names.Protocol.{Protocol}

@@ -1,9 +1,7 @@
 pub mod Cell
 pub mod MemoryCell
-pub mod MemoryRow
 pub mod Names
 pub mod Possible
-pub mod Row
 pub mod TableOrder
 pub mod TableText
 pub mod Takers

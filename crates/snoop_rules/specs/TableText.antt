@@ -13,8 +13,8 @@ use Rattle.snoop_rules.specs.declared.names.MemCell.{MemCell}
 use Rattle.snoop_rules.specs.declared.table_text.Which.{Which}
 use Rattle.snoop_rules.specs.declared.table_text.Which.TheVariants.{Cache, Memory}
 use Rattle.snoop_rules.specs.Names.{state_name, event_name, action_text, memory_state_name, memory_event_name, memory_action_text}
-use Rattle.snoop_rules.specs.Row.{cell_of}
-use Rattle.snoop_rules.specs.MemoryRow.{memory_cell_of}
+use Rattle.snoop_rules.specs.Cell.{cell_of}
+use Rattle.snoop_rules.specs.MemoryCell.{memory_cell_of}
 use Rattle.snoop_rules.specs.TableOrder.{cache_states, cache_events, memory_states, memory_events}
 
 -- one line: state, event, action, next state

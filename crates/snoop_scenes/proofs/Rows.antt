@@ -7,10 +7,8 @@ use Rattle.snoop_rules.specs.declared.names.CacheAction.{CacheAction}
 use Rattle.snoop_rules.specs.declared.names.MemState.{MemState}
 use Rattle.snoop_rules.specs.declared.names.MemEvent.{MemEvent}
 use Rattle.snoop_rules.specs.declared.names.MemAction.{MemAction}
-use Rattle.snoop_rules.specs.Cell.{Cell}
-use Rattle.snoop_rules.specs.Row.{cell_of}
-use Rattle.snoop_rules.specs.MemoryCell.{MemoryCell}
-use Rattle.snoop_rules.specs.MemoryRow.{memory_cell_of}
+use Rattle.snoop_rules.specs.Cell.{Cell, cell_of}
+use Rattle.snoop_rules.specs.MemoryCell.{MemoryCell, memory_cell_of}
 use Rattle.snoop_rules.proofs.Rows.{Cell-found}
 use Rattle.snoop_rules.proofs.MemRows.{MemoryCell-found}
 use Rattle.snoop_scenes.proofs.Deciding.{if_some}

@@ -23,7 +23,7 @@ use Rattle.snoop_rules.specs.WhoSends.{SentAs}
 use Rattle.snoop_rules.specs.Possible.{IsImpossible, IsMemImpossible, MayLoad, MayStore}
 use Rattle.snoop_rules.specs.Takers.{asked, arrival, arrival_at_memory, carries_value}
 use Rattle.snoop_rules.specs.Waits.{waiting_request}
-use Rattle.snoop_rules.specs.Row.{cell_of}
+use Rattle.snoop_rules.specs.Cell.{cell_of}
 use Rattle.snoop_rules.proofs.Rows.{cell_of-Cell, Cell-found}
 use Rattle.snoop_rules.proofs.MemRows.{MemoryCell-found}
 use Rattle.snoop_history.specs.History.{flat}

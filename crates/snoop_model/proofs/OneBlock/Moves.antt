@@ -1,4 +1,4 @@
--- The moves of the definitions are steps of one block by the rows as a function.
+-- The moves of the definitions are steps of one block.
 use Rattle.std.proofs.Common.{◌≡◌, ℕ, ◌<◌, Bool, true, false, cond, List, length, Option, Some, None, refl, ap, sym, ◌∙◌, subst}
 use Rattle.std.specs.Prelude.{slice_set, MatchBool}
 use Rattle.std.proofs.lemmas.List.{get_or-set_same, get_or-set_other}
@@ -17,13 +17,11 @@ use Rattle.snoop_rules.specs.declared.names.Request.{Request}
 use Rattle.snoop_rules.specs.declared.names.Request.TheVariants as request
 use Rattle.snoop_rules.specs.declared.names.Payload.{Payload}
 use Rattle.snoop_rules.specs.declared.names.Target.{Target}
-use Rattle.snoop_rules.specs.Cell.{Cell}
-use Rattle.snoop_rules.specs.MemoryCell.{MemoryCell}
+use Rattle.snoop_rules.specs.Cell.{Cell, cell_of}
+use Rattle.snoop_rules.specs.MemoryCell.{MemoryCell, memory_cell_of}
 use Rattle.snoop_rules.specs.Takers.{asked, seen_by, at_memory, arrival, arrival_at_memory, takes_payload}
 use Rattle.snoop_rules.specs.declared.names.CacheCell.{CacheCell}
 use Rattle.snoop_rules.specs.declared.names.MemCell.{MemCell}
-use Rattle.snoop_rules.specs.Row.{cell_of}
-use Rattle.snoop_rules.specs.MemoryRow.{memory_cell_of}
 use Rattle.snoop_rules.proofs.Rows.{cell_of-Cell, Cell-found}
 use Rattle.snoop_rules.proofs.MemRows.{memory_cell_of-MemoryCell, MemoryCell-found}
 use Rattle.snoop_history.specs.declared.items.Did.{Did}
@@ -40,7 +38,7 @@ use Rattle.snoop_model.specs.Pictures.Situation.{Situation, picture_of}
 use Rattle.snoop_model.proofs.OneBlock.Steps as one
 use Rattle.snoop_model.proofs.OneBlock.Steps.{Done, Loaded, Stored, sent_by, sent_by_memory, row_of, mem_row_of}
 
--- who sends by the relations sends by the rows, and the other way round
+-- who sends, said by the row's parts, is who sends by the row, and the other way round
 pub sends_by_row : (p : Protocol) (before : Picture) (c : ℕ) (q : Request) (from : Option ℕ) (sent : Payload) → Sends p before c q from sent → one.Sends p (length before.caches) before c q from sent
 sends_by_row p before c q None sent h = ap sent_by_memory (memory_cell_of-MemoryCell p before.memory (at_memory q) (mem_action.Send sent) h.0 h.1)
 sends_by_row p before c q (Some d) sent h = (h.0, ap sent_by (cell_of-Cell p (held_by before d).state (seen_by d c q) (action.Send sent h.1.0) h.1.1.0 h.1.1.1))

@@ -14,8 +14,8 @@ use Rattle.snoop_rules.specs.Waits.{waiting_request}
 use Rattle.snoop_rules.specs.Takers.{own, other, seen_by, at_memory, carries_value}
 use Rattle.snoop_rules.specs.declared.names.CacheCell.{CacheCell}
 use Rattle.snoop_rules.specs.declared.names.MemCell.{MemCell}
-use Rattle.snoop_rules.specs.Row.{cell_of}
-use Rattle.snoop_rules.specs.MemoryRow.{memory_cell_of}
+use Rattle.snoop_rules.specs.Cell.{cell_of}
+use Rattle.snoop_rules.specs.MemoryCell.{memory_cell_of}
 use Rattle.snoop_rules.proofs.Rows.{Cell-found}
 use Rattle.snoop_history.specs.Totals.{is_put_m, is_data}
 use Rattle.snoop_bus.specs.declared.transactions.Open.{Open}

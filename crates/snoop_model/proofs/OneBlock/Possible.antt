@@ -13,8 +13,8 @@ use Rattle.snoop_rules.specs.Waits.{waiting_request}
 use Rattle.snoop_rules.specs.Takers.{asked, other, seen_by, at_memory, arrival, arrival_at_memory, takes_payload}
 use Rattle.snoop_rules.specs.declared.names.CacheCell.{CacheCell}
 use Rattle.snoop_rules.specs.declared.names.MemCell.{MemCell}
-use Rattle.snoop_rules.specs.Row.{cell_of}
-use Rattle.snoop_rules.specs.MemoryRow.{memory_cell_of}
+use Rattle.snoop_rules.specs.Cell.{cell_of}
+use Rattle.snoop_rules.specs.MemoryCell.{memory_cell_of}
 use Rattle.snoop_rules.proofs.Every.{all_states-at}
 use Rattle.snoop_history.specs.Totals.{is_put_m}
 use Rattle.snoop_bus.specs.declared.transactions.Open.{Open}

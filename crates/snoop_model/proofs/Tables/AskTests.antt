@@ -11,7 +11,7 @@ use Rattle.snoop_rules.specs.declared.names.CacheAction.TheVariants as action
 use Rattle.snoop_rules.specs.declared.names.Request.{Request}
 use Rattle.snoop_rules.specs.Takers.{asked}
 use Rattle.snoop_rules.specs.declared.names.CacheCell.{CacheCell}
-use Rattle.snoop_rules.specs.Row.{cell_of}
+use Rattle.snoop_rules.specs.Cell.{cell_of}
 use Rattle.snoop_rules.proofs.Every.{all_protocols, all_protocols-at, all_states, all_states-at, all_memories, all_requests, all_payloads}
 use Rattle.snoop_model.specs.Invariant.Fits.{claims_of, is_owner, is_sharer, is_clean, is_reader, wait_fits, in_protocol, same, fits}
 use Rattle.snoop_model.proofs.Tables.Every.{either, either-at, when, when_at, given, given_at, all_asks, all_asks-at, all_waits, all_waits-at}

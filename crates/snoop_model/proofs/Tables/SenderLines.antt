@@ -17,7 +17,7 @@ use Rattle.snoop_rules.specs.MemoryCell.{MemoryCell}
 use Rattle.snoop_rules.specs.Takers.{arrival_at_memory, takes_payload}
 use Rattle.snoop_rules.specs.WhoSends.{SentAs}
 use Rattle.snoop_rules.specs.declared.names.MemCell.{MemCell}
-use Rattle.snoop_rules.specs.MemoryRow.{memory_cell_of}
+use Rattle.snoop_rules.specs.MemoryCell.{memory_cell_of}
 use Rattle.snoop_rules.proofs.MemRows.{MemoryCell-found}
 use Rattle.snoop_model.specs.Pictures.Picture.{Picture, held_by}
 use Rattle.snoop_model.specs.Moves.SenderTable.{Settles}

@@ -9,7 +9,7 @@ use Rattle.snoop_rules.specs.declared.names.CacheAction.TheVariants as action
 use Rattle.snoop_rules.specs.declared.names.MemState.{MemState}
 use Rattle.snoop_rules.specs.declared.names.Request.{Request}
 use Rattle.snoop_rules.specs.Takers.{carries_value}
-use Rattle.snoop_rules.specs.Row.{cell_of}
+use Rattle.snoop_rules.specs.Cell.{cell_of}
 use Rattle.snoop_rules.proofs.Every.{all_protocols, all_protocols-at, all_states, all_states-at, all_memories, all_memories-at, all_requests, all_payloads}
 use Rattle.snoop_history.specs.Totals.{is_put_m}
 use Rattle.snoop_model.specs.Pictures.Picture.{kept_on}
