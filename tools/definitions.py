@@ -23,9 +23,9 @@ THEOREM = TOP / "crates" / "snoop_model" / "src" / "laws.rt"
 HEAD = """# Definitions
 
 The words that contracts are written in, by crate and file: what is proved is proved of these. Most of them say a thing in another way than the code does it. Which request waits is
-read off a core's state, where the code has queues; flat values and counts are recomputed from the whole history, where it has running numbers; a cell of the tables is a relation by cases, where it has
-packed bytes. Some follow the code closely: how a record is read, field by field (`Grammar.antt`), and how counts grow by one item (`tallied` in `Journal.antt`), where it is proved that what grows
-so is the count of the whole list.
+read off a core's state, where the code has queues; flat values and counts are recomputed from the whole history, where it has running numbers. Some follow the code closely: the controllers'
+tables (`cell_of`, `memory_cell_of`), a line for each row as in docs/PROTOCOL.md; how a record is read, field by field (`Grammar.antt`); and how counts grow by one item (`tallied` in `Journal.antt`), where
+it is proved that what grows so is the count of the whole list.
 
 A ● marks the words that the coherence theorem `laws::coherent` stands on; `tools/definitions.py --headline` lists these alone, each after those that it is made of.
 
