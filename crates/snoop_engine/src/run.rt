@@ -1,6 +1,7 @@
 //! The command `run`: the rows of a text, one at a time on each core.
 ghost use Rattle.std.specs.Prelude.{◌≡◌, ◌≢◌, ◌<◌, ◌-◌, ◌^◌, true, length, All, Err, OnOk, OnErr, IsSomeAnd};
 ghost use Rattle.snoop_trace.specs.Grammar.{IsRowWithin};
+ghost use Rattle.snoop_trace.specs.Output.{BlamesWriter};
 ghost use Rattle.snoop_trace.specs.declared.fault.TextFault.TheVariants as text_fault;
 ghost use Rattle.snoop_engine.specs.Driven.{WritesDriven, WritesDrivenFront};
 ghost use Rattle.snoop_engine.specs.SimulatedRun.{BeginsRun, ReportsRun, SimulatesRun};
@@ -29,6 +30,8 @@ pub fn simulate_run<R: Source + Drop, W: Sink>(
     // A reader or a writer whose contract rules failure out is never blamed.
     ensures reads { R.never_fails ≡ true → IsSomeAnd (R.remaining reader) (λ bytes. length bytes < 2 ^ 64 - 1) → result ≢ Err (SimFault.Text text_fault.Read) }
     ensures writes { W.never_fails ≡ true → result ≢ Err SimFault.Write }
+    // The writer is blamed exactly where a write failed, and then no other is tried.
+    ensures blamed { BlamesWriter (W.failed writer.old) (W.failed writer.new) (result ≡ Err SimFault.Write) }
 {
     let rows = read_rows(alloc, reader, shape).map_err(SimFault::Text)?;
     write_run(alloc, writer, protocol, shape, rows)?;
@@ -47,6 +50,7 @@ fn write_run<W: Sink>(
     ensures ok { OnOk result (ReportsRun protocol shape rows.items (W.contents writer.old) (W.contents writer.new)) }
     ensures front { OnErr result (BeginsRun protocol shape rows.items (W.contents writer.old) (W.contents writer.new)) }
     ensures never_blamed { W.never_fails ≡ true → result ≢ Err WriteFault.Write }
+    ensures blamed { BlamesWriter (W.failed writer.old) (W.failed writer.new) (result ≡ Err WriteFault.Write) }
 {
     let mut driver = Driver::new(alloc, protocol, shape, rows)?;
     write_driven(alloc, writer, shape, &mut driver)?;
@@ -64,6 +68,7 @@ fn write_driven<W: Sink>(
     ensures ok { OnOk result (WritesDriven shape driver.old driver.new (W.contents writer.old) (W.contents writer.new)) }
     ensures front { OnErr result (WritesDrivenFront shape driver.old (W.contents writer.old) (W.contents writer.new)) }
     ensures never_blamed { W.never_fails ≡ true → result ≢ Err WriteFault.Write }
+    ensures blamed { BlamesWriter (W.failed writer.old) (W.failed writer.new) (result ≡ Err WriteFault.Write) }
 {
     let mut chunk = Vec::new(alloc);
     while let Some((step, reply)) = driver.next()? {

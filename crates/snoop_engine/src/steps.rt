@@ -2,6 +2,7 @@
 ghost use Rattle.std.specs.Prelude.{◌≡◌, ◌≢◌, ◌<◌, ◌++◌, ◌-◌, ◌^◌, true, length, Err, OnOk, OnErr, IsSomeAnd, Result};
 ghost use Rattle.snoop_model.specs.declared.replies.Reply.{Reply as Answer};
 ghost use Rattle.snoop_model.specs.declared.replies.Refused.{Refused as Cause};
+ghost use Rattle.snoop_trace.specs.Output.{BlamesWriter};
 ghost use Rattle.snoop_trace.specs.declared.fault.TextFault.TheVariants as text_fault;
 ghost use Rattle.snoop_engine.specs.Line.{line_text};
 ghost use Rattle.snoop_engine.specs.Simulated.{Begins, Reports, Simulates};
@@ -32,6 +33,8 @@ pub fn simulate_steps<R: Source + Drop, W: Sink>(
     // A reader or a writer whose contract rules failure out is never blamed.
     ensures reads { R.never_fails ≡ true → IsSomeAnd (R.remaining reader) (λ bytes. length bytes < 2 ^ 64 - 1) → result ≢ Err (SimFault.Text text_fault.Read) }
     ensures writes { W.never_fails ≡ true → result ≢ Err SimFault.Write }
+    // The writer is blamed exactly where a write failed, and then no other is tried.
+    ensures blamed { BlamesWriter (W.failed writer.old) (W.failed writer.new) (result ≡ Err SimFault.Write) }
 {
     let steps = read_steps(alloc, reader, shape).map_err(SimFault::Text)?;
     write_output(alloc, writer, protocol, shape, &steps)?;
@@ -49,6 +52,7 @@ fn write_output<W: Sink>(
     ensures ok { OnOk result (Reports protocol shape steps.now (W.contents writer.old) (W.contents writer.new)) }
     ensures front { OnErr result (Begins protocol shape steps.now (W.contents writer.old) (W.contents writer.new)) }
     ensures never_blamed { W.never_fails ≡ true → result ≢ Err WriteFault.Write }
+    ensures blamed { BlamesWriter (W.failed writer.old) (W.failed writer.new) (result ≡ Err WriteFault.Write) }
 {
     runs_go_on();
     let mut machine = Machine::reset(alloc, protocol, shape)?;
@@ -68,6 +72,7 @@ fn write_lines<W: Sink>(
     ensures ok { OnOk result (WritesLines shape machine.old.situation steps.now machine.new.situation (W.contents writer.old) (W.contents writer.new)) }
     ensures front { OnErr result (WritesFront shape machine.old.situation steps.now (W.contents writer.old) (W.contents writer.new)) }
     ensures never_blamed { W.never_fails ≡ true → result ≢ Err WriteFault.Write }
+    ensures blamed { BlamesWriter (W.failed writer.old) (W.failed writer.new) (result ≡ Err WriteFault.Write) }
 {
     let mut chunk = Vec::new(alloc);
     for step in steps {

@@ -1,7 +1,7 @@
 //! The report of a history.
 ghost use Rattle.std.specs.Prelude.{All, ◌≡◌, ◌≢◌, ◌<◌, ◌++◌, true, OnOk, OnErr, Err};
 ghost use Rattle.std.specs.Io.KnownBytes.{Appends};
-ghost use Rattle.snoop_trace.specs.Output.{AppendsFront};
+ghost use Rattle.snoop_trace.specs.Output.{AppendsFront, BlamesWriter};
 ghost use Rattle.snoop_history.specs.Totals.{touched};
 ghost use Rattle.snoop_history.specs.Report.{loads_text, stores_text, requests_text, sources_text, writebacks_text, totals_text, block_text, blocks_text, report_of};
 
@@ -114,6 +114,7 @@ pub fn write_report<W: Sink>(alloc: Global, writer: &mut W, log: &Log) -> Result
     ensures memory { result ≡ Err WriteFault.NoMemory → W.contents writer.new ≡ W.contents writer.old }
 
     ensures never_blamed { W.never_fails ≡ true → result ≢ Err WriteFault.Write }
+    ensures blamed { BlamesWriter (W.failed writer.old) (W.failed writer.new) (result ≡ Err WriteFault.Write) }
 {
     let mut report = Vec::new(alloc);
     push_report(&mut report, log, log.touched())?;

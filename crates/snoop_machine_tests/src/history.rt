@@ -300,13 +300,13 @@ impl Write for Brief {
 fn failing_writer(rt: HostRuntime) -> Result<(), Fail> {
     let shape = Shape::new(2, 4, 64)?;
     let log = log_of(rt.alloc(), shape, block_boundary().as_slice())?;
-    let mut writer = AnyWriter(Brief {
+    let mut writer = AnyWriter::new(Brief {
         held: Vec::new(rt.alloc()),
         left: 12,
     });
     let written = write_report(rt.alloc(), &mut writer, &log);
     assert_eq!(rt;
-        (written, writer.0.held.as_slice()),
+        (written, writer.inner.held.as_slice()),
         (Err(WriteFault::Write), b"loads 1 hits".as_slice())
     );
     Ok(())

@@ -230,13 +230,12 @@ fn cut_off(
     which: Which,
     room: usize,
 ) -> (Result<(), WriteFault>, Vec<u8>) {
-    let mut writer = AnyWriter(Narrow {
+    let mut writer = AnyWriter::new(Narrow {
         held: Vec::new(alloc),
         room,
     });
     let written = write_table(alloc, &mut writer, protocol, which);
-    let AnyWriter(Narrow { held, .. }) = writer;
-    (written, held)
+    (written, writer.inner.held)
 }
 
 #[test]

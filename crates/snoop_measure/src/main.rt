@@ -69,13 +69,13 @@ fn measure_steps<R: Clock + Print + Eprint>(
     let taken = run_steps(&mut machine, &steps);
     let stepped = start.elapsed(rt)?;
 
-    let mut output = AnyWriter(Counter::default());
+    let mut output = AnyWriter::new(Counter::default());
     let start = Instant::now(rt)?;
     simulate_steps(alloc, text.as_slice(), &mut output, Protocol::Msi, shape)?;
     let simulated = start.elapsed(rt)?;
 
     println!(rt; "steps {} taken {taken}", steps.len())?;
-    println!(rt; "text {} output {}", text.len(), output.0.bytes)?;
+    println!(rt; "text {} output {}", text.len(), output.inner.bytes)?;
     eprintln!(rt; "read {read:?}, taken {stepped:?}, simulated {simulated:?}")?;
     Ok(())
 }

@@ -2,7 +2,7 @@
 ghost use Rattle.std.specs.Prelude.{◌≡◌, ◌≢◌, ◌++◌, ℕ, List, true, Some, Err, OnOk, OnErr};
 ghost use Rattle.std.specs.List.{flat_map};
 ghost use Rattle.std.specs.Io.KnownBytes.{Appends};
-ghost use Rattle.snoop_trace.specs.Output.{AppendsFront};
+ghost use Rattle.snoop_trace.specs.Output.{AppendsFront, BlamesWriter};
 ghost use Rattle.snoop_rules.specs.TableOrder.{cache_events, memory_events};
 ghost use Rattle.snoop_rules.specs.TableText.{cache_line_at, cache_text, memory_line_at, memory_text, row_line, table_text};
 
@@ -34,6 +34,7 @@ pub fn write_table<W: Sink>(
     ensures front { OnErr result (AppendsFront (W.contents writer.old) (W.contents writer.new) (table_text protocol which)) }
     ensures no_memory { result ≡ Err WriteFault.NoMemory → W.contents writer.new ≡ W.contents writer.old }
     ensures never_blamed { W.never_fails ≡ true → result ≢ Err WriteFault.Write }
+    ensures blamed { BlamesWriter (W.failed writer.old) (W.failed writer.new) (result ≡ Err WriteFault.Write) }
 {
     let mut text = Vec::new(alloc);
     match which {

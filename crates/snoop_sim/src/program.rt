@@ -1,8 +1,9 @@
 //! What the program does with its words and streams, and the status that it ends with.
-ghost use Rattle.std.specs.Prelude.{◌≡◌, ◌≢◌, ◌<◌, ℕ, List, map, string_bytes, true, IfErr};
+ghost use Rattle.std.specs.Prelude.{◌≡◌, ◌≢◌, ◌<◌, ℕ, List, map, string_bytes, true, Err, IfErr};
 ghost use Rattle.std.specs.IoError.{error_kind};
+ghost use Rattle.snoop_trace.specs.Output.{BlamesWriter};
 ghost use Rattle.snoop_sim.specs.Status.{status_of};
-ghost use Rattle.snoop_sim.specs.Performed.{Ends, IsFairToReader, Leaves, Performs, Writes};
+ghost use Rattle.snoop_sim.specs.Performed.{Ends, IsFairToReader, Leaves, Performs, Writes, status_of_ending};
 
 use crate::failure::Failure;
 use crate::options::{Task, task_in};
@@ -37,6 +38,8 @@ pub fn command<T: Threads + Wait + Sync, R: Source + Drop, W: Sink, E: Write>(
     // Refused threads have written nothing.
     ensures refused { result ≡ 5 → W.contents writer.new ≡ W.contents writer.old }
     ensures never_blamed { W.never_fails ≡ true → result ≢ 4 }
+    // The status is 4 exactly where a write failed, and then no other is tried.
+    ensures blamed { BlamesWriter (W.failed writer.old) (W.failed writer.new) (result ≡ 4) }
 {
     match perform(rt, alloc, words, reader, writer) {
         Ok(()) => 0,
@@ -66,6 +69,7 @@ fn perform<T: Threads + Wait + Sync, R: Source + Drop, W: Sink>(
     ensures unwritten { IfErr result (λ failure. status_of failure < 3 → W.contents writer.new ≡ W.contents writer.old) }
     ensures refused { IfErr result (λ failure. status_of failure ≡ 5 → W.contents writer.new ≡ W.contents writer.old) }
     ensures never_blamed { IfErr result (λ failure. W.never_fails ≡ true → status_of failure ≢ 4) }
+    ensures blamed { BlamesWriter (W.failed writer.old) (W.failed writer.new) (status_of_ending result ≡ 4) }
 {
     let task = task_in(alloc, words)?;
     perform_task(rt, alloc, task, reader, writer)
@@ -83,6 +87,7 @@ fn perform_task<T: Threads + Wait + Sync, R: Source + Drop, W: Sink>(
     ensures unwritten { IfErr result (λ failure. status_of failure < 3 → W.contents writer.new ≡ W.contents writer.old) }
     ensures refused { IfErr result (λ failure. status_of failure ≡ 5 → W.contents writer.new ≡ W.contents writer.old) }
     ensures never_blamed { IfErr result (λ failure. W.never_fails ≡ true → status_of failure ≢ 4) }
+    ensures blamed { BlamesWriter (W.failed writer.old) (W.failed writer.new) (status_of_ending result ≡ 4) }
 {
     match task {
         Task::Help(help) => write_help(alloc, writer, &help)?,
@@ -101,6 +106,7 @@ fn perform_task<T: Threads + Wait + Sync, R: Source + Drop, W: Sink>(
 fn write_help<W: Sink>(alloc: Global, writer: &mut W, help: &clap::Error) -> Result<(), SimFault>
     ensures does { (text : List ℕ) × Writes text result (W.contents writer.old) (W.contents writer.new) }
     ensures never_blamed { IfErr result (λ fault. W.never_fails ≡ true → fault ≢ SimFault.Write) }
+    ensures blamed { BlamesWriter (W.failed writer.old) (W.failed writer.new) (result ≡ Err SimFault.Write) }
 {
     let Ok(text) = format!(in alloc; "{help}") else {
         return Err(SimFault::NoMemory);

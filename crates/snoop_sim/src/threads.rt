@@ -2,6 +2,7 @@
 ghost use Rattle.std.specs.Prelude.{◌≡◌, ◌≢◌, ◌<◌, ◌-◌, ◌^◌, true, length, All, Err, None, IfErr, IfOk, OnOk, IsSomeAnd};
 ghost use Rattle.snoop_cores.specs.Seats.{AreSeats};
 ghost use Rattle.snoop_trace.specs.Grammar.{IsRowWithin};
+ghost use Rattle.snoop_trace.specs.Output.{BlamesWriter};
 ghost use Rattle.snoop_trace.specs.declared.fault.TextFault.TheVariants as text_fault;
 ghost use Rattle.snoop_sim.specs.Threaded.{SimulatesThreads, Threaded};
 ghost use Rattle.snoop_cores.specs.Rows.{IsNotLate};
@@ -34,6 +35,8 @@ pub fn simulate_threads<T: Threads + Wait + Sync, R: Source + Drop, W: Sink>(
     // A reader or a writer whose contract rules failure out is never blamed.
     ensures reads { R.never_fails ≡ true → IsSomeAnd (R.remaining reader) (λ bytes. length bytes < 2 ^ 64 - 1) → result ≢ Err (ThreadsFault.Text text_fault.Read) }
     ensures writes { W.never_fails ≡ true → result ≢ Err ThreadsFault.Write }
+    // The writer is blamed exactly where a write failed, and then no other is tried.
+    ensures blamed { BlamesWriter (W.failed writer.old) (W.failed writer.new) (result ≡ Err ThreadsFault.Write) }
 {
     let rows = read_rows(alloc, reader, shape).map_err(ThreadsFault::Text)?;
     let steps = take_rows(rt, alloc, protocol, shape, rows)?;

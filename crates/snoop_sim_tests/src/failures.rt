@@ -67,9 +67,9 @@ fn fails_at_each_call<T: Abort + Threads + Wait + Sync>(
 ) -> Result<usize, Fail> {
     let output = engine.output();
     for calls in 0..AMPLE {
-        let mut writer = AnyWriter(FailingWriter::new(alloc, calls, most, fault));
+        let mut writer = AnyWriter::new(FailingWriter::new(alloc, calls, most, fault));
         let ended = engine.simulate(rt, alloc, engine.text(), &mut writer, Protocol::Msi)?;
-        let writer = writer.0;
+        let writer = writer.inner;
         let held = writer.held.as_slice();
         if !writer.failed {
             assert_eq!(rt; (ended, held), (Ok(()), output), "{engine:?}");
@@ -213,7 +213,7 @@ fn commands(rt: HostRuntime) -> Result<(), Fail> {
             left,
             most: AMPLE,
         });
-        let mut output = AnyWriter(FailingWriter::new(alloc, calls, AMPLE, Fault::Refuses));
+        let mut output = AnyWriter::new(FailingWriter::new(alloc, calls, AMPLE, Fault::Refuses));
         let mut errors = FailingWriter::new(alloc, errors_calls, AMPLE, Fault::Refuses);
         let ended = command(
             &rt,
@@ -225,12 +225,12 @@ fn commands(rt: HostRuntime) -> Result<(), Fail> {
         );
         let written = if status == 0 { engine.output() } else { b"" };
         assert_eq!(rt;
-            (ended, errors.held.as_slice(), output.0.held.as_slice()),
+            (ended, errors.held.as_slice(), output.inner.held.as_slice()),
             (status, reported.as_bytes(), written),
             "{line}"
         );
         assert_eq!(rt;
-            (output.0.calls_after, errors.calls_after),
+            (output.inner.calls_after, errors.calls_after),
             (0, 0),
             "{line}"
         );

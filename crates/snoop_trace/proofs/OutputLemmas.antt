@@ -35,10 +35,6 @@ pub stopped : (a b c : Option (List ℕ)) (text : List ℕ) (at : ℕ) → Appen
 stopped a b c text at p q =
     record { front = take at text; rest = drop at text; whole = sym (take-append-drop at text); appends = appends_same a b c (take at text) p q }
 
-pub stopped_empty : (a b c : Option (List ℕ)) (text buf : List ℕ) (at n : ℕ) → n ≡ 0 → Appends a b (take at text) → Appends b c (take n buf) → AppendsFront a c text
-stopped_empty a b c text buf at n none p q =
-    record { front = take at text; rest = drop at text; whole = sym (take-append-drop at text); appends = rw (append-nil (take at text)) at (appends_more a b c (take at text) [] p (rw none at q)) }
-
 pub appends_none : (a : Option (List ℕ)) → Appends a a []
 appends_none None = tt
 appends_none (Some xs) = sym (append-nil xs)

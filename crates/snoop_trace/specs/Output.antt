@@ -1,6 +1,6 @@
 -- What is written: the text of steps, and what a writer holds after a write.
 -- Source: this project's profile.
-use Rattle.std.specs.Prelude.{◌<◌, ◌≡◌, ℕ, ◌*◌, ◌^◌, List, ◌++◌, codes, Option}
+use Rattle.std.specs.Prelude.{◌<◌, ◌≡◌, ℕ, ◌*◌, ◌^◌, Bool, true, false, List, ◌++◌, codes, Option, Some}
 use Rattle.std.specs.Fmt.{decimal}
 use Rattle.std.specs.Io.KnownBytes.{Appends}
 use Rattle.std.specs.List.{flat_map}
@@ -51,3 +51,7 @@ pub record Gathers (old new : Option (List ℕ)) (chunk text : List ℕ) : Type 
   pub front : List ℕ
   pub appends : Appends old new front
   pub whole : text ≡ front ++ chunk
+
+-- of a writer of which no write had failed: one has failed since exactly where it is blamed
+abbrev pub BlamesWriter : Option Bool → Option Bool → Type 0 → Type 0
+BlamesWriter old new blamed = old ≡ Some false → (blamed → new ≡ Some true) × (¬ blamed → new ≡ Some false)

@@ -3,7 +3,7 @@ ghost use Rattle.std.specs.Prelude.{◌≡◌, ◌≢◌, ◌<◌, ◌≤◌, �
 ghost use Rattle.std.specs.Fmt.{decimal};
 ghost use Rattle.std.specs.Io.KnownBytes.{Appends};
 ghost use Rattle.csv.specs.Writing.{default_writer, needs_byte, row_text};
-ghost use Rattle.snoop_trace.specs.Output.{AppendsFront, IsWithin, step_text, steps_text};
+ghost use Rattle.snoop_trace.specs.Output.{AppendsFront, BlamesWriter, IsWithin, step_text, steps_text};
 ghost use Rattle.snoop_trace.specs.Records.{IsReady, Writes, record_writer};
 ghost use Rattle.snoop_trace.specs.Text.{steps_of};
 ghost use Rattle.snoop_trace.specs.declared.step.Step.TheVariants.{Ask};
@@ -35,6 +35,7 @@ pub fn write_steps<W: Sink>(
     ensures ok { OnOk result (Appends (W.contents writer.old) (W.contents writer.new) (steps_text shape steps.now)) }
     ensures front { OnErr result (AppendsFront (W.contents writer.old) (W.contents writer.new) (steps_text shape steps.now)) }
     ensures never_blamed { W.never_fails ≡ true → result ≢ Err WriteFault.Write }
+    ensures blamed { BlamesWriter (W.failed writer.old) (W.failed writer.new) (result ≡ Err WriteFault.Write) }
     ensures read { All (IsWithin shape) steps.now → steps_of shape (steps_text shape steps.now) ≡ Ok steps.now }
 {
     // The getters' clauses `within`: `read` needs a shape within the limits.

@@ -131,13 +131,13 @@ fn a_writer_that_fails(rt: HostRuntime) -> Result<(), Fail> {
     for failure in [Failure::Refuses, Failure::TakesNothing] {
         for (a_call, calls) in [(1, TEXT.len()), (100, 1)] {
             for call in 0..=calls {
-                let mut writer = AnyWriter(Stopping::new(alloc, a_call, call, failure));
+                let mut writer = AnyWriter::new(Stopping::new(alloc, a_call, call, failure));
                 let found = write_steps(alloc, &mut writer, shape, &STEPS);
                 let Stopping {
                     held,
                     calls_after,
                     ..
-                } = &writer.0;
+                } = &writer.inner;
                 let wanted = if call < calls {
                     (Err(WriteFault::Write), call, 1)
                 } else {
@@ -149,8 +149,8 @@ fn a_writer_that_fails(rt: HostRuntime) -> Result<(), Fail> {
         }
     }
     // No steps are no calls.
-    let mut writer = AnyWriter(Stopping::new(alloc, 1, 0, Failure::Refuses));
+    let mut writer = AnyWriter::new(Stopping::new(alloc, 1, 0, Failure::Refuses));
     write_steps(alloc, &mut writer, shape, &[])?;
-    assert_eq!(rt; writer.0.calls_after, 0);
+    assert_eq!(rt; writer.inner.calls_after, 0);
     Ok(())
 }

@@ -1,34 +1,43 @@
 //! Writers that know whether they can fail, and how a text is written to them.
 //!
-//! A call that writes answers `Write` where a write failed. That it answers so nowhere else is its
-//! clause `never_blamed`: a writer whose contract rules failure out is never blamed.
-//! `std::io::Write` has no word for that, so `Sink` adds one.
-ghost use Rattle.std.specs.Prelude.{◌≡◌, ◌<◌, ◌≤◌, [], Bool, true, false, IsOk, IsOkAnd, OnOk, OnErr, IfErr, length};
+//! A call that writes answers `Write` exactly where a write failed, and then tries none again. Two
+//! clauses say so: `blamed`, for a writer of which it is known whether a write has failed; and
+//! `never_blamed`, for a writer whose contract rules failure out. `std::io::Write` has no words for
+//! either, so `Sink` adds them.
+ghost use Rattle.std.specs.Prelude.{◌≡◌, ◌<◌, ◌≤◌, [], Bool, true, false, Option, Some, None, Err, IsOk, IsErr, IfOk, OnOk, OnErr, IfErr, length};
 ghost use Rattle.std.specs.Io.{WritesAtMost};
 ghost use Rattle.std.specs.Io.KnownBytes.{Appends, WriteAppends};
-ghost use Rattle.snoop_trace.specs.Output.{AppendsFront, Spills};
+ghost use Rattle.snoop_trace.specs.Output.{AppendsFront, BlamesWriter, Spills};
 
 use crate::fault::WriteFault;
 use std::io;
-use std::io::Write;
+use std::io::{ErrorKind, Write};
 
-/// A writer, and whether its contract rules failure out.
+/// A writer, whether its contract rules failure out, and whether a write to it has failed.
 ///
 /// `io::sink()`, which keeps nothing, cannot fail; a vector of bytes can, since its growth may be
 /// refused. For any other writer, put it in `AnyWriter`.
 pub trait Sink: Write {
-    // Its writes never fail, and take a byte at least where there is one.
+    // Its writes never fail.
     ghost never_fails: { Bool };
 
-    /// What `write` does: it takes bytes from the front of `buf`, and reports how many.
+    // Whether a write has failed so far, where that is known.
+    ghost failed: { Self → Option Bool };
+
+    /// What `write` does: it takes bytes from the front of `buf`, and reports how many. To take
+    /// none where there are some is to fail.
     fn put(&mut self, buf: &[u8]) -> io::Result<usize>
         ensures bound { WritesAtMost result buf.now }
         ensures bytes { WriteAppends (Self.contents self.old) (Self.contents self.new) result buf.now }
-        ensures sure { never_fails ≡ true → IsOkAnd result (λ n. 0 < length buf.now → 0 < n) };
+        ensures some { IfOk result (λ n. 0 < length buf.now → 0 < n) }
+        ensures sure { never_fails ≡ true → IsOk result }
+        ensures noted { BlamesWriter (failed self.old) (failed self.new) (IsErr result) };
 }
 
 impl Sink for Vec<u8> {
     ghost never_fails = { false };
+
+    ghost failed = { λ _. None };
 
     fn put(&mut self, buf: &[u8]) -> io::Result<usize> {
         self.write(buf)
@@ -38,6 +47,8 @@ impl Sink for Vec<u8> {
 impl Sink for io::Sink {
     ghost never_fails = { true };
 
+    ghost failed = { λ _. Some false };
+
     fn put(&mut self, buf: &[u8]) -> io::Result<usize> {
         <Self as Write>::write(self, buf)
     }
@@ -46,55 +57,85 @@ impl Sink for io::Sink {
 impl<W: Sink> Sink for &mut W {
     ghost never_fails = { W.never_fails };
 
+    ghost failed = { λ w. W.failed w.now };
+
     fn put(&mut self, buf: &[u8]) -> io::Result<usize> {
         Sink::put(&mut **self, buf)
     }
 }
 
-/// Any writer, of which it is not known whether it can fail: a file, a pipe, standard output.
+/// Any writer, of which it is not known whether it can fail: a file, a pipe, standard output. It
+/// notes whether a write has failed, or has taken nothing of what there was.
 #[derive(Drop)]
-pub struct AnyWriter<W>(pub W);
+pub struct AnyWriter<W> {
+    pub inner: W,
+    pub failed: bool,
+}
+
+impl<W: Write> AnyWriter<W> {
+    pub fn new(inner: W) -> Self
+        ensures inner { result.inner ≡ inner }
+        ensures failed { result.failed ≡ false }
+    {
+        AnyWriter {
+            inner,
+            failed: false,
+        }
+    }
+
+    // Writes once, and notes a failure.
+    fn write_noting(&mut self, buf: &[u8]) -> io::Result<usize>
+        ensures bound { WritesAtMost result buf.now }
+        ensures bytes { WriteAppends (W.contents self.old.inner) (W.contents self.new.inner) result buf.now }
+        ensures some { IfOk result (λ n. 0 < length buf.now → 0 < n) }
+        ensures noted { BlamesWriter (Some self.old.failed) (Some self.new.failed) (IsErr result) }
+    {
+        let written = match self.inner.write(buf) {
+            Ok(0) if !buf.is_empty() => Err(io::Error::from(ErrorKind::WriteZero)),
+            written => written,
+        };
+        self.failed |= written.is_err();
+        written
+    }
+}
 
 impl<W: Write> Write for AnyWriter<W> {
-    ghost contents = { λ w. W.contents w.0 };
+    ghost contents = { λ w. W.contents w.inner };
 
     fn write(&mut self, buf: &[u8]) -> io::Result<usize> {
-        self.0.write(buf)
+        self.write_noting(buf)
     }
 
     fn flush(&mut self) -> io::Result<()> {
-        self.0.flush()
+        self.inner.flush()
     }
 }
 
 impl<W: Write> Sink for AnyWriter<W> {
     ghost never_fails = { false };
 
+    ghost failed = { λ w. Some w.failed };
+
     fn put(&mut self, buf: &[u8]) -> io::Result<usize> {
-        Write::write(self, buf)
+        self.write_noting(buf)
     }
 }
 
 /// Writes all of a text.
 ///
 /// It stops at the first write that fails or takes nothing, with `Write`. The writer then holds a
-/// beginning of the text behind what it held, the failed write's own bytes aside. That it tries no
-/// write again is tested, and not proved.
+/// beginning of the text behind what it held, the failed write's own bytes aside.
 pub fn write_whole<W: Sink>(writer: &mut W, text: &[u8]) -> Result<(), WriteFault>
     ensures ok { OnOk result (Appends (W.contents writer.old) (W.contents writer.new) text.now) }
     ensures front { OnErr result (AppendsFront (W.contents writer.old) (W.contents writer.new) text.now) }
     ensures never_blamed { W.never_fails ≡ true → IsOk result }
+    ensures blamed { BlamesWriter (W.failed writer.old) (W.failed writer.new) (result ≡ Err WriteFault.Write) }
     ensures err { IfErr result (λ e. e ≡ WriteFault.Write) }
 {
     let mut at = 0;
     while at < text.len() {
         match writer.put(&text[at..]) {
-            Ok(taken) => {
-                if taken == 0 {
-                    return Err(WriteFault::Write);
-                }
-                at += taken;
-            }
+            Ok(taken) => at += taken,
             Err(_) => return Err(WriteFault::Write),
         }
     }
@@ -118,6 +159,7 @@ pub fn spill<W: Sink>(writer: &mut W, chunk: &mut Vec<u8>) -> Result<(), WriteFa
     ensures kept { OnErr result (chunk.new.items ≡ chunk.old.items) }
 
     ensures never_blamed { W.never_fails ≡ true → IsOk result }
+    ensures blamed { BlamesWriter (W.failed writer.old) (W.failed writer.new) (result ≡ Err WriteFault.Write) }
     ensures err { IfErr result (λ e. e ≡ WriteFault.Write) }
 {
     if chunk.len() >= CHUNK {

@@ -1,7 +1,7 @@
-use Rattle.std.proofs.Common.{length, take, drop, arith, ◌≤◌}
+use Rattle.std.proofs.Common.{length, drop, arith, ◌≤◌}
 use Rattle.std.specs.Prelude.{◌-◌}
 use Rattle.std.proofs.lemmas.List.{length-drop, take_all}
-use Rattle.snoop_trace.proofs.OutputLemmas.{stopped, stopped_empty, took_more}
+use Rattle.snoop_trace.proofs.OutputLemmas.{stopped, took_more}
 use Rattle.snoop_trace.proofs.streams.sink.write_whole.Goals as goal
 
 pub loop-at-preserved : goal.loop-at-preserved
@@ -11,12 +11,8 @@ loop-at-preserved g c =
       omega (arith, length-drop c.loop-at.at c.args.text.now, bound, c.loop-at.invariant.0),
       took_more (g.W.Write.contents c.args.writer.now) (g.W.Write.contents c.loop-at.writer) (g.W.Write.contents c.put.new.self) c.args.text.now c.loop-at.at c.in-Ok.taken
           c.loop-at.invariant.1 c.in-Ok.ensures.bytes,
+      λ none. (c.in-Ok.ensures.noted (c.loop-at.invariant.2 none)).1 (λ failed. cc),
     )
-
-pub returns-then-taken-eq0-clause-front : goal.returns-then-taken-eq0-clause-front
-returns-then-taken-eq0-clause-front g c =
-    stopped_empty (g.W.Write.contents c.args.writer.now) (g.W.Write.contents c.loop-at.writer) (g.W.Write.contents c.put.new.self) c.args.text.now
-    (take (length c.args.text.now - c.loop-at.at) (drop c.loop-at.at c.args.text.now)) c.loop-at.at c.in-Ok.taken c.if-taken-eq0.true c.loop-at.invariant.1 c.in-Ok.ensures.bytes
 
 pub returns-in-Err-clause-front : goal.returns-in-Err-clause-front
 returns-in-Err-clause-front g c =
