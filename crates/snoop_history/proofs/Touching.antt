@@ -25,7 +25,7 @@ but y xs = filter (λ z. not (z == y)) xs
 any-but : (x y : ℕ) (xs : List ℕ) → eqb x y ≡ false → list_any (nat_eq x) (but y xs) ≡ list_any (nat_eq x) xs
 any-but x y xs other = any-filter_same (nat_eq x) (λ z. not (z == y)) true (λ z same. let e : x ≡ z = eqb-true x z same in rw (← e, other)) xs
 
--- a list with x behind it where it is new, without another number
+-- a list with x after it where it is new, without another number
 but-insert : (x y : ℕ) (xs : List ℕ) → eqb x y ≡ false → (b : Bool) → list_any (nat_eq x) xs ≡ b → but y (insert_key nat_eq xs x) ≡ insert_key nat_eq (but y xs) x
 but-insert x y xs other true e = rw (any-but x y xs other, e)
 but-insert x y xs other false e = rw (any-but x y xs other, e) (filter-append (λ z. not (z == y)) xs (x ∷ []) ∙ rw other)
@@ -62,7 +62,7 @@ abbrev pub with_operation : List ℕ → Option Did → List ℕ
 with_operation keys None = keys
 with_operation keys (Some did) = insert_key nat_eq keys did.block
 
--- each_once of a list with an item's blocks behind it
+-- each_once of a list with an item's blocks after it
 each_once-blocks : (xs : List ℕ) (block : ℕ) (op : Option Did) →
     each_once (xs ++ (block ∷ map (λ did. did.block) (option_to_list op))) ≡ with_operation (insert_key nat_eq (each_once xs) block) op
 each_once-blocks xs block None = each_once-more xs block

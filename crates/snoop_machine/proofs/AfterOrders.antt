@@ -24,7 +24,7 @@ rest_of : (rs : List (Request × ℕ)) (q : Request) (b : ℕ) → slice_get rs 
 rest_of [] q b h = cc
 rest_of (r ∷ rs) q b h = ap (λ x. x ∷ rs) (same_Some _ _ h)
 
--- what stands behind the first is for other blocks
+-- what stands after the first is for other blocks
 behind : (rs : List (Request × ℕ)) (q : Request) (b : ℕ) → slice_get rs 0 ≡ Some (q, b) → IsEachOnce rs → (r : Request) (c : ℕ) → Contains (drop 1 rs) (r, c) → c ≡ b → ⊥
 behind [] q b h once r c there e = cc
 behind (x ∷ rs) q b h once r c there e =

@@ -1,4 +1,4 @@
-//! What a time comes to.
+//! Rates and ratios of measured times.
 
 use std::time::Duration;
 

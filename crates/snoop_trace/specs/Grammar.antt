@@ -57,17 +57,17 @@ block_at shape address = if nat_lt (address / shape.block_bytes) shape.blocks th
 abbrev pub block_in : Extent → ℕ → ℕ → Result ℕ TextFault
 block_in shape n address = ok_or (block_at shape address) (NoBlock n)
 
--- the field behind the first, where there is one alone
+-- the field after the first, where there is one alone
 abbrev pub one_of : List (List ℕ) → Option (List ℕ)
 one_of (kind ∷ a ∷ []) = Some a
 one_of _ = None
 
--- the two fields behind the first, where there are two
+-- the two fields after the first, where there are two
 abbrev pub two_of : List (List ℕ) → Option (List ℕ × List ℕ)
 two_of (kind ∷ a ∷ b ∷ []) = Some (a, b)
 two_of _ = None
 
--- the three fields behind the first, where there are three
+-- the three fields after the first, where there are three
 abbrev pub three_of : List (List ℕ) → Option (List ℕ × List ℕ × List ℕ)
 three_of (kind ∷ a ∷ b ∷ c ∷ []) = Some (a, b, c)
 three_of _ = None

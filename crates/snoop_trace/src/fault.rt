@@ -28,7 +28,7 @@ pub enum TextFault {
     /// There are more or fewer fields than its kind has.
     #[error("record {0}: BadFields")]
     BadFields(u64),
-    /// A field behind the first is no number below 2^64.
+    /// A field after the first is no number below 2^64.
     #[error("record {0}: BadNumber")]
     BadNumber(u64),
     /// The core is not below the cores of the shape.

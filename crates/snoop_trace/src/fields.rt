@@ -5,7 +5,7 @@ ghost use Rattle.snoop_trace.specs.Grammar as spec;
 
 use csv::ByteRecord;
 
-/// The field behind the kind, where there is one alone.
+/// The field after the kind, where there is one alone.
 #[tactic(auto, using(crate::proofs::FieldLemmas::one_at))]
 pub(crate) fn one_of(fields: &ByteRecord) -> Option<&[u8]>
     ensures { option_map (λ f. f.now) result ≡ spec.one_of (fields_of fields.now) }
@@ -17,7 +17,7 @@ pub(crate) fn one_of(fields: &ByteRecord) -> Option<&[u8]>
     }
 }
 
-/// The fields behind the kind, where there are two.
+/// The fields after the kind, where there are two.
 #[tactic(auto, using(crate::proofs::FieldLemmas::two_at, crate::proofs::FieldLemmas::field_there))]
 pub(crate) fn two_of(fields: &ByteRecord) -> Option<(&[u8], &[u8])>
     ensures { option_map (λ f. (f.0.now, f.1.now)) result ≡ spec.two_of (fields_of fields.now) }
@@ -28,7 +28,7 @@ pub(crate) fn two_of(fields: &ByteRecord) -> Option<(&[u8], &[u8])>
     Some((fields.get(1)?, fields.get(2)?))
 }
 
-/// The fields behind the kind, where there are three.
+/// The fields after the kind, where there are three.
 #[tactic(auto, using(crate::proofs::FieldLemmas::three_at, crate::proofs::FieldLemmas::field_there))]
 pub(crate) fn three_of(fields: &ByteRecord) -> Option<(&[u8], &[u8], &[u8])>
     ensures { option_map (λ f. (f.0.now, f.1.now, f.2.now)) result ≡ spec.three_of (fields_of fields.now) }

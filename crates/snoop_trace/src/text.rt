@@ -39,7 +39,7 @@ fn next_entry<E: Entry, R: Source>(
     }
 }
 
-// All entries of a text, behind none.
+// All entries of a text, after none.
 fn take_entries<E: Entry, R: Source>(
     text: &mut Reader<Watched<R>>,
     fields: &mut ByteRecord,

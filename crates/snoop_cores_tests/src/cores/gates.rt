@@ -6,7 +6,7 @@ use snoop_trace::Op;
 use std::sync::atomic::{AtomicU64, Ordering};
 use std::test::Fail;
 
-// Holds this core's first row until the other core has come to its own.
+// Holds this core's first row until the other core has reached its own.
 #[derive(Drop)]
 struct Meet {
     held: u32,

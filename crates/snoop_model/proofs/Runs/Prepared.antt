@@ -1,4 +1,4 @@
--- A prepared step adds the item that was told.
+-- A prepared step adds the item that was reported.
 use Rattle.std.proofs.Common.{◌≡◌, ◌++◌, Option, sym, ◌∙◌, ap, inl, inr}
 use Rattle.std.specs.Prelude.{option_to_list}
 use Rattle.std.proofs.lemmas.List.{append-nil}
@@ -22,7 +22,7 @@ move-log old new (Order core) answer added m =
 move-log old new (Respond block) answer added m =
     ap (λ (s : Situation). s.log) m.1.1.1.1.4.after ∙ ap (λ (e : Option Item). old.log ++ option_to_list e) (sym m.1.1.1.1.3)
 
--- a prepared step, taken, adds the item that was told
+-- a prepared step, taken, adds the item that was reported
 pub prepared-log : (before : Standing) (new : Situation) (step : Step) (answer : Reply) (added entry : Option Item)
     → IsPrepared before step entry → FirstMove before.situation step answer new added → new.log ≡ before.situation.log ++ option_to_list entry
 prepared-log before new step answer added entry prepared move =

@@ -1,4 +1,4 @@
--- What whoever may read has.
+-- The value that a reader holds.
 -- Source: "A Primer on Memory Consistency and Cache Coherence", 2nd edition: the data-value invariant.
 use Rattle.std.specs.Prelude.{◌≡◌, ℕ, Some}
 use Rattle.snoop_rules.specs.declared.names.Protocol.{Protocol}

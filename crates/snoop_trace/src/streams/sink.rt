@@ -124,7 +124,7 @@ impl<W: Write> Sink for AnyWriter<W> {
 /// Writes all of a text.
 ///
 /// It stops at the first write that fails or takes nothing, with `Write`. The writer then holds a
-/// beginning of the text behind what it held, the failed write's own bytes aside.
+/// beginning of the text after what it held, the failed write's own bytes aside.
 pub fn write_whole<W: Sink>(writer: &mut W, text: &[u8]) -> Result<(), WriteFault>
     ensures ok { OnOk result (Appends (W.contents writer.old) (W.contents writer.new) text.now) }
     ensures front { OnErr result (AppendsFront (W.contents writer.old) (W.contents writer.new) text.now) }
