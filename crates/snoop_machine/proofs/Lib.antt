@@ -7,7 +7,6 @@ pub mod AtReset
 pub mod ConcernedCores
 pub mod Plans
 pub mod Room
-pub mod PossibleLookups
 pub mod RunSteps
 pub mod ProperLines
 pub mod MapRows

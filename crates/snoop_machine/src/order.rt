@@ -4,8 +4,9 @@ ghost use Rattle.snoop_rules.specs.Waits.{waiting_request};
 ghost use Rattle.snoop_rules.specs.Takers.{seen_by, at_memory, carries_value};
 ghost use Rattle.snoop_model.specs.Pictures.Picture.{held_at};
 ghost use Rattle.snoop_model.specs.Pictures.Sends.{value_sent};
-ghost use Rattle.snoop_model.specs.Moves.Meets.{FindsRows};
-ghost use Rattle.snoop_model.specs.Pictures.Message.{free_picture, HasRow, IsMessage, TakesRows, memory_message};
+ghost use Rattle.snoop_model.specs.Moves.LookUps.{HasRow};
+ghost use Rattle.snoop_model.specs.Moves.SenderTable.{FollowsSenderTable};
+ghost use Rattle.snoop_model.specs.Pictures.Message.{free_picture, IsMessage, TakesRows, memory_message};
 ghost use Rattle.snoop_machine.specs.Lines.{LinesGo};
 
 use crate::ask::moved_to;
@@ -130,7 +131,8 @@ impl Lines {
     ) -> Message
         requires block { block < length self.now.rows }
         requires waits { waiting_request (held_at (slice_index_or self.now.rows block []) requestor).state ≡ Some request }
-        requires finds { FindsRows protocol (free_picture (slice_index_or self.now.rows block []) memory) requestor request }
+        requires rows { (k : ℕ) → k < length (slice_index_or self.now.rows block []) → HasRow protocol (held_at (slice_index_or self.now.rows block []) k).state (seen_by k requestor request) }
+        requires line { FollowsSenderTable protocol (free_picture (slice_index_or self.now.rows block []) memory) requestor request }
         ensures { IsMessage protocol (free_picture (slice_index_or self.now.rows block []) memory) requestor request result }
     {
         let Some(cell) = mem_cell(protocol, memory.state, event_at_memory(request)) else {

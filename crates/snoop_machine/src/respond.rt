@@ -1,7 +1,8 @@
 //! What a response does to one line, and to memory.
-ghost use Rattle.std.specs.Prelude.{◌≡◌};
+ghost use Rattle.std.specs.Prelude.{◌≡◌, IsSomeAnd, IsTrue};
+ghost use Rattle.snoop_rules.specs.Takers.{arrival, arrival_at_memory, takes_payload};
 ghost use Rattle.snoop_model.specs.Pictures.Sound.{IsProper};
-ghost use Rattle.snoop_model.specs.Moves.Meets.{LacksAtArrival, LacksAtMemory};
+ghost use Rattle.snoop_model.specs.Moves.LookUps.{HasRow, HasMemRow};
 ghost use Rattle.snoop_machine.specs.Arrive.{FillsLine, ArrivesIn};
 
 use snoop_model::{Line, MemLine};
@@ -22,7 +23,7 @@ pub struct Filled {
 /// What the requestor does with a payload.
 pub(crate) fn fill(protocol: Protocol, line: Line, payload: Payload, sent: u64) -> Filled
     requires proper { IsProper line }
-    requires possible { ¬ LacksAtArrival protocol line.state payload }
+    requires possible { IsSomeAnd (arrival payload) (HasRow protocol line.state) }
     ensures { FillsLine protocol line payload sent result }
 {
     let event = match payload {
@@ -65,7 +66,7 @@ pub(crate) fn arrive(
     payload: Payload,
     sent: u64,
 ) -> MemLine
-    requires { ¬ LacksAtMemory request protocol memory.state payload }
+    requires { IsTrue (takes_payload request memory.state) → IsSomeAnd (arrival_at_memory payload) (HasMemRow protocol memory.state) }
     ensures { ArrivesIn request protocol payload sent memory result }
 {
     match (request, memory.state) {

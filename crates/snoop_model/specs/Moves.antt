@@ -5,7 +5,7 @@ pub mod OrderMove
 pub mod StepMove
 pub mod Refuses
 pub mod Replies
-pub mod Meets
+pub mod LookUps
 pub mod SenderTable
 pub mod Standing
 pub mod Prepared

@@ -12,7 +12,7 @@ ghost use Rattle.snoop_model.specs.Pictures.OneWriter.{OneWriter};
 ghost use Rattle.snoop_model.specs.Pictures.Current.{IsCurrent};
 ghost use Rattle.snoop_model.specs.Pictures.MemoryCurrent.{IsMemoryCurrent, NamesItsBlock};
 ghost use Rattle.snoop_model.specs.Runs.Once.{Once};
-ghost use Rattle.snoop_model.specs.Moves.Meets.{Meets, FindsRows};
+ghost use Rattle.snoop_model.specs.Moves.LookUps.{FindsRows};
 ghost use Rattle.snoop_model.specs.Moves.SenderTable.{FollowsSenderTable, MovesAreByTable};
 ghost use Rattle.snoop_model.specs.Pictures.InQueue.{IsInQueue};
 
@@ -21,10 +21,10 @@ ghost use Rattle.snoop_model.specs.Pictures.InQueue.{IsInQueue};
 /// Each block has one writer alone, or only readers; the log is legal, and each copy that may be read has the value of the
 /// last store in it; so has data under way, and so has memory where no core may write the block and no data is under way; an
 /// open transaction is of its block, by a core of the machine; each load and store that was asked stands once in the log, or
-/// waits; no step meets an impossible cell; a waiting request of any free block would find all its rows and exactly one sender,
-/// and be a line of the table of senders; each Order that is taken next, of whatever block, is a line of that table, and
-/// at a response memory takes its own row; a core keeps a value of a block exactly where its state may read, and an operation
-/// waits exactly where one has missed; and each core's queue has the blocks on which it waits, each once.
+/// waits; no step meets an impossible cell, nor would an Order of a waiting request of any free block; such an Order would have
+/// exactly one sender, and be a line of the table of senders; each Order that is taken next, of whatever block, is a line of
+/// that table, and at a response memory takes its own row; a core keeps a value of a block exactly where its state may read,
+/// and an operation waits exactly where one has missed; and each core's queue has the blocks on which it waits, each once.
 ///
 /// Source: chapters 2 and 7 of "A Primer on Memory Consistency and Cache Coherence", 2nd edition.
 pub fn coherent()
@@ -34,8 +34,7 @@ pub fn coherent()
     ensures memory { EveryRun (λ protocol steps outcomes s. (block : ℕ) → block < s.shape.blocks → IsMemoryCurrent protocol (picture_of s block) (flat s.log block)) }
     ensures opened { EveryRun (λ protocol steps outcomes s. (block : ℕ) → NamesItsBlock s block) }
     ensures once { EveryRun (λ protocol steps outcomes s. Once steps outcomes s) }
-    ensures possible { EveryRun (λ protocol steps outcomes s. (step : Step) → ¬ Meets s step) }
-    ensures any_order { EveryRun (λ protocol steps outcomes s. (core block : ℕ) (request : Request) → Waits s core block request → (picture_of s block).transaction ≡ None → FindsRows protocol (picture_of s block) core request) }
+    ensures possible { EveryRun (λ protocol steps outcomes s. (step : Step) → FindsRows s step) }
     ensures lines { EveryRun (λ protocol steps outcomes s. (core block : ℕ) (request : Request) → Waits s core block request → (picture_of s block).transaction ≡ None → FollowsSenderTable protocol (picture_of s block) core request) }
     ensures by_table { EveryRun (λ protocol steps outcomes s. MovesAreByTable s) }
     ensures proper { EveryRun (λ protocol steps outcomes s. (core block : ℕ) → IsProper (held_by (picture_of s block) core)) }

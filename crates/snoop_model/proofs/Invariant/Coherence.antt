@@ -1,6 +1,6 @@
 -- What the invariant says of a situation: one writer, current copies and memory, all rows, one sender.
-use Rattle.std.proofs.Common.{◌≡◌, ℕ, true, false, not, ◌||◌, List, [], length, Option, Some, None, refl, ◌⊎◌, inl, inr, ap, sym, ◌∙◌, subst, arith}
-use Rattle.std.specs.Prelude.{◌<◌, slice_index_or, IfSome, MatchOption, ⊤}
+use Rattle.std.proofs.Common.{◌≡◌, ◌≢◌, ℕ, true, false, not, ◌||◌, List, [], length, Option, Some, None, refl, ◌⊎◌, inl, inr, ap, sym, ◌∙◌, subst, arith}
+use Rattle.std.specs.Prelude.{◌<◌, slice_index_or, IfSome, IsSomeAnd}
 use Rattle.std.proofs.lemmas.Bool.{cases_lt, and_parts, eq-eqb}
 use Rattle.std.proofs.lemmas.List.{get_or_past}
 use Rattle.snoop_trace.specs.declared.step.Op.{Op}
@@ -20,8 +20,8 @@ use Rattle.snoop_rules.specs.declared.names.Request.{Request}
 use Rattle.snoop_rules.specs.declared.names.Request.TheVariants as request
 use Rattle.snoop_rules.specs.declared.names.Payload.{Payload}
 use Rattle.snoop_rules.specs.WhoSends.{SentAs}
-use Rattle.snoop_rules.specs.Possible.{IsImpossible, IsMemImpossible, MayLoad, MayStore}
-use Rattle.snoop_rules.specs.Takers.{asked, arrival, arrival_at_memory, carries_value}
+use Rattle.snoop_rules.specs.Possible.{MayLoad, MayStore}
+use Rattle.snoop_rules.specs.Takers.{asked, other as another, seen_by, at_memory, arrival, arrival_at_memory, carries_value}
 use Rattle.snoop_rules.specs.Waits.{waiting_request}
 use Rattle.snoop_rules.specs.Cell.{cell_of}
 use Rattle.snoop_rules.proofs.Rows.{cell_of-Cell, Cell-found}
@@ -30,20 +30,20 @@ use Rattle.snoop_history.specs.History.{flat}
 use Rattle.snoop_history.specs.Totals.{is_put_m}
 use Rattle.snoop_bus.specs.declared.transactions.Open.{Open}
 use Rattle.snoop_model.specs.declared.line.Line.{Line}
-use Rattle.snoop_model.specs.declared.replies.Refused.TheVariants.{NoBlock, BusTaken}
 use Rattle.snoop_model.specs.Pictures.Picture.{Picture, held_at, held_by, nothing_held}
-use Rattle.snoop_model.specs.Pictures.Situation.{Situation, picture_of, Waits}
+use Rattle.snoop_model.specs.Pictures.Situation.{Situation, picture_of, state_of, Waits}
 use Rattle.snoop_model.specs.Moves.Move.{IsWithin}
-use Rattle.snoop_model.specs.Moves.Meets.{Meets, FindsRows, LacksAtRequestor}
+use Rattle.snoop_model.specs.Moves.LookUps.{HasRow, HasMemRow, ConsultsCache, ConsultsMemory, FindsRows}
 use Rattle.snoop_model.specs.Pictures.OneWriter.{OneWriter, IsWriter}
 use Rattle.snoop_model.specs.Pictures.Current.{IsCurrent}
 use Rattle.snoop_model.specs.Pictures.MemoryCurrent.{IsMemoryCurrent, NamesItsBlock, data_under_way}
-use Rattle.snoop_model.specs.Moves.SenderTable.{FollowsSenderTable, OrdersFollowSenderTable}
+use Rattle.snoop_model.specs.Moves.SenderTable.{OrdersFollowSenderTable}
 use Rattle.snoop_model.specs.Invariant.Fits.{in_protocol, is_clean, is_owner, is_reader, fits}
 use Rattle.snoop_model.specs.Invariant.Good.{Good, awaited, owns, talk_of}
 use Rattle.snoop_model.specs.Invariant.Coherent.{IsCoherent}
 use Rattle.snoop_model.proofs.Tables.Every.{given, given_at}
-use Rattle.snoop_model.proofs.OneBlock.Steps.{is_idle_evict, row_of, mem_row_of}
+use Rattle.snoop_model.proofs.OneBlock.Steps.{is_idle_evict, row_of, mem_row_of, Answerable}
+use Rattle.snoop_model.proofs.OneBlock.OrderStep.{seen_other}
 use Rattle.snoop_model.proofs.OneBlock.Moves.{sends_by_row, sends_by_cell}
 use Rattle.snoop_model.proofs.OneBlock.Facts.{one_writer, fits_is_owner, clash, or_not}
 use Rattle.snoop_model.proofs.OneBlock.Possible.{Possible, order_possible, ask_possible, respond_possible}
@@ -154,19 +154,23 @@ memory_current s g block within =
           it.fresh (resting_rule p picture.memory (talk_of picture.transaction) it.claims it.is_claims (nobody_owns p s.shape.cores (flat s.log block) picture it idle it.owner refl) (no_data picture.transaction none));
     }
 
--- an open transaction is of its block, by a core of the machine
+-- an open transaction is of a block within the shape
+opened_within : (s : Situation) → IsCoherent s → (block : ℕ) (o : Open) → (picture_of s block).transaction ≡ Some o → block < s.shape.blocks
+opened_within s g block o is = elim (cases_lt block s.shape.blocks) [
+  | inl within ↦ within
+  | inr past ↦
+      let long : length s.transactions ≡ s.shape.blocks = g.transactions in
+      let empty : (picture_of s block).transaction ≡ None = get_or_past s.transactions block None (omega arith) in
+      cc
+]
+
+-- it is of its block, by a core of the machine
 pub names_its_block : (s : Situation) → IsCoherent s → (block : ℕ) → NamesItsBlock s block
 names_its_block s g block = go (picture_of s block).transaction refl
   where
     go : (found : Option Open) → (picture_of s block).transaction ≡ found → IfSome found (λ o. (o.block ≡ block) × (o.core < s.shape.cores))
     go None is = tt
-    go (Some o) is = elim (cases_lt block s.shape.blocks) [
-      | inl within ↦ (g.opened block o is, (g.good block within).requestor_in o is)
-      | inr past ↦
-          let long : length s.transactions ≡ s.shape.blocks = g.transactions in
-          let empty : (picture_of s block).transaction ≡ None = get_or_past s.transactions block None (omega arith) in
-          cc
-    ]
+    go (Some o) is = (g.opened block o is, (g.good block (opened_within s g block o is)).requestor_in o is)
 
 -- a core that waits is within the shape, and so is its block
 pub waits_within : (s : Situation) → IsCoherent s → (core block : ℕ) (q : Request) → Waits s core block q → IsWithin s core block
@@ -183,33 +187,12 @@ possible_order s g core block q waits free =
     let x = order_possible s.protocol s.shape.cores (flat s.log block) (picture_of s block) core q (g.good block within.1) within.0 waits free in
     subst (λ (n : ℕ). Possible s.protocol n (picture_of s block) core q) (sym (g.row block within.1)) x
 
--- an Order of any waiting core on a free block finds all its rows and exactly one sender
-pub finds_rows : (s : Situation) → IsCoherent s → (core block : ℕ) (q : Request) → Waits s core block q → (picture_of s block).transaction ≡ None → FindsRows s.protocol (picture_of s block) core q
-finds_rows s g core block q waits free =
-    let p = s.protocol in
-    let before : Picture = picture_of s block in
-    let x = possible_order s g core block q waits free in
-    record {
-      rows = λ k k_in. (let r = x.rows k k_in in (r.0.action, (r.0.next, Cell-found p (held_by before k).state _ r.0 r.1)));
-      memory = (x.cell_of_memory.action, (x.cell_of_memory.next, MemoryCell-found p before.memory _ x.cell_of_memory x.memory_row));
-      sender = (
-        x.from,
-        (
-          x.payload,
-          record {
-            sends = sends_by_cell p before core q x.from x.payload x.sender.sends;
-            alone = λ other message sends. x.sender.alone other message (sends_by_row p before core q other message sends);
-          },
-        ),
-      );
-    }
-
 put_is : (q : Request) → q ≡ request.PutM → is_put_m q ≡ true
 put_is q e = ap is_put_m e
 
--- and it is a line of the table of senders
-pub order_follows_sender_table : (s : Situation) → IsCoherent s → (core block : ℕ) (q : Request) → Waits s core block q → (picture_of s block).transaction ≡ None → FollowsSenderTable s.protocol (picture_of s block) core q
-order_follows_sender_table s g core block q waits free =
+-- an Order of any request that waits on a free block has exactly one sender, and is a line of the table
+pub orders_follow_sender_table : (s : Situation) → IsCoherent s → OrdersFollowSenderTable s
+orders_follow_sender_table s g core block q waits free =
     let p = s.protocol in
     let before : Picture = picture_of s block in
     let x = possible_order s g core block q waits free in
@@ -238,77 +221,80 @@ idle_evict _ op.Load h = cc
 idle_evict _ (op.Store v) h = cc
 idle_evict _ op.Evict h = cc
 
-nothing_asked : (p : Protocol) (o : Op) → (¬ ((o ≡ op.Evict) × (state.I ≡ state.I))) → IsImpossible p state.I (asked o) → ⊥
-nothing_asked p op.Load busy lacks = lacks (action.Issue request.GetS) state.IsAd (refl, refl)
-nothing_asked p (op.Store v) busy lacks = lacks (action.Issue request.GetM) state.ImAd (refl, refl)
-nothing_asked p op.Evict busy lacks = busy (refl, refl)
+nothing_asked : (p : Protocol) (o : Op) → (¬ ((o ≡ op.Evict) × (state.I ≡ state.I))) → HasRow p state.I (asked o)
+nothing_asked p op.Load busy = (action.Issue request.GetS, (state.IsAd, (refl, refl)))
+nothing_asked p (op.Store v) busy = (action.Issue request.GetM, (state.ImAd, (refl, refl)))
+nothing_asked p op.Evict busy = absurd (busy (refl, refl))
 
-not_lacking : (p : Protocol) (s : CacheState) (found : Option CacheEvent) (row : (r : _) × (row_of p s found ≡ Some r)) → MatchOption found ⊤ (IsImpossible p s) → ⊥
-not_lacking p s None row lacks = let h = row.1 in cc
-not_lacking p s (Some e) row lacks = lacks row.0.action row.0.next (Cell-found p s e row.0 row.1)
+nothing_seen : (p : Protocol) (q : Request) → HasRow p state.I (another q)
+nothing_seen p request.GetS = (action.None, (state.I, (refl, refl)))
+nothing_seen p request.GetM = (action.None, (state.I, (refl, refl)))
+nothing_seen p request.PutM = (action.None, (state.I, (refl, refl)))
 
-not_lacking_memory : (p : Protocol) (m : MemState) (found : Option MemEvent) (row : (r : _) × (mem_row_of p m found ≡ Some r)) → MatchOption found ⊤ (IsMemImpossible p m) → ⊥
-not_lacking_memory p m None row lacks = let h = row.1 in cc
-not_lacking_memory p m (Some e) row lacks = lacks row.0.action row.0.next (MemoryCell-found p m e row.0 row.1)
+has_row : (p : Protocol) (s : CacheState) (found : Option CacheEvent) → (r : _) × (row_of p s found ≡ Some r) → IsSomeAnd found (HasRow p s)
+has_row p s None row = let h = row.1 in cc
+has_row p s (Some e) row = (row.0.action, (row.0.next, Cell-found p s e row.0 row.1))
 
-lacks_at_requestor : (q : Request) (p : Protocol) (s : CacheState) (sent : Payload) → (is_put_m q ≡ false → (r : _) × (row_of p s (arrival sent) ≡ Some r)) → LacksAtRequestor q p s sent → ⊥
-lacks_at_requestor request.PutM p s sent row lacks = lacks
-lacks_at_requestor request.GetS p s sent row lacks = not_lacking p s (arrival sent) (row refl) lacks
-lacks_at_requestor request.GetM p s sent row lacks = not_lacking p s (arrival sent) (row refl) lacks
+has_mem_row : (p : Protocol) (m : MemState) (found : Option MemEvent) → (r : _) × (mem_row_of p m found ≡ Some r) → IsSomeAnd found (HasMemRow p m)
+has_mem_row p m None row = let h = row.1 in cc
+has_mem_row p m (Some e) row = (row.0.action, (row.0.next, MemoryCell-found p m e row.0 row.1))
 
--- no step meets an impossible cell
-pub meets_nothing : (s : Situation) → IsCoherent s → (step : Step) → ¬ Meets s step
-meets_nothing s g (Ask core block asking) meets =
-    let p = s.protocol in
-    let held = (held_by (picture_of s block) core).state in
-    let busy = meets.1.0 in
-    elim (place s g core block) [
-      | inr nothing ↦
-          let P : Line → Type 0 = λ x. (¬ ((asking ≡ op.Evict) × (x.state ≡ state.I))) × IsImpossible p x.state (asked asking) in
-          let lacks = subst P nothing meets.1 in
-          nothing_asked p asking lacks.0 lacks.1
-      | inl within ↦
-          let not_idle : is_idle_evict held (asked asking) ≡ false = elim (or_not (is_idle_evict held (asked asking))) as (λ _. is_idle_evict held (asked asking) ≡ false) [
-            | inl idle ↦ absurd (busy (idle_evict held asking idle))
-            | inr e ↦ e
-          ] in
-          let row = ask_possible p s.shape.cores (flat s.log block) (picture_of s block) core asking (g.good block within.1) within.0 not_idle in
-          meets.1.1 row.0.action row.0.next (Cell-found p held (asked asking) row.0 row.1)
-    ]
-meets_nothing s g (Order core) meets = go (picture_of s block).transaction refl
-  where
-    block : ℕ
-    block = meets.1.0
-
-    q : Request
-    q = meets.1.1.0
-
-    go : (found : Option Open) → (picture_of s block).transaction ≡ found → ⊥
-    go (Some t) is =
-        let within = waits_within s g core block q meets.1.1.1.1 in
-        meets.0 (BusTaken block) (within.0, meets.1.1.1.0, rw is refl)
-    go None is =
-        let finds = finds_rows s g core block q meets.1.1.1.1 is in
-        elim meets.1.1.1.2 [
-          | inl core_lacks ↦ let row = finds.rows core_lacks.0 core_lacks.1.0 in core_lacks.1.1 row.0 row.1.0 row.1.1
-          | inr rest ↦ elim rest [
-            | inl memory_lacks ↦ memory_lacks finds.memory.0 finds.memory.1.0 finds.memory.1.1
-            | inr no_sender ↦ no_sender finds.sender
-          ]
-        ]
-meets_nothing s g (Respond block) meets = elim (cases_lt block s.shape.blocks) [
-  | inr past ↦ meets.0 NoBlock past
+-- a core has a row for what it is asked
+asked_row : (s : Situation) → IsCoherent s → (core block : ℕ) (asking : Op) → (¬ ((asking ≡ op.Evict) × (state_of s core block ≡ state.I))) → HasRow s.protocol (state_of s core block) (asked asking)
+asked_row s g core block asking busy = elim (place s g core block) [
+  | inr nothing ↦
+      let P : Line → Type 0 = λ x. (¬ ((asking ≡ op.Evict) × (x.state ≡ state.I))) → HasRow s.protocol x.state (asked asking) in
+      subst P (sym nothing) (nothing_asked s.protocol asking) busy
   | inl within ↦
-      let p = s.protocol in
-      let picture : Picture = picture_of s block in
-      let closing = meets.1.0 in
-      let found = respond_possible p s.shape.cores (flat s.log block) picture closing (g.good block within) meets.1.1.0 in
-      elim meets.1.1.1 [
-        | inl lacks ↦ lacks_at_requestor closing.request p (held_by picture closing.core).state closing.payload found.requestor lacks
-        | inr lacks ↦ not_lacking_memory p picture.memory (arrival_at_memory closing.payload) (found.memory lacks.0) lacks.1
-      ]
+      let held = state_of s core block in
+      let not_idle : is_idle_evict held (asked asking) ≡ false = elim (or_not (is_idle_evict held (asked asking))) as (λ _. is_idle_evict held (asked asking) ≡ false) [
+        | inl idle ↦ absurd (busy (idle_evict held asking idle))
+        | inr e ↦ e
+      ] in
+      has_row s.protocol held (Some (asked asking)) (ask_possible s.protocol s.shape.cores (flat s.log block) (picture_of s block) core asking (g.good block within.1) within.0 not_idle)
 ]
 
--- an Order of any request that waits on a free block finds its rows, and is a line of the table
-pub orders_follow_sender_table : (s : Situation) → IsCoherent s → OrdersFollowSenderTable s
-orders_follow_sender_table s g core block q waits free = (finds_rows s g core block q waits free, order_follows_sender_table s g core block q waits free)
+-- and for a request that is ordered
+seen_row : (s : Situation) → IsCoherent s → (core block : ℕ) (q : Request) → Waits s core block q → (picture_of s block).transaction ≡ None → (k : ℕ) → HasRow s.protocol (state_of s k block) (seen_by k core q)
+seen_row s g core block q waits free k = elim (place s g k block) [
+  | inl within ↦
+      let long : length (picture_of s block).caches ≡ s.shape.cores = g.row block within.1 in
+      let row = (possible_order s g core block q waits free).rows k (omega arith) in
+      has_row s.protocol (state_of s k block) (Some (seen_by k core q)) row
+  | inr nothing ↦
+      let W : ℕ → Type 0 = λ x. waiting_request (state_of s x block) ≡ Some q in
+      let V : Line → Type 0 = λ x. waiting_request x.state ≡ Some q in
+      let P : Line → Type 0 = λ x. HasRow s.protocol x.state (seen_by k core q) in
+      let apart : k ≢ core = λ same. (let clash : ◌≡◌ {A = Option Request} None (Some q) = subst V nothing (subst W (sym same) waits) in cc) in
+      subst P (sym nothing) (rw (seen_other k core q apart) (nothing_seen s.protocol q))
+]
+
+not_put : (q : Request) → q ≢ request.PutM → is_put_m q ≡ false
+not_put request.GetS get = refl
+not_put request.GetM get = refl
+not_put request.PutM get = absurd (get refl)
+
+response_possible : (s : Situation) → IsCoherent s → (block : ℕ) (closing : Open) → (picture_of s block).transaction ≡ Some closing → Answerable s.protocol (picture_of s block) closing
+response_possible s g block closing opened = respond_possible s.protocol s.shape.cores (flat s.log block) (picture_of s block) closing (g.good block (opened_within s g block closing opened)) opened
+
+finds_cache : (s : Situation) → IsCoherent s → (step : Step) (core block : ℕ) (event : Option CacheEvent) → ConsultsCache s step core block event → IsSomeAnd event (HasRow s.protocol (state_of s core block))
+finds_cache s g (Ask asker on asking) core block event looks = rw looks.3 (asked_row s g core block asking looks.2)
+finds_cache s g (Order requestor) core block event looks = rw looks.1.2 (seen_row s g requestor block looks.0 looks.1.0 looks.1.1 core)
+finds_cache s g (Respond on) core block event looks =
+    let closing = looks.0 in
+    let row = (response_possible s g block closing looks.1.1).requestor (not_put closing.request looks.1.3) in
+    rw (looks.1.4, looks.1.2) (has_row s.protocol (state_of s closing.core block) (arrival closing.payload) row)
+
+finds_memory : (s : Situation) → IsCoherent s → (step : Step) (block : ℕ) (event : Option MemEvent) → ConsultsMemory s step block event → IsSomeAnd event (HasMemRow s.protocol (picture_of s block).memory)
+finds_memory s g (Ask asker on asking) block event looks = absurd looks
+finds_memory s g (Order requestor) block event looks =
+    let x = possible_order s g requestor block looks.0 looks.1.0 looks.1.1 in
+    rw looks.1.2 (has_mem_row s.protocol (picture_of s block).memory (Some (at_memory looks.0)) (x.cell_of_memory, x.memory_row))
+finds_memory s g (Respond on) block event looks =
+    let closing = looks.0 in
+    let row = (response_possible s g block closing looks.1.1).memory looks.1.2 in
+    rw looks.1.3 (has_mem_row s.protocol (picture_of s block).memory (arrival_at_memory closing.payload) row)
+
+-- no step meets an impossible cell
+pub finds_rows : (s : Situation) → IsCoherent s → (step : Step) → FindsRows s step
+finds_rows s g step = record { cache = finds_cache s g step; memory = finds_memory s g step }

@@ -20,7 +20,7 @@ use Rattle.snoop_model.specs.Invariant.Coherent.{IsCoherent}
 use Rattle.snoop_model.specs.Invariant.MachineKeeps.{MachineKeeps}
 use Rattle.snoop_model.specs.Runs.Safe.{IsSafe}
 use Rattle.snoop_model.proofs.Invariant.TableLines.{moves_are_by_table}
-use Rattle.snoop_model.proofs.Invariant.Coherence.{has_one_writer, readers_current, memory_current, names_its_block, meets_nothing, orders_follow_sender_table, place}
+use Rattle.snoop_model.proofs.Invariant.Coherence.{has_one_writer, readers_current, memory_current, names_its_block, finds_rows, orders_follow_sender_table, place}
 use Rattle.snoop_model.proofs.Invariant.Runs.{reset_coherent, nothing_proper}
 use Rattle.snoop_model.proofs.Queues.Runs.{reset_queued, move_queued}
 use Rattle.snoop_model.proofs.Queues.Moves.{starts_well, keeps_well}
@@ -49,8 +49,8 @@ is_safe s keeps = record {
   current = readers_current s keeps.coherent;
   memory = memory_current s keeps.coherent;
   opened = names_its_block s keeps.coherent;
-  possible = meets_nothing s keeps.coherent;
-  orders = orders_follow_sender_table s keeps.coherent;
+  possible = finds_rows s keeps.coherent;
+  lines = orders_follow_sender_table s keeps.coherent;
   by_table = moves_are_by_table s keeps.coherent;
   proper = all_proper s keeps.coherent;
   queued = keeps.queued.each;

@@ -23,7 +23,7 @@ use Rattle.snoop_model.specs.Pictures.Sends.{Sends, value_sent}
 use Rattle.snoop_model.specs.Moves.Move.{IsWithin, Orders, Responds, TakesPayload, came_of}
 use Rattle.snoop_model.specs.Moves.SenderTable.{Settles, IsOrderedByTable, IsSettledByTable, MovesAreByTable}
 use Rattle.snoop_model.specs.Invariant.Coherent.{IsCoherent}
-use Rattle.snoop_model.proofs.Invariant.Coherence.{order_follows_sender_table}
+use Rattle.snoop_model.proofs.Invariant.Coherence.{orders_follow_sender_table}
 use Rattle.snoop_model.proofs.OneBlock.OfBlocks.{next_picture}
 use Rattle.snoop_model.proofs.Runs.AreOne.{sends_one}
 
@@ -37,7 +37,7 @@ order_is_by_table : (s : Situation) → IsCoherent s → (core block : ℕ) (q :
 order_is_by_table s g core block q new within o =
     let p = s.protocol in
     let before : Picture = picture_of s block in
-    let f = order_follows_sender_table s g core block q o.waits o.free in
+    let f = orders_follow_sender_table s g core block q o.waits o.free in
     let lists = in_lists s g block within.1 in
     let from : f.from ≡ o.from = o.sent.alone f.from f.payload f.sent.sends in
     let payload : f.payload ≡ o.payload = sends_one p before core q o.from f.payload o.payload (subst (λ (x : Option ℕ). Sends p before core q x f.payload) from f.sent.sends) o.sent.sends in

@@ -21,7 +21,8 @@ use Rattle.snoop_rules.proofs.MemRows.{MemoryCell-one}
 use Rattle.snoop_model.specs.declared.message.Message.{Message}
 use Rattle.snoop_model.specs.Pictures.Picture.{Picture, held_by}
 use Rattle.snoop_model.specs.Pictures.Sends.{Sends, value_sent}
-use Rattle.snoop_model.specs.Moves.Meets.{HasOneSender, FindsRows}
+use Rattle.snoop_model.specs.Moves.LookUps.{HasRow}
+use Rattle.snoop_model.specs.Moves.SenderTable.{FollowsSenderTable}
 use Rattle.snoop_model.specs.Pictures.Message.{IsMessage, memory_message}
 
 -- memory, or a core below n
@@ -72,25 +73,25 @@ module _ (p : Protocol) (before : Picture) (core : ℕ) (request : Request) wher
   sends_below (Some k) payload sends = sends.0
 
   -- not all can be silent
-  pub Silent-all : SilentBelow p before core request (length before.caches) → ¬ HasOneSender p before core request
-  Silent-all silent one = silent one.0 one.1.0 (sends_below one.0 one.1.0 one.1.1.sends) one.1.1.sends
+  pub Silent-all : SilentBelow p before core request (length before.caches) → ¬ FollowsSenderTable p before core request
+  Silent-all silent line = silent line.from line.payload (sends_below line.from line.payload line.sent.sends) line.sent.sends
 
-  -- whoever sends is the only sender
-  pub IsMessage-sent : (m : Message) → FindsRows p before core request → Sends p before core request m.from m.payload → m.value ≡ value_sent before m.from m.payload → IsMessage p before core request m
-  IsMessage-sent m finds sends worth =
-      let only = finds.sender.1.1 in
-      record {
-        rows = finds.rows;
-        only = record { sends = sends; alone = λ other payload h. only.alone other payload h ∙ sym (only.alone m.from m.payload sends) };
-        value = worth;
-      }
+  -- each core has a row for the request, and one controller sends
+  module _ (rows : (k : ℕ) → k < length before.caches → HasRow p (held_by before k).state (seen_by k core request)) (line : FollowsSenderTable p before core request) where
+    -- whoever sends is the only sender
+    pub IsMessage-sent : (m : Message) → Sends p before core request m.from m.payload → m.value ≡ value_sent before m.from m.payload → IsMessage p before core request m
+    IsMessage-sent m sends worth = record {
+      rows = rows;
+      only = record { sends = sends; alone = λ other payload h. line.sent.alone other payload h ∙ sym (line.sent.alone m.from m.payload sends) };
+      value = worth;
+    }
 
-  pub IsMessage-memory : (m : Message) (act : MemAction) (next : MemState) → FindsRows p before core request → MemoryCell p before.memory (at_memory request) act next → memory_message act before.value ≡ Some m → IsMessage p before core request m
-  IsMessage-memory m (mem_action.Send payload) next finds row is =
-      let same = same_Some _ _ is in
-      subst (IsMessage p before core request) same (IsMessage-sent _ finds (next, row) refl)
-  IsMessage-memory m mem_action.None next finds row is = cc
-  IsMessage-memory m mem_action.Write next finds row is = cc
+    pub IsMessage-memory : (m : Message) (act : MemAction) (next : MemState) → MemoryCell p before.memory (at_memory request) act next → memory_message act before.value ≡ Some m → IsMessage p before core request m
+    IsMessage-memory m (mem_action.Send payload) next row is =
+        let same = same_Some _ _ is in
+        subst (IsMessage p before core request) same (IsMessage-sent _ (next, row) refl)
+    IsMessage-memory m mem_action.None next row is = cc
+    IsMessage-memory m mem_action.Write next row is = cc
 
 -- cores that have nothing to do are passed over
 module _ (p : Protocol) (before : Picture) (core : ℕ) (request : Request) where

@@ -47,7 +47,8 @@ use Rattle.snoop_model.specs.Invariant.WellKept.{IsWellKept}
 use Rattle.snoop_model.specs.Turns.TurnRule.{KeepsWell}
 use Rattle.snoop_model.specs.Invariant.Coherent.{IsCoherent}
 use Rattle.snoop_model.proofs.OneBlock.Steps.{Answerable, is_idle_evict, row_of, mem_row_of}
-use Rattle.snoop_model.proofs.Invariant.Coherence.{finds_rows, idle_evict, waits_within}
+use Rattle.snoop_model.specs.Moves.LookUps.{HasRow}
+use Rattle.snoop_model.proofs.Invariant.Coherence.{orders_follow_sender_table, finds_rows, idle_evict, waits_within}
 use Rattle.snoop_model.proofs.OneBlock.Facts.{or_not}
 use Rattle.snoop_model.proofs.Invariant.Steps.{first_keeps}
 use Rattle.snoop_model.proofs.OneBlock.Possible.{ask_possible, respond_possible}
@@ -228,12 +229,11 @@ order_free : (s : Situation) → IsCoherent s → (core block : ℕ) (q : Reques
 order_free s g core block q first waits free =
     let p = s.protocol in
     let before : Picture = picture_of s block in
-    let finds = finds_rows s g core block q waits free in
-    let rows = lines_at (λ k x. TakesRow p (seen_by k core q) (held_by before k) x) (length before.caches) (λ k h. (let row = finds.rows k h in (moves_to row.1.0 (held_by before k), (row.0, (row.1.0, (row.1.1, refl)))))) in
-    let from : Option ℕ = finds.sender.0 in
-    let payload : Payload = finds.sender.1.0 in
-    let opened : Open = record { core = core; request = q; block = block; payload = payload; value = value_sent before from payload; from = from } in
-    let next : Picture = record { caches = rows.0; memory = finds.memory.1.0; value = before.value; transaction = Some opened } in
+    let finds : (k : ℕ) → HasRow p (held_by before k).state (seen_by k core q) = λ k. (finds_rows s g (Order core)).cache k block (Some (seen_by k core q)) (q, (waits, free, refl)) in
+    let line = orders_follow_sender_table s g core block q waits free in
+    let rows = lines_at (λ k x. TakesRow p (seen_by k core q) (held_by before k) x) (length before.caches) (λ k h. (let row = finds k in (moves_to row.1.0 (held_by before k), (row.0, (row.1.0, (row.1.1, refl)))))) in
+    let opened : Open = record { core = core; request = q; block = block; payload = line.payload; value = value_sent before line.from line.payload; from = line.from } in
+    let next : Picture = record { caches = rows.0; memory = line.next; value = before.value; transaction = Some opened } in
     let sent : Item = item.Sent (record { core = core; request = q; block = block }) in
     let new : Situation = record (with_picture s block next) { queues = after_order s.queues core block; log = s.log ++ sent ∷ [] } in
     moved s (Order core) (reply.Ordered q) new (Some sent) (
@@ -249,13 +249,13 @@ order_free s g core block q first waits free =
             record {
               waits = waits;
               free = free;
-              from = from;
-              payload = payload;
-              sent = finds.sender.1.1;
+              from = line.from;
+              payload = line.payload;
+              sent = line.sent;
               next = next;
               caches = rows.1.0;
               rows = λ k h. rows.1.1 k (rw (← rows.1.0) h);
-              memory = (finds.memory.0, finds.memory.1.1);
+              memory = (line.act, line.ordered);
               value = refl;
               opened = refl;
               after = refl;

@@ -18,7 +18,6 @@ use Rattle.snoop_bus.specs.declared.transactions.Open.{Open}
 use Rattle.snoop_model.specs.declared.replies.Reply.{Reply}
 use Rattle.snoop_model.specs.Pictures.Picture.{Picture, held_by}
 use Rattle.snoop_model.specs.Pictures.Situation.{Situation, picture_of, Waits}
-use Rattle.snoop_model.specs.Moves.Meets.{FindsRows}
 use Rattle.snoop_model.specs.Moves.Move.{MoveOn}
 use Rattle.snoop_model.specs.Pictures.Sends.{IsOnlySender}
 
@@ -29,7 +28,7 @@ Settles request protocol memory payload done =
     ((event : MemEvent) × ((act : MemAction) × ((arrival_at_memory payload ≡ Some event) × MemoryCell protocol memory event act done)))
     (done ≡ memory)
 
--- the core's request, ordered now, is a line of the table; at a PutM the sender is the requestor itself
+-- the core's request, ordered now, has exactly one sender, and is a line of the table; at a PutM the sender is the requestor itself
 pub record FollowsSenderTable (protocol : Protocol) (before : Picture) (core : ℕ) (request : Request) : Type 0 where
   pub from : Option ℕ
   pub payload : Payload
@@ -70,8 +69,8 @@ IsByTable block old (Ask core on asking) new = ⊤
 abbrev pub MovesAreByTable : Situation → Type 0
 MovesAreByTable s = (block : ℕ) (step : Step) (answer : Reply) (new : Situation) (entry : Option Item) → MoveOn block s step answer new entry → IsByTable block s step new
 
--- every request that waits on a free block would find all its rows and exactly one sender, and be a line of the table
+-- every request that waits on a free block would have exactly one sender, and be a line of the table
 abbrev pub OrdersFollowSenderTable : Situation → Type 0
 OrdersFollowSenderTable s =
     (core block : ℕ) (request : Request) → Waits s core block request → (picture_of s block).transaction ≡ None →
-    FindsRows s.protocol (picture_of s block) core request × FollowsSenderTable s.protocol (picture_of s block) core request
+    FollowsSenderTable s.protocol (picture_of s block) core request

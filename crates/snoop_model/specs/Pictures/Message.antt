@@ -2,11 +2,7 @@
 -- Source: this project's profile.
 use Rattle.std.specs.Prelude.{◌≡◌, ℕ, ◌<◌, List, length, Option, Some, None, if◌then◌else◌}
 use Rattle.snoop_rules.specs.declared.names.Protocol.{Protocol}
-use Rattle.snoop_rules.specs.declared.names.CacheState.{CacheState}
-use Rattle.snoop_rules.specs.declared.names.CacheEvent.{CacheEvent}
-use Rattle.snoop_rules.specs.declared.names.CacheAction.{CacheAction}
 use Rattle.snoop_rules.specs.declared.names.Request.{Request}
-use Rattle.snoop_rules.specs.Cell.{Cell}
 use Rattle.snoop_rules.specs.Takers.{seen_by, carries_value}
 use Rattle.snoop_rules.specs.declared.names.MemAction.{MemAction}
 use Rattle.snoop_rules.specs.declared.names.MemAction.TheVariants as mem_action
@@ -16,14 +12,11 @@ use Rattle.snoop_model.specs.declared.message.Message.{Message}
 use Rattle.snoop_model.specs.Pictures.Picture.{Picture, held_at, held_by}
 use Rattle.snoop_model.specs.Pictures.Sends.{IsOnlySender, value_sent}
 use Rattle.snoop_model.specs.Moves.Move.{TakesRow}
+use Rattle.snoop_model.specs.Moves.LookUps.{HasRow}
 
 -- a block on which no transaction is open
 abbrev pub free_picture : List Line → MemLine → Picture
 free_picture row memory = record { caches = row; memory = memory.state; value = memory.value; transaction = None }
-
--- the pair of state and event has a row
-abbrev pub HasRow : Protocol → CacheState → CacheEvent → Type 0
-HasRow protocol state event = (act : CacheAction) × ((next : CacheState) × Cell protocol state event act next)
 
 -- each core has a row for the request, and this message is that of the only sender
 pub record IsMessage (protocol : Protocol) (before : Picture) (core : ℕ) (request : Request) (message : Message) : Type 0 where

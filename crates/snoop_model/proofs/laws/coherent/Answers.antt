@@ -6,10 +6,9 @@ use Rattle.snoop_model.specs.Pictures.Situation.{picture_of, reset}
 use Rattle.snoop_model.specs.Pictures.OneWriter.{OneWriter}
 use Rattle.snoop_model.specs.Pictures.Current.{IsCurrent}
 use Rattle.snoop_model.specs.Pictures.MemoryCurrent.{IsMemoryCurrent}
-use Rattle.snoop_model.specs.Moves.Meets.{FindsRows}
 use Rattle.snoop_model.specs.Moves.SenderTable.{FollowsSenderTable}
 use Rattle.snoop_model.proofs.Invariant.Runs.{reset_coherent, run_keeps, run_protocol}
-use Rattle.snoop_model.proofs.Invariant.Coherence.{has_one_writer, readers_current, memory_current, names_its_block, finds_rows, order_follows_sender_table, meets_nothing}
+use Rattle.snoop_model.proofs.Invariant.Coherence.{has_one_writer, readers_current, memory_current, names_its_block, orders_follow_sender_table, finds_rows}
 use Rattle.snoop_model.proofs.Invariant.Safety.{all_proper}
 use Rattle.snoop_model.proofs.Invariant.TableLines.{moves_are_by_table}
 use Rattle.snoop_model.proofs.Once.Runs.{run_asked_once}
@@ -35,18 +34,14 @@ pub returns-clause-opened : goal.returns-clause-opened
 returns-clause-opened c p shape steps outcomes new run = names_its_block new (run_keeps steps outcomes (reset p shape) new (reset_coherent p shape) run)
 
 pub returns-clause-possible : goal.returns-clause-possible
-returns-clause-possible c p shape steps outcomes new run = meets_nothing new (run_keeps steps outcomes (reset p shape) new (reset_coherent p shape) run)
-
-pub returns-clause-any_order : goal.returns-clause-any_order
-returns-clause-any_order c p shape steps outcomes new run core block request waits free =
-    subst (λ (x : Protocol). FindsRows x (picture_of new block) core request) (run_protocol steps outcomes (reset p shape) new run) (finds_rows new (run_keeps steps outcomes (reset p shape) new (reset_coherent p shape) run) core block request waits free)
+returns-clause-possible c p shape steps outcomes new run = finds_rows new (run_keeps steps outcomes (reset p shape) new (reset_coherent p shape) run)
 
 pub returns-clause-once : goal.returns-clause-once
 returns-clause-once c p shape steps outcomes new run = run_asked_once p shape steps outcomes new run
 
 pub returns-clause-lines : goal.returns-clause-lines
 returns-clause-lines c p shape steps outcomes new run core block request waits free =
-    subst (λ (x : Protocol). FollowsSenderTable x (picture_of new block) core request) (run_protocol steps outcomes (reset p shape) new run) (order_follows_sender_table new (run_keeps steps outcomes (reset p shape) new (reset_coherent p shape) run) core block request waits free)
+    subst (λ (x : Protocol). FollowsSenderTable x (picture_of new block) core request) (run_protocol steps outcomes (reset p shape) new run) (orders_follow_sender_table new (run_keeps steps outcomes (reset p shape) new (reset_coherent p shape) run) core block request waits free)
 
 pub returns-clause-by_table : goal.returns-clause-by_table
 returns-clause-by_table c p shape steps outcomes new run = moves_are_by_table new (run_keeps steps outcomes (reset p shape) new (reset_coherent p shape) run)

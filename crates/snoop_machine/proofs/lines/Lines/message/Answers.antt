@@ -21,8 +21,8 @@ pub returns-in-Some-message_of_memory : goal.returns-in-Some-message_of_memory
 returns-in-Some-message_of_memory c =
     let before = free_picture (row_of c.args.self.now.rows c.args.block) c.args.memory in
     let P : MemEvent → Type 0 = λ event. MemoryCell c.args.protocol c.args.memory.state event c.in-Some.cell.action c.in-Some.cell.next in
-    IsMessage-memory c.args.protocol before c.args.requestor c.args.request c.in-Some-message_of_memory.message c.in-Some.cell.action c.in-Some.cell.next
-    c.requires.finds (subst P c.event_at_memory.ensures c.in-Some.ensures.row) (sym c.message_of_memory.ensures ∙ c.in-Some-message_of_memory.is)
+    IsMessage-memory c.args.protocol before c.args.requestor c.args.request c.requires.rows c.requires.line c.in-Some-message_of_memory.message c.in-Some.cell.action c.in-Some.cell.next
+    (subst P c.event_at_memory.ensures c.in-Some.ensures.row) (sym c.message_of_memory.ensures ∙ c.in-Some-message_of_memory.is)
 
 requestor_within : (c : In-Some-next) → c.args.requestor < length (row_of c.args.self.now.rows c.args.block)
 requestor_within c = waits_within (row_of c.args.self.now.rows c.args.block) c.args.requestor c.args.request c.requires.waits
@@ -46,7 +46,7 @@ unreachable-requires-in_default-cache_cell c =
     let P : CacheEvent → Type 0 = λ event. IsImpossible c.args.protocol c.get-line.result.state event in
     let Q : CacheState → Type 0 = λ state. IsImpossible c.args.protocol state (seen_by core c.args.requestor c.args.request) in
     let none = subst Q (ap (λ (line : Line). line.state) c.get-line.ensures.line) (subst P c.event_seen.ensures c.in_default-cache_cell.ensures.impossible) in
-    let there = c.requires.finds.rows core (within_row (goal.at.unreachable-requires-in_default-cache_cell c).In-Some-next) in
+    let there = c.requires.rows core (within_row (goal.at.unreachable-requires-in_default-cache_cell c).In-Some-next) in
     none there.0 there.1.0 there.1.1
 
 pub returns-in-Send : goal.returns-in-Send
@@ -55,8 +55,8 @@ returns-in-Send c =
     let before = free_picture (row_of c.args.self.now.rows c.args.block) c.args.memory in
     let core = c.in-Some-next.core in
     let P : CacheAction → Type 0 = λ act. Cell c.args.protocol (held_at (row_of c.args.self.now.rows c.args.block) core).state (seen_by core c.args.requestor c.args.request) act c.in-Some-cache_cell.cell.next in
-    IsMessage-sent c.args.protocol before c.args.requestor c.args.request (record { payload = c.in-Send.payload; value = c.value_for.result; from = Some core })
-    c.requires.finds (within_row (goal.at.returns-in-Send c).In-Some-next, (c.in-Send.field-1, (c.in-Some-cache_cell.cell.next, subst P c.in-Send.is (row d))))
+    IsMessage-sent c.args.protocol before c.args.requestor c.args.request c.requires.rows c.requires.line (record { payload = c.in-Send.payload; value = c.value_for.result; from = Some core })
+    (within_row (goal.at.returns-in-Send c).In-Some-next, (c.in-Send.field-1, (c.in-Some-cache_cell.cell.next, subst P c.in-Send.is (row d))))
     (c.value_for.ensures ∙ ap (λ (line : Line). if carries_value c.in-Send.payload then unwrap_or line.kept 0 else 0) c.get-line.ensures.line)
 
 pub loop-core-preserved : goal.loop-core-preserved
@@ -66,7 +66,7 @@ loop-core-preserved c =
     let core = c.in-Some-next.core in
     let within : core < length (row_of c.args.self.now.rows c.args.block) = within_row (goal.at.loop-core-preserved c).In-Some-next in
     let silent = Silent-past c.args.protocol before c.args.requestor c.args.request c.loop-core.from core c.in-Some-next.ensures.some.0
-    (λ k above below. Cell-passed c.args.protocol (row_of c.args.self.now.rows c.args.block) c.args.requestor c.args.request c.concerned-concerned.result c.concerned-concerned.ensures.own c.concerned-concerned.ensures.others c.requires.finds.rows k (omega arith)
+    (λ k above below. Cell-passed c.args.protocol (row_of c.args.self.now.rows c.args.block) c.args.requestor c.args.request c.concerned-concerned.result c.concerned-concerned.ensures.own c.concerned-concerned.ensures.others c.requires.rows k (omega arith)
     (c.in-Some-next.ensures.some.3 k above below))
     c.loop-core.invariant.0 in (
       Silent-more c.args.protocol before c.args.requestor c.args.request core c.in-Some-cache_cell.cell.action c.in-Some-cache_cell.cell.next
@@ -78,10 +78,10 @@ pub unreachable-requires-2 : goal.unreachable-requires-2
 unreachable-requires-2 c =
     let before = free_picture (row_of c.args.self.now.rows c.args.block) c.args.memory in
     let silent = Silent-past c.args.protocol before c.args.requestor c.args.request c.loop-core.from (length (row_of c.args.self.now.rows c.args.block)) c.loop-core.invariant.1
-    (λ k above below. Cell-passed c.args.protocol (row_of c.args.self.now.rows c.args.block) c.args.requestor c.args.request c.concerned-concerned.result c.concerned-concerned.ensures.own c.concerned-concerned.ensures.others c.requires.finds.rows k below
+    (λ k above below. Cell-passed c.args.protocol (row_of c.args.self.now.rows c.args.block) c.args.requestor c.args.request c.concerned-concerned.result c.concerned-concerned.ensures.own c.concerned-concerned.ensures.others c.requires.rows k below
     (c.in_default-next.ensures.none k above))
     c.loop-core.invariant.0 in
-    Silent-all c.args.protocol before c.args.requestor c.args.request silent c.requires.finds.sender
+    Silent-all c.args.protocol before c.args.requestor c.args.request silent c.requires.line
 
 pub concerned-concerned-requires-clause-requestor : goal.concerned-concerned-requires-clause-requestor
 concerned-concerned-requires-clause-requestor c = waits_within (row_of c.args.self.now.rows c.args.block) c.args.requestor c.args.request c.requires.waits

@@ -10,7 +10,7 @@ use Rattle.snoop_model.specs.declared.line.Line.{Line}
 use Rattle.snoop_model.specs.Pictures.Picture.{held_at, nothing_held}
 use Rattle.snoop_model.specs.Pictures.Sound.{IsProper, line_at}
 use Rattle.snoop_model.specs.Moves.Move.{moves_to}
-use Rattle.snoop_model.specs.Pictures.Message.{HasRow}
+use Rattle.snoop_model.specs.Moves.LookUps.{HasRow}
 use Rattle.snoop_model.proofs.Tables.Rows.{IsProper-order}
 use Rattle.snoop_machine.proofs.ProperLines.{moves_to_same}
 use Rattle.snoop_machine.specs.Lines.{gone}

@@ -1,12 +1,16 @@
-use Rattle.std.proofs.Common.{subst}
+use Rattle.std.proofs.Common.{◌≡◌, Some, refl, sym, subst}
 use Rattle.std.proofs.lemmas.Result.{err_from_is_err_and}
+use Rattle.snoop_trace.specs.declared.step.Op.TheVariants.{Evict}
+use Rattle.snoop_trace.specs.declared.step.Step.TheVariants.{Ask}
+use Rattle.snoop_rules.specs.declared.names.CacheState.TheVariants.{I}
+use Rattle.snoop_rules.specs.Takers.{asked as event_of}
 use Rattle.snoop_model.specs.declared.line.Line.{Line}
 use Rattle.snoop_machine.specs.declared.plan.Plan.TheVariants as plan
 use Rattle.snoop_model.specs.Moves.Standing.{Standing}
 use Rattle.snoop_model.specs.Pictures.Sound.{IsProper, line_at}
 use Rattle.snoop_machine.specs.Asked.{TakesAsk, RefusesAsk}
-use Rattle.snoop_model.specs.Moves.Meets.{LacksAtAsk}
-use Rattle.snoop_machine.proofs.PossibleLookups.{ask_possible}
+use Rattle.snoop_model.specs.Moves.LookUps.{HasRow}
+use Rattle.snoop_model.proofs.Invariant.Coherence.{finds_rows}
 use Rattle.snoop_machine.proofs.Plans.{IsDenied-ask, plan-allowed}
 use Rattle.snoop_machine.proofs.parts.Parts.plan_ask.Goals as goal
 
@@ -31,9 +35,10 @@ returns-clause-exactly c =
     λ cause refuses. absurd (plan-allowed s (plan.Ask c.args.core c.args.block c.args.op asked) ((c.requires.core, c.requires.block), takes, proper) cause refuses)
 
 pub ask-requires-clause-possible : goal.ask-requires-clause-possible
-ask-requires-clause-possible c = λ lacks.
+ask-requires-clause-possible c =
     let s = c.args.self.now.situation in
-    let P : Line → Type 0 = λ line. LacksAtAsk c.self.inside.protocol line.state c.args.op in
-    let Q : Standing → Type 0 = λ x. LacksAtAsk x.situation.protocol (line_at s.caches c.args.core c.args.block).state c.args.op in
-    ask_possible s c.requires.coherent c.args.core c.args.block c.args.op c.requires.core c.requires.block
-    (subst Q c.self.view_is (subst P c.line-line.ensures.line lacks))
+    let line = line_at s.caches c.args.core c.args.block in
+    let P : Line → Type 0 = λ x. (¬ ((c.args.op ≡ Evict) × (x.state ≡ I))) → HasRow c.self.inside.protocol x.state (event_of c.args.op) in
+    let Q : Standing → Type 0 = λ x. (¬ ((c.args.op ≡ Evict) × (line.state ≡ I))) → HasRow x.situation.protocol line.state (event_of c.args.op) in
+    let finds = finds_rows s c.requires.coherent (Ask c.args.core c.args.block c.args.op) in
+    subst P (sym c.line-line.ensures.line) (subst Q (sym c.self.view_is) (λ busy. finds.cache c.args.core c.args.block (Some (event_of c.args.op)) (refl, refl, busy, refl)))

@@ -1,20 +1,22 @@
 use Rattle.std.proofs.Common.{◌≡◌, ◌<◌, Option, Some, None, refl, sym, ap, subst, arith, ◌∙◌, false}
-use Rattle.std.specs.Prelude.{slice_index_or, is_some}
+use Rattle.std.specs.Prelude.{ℕ, length, slice_index_or, is_some}
+use Rattle.snoop_trace.specs.declared.step.Step.TheVariants.{Order}
 use Rattle.snoop_rules.specs.declared.names.MemEvent.{MemEvent}
 use Rattle.snoop_rules.specs.MemoryCell.{MemoryCell}
 use Rattle.snoop_rules.specs.Possible.{IsMemImpossible}
-use Rattle.snoop_rules.specs.Takers.{at_memory}
+use Rattle.snoop_rules.specs.Takers.{at_memory, seen_by}
 use Rattle.snoop_bus.specs.declared.transactions.Open.{Open}
 use Rattle.snoop_bus.specs.Traffic.{transaction_on}
 use Rattle.snoop_model.specs.declared.memory.MemLine.{MemLine}
-use Rattle.snoop_model.specs.Pictures.Picture.{Picture}
+use Rattle.snoop_model.specs.Pictures.Picture.{Picture, held_by}
 use Rattle.snoop_model.specs.Moves.Standing.{Standing}
 use Rattle.snoop_model.specs.Pictures.Situation.{picture_of, no_memory}
-use Rattle.snoop_model.specs.Moves.Meets.{FindsRows}
+use Rattle.snoop_model.specs.Moves.LookUps.{HasRow}
+use Rattle.snoop_model.specs.Moves.SenderTable.{FollowsSenderTable}
 use Rattle.snoop_model.specs.Pictures.Message.{free_picture, IsMessage}
 use Rattle.snoop_model.specs.Moves.OrderMove.{TakesMemRow}
 use Rattle.snoop_model.proofs.Lines.EachRow.{row_of}
-use Rattle.snoop_model.proofs.Invariant.Coherence.{finds_rows}
+use Rattle.snoop_model.proofs.Invariant.Coherence.{orders_follow_sender_table, finds_rows}
 use Rattle.snoop_machine.specs.declared.plan.Plan.TheVariants as plan
 use Rattle.snoop_machine.proofs.Plans.{plan-allowed}
 use Rattle.snoop_machine.proofs.parts.Parts.plan_order.Goals as goal
@@ -51,15 +53,22 @@ free_here c =
     let free : transaction_on c.self.inside.bus c.in-Some.block ≡ None = none_from_is_some _ (ap is_some (sym c.open.ensures) ∙ (sym c.is_some.ensures ∙ c.if-is_some.false)) in
     sym (ap (λ (s : Standing). (picture_of s.situation c.in-Some.block).transaction) c.self.view_is) ∙ free
 
--- a waiting request on a free block finds its rows
-finds : (c : In-Some-mem_cell) → FindsRows c.args.self.now.situation.protocol (picture_of c.args.self.now.situation c.in-Some.block) c.args.core c.in-Some.request
-finds c = finds_rows c.args.self.now.situation c.requires.coherent c.args.core c.in-Some.block c.in-Some.request c.in-Some.ensures.some.waits (free_here c)
+-- each core has its row for a waiting request on a free block
+pub message-message-requires-clause-rows : goal.message-message-requires-clause-rows
+message-message-requires-clause-rows c =
+    let d = (goal.at.message-message-requires-clause-rows c).In-Some-mem_cell in
+    let s = c.args.self.now.situation in
+    let request = c.in-Some.request in
+    let Q : Picture → Type 0 = λ p. (k : ℕ) → k < length p.caches → HasRow c.self.inside.protocol (held_by p k).state (seen_by k c.args.core request) in
+    subst Q (sym (picture d)) (λ k inside. rw (protocol d)
+    ((finds_rows s c.requires.coherent (Order c.args.core)).cache k c.in-Some.block (Some (seen_by k c.args.core request)) (request, (c.in-Some.ensures.some.waits, free_here d, refl))))
 
-pub message-message-requires-clause-finds : goal.message-message-requires-clause-finds
-message-message-requires-clause-finds c =
-    let d = (goal.at.message-message-requires-clause-finds c).In-Some-mem_cell in
-    let Q : Picture → Type 0 = λ p. FindsRows c.self.inside.protocol p c.args.core c.in-Some.request in
-    subst Q (sym (picture d)) (rw (protocol d) (finds d))
+pub message-message-requires-clause-line : goal.message-message-requires-clause-line
+message-message-requires-clause-line c =
+    let d = (goal.at.message-message-requires-clause-line c).In-Some-mem_cell in
+    let Q : Picture → Type 0 = λ p. FollowsSenderTable c.self.inside.protocol p c.args.core c.in-Some.request in
+    subst Q (sym (picture d))
+    (rw (protocol d) (orders_follow_sender_table c.args.self.now.situation c.requires.coherent c.args.core c.in-Some.block c.in-Some.request c.in-Some.ensures.some.waits (free_here d)))
 
 pub returns-clause-found : goal.returns-clause-found
 returns-clause-found c =
@@ -96,5 +105,5 @@ unreachable-requires c =
     let Q : MemLine → Type 0 = λ x. IsMemImpossible m.protocol x.state (at_memory request) in
     let R : Standing → Type 0 = λ x. IsMemImpossible x.situation.protocol (picture_of x.situation block).memory (at_memory request) in
     let none : IsMemImpossible s.protocol (picture_of s block).memory (at_memory request) = subst R c.self.view_is (subst Q held (subst P c.event_at_memory.ensures c.in_default-mem_cell.ensures.impossible)) in
-    let there = (finds_rows s c.requires.coherent c.args.core block request head.waits free).memory in
-    none there.0 there.1.0 there.1.1
+    let line = orders_follow_sender_table s c.requires.coherent c.args.core block request head.waits free in
+    none line.act line.next line.ordered

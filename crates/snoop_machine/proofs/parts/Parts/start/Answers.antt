@@ -17,7 +17,8 @@ use Rattle.snoop_model.specs.Pictures.Sends.{value_sent}
 use Rattle.snoop_model.specs.Pictures.Sound.{IsSound}
 use Rattle.snoop_machine.specs.PartsView.{queues_of}
 use Rattle.snoop_model.specs.Moves.Move.{Orders}
-use Rattle.snoop_model.specs.Pictures.Message.{HasRow, IsMessage}
+use Rattle.snoop_model.specs.Pictures.Message.{IsMessage}
+use Rattle.snoop_model.specs.Moves.LookUps.{HasRow}
 use Rattle.snoop_model.specs.Moves.OrderMove.{IsHead, TakesMemRow}
 use Rattle.snoop_machine.proofs.Room.{held_in, held_in-set, keeps_room}
 use Rattle.snoop_model.proofs.Lines.EachRow.{row_of}
