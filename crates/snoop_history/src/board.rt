@@ -72,6 +72,7 @@ impl Board {
     }
 
     /// Takes in one more item, of any kind. It takes no memory and cannot fail.
+    #[inline(always)]
     pub fn absorb(&mut self, item: Item)
         ensures value { self.new ≡ absorbed self.old item }
 

@@ -210,6 +210,7 @@ impl Log {
     }
 
     /// Puts an item last, in the room that `reserve` made. It takes no memory.
+    #[inline(always)]
     pub fn push(&mut self, item: Item)
         requires room { 0 < self.old.room }
         requires within { IsWithin self.old.cores self.old.blocks item }

@@ -59,6 +59,7 @@ const EMPTY: Packed = Packed {
 
 impl Packed {
     /// Packs an item of the largest shape or a smaller one.
+    #[inline(always)]
     pub(crate) fn new(item: Item) -> Self
         requires { IsWithin 256 65536 item }
         ensures { unpacked result ≡ item }

@@ -16,6 +16,7 @@ fn count(n: &mut u64, here: bool)
 
 impl Totals {
     /// Counts one more item; each count stops at the largest `u64`.
+    #[inline(always)]
     pub(crate) fn add(&mut self, item: Item)
         ensures { self.new ≡ tallied self.old item }
     {

@@ -53,6 +53,7 @@ impl TouchedBlocks {
     }
 
     /// Takes in the blocks that one more item mentions. It takes no memory.
+    #[inline(always)]
     pub(crate) fn add(&mut self, item: Item)
         requires block { block_of item < self.old.blocks }
         requires operation { ForSome (operation_of item) (λ did. did.block < self.old.blocks) }
@@ -66,6 +67,7 @@ impl TouchedBlocks {
     }
 
     // Puts the block last where it is new.
+    #[inline(always)]
     fn mention(&mut self, block: u32)
         requires { block < self.old.blocks }
         ensures { self.new ≡ record { blocks = self.old.blocks; order = insert_key nat_eq self.old.order block } }

@@ -22,6 +22,7 @@ impl Machine {
 
     /// The step of a core's turn with a work, by what waits and what is open: `under_way` says whether the core has asked
     /// for it already. `None` where another core's turn has closed the work.
+    #[inline(always)]
     pub fn turn_step(&self, core: u32, block: u32, op: Op, under_way: bool) -> Option<Step>
         requires core { core < self.now.situation.shape.cores }
         requires block { block < self.now.situation.shape.blocks }

@@ -73,6 +73,7 @@ fn block_in(shape: Shape, n: u64, address: u64) -> Result<u32, TextFault>
 }
 
 #[tactic(auto, unfolding(crate::specs::Grammar::without_value))]
+#[inline(always)]
 fn without_value(shape: Shape, n: u64, op: Op, fields: &ByteRecord) -> Result<Row, TextFault>
     ensures { result ≡ spec.without_value shape n op (fields_of fields.now) }
 {
@@ -84,6 +85,7 @@ fn without_value(shape: Shape, n: u64, op: Op, fields: &ByteRecord) -> Result<Ro
 }
 
 #[tactic(auto, unfolding(crate::specs::Grammar::store))]
+#[inline(always)]
 fn store(shape: Shape, n: u64, fields: &ByteRecord) -> Result<Row, TextFault>
     ensures { result ≡ spec.store shape n (fields_of fields.now) }
 {
@@ -101,6 +103,7 @@ fn store(shape: Shape, n: u64, fields: &ByteRecord) -> Result<Row, TextFault>
 
 // What a core asks for in record n, by its letter.
 #[tactic(auto, unfolding(crate::specs::Grammar::asked))]
+#[inline(always)]
 fn asked(shape: Shape, n: u64, letter: u8, fields: &ByteRecord) -> Result<Row, TextFault>
     ensures { result ≡ spec.asked shape n letter (fields_of fields.now) }
 {

@@ -27,6 +27,7 @@ use snoop_trace::Op;
 
 impl Parts {
     /// What an Ask will do, of a core and a block that there are.
+    #[inline(always)]
     pub(super) fn plan_ask(&self, core: u32, block: u32, op: Op) -> Result<Plan, Refused>
         requires core { core < self.now.situation.shape.cores }
         requires block { block < self.now.situation.shape.blocks }
@@ -46,6 +47,7 @@ impl Parts {
     }
 
     /// Does what was found for an Ask.
+    #[inline(always)]
     pub(super) fn take_ask(&mut self, core: u32, block: u32, op: Op, asked: Asked) -> Reply
         requires core { core < self.old.situation.shape.cores }
         requires block { block < self.old.situation.shape.blocks }
@@ -74,6 +76,7 @@ impl Parts {
     }
 
     /// Writes the line, and puts the request last in the core's queue.
+    #[inline(always)]
     fn issue_line(&mut self, core: u32, block: u32, line: Line, request: Request)
         requires core { core < self.old.situation.shape.cores }
         requires block { block < self.old.situation.shape.blocks }
@@ -90,6 +93,7 @@ impl Parts {
     }
 
     /// Writes the line, which waits as it did.
+    #[inline(always)]
     fn put_line(&mut self, core: u32, block: u32, line: Line)
         requires core { core < self.old.situation.shape.cores }
         requires block { block < self.old.situation.shape.blocks }
@@ -104,6 +108,7 @@ impl Parts {
     }
 
     /// Writes the line after a hit, and logs the operation.
+    #[inline(always)]
     fn hit_line(&mut self, core: u32, block: u32, op: Op, line: Line, value: u64)
         requires core { core < self.old.situation.shape.cores }
         requires block { block < self.old.situation.shape.blocks }

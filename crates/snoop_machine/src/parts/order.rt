@@ -33,6 +33,7 @@ impl Parts {
     }
 
     /// What an Order will do, of a core that there is.
+    #[inline(always)]
     pub(super) fn plan_order(&self, core: u32) -> Result<Plan, Refused>
         requires core { core < self.now.situation.shape.cores }
         requires coherent { IsCoherent self.now.situation }
@@ -63,6 +64,7 @@ impl Parts {
     }
 
     /// Each core and memory take their rows for the core's oldest request, and its transaction opens.
+    #[inline(always)]
     pub(super) fn start(
         &mut self,
         core: u32,

@@ -32,6 +32,7 @@ impl Parts {
     }
 
     /// What a Respond will do, of a block that there is.
+    #[inline(always)]
     pub(super) fn plan_respond(&self, block: u32) -> Result<Plan, Refused>
         requires block { block < self.now.situation.shape.blocks }
         requires coherent { IsCoherent self.now.situation }
@@ -68,6 +69,7 @@ impl Parts {
     }
 
     /// Memory takes the message of a PutM, and its transaction closes.
+    #[inline(always)]
     pub(super) fn finish_put(&mut self, block: u32, closing: Open, memory: MemLine)
         requires block { block < self.old.situation.shape.blocks }
         requires room { 0 < self.old.room }
@@ -84,6 +86,7 @@ impl Parts {
     }
 
     /// The requestor and memory take the message of a GetS or GetM, and its transaction closes.
+    #[inline(always)]
     pub(super) fn finish_get(
         &mut self,
         block: u32,

@@ -61,6 +61,7 @@ impl Parts {
     }
 
     /// What the step will do, or why it is refused.
+    #[inline(always)]
     fn planned(&self, step: Step) -> Result<Plan, Refused>
         requires { IsCoherent self.now.situation }
         ensures found { IfOk result (λ plan. IsPlanFor self.now.situation step plan) }
@@ -81,6 +82,7 @@ impl Parts {
     }
 
     /// Makes room for what the plan adds.
+    #[inline(always)]
     fn make_room(&mut self, plan: Plan) -> Result<(), NoMemory>
         requires { IsPlan self.old.situation plan }
         ensures ok { OnOk result (HasRoom self.new plan) }
@@ -102,6 +104,7 @@ impl Parts {
     }
 
     /// Makes room for what an Ask of the core adds.
+    #[inline(always)]
     fn make_room_to_ask(&mut self, core: u32, block: u32, asked: Asked) -> Result<(), NoMemory>
         requires { core < self.old.situation.shape.cores }
         ensures ok { OnOk result (HasRoomToAsk self.new core block asked) }
@@ -119,6 +122,7 @@ impl Parts {
     }
 
     /// Makes room for one more request of the core for the block, and puts in the line that will wait for it.
+    #[inline(always)]
     fn make_room_to_issue(&mut self, core: u32, block: u32) -> Result<(), NoMemory>
         requires { core < self.old.situation.shape.cores }
         ensures ok { OnOk result ((has_line self.new core block ≡ true) × (0 < slice_index self.new.rooms core)) }
@@ -180,6 +184,7 @@ impl Parts {
     }
 
     /// Makes room for one more item.
+    #[inline(always)]
     fn reserve_item(&mut self) -> Result<(), NoMemory>
         ensures ok { OnOk result (0 < self.new.room) }
         ensures full { OnErr result (self.old.room ≡ 0) }
@@ -196,6 +201,7 @@ impl Parts {
     }
 
     /// Does what the plan says.
+    #[inline(always)]
     fn perform(&mut self, plan: Plan) -> Reply
         requires found { IsPlan self.old.situation plan }
         requires room { HasRoom self.old plan }

@@ -6,6 +6,7 @@ use crate::fault::NoMemory;
 use itoa::Buffer;
 
 /// Appends a text. After `NoMemory` nothing is said of what stands there.
+#[inline(always)]
 pub fn push_text(out: &mut Vec<u8>, text: &str) -> Result<(), NoMemory>
     ensures ok { OnOk result (out.new.items ≡ out.old.items ++ text.now) }
 {
@@ -13,6 +14,7 @@ pub fn push_text(out: &mut Vec<u8>, text: &str) -> Result<(), NoMemory>
 }
 
 /// Appends a byte. After `NoMemory` nothing is said of what stands there.
+#[inline(always)]
 pub fn push_byte(out: &mut Vec<u8>, byte: u8) -> Result<(), NoMemory>
     ensures ok { OnOk result (out.new.items ≡ out.old.items ++ byte ∷ []) }
 {
