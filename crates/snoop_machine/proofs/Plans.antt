@@ -35,8 +35,7 @@ use Rattle.snoop_model.specs.Pictures.Situation.{Situation, picture_of, state_of
 use Rattle.snoop_model.specs.Pictures.Sound.{line_at}
 use Rattle.snoop_machine.specs.Asked.{TakesAsk, RefusesAsk}
 use Rattle.snoop_machine.specs.Arrive.{FillsLine}
-use Rattle.snoop_model.specs.Moves.Move.{Performs, Hits, Takes, Fills, ArrivesFor, FirstMove, came_of, next_did}
-use Rattle.snoop_model.specs.Moves.AskMove.{MovesAsk}
+use Rattle.snoop_model.specs.Moves.Move.{Performs, Hits, Takes, Fills, ArrivesFor, MovesAsk, FirstMove, came_of, next_did}
 use Rattle.snoop_model.specs.Moves.OrderMove.{IsHead}
 use Rattle.snoop_model.specs.Moves.Refuses.{Refuses}
 use Rattle.snoop_model.specs.Moves.StepMove.{IsDenied, RefusedFor}

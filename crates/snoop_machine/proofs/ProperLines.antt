@@ -1,21 +1,20 @@
 -- What is so of a proper line.
 use Rattle.std.proofs.Common.{◌≡◌, ℕ, Option, None, Some, false, refl, sym, ◌∙◌, ap}
-use Rattle.std.specs.Prelude.{is_some}
+use Rattle.std.specs.Prelude.{is_some, option_map}
 use Rattle.snoop_trace.specs.declared.step.Op.{Op}
 use Rattle.snoop_trace.specs.declared.step.Op.TheVariants as op
 use Rattle.snoop_rules.specs.declared.names.CacheState.{CacheState}
 use Rattle.snoop_rules.specs.declared.names.CacheState.TheVariants as state
 use Rattle.snoop_model.specs.declared.line.Line.{Line}
 use Rattle.snoop_model.specs.Pictures.Picture.{kept_on, nothing_held}
-use Rattle.snoop_model.specs.Pictures.Sound.{IsProper, keeps, awaits, kind_of}
-use Rattle.snoop_model.specs.Pictures.Sound.Awaits.{nothing}
+use Rattle.snoop_model.specs.Pictures.Sound.{IsProper, keeps, request_for, missed_request}
 use Rattle.snoop_model.specs.Moves.Move.{moves_to}
 
 nothing_kept : (kept : Option ℕ) → is_some kept ≡ false → kept ≡ None
 nothing_kept None e = refl
 nothing_kept (Some v) e = cc
 
-nothing_waits : (waiting : Option Op) → kind_of waiting ≡ nothing → waiting ≡ None
+nothing_waits : (waiting : Option Op) → option_map request_for waiting ≡ None → waiting ≡ None
 nothing_waits None e = refl
 nothing_waits (Some op.Load) e = cc
 nothing_waits (Some (op.Store value)) e = cc
@@ -25,7 +24,7 @@ nothing_waits (Some op.Evict) e = cc
 pub settled : (line : Line) → IsProper line → line.state ≡ state.I → line ≡ nothing_held
 settled line proper e =
     let kept : line.kept ≡ None = nothing_kept line.kept (proper.kept ∙ ap keeps e) in
-    let waiting : line.waiting ≡ None = nothing_waits line.waiting (proper.waiting ∙ ap awaits e) in
+    let waiting : line.waiting ≡ None = nothing_waits line.waiting (proper.waiting ∙ ap missed_request e) in
     λ i. record { state = e i; kept = kept i; waiting = waiting i }
 
 -- a proper line that moves to its own state is as it was

@@ -1,11 +1,9 @@
 -- A response, from what it does to one line and to memory.
 use Rattle.std.proofs.Common.{◌≡◌, ◌≢◌, Bool, true, false, List, Some, None, Option, refl, sym, ◌∙◌, ap, subst}
-use Rattle.std.specs.Prelude.{slice_set, MatchBool}
+use Rattle.std.specs.Prelude.{slice_set}
 use Rattle.snoop_rules.specs.declared.names.Protocol.{Protocol}
 use Rattle.snoop_rules.specs.declared.names.Request.{Request}
 use Rattle.snoop_rules.specs.declared.names.Request.TheVariants.{GetS, GetM, PutM}
-use Rattle.snoop_rules.specs.declared.names.MemState.{MemState}
-use Rattle.snoop_rules.specs.Takers.{takes_payload}
 use Rattle.snoop_history.specs.declared.items.Did.{Did}
 use Rattle.snoop_history.specs.declared.items.Item.{Item}
 use Rattle.snoop_bus.specs.declared.transactions.Open.{Open}
@@ -13,10 +11,10 @@ use Rattle.snoop_model.specs.declared.line.Line.{Line}
 use Rattle.snoop_model.specs.declared.memory.MemLine.{MemLine}
 use Rattle.snoop_machine.specs.declared.respond.Filled.{Filled}
 use Rattle.snoop_model.specs.Pictures.Picture.{Picture, held_at}
-use Rattle.snoop_model.specs.Moves.Move.{Fills, ArrivesFor, Arrives, TakesPayload, ArrivesAtMemory, next_did}
-use Rattle.snoop_machine.specs.Arrive.{FillsLine, TakesIn, ArrivesIn}
+use Rattle.snoop_model.specs.Moves.Move.{Fills, ArrivesFor, ArrivesAtMemory, next_did}
+use Rattle.snoop_machine.specs.Arrive.{FillsLine, ArrivesIn}
 
-pub Arrives-put : (closing : Open) (p : Protocol) (log : List Item) (caches : List Line) → closing.request ≡ PutM → Arrives closing p log caches caches None
+pub Arrives-put : (closing : Open) (p : Protocol) (log : List Item) (caches : List Line) → closing.request ≡ PutM → ArrivesFor closing.request closing p log caches caches None
 Arrives-put closing p log caches put =
     let P : Request → Type 0 = λ q. ArrivesFor q closing p log caches caches None in
     subst P (sym put) (refl, refl)
@@ -28,7 +26,7 @@ arrives_get PutM closing p log old new did get fills = absurd (get refl)
 
 pub Arrives-get : (closing : Open) (p : Protocol) (log : List Item) (caches : List Line) (filled : Filled) → closing.request ≢ PutM
     → FillsLine p (held_at caches closing.core) closing.payload closing.value filled
-    → Arrives closing p log caches (slice_set caches closing.core filled.line) (Some (next_did log closing.core closing.block filled.op filled.value false))
+    → ArrivesFor closing.request closing p log caches (slice_set caches closing.core filled.line) (Some (next_did log closing.core closing.block filled.op filled.value false))
 Arrives-get closing p log caches filled get f =
     arrives_get closing.request closing p log caches (slice_set caches closing.core filled.line) (Some (next_did log closing.core closing.block filled.op filled.value false)) get
     (record {
@@ -47,18 +45,7 @@ Arrives-get closing p log caches filled get f =
       held = ap (λ (x : Line). slice_set caches closing.core x) f.held;
     })
 
-arrives_at : (b : Bool) (closing : Open) (p : Protocol) (old new : Picture) (m n : MemLine)
-    → old.memory ≡ m.state → old.value ≡ m.value → new.memory ≡ n.state → new.value ≡ n.value
-    → MatchBool b (TakesIn p closing.payload closing.value m n) (n ≡ m)
-    → MatchBool b (TakesPayload closing p old new) ((new.memory ≡ old.memory) × (new.value ≡ old.value))
-arrives_at true closing p old new m n e f g h t =
-    record { event = t.event; act = t.act; arrives = t.arrives; row = rw (e, g) t.row; value = rw (f, h) t.value }
-arrives_at false closing p old new m n e f g h t =
-    (g ∙ (ap (λ (x : MemLine). x.state) t ∙ sym e), h ∙ (ap (λ (x : MemLine). x.value) t ∙ sym f))
-
 pub ArrivesAtMemory-in : (closing : Open) (p : Protocol) (old new : Picture) (m n : MemLine)
     → old.memory ≡ m.state → old.value ≡ m.value → new.memory ≡ n.state → new.value ≡ n.value
     → ArrivesIn closing.request p closing.payload closing.value m n → ArrivesAtMemory closing p old new
-ArrivesAtMemory-in closing p old new m n e f g h t =
-    let P : MemState → Type 0 = λ x. MatchBool (takes_payload closing.request x) (TakesPayload closing p old new) ((new.memory ≡ old.memory) × (new.value ≡ old.value)) in
-    subst P (sym e) (arrives_at (takes_payload closing.request m.state) closing p old new m n e f g h t)
+ArrivesAtMemory-in closing p old new m n e f g h t = record { act = t.act; settled = rw (e, g) t.settled; value = rw (f, h) t.value }

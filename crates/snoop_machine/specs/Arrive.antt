@@ -1,21 +1,19 @@
 -- What a response does to one line, and to memory.
 -- Source: this project's profile.
-use Rattle.std.specs.Prelude.{◌≡◌, ℕ, Some, None, MatchBool}
+use Rattle.std.specs.Prelude.{◌≡◌, ℕ, Some, None}
 use Rattle.snoop_rules.specs.declared.names.Protocol.{Protocol}
 use Rattle.snoop_rules.specs.declared.names.CacheState.{CacheState}
 use Rattle.snoop_rules.specs.declared.names.CacheEvent.{CacheEvent}
 use Rattle.snoop_rules.specs.declared.names.CacheAction.{CacheAction}
-use Rattle.snoop_rules.specs.declared.names.MemEvent.{MemEvent}
 use Rattle.snoop_rules.specs.declared.names.MemAction.{MemAction}
 use Rattle.snoop_rules.specs.declared.names.Request.{Request}
 use Rattle.snoop_rules.specs.declared.names.Payload.{Payload}
 use Rattle.snoop_rules.specs.Cell.{Cell}
-use Rattle.snoop_rules.specs.MemoryCell.{MemoryCell}
-use Rattle.snoop_rules.specs.Takers.{arrival, arrival_at_memory, takes_payload}
+use Rattle.snoop_rules.specs.Takers.{arrival}
 use Rattle.snoop_model.specs.declared.line.Line.{Line}
 use Rattle.snoop_model.specs.declared.memory.MemLine.{MemLine}
 use Rattle.snoop_machine.specs.declared.respond.Filled.{Filled}
-use Rattle.snoop_model.specs.Moves.Move.{Performs, IsFillFor, written}
+use Rattle.snoop_model.specs.Moves.Move.{Performs, IsFillFor, Settles, written}
 
 -- the data reaches the requestor's line, which performs its waiting operation with it
 pub record FillsLine (protocol : Protocol) (old : Line) (payload : Payload) (sent : ℕ) (filled : Filled) : Type 0 where
@@ -30,14 +28,8 @@ pub record FillsLine (protocol : Protocol) (old : Line) (payload : Payload) (sen
   pub performed : Performs filled.op sent filled.value after
   pub held : filled.line ≡ record { state = next; kept = Some after; waiting = None }
 
--- memory takes a payload
-pub record TakesIn (protocol : Protocol) (payload : Payload) (sent : ℕ) (old new : MemLine) : Type 0 where
-  pub event : MemEvent
+-- memory's line before and after a response
+pub record ArrivesIn (request : Request) (protocol : Protocol) (payload : Payload) (sent : ℕ) (old new : MemLine) : Type 0 where
   pub act : MemAction
-  pub arrives : arrival_at_memory payload ≡ Some event
-  pub row : MemoryCell protocol old.state event act new.state
+  pub settled : Settles protocol request payload old.state act new.state
   pub value : new.value ≡ written act sent old.value
-
--- memory takes the message of a PutM, and another's where it waits for one; else it stays
-abbrev pub ArrivesIn : Request → Protocol → Payload → ℕ → MemLine → MemLine → Type 0
-ArrivesIn request protocol payload sent old new = MatchBool (takes_payload request old.state) (TakesIn protocol payload sent old new) (new ≡ old)

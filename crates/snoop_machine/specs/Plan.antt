@@ -7,6 +7,7 @@ use Rattle.snoop_trace.specs.declared.step.Step.TheVariants as step
 use Rattle.snoop_rules.specs.declared.names.MemState.{MemState}
 use Rattle.snoop_rules.specs.declared.names.Request.{Request}
 use Rattle.snoop_rules.specs.declared.names.Request.TheVariants.{PutM}
+use Rattle.snoop_rules.specs.Takers.{at_memory}
 use Rattle.snoop_bus.specs.declared.transactions.Open.{Open}
 use Rattle.snoop_history.specs.declared.items.Item.{Item}
 use Rattle.snoop_history.specs.declared.items.Item.TheVariants as item
@@ -20,10 +21,10 @@ use Rattle.snoop_model.specs.Moves.Standing.{Standing, has_line}
 use Rattle.snoop_model.specs.Moves.Prepared.{room_to_issue}
 use Rattle.snoop_model.specs.Pictures.Situation.{Situation, picture_of, no_memory}
 use Rattle.snoop_model.specs.Pictures.Sound.{IsProper, line_at}
-use Rattle.snoop_model.specs.Moves.Move.{IsWithin, came_of, next_did}
+use Rattle.snoop_model.specs.Moves.Move.{IsWithin, TakesMemRow, came_of, next_did}
 use Rattle.snoop_machine.specs.Asked.{TakesAsk}
 use Rattle.snoop_model.specs.Pictures.Message.{IsMessage}
-use Rattle.snoop_model.specs.Moves.OrderMove.{IsHead, TakesMemRow}
+use Rattle.snoop_model.specs.Moves.OrderMove.{IsHead}
 use Rattle.snoop_machine.specs.Arrive.{FillsLine, ArrivesIn}
 
 -- the step that a plan is for
@@ -37,7 +38,7 @@ step_of (Fill block closing memory filled) = step.Respond block
 pub record IsOrdered (s : Situation) (core : ℕ) (request : Request) (block : ℕ) (message : Message) (memory : MemState) : Type 0 where
   pub head : IsHead s core request block
   pub free : (picture_of s block).transaction ≡ None
-  pub memory_row : TakesMemRow s.protocol (picture_of s block).memory request memory
+  pub memory_row : TakesMemRow s.protocol (at_memory request) (picture_of s block).memory memory
   pub sent : IsMessage s.protocol (picture_of s block) core request message
 
 -- the block's transaction is this one, and leaves memory so

@@ -1,6 +1,6 @@
 -- A Respond played.
 use Rattle.std.proofs.Common.{◌≡◌, ℕ, ◌<◌, Bool, true, false, List, [], ◌∷◌, ◌++◌, Option, Some, None, Ok, refl}
-use Rattle.std.specs.Prelude.{slice_set, MatchBool}
+use Rattle.std.specs.Prelude.{slice_set, MatchBool, IsSomeAnd}
 use Rattle.snoop_trace.specs.declared.step.Op.{Op}
 use Rattle.snoop_trace.specs.declared.step.Op.TheVariants as op
 use Rattle.snoop_trace.specs.declared.step.Step.TheVariants.{Respond}
@@ -10,6 +10,10 @@ use Rattle.snoop_rules.specs.declared.names.CacheEvent.{CacheEvent}
 use Rattle.snoop_rules.specs.declared.names.CacheAction.{CacheAction}
 use Rattle.snoop_rules.specs.declared.names.CacheAction.TheVariants as action
 use Rattle.snoop_rules.specs.declared.names.MemState.{MemState}
+use Rattle.snoop_rules.specs.declared.names.MemAction.{MemAction}
+use Rattle.snoop_rules.specs.declared.names.MemAction.TheVariants as mem_action
+use Rattle.snoop_rules.specs.declared.names.Payload.{Payload}
+use Rattle.snoop_rules.specs.MemoryCell.{MemoryCell}
 use Rattle.snoop_rules.specs.declared.names.Request.{Request}
 use Rattle.snoop_rules.specs.declared.names.Request.TheVariants.{GetS, GetM, PutM}
 use Rattle.snoop_rules.specs.Takers.{arrival, arrival_at_memory, takes_payload}
@@ -22,7 +26,7 @@ use Rattle.snoop_model.specs.declared.replies.Reply.{Reply}
 use Rattle.snoop_model.specs.declared.replies.Reply.TheVariants as reply
 use Rattle.snoop_model.specs.Pictures.Picture.{Picture, held_at}
 use Rattle.snoop_model.specs.Pictures.Situation.{Situation, picture_of, with_picture}
-use Rattle.snoop_model.specs.Moves.Move.{next_did, IsFillFor, Fills, ArrivesFor, TakesPayload, written, came_of}
+use Rattle.snoop_model.specs.Moves.Move.{next_did, IsFillFor, Fills, ArrivesFor, written, came_of}
 use Rattle.snoop_model.specs.Runs.Run.{GoesFirst}
 use Rattle.snoop_scenes.proofs.Deciding.{if_some}
 use Rattle.snoop_scenes.proofs.Rows.{RowAt, row_at, memory_row_at}
@@ -94,40 +98,37 @@ arrived PutM closing protocol log lines = Some (record { new = lines; did = None
 arrived GetS closing protocol log lines = if_some (filled closing protocol log lines) λ f is. Some (record { new = f.new; did = f.did; arrives = f.fills })
 arrived GetM closing protocol log lines = if_some (filled closing protocol log lines) λ f is. Some (record { new = f.new; did = f.did; arrives = f.fills })
 
--- memory takes the payload where it waits for one
-abbrev pub RemembersIf : Bool → Open → Protocol → Picture → Picture → Type 0
-RemembersIf waits closing protocol old new = MatchBool waits (TakesPayload closing protocol old new) ((new.memory ≡ old.memory) × (new.value ≡ old.value))
+-- what memory does with the payload where it takes it, and where it doesn't
+abbrev pub SettlesIf : Bool → Payload → Protocol → MemState → MemAction → MemState → Type 0
+SettlesIf takes payload protocol old act new =
+    MatchBool takes (IsSomeAnd (arrival_at_memory payload) (λ event. MemoryCell protocol old event act new)) ((act ≡ mem_action.None) × (new ≡ old))
 
 -- a block with no transaction
 abbrev pub closed_picture : List Line → MemState → ℕ → Picture
 closed_picture caches memory value = record { caches = caches; memory = memory; value = value; transaction = None }
 
--- what a response does to memory
-pub record Remembered (waits : Bool) (closing : Open) (protocol : Protocol) (old : Picture) : Type 0 where
+-- what a response does to memory's state
+pub record Remembered (takes : Bool) (payload : Payload) (protocol : Protocol) (old : MemState) : Type 0 where
+  pub act : MemAction
   pub memory : MemState
-  pub value : ℕ
-  pub takes : (caches : List Line) → RemembersIf waits closing protocol old (closed_picture caches memory value)
+  pub settles : SettlesIf takes payload protocol old act memory
 
-abbrev pub remembered : (waits : Bool) (closing : Open) (protocol : Protocol) (old : Picture) → Option (Remembered waits closing protocol old)
-remembered false closing protocol old = Some (record { memory = old.memory; value = old.value; takes = λ caches. (refl, refl) })
-remembered true closing protocol old =
-    if_some (arrival_at_memory closing.payload) λ event arrives.
-    if_some (memory_row_at protocol old.memory event) λ found is.
-    Some (record {
-      memory = found.next;
-      value = written found.act closing.value old.value;
-      takes = λ caches. record { event = event; act = found.act; arrives = arrives; row = found.row; value = refl };
-    })
+abbrev pub remembered : (takes : Bool) (payload : Payload) (protocol : Protocol) (old : MemState) → Option (Remembered takes payload protocol old)
+remembered false payload protocol old = Some (record { act = mem_action.None; memory = old; settles = (refl, refl) })
+remembered true payload protocol old =
+    if_some (arrival_at_memory payload) λ event arrives.
+    if_some (memory_row_at protocol old event) λ found is.
+    Some (record { act = found.act; memory = found.next; settles = rw arrives found.row })
 
 -- A Respond of a block's open transaction.
 module _ (old : Situation) (block : ℕ) (there : block < old.shape.blocks) (closing : Open) (opened : (picture_of old block).transaction ≡ Some closing)
     (came : Arrived closing.request closing old.protocol old.log (picture_of old block).caches)
-    (kept : Remembered (takes_payload closing.request (picture_of old block).memory) closing old.protocol (picture_of old block)) where
+    (kept : Remembered (takes_payload closing.request (picture_of old block).memory) closing.payload old.protocol (picture_of old block).memory) where
   abbrev pub answer : Option Did → Reply
   answer did = reply.Came closing.payload closing.from did
 
   abbrev pub next : Picture
-  next = closed_picture came.new kept.memory kept.value
+  next = closed_picture came.new kept.memory (written kept.act closing.value (picture_of old block).value)
 
   abbrev pub goes_to : Picture → Option Did → Situation
   goes_to picture did = record (with_picture old block picture) { log = old.log ++ item.Came (came_of closing) did ∷ [] }
@@ -152,7 +153,7 @@ module _ (old : Situation) (block : ℕ) (there : block < old.shape.blocks) (clo
                 opened = opened;
                 next = next;
                 requestor = came.arrives;
-                memory = kept.takes came.new;
+                memory = record { act = kept.act; settled = kept.settles; value = refl };
                 closed = refl;
                 after = refl;
               },

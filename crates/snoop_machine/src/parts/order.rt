@@ -1,5 +1,6 @@
 //! An Order: found, and made.
 ghost use Rattle.std.specs.Prelude.{◌≡◌, ◌<◌, ℕ, IfOk, IfErr, IfSome, IfNone, None, Err, slice_get};
+ghost use Rattle.snoop_rules.specs.Takers.{at_memory};
 ghost use Rattle.snoop_bus.specs.Queues.{queue_of};
 ghost use Rattle.snoop_model.specs.declared.replies.Refused.{Refused};
 ghost use Rattle.snoop_trace.specs.declared.step.Step.TheVariants.{Order};
@@ -8,8 +9,8 @@ ghost use Rattle.snoop_machine.specs.Following.{LosesLines};
 ghost use Rattle.snoop_model.specs.Pictures.Situation.{picture_of};
 ghost use Rattle.snoop_model.specs.Moves.Refuses.{Refuses, WaitsOnNone};
 ghost use Rattle.snoop_model.specs.Pictures.Message.{IsMessage};
-ghost use Rattle.snoop_model.specs.Moves.Move.{Orders};
-ghost use Rattle.snoop_model.specs.Moves.OrderMove.{IsHead, TakesMemRow};
+ghost use Rattle.snoop_model.specs.Moves.Move.{Orders, TakesMemRow};
+ghost use Rattle.snoop_model.specs.Moves.OrderMove.{IsHead};
 ghost use Rattle.snoop_model.specs.Moves.StepMove.{IsDenied};
 ghost use Rattle.snoop_machine.specs.Plan.{IsPlanFor};
 ghost use Rattle.snoop_model.specs.Invariant.Coherent.{IsCoherent};
@@ -77,7 +78,7 @@ impl Parts {
         requires head { IsHead self.old.situation core request block }
         requires room { 0 < self.old.room }
         requires free { (picture_of self.old.situation block).transaction ≡ None }
-        requires memory { TakesMemRow self.old.situation.protocol (picture_of self.old.situation block).memory request memory }
+        requires memory { TakesMemRow self.old.situation.protocol (at_memory request) (picture_of self.old.situation block).memory memory }
         requires message { IsMessage self.old.situation.protocol (picture_of self.old.situation block) core request message }
         ensures ordered { Orders self.old.situation core block request self.new.situation }
         ensures room { KeepsRoom self.old self.new }

@@ -38,7 +38,7 @@ use Rattle.snoop_model.specs.Pictures.OneWriter.{OneWriter, IsWriter}
 use Rattle.snoop_model.specs.Pictures.Current.{IsCurrent}
 use Rattle.snoop_model.specs.Pictures.MemoryCurrent.{IsMemoryCurrent, NamesItsBlock, data_under_way}
 use Rattle.snoop_model.specs.Moves.SenderTable.{OrdersFollowSenderTable}
-use Rattle.snoop_model.specs.Invariant.Fits.{in_protocol, is_clean, is_owner, is_reader, fits}
+use Rattle.snoop_model.specs.Invariant.Fits.{in_protocol, is_clean, is_owner, fits}
 use Rattle.snoop_model.specs.Invariant.Good.{Good, awaited, owns, talk_of}
 use Rattle.snoop_model.specs.Invariant.Coherent.{IsCoherent}
 use Rattle.snoop_model.proofs.Tables.Every.{given, given_at}
@@ -49,6 +49,7 @@ use Rattle.snoop_model.proofs.OneBlock.Facts.{one_writer, fits_is_owner, clash, 
 use Rattle.snoop_model.proofs.OneBlock.Possible.{Possible, order_possible, ask_possible, respond_possible}
 use Rattle.snoop_model.proofs.Tables.SenderLines.{led_line, sender_state}
 use Rattle.snoop_model.proofs.Tables.StateTests.{is_hit, hit_rule, owner_reads, brings_data, resting_rule}
+use Rattle.snoop_model.specs.Pictures.Sound.{keeps}
 
 -- a core and a block within the shape, or a core that holds nothing of it
 pub place : (s : Situation) → IsCoherent s → (core block : ℕ) → IsWithin s core block ⊎ (held_by (picture_of s block) core ≡ nothing_held)
@@ -56,11 +57,11 @@ place s g core block = elim (cases_lt block s.shape.blocks) [
   | inl in_blocks ↦ elim (cases_lt core s.shape.cores) [
     | inl in_cores ↦ inl (in_cores, in_blocks)
     | inr past ↦
-        let long : length (picture_of s block).caches ≡ s.shape.cores = g.row block in_blocks in
+        let long : length (picture_of s block).caches ≡ s.shape.cores = g.shaped.row block in_blocks in
         inr (get_or_past (picture_of s block).caches core nothing_held (omega arith))
   ]
   | inr past ↦
-      let long : length s.caches ≡ s.shape.blocks = g.rows in
+      let long : length s.caches ≡ s.shape.blocks = g.shaped.rows in
       let empty : slice_index_or s.caches block [] ≡ [] = get_or_past s.caches block [] (omega arith) in
       inr (ap (λ (x : List Line). held_at x core) empty ∙ get_or_past [] core nothing_held (omega arith))
 ]
@@ -72,14 +73,14 @@ not_reader p may = let e : action.Hit ≡ action.Issue request.GetS = may.1.0 in
 not_writer : (p : Protocol) → MayStore p state.I → ⊥
 not_writer p may = let e : action.Hit ≡ action.Issue request.GetM = may.1.0 in cc
 
-may_load_reads : (p : Protocol) (s : CacheState) → MayLoad p s → is_reader s ≡ true
+may_load_reads : (p : Protocol) (s : CacheState) → MayLoad p s → keeps s ≡ true
 may_load_reads p s may =
-    let t = and_parts (given (cell_of p s event.Load) (λ r. not (is_hit r.action) || is_reader s)) (given (cell_of p s event.Store) (λ r. not (is_hit r.action) || is_owner s)) (hit_rule p s) in
-    given_at (cell_of p s event.Load) (λ r. not (is_hit r.action) || is_reader s) (record { action = action.Hit; next = may.0 }) (cell_of-Cell p s event.Load action.Hit may.0 may.1) t.0
+    let t = and_parts (given (cell_of p s event.Load) (λ r. not (is_hit r.action) || keeps s)) (given (cell_of p s event.Store) (λ r. not (is_hit r.action) || is_owner s)) (hit_rule p s) in
+    given_at (cell_of p s event.Load) (λ r. not (is_hit r.action) || keeps s) (record { action = action.Hit; next = may.0 }) (cell_of-Cell p s event.Load action.Hit may.0 may.1) t.0
 
 may_store_owns : (p : Protocol) (s : CacheState) → MayStore p s → is_owner s ≡ true
 may_store_owns p s may =
-    let t = and_parts (given (cell_of p s event.Load) (λ r. not (is_hit r.action) || is_reader s)) (given (cell_of p s event.Store) (λ r. not (is_hit r.action) || is_owner s)) (hit_rule p s) in
+    let t = and_parts (given (cell_of p s event.Load) (λ r. not (is_hit r.action) || keeps s)) (given (cell_of p s event.Store) (λ r. not (is_hit r.action) || is_owner s)) (hit_rule p s) in
     given_at (cell_of p s event.Store) (λ r. not (is_hit r.action) || is_owner s) (record { action = action.Hit; next = may.0 }) (cell_of-Cell p s event.Store action.Hit may.0 may.1) t.1
 
 -- beside a writer no other core is a reader or a writer
@@ -96,7 +97,7 @@ has_one_writer s g block core other writes apart =
         | inl within_too ↦
             let blind = one_writer p s.shape.cores (flat s.log block) picture (g.good block within.1) core other within.0 within_too.0 (may_store_owns p (held_by picture core).state writes) apart in
             let t = (held_by picture other).state in
-            (λ h. clash (is_reader t) (may_load_reads p t h) blind, λ h. clash (is_reader t) (owner_reads t (may_store_owns p t h)) blind)
+            (λ h. clash (keeps t) (may_load_reads p t h) blind, λ h. clash (keeps t) (owner_reads t (may_store_owns p t h)) blind)
       ]
     ]
 
@@ -159,7 +160,7 @@ opened_within : (s : Situation) → IsCoherent s → (block : ℕ) (o : Open) �
 opened_within s g block o is = elim (cases_lt block s.shape.blocks) [
   | inl within ↦ within
   | inr past ↦
-      let long : length s.transactions ≡ s.shape.blocks = g.transactions in
+      let long : length s.transactions ≡ s.shape.blocks = g.shaped.transactions in
       let empty : (picture_of s block).transaction ≡ None = get_or_past s.transactions block None (omega arith) in
       cc
 ]
@@ -185,7 +186,7 @@ possible_order : (s : Situation) → IsCoherent s → (core block : ℕ) (q : Re
 possible_order s g core block q waits free =
     let within = waits_within s g core block q waits in
     let x = order_possible s.protocol s.shape.cores (flat s.log block) (picture_of s block) core q (g.good block within.1) within.0 waits free in
-    subst (λ (n : ℕ). Possible s.protocol n (picture_of s block) core q) (sym (g.row block within.1)) x
+    subst (λ (n : ℕ). Possible s.protocol n (picture_of s block) core q) (sym (g.shaped.row block within.1)) x
 
 put_is : (q : Request) → q ≡ request.PutM → is_put_m q ≡ true
 put_is q e = ap is_put_m e
@@ -200,17 +201,19 @@ orders_follow_sender_table s g core block q waits free =
     record {
       from = x.from;
       payload = x.payload;
-      act = x.cell_of_memory.action;
       next = x.cell_of_memory.next;
-      done = led.done;
       sent = record {
         sends = sends_by_cell p before core q x.from x.payload x.sender.sends;
         alone = λ other message sends. x.sender.alone other message (sends_by_row p before core q other message sends);
       };
-      ordered = MemoryCell-found p before.memory _ x.cell_of_memory x.memory_row;
-      settled = led.settled;
-      line = subst (λ (from : Option CacheState). SentAs p q before.memory from x.payload x.cell_of_memory.next led.done) (sender_state before core x.from) led.line;
-      writeback = λ e. x.writeback (put_is q e);
+      ordered = (x.cell_of_memory.action, MemoryCell-found p before.memory _ x.cell_of_memory x.memory_row);
+      is_line = record {
+        act = led.act;
+        done = led.done;
+        settled = led.settled;
+        line = subst (λ (from : Option CacheState). SentAs p q before.memory from x.payload x.cell_of_memory.next led.done) (sender_state before core x.from) led.line;
+        writeback = λ e. x.writeback (put_is q e);
+      };
     }
 
 pub idle_evict : (s : CacheState) (o : Op) → is_idle_evict s (asked o) ≡ true → (o ≡ op.Evict) × (s ≡ state.I)
@@ -258,7 +261,7 @@ asked_row s g core block asking busy = elim (place s g core block) [
 seen_row : (s : Situation) → IsCoherent s → (core block : ℕ) (q : Request) → Waits s core block q → (picture_of s block).transaction ≡ None → (k : ℕ) → HasRow s.protocol (state_of s k block) (seen_by k core q)
 seen_row s g core block q waits free k = elim (place s g k block) [
   | inl within ↦
-      let long : length (picture_of s block).caches ≡ s.shape.cores = g.row block within.1 in
+      let long : length (picture_of s block).caches ≡ s.shape.cores = g.shaped.row block within.1 in
       let row = (possible_order s g core block q waits free).rows k (omega arith) in
       has_row s.protocol (state_of s k block) (Some (seen_by k core q)) row
   | inr nothing ↦

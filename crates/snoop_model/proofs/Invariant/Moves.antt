@@ -43,6 +43,7 @@ changed old caches memory transactions queues entry = record old { caches = cach
 pub record Keeps (old : Situation) (block : ℕ) (caches : List (List Line)) (memory : List MemLine) (transactions : List (Option Open)) (queues : List (List ℕ)) (entry : Option Item) : Type 0 where
   pub as_many_rows : length caches ≡ length old.caches
   pub as_much_memory : length memory ≡ length old.memory
+  pub as_many_queues : length queues ≡ length old.queues
   pub as_many_transactions : length transactions ≡ length old.transactions
   pub others : (b : ℕ) → b ≢ block → picture_of (changed old caches memory transactions queues entry) b ≡ picture_of old b
   pub row : length (picture_of (changed old caches memory transactions queues entry) block).caches ≡ old.shape.cores
@@ -55,13 +56,16 @@ kept : (old : Situation) (block : ℕ) (caches : List (List Line)) (memory : Lis
 kept old block caches memory transactions queues entry g k =
     let new : Situation = changed old caches memory transactions queues entry in
     record {
-      rows = k.as_many_rows ∙ g.rows;
-      memory = k.as_much_memory ∙ g.memory;
-      transactions = k.as_many_transactions ∙ g.transactions;
-      row = λ b b_in. elim (eqb_tells b block) as (λ _. length (picture_of new b).caches ≡ old.shape.cores) [
-        | inl h ↦ subst (λ (x : ℕ). length (picture_of new x).caches ≡ old.shape.cores) (sym h.1) k.row
-        | inr h ↦ ap (λ (x : Picture). length x.caches) (k.others b h.1) ∙ g.row b b_in
-      ];
+      shaped = record {
+        rows = k.as_many_rows ∙ g.shaped.rows;
+        memory = k.as_much_memory ∙ g.shaped.memory;
+        queues = k.as_many_queues ∙ g.shaped.queues;
+        transactions = k.as_many_transactions ∙ g.shaped.transactions;
+        row = λ b b_in. elim (eqb_tells b block) as (λ _. length (picture_of new b).caches ≡ old.shape.cores) [
+          | inl h ↦ subst (λ (x : ℕ). length (picture_of new x).caches ≡ old.shape.cores) (sym h.1) k.row
+          | inr h ↦ ap (λ (x : Picture). length x.caches) (k.others b h.1) ∙ g.shaped.row b b_in
+        ];
+      };
       opened = λ b o is_open. elim (eqb_tells b block) as (λ _. o.block ≡ b) [
         | inl h ↦ k.opened o (subst (λ (x : ℕ). (picture_of new x).transaction ≡ Some o) h.1 is_open) ∙ sym h.1
         | inr h ↦ g.opened b o (ap (λ (x : Picture). x.transaction) (sym (k.others b h.1)) ∙ is_open)
@@ -74,6 +78,10 @@ kept old block caches memory transactions queues entry g k =
           ]);
       legal = legal_logged old.log entry g.legal k.follows;
     }
+
+as_many_after : (a : CacheAction) (queues : List (List ℕ)) (core block : ℕ) → length (queues_after a queues core block) ≡ length queues
+as_many_after (action.Issue r) queues core block = length-set queues core _
+as_many_after _ queues core block = refl
 
 -- what an Ask logs
 takes_on : (a : CacheAction) (next : CacheState) (log : List Item) (core block : ℕ) (asking : Op) (old new : Line) (answer : Reply) (entry : Option Item) → Takes a next log core block asking old new answer entry → IsOn block (did_in entry)
@@ -92,9 +100,9 @@ takes_follows _ next log core block asking old new answer entry t lawful = absur
 pub ask_moves : (old : Situation) (core block : ℕ) (asking : Op) (answer : Reply) (new : Situation) (entry : Option Item) → IsCoherent old → IsWithin old core block → Asks old core block asking answer new entry → IsCoherent new
 ask_moves old core block asking answer new entry g within a =
     let before : Picture = picture_of old block in
-    let cores : length before.caches ≡ old.shape.cores = g.row block within.1 in
+    let cores : length before.caches ≡ old.shape.cores = g.shaped.row block within.1 in
     let after : Picture = record before { caches = slice_set before.caches core a.held } in
-    let in_caches : block < length old.caches = subst (λ (n : ℕ). block < n) (sym g.rows) within.1 in
+    let in_caches : block < length old.caches = subst (λ (n : ℕ). block < n) (sym g.shaped.rows) within.1 in
     let in_row : core < length before.caches = subst (λ (n : ℕ). core < n) (sym cores) within.0 in
     let asks = asks_one old.protocol before core asking a.act a.next a.held old.log block answer entry in_row a.row a.taken in
     let k = ask_keeps old.protocol old.shape.cores (flat old.log block) before core asking after (made_of (did_in entry)) (g.good block within.1) (subst (λ (n : ℕ). one.Asks old.protocol n before core asking after (made_of (did_in entry))) cores asks) in
@@ -105,6 +113,7 @@ ask_moves old core block asking answer new entry g within a =
     let whole : Keeps old block caches old.memory old.transactions queues entry = record {
       as_many_rows = length-set old.caches block after.caches;
       as_much_memory = refl;
+      as_many_queues = as_many_after a.act old.queues core block;
       as_many_transactions = refl;
       others = λ b apart. asked_other old block b after.caches queues log apart;
       row = ap (λ (x : Picture). length x.caches) here ∙ (length-set before.caches core a.held ∙ cores);
@@ -118,7 +127,7 @@ ask_moves old core block asking answer new entry g within a =
 pub order_moves : (old : Situation) (core block : ℕ) (q : Request) (new : Situation) → IsCoherent old → IsWithin old core block → Orders old core block q new → IsCoherent new
 order_moves old core block q new g within o =
     let before : Picture = picture_of old block in
-    let cores : length before.caches ≡ old.shape.cores = g.row block within.1 in
+    let cores : length before.caches ≡ old.shape.cores = g.shaped.row block within.1 in
     let in_row : core < length before.caches = subst (λ (n : ℕ). core < n) (sym cores) within.0 in
     let at : (n : ℕ) → n ≡ old.shape.blocks → block < n = λ n e. subst (λ (x : ℕ). block < x) (sym e) within.1 in
     let orders = subst (λ (n : ℕ). one.Orders old.protocol n before core q o.next) cores (orders_one old core block q new o in_row) in
@@ -127,10 +136,11 @@ order_moves old core block q new g within o =
     let entry : Option Item = Some (item.Sent (record { core = core; request = q; block = block })) in
     let queues = after_order old.queues core block in
     let log = old.log ++ option_to_list entry in
-    let here : picture_of (changed old w.caches w.memory w.transactions queues entry) block ≡ o.next = next_picture old block o.next queues log (at (length old.caches) g.rows) (at (length old.memory) g.memory) (at (length old.transactions) g.transactions) in
+    let here : picture_of (changed old w.caches w.memory w.transactions queues entry) block ≡ o.next = next_picture old block o.next queues log (at (length old.caches) g.shaped.rows) (at (length old.memory) g.shaped.memory) (at (length old.transactions) g.shaped.transactions) in
     let whole : Keeps old block w.caches w.memory w.transactions queues entry = record {
       as_many_rows = length-set old.caches block o.next.caches;
       as_much_memory = length-set old.memory block (record { state = o.next.memory; value = o.next.value });
+      as_many_queues = length-set old.queues core _;
       as_many_transactions = length-set old.transactions block o.next.transaction;
       others = λ b apart. next_other old block b o.next queues log apart;
       row = ap (λ (x : Picture). length x.caches) here ∙ (o.caches ∙ cores);
@@ -171,7 +181,7 @@ arrives_follow request.GetM block closing p log old new did placed a lawful = fi
 pub respond_moves : (old : Situation) (block : ℕ) (closing : Open) (did : Option Did) (new : Situation) → IsCoherent old → block < old.shape.blocks → Responds old block closing did new → IsCoherent new
 respond_moves old block closing did new g within r =
     let before : Picture = picture_of old block in
-    let cores : length before.caches ≡ old.shape.cores = g.row block within in
+    let cores : length before.caches ≡ old.shape.cores = g.shaped.row block within in
     let placed : closing.block ≡ block = g.opened block closing r.opened in
     let in_row : closing.core < length before.caches = subst (λ (n : ℕ). closing.core < n) (sym cores) ((g.good block within).requestor_in closing r.opened) in
     let at : (n : ℕ) → n ≡ old.shape.blocks → block < n = λ n e. subst (λ (x : ℕ). block < x) (sym e) within in
@@ -180,10 +190,11 @@ respond_moves old block closing did new g within r =
     let w = with_picture old block r.next in
     let entry : Option Item = Some (item.Came (came_of closing) did) in
     let log = old.log ++ option_to_list entry in
-    let here : picture_of (changed old w.caches w.memory w.transactions old.queues entry) block ≡ r.next = next_picture old block r.next old.queues log (at (length old.caches) g.rows) (at (length old.memory) g.memory) (at (length old.transactions) g.transactions) in
+    let here : picture_of (changed old w.caches w.memory w.transactions old.queues entry) block ≡ r.next = next_picture old block r.next old.queues log (at (length old.caches) g.shaped.rows) (at (length old.memory) g.shaped.memory) (at (length old.transactions) g.shaped.transactions) in
     let whole : Keeps old block w.caches w.memory w.transactions old.queues entry = record {
       as_many_rows = length-set old.caches block r.next.caches;
       as_much_memory = length-set old.memory block (record { state = r.next.memory; value = r.next.value });
+      as_many_queues = refl;
       as_many_transactions = length-set old.transactions block r.next.transaction;
       others = λ b apart. next_other old block b r.next old.queues log apart;
       row = ap (λ (x : Picture). length x.caches) here ∙ (arrives_length closing.request closing old.protocol old.log before.caches r.next.caches did r.requestor ∙ cores);

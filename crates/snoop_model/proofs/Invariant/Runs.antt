@@ -16,10 +16,10 @@ use Rattle.snoop_model.specs.declared.replies.Refused.{Refused}
 use Rattle.snoop_model.specs.declared.replies.Refused.TheVariants.{NoMemory}
 use Rattle.snoop_model.specs.Pictures.Picture.{Picture, held_at, held_by, nothing_held, first_memory}
 use Rattle.snoop_model.specs.Pictures.Situation.{Situation, picture_of, reset, no_memory}
-use Rattle.snoop_model.specs.Pictures.Sound.{IsProper}
+use Rattle.snoop_model.specs.Pictures.Sound.{keeps, IsProper}
 use Rattle.snoop_model.specs.Moves.Move.{MoveOn}
 use Rattle.snoop_model.specs.Runs.Run.{IsRefusal, Goes, RunFrom}
-use Rattle.snoop_model.specs.Invariant.Fits.{claims_of, is_owner, is_sharer, is_clean, is_reader, wait_fits, in_protocol, same, fits}
+use Rattle.snoop_model.specs.Invariant.Fits.{claims_of, is_owner, is_sharer, is_clean, wait_fits, in_protocol, same, fits}
 use Rattle.snoop_model.specs.Invariant.Good.{Good}
 use Rattle.snoop_model.specs.Invariant.Coherent.{IsCoherent}
 use Rattle.snoop_model.proofs.Lists.Facts.{replicated}
@@ -33,7 +33,7 @@ pub nothing_proper : IsProper nothing_held
 nothing_proper = record { kept = refl; waiting = refl }
 
 untouched_good : (p : Protocol) (n : ℕ) → Good p n 0 (untouched p n)
-unfolding claims_of fits is_owner is_sharer is_clean is_reader wait_fits in_protocol same
+unfolding claims_of fits is_owner is_sharer is_clean wait_fits in_protocol same
 untouched_good protocol.Msi n = record {
   claims = record { owned = false; shared = true; fresh = true };
   is_claims = refl;
@@ -41,7 +41,7 @@ untouched_good protocol.Msi n = record {
   owner_in = λ o e. cc;
   is_owned = refl;
   states = λ d d_in. subst (λ (x : Line). fits protocol.Msi true false None x.state ≡ true) (sym (replicated n d nothing_held)) refl;
-  kept = λ d d_in h. (let P : Line → Type 0 = λ x. is_reader x.state ≡ true in let e : false ≡ true = subst P (replicated n d nothing_held) h in cc);
+  kept = λ d d_in h. (let P : Line → Type 0 = λ x. keeps x.state ≡ true in let e : false ≡ true = subst P (replicated n d nothing_held) h in cc);
   clean = λ d d_in h. refl;
   fresh = λ h. refl;
   carried = λ o e h. cc;
@@ -55,7 +55,7 @@ untouched_good protocol.Mesi n = record {
   owner_in = λ o e. cc;
   is_owned = refl;
   states = λ d d_in. subst (λ (x : Line). fits protocol.Mesi false false None x.state ≡ true) (sym (replicated n d nothing_held)) refl;
-  kept = λ d d_in h. (let P : Line → Type 0 = λ x. is_reader x.state ≡ true in let e : false ≡ true = subst P (replicated n d nothing_held) h in cc);
+  kept = λ d d_in h. (let P : Line → Type 0 = λ x. keeps x.state ≡ true in let e : false ≡ true = subst P (replicated n d nothing_held) h in cc);
   clean = λ d d_in h. refl;
   fresh = λ h. refl;
   carried = λ o e h. cc;
@@ -84,10 +84,13 @@ reset_line p shape core block = elim (cases_lt block shape.blocks) [
 
 pub reset_coherent : (p : Protocol) (shape : Extent) → IsCoherent (reset p shape)
 reset_coherent p shape = record {
-  rows = length-replicate shape.blocks (replicate shape.cores nothing_held);
-  row = λ b b_in. ap (λ (x : Picture). length x.caches) (reset_picture p shape b b_in) ∙ length-replicate shape.cores nothing_held;
-  memory = length-replicate shape.blocks (record { state = first_memory p; value = 0 });
-  transactions = length-replicate shape.blocks None;
+  shaped = record {
+    rows = length-replicate shape.blocks (replicate shape.cores nothing_held);
+    row = λ b b_in. ap (λ (x : Picture). length x.caches) (reset_picture p shape b b_in) ∙ length-replicate shape.cores nothing_held;
+    memory = length-replicate shape.blocks (record { state = first_memory p; value = 0 });
+    queues = length-replicate shape.cores [];
+    transactions = length-replicate shape.blocks None;
+  };
   opened = λ b o is_open. (let none = reset_open p shape b in cc);
   good = λ b b_in. subst (Good p shape.cores 0) (sym (reset_picture p shape b b_in)) (untouched_good p shape.cores);
   legal = λ k entry h. cc;

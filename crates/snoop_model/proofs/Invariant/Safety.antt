@@ -13,7 +13,6 @@ use Rattle.snoop_model.specs.Pictures.Picture.{held_by}
 use Rattle.snoop_model.specs.Moves.Standing.{Standing}
 use Rattle.snoop_model.specs.Pictures.Situation.{Situation, picture_of, state_of, reset}
 use Rattle.snoop_model.specs.Pictures.Sound.{IsProper, keeps}
-use Rattle.snoop_model.specs.Invariant.Fits.{is_reader}
 use Rattle.snoop_model.specs.Moves.Move.{FirstMove}
 use Rattle.snoop_model.specs.Moves.StepMove.{RefusedFor}
 use Rattle.snoop_model.specs.Invariant.Coherent.{IsCoherent}
@@ -37,7 +36,6 @@ all_proper s g core block = elim (place s g core block) [
 pub kept_is_flat : (s : Situation) → IsCoherent s → (core block : ℕ) → (found : Option ℕ) → IfSome found (λ _. (core < s.shape.cores) × (block < s.shape.blocks))
     → (core < s.shape.cores → block < s.shape.blocks → found ≡ (held_by (picture_of s block) core).kept)
     → (core < s.shape.cores → block < s.shape.blocks → is_some found ≡ keeps (state_of s core block)) → IfSome found (λ value. value ≡ flat s.log block)
-unfolding is_reader
 kept_is_flat s g core block None within inside readable = tt
 kept_is_flat s g core block (Some value) within inside readable =
     same_Some _ _ (inside within.0 within.1 ∙ (g.good block within.1).kept core within.0 (sym (readable within.0 within.1)))
@@ -53,7 +51,7 @@ is_safe s keeps = record {
   lines = orders_follow_sender_table s keeps.coherent;
   by_table = moves_are_by_table s keeps.coherent;
   proper = all_proper s keeps.coherent;
-  queued = keeps.queued.each;
+  queued = keeps.queued;
   well_kept = keeps.well_kept;
 }
 

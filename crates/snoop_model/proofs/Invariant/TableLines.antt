@@ -20,8 +20,8 @@ use Rattle.snoop_bus.specs.Queues.{after_order}
 use Rattle.snoop_model.specs.Pictures.Picture.{Picture, held_by}
 use Rattle.snoop_model.specs.Pictures.Situation.{Situation, picture_of}
 use Rattle.snoop_model.specs.Pictures.Sends.{Sends, value_sent}
-use Rattle.snoop_model.specs.Moves.Move.{IsWithin, Orders, Responds, TakesPayload, came_of}
-use Rattle.snoop_model.specs.Moves.SenderTable.{Settles, IsOrderedByTable, IsSettledByTable, MovesAreByTable}
+use Rattle.snoop_model.specs.Moves.Move.{IsWithin, Orders, Responds, ArrivesAtMemory, came_of}
+use Rattle.snoop_model.specs.Moves.SenderTable.{IsLine, IsOrderedByTable, IsSettledByTable, MovesAreByTable}
 use Rattle.snoop_model.specs.Invariant.Coherent.{IsCoherent}
 use Rattle.snoop_model.proofs.Invariant.Coherence.{orders_follow_sender_table}
 use Rattle.snoop_model.proofs.OneBlock.OfBlocks.{next_picture}
@@ -31,7 +31,7 @@ use Rattle.snoop_model.proofs.Runs.AreOne.{sends_one}
 in_lists : (s : Situation) → IsCoherent s → (block : ℕ) → block < s.shape.blocks → (block < length s.caches) × (block < length s.memory) × (block < length s.transactions)
 in_lists s g block within =
     let at : (n : ℕ) → n ≡ s.shape.blocks → block < n = λ n e. subst (λ (x : ℕ). block < x) (sym e) within in
-    (at (length s.caches) g.rows, at (length s.memory) g.memory, at (length s.transactions) g.transactions)
+    (at (length s.caches) g.shaped.rows, at (length s.memory) g.shaped.memory, at (length s.transactions) g.shaped.transactions)
 
 order_is_by_table : (s : Situation) → IsCoherent s → (core block : ℕ) (q : Request) (new : Situation) → IsWithin s core block → Orders s core block q new → IsOrderedByTable s core block q new
 order_is_by_table s g core block q new within o =
@@ -44,19 +44,15 @@ order_is_by_table s g core block q new within o =
     let there : picture_of new block ≡ o.next =
     ap (λ (x : Situation). picture_of x block) o.after
     ∙ next_picture s block o.next (after_order s.queues core block) (s.log ++ item.Sent (record { core = core; request = q; block = block }) ∷ []) lists.0 lists.1 lists.2 in
-    let memory : f.next ≡ (picture_of new block).memory = (MemoryCell-one p before.memory (at_memory q) f.act o.memory.0 f.next o.next.memory f.ordered o.memory.1).1 ∙ sym (ap (λ (x : Picture). x.memory) there) in
-    let sender : Option ℕ → Option CacheState = λ from. option_map (λ (k : ℕ). (held_by before k).state) from in
+    let memory : f.next ≡ (picture_of new block).memory = (MemoryCell-one p before.memory (at_memory q) f.ordered.0 o.memory.0 f.next o.next.memory f.ordered.1 o.memory.1).1 ∙ sym (ap (λ (x : Picture). x.memory) there) in
     record {
       from = o.from;
       payload = o.payload;
       value = value_sent before o.from o.payload;
-      done = f.done;
       opened = ap (λ (x : Picture). x.transaction) there ∙ o.opened;
-      settled = subst (λ (m : MemState). Settles q p m o.payload f.done) memory (subst (λ (x : Payload). Settles q p f.next x f.done) payload f.settled);
-      line = subst (λ (m : MemState). SentAs p q before.memory (sender o.from) o.payload m f.done) memory
-          (subst (λ (x : Payload). SentAs p q before.memory (sender o.from) x f.next f.done) payload
-          (subst (λ (x : Option ℕ). SentAs p q before.memory (sender x) f.payload f.next f.done) from f.line));
-      writeback = λ e. sym from ∙ f.writeback e;
+      is_line = subst (λ (m : MemState). IsLine p before core q o.from o.payload m) memory
+          (subst (λ (x : Payload). IsLine p before core q o.from x f.next) payload
+          (subst (λ (x : Option ℕ). IsLine p before core q x f.payload f.next) from f.is_line));
     }
 
 respond_is_by_table : (s : Situation) → IsCoherent s → (block : ℕ) (closing : Open) (did : Option Did) (new : Situation) → block < s.shape.blocks → Responds s block closing did new → IsSettledByTable s block new
@@ -67,15 +63,9 @@ respond_is_by_table s g block closing did new within r =
     record {
       closing = closing;
       opened = r.opened;
-      settled = subst (λ (m : MemState). Settles closing.request s.protocol (picture_of s block).memory closing.payload m) (sym (ap (λ (x : Picture). x.memory) there))
-          (settles (takes_payload closing.request (picture_of s block).memory) r.memory);
+      settled = subst (λ (x : Picture). ArrivesAtMemory closing s.protocol (picture_of s block) x) (sym there) r.memory;
       closed = ap (λ (x : Picture). x.transaction) there ∙ r.closed;
     }
-  where
-    settles : (takes : Bool) → MatchBool takes (TakesPayload closing s.protocol (picture_of s block) r.next) ((r.next.memory ≡ (picture_of s block).memory) × (r.next.value ≡ (picture_of s block).value))
-        → MatchBool takes ((event : MemEvent) × ((act : MemAction) × ((arrival_at_memory closing.payload ≡ Some event) × MemoryCell s.protocol (picture_of s block).memory event act r.next.memory))) (r.next.memory ≡ (picture_of s block).memory)
-    settles true t = (t.event, (t.act, (t.arrives, t.row)))
-    settles false t = t.0
 
 -- each move from a coherent situation is by the table
 pub moves_are_by_table : (s : Situation) → IsCoherent s → MovesAreByTable s

@@ -1,5 +1,6 @@
 -- What an Ask leaves waiting on one line, and what it does: each load and store is done once or waits.
 use Rattle.std.proofs.Common.{◌≡◌, ℕ, ◌+◌, Bool, true, false, List, Option, Some, None, refl, ap, sym, ◌∙◌, arith}
+use Rattle.std.specs.Prelude.{option_map}
 use Rattle.std.specs.Option.{option_map_or}
 use Rattle.snoop_trace.specs.declared.step.Op.{Op}
 use Rattle.snoop_trace.specs.declared.step.Op.TheVariants as op
@@ -19,11 +20,10 @@ use Rattle.snoop_history.specs.declared.items.Did.{Did}
 use Rattle.snoop_history.specs.declared.items.Item.{Item}
 use Rattle.snoop_model.specs.declared.line.Line.{Line}
 use Rattle.snoop_model.specs.declared.replies.Reply.{Reply}
-use Rattle.snoop_model.specs.Pictures.Sound.{IsProper, awaits, kind_of}
-use Rattle.snoop_model.specs.Pictures.Sound.Awaits.{nothing}
+use Rattle.snoop_model.specs.Pictures.Sound.{IsProper, request_for, missed_request}
 use Rattle.snoop_model.specs.Moves.Move.{Takes, Performs, kept_waiting, is_load, next_did}
 use Rattle.snoop_model.specs.Runs.Once.{same_op, did_op, one_if}
-use Rattle.snoop_model.proofs.Tables.Rows.{same_awaits, same_awaits-true}
+use Rattle.snoop_model.proofs.Tables.Rows.{same_request, same_request-true}
 use Rattle.snoop_model.proofs.OneBlock.Moves.{did_in}
 use Rattle.snoop_model.proofs.Once.Counts.{did_so}
 
@@ -32,13 +32,13 @@ waits_so wanted waiting = option_map_or (λ asking. one_if (same_op wanted askin
 
 -- where a request is issued no operation waited
 abbrev idle_test : Protocol → CacheState → CacheEvent → CacheCell → Bool
-idle_test p s e row = elim row.action [ action.Issue q ↦ same_awaits (awaits s) nothing | _ ↦ true ]
+idle_test p s e row = elim row.action [ action.Issue q ↦ same_request (missed_request s) None | _ ↦ true ]
 
-issue_idle : (p : Protocol) (s : CacheState) (e : CacheEvent) (q : Request) (n : CacheState) → Cell p s e (action.Issue q) n → awaits s ≡ nothing
+issue_idle : (p : Protocol) (s : CacheState) (e : CacheEvent) (q : Request) (n : CacheState) → Cell p s e (action.Issue q) n → missed_request s ≡ None
 unfolding each_row all_protocols all_states all_events
 issue_idle p s e q n row =
-    let t : same_awaits (awaits s) nothing ≡ true = each_row-at idle_test refl p s e (action.Issue q) n row in
-    same_awaits-true (awaits s) nothing t
+    let t : same_request (missed_request s) None ≡ true = each_row-at idle_test refl p s e (action.Issue q) n row in
+    same_request-true (missed_request s) None t
 
 -- only an Evict drops a line
 abbrev is_evict : CacheEvent → Bool
@@ -64,7 +64,7 @@ evict_asked wanted op.Evict h = no_evict wanted
 evict_asked wanted op.Load h = cc
 evict_asked wanted (op.Store v) h = cc
 
-nothing_so : (wanted : Op) (waiting : Option Op) → kind_of waiting ≡ nothing → waits_so wanted waiting ≡ 0
+nothing_so : (wanted : Op) (waiting : Option Op) → option_map request_for waiting ≡ None → waits_so wanted waiting ≡ 0
 nothing_so wanted None h = refl
 nothing_so wanted (Some op.Evict) h = no_evict wanted
 nothing_so wanted (Some op.Load) h = cc

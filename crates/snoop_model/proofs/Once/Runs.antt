@@ -158,7 +158,7 @@ pub respond_once : (old : Situation) (b : ℕ) (closing : Open) (did : Option Di
 respond_once old b closing did new g within r core block wanted =
     let before : Picture = picture_of old b in
     let placed : closing.block ≡ b = g.opened b closing r.opened in
-    let in_row : closing.core < length before.caches = subst (λ (n : ℕ). closing.core < n) (sym (g.row b within)) ((g.good b within).requestor_in closing r.opened) in
+    let in_row : closing.core < length before.caches = subst (λ (n : ℕ). closing.core < n) (sym (g.shaped.row b within)) ((g.good b within).requestor_in closing r.opened) in
     let here : picture_of new b ≡ r.next = respond_here old b closing did new g within r in
     let once = arrives_once closing.request closing old.protocol old.log b wanted before.caches r.next.caches did placed in_row r.requestor in
     let now : (k : ℕ) → waits_for new k b wanted ≡ waits_so wanted (held_by r.next k).waiting = λ k. ap (λ (x : Picture). waits_so wanted (held_by x k).waiting) here in

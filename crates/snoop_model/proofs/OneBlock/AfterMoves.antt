@@ -22,10 +22,10 @@ in_list blocks b n e within = subst (λ (x : ℕ). b < x) (sym e) within
 
 module _ (old : Situation) (c b : ℕ) (asking : Op) (answer : Reply) (new : Situation) (entry : Option Item) (g : IsCoherent old) (within : IsWithin old c b) (a : Asks old c b asking answer new entry) where
   pub ask_here : picture_of new b ≡ record (picture_of old b) { caches = slice_set (picture_of old b).caches c a.held }
-  ask_here = ap (λ (s : Situation). picture_of s b) a.after ∙ asked_picture old b (slice_set (picture_of old b).caches c a.held) (queues_after a.act old.queues c b) (old.log ++ option_to_list entry) (in_list old.shape.blocks b (length old.caches) g.rows within.1)
+  ask_here = ap (λ (s : Situation). picture_of s b) a.after ∙ asked_picture old b (slice_set (picture_of old b).caches c a.held) (queues_after a.act old.queues c b) (old.log ++ option_to_list entry) (in_list old.shape.blocks b (length old.caches) g.shaped.rows within.1)
 
   pub ask_line : held_by (picture_of new b) c ≡ a.held
-  ask_line = ap (λ (x : Picture). held_by x c) ask_here ∙ get_or-set_same (picture_of old b).caches c a.held nothing_held (in_list old.shape.cores c (length (picture_of old b).caches) (g.row b within.1) within.0)
+  ask_line = ap (λ (x : Picture). held_by x c) ask_here ∙ get_or-set_same (picture_of old b).caches c a.held nothing_held (in_list old.shape.cores c (length (picture_of old b).caches) (g.shaped.row b within.1) within.0)
 
   pub ask_other_core : (k : ℕ) → k ≢ c → held_by (picture_of new b) k ≡ held_by (picture_of old b) k
   ask_other_core k apart = ap (λ (x : Picture). held_by x k) ask_here ∙ get_or-set_other (picture_of old b).caches c k a.held nothing_held apart
@@ -40,7 +40,7 @@ module _ (old : Situation) (c b : ℕ) (q : Request) (new : Situation) (g : IsCo
   pub order_here : picture_of new b ≡ o.next
   order_here =
       ap (λ (s : Situation). picture_of s b) o.after
-      ∙ next_picture old b o.next (after_order old.queues c b) sent (in_list old.shape.blocks b (length old.caches) g.rows within.1) (in_list old.shape.blocks b (length old.memory) g.memory within.1) (in_list old.shape.blocks b (length old.transactions) g.transactions within.1)
+      ∙ next_picture old b o.next (after_order old.queues c b) sent (in_list old.shape.blocks b (length old.caches) g.shaped.rows within.1) (in_list old.shape.blocks b (length old.memory) g.shaped.memory within.1) (in_list old.shape.blocks b (length old.transactions) g.shaped.transactions within.1)
 
   pub order_other_block : (k : ℕ) → k ≢ b → picture_of new k ≡ picture_of old k
   order_other_block k apart = ap (λ (s : Situation). picture_of s k) o.after ∙ next_other old b k o.next (after_order old.queues c b) sent apart
@@ -52,7 +52,7 @@ module _ (old : Situation) (b : ℕ) (closing : Open) (did : Option Did) (new : 
   pub respond_here : picture_of new b ≡ r.next
   respond_here =
       ap (λ (s : Situation). picture_of s b) r.after
-      ∙ next_picture old b r.next old.queues came (in_list old.shape.blocks b (length old.caches) g.rows within) (in_list old.shape.blocks b (length old.memory) g.memory within) (in_list old.shape.blocks b (length old.transactions) g.transactions within)
+      ∙ next_picture old b r.next old.queues came (in_list old.shape.blocks b (length old.caches) g.shaped.rows within) (in_list old.shape.blocks b (length old.memory) g.shaped.memory within) (in_list old.shape.blocks b (length old.transactions) g.shaped.transactions within)
 
   pub respond_other_block : (k : ℕ) → k ≢ b → picture_of new k ≡ picture_of old k
   respond_other_block k apart = ap (λ (s : Situation). picture_of s k) r.after ∙ next_other old b k r.next old.queues came apart

@@ -14,8 +14,8 @@ use Rattle.snoop_rules.proofs.Rows.{Cell-found}
 use Rattle.snoop_bus.specs.declared.transactions.Open.{Open}
 use Rattle.snoop_model.specs.declared.line.Line.{Line}
 use Rattle.snoop_model.specs.Pictures.Picture.{Picture, held_by}
-use Rattle.snoop_model.specs.Pictures.Sound.{IsProper}
-use Rattle.snoop_model.specs.Invariant.Fits.{claims_of, is_clean, is_reader, fits}
+use Rattle.snoop_model.specs.Pictures.Sound.{keeps, IsProper}
+use Rattle.snoop_model.specs.Invariant.Fits.{claims_of, is_clean, fits}
 use Rattle.snoop_model.specs.Invariant.Good.{Good, talk_of, awaited, owns}
 use Rattle.snoop_model.proofs.OneBlock.Steps.{Done, flat_after, IsLawful, Performs, Asks}
 use Rattle.snoop_model.proofs.OneBlock.Facts.{implied, Carried, carried_kept, carried_same, not_true, clash, owned_alone, others_blind, owner_owned, owns_one, calm_carries}
@@ -40,9 +40,9 @@ pub record Storing (flat : ℕ) (old new : Line) (next : CacheState) (made : Opt
   pub lawful : IsLawful flat made
 
 -- what an Ask does, by its row
-ask_cases : (flat : ℕ) (a : CacheAction) (o : Op) (next : CacheState) (old new : Line) (made : Option Done) → (is_reader old.state ≡ true → old.kept ≡ Some flat) → (is_hit a ≡ true → is_reader old.state ≡ true) → ((is_stall a || ((is_hit a && is_store (asked o)) || carries old.state next)) ≡ true) → Performs a o next old new made → (Quietly flat old new next made) ⊎ ((is_hit a && is_store (asked o) ≡ true) × Storing flat old new next made)
+ask_cases : (flat : ℕ) (a : CacheAction) (o : Op) (next : CacheState) (old new : Line) (made : Option Done) → (keeps old.state ≡ true → old.kept ≡ Some flat) → (is_hit a ≡ true → keeps old.state ≡ true) → ((is_stall a || ((is_hit a && is_store (asked o)) || carries old.state next)) ≡ true) → Performs a o next old new made → (Quietly flat old new next made) ⊎ ((is_hit a && is_store (asked o) ≡ true) × Storing flat old new next made)
 ask_cases flat action.Hit op.Load next old new made was reads carry did =
-    let parts = and_parts (not (is_reader next) || is_reader old.state) (not (is_clean next) || is_clean old.state) carry in
+    let parts = and_parts (not (keeps next) || keeps old.state) (not (is_clean next) || is_clean old.state) carry in
     let v_is : Some did.0 ≡ Some flat = sym did.1 ∙ was (reads refl) in
     let v_flat : did.0 ≡ flat = cc in
     inl (record {
@@ -57,26 +57,26 @@ ask_cases flat action.Hit op.Load next old new made was reads carry did =
 ask_cases flat action.Hit (op.Store v) next old new made was reads carry did =
     inr (refl, record { state = ap (λ (x : Line). x.state) did.0; value = v; new_flat = rw did.1 refl; kept = ap (λ (x : Line). x.kept) did.0; lawful = rw did.1 tt })
 ask_cases flat (action.Issue r) o next old new made was reads carry did =
-    let parts = and_parts (not (is_reader next) || is_reader old.state) (not (is_clean next) || is_clean old.state) carry in
+    let parts = and_parts (not (keeps next) || keeps old.state) (not (is_clean next) || is_clean old.state) carry in
     inl (record {
       state = ap (λ (x : Line). x.state) did.0;
       carried = record {
         reads = λ h.
-            let e : is_reader next ≡ true = ap (λ (x : Line). is_reader x.state) (sym did.0) ∙ h in
-            (implied (is_reader next) (is_reader old.state) parts.0 e, ap (λ (x : Line). x.kept) did.0 ∙ kept_reader next old.kept e);
+            let e : keeps next ≡ true = ap (λ (x : Line). keeps x.state) (sym did.0) ∙ h in
+            (implied (keeps next) (keeps old.state) parts.0 e, ap (λ (x : Line). x.kept) did.0 ∙ kept_reader next old.kept e);
         cleans = λ h. implied (is_clean next) (is_clean old.state) parts.1 (ap (λ (x : Line). is_clean x.state) (sym did.0) ∙ h);
       };
       same_flat = rw did.1 refl;
       lawful = rw did.1 tt;
     })
 ask_cases flat action.Drop o next old new made was reads carry did =
-    let parts = and_parts (not (is_reader next) || is_reader old.state) (not (is_clean next) || is_clean old.state) carry in
+    let parts = and_parts (not (keeps next) || keeps old.state) (not (is_clean next) || is_clean old.state) carry in
     inl (record {
       state = ap (λ (x : Line). x.state) did.0;
       carried = record {
         reads = λ h.
-            let e : is_reader next ≡ true = ap (λ (x : Line). is_reader x.state) (sym did.0) ∙ h in
-            (implied (is_reader next) (is_reader old.state) parts.0 e, ap (λ (x : Line). x.kept) did.0 ∙ kept_reader next old.kept e);
+            let e : keeps next ≡ true = ap (λ (x : Line). keeps x.state) (sym did.0) ∙ h in
+            (implied (keeps next) (keeps old.state) parts.0 e, ap (λ (x : Line). x.kept) did.0 ∙ kept_reader next old.kept e);
         cleans = λ h. implied (is_clean next) (is_clean old.state) parts.1 (ap (λ (x : Line). is_clean x.state) (sym did.0) ∙ h);
       };
       same_flat = rw did.1 refl;
@@ -142,7 +142,7 @@ ask_keeps p n flat before c o after made g a =
     let carry = ask_rule AskTests.ask_carries AskTests.ask_carries_holds p g.claims.shared (owns g.owner c) (awaited before.transaction c) (held_by before c).state o a.row fit a.is_row in
     let stores = ask_rule AskTests.ask_store_owns AskTests.ask_store_owns_holds p g.claims.shared (owns g.owner c) (awaited before.transaction c) (held_by before c).state o a.row fit a.is_row in
     let line : claims_of p after.memory (talk_of after.transaction) ≡ Some g.claims = rw (a.memory, a.transaction) g.is_claims in
-    elim (ask_cases flat a.row.action o a.row.next (held_by before c) (held_by after c) made (g.kept c a.asker_in) (implied (is_hit a.row.action) (is_reader (held_by before c).state) hit_reads) carry a.performs) as (λ _. Good p n (flat_after flat made) after × IsLawful flat made) [
+    elim (ask_cases flat a.row.action o a.row.next (held_by before c) (held_by after c) made (g.kept c a.asker_in) (implied (is_hit a.row.action) (keeps (held_by before c).state) hit_reads) carry a.performs) as (λ _. Good p n (flat_after flat made) after × IsLawful flat made) [
       | inl k ↦
           let carried : (d : ℕ) → d < n → Carried (held_by before d) (held_by after d) = λ d d_in. elim (eqb_tells d c) as (λ _. Carried (held_by before d) (held_by after d)) [
             | inl h ↦ subst (λ (x : ℕ). Carried (held_by before x) (held_by after x)) (sym h.1) k.carried
@@ -169,7 +169,7 @@ ask_keeps p n flat before c o after made g a =
           let owning = and_parts (owns g.owner c) (not (is_clean a.row.next)) owning_and in
           let owned = owner_owned p n flat before g c owning.0 in
           let alone = owned_alone p n flat before g owned in
-          let blind : (d : ℕ) → d < n → d ≢ c → is_reader (held_by after d).state ≡ false = λ d d_in apart. ap (λ (x : Line). is_reader x.state) (a.others d d_in apart) ∙ others_blind p n flat before g owned d d_in (owns_one g.owner c d owning.0 apart) in
+          let blind : (d : ℕ) → d < n → d ≢ c → keeps (held_by after d).state ≡ false = λ d d_in apart. ap (λ (x : Line). keeps x.state) (a.others d d_in apart) ∙ others_blind p n flat before g owned d d_in (owns_one g.owner c d owning.0 apart) in
           let good : Good p n s.value after = record {
             claims = g.claims;
             is_claims = line;
@@ -179,11 +179,11 @@ ask_keeps p n flat before c o after made g a =
             states = ask_states p n flat before c o after made g a s.state;
             kept = λ d d_in h. elim (eqb_tells d c) as (λ _. (held_by after d).kept ≡ Some s.value) [
               | inl e ↦ ap (λ (x : ℕ). (held_by after x).kept) e.1 ∙ s.kept
-              | inr e ↦ absurd (clash (is_reader (held_by after d).state) h (blind d d_in e.1))
+              | inr e ↦ absurd (clash (keeps (held_by after d).state) h (blind d d_in e.1))
             ];
             clean = λ d d_in h. elim (eqb_tells d c) as (λ _. after.value ≡ s.value) [
               | inl e ↦ absurd (clash (is_clean a.row.next) (ap is_clean (sym s.state) ∙ (ap (λ (x : ℕ). is_clean (held_by after x).state) (sym e.1) ∙ h)) (not_true (is_clean a.row.next) owning.1))
-              | inr e ↦ absurd (clash (is_reader (held_by after d).state) (clean_reads (held_by after d).state h) (blind d d_in e.1))
+              | inr e ↦ absurd (clash (keeps (held_by after d).state) (clean_reads (held_by after d).state h) (blind d d_in e.1))
             ];
             fresh = λ h. absurd (clash g.claims.fresh h alone.unfresh);
             carried = λ x is_x carrying. absurd (calm_carries before.transaction x alone.calm (sym a.transaction ∙ is_x) carrying);

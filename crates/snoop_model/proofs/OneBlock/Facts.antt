@@ -11,11 +11,12 @@ use Rattle.snoop_history.specs.Totals.{is_put_m}
 use Rattle.snoop_bus.specs.declared.transactions.Open.{Open}
 use Rattle.snoop_model.specs.declared.line.Line.{Line}
 use Rattle.snoop_model.specs.Pictures.Picture.{Picture, held_by}
-use Rattle.snoop_model.specs.Invariant.Fits.{is_owner, is_clean, is_reader, fits}
+use Rattle.snoop_model.specs.Invariant.Fits.{is_owner, is_clean, fits}
 use Rattle.snoop_model.specs.Invariant.Good.{Good, talk_of, awaited, owns}
 use Rattle.snoop_model.proofs.Tables.Every.{same_is}
 use Rattle.snoop_model.proofs.Tables.RespondTests.{writes}
 use Rattle.snoop_model.proofs.Tables.StateTests.{alone_rule, calm_talk, is_calm, owned_rule}
+use Rattle.snoop_model.specs.Pictures.Sound.{keeps}
 
 pub or_true : (b : Bool) → (b || true) ≡ true
 or_true true = refl
@@ -67,14 +68,14 @@ implied false b h e = cc
 
 -- what a core holds may be read as before, or no longer
 pub record Carried (old new : Line) : Type 0 where
-  pub reads : is_reader new.state ≡ true → (is_reader old.state ≡ true) × (new.kept ≡ old.kept)
+  pub reads : keeps new.state ≡ true → (keeps old.state ≡ true) × (new.kept ≡ old.kept)
   pub cleans : is_clean new.state ≡ true → is_clean old.state ≡ true
 
-pub carried_kept : (old new : Line) (flat : ℕ) → Carried old new → (is_reader old.state ≡ true → old.kept ≡ Some flat) → is_reader new.state ≡ true → new.kept ≡ Some flat
+pub carried_kept : (old new : Line) (flat : ℕ) → Carried old new → (keeps old.state ≡ true → old.kept ≡ Some flat) → keeps new.state ≡ true → new.kept ≡ Some flat
 carried_kept old new flat k was h = (k.reads h).1 ∙ was (k.reads h).0
 
 pub carried_same : (old new : Line) → new ≡ old → Carried old new
-carried_same old new e = record { reads = λ h. (ap (λ (x : Line). is_reader x.state) (sym e) ∙ h, ap (λ (x : Line). x.kept) e); cleans = λ h. ap (λ (x : Line). is_clean x.state) (sym e) ∙ h }
+carried_same old new e = record { reads = λ h. (ap (λ (x : Line). keeps x.state) (sym e) ∙ h, ap (λ (x : Line). x.kept) e); cleans = λ h. ap (λ (x : Line). is_clean x.state) (sym e) ∙ h }
 
 pub not_true : (b : Bool) → not b ≡ true → b ≡ false
 not_true true h = cc
@@ -104,11 +105,11 @@ calm_wait (Some o) d h = elim (or_not (eqb d o.core)) as (λ _. is_calm (cond (e
 ]
 
 -- where a core owns the block, each core that doesn't may not read it
-pub others_blind : (p : Protocol) (n : ℕ) (flat : ℕ) (picture : Picture) (g : Good p n flat picture) → g.claims.owned ≡ true → (d : ℕ) → d < n → owns g.owner d ≡ false → is_reader (held_by picture d).state ≡ false
+pub others_blind : (p : Protocol) (n : ℕ) (flat : ℕ) (picture : Picture) (g : Good p n flat picture) → g.claims.owned ≡ true → (d : ℕ) → d < n → owns g.owner d ≡ false → keeps (held_by picture d).state ≡ false
 others_blind p n flat picture g is_owned d d_in not_owner =
     let a = owned_alone p n flat picture g is_owned in
     let fit : fits p false false (awaited picture.transaction d) (held_by picture d).state ≡ true = rw (a.unshared, not_owner) at (g.states d d_in) in
-    not_true (is_reader (held_by picture d).state) (alone_rule p (awaited picture.transaction d) (held_by picture d).state (calm_wait picture.transaction d a.calm) fit)
+    not_true (keeps (held_by picture d).state) (alone_rule p (awaited picture.transaction d) (held_by picture d).state (calm_wait picture.transaction d a.calm) fit)
 
 pub owner_is : (owner : Option ℕ) (d : ℕ) → owns owner d ≡ true → owner ≡ Some d
 owner_is None d h = cc
@@ -121,7 +122,7 @@ pub owns_one : (owner : Option ℕ) (c d : ℕ) → owns owner c ≡ true → d 
 owns_one owner c d h apart = not_true (owns owner d) (rw (owner_is owner c h) (not_eqb_true d c apart))
 
 -- one writer alone, or only readers
-pub one_writer : (p : Protocol) (n : ℕ) (flat : ℕ) (picture : Picture) → Good p n flat picture → (c d : ℕ) → c < n → d < n → is_owner (held_by picture c).state ≡ true → d ≢ c → is_reader (held_by picture d).state ≡ false
+pub one_writer : (p : Protocol) (n : ℕ) (flat : ℕ) (picture : Picture) → Good p n flat picture → (c d : ℕ) → c < n → d < n → is_owner (held_by picture c).state ≡ true → d ≢ c → keeps (held_by picture d).state ≡ false
 one_writer p n flat picture g c d c_in d_in writes apart =
     let fit = g.states c c_in in
     let owning : owns g.owner c ≡ true = sym (fits_is_owner p g.claims.shared (owns g.owner c) (awaited picture.transaction c) (held_by picture c).state fit) ∙ writes in

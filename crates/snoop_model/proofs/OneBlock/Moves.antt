@@ -1,6 +1,6 @@
 -- The moves of the definitions are steps of one block.
 use Rattle.std.proofs.Common.{◌≡◌, ℕ, ◌<◌, Bool, true, false, cond, List, length, Option, Some, None, refl, ap, sym, ◌∙◌, subst}
-use Rattle.std.specs.Prelude.{slice_set, MatchBool}
+use Rattle.std.specs.Prelude.{slice_set, MatchBool, IsSomeAnd}
 use Rattle.std.proofs.lemmas.List.{get_or-set_same, get_or-set_other}
 use Rattle.snoop_trace.specs.declared.step.Op.{Op}
 use Rattle.snoop_trace.specs.declared.step.Op.TheVariants as op
@@ -33,7 +33,7 @@ use Rattle.snoop_model.specs.declared.replies.Reply.{Reply}
 use Rattle.snoop_model.specs.declared.line.Line.{Line}
 use Rattle.snoop_model.specs.Pictures.Picture.{Picture, held_at, held_by, nothing_held}
 use Rattle.snoop_model.specs.Pictures.Sends.{Sends}
-use Rattle.snoop_model.specs.Moves.Move.{Takes, TakesRow, Fills, IsFillFor, Performs, ArrivesFor, TakesPayload, Orders, Responds, is_load}
+use Rattle.snoop_model.specs.Moves.Move.{Takes, TakesRow, Fills, IsFillFor, Performs, ArrivesFor, Orders, Responds, is_load, written}
 use Rattle.snoop_model.specs.Pictures.Situation.{Situation, picture_of}
 use Rattle.snoop_model.proofs.OneBlock.Steps as one
 use Rattle.snoop_model.proofs.OneBlock.Steps.{Done, Loaded, Stored, sent_by, sent_by_memory, row_of, mem_row_of}
@@ -107,16 +107,18 @@ takes_performs (action.Send sent target) next log core block asking old new answ
 pub takes_by_row : (p : Protocol) (e : CacheEvent) (old new : Line) → TakesRow p e old new → one.Takes p e old new
 takes_by_row p e old new t = (record { action = t.0; next = t.1.0 }, cell_of-Cell p old.state e t.0 t.1.0 t.1.1.0, t.1.1.1)
 
-memory_arrives : (p : Protocol) (m : MemState) (found : Option MemEvent) (e : MemEvent) (a : MemAction) (next : MemState) → found ≡ Some e → MemoryCell p m e a next → mem_row_of p m found ≡ Some (record { action = a; next = next })
-memory_arrives p m found e a next is row = rw is (memory_cell_of-MemoryCell p m e a next row)
+memory_arrives : (p : Protocol) (m : MemState) (found : Option MemEvent) (a : MemAction) (next : MemState) → IsSomeAnd found (λ event. MemoryCell p m event a next) → mem_row_of p m found ≡ Some (record { action = a; next = next })
+memory_arrives p m None a next row = absurd row
+memory_arrives p m (Some e) a next row = memory_cell_of-MemoryCell p m e a next row
 
 arrives_row : (p : Protocol) (s : CacheState) (found : Option CacheEvent) (e : CacheEvent) (a : CacheAction) (next : CacheState) → found ≡ Some e → Cell p s e a next → row_of p s found ≡ Some (record { action = a; next = next })
 arrives_row p s found e a next is row = rw is (cell_of-Cell p s e a next row)
 
 -- memory takes a payload
-pub memory_takes : (b : Bool) (p : Protocol) (closing : Open) (old new : Picture) → MatchBool b (TakesPayload closing p old new) ((new.memory ≡ old.memory) × (new.value ≡ old.value)) → one.MemoryTakes b p old closing new
-memory_takes true p closing old new t = (record { action = t.act; next = new.memory }, memory_arrives p old.memory (arrival_at_memory closing.payload) t.event t.act new.memory t.arrives t.row, refl, t.value)
-memory_takes false p closing old new t = t
+pub memory_takes : (b : Bool) (p : Protocol) (closing : Open) (old new : Picture) (act : MemAction)
+    → MatchBool b (IsSomeAnd (arrival_at_memory closing.payload) (λ event. MemoryCell p old.memory event act new.memory)) ((act ≡ mem_action.None) × (new.memory ≡ old.memory)) → new.value ≡ written act closing.value old.value → one.MemoryTakes b p old closing new
+memory_takes true p closing old new act row value = (record { action = act; next = new.memory }, memory_arrives p old.memory (arrival_at_memory closing.payload) act new.memory row, refl, value)
+memory_takes false p closing old new act idle value = (idle.1, value ∙ ap (λ (a : MemAction). written a closing.value old.value) idle.0)
 
 -- an Ask of one core is a step of the block
 pub asks_one : (p : Protocol) (before : Picture) (c : ℕ) (asking : Op) (a : CacheAction) (next : CacheState) (held : Line) (log : List Item) (block : ℕ) (answer : Reply) (entry : Option Item) → c < length before.caches
@@ -185,6 +187,6 @@ responds_one old block closing did new r within = record {
   opened = closing;
   was_open = r.opened;
   closes = r.closed;
-  memory = memory_takes (takes_payload closing.request (picture_of old block).memory) old.protocol closing (picture_of old block) r.next r.memory;
+  memory = memory_takes (takes_payload closing.request (picture_of old block).memory) old.protocol closing (picture_of old block) r.next r.memory.act r.memory.settled r.memory.value;
   requestor = arrives_one closing.request old.protocol closing old.log (picture_of old block) r.next did within r.requestor;
 }

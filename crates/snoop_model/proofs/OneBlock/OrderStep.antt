@@ -23,8 +23,8 @@ use Rattle.snoop_model.specs.declared.line.Line.{Line}
 use Rattle.snoop_model.specs.Pictures.Picture.{Picture, held_by}
 use Rattle.snoop_model.specs.Pictures.Sends.{value_at, value_sent}
 use Rattle.snoop_model.specs.Moves.Move.{moves_to}
-use Rattle.snoop_model.specs.Pictures.Sound.{IsProper}
-use Rattle.snoop_model.specs.Invariant.Fits.{Claims, claims_of, is_clean, is_reader, same, fits}
+use Rattle.snoop_model.specs.Pictures.Sound.{keeps, IsProper}
+use Rattle.snoop_model.specs.Invariant.Fits.{Claims, claims_of, is_clean, same, fits}
 use Rattle.snoop_model.specs.Invariant.Good.{Good, talk_of, awaited, owns}
 use Rattle.snoop_model.proofs.Tables.Every.{given_at, same_is, some_of}
 use Rattle.snoop_model.proofs.OneBlock.Steps.{sent_by, sent_by_memory, Sends, Takes, message, Orders}
@@ -192,11 +192,11 @@ other_after p n flat before c q after l o d d_in apart xc is_xc = takes_row p (s
 -- a row that makes no reader of a core lets its values carry over
 pub came_to : (old new : Line) (next : CacheState) → new ≡ moves_to next old → carries old.state next ≡ true → Carried old new
 came_to old new next comes carries_over =
-    let parts = and_parts (not (is_reader next) || is_reader old.state) (not (is_clean next) || is_clean old.state) carries_over in
+    let parts = and_parts (not (keeps next) || keeps old.state) (not (is_clean next) || is_clean old.state) carries_over in
     record {
       reads = λ h.
-          let e : is_reader next ≡ true = ap (λ (x : Line). is_reader x.state) (sym comes) ∙ h in
-          (implied (is_reader next) (is_reader old.state) parts.0 e, ap (λ (x : Line). x.kept) comes ∙ kept_reader next old.kept e);
+          let e : keeps next ≡ true = ap (λ (x : Line). keeps x.state) (sym comes) ∙ h in
+          (implied (keeps next) (keeps old.state) parts.0 e, ap (λ (x : Line). x.kept) comes ∙ kept_reader next old.kept e);
       cleans = λ h.
           let e : is_clean next ≡ true = ap (λ (x : Line). is_clean x.state) (sym comes) ∙ h in
           implied (is_clean next) (is_clean old.state) parts.1 e;
@@ -246,8 +246,8 @@ sender_value p n flat before c q l None sent sends carrying =
     let t = end_of p n flat before c q l OrderTests.memory_sends_fresh OrderTests.memory_sends_fresh_holds in
     l.good.fresh (implied (is_some (sent_by_memory (Some l.mc))) l.good.claims.fresh t (some_true (sent_by_memory (Some l.mc)) sent e))
 sender_value p n flat before c q l (Some d) sent sends carrying =
-    let reads : is_reader (held_by before d).state ≡ true =
-    elim (eqb_tells d c) as (λ _. is_reader (held_by before d).state ≡ true) [
+    let reads : keeps (held_by before d).state ≡ true =
+    elim (eqb_tells d c) as (λ _. keeps (held_by before d).state ≡ true) [
       | inl h ↦
           let row : cell_of p (held_by before d).state (seen_by d c q) ≡ Some l.oc = subst (λ (x : ℕ). cell_of p (held_by before x).state (seen_by x c q) ≡ Some l.oc) (sym h.1) (ap (λ (e : CacheEvent). cell_of p (held_by before c).state e) (seen_own c q) ∙ l.is_oc) in
           let e : sent_by (Some l.oc) ≡ Some sent = ap sent_by (sym row) ∙ sends.1 in
@@ -255,7 +255,7 @@ sender_value p n flat before c q l (Some d) sent sends carrying =
           let put : is_put_m q ≡ true = sym t ∙ some_true (sent_by (Some l.oc)) sent e in
           let carry : carries_value l.pl ≡ true = ap carries_value (sym (sent_payload p n flat before c q l (Some d) sent sends)) ∙ carrying in
           let r = end_of p n flat before c q l OrderTests.requestor_reads OrderTests.requestor_reads_holds in
-          let reads_c : is_reader (held_by before c).state ≡ true = implied (is_put_m q && carries_value l.pl) (is_reader (held_by before c).state) r (rw (put, carry) refl) in
+          let reads_c : keeps (held_by before c).state ≡ true = implied (is_put_m q && carries_value l.pl) (keeps (held_by before c).state) r (rw (put, carry) refl) in
           rw h.1 reads_c
       | inr h ↦
           let x = other_cell p n flat before c q l d sends.0 in

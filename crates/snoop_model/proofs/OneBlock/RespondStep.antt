@@ -27,8 +27,8 @@ use Rattle.snoop_bus.specs.declared.transactions.Open.{Open}
 use Rattle.snoop_model.specs.declared.line.Line.{Line}
 use Rattle.snoop_model.specs.Pictures.Picture.{Picture, held_by}
 use Rattle.snoop_model.specs.Moves.Move.{written}
-use Rattle.snoop_model.specs.Pictures.Sound.{IsProper}
-use Rattle.snoop_model.specs.Invariant.Fits.{Claims, claims_of, is_clean, is_reader, fits}
+use Rattle.snoop_model.specs.Pictures.Sound.{keeps, IsProper}
+use Rattle.snoop_model.specs.Invariant.Fits.{Claims, claims_of, is_clean, fits}
 use Rattle.snoop_model.specs.Invariant.Good.{Good, talk_of, awaited, owns}
 use Rattle.snoop_model.proofs.Tables.Every.{either-at, given, given_at, same_is, some_of, when_at}
 use Rattle.snoop_model.proofs.OneBlock.Steps.{Done, flat_after, IsLawful, row_of, mem_row_of, MemoryTakes, Fills, RequestorTakes, Responds}
@@ -127,13 +127,13 @@ stays_fits p n flat before after o g f d d_in fit =
     when_at _ _ (owns_owned g.owner d g.claims.owned g.is_owned) (when_at _ _ fit h0)
 
 -- after a GetM no other core may read
-stays_blind : (p : Protocol) (n : ℕ) (flat : ℕ) (before after : Picture) (o : Open) (g : Good p n flat before) (f : Found p n flat before after o g) → is_get_m o.request ≡ true → (d : ℕ) → d < n → fits p g.claims.shared (owns g.owner d) None (held_by before d).state ≡ true → is_reader (held_by before d).state ≡ false
+stays_blind : (p : Protocol) (n : ℕ) (flat : ℕ) (before after : Picture) (o : Open) (g : Good p n flat before) (f : Found p n flat before after o g) → is_get_m o.request ≡ true → (d : ℕ) → d < n → fits p g.claims.shared (owns g.owner d) None (held_by before d).state ≡ true → keeps (held_by before d).state ≡ false
 stays_blind p n flat before after o g f get_m d d_in fit =
     let t = when_at _ _ get_m (after_rule RespondTests.stay_alone RespondTests.stay_alone_holds p before.memory o.request o.payload g.claims after.memory f.next f.is_claims f.is_memory f.is_next) in
     let s = (held_by before d).state in
     let ow = owns g.owner d in
     let h0 = either-at _ (all_states-at _ t s) ow in
-    not_true (is_reader s) (when_at _ _ (owns_owned g.owner d g.claims.owned g.is_owned) (when_at _ _ fit h0))
+    not_true (keeps s) (when_at _ _ (owns_owned g.owner d g.claims.owned g.is_owned) (when_at _ _ fit h0))
 
 none_some : (x : Open) → None ≡ Some x → ⊥
 none_some x e = cc
@@ -285,7 +285,7 @@ respond_get p n flat before after made g r no_put row is_row fills others =
     ap (λ (w : Option Request). fits p g.claims.shared (owns g.owner d) w (held_by before d).state) (sym waits) ∙ g.states d d_in in
     let alone = after_rule RespondTests.gain_alone RespondTests.gain_alone_holds p before.memory o.request o.payload g.claims after.memory f.next f.is_claims f.is_memory f.is_next in
     -- the flat value is as before, or no other core may read and memory isn't fresh
-    let keeps : is_get_m o.request ≡ false → flat_after flat made ≡ flat = λ h. l.load_keeps (a.fills ∙ h) in
+    let same_flat : is_get_m o.request ≡ false → flat_after flat made ≡ flat = λ h. l.load_keeps (a.fills ∙ h) in
     let good : Good p n (flat_after flat made) after = record {
       claims = f.next;
       is_claims = ap (λ (t : Option Open). claims_of p after.memory (talk_of t)) r.closes ∙ f.is_next;
@@ -299,22 +299,22 @@ respond_get p n flat before after made g r no_put row is_row fills others =
       kept = λ d d_in h. elim (eqb_tells d c) as (λ _. (held_by after d).kept ≡ Some (flat_after flat made)) [
         | inl e ↦ ap (λ (x : ℕ). (held_by after x).kept) e.1 ∙ l.kept
         | inr e ↦ elim (or_not (is_get_m o.request)) as (λ _. (held_by after d).kept ≡ Some (flat_after flat made)) [
-          | inl m ↦ absurd (clash (is_reader (held_by before d).state) (ap (λ (x : Line). is_reader x.state) (sym (others d d_in e.1)) ∙ h) (stays_blind p n flat before after o g f m d d_in (fit d d_in e.1)))
-          | inr m ↦ carried_kept (held_by before d) (held_by after d) flat (carried_same (held_by before d) (held_by after d) (others d d_in e.1)) (g.kept d d_in) h ∙ ap (λ (x : ℕ). Some x) (sym (keeps m))
+          | inl m ↦ absurd (clash (keeps (held_by before d).state) (ap (λ (x : Line). keeps x.state) (sym (others d d_in e.1)) ∙ h) (stays_blind p n flat before after o g f m d d_in (fit d d_in e.1)))
+          | inr m ↦ carried_kept (held_by before d) (held_by after d) flat (carried_same (held_by before d) (held_by after d) (others d d_in e.1)) (g.kept d d_in) h ∙ ap (λ (x : ℕ). Some x) (sym (same_flat m))
         ]
       ];
       clean = λ d d_in h. elim (eqb_tells d c) as (λ _. after.value ≡ flat_after flat made) [
         | inl e ↦
             let k = a.clean (ap is_clean (sym l.state) ∙ (ap (λ (x : ℕ). is_clean (held_by after x).state) (sym e.1) ∙ h)) in
-            f.stays (g.fresh k.0) ∙ sym (keeps k.1)
+            f.stays (g.fresh k.0) ∙ sym (same_flat k.1)
         | inr e ↦
             let was : is_clean (held_by before d).state ≡ true = ap (λ (x : Line). is_clean x.state) (sym (others d d_in e.1)) ∙ h in
             elim (or_not (is_get_m o.request)) as (λ _. after.value ≡ flat_after flat made) [
-              | inl m ↦ absurd (clash (is_reader (held_by before d).state) (clean_reads (held_by before d).state was) (stays_blind p n flat before after o g f m d d_in (fit d d_in e.1)))
-              | inr m ↦ f.stays (g.clean d d_in was) ∙ sym (keeps m)
+              | inl m ↦ absurd (clash (keeps (held_by before d).state) (clean_reads (held_by before d).state was) (stays_blind p n flat before after o g f m d d_in (fit d d_in e.1)))
+              | inr m ↦ f.stays (g.clean d d_in was) ∙ sym (same_flat m)
             ]
       ];
-      fresh = λ h. (f.refreshed h).1 ∙ sym (keeps (f.refreshed h).0);
+      fresh = λ h. (f.refreshed h).1 ∙ sym (same_flat (f.refreshed h).0);
       carried = λ x is_x. absurd (none_some x (sym r.closes ∙ is_x));
       requestor_in = λ x is_x. absurd (none_some x (sym r.closes ∙ is_x));
       proper = λ d d_in. elim (eqb_tells d c) as (λ _. IsProper (held_by after d)) [

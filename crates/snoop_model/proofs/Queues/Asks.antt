@@ -23,8 +23,8 @@ use Rattle.snoop_model.specs.Moves.Move.{Asks, Takes, IsWithin, queues_after}
 use Rattle.snoop_model.proofs.Tables.Rows.{issue-waits, hit-waits, drop-waits}
 use Rattle.snoop_model.proofs.Lines.OneLine.{placed, line_at-placed, line_at-placed_core, line_at-placed_block, length-placed, length-row-placed}
 use Rattle.snoop_model.proofs.Lines.EachRow.{row_of}
-use Rattle.snoop_model.specs.Invariant.WellKept.{IsWellKept, awaited_request, has_missed}
-use Rattle.snoop_model.proofs.Tables.WaitingRows.{awaited-asked, missed-asked, missed-issued}
+use Rattle.snoop_model.specs.Invariant.WellKept.{IsWellKept, awaited_request}
+use Rattle.snoop_model.proofs.Tables.WaitingRows.{has_missed, awaited-asked, missed-asked, missed-issued}
 
 -- this line, or one that is as it was
 pub placed_cases : (caches : List (List Line)) (core block : ℕ) (line : Line) → block < length caches → core < length (row_of caches block)
@@ -71,6 +71,7 @@ module _ (s : Situation) (kept : IsWellKept s) (core block : ℕ) (line : Line) 
         shaped = record {
           rows = length-placed s.caches core block line in_caches in_row ∙ kept.shaped.rows;
           row = λ b h. length-row-placed s.caches core block line in_caches in_row b ∙ kept.shaped.row b h;
+          memory = kept.shaped.memory;
           queues = kept.shaped.queues;
           transactions = kept.shaped.transactions;
         };
@@ -110,6 +111,7 @@ module _ (s : Situation) (kept : IsWellKept s) (core block : ℕ) (line : Line) 
         shaped = record {
           rows = length-placed s.caches core block line in_caches in_row ∙ kept.shaped.rows;
           row = λ b h. length-row-placed s.caches core block line in_caches in_row b ∙ kept.shaped.row b h;
+          memory = kept.shaped.memory;
           queues = length-set s.queues core (queue_of s.queues core ++ block ∷ []) ∙ kept.shaped.queues;
           transactions = kept.shaped.transactions;
         };

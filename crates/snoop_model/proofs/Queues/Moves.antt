@@ -12,7 +12,7 @@ use Rattle.snoop_rules.specs.Waits.{waiting_request}
 use Rattle.snoop_bus.specs.declared.transactions.Open.{Open}
 use Rattle.snoop_bus.specs.Queues.{queue_of}
 use Rattle.snoop_model.specs.declared.line.Line.{Line}
-use Rattle.snoop_model.specs.Pictures.Picture.{held_at, held_by, nothing_held}
+use Rattle.snoop_model.specs.Pictures.Picture.{first_memory, held_at, held_by, nothing_held}
 use Rattle.snoop_model.specs.Pictures.Situation.{Situation, picture_of, reset}
 use Rattle.snoop_model.specs.Turns.Serving.{IsServing}
 use Rattle.snoop_model.specs.Invariant.WellKept.{IsWellKept, awaited_request}
@@ -52,6 +52,7 @@ module _ (protocol : Protocol) (shape : Extent) where
     shaped = record {
       rows = length-replicate shape.blocks (replicate shape.cores nothing_held);
       row = λ b h. ap length (get_or-replicate shape.blocks b (replicate shape.cores nothing_held) [] h) ∙ length-replicate shape.cores nothing_held;
+      memory = length-replicate shape.blocks (record { state = first_memory protocol; value = 0 });
       queues = length-replicate shape.cores [];
       transactions = length-replicate shape.blocks None;
     };

@@ -14,8 +14,8 @@ use Rattle.snoop_model.specs.Pictures.Picture.{held_at, held_by, nothing_held}
 use Rattle.snoop_model.specs.Pictures.Situation.{Situation, picture_of, state_of}
 use Rattle.snoop_model.specs.Moves.Move.{Orders, TakesRow}
 use Rattle.snoop_model.proofs.Tables.Rows.{own-waits, other-waits}
-use Rattle.snoop_model.specs.Invariant.WellKept.{IsWellKept, HasOpen, awaited_request, has_missed}
-use Rattle.snoop_model.proofs.Tables.WaitingRows.{awaited-own, awaited-other, missed-ordered}
+use Rattle.snoop_model.specs.Invariant.WellKept.{IsWellKept, HasOpen, awaited_request}
+use Rattle.snoop_model.proofs.Tables.WaitingRows.{has_missed, awaited-own, awaited-other, missed-ordered}
 
 -- what a filter leaves is what was there and passes
 pub contains_filtered : (p : ℕ → Bool) (xs : List ℕ) (x : ℕ) → Contains (filter p xs) x → Contains xs x
@@ -167,6 +167,8 @@ module _ (s t : Situation) (kept : IsWellKept s) (core block : ℕ) (request : R
             ap (λ (x : Situation). length (slice_index_or x.caches b [])) orders.after
             ∙ (ap length (get_or-set_other s.caches block b orders.next.caches [] ne) ∙ (kept.shaped.row b (subst P orders.after h) ∙ ap (λ (x : Situation). x.shape.cores) (sym orders.after))))
       ];
+      memory = ap (λ (x : Situation). length x.memory) orders.after
+          ∙ (length-set s.memory block (record { state = orders.next.memory; value = orders.next.value }) ∙ (kept.shaped.memory ∙ ap (λ (x : Situation). x.shape.blocks) (sym orders.after)));
       queues = ap (λ (x : Situation). length x.queues) orders.after
           ∙ (length-set s.queues core (filter (λ b. not (b == block)) (queue_of s.queues core)) ∙ (kept.shaped.queues ∙ ap (λ (x : Situation). x.shape.cores) (sym orders.after)));
       transactions = ap (λ (x : Situation). length x.transactions) orders.after

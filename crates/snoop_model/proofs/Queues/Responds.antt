@@ -17,8 +17,8 @@ use Rattle.snoop_model.specs.Pictures.Picture.{held_at, held_by, nothing_held}
 use Rattle.snoop_model.specs.Pictures.Situation.{Situation, picture_of, state_of}
 use Rattle.snoop_model.specs.Moves.Move.{Responds, Fills, ArrivesFor}
 use Rattle.snoop_model.proofs.Tables.Rows.{fill-waits}
-use Rattle.snoop_model.specs.Invariant.WellKept.{IsWellKept, awaited_request, has_missed}
-use Rattle.snoop_model.proofs.Tables.WaitingRows.{awaited-filled, awaited-get}
+use Rattle.snoop_model.specs.Invariant.WellKept.{IsWellKept, awaited_request}
+use Rattle.snoop_model.proofs.Tables.WaitingRows.{has_missed, awaited-filled, awaited-get}
 use Rattle.snoop_model.proofs.Lists.Writes.{set_cases}
 
 by_request : (q : Request) (closing : Open) (p : Protocol) (log : List Item) (old new : List Line) (did : Option Did)
@@ -159,6 +159,8 @@ module _ (s t : Situation) (kept : IsWellKept s) (block : ℕ) (closing : Open) 
             ap (λ (x : Situation). length (slice_index_or x.caches b [])) responds.after
             ∙ (ap length (get_or-set_other s.caches block b responds.next.caches [] ne) ∙ (kept.shaped.row b (subst P responds.after h) ∙ ap (λ (x : Situation). x.shape.cores) (sym responds.after))))
       ];
+      memory = ap (λ (x : Situation). length x.memory) responds.after
+          ∙ (length-set s.memory block (record { state = responds.next.memory; value = responds.next.value }) ∙ (kept.shaped.memory ∙ ap (λ (x : Situation). x.shape.blocks) (sym responds.after)));
       queues = ap length same_queues ∙ (kept.shaped.queues ∙ ap (λ (x : Situation). x.shape.cores) (sym responds.after));
       transactions = ap (λ (x : Situation). length x.transactions) responds.after
           ∙ (length-set s.transactions block responds.next.transaction ∙ (kept.shaped.transactions ∙ ap (λ (x : Situation). x.shape.blocks) (sym responds.after)));

@@ -29,7 +29,7 @@ use Rattle.snoop_model.specs.Pictures.Situation.{Situation, picture_of, state_of
 use Rattle.snoop_model.specs.Moves.Move.{Takes, Fills, ArrivesFor, Asks, Orders, Responds, IsWithin, MoveOn, queues_after}
 use Rattle.snoop_model.specs.Runs.Run.{Goes, RunFrom}
 use Rattle.snoop_model.specs.Runs.Once.{one_if}
-use Rattle.snoop_model.specs.Pictures.InQueue.{IsInQueue, AreQueued}
+use Rattle.snoop_model.specs.Pictures.InQueue.{IsInQueue}
 use Rattle.snoop_model.specs.Invariant.Coherent.{IsCoherent}
 use Rattle.snoop_model.proofs.Tables.Rows.{issue-waits, hit-waits, drop-waits, own-waits, other-waits, fill-waits}
 use Rattle.snoop_model.proofs.OneBlock.AfterMoves.{ask_line, ask_other_core, ask_other_block, order_here, order_other_block, respond_here, respond_other_block}
@@ -70,61 +70,58 @@ others_waits old new c b core block cores blocks = elim (eqb_tells block b) [
   ]
 ]
 
+-- each core's queue has the blocks on which it waits
+abbrev pub AreQueued : Situation → Type 0
+AreQueued s = (core block : ℕ) → IsInQueue s core block
+
 -- nothing joins or leaves a queue
-left_alone : (old new : Situation) → AreQueued old → new.queues ≡ old.queues → new.shape ≡ old.shape → ((core block : ℕ) → waits (state_of new core block) ≡ waits (state_of old core block)) → AreQueued new
-left_alone old new q queues shape same = record {
-  many = ap (λ (l : List (List ℕ)). length l) queues ∙ (q.many ∙ ap (λ (x : Extent). x.cores) (sym shape));
-  each = λ core block. ap (λ (l : List (List ℕ)). times block (queue_of l core)) queues ∙ (q.each core block ∙ sym (same core block));
-}
+left_alone : (old new : Situation) → AreQueued old → new.queues ≡ old.queues → ((core block : ℕ) → waits (state_of new core block) ≡ waits (state_of old core block)) → AreQueued new
+left_alone old new q queues same core block = ap (λ (l : List (List ℕ)). times block (queue_of l core)) queues ∙ (q core block ∙ sym (same core block))
 
 -- a block on which the core did not wait goes last in its queue
-issued : (old new : Situation) (c b : ℕ) → AreQueued old → c < old.shape.cores → new.queues ≡ after_issue old.queues c b → new.shape ≡ old.shape → waits (state_of old c b) ≡ 0 → waits (state_of new c b) ≡ 1
+issued : (old new : Situation) (c b : ℕ) → AreQueued old → c < length old.queues → new.queues ≡ after_issue old.queues c b → waits (state_of old c b) ≡ 0 → waits (state_of new c b) ≡ 1
     → ((core block : ℕ) → ((core ≡ c) × (block ≡ b)) ⊎ (waits (state_of new core block) ≡ waits (state_of old core block))) → AreQueued new
-issued old new c b q inside queues shape was is others = record {
-  many = ap (λ (l : List (List ℕ)). length l) queues ∙ (length-set old.queues c (queue_of old.queues c ++ b ∷ []) ∙ (q.many ∙ ap (λ (x : Extent). x.cores) (sym shape)));
-  each = λ core block.
-      let within : c < length old.queues = subst (λ (n : ℕ). c < n) (sym q.many) inside in
-      let old_c = q.each core block in
-      let now : queue_of new.queues core ≡ queue_of (after_issue old.queues c b) core = ap (λ (l : List (List ℕ)). queue_of l core) queues in
-      elim (eqb_tells core c) as (λ _. IsInQueue new core block) [
-        | inr h ↦
-            let same : queue_of new.queues core ≡ queue_of old.queues core = now ∙ get_or-set_other old.queues c core (queue_of old.queues c ++ b ∷ []) [] h.1 in
-            elim (others core block) [
-              | inl here ↦ absurd (h.1 here.0)
-              | inr e ↦ ap (times block) same ∙ (old_c ∙ sym e)
-            ]
-        | inl h ↦
-            let mine : queue_of new.queues core ≡ queue_of old.queues core ++ b ∷ [] =
-            now ∙ subst (λ (x : ℕ). queue_of (after_issue old.queues c b) x ≡ queue_of old.queues x ++ b ∷ []) (sym h.1) (get_or-set_same old.queues c (queue_of old.queues c ++ b ∷ []) [] within) in
-            let pushed : times block (queue_of new.queues core) ≡ times block (queue_of old.queues core) + one_if (eqb b block) = ap (times block) mine ∙ times_push block b (queue_of old.queues core) in
-            elim (eqb_tells b block) as (λ _. IsInQueue new core block) [
-              | inl i ↦
-                  let one : one_if (eqb b block) ≡ 1 = rw i.0 refl in
-                  let P : (x y : ℕ) → Type 0 = λ x y. waits (state_of old x y) ≡ 0 in
-                  let Q : (x y : ℕ) → Type 0 = λ x y. waits (state_of new x y) ≡ 1 in
-                  let w : waits (state_of old core block) ≡ 0 = subst (λ (x : ℕ). P x block) (sym h.1) (subst (P c) i.1 was) in
-                  let v : waits (state_of new core block) ≡ 1 = subst (λ (x : ℕ). Q x block) (sym h.1) (subst (Q c) i.1 is) in
-                  omega arith
-              | inr i ↦
-                  let none : one_if (eqb b block) ≡ 0 = rw i.0 refl in
-                  elim (others core block) [
-                    | inl here ↦ absurd (i.1 (sym here.1))
-                    | inr e ↦ omega arith
-                  ]
-            ]
-      ];
-}
+issued old new c b q within queues was is others core block =
+    let old_c = q core block in
+    let now : queue_of new.queues core ≡ queue_of (after_issue old.queues c b) core = ap (λ (l : List (List ℕ)). queue_of l core) queues in
+    elim (eqb_tells core c) as (λ _. IsInQueue new core block) [
+      | inr h ↦
+          let same : queue_of new.queues core ≡ queue_of old.queues core = now ∙ get_or-set_other old.queues c core (queue_of old.queues c ++ b ∷ []) [] h.1 in
+          elim (others core block) [
+            | inl here ↦ absurd (h.1 here.0)
+            | inr e ↦ ap (times block) same ∙ (old_c ∙ sym e)
+          ]
+      | inl h ↦
+          let mine : queue_of new.queues core ≡ queue_of old.queues core ++ b ∷ [] =
+          now ∙ subst (λ (x : ℕ). queue_of (after_issue old.queues c b) x ≡ queue_of old.queues x ++ b ∷ []) (sym h.1) (get_or-set_same old.queues c (queue_of old.queues c ++ b ∷ []) [] within) in
+          let pushed : times block (queue_of new.queues core) ≡ times block (queue_of old.queues core) + one_if (eqb b block) = ap (times block) mine ∙ times_push block b (queue_of old.queues core) in
+          elim (eqb_tells b block) as (λ _. IsInQueue new core block) [
+            | inl i ↦
+                let one : one_if (eqb b block) ≡ 1 = rw i.0 refl in
+                let P : (x y : ℕ) → Type 0 = λ x y. waits (state_of old x y) ≡ 0 in
+                let Q : (x y : ℕ) → Type 0 = λ x y. waits (state_of new x y) ≡ 1 in
+                let w : waits (state_of old core block) ≡ 0 = subst (λ (x : ℕ). P x block) (sym h.1) (subst (P c) i.1 was) in
+                let v : waits (state_of new core block) ≡ 1 = subst (λ (x : ℕ). Q x block) (sym h.1) (subst (Q c) i.1 is) in
+                omega arith
+            | inr i ↦
+                let none : one_if (eqb b block) ≡ 0 = rw i.0 refl in
+                elim (others core block) [
+                  | inl here ↦ absurd (i.1 (sym here.1))
+                  | inr e ↦ omega arith
+                ]
+          ]
+    ]
 
 ask_queued : (old : Situation) (c b : ℕ) (asking : Op) (answer : Reply) (new : Situation) (entry : Option Item) → IsCoherent old → AreQueued old → IsWithin old c b → Asks old c b asking answer new entry → AreQueued new
 ask_queued old c b asking answer new entry g q within a =
     let queues : new.queues ≡ queues_after a.act old.queues c b = ap (λ (s : Situation). s.queues) a.after in
-    let shape : new.shape ≡ old.shape = ap (λ (s : Situation). s.shape) a.after in
+    let in_queues : c < length old.queues = subst (λ (n : ℕ). c < n) (sym g.shaped.queues) within.0 in
     let line = ask_line old c b asking answer new entry g within a in
     let others = λ (core block : ℕ). others_waits old new c b core block (ask_other_core old c b asking answer new entry g within a) (ask_other_block old c b asking answer new entry g within a) in
     let here : (x : ℕ) → waits a.held.state ≡ x → waits (state_of new c b) ≡ x = λ x e. ap (λ (y : Line). waits y.state) line ∙ e in
     elim (ask_waits old.protocol a.act a.next old.log c b asking (held_by (picture_of old b) c) a.held answer entry old.queues a.row a.taken) [
-      | inl i ↦ issued old new c b q within.0 (queues ∙ i.0) shape i.1.0 (here 1 i.1.1) others
-      | inr i ↦ left_alone old new q (queues ∙ i.0) shape (λ core block. elim (others core block) [
+      | inl i ↦ issued old new c b q in_queues (queues ∙ i.0) i.1.0 (here 1 i.1.1) others
+      | inr i ↦ left_alone old new q (queues ∙ i.0) (λ core block. elim (others core block) [
         | inr e ↦ e
         | inl at ↦
             let P : (x y : ℕ) → Type 0 = λ x y. waits (state_of new x y) ≡ waits (state_of old x y) in
@@ -153,30 +150,25 @@ order_waits old c b q new o k = elim (cases_lt k (length o.next.caches)) [
 ]
 
 order_queued : (old : Situation) (c b : ℕ) (q : Request) (new : Situation) → IsCoherent old → AreQueued old → IsWithin old c b → Orders old c b q new → AreQueued new
-order_queued old c b q new g k within o =
+order_queued old c b q new g k within o core block =
     let queues : new.queues ≡ after_order old.queues c b = ap (λ (s : Situation). s.queues) o.after in
-    let shape : new.shape ≡ old.shape = ap (λ (s : Situation). s.shape) o.after in
     let left : List ℕ = filter (λ x. not (eqb x b)) (queue_of old.queues c) in
-    record {
-      many = ap (λ (l : List (List ℕ)). length l) queues ∙ (length-set old.queues c left ∙ (k.many ∙ ap (λ (x : Extent). x.cores) (sym shape)));
-      each = λ core block.
-          let inside : c < length old.queues = subst (λ (n : ℕ). c < n) (sym k.many) within.0 in
-          let was = k.each core block in
-          let now : queue_of new.queues core ≡ queue_of (after_order old.queues c b) core = ap (λ (l : List (List ℕ)). queue_of l core) queues in
-          let queue : times block (queue_of new.queues core) ≡ cond (eqb core c) (cond (eqb b block) 0 (times block (queue_of old.queues core))) (times block (queue_of old.queues core)) = elim (eqb_tells core c) as (λ _. times block (queue_of new.queues core) ≡ cond (eqb core c) (cond (eqb b block) 0 (times block (queue_of old.queues core))) (times block (queue_of old.queues core))) [
-            | inl h ↦
-                let mine : queue_of new.queues core ≡ filter (λ x. not (eqb x b)) (queue_of old.queues core) = now ∙ subst (λ (x : ℕ). queue_of (after_order old.queues c b) x ≡ filter (λ y. not (eqb y b)) (queue_of old.queues x)) (sym h.1) (get_or-set_same old.queues c left [] inside) in
-                rw h.0 (ap (times block) mine ∙ times_without block b (queue_of old.queues core))
-            | inr h ↦ rw h.0 (ap (times block) (now ∙ get_or-set_other old.queues c core left [] h.1))
-          ] in
-          let state : waits (state_of new core block) ≡ cond (eqb core c) (cond (eqb b block) 0 (waits (state_of old core block))) (waits (state_of old core block)) = elim (eqb_tells b block) as (λ _. waits (state_of new core block) ≡ cond (eqb core c) (cond (eqb b block) 0 (waits (state_of old core block))) (waits (state_of old core block))) [
-            | inl h ↦
-                let P : ℕ → Type 0 = λ y. waits (state_of new core y) ≡ cond (eqb core c) 0 (waits (state_of old core y)) in
-                rw h.0 (subst P h.1 (ap (λ (x : Picture). waits (held_by x core).state) (order_here old c b q new g within o) ∙ order_waits old c b q new o core))
-            | inr h ↦ rw h.0 (ap (λ (x : Picture). waits (held_by x core).state) (order_other_block old c b q new g within o block (λ e. h.1 (sym e))) ∙ either_way (eqb core c) (waits (state_of old core block)))
-          ] in
-          queue ∙ (ap (λ (n : ℕ). cond (eqb core c) (cond (eqb b block) 0 n) n) was ∙ sym state);
-    }
+    let inside : c < length old.queues = subst (λ (n : ℕ). c < n) (sym g.shaped.queues) within.0 in
+    let was = k core block in
+    let now : queue_of new.queues core ≡ queue_of (after_order old.queues c b) core = ap (λ (l : List (List ℕ)). queue_of l core) queues in
+    let queue : times block (queue_of new.queues core) ≡ cond (eqb core c) (cond (eqb b block) 0 (times block (queue_of old.queues core))) (times block (queue_of old.queues core)) = elim (eqb_tells core c) as (λ _. times block (queue_of new.queues core) ≡ cond (eqb core c) (cond (eqb b block) 0 (times block (queue_of old.queues core))) (times block (queue_of old.queues core))) [
+      | inl h ↦
+          let mine : queue_of new.queues core ≡ filter (λ x. not (eqb x b)) (queue_of old.queues core) = now ∙ subst (λ (x : ℕ). queue_of (after_order old.queues c b) x ≡ filter (λ y. not (eqb y b)) (queue_of old.queues x)) (sym h.1) (get_or-set_same old.queues c left [] inside) in
+          rw h.0 (ap (times block) mine ∙ times_without block b (queue_of old.queues core))
+      | inr h ↦ rw h.0 (ap (times block) (now ∙ get_or-set_other old.queues c core left [] h.1))
+    ] in
+    let state : waits (state_of new core block) ≡ cond (eqb core c) (cond (eqb b block) 0 (waits (state_of old core block))) (waits (state_of old core block)) = elim (eqb_tells b block) as (λ _. waits (state_of new core block) ≡ cond (eqb core c) (cond (eqb b block) 0 (waits (state_of old core block))) (waits (state_of old core block))) [
+      | inl h ↦
+          let P : ℕ → Type 0 = λ y. waits (state_of new core y) ≡ cond (eqb core c) 0 (waits (state_of old core y)) in
+          rw h.0 (subst P h.1 (ap (λ (x : Picture). waits (held_by x core).state) (order_here old c b q new g within o) ∙ order_waits old c b q new o core))
+      | inr h ↦ rw h.0 (ap (λ (x : Picture). waits (held_by x core).state) (order_other_block old c b q new g within o block (λ e. h.1 (sym e))) ∙ either_way (eqb core c) (waits (state_of old core block)))
+    ] in
+    queue ∙ (ap (λ (n : ℕ). cond (eqb core c) (cond (eqb b block) 0 n) n) was ∙ sym state)
 
 -- a response changes no wait
 fills_waits : (closing : Open) (p : Protocol) (log : List Item) (old new : List Line) (did : Option Did) → closing.core < length old → Fills closing p log old new did → (k : ℕ) → waits (held_at new k).state ≡ waits (held_at old k).state
@@ -199,8 +191,8 @@ arrives_waits request.PutM closing p log old new did inside a k = ap (λ (l : Li
 
 respond_queued : (old : Situation) (b : ℕ) (closing : Open) (did : Option Did) (new : Situation) → IsCoherent old → AreQueued old → b < old.shape.blocks → Responds old b closing did new → AreQueued new
 respond_queued old b closing did new g q within r =
-    let inside : closing.core < length (picture_of old b).caches = subst (λ (n : ℕ). closing.core < n) (sym (g.row b within)) ((g.good b within).requestor_in closing r.opened) in
-    left_alone old new q (ap (λ (s : Situation). s.queues) r.after) (ap (λ (s : Situation). s.shape) r.after) (λ core block. elim (eqb_tells block b) [
+    let inside : closing.core < length (picture_of old b).caches = subst (λ (n : ℕ). closing.core < n) (sym (g.shaped.row b within)) ((g.good b within).requestor_in closing r.opened) in
+    left_alone old new q (ap (λ (s : Situation). s.queues) r.after) (λ core block. elim (eqb_tells block b) [
       | inl h ↦
           let P : ℕ → Type 0 = λ y. waits (state_of new core y) ≡ waits (state_of old core y) in
           subst P (sym h.1) (ap (λ (x : Picture). waits (held_by x core).state) (respond_here old b closing did new g within r) ∙ arrives_waits closing.request closing old.protocol old.log (picture_of old b).caches r.next.caches did inside r.requestor core)
@@ -233,7 +225,4 @@ empty_queue cores core = elim (cases_lt core cores) [
 ]
 
 pub reset_queued : (p : Protocol) (shape : Extent) → AreQueued (reset p shape)
-reset_queued p shape = record {
-  many = length-replicate shape.cores [];
-  each = λ core block. ap (times block) (empty_queue shape.cores core) ∙ sym (ap (λ (x : Line). waits x.state) (reset_line p shape core block));
-}
+reset_queued p shape core block = ap (times block) (empty_queue shape.cores core) ∙ sym (ap (λ (x : Line). waits x.state) (reset_line p shape core block))

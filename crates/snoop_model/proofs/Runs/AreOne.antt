@@ -1,6 +1,6 @@
 -- The run of some steps is the only one: a step has one outcome, and leads to one situation.
 use Rattle.std.proofs.Common.{◌≡◌, ℕ, ◌<◌, ◌≤◌, Bool, true, false, List, [], ◌∷◌, ◌++◌, length, Option, Some, None, refl, ◌⊎◌, inl, inr, ap, sym, ◌∙◌, subst, arith}
-use Rattle.std.specs.Prelude.{IsSome, Result, Ok, Err, MatchBool, is_some, option_to_list, slice_get, slice_set}
+use Rattle.std.specs.Prelude.{IsSome, IsSomeAnd, Result, Ok, Err, MatchBool, is_some, option_to_list, slice_get, slice_set}
 use Rattle.std.proofs.lemmas.List.{same_lists, get_or_default}
 use Rattle.snoop_trace.specs.declared.step.Op.{Op}
 use Rattle.snoop_trace.specs.declared.step.Op.TheVariants as op
@@ -12,13 +12,15 @@ use Rattle.snoop_rules.specs.declared.names.CacheEvent.{CacheEvent}
 use Rattle.snoop_rules.specs.declared.names.CacheAction.{CacheAction}
 use Rattle.snoop_rules.specs.declared.names.CacheAction.TheVariants as action
 use Rattle.snoop_rules.specs.declared.names.MemEvent.{MemEvent}
+use Rattle.snoop_rules.specs.declared.names.MemAction.{MemAction}
 use Rattle.snoop_rules.specs.declared.names.MemAction.TheVariants as mem_action
+use Rattle.snoop_rules.specs.declared.names.MemState.{MemState}
 use Rattle.snoop_rules.specs.declared.names.Request.{Request}
 use Rattle.snoop_rules.specs.declared.names.Request.TheVariants as request
 use Rattle.snoop_rules.specs.declared.names.Payload.{Payload}
 use Rattle.snoop_rules.specs.Cell.{Cell}
 use Rattle.snoop_rules.specs.MemoryCell.{MemoryCell}
-use Rattle.snoop_rules.specs.Takers.{asked, at_memory, takes_payload, seen_by}
+use Rattle.snoop_rules.specs.Takers.{asked, at_memory, arrival_at_memory, takes_payload, seen_by}
 use Rattle.snoop_rules.proofs.Rows.{Cell-one}
 use Rattle.snoop_rules.proofs.MemRows.{MemoryCell-one}
 use Rattle.snoop_history.specs.declared.items.Did.{Did}
@@ -35,7 +37,7 @@ use Rattle.snoop_model.specs.declared.replies.Refused.TheVariants.{NoCore, NoBlo
 use Rattle.snoop_model.specs.Pictures.Picture.{Picture, held_at, held_by, nothing_held}
 use Rattle.snoop_model.specs.Pictures.Situation.{Situation, picture_of, with_picture, state_of}
 use Rattle.snoop_model.specs.Pictures.Sends.{Sends, value_sent}
-use Rattle.snoop_model.specs.Moves.Move.{TakesRow, Takes, Hits, Fills, ArrivesFor, ArrivesAtMemory, TakesPayload, Asks, Orders, Responds, IsAbsent, IsWithin, FirstMove, Performs, moves_to, next_did, queues_after, came_of, written}
+use Rattle.snoop_model.specs.Moves.Move.{TakesRow, Takes, Hits, Fills, ArrivesFor, ArrivesAtMemory, Asks, Orders, Responds, IsAbsent, IsWithin, FirstMove, Performs, moves_to, next_did, queues_after, came_of, written}
 use Rattle.snoop_model.specs.Moves.Refuses.{Refuses, IsStall, WaitsOnNone}
 use Rattle.snoop_model.specs.Runs.Run.{GoesFirst, FirstRunFrom}
 use Rattle.snoop_model.specs.Invariant.WellKept.{IsWellKept}
@@ -312,18 +314,12 @@ arrives_one request.PutM o p log old new new' did did' a b = (a.0 ∙ sym b.0, a
 arrives_one request.GetS o p log old new new' did did' a b = fills_one o p log old new new' did did' a b
 arrives_one request.GetM o p log old new new' did did' a b = fills_one o p log old new new' did did' a b
 
-payload_one : (o : Open) (p : Protocol) (old new new' : Picture) → TakesPayload o p old new → TakesPayload o p old new' → (new.memory ≡ new'.memory) × (new.value ≡ new'.value)
-payload_one o p old new new' a b =
-    let event : b.event ≡ a.event = same_some (sym b.arrives ∙ a.arrives) in
-    let row : MemoryCell p old.memory a.event b.act new'.memory = subst (λ (e : MemEvent). MemoryCell p old.memory e b.act new'.memory) event b.row in
-    let same = MemoryCell-one p old.memory a.event a.act b.act new.memory new'.memory a.row row in
-    (same.1, a.value ∙ (ap (λ act. written act o.value old.value) same.0 ∙ sym b.value))
-
-memory_one : (waits : Bool) (o : Open) (p : Protocol) (old new new' : Picture)
-    → MatchBool waits (TakesPayload o p old new) ((new.memory ≡ old.memory) × (new.value ≡ old.value)) → MatchBool waits (TakesPayload o p old new') ((new'.memory ≡ old.memory) × (new'.value ≡ old.value))
-    → (new.memory ≡ new'.memory) × (new.value ≡ new'.value)
-memory_one true o p old new new' a b = payload_one o p old new new' a b
-memory_one false o p old new new' a b = (a.0 ∙ sym b.0, a.1 ∙ sym b.1)
+memory_one : (takes : Bool) (p : Protocol) (m : MemState) (found : Option MemEvent) (a b : MemAction) (n n' : MemState)
+    → MatchBool takes (IsSomeAnd found (λ e. MemoryCell p m e a n)) ((a ≡ mem_action.None) × (n ≡ m)) → MatchBool takes (IsSomeAnd found (λ e. MemoryCell p m e b n')) ((b ≡ mem_action.None) × (n' ≡ m))
+    → (a ≡ b) × (n ≡ n')
+memory_one true p m None a b n n' x y = absurd x
+memory_one true p m (Some e) a b n n' x y = MemoryCell-one p m e a b n n' x y
+memory_one false p m found a b n n' x y = (x.0 ∙ sym y.0, x.1 ∙ sym y.1)
 
 responds_one : (s : Situation) (block : ℕ) (o o' : Open) (did did' : Option Did) (new new' : Situation) → Responds s block o did new → Responds s block o' did' new' → (o ≡ o') × (did ≡ did') × (new ≡ new')
 responds_one s block o o' did did' new new' a b =
@@ -333,8 +329,9 @@ responds_one s block o o' did did' new new' a b =
     let requestor : ArrivesFor o.request o p s.log before.caches b.next.caches did' = subst (λ (x : Open). ArrivesFor x.request x p s.log before.caches b.next.caches did') same b.requestor in
     let caches = arrives_one o.request o p s.log before.caches a.next.caches b.next.caches did did' a.requestor requestor in
     let its : ArrivesAtMemory o p before b.next = subst (λ (x : Open). ArrivesAtMemory x p before b.next) same b.memory in
-    let memory = memory_one (takes_payload o.request before.memory) o p before a.next b.next a.memory its in
-    let next : a.next ≡ b.next = same_picture _ _ _ _ _ _ _ _ caches.0 memory.0 memory.1 (a.closed ∙ sym b.closed) in
+    let memory = memory_one (takes_payload o.request before.memory) p before.memory (arrival_at_memory o.payload) a.memory.act its.act a.next.memory b.next.memory a.memory.settled its.settled in
+    let value : a.next.value ≡ b.next.value = a.memory.value ∙ (ap (λ act. written act o.value before.value) memory.0 ∙ sym its.value) in
+    let next : a.next ≡ b.next = same_picture _ _ _ _ _ _ _ _ caches.0 memory.1 value (a.closed ∙ sym b.closed) in
     let then : Open → Option Did → Picture → Situation = λ x d n. record (with_picture s block n) { log = s.log ++ item.Came (came_of x) d ∷ [] } in (
       sym same,
       caches.1,

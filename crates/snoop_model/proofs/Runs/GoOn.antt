@@ -1,6 +1,6 @@
 -- From every situation of a run each step leads on: it is a move, or refused for a cause.
 use Rattle.std.proofs.Common.{◌≡◌, ℕ, zero, suc, ◌<◌, Bool, true, false, not, ◌&&◌, ◌||◌, List, [], ◌∷◌, ◌++◌, length, Option, Some, None, refl, inl, inr, ap, sym, ◌∙◌, subst, arith}
-use Rattle.std.specs.Prelude.{Contains, Result, Ok, Err, is_some, option_to_list, slice_get, slice_set}
+use Rattle.std.specs.Prelude.{Contains, Result, Ok, Err, is_some, option_map, option_to_list, slice_get, slice_set}
 use Rattle.std.proofs.lemmas.Bool.{cases_lt, and_parts}
 use Rattle.snoop_trace.specs.declared.step.Op.{Op}
 use Rattle.snoop_trace.specs.declared.step.Op.TheVariants as op
@@ -12,6 +12,7 @@ use Rattle.snoop_rules.specs.declared.names.CacheEvent.{CacheEvent}
 use Rattle.snoop_rules.specs.declared.names.CacheEvent.TheVariants as event
 use Rattle.snoop_rules.specs.declared.names.CacheAction.{CacheAction}
 use Rattle.snoop_rules.specs.declared.names.CacheAction.TheVariants as action
+use Rattle.snoop_rules.specs.declared.names.MemAction.TheVariants as mem_action
 use Rattle.snoop_rules.specs.declared.names.MemState.{MemState}
 use Rattle.snoop_rules.specs.declared.names.MemEvent.{MemEvent}
 use Rattle.snoop_rules.specs.declared.names.Request.{Request}
@@ -39,13 +40,14 @@ use Rattle.snoop_model.specs.declared.replies.Refused.TheVariants.{NoCore, NoBlo
 use Rattle.snoop_model.specs.Pictures.Picture.{Picture, held_at, held_by, kept_on}
 use Rattle.snoop_model.specs.Pictures.Situation.{Situation, picture_of, with_picture, state_of, Waits}
 use Rattle.snoop_model.specs.Pictures.Sends.{value_sent}
-use Rattle.snoop_model.specs.Pictures.Sound.{keeps, awaits, Awaits, IsProper, kind_of, load, store}
+use Rattle.snoop_model.specs.Pictures.Sound.{keeps, request_for, missed_request, IsProper}
 use Rattle.snoop_model.specs.Moves.Move as Move
-use Rattle.snoop_model.specs.Moves.Move.{TakesRow, Arrives, ArrivesFor, ArrivesAtMemory, FirstMove, IsWithin, came_of, moves_to, hit_reply, kept_waiting, next_did, queues_after, written}
+use Rattle.snoop_model.specs.Moves.Move.{TakesRow, ArrivesFor, ArrivesAtMemory, FirstMove, IsWithin, came_of, moves_to, hit_reply, kept_waiting, next_did, queues_after, written}
 use Rattle.snoop_model.specs.Runs.Run.{GoesFirst, FirstRunFrom}
 use Rattle.snoop_model.specs.Invariant.WellKept.{IsWellKept}
 use Rattle.snoop_model.specs.Turns.TurnRule.{KeepsWell}
 use Rattle.snoop_model.specs.Invariant.Coherent.{IsCoherent}
+use Rattle.snoop_model.proofs.Tables.Rows.{same_request, same_request-true}
 use Rattle.snoop_model.proofs.OneBlock.Steps.{Answerable, is_idle_evict, row_of, mem_row_of}
 use Rattle.snoop_model.specs.Moves.LookUps.{HasRow}
 use Rattle.snoop_model.proofs.Invariant.Coherence.{orders_follow_sender_table, finds_rows, idle_evict, waits_within}
@@ -255,7 +257,7 @@ order_free s g core block q first waits free =
               next = next;
               caches = rows.1.0;
               rows = λ k h. rows.1.1 k (rw (← rows.1.0) h);
-              memory = (line.act, line.ordered);
+              memory = line.ordered;
               value = refl;
               opened = refl;
               after = refl;
@@ -297,18 +299,10 @@ is_data event.Data = true
 is_data event.DataE = true
 is_data _ = false
 
-abbrev is_load : Awaits → Bool
-is_load load = true
-is_load _ = false
-
-abbrev is_store : Awaits → Bool
-is_store store = true
-is_store _ = false
-
--- data performs the operation that its state awaits
+-- data performs the operation that has missed
 abbrev fills : CacheAction → CacheState → Bool
-fills action.FillLoad s = is_load (awaits s)
-fills action.FillStore s = is_store (awaits s)
+fills action.FillLoad s = same_request (missed_request s) (Some request.GetS)
+fills action.FillStore s = same_request (missed_request s) (Some request.GetM)
 fills _ s = false
 
 abbrev data_test : Protocol → CacheState → CacheEvent → CacheCell → Bool
@@ -324,17 +318,17 @@ arrives_as_data Payload.DataE e is = cc
 arrives_as_data Payload.NoData e is = cc
 arrives_as_data Payload.NoDataE e is = cc
 
-load_waits : (waiting : Option Op) (s : Awaits) → kind_of waiting ≡ s → is_load s ≡ true → waiting ≡ Some op.Load
-load_waits None s e h = cc
-load_waits (Some op.Load) s e h = refl
-load_waits (Some (op.Store v)) s e h = cc
-load_waits (Some op.Evict) s e h = cc
+load_waits : (waiting : Option Op) → option_map request_for waiting ≡ Some request.GetS → waiting ≡ Some op.Load
+load_waits None e = cc
+load_waits (Some op.Load) e = refl
+load_waits (Some (op.Store v)) e = cc
+load_waits (Some op.Evict) e = cc
 
-store_waits : (waiting : Option Op) (s : Awaits) → kind_of waiting ≡ s → is_store s ≡ true → (v : ℕ) × (waiting ≡ Some (op.Store v))
-store_waits None s e h = cc
-store_waits (Some op.Load) s e h = cc
-store_waits (Some (op.Store v)) s e h = (v, refl)
-store_waits (Some op.Evict) s e h = cc
+store_waits : (waiting : Option Op) → option_map request_for waiting ≡ Some request.GetM → (v : ℕ) × (waiting ≡ Some (op.Store v))
+store_waits None e = cc
+store_waits (Some op.Load) e = cc
+store_waits (Some (op.Store v)) e = (v, refl)
+store_waits (Some op.Evict) e = cc
 
 -- what the response brings to the caches
 abbrev Brings : Protocol → List Item → List Line → Open → Request → Type 0
@@ -357,7 +351,7 @@ module _ (p : Protocol) (log : List Item) (old : List Line) (o : Open) where
             after = o.value;
             arrives = arrives;
             row = row;
-            waited = load_waits _ _ proper.waiting fits;
+            waited = load_waits _ (proper.waiting ∙ same_request-true _ _ fits);
             fill = tt;
             performed = (refl, refl);
             logged = refl;
@@ -366,7 +360,7 @@ module _ (p : Protocol) (log : List Item) (old : List Line) (o : Open) where
         ),
       )
   fill e arrives action.FillStore next row fits proper =
-      let waits = store_waits _ _ proper.waiting fits in
+      let waits = store_waits _ (proper.waiting ∙ same_request-true _ _ fits) in
       let did : Did = next_did log o.core o.block (op.Store waits.0) waits.0 false in (
         slice_set old o.core (record { state = next; kept = Some waits.0; waiting = None }),
         (
@@ -418,20 +412,14 @@ memory_found p before o waits (Some e) arrives row is = (
   row.next,
   (
     written row.action o.value before.value,
-    λ caches. rw waits (record {
-      event = e;
-      act = row.action;
-      arrives = arrives;
-      row = MemoryCell-found p before.memory e row is;
-      value = refl;
-    }),
+    λ caches. record { act = row.action; settled = rw (waits, arrives) (MemoryCell-found p before.memory e row is); value = refl },
   ),
 )
 
 brings_to_memory : (p : Protocol) (before : Picture) (o : Open) → (takes_payload o.request before.memory ≡ true → (r : MemCell) × (mem_row_of p before.memory (arrival_at_memory o.payload) ≡ Some r)) → BringsToMemory p before o
 brings_to_memory p before o row = elim (or_not (takes_payload o.request before.memory)) as (λ _. BringsToMemory p before o) [
   | inl waits ↦ memory_found p before o waits (arrival_at_memory o.payload) refl (row waits).0 (row waits).1
-  | inr idle ↦ (before.memory, (before.value, λ caches. rw idle (refl, refl)))
+  | inr idle ↦ (before.memory, (before.value, λ caches. record { act = mem_action.None; settled = rw idle (refl, refl); value = refl }))
 ]
 
 respond_open : (s : Situation) → IsCoherent s → (block : ℕ) → block < s.shape.blocks → (o : Open) → (picture_of s block).transaction ≡ Some o → LeadsOn s (Respond block)

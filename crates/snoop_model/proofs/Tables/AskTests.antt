@@ -13,10 +13,11 @@ use Rattle.snoop_rules.specs.Takers.{asked}
 use Rattle.snoop_rules.specs.declared.names.CacheCell.{CacheCell}
 use Rattle.snoop_rules.specs.Cell.{cell_of}
 use Rattle.snoop_rules.proofs.Every.{all_protocols, all_protocols-at, all_states, all_states-at, all_memories, all_requests, all_payloads}
-use Rattle.snoop_model.specs.Invariant.Fits.{claims_of, is_owner, is_sharer, is_clean, is_reader, wait_fits, in_protocol, same, fits}
+use Rattle.snoop_model.specs.Invariant.Fits.{claims_of, is_owner, is_sharer, is_clean, wait_fits, in_protocol, same, fits}
 use Rattle.snoop_model.proofs.Tables.Every.{either, either-at, when, when_at, given, given_at, all_asks, all_asks-at, all_waits, all_waits-at}
 use Rattle.snoop_model.proofs.OneBlock.Steps.{is_idle_evict}
 use Rattle.snoop_model.proofs.Tables.StateTests.{is_hit, carries}
+use Rattle.snoop_model.specs.Pictures.Sound.{keeps}
 
 abbrev pub is_stall : CacheAction → Bool
 is_stall action.Stall = true
@@ -46,28 +47,28 @@ abbrev pub ask_fits : AskTest
 ask_fits p shared ow w s e r = is_stall r.action || fits p shared ow w r.next
 
 pub ask_fits_holds : asks ask_fits ≡ true
-unfolding asks ask_case all_protocols all_memories all_states all_requests all_payloads all_asks all_waits either given when claims_of fits is_owner is_sharer is_clean is_reader wait_fits in_protocol same
+unfolding asks ask_case all_protocols all_memories all_states all_requests all_payloads all_asks all_waits either given when claims_of fits is_owner is_sharer is_clean wait_fits in_protocol same
 ask_fits_holds = refl
 
 abbrev pub ask_carries : AskTest
 ask_carries p shared ow w s e r = is_stall r.action || ((is_hit r.action && is_store e) || carries s r.next)
 
 pub ask_carries_holds : asks ask_carries ≡ true
-unfolding asks ask_case all_protocols all_memories all_states all_requests all_payloads all_asks all_waits either given when claims_of fits is_owner is_sharer is_clean is_reader wait_fits in_protocol same
+unfolding asks ask_case all_protocols all_memories all_states all_requests all_payloads all_asks all_waits either given when claims_of fits is_owner is_sharer is_clean wait_fits in_protocol same
 ask_carries_holds = refl
 
 abbrev pub ask_hit_reads : AskTest
-ask_hit_reads p shared ow w s e r = not (is_hit r.action) || is_reader s
+ask_hit_reads p shared ow w s e r = not (is_hit r.action) || keeps s
 
 pub ask_hit_reads_holds : asks ask_hit_reads ≡ true
-unfolding asks ask_case all_protocols all_memories all_states all_requests all_payloads all_asks all_waits either given when claims_of fits is_owner is_sharer is_clean is_reader wait_fits in_protocol same
+unfolding asks ask_case all_protocols all_memories all_states all_requests all_payloads all_asks all_waits either given when claims_of fits is_owner is_sharer is_clean wait_fits in_protocol same
 ask_hit_reads_holds = refl
 
 abbrev pub ask_store_owns : AskTest
 ask_store_owns p shared ow w s e r = not (is_hit r.action && is_store e) || (ow && not (is_clean r.next))
 
 pub ask_store_owns_holds : asks ask_store_owns ≡ true
-unfolding asks ask_case all_protocols all_memories all_states all_requests all_payloads all_asks all_waits either given when claims_of fits is_owner is_sharer is_clean is_reader wait_fits in_protocol same
+unfolding asks ask_case all_protocols all_memories all_states all_requests all_payloads all_asks all_waits either given when claims_of fits is_owner is_sharer is_clean wait_fits in_protocol same
 ask_store_owns_holds = refl
 
 -- there is a row for each Ask of a core in the protocol but for an Evict in I
@@ -75,7 +76,7 @@ abbrev pub has_ask_row : Protocol → CacheState → CacheEvent → Bool
 has_ask_row p s e = when (in_protocol p s) (λ _. is_idle_evict s e || is_some (cell_of p s e))
 
 has_ask_row_holds : all_protocols (λ p. all_states (λ s. all_asks (λ e. has_ask_row p s e))) ≡ true
-unfolding all_protocols all_memories all_states all_requests all_payloads all_asks all_waits either given when claims_of fits is_owner is_sharer is_clean is_reader wait_fits in_protocol same
+unfolding all_protocols all_memories all_states all_requests all_payloads all_asks all_waits either given when claims_of fits is_owner is_sharer is_clean wait_fits in_protocol same
 has_ask_row_holds = refl
 
 pub ask_row : (p : Protocol) (s : CacheState) (o : Op) → has_ask_row p s (asked o) ≡ true

@@ -15,11 +15,12 @@ use Rattle.snoop_rules.specs.Cell.{cell_of}
 use Rattle.snoop_rules.specs.MemoryCell.{memory_cell_of}
 use Rattle.snoop_rules.proofs.Every.{all_protocols, all_protocols-at, all_states, all_states-at, all_memories, all_memories-at, all_requests, all_requests-at}
 use Rattle.snoop_history.specs.Totals.{is_put_m, is_data}
-use Rattle.snoop_model.specs.Invariant.Fits.{Claims, claims_of, is_owner, is_sharer, is_clean, is_reader, wait_fits, in_protocol, same, fits}
+use Rattle.snoop_model.specs.Invariant.Fits.{Claims, claims_of, is_owner, is_sharer, is_clean, wait_fits, in_protocol, same, fits}
 use Rattle.snoop_model.proofs.Tables.Every.{either, either-at, when, when_at, given, given_at}
 use Rattle.snoop_model.proofs.OneBlock.Steps.{sent_by, sent_by_memory}
 use Rattle.snoop_model.proofs.Tables.SenderTests.{Memory, Core, Requestor, is_sender_line, follows_sender_table}
 use Rattle.snoop_model.proofs.Tables.StateTests.{carries}
+use Rattle.snoop_model.specs.Pictures.Sound.{keeps}
 
 abbrev pub or_else : Option Payload → Option Payload → Option Payload
 or_else None b = b
@@ -86,140 +87,140 @@ abbrev pub has_mem_row : OrderTest
 has_mem_row p m st sr or q = is_some (memory_cell_of p m (at_memory q))
 
 pub has_mem_row_holds : orders has_mem_row ≡ true
-unfolding orders order_case other_case all_protocols all_memories all_states all_requests either given when claims_of fits is_owner is_sharer is_clean is_reader wait_fits in_protocol same is_sender_line
+unfolding orders order_case other_case all_protocols all_memories all_states all_requests either given when claims_of fits is_owner is_sharer is_clean wait_fits in_protocol same is_sender_line
 has_mem_row_holds = refl
 
 abbrev pub has_own_row : OrderTest
 has_own_row p m st sr or q = is_some (cell_of p sr (own q))
 
 pub has_own_row_holds : orders has_own_row ≡ true
-unfolding orders order_case other_case all_protocols all_memories all_states all_requests either given when claims_of fits is_owner is_sharer is_clean is_reader wait_fits in_protocol same is_sender_line
+unfolding orders order_case other_case all_protocols all_memories all_states all_requests either given when claims_of fits is_owner is_sharer is_clean wait_fits in_protocol same is_sender_line
 has_own_row_holds = refl
 
 abbrev pub has_payload : OrderTest
 has_payload p m st sr or q = given (memory_cell_of p m (at_memory q)) (λ mc. given (cell_of p sr (own q)) (λ oc. is_some (payload_of oc mc)))
 
 pub has_payload_holds : orders has_payload ≡ true
-unfolding orders order_case other_case all_protocols all_memories all_states all_requests either given when claims_of fits is_owner is_sharer is_clean is_reader wait_fits in_protocol same is_sender_line
+unfolding orders order_case other_case all_protocols all_memories all_states all_requests either given when claims_of fits is_owner is_sharer is_clean wait_fits in_protocol same is_sender_line
 has_payload_holds = refl
 
 abbrev pub has_line : OrderTest
 has_line p m st sr or q = given (memory_cell_of p m (at_memory q)) (λ mc. given (cell_of p sr (own q)) (λ oc. given (payload_of oc mc) (λ pl. is_some (claims_of p mc.next (Some (q, pl))))))
 
 pub has_line_holds : orders has_line ≡ true
-unfolding orders order_case other_case all_protocols all_memories all_states all_requests either given when claims_of fits is_owner is_sharer is_clean is_reader wait_fits in_protocol same is_sender_line
+unfolding orders order_case other_case all_protocols all_memories all_states all_requests either given when claims_of fits is_owner is_sharer is_clean wait_fits in_protocol same is_sender_line
 has_line_holds = refl
 
 abbrev pub owner_only_puts : OrderTest
 owner_only_puts p m st sr or q = not or || is_put_m q
 
 pub owner_only_puts_holds : orders owner_only_puts ≡ true
-unfolding orders order_case other_case all_protocols all_memories all_states all_requests either given when claims_of fits is_owner is_sharer is_clean is_reader wait_fits in_protocol same is_sender_line
+unfolding orders order_case other_case all_protocols all_memories all_states all_requests either given when claims_of fits is_owner is_sharer is_clean wait_fits in_protocol same is_sender_line
 owner_only_puts_holds = refl
 
 abbrev pub owned_after : EndTest
 owned_after p m st sr or q mc oc pl st2 = same st2.owned (is_put_m q && (st.owned && not or))
 
 pub owned_after_holds : orders (end_case owned_after) ≡ true
-unfolding orders order_case other_case all_protocols all_memories all_states all_requests either given when claims_of fits is_owner is_sharer is_clean is_reader wait_fits in_protocol same is_sender_line
+unfolding orders order_case other_case all_protocols all_memories all_states all_requests either given when claims_of fits is_owner is_sharer is_clean wait_fits in_protocol same is_sender_line
 owned_after_holds = refl
 
 abbrev pub requestor_fits : EndTest
 requestor_fits p m st sr or q mc oc pl st2 = fits p st2.shared false (Some q) oc.next
 
 pub requestor_fits_holds : orders (end_case requestor_fits) ≡ true
-unfolding orders order_case other_case all_protocols all_memories all_states all_requests either given when claims_of fits is_owner is_sharer is_clean is_reader wait_fits in_protocol same is_sender_line
+unfolding orders order_case other_case all_protocols all_memories all_states all_requests either given when claims_of fits is_owner is_sharer is_clean wait_fits in_protocol same is_sender_line
 requestor_fits_holds = refl
 
 abbrev pub requestor_carries : EndTest
 requestor_carries p m st sr or q mc oc pl st2 = carries sr oc.next
 
 pub requestor_carries_holds : orders (end_case requestor_carries) ≡ true
-unfolding orders order_case other_case all_protocols all_memories all_states all_requests either given when claims_of fits is_owner is_sharer is_clean is_reader wait_fits in_protocol same is_sender_line
+unfolding orders order_case other_case all_protocols all_memories all_states all_requests either given when claims_of fits is_owner is_sharer is_clean wait_fits in_protocol same is_sender_line
 requestor_carries_holds = refl
 
 abbrev pub fresh_after : EndTest
 fresh_after p m st sr or q mc oc pl st2 = not st2.fresh || (st.fresh || is_clean sr)
 
 pub fresh_after_holds : orders (end_case fresh_after) ≡ true
-unfolding orders order_case other_case all_protocols all_memories all_states all_requests either given when claims_of fits is_owner is_sharer is_clean is_reader wait_fits in_protocol same is_sender_line
+unfolding orders order_case other_case all_protocols all_memories all_states all_requests either given when claims_of fits is_owner is_sharer is_clean wait_fits in_protocol same is_sender_line
 fresh_after_holds = refl
 
 abbrev pub memory_sends_fresh : EndTest
 memory_sends_fresh p m st sr or q mc oc pl st2 = not (is_some (sent_by_memory (Some mc))) || st.fresh
 
 pub memory_sends_fresh_holds : orders (end_case memory_sends_fresh) ≡ true
-unfolding orders order_case other_case all_protocols all_memories all_states all_requests either given when claims_of fits is_owner is_sharer is_clean is_reader wait_fits in_protocol same is_sender_line
+unfolding orders order_case other_case all_protocols all_memories all_states all_requests either given when claims_of fits is_owner is_sharer is_clean wait_fits in_protocol same is_sender_line
 memory_sends_fresh_holds = refl
 
 abbrev pub requestor_sends : EndTest
 requestor_sends p m st sr or q mc oc pl st2 = same (is_some (sent_by (Some oc))) (is_put_m q)
 
 pub requestor_sends_holds : orders (end_case requestor_sends) ≡ true
-unfolding orders order_case other_case all_protocols all_memories all_states all_requests either given when claims_of fits is_owner is_sharer is_clean is_reader wait_fits in_protocol same is_sender_line
+unfolding orders order_case other_case all_protocols all_memories all_states all_requests either given when claims_of fits is_owner is_sharer is_clean wait_fits in_protocol same is_sender_line
 requestor_sends_holds = refl
 
 abbrev pub memory_sends : EndTest
 memory_sends p m st sr or q mc oc pl st2 = same (is_some (sent_by_memory (Some mc))) (not (is_put_m q) && not st.owned)
 
 pub memory_sends_holds : orders (end_case memory_sends) ≡ true
-unfolding orders order_case other_case all_protocols all_memories all_states all_requests either given when claims_of fits is_owner is_sharer is_clean is_reader wait_fits in_protocol same is_sender_line
+unfolding orders order_case other_case all_protocols all_memories all_states all_requests either given when claims_of fits is_owner is_sharer is_clean wait_fits in_protocol same is_sender_line
 memory_sends_holds = refl
 
 abbrev pub requestor_reads : EndTest
-requestor_reads p m st sr or q mc oc pl st2 = not (is_put_m q && carries_value pl) || is_reader sr
+requestor_reads p m st sr or q mc oc pl st2 = not (is_put_m q && carries_value pl) || keeps sr
 
 pub requestor_reads_holds : orders (end_case requestor_reads) ≡ true
-unfolding orders order_case other_case all_protocols all_memories all_states all_requests either given when claims_of fits is_owner is_sharer is_clean is_reader wait_fits in_protocol same is_sender_line
+unfolding orders order_case other_case all_protocols all_memories all_states all_requests either given when claims_of fits is_owner is_sharer is_clean wait_fits in_protocol same is_sender_line
 requestor_reads_holds = refl
 
 abbrev pub order_line_of_put : EndTest
 order_line_of_put p m st sr or q mc oc pl st2 = not (is_put_m q) || follows_sender_table p q m (Requestor sr) pl mc.next
 
 pub order_line_of_put_holds : orders (end_case order_line_of_put) ≡ true
-unfolding orders order_case other_case all_protocols all_memories all_states all_requests either given when claims_of fits is_owner is_sharer is_clean is_reader wait_fits in_protocol same is_sender_line
+unfolding orders order_case other_case all_protocols all_memories all_states all_requests either given when claims_of fits is_owner is_sharer is_clean wait_fits in_protocol same is_sender_line
 order_line_of_put_holds = refl
 
 abbrev pub order_line_of_memory : EndTest
 order_line_of_memory p m st sr or q mc oc pl st2 = not (is_some (sent_by_memory (Some mc))) || follows_sender_table p q m Memory pl mc.next
 
 pub order_line_of_memory_holds : orders (end_case order_line_of_memory) ≡ true
-unfolding orders order_case other_case all_protocols all_memories all_states all_requests either given when claims_of fits is_owner is_sharer is_clean is_reader wait_fits in_protocol same is_sender_line
+unfolding orders order_case other_case all_protocols all_memories all_states all_requests either given when claims_of fits is_owner is_sharer is_clean wait_fits in_protocol same is_sender_line
 order_line_of_memory_holds = refl
 
 abbrev pub other_fits : OtherTest
 other_fits p m st sr or q mc oc pl st2 s ow xc = fits p st2.shared (ow && is_put_m q) None xc.next
 
 pub other_fits_holds : orders (end_case (other_case other_fits)) ≡ true
-unfolding orders order_case other_case all_protocols all_memories all_states all_requests either given when claims_of fits is_owner is_sharer is_clean is_reader wait_fits in_protocol same is_sender_line
+unfolding orders order_case other_case all_protocols all_memories all_states all_requests either given when claims_of fits is_owner is_sharer is_clean wait_fits in_protocol same is_sender_line
 other_fits_holds = refl
 
 abbrev pub other_carries : OtherTest
 other_carries p m st sr or q mc oc pl st2 s ow xc = carries s xc.next
 
 pub other_carries_holds : orders (end_case (other_case other_carries)) ≡ true
-unfolding orders order_case other_case all_protocols all_memories all_states all_requests either given when claims_of fits is_owner is_sharer is_clean is_reader wait_fits in_protocol same is_sender_line
+unfolding orders order_case other_case all_protocols all_memories all_states all_requests either given when claims_of fits is_owner is_sharer is_clean wait_fits in_protocol same is_sender_line
 other_carries_holds = refl
 
 abbrev pub other_sends : OtherTest
 other_sends p m st sr or q mc oc pl st2 s ow xc = same (is_some (sent_by (Some xc))) (ow && not (is_put_m q))
 
 pub other_sends_holds : orders (end_case (other_case other_sends)) ≡ true
-unfolding orders order_case other_case all_protocols all_memories all_states all_requests either given when claims_of fits is_owner is_sharer is_clean is_reader wait_fits in_protocol same is_sender_line
+unfolding orders order_case other_case all_protocols all_memories all_states all_requests either given when claims_of fits is_owner is_sharer is_clean wait_fits in_protocol same is_sender_line
 other_sends_holds = refl
 
 abbrev pub other_sends_data : OtherTest
 other_sends_data p m st sr or q mc oc pl st2 s ow xc = given (sent_by (Some xc)) (λ x. is_data x && is_data pl)
 
 pub other_sends_data_holds : orders (end_case (other_case other_sends_data)) ≡ true
-unfolding orders order_case other_case all_protocols all_memories all_states all_requests either given when claims_of fits is_owner is_sharer is_clean is_reader wait_fits in_protocol same is_sender_line
+unfolding orders order_case other_case all_protocols all_memories all_states all_requests either given when claims_of fits is_owner is_sharer is_clean wait_fits in_protocol same is_sender_line
 other_sends_data_holds = refl
 
 abbrev pub order_line_of_core : OtherTest
 order_line_of_core p m st sr or q mc oc pl st2 s ow xc = not (is_some (sent_by (Some xc))) || follows_sender_table p q m (Core s) pl mc.next
 
 pub order_line_of_core_holds : orders (end_case (other_case order_line_of_core)) ≡ true
-unfolding orders order_case other_case all_protocols all_memories all_states all_requests either given when claims_of fits is_owner is_sharer is_clean is_reader wait_fits in_protocol same is_sender_line
+unfolding orders order_case other_case all_protocols all_memories all_states all_requests either given when claims_of fits is_owner is_sharer is_clean wait_fits in_protocol same is_sender_line
 order_line_of_core_holds = refl
 
 abbrev pub has_other_row : Protocol → Request → CacheState → Bool → Bool → Bool
@@ -229,7 +230,7 @@ abbrev has_other_row_test : Bool
 has_other_row_test = all_protocols (λ p. all_requests (λ q. all_states (λ s. either (λ shared. either (λ ow. has_other_row p q s shared ow)))))
 
 has_other_row_holds : has_other_row_test ≡ true
-unfolding all_protocols all_memories all_states all_requests either given when claims_of fits is_owner is_sharer is_clean is_reader wait_fits in_protocol same is_sender_line
+unfolding all_protocols all_memories all_states all_requests either given when claims_of fits is_owner is_sharer is_clean wait_fits in_protocol same is_sender_line
 has_other_row_holds = refl
 
 pub other_row : (p : Protocol) (q : Request) (s : CacheState) (shared ow : Bool) → fits p shared ow None s ≡ true → is_some (cell_of p s (other q)) ≡ true

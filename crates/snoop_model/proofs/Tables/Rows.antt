@@ -3,7 +3,7 @@ use Rattle.std.proofs.Common.{◌≡◌, ℕ, Bool, true, false, not, ◌&&◌, 
 use Rattle.std.proofs.Common.{inl, inr, subst}
 use Rattle.std.proofs.Math.Bool.{and-true, and-false}
 use Rattle.std.proofs.lemmas.Bool.{and_parts, cases_eq, eq-eqb, ne_eqb}
-use Rattle.std.specs.Prelude.{is_some}
+use Rattle.std.specs.Prelude.{is_some, option_map}
 use Rattle.snoop_trace.specs.declared.step.Op.{Op}
 use Rattle.snoop_trace.specs.declared.step.Op.TheVariants as op
 use Rattle.snoop_rules.specs.declared.names.Protocol.{Protocol}
@@ -23,8 +23,7 @@ use Rattle.snoop_rules.proofs.Every.{all_protocols, all_states, all_events}
 use Rattle.snoop_rules.proofs.Rows.{each_row, each_row-at}
 use Rattle.snoop_model.specs.declared.line.Line.{Line}
 use Rattle.snoop_model.specs.Pictures.Picture.{kept_on}
-use Rattle.snoop_model.specs.Pictures.Sound.{keeps, awaits, Awaits, kind_of, IsProper}
-use Rattle.snoop_model.specs.Pictures.Sound.Awaits.{nothing, load, store, eviction}
+use Rattle.snoop_model.specs.Pictures.Sound.{keeps, request_for, missed_request, IsProper}
 use Rattle.snoop_model.specs.Moves.Move.{moves_to, kept_waiting, IsFillFor}
 
 -- requests, or none, as numbers that a test compares
@@ -52,31 +51,6 @@ same_request-true (Some GetM) (Some GetS) h = cc
 same_request-true (Some GetM) (Some PutM) h = cc
 same_request-true (Some PutM) (Some GetS) h = cc
 same_request-true (Some PutM) (Some GetM) h = cc
-
-abbrev pub same_awaits : Awaits → Awaits → Bool
-same_awaits nothing nothing = true
-same_awaits load load = true
-same_awaits store store = true
-same_awaits eviction eviction = true
-same_awaits _ _ = false
-
-pub same_awaits-true : (a b : Awaits) → same_awaits a b ≡ true → a ≡ b
-same_awaits-true nothing nothing h = refl
-same_awaits-true nothing load h = cc
-same_awaits-true nothing store h = cc
-same_awaits-true nothing eviction h = cc
-same_awaits-true load nothing h = cc
-same_awaits-true load load h = refl
-same_awaits-true load store h = cc
-same_awaits-true load eviction h = cc
-same_awaits-true store nothing h = cc
-same_awaits-true store load h = cc
-same_awaits-true store store h = refl
-same_awaits-true store eviction h = cc
-same_awaits-true eviction nothing h = cc
-same_awaits-true eviction load h = cc
-same_awaits-true eviction store h = cc
-same_awaits-true eviction eviction h = refl
 
 abbrev pub issue_test : Protocol → CacheState → CacheEvent → CacheCell → Bool
 issue_test p s e row = elim row.action [ action.Issue q ↦ same_request (waiting_request s) None && same_request (waiting_request row.next) (Some q) | _ ↦ true ]
@@ -107,7 +81,7 @@ same_event _ _ = false
 -- after an issue the kept value is there where it was and is not given up, and the operation asked waits
 abbrev pub issue_line_test : Op → Protocol → CacheState → CacheEvent → CacheCell → Bool
 issue_line_test asking p s e row =
-    elim row.action [ action.Issue q ↦ not (same_event e (asked asking)) || (same_bool (keeps row.next) (keeps s && not (given_up row.next)) && same_awaits (kind_of (kept_waiting asking)) (awaits row.next)) | _ ↦ true ]
+    elim row.action [ action.Issue q ↦ not (same_event e (asked asking)) || (same_bool (keeps row.next) (keeps s && not (given_up row.next)) && same_request (option_map request_for (kept_waiting asking)) (missed_request row.next)) | _ ↦ true ]
 
 is_some-kept_on : (next : CacheState) (kept : Option ℕ) (b : Bool) → is_some kept ≡ b → is_some (kept_on next kept) ≡ (b && not (given_up next))
 is_some-kept_on I kept b h = sym (and-false b)
@@ -147,30 +121,30 @@ pub IsProper-issue : (p : Protocol) (old : Line) (asking : Op) (q : Request) (n 
     → IsProper (record { state = n; kept = kept_on n old.kept; waiting = kept_waiting asking })
 IsProper-issue p old asking q n proper row =
     let a = same_bool (keeps n) (keeps old.state && not (given_up n)) in
-    let b = same_awaits (kind_of (kept_waiting asking)) (awaits n) in
+    let b = same_request (option_map request_for (kept_waiting asking)) (missed_request n) in
     let t : (not (same_event (asked asking) (asked asking)) || (a && b)) ≡ true = each_row-at (issue_line_test asking) (issue_line_all asking) p old.state (asked asking) (action.Issue q) n row in
     let u : (a && b) ≡ true = rw same_event-asked at t in
     let parts = and_parts a b u in
     record {
       kept = is_some-kept_on n old.kept (keeps old.state) proper.kept ∙ sym (same_bool-true _ _ parts.0);
-      waiting = same_awaits-true _ _ parts.1;
+      waiting = same_request-true _ _ parts.1;
     }
 
 -- a hit keeps a value, and what waits goes on waiting
 abbrev pub hit_test : Protocol → CacheState → CacheEvent → CacheCell → Bool
 hit_test p s e row =
-    elim row.action [ action.Hit ↦ same_bool (keeps row.next) true && (same_awaits (awaits s) (awaits row.next) && same_request (waiting_request row.next) (waiting_request s)) | _ ↦ true ]
+    elim row.action [ action.Hit ↦ same_bool (keeps row.next) true && (same_request (missed_request s) (missed_request row.next) && same_request (waiting_request row.next) (waiting_request s)) | _ ↦ true ]
 
-hit_facts : (p : Protocol) (s : CacheState) (e : CacheEvent) (n : CacheState) → Cell p s e action.Hit n → (keeps n ≡ true) × (awaits s ≡ awaits n) × (waiting_request n ≡ waiting_request s)
+hit_facts : (p : Protocol) (s : CacheState) (e : CacheEvent) (n : CacheState) → Cell p s e action.Hit n → (keeps n ≡ true) × (missed_request s ≡ missed_request n) × (waiting_request n ≡ waiting_request s)
 unfolding each_row all_protocols all_states all_events
 hit_facts p s e n row =
     let a = same_bool (keeps n) true in
-    let b = same_awaits (awaits s) (awaits n) in
+    let b = same_request (missed_request s) (missed_request n) in
     let c = same_request (waiting_request n) (waiting_request s) in
     let t : (a && (b && c)) ≡ true = each_row-at hit_test refl p s e action.Hit n row in
     let l = and_parts a (b && c) t in
     let r = and_parts b c l.1 in
-    (same_bool-true _ _ l.0, same_awaits-true _ _ r.0, same_request-true _ _ r.1)
+    (same_bool-true _ _ l.0, same_request-true _ _ r.0, same_request-true _ _ r.1)
 
 pub IsProper-hit : (p : Protocol) (old : Line) (e : CacheEvent) (n : CacheState) (after : ℕ) → IsProper old → Cell p old.state e action.Hit n
     → IsProper (record { state = n; kept = Some after; waiting = old.waiting })
@@ -184,19 +158,19 @@ hit-waits p s e n row = (hit_facts p s e n row).2
 -- a drop leaves nothing
 abbrev pub drop_test : Protocol → CacheState → CacheEvent → CacheCell → Bool
 drop_test p s e row =
-    elim row.action [ action.Drop ↦ same_bool (keeps row.next) (keeps s && not (given_up row.next)) && (same_awaits (awaits s) (awaits row.next) && same_request (waiting_request row.next) (waiting_request s)) | _ ↦ true ]
+    elim row.action [ action.Drop ↦ same_bool (keeps row.next) (keeps s && not (given_up row.next)) && (same_request (missed_request s) (missed_request row.next) && same_request (waiting_request row.next) (waiting_request s)) | _ ↦ true ]
 
 drop_facts : (p : Protocol) (s : CacheState) (e : CacheEvent) (n : CacheState) → Cell p s e action.Drop n
-    → (keeps n ≡ (keeps s && not (given_up n))) × (awaits s ≡ awaits n) × (waiting_request n ≡ waiting_request s)
+    → (keeps n ≡ (keeps s && not (given_up n))) × (missed_request s ≡ missed_request n) × (waiting_request n ≡ waiting_request s)
 unfolding each_row all_protocols all_states all_events
 drop_facts p s e n row =
     let a = same_bool (keeps n) (keeps s && not (given_up n)) in
-    let b = same_awaits (awaits s) (awaits n) in
+    let b = same_request (missed_request s) (missed_request n) in
     let c = same_request (waiting_request n) (waiting_request s) in
     let t : (a && (b && c)) ≡ true = each_row-at drop_test refl p s e action.Drop n row in
     let l = and_parts a (b && c) t in
     let r = and_parts b c l.1 in
-    (same_bool-true _ _ l.0, same_awaits-true _ _ r.0, same_request-true _ _ r.1)
+    (same_bool-true _ _ l.0, same_request-true _ _ r.0, same_request-true _ _ r.1)
 
 pub IsProper-drop : (p : Protocol) (old : Line) (e : CacheEvent) (n : CacheState) → IsProper old → Cell p old.state e action.Drop n → IsProper (moves_to n old)
 IsProper-drop p old e n proper row =
@@ -226,7 +200,7 @@ abbrev pub other_test : Protocol → CacheState → CacheEvent → CacheCell →
 other_test p s e row = not (is_other e) || same_request (waiting_request row.next) (waiting_request s)
 
 abbrev pub order_test : Protocol → CacheState → CacheEvent → CacheCell → Bool
-order_test p s e row = not (is_own e || is_other e) || (same_bool (keeps row.next) (keeps s && not (given_up row.next)) && same_awaits (awaits s) (awaits row.next))
+order_test p s e row = not (is_own e || is_other e) || (same_bool (keeps row.next) (keeps s && not (given_up row.next)) && same_request (missed_request s) (missed_request row.next))
 
 own-waits_event : (p : Protocol) (s : CacheState) (e : CacheEvent) (a : CacheAction) (n : CacheState) → is_own e ≡ true → Cell p s e a n → waiting_request n ≡ None
 unfolding each_row all_protocols all_states all_events
@@ -243,15 +217,15 @@ other-waits_event p s e a n other row =
     same_request-true _ _ u
 
 order_facts : (p : Protocol) (s : CacheState) (e : CacheEvent) (a : CacheAction) (n : CacheState) → (is_own e || is_other e) ≡ true → Cell p s e a n
-    → (keeps n ≡ (keeps s && not (given_up n))) × (awaits s ≡ awaits n)
+    → (keeps n ≡ (keeps s && not (given_up n))) × (missed_request s ≡ missed_request n)
 unfolding each_row all_protocols all_states all_events
 order_facts p s e a n ordered row =
     let x = same_bool (keeps n) (keeps s && not (given_up n)) in
-    let y = same_awaits (awaits s) (awaits n) in
+    let y = same_request (missed_request s) (missed_request n) in
     let t : (not (is_own e || is_other e) || (x && y)) ≡ true = each_row-at order_test refl p s e a n row in
     let u : (x && y) ≡ true = rw ordered at t in
     let l = and_parts x y u in
-    (same_bool-true _ _ l.0, same_awaits-true _ _ l.1)
+    (same_bool-true _ _ l.0, same_request-true _ _ l.1)
 
 is_own-own : (q : Request) → is_own (own q) ≡ true
 is_own-own GetS = refl
@@ -299,30 +273,30 @@ IsProper-order p old k core q a n proper row =
 -- a fill ends all waiting and keeps a value
 abbrev pub fill_test : Protocol → CacheState → CacheEvent → CacheCell → Bool
 fill_test p s e row = elim row.action [
-  | action.FillLoad ↦ same_bool (keeps row.next) true && (same_awaits (awaits row.next) nothing && same_request (waiting_request row.next) (waiting_request s))
-  | action.FillStore ↦ same_bool (keeps row.next) true && (same_awaits (awaits row.next) nothing && same_request (waiting_request row.next) (waiting_request s))
+  | action.FillLoad ↦ same_bool (keeps row.next) true && (same_request (missed_request row.next) None && same_request (waiting_request row.next) (waiting_request s))
+  | action.FillStore ↦ same_bool (keeps row.next) true && (same_request (missed_request row.next) None && same_request (waiting_request row.next) (waiting_request s))
   | _ ↦ true
 ]
 
 fill_facts : (p : Protocol) (s : CacheState) (e : CacheEvent) (a : CacheAction) (n : CacheState) (asking : Op) → IsFillFor a asking → Cell p s e a n
-    → (keeps n ≡ true) × (awaits n ≡ nothing) × (waiting_request n ≡ waiting_request s)
+    → (keeps n ≡ true) × (missed_request n ≡ None) × (waiting_request n ≡ waiting_request s)
 unfolding each_row all_protocols all_states all_events
 fill_facts p s e action.FillLoad n asking fill row =
     let a = same_bool (keeps n) true in
-    let b = same_awaits (awaits n) nothing in
+    let b = same_request (missed_request n) None in
     let c = same_request (waiting_request n) (waiting_request s) in
     let t : (a && (b && c)) ≡ true = each_row-at fill_test refl p s e action.FillLoad n row in
     let l = and_parts a (b && c) t in
     let r = and_parts b c l.1 in
-    (same_bool-true _ _ l.0, same_awaits-true _ _ r.0, same_request-true _ _ r.1)
+    (same_bool-true _ _ l.0, same_request-true _ _ r.0, same_request-true _ _ r.1)
 fill_facts p s e action.FillStore n asking fill row =
     let a = same_bool (keeps n) true in
-    let b = same_awaits (awaits n) nothing in
+    let b = same_request (missed_request n) None in
     let c = same_request (waiting_request n) (waiting_request s) in
     let t : (a && (b && c)) ≡ true = each_row-at fill_test refl p s e action.FillStore n row in
     let l = and_parts a (b && c) t in
     let r = and_parts b c l.1 in
-    (same_bool-true _ _ l.0, same_awaits-true _ _ r.0, same_request-true _ _ r.1)
+    (same_bool-true _ _ l.0, same_request-true _ _ r.0, same_request-true _ _ r.1)
 fill_facts p s e a n asking fill row = absurd fill
 
 pub fill-waits : (p : Protocol) (s : CacheState) (e : CacheEvent) (a : CacheAction) (n : CacheState) (asking : Op) → IsFillFor a asking → Cell p s e a n → waiting_request n ≡ waiting_request s

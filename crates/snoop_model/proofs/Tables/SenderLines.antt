@@ -1,6 +1,6 @@
 -- The table of senders as a test is the table of the definitions.
 use Rattle.std.proofs.Common.{◌≡◌, ℕ, Bool, true, false, cond, eqb, Option, Some, None, refl, inl, inr}
-use Rattle.std.specs.Prelude.{option_map, MatchBool}
+use Rattle.std.specs.Prelude.{option_map, MatchBool, IsSomeAnd}
 use Rattle.snoop_rules.specs.declared.names.Protocol.{Protocol}
 use Rattle.snoop_rules.specs.declared.names.Protocol.TheVariants as protocol
 use Rattle.snoop_rules.specs.declared.names.CacheState.{CacheState}
@@ -9,6 +9,7 @@ use Rattle.snoop_rules.specs.declared.names.MemState.{MemState}
 use Rattle.snoop_rules.specs.declared.names.MemState.TheVariants as mem
 use Rattle.snoop_rules.specs.declared.names.MemEvent.{MemEvent}
 use Rattle.snoop_rules.specs.declared.names.MemAction.{MemAction}
+use Rattle.snoop_rules.specs.declared.names.MemAction.TheVariants as mem_action
 use Rattle.snoop_rules.specs.declared.names.Request.{Request}
 use Rattle.snoop_rules.specs.declared.names.Request.TheVariants as request
 use Rattle.snoop_rules.specs.declared.names.Payload.{Payload}
@@ -20,7 +21,7 @@ use Rattle.snoop_rules.specs.declared.names.MemCell.{MemCell}
 use Rattle.snoop_rules.specs.MemoryCell.{memory_cell_of}
 use Rattle.snoop_rules.proofs.MemRows.{MemoryCell-found}
 use Rattle.snoop_model.specs.Pictures.Picture.{Picture, held_by}
-use Rattle.snoop_model.specs.Moves.SenderTable.{Settles}
+use Rattle.snoop_model.specs.Moves.Move.{Settles}
 use Rattle.snoop_model.proofs.Tables.SenderTests.{Sender, Memory, Core, Requestor, is_sender_line, follows_sender_table, sender_as, is_some_and, after_respond, next_memory, next_of}
 
 -- the sender's state, if it is a core
@@ -70,25 +71,26 @@ pub sender_state : (before : Picture) (core : ℕ) (from : Option ℕ) → state
 sender_state before core None = refl
 sender_state before core (Some d) = either_core (eqb d core) (held_by before d).state
 
-memory_settles : (p : Protocol) (m : MemState) (e : Option MemEvent) (done : MemState) → next_memory p m e ≡ Some done → (event : MemEvent) × ((act : MemAction) × ((e ≡ Some event) × MemoryCell p m event act done))
+memory_settles : (p : Protocol) (m : MemState) (e : Option MemEvent) (done : MemState) → next_memory p m e ≡ Some done → (act : MemAction) × IsSomeAnd e (λ event. MemoryCell p m event act done)
 memory_settles p m None done h = cc
 memory_settles p m (Some event) done h = go (memory_cell_of p m event) refl h
   where
-    go : (row : Option MemCell) → memory_cell_of p m event ≡ row → next_of row ≡ Some done → (x : MemEvent) × ((act : MemAction) × ((Some event ≡ Some x) × MemoryCell p m x act done))
+    go : (row : Option MemCell) → memory_cell_of p m event ≡ row → next_of row ≡ Some done → (act : MemAction) × MemoryCell p m event act done
     go None is k = cc
     go (Some row) is k =
         let e : row.next ≡ done = cc in
-        (event, (row.action, (refl, rw (← e) (MemoryCell-found p m event row is))))
+        (row.action, rw (← e) (MemoryCell-found p m event row is))
 
 settles_by : (b : Bool) (p : Protocol) (m : MemState) (sent : Payload) (done : MemState) → cond b (next_memory p m (arrival_at_memory sent)) (Some m) ≡ Some done
-    → MatchBool b ((event : MemEvent) × ((act : MemAction) × ((arrival_at_memory sent ≡ Some event) × MemoryCell p m event act done))) (done ≡ m)
+    → (act : MemAction) × MatchBool b (IsSomeAnd (arrival_at_memory sent) (λ event. MemoryCell p m event act done)) ((act ≡ mem_action.None) × (done ≡ m))
 settles_by true p m sent done h = memory_settles p m (arrival_at_memory sent) done h
-settles_by false p m sent done h = cc
+settles_by false p m sent done h = let same : done ≡ m = cc in (mem_action.None, (refl, same))
 
 -- what a test that is led says
 pub record Line (p : Protocol) (q : Request) (m : MemState) (sender : Sender) (sent : Payload) (next : MemState) : Type 0 where
+  pub act : MemAction
   pub done : MemState
-  pub settled : Settles q p next sent done
+  pub settled : Settles p q sent next act done
   pub line : SentAs p q m (state_as sender) sent next done
 
 pub led_line : (p : Protocol) (q : Request) (m : MemState) (sender : Sender) (sent : Payload) (next : MemState) → follows_sender_table p q m sender sent next ≡ true → Line p q m sender sent next
@@ -96,4 +98,6 @@ led_line p q m sender sent next h = go (after_respond p q next sent) refl h
   where
     go : (found : Option MemState) → after_respond p q next sent ≡ found → is_some_and found (λ done. is_sender_line p q m sender sent next done) ≡ true → Line p q m sender sent next
     go None is k = cc
-    go (Some done) is k = record { done = done; settled = settles_by (takes_payload q next) p next sent done is; line = sent_as p q m sender sent next done k }
+    go (Some done) is k =
+        let settles = settles_by (takes_payload q next) p next sent done is in
+        record { act = settles.0; done = done; settled = settles.1; line = sent_as p q m sender sent next done k }

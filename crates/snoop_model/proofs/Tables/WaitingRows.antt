@@ -1,5 +1,6 @@
 -- What every row does to what a core awaits, found by trying all.
 use Rattle.std.proofs.Common.{◌≡◌, ℕ, Bool, true, false, not, ◌&&◌, ◌||◌, Option, Some, None, refl, sym, ◌∙◌, subst, inl, inr}
+use Rattle.std.specs.Prelude.{is_some}
 use Rattle.std.proofs.lemmas.Bool.{false≢true, cases_eq, eq-eqb, ne_eqb}
 use Rattle.std.proofs.lemmas.Option.{same_Some}
 use Rattle.snoop_trace.specs.declared.step.Op.{Op}
@@ -21,7 +22,8 @@ use Rattle.snoop_rules.specs.declared.names.CacheCell.{CacheCell}
 use Rattle.snoop_rules.proofs.Every.{all_protocols, all_states, all_events}
 use Rattle.snoop_rules.proofs.Rows.{each_row, each_row-at}
 use Rattle.snoop_model.specs.Moves.Move.{kept_waiting}
-use Rattle.snoop_model.specs.Invariant.WellKept.{awaited_request, has_missed}
+use Rattle.snoop_model.specs.Pictures.Sound.{missed_request}
+use Rattle.snoop_model.specs.Invariant.WellKept.{awaited_request}
 use Rattle.snoop_model.proofs.Tables.Rows.{same_request, same_request-true}
 
 -- what a core awaits after an event, where it awaited this before
@@ -112,6 +114,10 @@ awaited-get M h = cc
 awaited-get EiA h = cc
 awaited-get MiA h = cc
 awaited-get IiA h = cc
+
+-- a load or a store has missed
+abbrev pub has_missed : CacheState → Bool
+has_missed s = is_some (missed_request s)
 
 abbrev pub is_issue : CacheAction → Bool
 is_issue (action.Issue request) = true

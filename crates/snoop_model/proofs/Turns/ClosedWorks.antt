@@ -14,7 +14,8 @@ use Rattle.snoop_rules.specs.Waits.{waiting_request}
 use Rattle.snoop_bus.specs.declared.transactions.Open.{Open}
 use Rattle.snoop_model.specs.Pictures.Picture.{held_by}
 use Rattle.snoop_model.specs.Pictures.Situation.{Situation, picture_of, state_of}
-use Rattle.snoop_model.specs.Invariant.WellKept.{IsWellKept, has_missed, awaited_request}
+use Rattle.snoop_model.specs.Invariant.WellKept.{IsWellKept, awaited_request}
+use Rattle.snoop_model.proofs.Tables.WaitingRows.{has_missed}
 use Rattle.snoop_model.specs.Turns.Turn.{turn_of, step_under_way}
 use Rattle.snoop_model.specs.Runs.Once.{waits_for, one_if, same_op}
 use Rattle.snoop_model.specs.Runs.Owed.{ClosedIsLast}

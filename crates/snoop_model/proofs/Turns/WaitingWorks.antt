@@ -1,5 +1,6 @@
 -- A core that waits has its work under way.
 use Rattle.std.proofs.Common.{◌≡◌, ℕ, Bool, true, false, not, ◌||◌, Option, Some, refl, subst, inl, inr, ◌⊎◌}
+use Rattle.std.specs.Prelude.{is_some}
 use Rattle.std.proofs.lemmas.Bool.{false≢true}
 use Rattle.std.proofs.lemmas.List.Elements.{All-contains}
 use Rattle.snoop_rules.specs.declared.names.Protocol.{Protocol}
@@ -18,7 +19,12 @@ use Rattle.snoop_rules.proofs.Rows.{each_row, each_row-at}
 use Rattle.snoop_bus.specs.Queues.{queue_of}
 use Rattle.snoop_model.specs.Pictures.Situation.{Situation, state_of}
 use Rattle.snoop_model.specs.Turns.Serving.{IsServing}
-use Rattle.snoop_model.specs.Invariant.WellKept.{IsWellKept, awaited_request, is_busy, has_missed}
+use Rattle.snoop_model.specs.Invariant.WellKept.{IsWellKept, awaited_request}
+use Rattle.snoop_model.proofs.Tables.WaitingRows.{has_missed}
+
+-- the core waits in a state, for its own request to be ordered or for data
+abbrev pub is_busy : CacheState → Bool
+is_busy state = is_some (waiting_request state) || is_some (awaited_request state)
 
 abbrev pub stalls : CacheAction → Bool
 stalls action.Stall = true

@@ -11,7 +11,6 @@ use Rattle.snoop_rules.specs.declared.names.Request.{Request}
 use Rattle.snoop_rules.specs.declared.names.Request.TheVariants.{GetS, GetM, PutM}
 use Rattle.snoop_rules.specs.declared.names.Payload.{Payload}
 use Rattle.snoop_rules.specs.declared.names.Payload.TheVariants.{Data, DataE, NoData, NoDataE}
-use Rattle.snoop_model.specs.Pictures.Sound.{keeps}
 
 -- owned: exactly one core may write, else none. shared: cores may be in S or SM_AD, else none. fresh: memory's value is the block's.
 pub record Claims : Type 0 where
@@ -86,10 +85,6 @@ unfoldable pub is_clean : CacheState → Bool
 is_clean state.E = true
 is_clean state.EiA = true
 is_clean _ = false
-
--- a state that may read
-unfoldable pub is_reader : CacheState → Bool
-is_reader s = keeps s
 
 -- the state waits for data exactly where the core awaits the answer of its GetS or GetM
 unfoldable pub wait_fits : Option Request → CacheState → Bool

@@ -6,8 +6,8 @@ use Rattle.snoop_rules.specs.declared.names.Request.{Request}
 use Rattle.snoop_rules.specs.Takers.{carries_value}
 use Rattle.snoop_bus.specs.declared.transactions.Open.{Open}
 use Rattle.snoop_model.specs.Pictures.Picture.{Picture, held_by}
-use Rattle.snoop_model.specs.Pictures.Sound.{IsProper}
-use Rattle.snoop_model.specs.Invariant.Fits.{Claims, Talk, claims_of, is_clean, is_reader, fits}
+use Rattle.snoop_model.specs.Pictures.Sound.{keeps, IsProper}
+use Rattle.snoop_model.specs.Invariant.Fits.{Claims, Talk, claims_of, is_clean, fits}
 
 -- what is said on the bus
 abbrev pub talk_of : Option Open → Option Talk
@@ -32,7 +32,7 @@ pub record Good (p : Protocol) (n : ℕ) (flat : ℕ) (picture : Picture) : Type
   pub owner_in : (o : ℕ) → owner ≡ Some o → o < n
   pub is_owned : is_some owner ≡ claims.owned
   pub states : (d : ℕ) → d < n → fits p claims.shared (owns owner d) (awaited picture.transaction d) (held_by picture d).state ≡ true
-  pub kept : (d : ℕ) → d < n → is_reader (held_by picture d).state ≡ true → (held_by picture d).kept ≡ Some flat
+  pub kept : (d : ℕ) → d < n → keeps (held_by picture d).state ≡ true → (held_by picture d).kept ≡ Some flat
   pub clean : (d : ℕ) → d < n → is_clean (held_by picture d).state ≡ true → picture.value ≡ flat
   pub fresh : claims.fresh ≡ true → picture.value ≡ flat
   pub carried : (o : Open) → picture.transaction ≡ Some o → carries_value o.payload ≡ true → o.value ≡ flat

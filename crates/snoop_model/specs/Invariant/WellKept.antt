@@ -1,16 +1,16 @@
 -- What every run keeps between the states of the lines, the queues and the open transactions.
 -- Source: the states are those of "A Primer on Memory Consistency and Cache Coherence", 2nd edition, chapter 7.
-use Rattle.std.specs.Prelude.{◌≡◌, ℕ, ◌<◌, Bool, true, false, [], length, Contains, Option, Some, None, is_some, slice_index_or, ◌||◌}
+use Rattle.std.specs.Prelude.{◌≡◌, ℕ, ◌<◌, length, Contains, Option, Some, None, IsSome}
 use Rattle.snoop_trace.specs.declared.step.Op.{Op}
 use Rattle.snoop_rules.specs.declared.names.CacheState.{CacheState}
-use Rattle.snoop_rules.specs.declared.names.CacheState.TheVariants.{IsAd, IsD, ImAd, ImD, SmAd, SmD}
+use Rattle.snoop_rules.specs.declared.names.CacheState.TheVariants.{IsD, ImD, SmD}
 use Rattle.snoop_rules.specs.declared.names.Request.{Request}
 use Rattle.snoop_rules.specs.declared.names.Request.TheVariants.{GetS, GetM}
-use Rattle.snoop_rules.specs.Waits.{waiting_request}
 use Rattle.snoop_bus.specs.declared.transactions.Open.{Open}
 use Rattle.snoop_bus.specs.Queues.{queue_of}
 use Rattle.snoop_model.specs.Pictures.Picture.{held_by}
 use Rattle.snoop_model.specs.Pictures.Situation.{Situation, picture_of, state_of, Waits}
+use Rattle.snoop_model.specs.Pictures.Sound.{missed_request}
 
 -- the request whose data a core awaits in a state, once the request has been ordered
 abbrev pub awaited_request : CacheState → Option Request
@@ -18,20 +18,6 @@ awaited_request IsD = Some GetS
 awaited_request ImD = Some GetM
 awaited_request SmD = Some GetM
 awaited_request _ = None
-
--- the core waits in a state, for its own request to be ordered or for data
-abbrev pub is_busy : CacheState → Bool
-is_busy state = is_some (waiting_request state) || is_some (awaited_request state)
-
--- a load or a store has missed, and is still to be performed
-abbrev pub has_missed : CacheState → Bool
-has_missed IsAd = true
-has_missed IsD = true
-has_missed ImAd = true
-has_missed ImD = true
-has_missed SmAd = true
-has_missed SmD = true
-has_missed _ = false
 
 -- the block's open transaction is the core's, for this request
 abbrev pub HasOpen : Situation → ℕ → ℕ → Request → Type 0
@@ -41,7 +27,8 @@ HasOpen s core block request =
 -- the parts of a situation are as long as its shape says
 pub record IsShaped (s : Situation) : Type 0 where
   pub rows : length s.caches ≡ s.shape.blocks
-  pub row : (block : ℕ) → block < s.shape.blocks → length (slice_index_or s.caches block []) ≡ s.shape.cores
+  pub row : (block : ℕ) → block < s.shape.blocks → length (picture_of s block).caches ≡ s.shape.cores
+  pub memory : length s.memory ≡ s.shape.blocks
   pub queues : length s.queues ≡ s.shape.cores
   pub transactions : length s.transactions ≡ s.shape.blocks
 
@@ -54,4 +41,4 @@ pub record IsWellKept (s : Situation) : Type 0 where
   -- a core that awaits data has the block's transaction open
   pub awaits : (core block : ℕ) (request : Request) → awaited_request (state_of s core block) ≡ Some request → HasOpen s core block request
   -- an operation waits only where a load or a store has missed
-  pub operations : (core block : ℕ) (asking : Op) → (held_by (picture_of s block) core).waiting ≡ Some asking → has_missed (state_of s core block) ≡ true
+  pub operations : (core block : ℕ) (asking : Op) → (held_by (picture_of s block) core).waiting ≡ Some asking → IsSome (missed_request (state_of s core block))

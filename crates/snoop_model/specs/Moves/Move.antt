@@ -1,6 +1,6 @@
 -- The moves of the machine.
 -- Source: "A Primer on Memory Consistency and Cache Coherence", 2nd edition, chapter 7: atomic transactions, each controller taking its row of the tables; replies and items are this project's profile.
-use Rattle.std.specs.Prelude.{◌≡◌, ℕ, ◌<◌, Bool, true, false, List, [], ◌∷◌, ◌++◌, length, Option, Some, None, option_to_list, slice_get, slice_set, MatchBool, ◌⊎◌, ⊤}
+use Rattle.std.specs.Prelude.{◌≡◌, ℕ, ◌<◌, Bool, true, false, List, [], ◌∷◌, ◌++◌, length, Option, Some, None, option_to_list, slice_set, MatchBool, IsSomeAnd, ◌⊎◌, ⊤}
 use Rattle.snoop_trace.specs.declared.step.Op.{Op}
 use Rattle.snoop_trace.specs.declared.step.Op.TheVariants as op
 use Rattle.snoop_trace.specs.declared.step.Step.{Step}
@@ -12,6 +12,7 @@ use Rattle.snoop_rules.specs.declared.names.CacheEvent.{CacheEvent}
 use Rattle.snoop_rules.specs.declared.names.CacheAction.{CacheAction}
 use Rattle.snoop_rules.specs.declared.names.CacheAction.TheVariants as action
 use Rattle.snoop_rules.specs.declared.names.MemEvent.{MemEvent}
+use Rattle.snoop_rules.specs.declared.names.MemState.{MemState}
 use Rattle.snoop_rules.specs.declared.names.MemAction.{MemAction}
 use Rattle.snoop_rules.specs.declared.names.MemAction.TheVariants as mem_action
 use Rattle.snoop_rules.specs.declared.names.Request.{Request}
@@ -26,11 +27,11 @@ use Rattle.snoop_history.specs.declared.items.Item.{Item}
 use Rattle.snoop_history.specs.declared.items.Item.TheVariants as item
 use Rattle.snoop_history.specs.History.{next_number}
 use Rattle.snoop_bus.specs.declared.transactions.Open.{Open}
-use Rattle.snoop_bus.specs.Queues.{queue_of, after_issue, after_order}
+use Rattle.snoop_bus.specs.Queues.{after_issue, after_order}
 use Rattle.snoop_model.specs.declared.replies.Reply.{Reply}
 use Rattle.snoop_model.specs.declared.replies.Reply.TheVariants as reply
 use Rattle.snoop_model.specs.Pictures.Picture.{Picture, held_at, held_by, kept_on}
-use Rattle.snoop_model.specs.Pictures.Situation.{Situation, picture_of, with_picture, state_of, Waits}
+use Rattle.snoop_model.specs.Pictures.Situation.{Situation, picture_of, with_picture, state_of, Waits, StandsFirst}
 use Rattle.snoop_model.specs.declared.line.Line.{Line}
 use Rattle.snoop_model.specs.Pictures.Sends.{IsOnlySender, value_sent}
 
@@ -81,6 +82,10 @@ pub record Hits (next : CacheState) (log : List Item) (core block : ℕ) (asking
 abbrev pub TakesRow : Protocol → CacheEvent → Line → Line → Type 0
 TakesRow protocol event old new = (act : CacheAction) × ((next : CacheState) × (Cell protocol old.state event act next × (new ≡ moves_to next old)))
 
+-- memory takes its row for an event
+abbrev pub TakesMemRow : Protocol → MemEvent → MemState → MemState → Type 0
+TakesMemRow protocol event old new = (act : MemAction) × MemoryCell protocol old event act new
+
 -- a fill is for the operation that waits
 abbrev pub IsFillFor : CacheAction → Op → Type 0
 IsFillFor action.FillLoad op.Load = ⊤
@@ -109,27 +114,23 @@ ArrivesFor PutM closing protocol log old new did = (new ≡ old) × (did ≡ Non
 ArrivesFor GetS closing protocol log old new did = Fills closing protocol log old new did
 ArrivesFor GetM closing protocol log old new did = Fills closing protocol log old new did
 
--- what the response of this transaction brings to the caches
-abbrev pub Arrives : Open → Protocol → List Item → List Line → List Line → Option Did → Type 0
-Arrives closing protocol log old new did = ArrivesFor closing.request closing protocol log old new did
-
 -- memory's value after an action: a write takes the data's value
 abbrev pub written : MemAction → ℕ → ℕ → ℕ
 written mem_action.Write value before = value
 written _ value before = before
 
--- memory takes the payload
-pub record TakesPayload (closing : Open) (protocol : Protocol) (old new : Picture) : Type 0 where
-  pub event : MemEvent
-  pub act : MemAction
-  pub arrives : arrival_at_memory closing.payload ≡ Some event
-  pub row : MemoryCell protocol old.memory event act new.memory
-  pub value : new.value ≡ written act closing.value old.value
+-- what memory does with the message of a request's transaction, and its state then: it takes that of a PutM, and another's where it waits for one; else it does nothing and stays
+abbrev pub Settles : Protocol → Request → Payload → MemState → MemAction → MemState → Type 0
+Settles protocol request payload old act new =
+    MatchBool (takes_payload request old)
+    (IsSomeAnd (arrival_at_memory payload) (λ event. MemoryCell protocol old event act new))
+    ((act ≡ mem_action.None) × (new ≡ old))
 
--- memory takes the message of a PutM, and another's where it waits for one; else it stays
-abbrev pub ArrivesAtMemory : Open → Protocol → Picture → Picture → Type 0
-ArrivesAtMemory closing protocol old new =
-    MatchBool (takes_payload closing.request old.memory) (TakesPayload closing protocol old new) ((new.memory ≡ old.memory) × (new.value ≡ old.value))
+-- what the response of this transaction brings to memory
+pub record ArrivesAtMemory (closing : Open) (protocol : Protocol) (old new : Picture) : Type 0 where
+  pub act : MemAction
+  pub settled : Settles protocol closing.request closing.payload old.memory act new.memory
+  pub value : new.value ≡ written act closing.value old.value
 
 -- the response, as the history has it
 abbrev pub came_of : Open → Came
@@ -173,6 +174,10 @@ pub record Asks (old : Situation) (core block : ℕ) (asking : Op) (answer : Rep
     log = old.log ++ option_to_list entry;
   }
 
+-- an Evict in I, or an Ask that takes a row
+abbrev pub MovesAsk : Situation → ℕ → ℕ → Op → Reply → Situation → Option Item → Type 0
+MovesAsk old core block asking answer new entry = IsAbsent old core block asking answer new entry ⊎ Asks old core block asking answer new entry
+
 -- an Order: each controller takes its row for the request, looked up before it, at once
 pub record Orders (old : Situation) (core block : ℕ) (request : Request) (new : Situation) : Type 0 where
   pub waits : Waits old core block request
@@ -183,7 +188,7 @@ pub record Orders (old : Situation) (core block : ℕ) (request : Request) (new 
   pub next : Picture
   pub caches : length next.caches ≡ length (picture_of old block).caches
   pub rows : (k : ℕ) → k < length next.caches → TakesRow old.protocol (seen_by k core request) (held_by (picture_of old block) k) (held_by next k)
-  pub memory : (act : MemAction) × MemoryCell old.protocol (picture_of old block).memory (at_memory request) act next.memory
+  pub memory : TakesMemRow old.protocol (at_memory request) (picture_of old block).memory next.memory
   pub value : next.value ≡ (picture_of old block).value
   pub opened : next.transaction ≡ Some (record { core = core; request = request; block = block; payload = payload; value = value_sent (picture_of old block) from payload; from = from })
   pub after : new ≡ record (with_picture old block next) {
@@ -195,7 +200,7 @@ pub record Orders (old : Situation) (core block : ℕ) (request : Request) (new 
 pub record Responds (old : Situation) (block : ℕ) (closing : Open) (did : Option Did) (new : Situation) : Type 0 where
   pub opened : (picture_of old block).transaction ≡ Some closing
   pub next : Picture
-  pub requestor : Arrives closing old.protocol old.log (picture_of old block).caches next.caches did
+  pub requestor : ArrivesFor closing.request closing old.protocol old.log (picture_of old block).caches next.caches did
   pub memory : ArrivesAtMemory closing old.protocol (picture_of old block) next
   pub closed : next.transaction ≡ None
   pub after : new ≡ record (with_picture old block next) {
@@ -205,7 +210,7 @@ pub record Responds (old : Situation) (block : ℕ) (closing : Open) (did : Opti
 -- the step, on this block, is answered by this reply, leads from old to new, and adds this item, if any
 abbrev pub MoveOn : ℕ → Situation → Step → Reply → Situation → Option Item → Type 0
 MoveOn block old (Ask core on asking) answer new entry =
-    (on ≡ block) × IsWithin old core block × (IsAbsent old core block asking answer new entry ⊎ Asks old core block asking answer new entry)
+    (on ≡ block) × IsWithin old core block × MovesAsk old core block asking answer new entry
 MoveOn block old (Order core) answer new entry =
     (request : Request) × (IsWithin old core block × (answer ≡ reply.Ordered request)
     × (entry ≡ Some (item.Sent (record { core = core; request = request; block = block })))
@@ -220,12 +225,12 @@ MoveOn block old (Respond on) answer new entry =
 abbrev pub Move : Situation → Step → Reply → Situation → Option Item → Type 0
 Move old step answer new entry = (block : ℕ) × MoveOn block old step answer new entry
 
--- the block of an Order stands first in its core's queue
-abbrev pub StandsFirst : Situation → Step → ℕ → Type 0
-StandsFirst old (Order core) block = slice_get (queue_of old.queues core) 0 ≡ Some block
-StandsFirst old (Ask core on asking) block = ⊤
-StandsFirst old (Respond on) block = ⊤
+-- an Order takes the block that stands first
+abbrev pub TakesFirst : Situation → Step → ℕ → Type 0
+TakesFirst old (Order core) block = StandsFirst old core block
+TakesFirst old (Ask core on asking) block = ⊤
+TakesFirst old (Respond on) block = ⊤
 
 -- a move in which an Order takes the block that stands first
 abbrev pub FirstMove : Situation → Step → Reply → Situation → Option Item → Type 0
-FirstMove old step answer new entry = (block : ℕ) × (StandsFirst old step block × MoveOn block old step answer new entry)
+FirstMove old step answer new entry = (block : ℕ) × (TakesFirst old step block × MoveOn block old step answer new entry)

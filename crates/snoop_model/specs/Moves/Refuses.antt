@@ -1,6 +1,6 @@
 -- When a step is refused, and why.
 -- Source: this project's profile.
-use Rattle.std.specs.Prelude.{◌≡◌, ℕ, ◌<◌, ◌≤◌, Some, None, IsSome, slice_get}
+use Rattle.std.specs.Prelude.{◌≡◌, ℕ, ◌<◌, ◌≤◌, None, IsSome}
 use Rattle.snoop_trace.specs.declared.step.Op.{Op}
 use Rattle.snoop_trace.specs.declared.step.Step.{Step}
 use Rattle.snoop_trace.specs.declared.step.Step.TheVariants.{Ask, Order, Respond}
@@ -9,10 +9,9 @@ use Rattle.snoop_rules.specs.declared.names.CacheAction.TheVariants.{Stall}
 use Rattle.snoop_rules.specs.declared.names.Request.{Request}
 use Rattle.snoop_rules.specs.Cell.{Cell}
 use Rattle.snoop_rules.specs.Takers.{asked}
-use Rattle.snoop_bus.specs.Queues.{queue_of}
 use Rattle.snoop_model.specs.declared.replies.Refused.{Refused}
 use Rattle.snoop_model.specs.declared.replies.Refused.TheVariants.{NoCore, NoBlock, Stalled, NothingWaiting, BusTaken, NoTransaction}
-use Rattle.snoop_model.specs.Pictures.Situation.{Situation, picture_of, state_of, Waits}
+use Rattle.snoop_model.specs.Pictures.Situation.{Situation, picture_of, state_of, Waits, StandsFirst}
 use Rattle.snoop_model.specs.Moves.Move.{IsWithin}
 
 -- the cell is a stall
@@ -30,7 +29,7 @@ Refuses s (Ask core block asking) NoBlock = (core < s.shape.cores) × (s.shape.b
 Refuses s (Ask core block asking) (Stalled state) = IsWithin s core block × (state ≡ state_of s core block) × IsStall s core block asking
 Refuses s (Order core) NoCore = s.shape.cores ≤ core
 Refuses s (Order core) NothingWaiting = (core < s.shape.cores) × WaitsOnNone s core
-Refuses s (Order core) (BusTaken block) = (core < s.shape.cores) × (slice_get (queue_of s.queues core) 0 ≡ Some block) × IsSome (picture_of s block).transaction
+Refuses s (Order core) (BusTaken block) = (core < s.shape.cores) × StandsFirst s core block × IsSome (picture_of s block).transaction
 Refuses s (Respond block) NoBlock = s.shape.blocks ≤ block
 Refuses s (Respond block) NoTransaction = (block < s.shape.blocks) × ((picture_of s block).transaction ≡ None)
 Refuses s _ _ = ⊥

@@ -1,62 +1,54 @@
 -- Each Order is a line of the table of senders.
 -- Source: "A Primer on Memory Consistency and Cache Coherence", 2nd edition, chapter 7; MESI's memory is this project's profile.
-use Rattle.std.specs.Prelude.{◌≡◌, ℕ, Option, Some, None, option_map, MatchBool, ⊤}
+use Rattle.std.specs.Prelude.{◌≡◌, ℕ, Option, Some, None, option_map, ⊤}
 use Rattle.snoop_trace.specs.declared.step.Step.{Step}
 use Rattle.snoop_trace.specs.declared.step.Step.TheVariants.{Ask, Order, Respond}
 use Rattle.snoop_rules.specs.declared.names.Protocol.{Protocol}
 use Rattle.snoop_rules.specs.declared.names.MemState.{MemState}
-use Rattle.snoop_rules.specs.declared.names.MemEvent.{MemEvent}
 use Rattle.snoop_rules.specs.declared.names.MemAction.{MemAction}
 use Rattle.snoop_rules.specs.declared.names.Request.{Request}
 use Rattle.snoop_rules.specs.declared.names.Request.TheVariants.{PutM}
 use Rattle.snoop_rules.specs.declared.names.Payload.{Payload}
-use Rattle.snoop_rules.specs.MemoryCell.{MemoryCell}
-use Rattle.snoop_rules.specs.Takers.{at_memory, takes_payload, arrival_at_memory}
+use Rattle.snoop_rules.specs.Takers.{at_memory}
 use Rattle.snoop_rules.specs.WhoSends.{SentAs}
 use Rattle.snoop_history.specs.declared.items.Item.{Item}
 use Rattle.snoop_bus.specs.declared.transactions.Open.{Open}
 use Rattle.snoop_model.specs.declared.replies.Reply.{Reply}
 use Rattle.snoop_model.specs.Pictures.Picture.{Picture, held_by}
 use Rattle.snoop_model.specs.Pictures.Situation.{Situation, picture_of, Waits}
-use Rattle.snoop_model.specs.Moves.Move.{MoveOn}
+use Rattle.snoop_model.specs.Moves.Move.{TakesMemRow, Settles, ArrivesAtMemory, MoveOn}
 use Rattle.snoop_model.specs.Pictures.Sends.{IsOnlySender}
 
--- memory's state after the Respond: it takes a PutM's payload, and another's where it waits for one
-abbrev pub Settles : Request → Protocol → MemState → Payload → MemState → Type 0
-Settles request protocol memory payload done =
-    MatchBool (takes_payload request memory)
-    ((event : MemEvent) × ((act : MemAction) × ((arrival_at_memory payload ≡ Some event) × MemoryCell protocol memory event act done)))
-    (done ≡ memory)
-
--- the core's request, ordered now, has exactly one sender, and is a line of the table; at a PutM the sender is the requestor itself
-pub record FollowsSenderTable (protocol : Protocol) (before : Picture) (core : ℕ) (request : Request) : Type 0 where
-  pub from : Option ℕ
-  pub payload : Payload
+-- the core's request is met as a line of the table says: memory's state before it, the sender's state and payload, and memory's state after it and after the response; at a PutM the sender is the requestor itself
+pub record IsLine (protocol : Protocol) (before : Picture) (core : ℕ) (request : Request) (from : Option ℕ) (payload : Payload) (next : MemState) : Type 0 where
   pub act : MemAction
-  pub next : MemState
   pub done : MemState
-  pub sent : IsOnlySender protocol before core request from payload
-  pub ordered : MemoryCell protocol before.memory (at_memory request) act next
-  pub settled : Settles request protocol next payload done
+  pub settled : Settles protocol request payload next act done
   pub line : SentAs protocol request before.memory (option_map (λ k. (held_by before k).state) from) payload next done
   pub writeback : request ≡ PutM → from ≡ Some core
 
--- an Order that led from old to new is a line of the table: memory's state before it, the sender's state and payload, and memory's state after it and after the response
+-- the core's request, ordered now, has exactly one sender, and is a line of the table
+pub record FollowsSenderTable (protocol : Protocol) (before : Picture) (core : ℕ) (request : Request) : Type 0 where
+  pub from : Option ℕ
+  pub payload : Payload
+  pub next : MemState
+  pub sent : IsOnlySender protocol before core request from payload
+  pub ordered : TakesMemRow protocol (at_memory request) before.memory next
+  pub is_line : IsLine protocol before core request from payload next
+
+-- an Order that led from old to new is a line of the table
 pub record IsOrderedByTable (old : Situation) (core block : ℕ) (request : Request) (new : Situation) : Type 0 where
   pub from : Option ℕ
   pub payload : Payload
   pub value : ℕ
-  pub done : MemState
   pub opened : (picture_of new block).transaction ≡ Some (record { core = core; request = request; block = block; payload = payload; value = value; from = from })
-  pub settled : Settles request old.protocol (picture_of new block).memory payload done
-  pub line : SentAs old.protocol request (picture_of old block).memory (option_map (λ k. (held_by (picture_of old block) k).state) from) payload (picture_of new block).memory done
-  pub writeback : request ≡ PutM → from ≡ Some core
+  pub is_line : IsLine old.protocol (picture_of old block) core request from payload (picture_of new block).memory
 
 -- a Respond that led from old to new closed the block's transaction, and memory took its row for the response, or stayed where it takes none
 pub record IsSettledByTable (old : Situation) (block : ℕ) (new : Situation) : Type 0 where
   pub closing : Open
   pub opened : (picture_of old block).transaction ≡ Some closing
-  pub settled : Settles closing.request old.protocol (picture_of old block).memory closing.payload (picture_of new block).memory
+  pub settled : ArrivesAtMemory closing old.protocol (picture_of old block) (picture_of new block)
   pub closed : (picture_of new block).transaction ≡ None
 
 -- the step, on this block, is by the table, where it is an Order of what the core waits for or a Respond

@@ -1,6 +1,6 @@
 -- The machine as its callers see it.
 -- Source: this project's profile.
-use Rattle.std.specs.Prelude.{◌≡◌, ℕ, List, [], Option, Some, None, slice_index_or, slice_set, replicate}
+use Rattle.std.specs.Prelude.{◌≡◌, ℕ, List, [], Option, Some, None, slice_get, slice_index_or, slice_set, replicate}
 use Rattle.snoop_trace.specs.Extent.{Extent}
 use Rattle.snoop_rules.specs.declared.names.Protocol.{Protocol}
 use Rattle.snoop_rules.specs.declared.names.CacheState.{CacheState}
@@ -11,6 +11,7 @@ use Rattle.snoop_model.specs.Pictures.Picture.{Picture, first_memory, nothing_he
 use Rattle.snoop_model.specs.declared.line.Line.{Line}
 use Rattle.snoop_model.specs.declared.memory.MemLine.{MemLine}
 use Rattle.snoop_bus.specs.declared.transactions.Open.{Open}
+use Rattle.snoop_bus.specs.Queues.{queue_of}
 use Rattle.snoop_rules.specs.declared.names.MemState.TheVariants.{IorS}
 
 -- what each core and memory hold of each block, the open transactions, each core's queue, and the log
@@ -66,3 +67,7 @@ state_of s core block = (held_by (picture_of s block) core).state
 -- the core waits on the block with the request
 abbrev pub Waits : Situation → ℕ → ℕ → Request → Type 0
 Waits s core block request = waiting_request (state_of s core block) ≡ Some request
+
+-- the block stands first in the core's queue
+abbrev pub StandsFirst : Situation → ℕ → ℕ → Type 0
+StandsFirst s core block = slice_get (queue_of s.queues core) 0 ≡ Some block

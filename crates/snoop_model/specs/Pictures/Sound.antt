@@ -1,12 +1,13 @@
 -- What holds between the parts of a machine.
 -- Source: this project's profile.
-use Rattle.std.specs.Prelude.{◌≡◌, ◌≢◌, ℕ, ◌<◌, Bool, true, false, List, [], length, Contains, Option, Some, None, is_some, slice_index_or}
+use Rattle.std.specs.Prelude.{◌≡◌, ◌≢◌, ℕ, ◌<◌, Bool, true, false, List, [], length, Contains, Option, Some, None, is_some, option_map, slice_index_or}
 use Rattle.snoop_trace.specs.Extent.{Extent}
 use Rattle.snoop_trace.specs.declared.step.Op.{Op}
 use Rattle.snoop_trace.specs.declared.step.Op.TheVariants as op
 use Rattle.snoop_rules.specs.declared.names.CacheState.{CacheState}
 use Rattle.snoop_rules.specs.declared.names.CacheState.TheVariants.{IsAd, IsD, ImAd, ImD, S, SmAd, SmD, E, M, EiA, MiA}
 use Rattle.snoop_rules.specs.declared.names.Request.{Request}
+use Rattle.snoop_rules.specs.declared.names.Request.TheVariants.{GetS, GetM, PutM}
 use Rattle.snoop_rules.specs.Waits.{waiting_request}
 use Rattle.snoop_bus.specs.declared.transactions.Open.{Open}
 use Rattle.snoop_bus.specs.Traffic.{Traffic, waiting_of, transaction_on}
@@ -24,34 +25,26 @@ keeps EiA = true
 keeps MiA = true
 keeps _ = false
 
--- which operation waits; an eviction never does
-pub data Awaits : Type 0 where
-  nothing : Awaits
-  load : Awaits
-  store : Awaits
-  eviction : Awaits
+-- the request by which an operation is asked for
+abbrev pub request_for : Op → Request
+request_for op.Load = GetS
+request_for (op.Store value) = GetM
+request_for op.Evict = PutM
 
--- the operation that waits in a state
-abbrev pub awaits : CacheState → Awaits
-awaits IsAd = load
-awaits IsD = load
-awaits ImAd = store
-awaits ImD = store
-awaits SmAd = store
-awaits SmD = store
-awaits _ = nothing
+-- the request of the load or store that has missed in a state, and is still to be performed
+abbrev pub missed_request : CacheState → Option Request
+missed_request IsAd = Some GetS
+missed_request IsD = Some GetS
+missed_request ImAd = Some GetM
+missed_request ImD = Some GetM
+missed_request SmAd = Some GetM
+missed_request SmD = Some GetM
+missed_request _ = None
 
--- what a line's waiting operation is
-abbrev pub kind_of : Option Op → Awaits
-kind_of None = nothing
-kind_of (Some op.Load) = load
-kind_of (Some (op.Store value)) = store
-kind_of (Some op.Evict) = eviction
-
--- a line keeps a value exactly where its state may read, and the operation that its state awaits waits, so that a line in I holds nothing
+-- a line keeps a value exactly where its state may read, and an operation waits exactly where one has missed, with that request, so that a line in I holds nothing
 pub record IsProper (line : Line) : Type 0 where
   pub kept : is_some line.kept ≡ keeps line.state
-  pub waiting : kind_of line.waiting ≡ awaits line.state
+  pub waiting : option_map request_for line.waiting ≡ missed_request line.state
 
 -- what the core holds of the block
 abbrev pub line_at : List (List Line) → ℕ → ℕ → Line

@@ -50,4 +50,4 @@ pub returns-clause-proper : goal.returns-clause-proper
 returns-clause-proper c p shape steps outcomes new run = all_proper new (run_keeps steps outcomes (reset p shape) new (reset_coherent p shape) run)
 
 pub returns-clause-queued : goal.returns-clause-queued
-returns-clause-queued c p shape steps outcomes new run = (run_queued steps outcomes (reset p shape) new (reset_coherent p shape) (reset_queued p shape) run).each
+returns-clause-queued c p shape steps outcomes new run = (run_queued steps outcomes (reset p shape) new (reset_coherent p shape) (reset_queued p shape) run)

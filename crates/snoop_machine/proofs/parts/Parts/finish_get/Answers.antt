@@ -15,7 +15,7 @@ use Rattle.snoop_model.specs.Pictures.Situation.{Situation, picture_of, with_pic
 use Rattle.snoop_model.specs.Pictures.Sound.{IsSound, IsProper, line_at}
 use Rattle.snoop_machine.specs.PartsView.{queues_of}
 use Rattle.snoop_machine.specs.Arrive.{FillsLine, ArrivesIn}
-use Rattle.snoop_model.specs.Moves.Move.{Arrives, Responds, came_of, next_did}
+use Rattle.snoop_model.specs.Moves.Move.{ArrivesFor, Responds, came_of, next_did}
 use Rattle.snoop_model.proofs.Lines.EachRow.{row_of}
 use Rattle.snoop_model.proofs.Lines.OneLine.{placed}
 use Rattle.snoop_machine.proofs.LineWrites.{IsSound-line}
@@ -75,7 +75,7 @@ returns-clause-responded c =
     let N : Situation → Type 0 = λ x. ArrivesIn closing.request x.protocol closing.payload closing.value (slice_index_or x.memory block no_memory) c.args.memory in
     let T : Situation → Type 0 = λ x. FillsLine x.protocol (line_at x.caches core block) closing.payload closing.value filled in
     let next : Picture = record { caches = slice_set (row_of m.lines.rows block) core filled.line; memory = c.args.memory.state; value = c.args.memory.value; transaction = None } in
-    let A : Did → Type 0 = λ d. Arrives closing m.protocol m.log.items (row_of m.lines.rows block) (slice_set (row_of m.lines.rows block) core filled.line) (Some d) in
+    let A : Did → Type 0 = λ d. ArrivesFor closing.request closing m.protocol m.log.items (row_of m.lines.rows block) (slice_set (row_of m.lines.rows block) core filled.line) (Some d) in
     subst G is (record {
       opened = subst F (sym is) c.requires.opened;
       next = next;

@@ -14,7 +14,7 @@ use Rattle.snoop_model.specs.Pictures.Situation.{picture_of, no_memory}
 use Rattle.snoop_model.specs.Moves.LookUps.{HasRow}
 use Rattle.snoop_model.specs.Moves.SenderTable.{FollowsSenderTable}
 use Rattle.snoop_model.specs.Pictures.Message.{free_picture, IsMessage}
-use Rattle.snoop_model.specs.Moves.OrderMove.{TakesMemRow}
+use Rattle.snoop_model.specs.Moves.Move.{TakesMemRow}
 use Rattle.snoop_model.proofs.Lines.EachRow.{row_of}
 use Rattle.snoop_model.proofs.Invariant.Coherence.{orders_follow_sender_table, finds_rows}
 use Rattle.snoop_machine.specs.declared.plan.Plan.TheVariants as plan
@@ -42,10 +42,10 @@ picture c =
 protocol : (c : In-Some-mem_cell) → c.self.inside.protocol ≡ c.args.self.now.situation.protocol
 protocol c = ap (λ (s : Standing). s.situation.protocol) c.self.view_is
 
-memory_row : (c : In-Some-mem_cell) → TakesMemRow c.args.self.now.situation.protocol (picture_of c.args.self.now.situation c.in-Some.block).memory c.in-Some.request c.in-Some-mem_cell.cell.next
+memory_row : (c : In-Some-mem_cell) → TakesMemRow c.args.self.now.situation.protocol (at_memory c.in-Some.request) (picture_of c.args.self.now.situation c.in-Some.block).memory c.in-Some-mem_cell.cell.next
 memory_row c =
     let P : MemEvent → Type 0 = λ e. MemoryCell c.self.inside.protocol c.get_or-memory.result.state e c.in-Some-mem_cell.cell.action c.in-Some-mem_cell.cell.next in
-    let Q : Picture → Type 0 = λ p. TakesMemRow c.self.inside.protocol p.memory c.in-Some.request c.in-Some-mem_cell.cell.next in
+    let Q : Picture → Type 0 = λ p. TakesMemRow c.self.inside.protocol (at_memory c.in-Some.request) p.memory c.in-Some-mem_cell.cell.next in
     rw (← protocol c) (subst Q (picture c) (c.in-Some-mem_cell.cell.action, subst P c.event_at_memory.ensures c.in-Some-mem_cell.ensures.row))
 
 free_here : (c : In-Some-mem_cell) → (picture_of c.args.self.now.situation c.in-Some.block).transaction ≡ None
@@ -106,4 +106,4 @@ unreachable-requires c =
     let R : Standing → Type 0 = λ x. IsMemImpossible x.situation.protocol (picture_of x.situation block).memory (at_memory request) in
     let none : IsMemImpossible s.protocol (picture_of s block).memory (at_memory request) = subst R c.self.view_is (subst Q held (subst P c.event_at_memory.ensures c.in_default-mem_cell.ensures.impossible)) in
     let line = orders_follow_sender_table s c.requires.coherent c.args.core block request head.waits free in
-    none line.act line.next line.ordered
+    none line.ordered.0 line.next line.ordered.1

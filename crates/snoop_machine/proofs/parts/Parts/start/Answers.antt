@@ -2,7 +2,7 @@ use Rattle.std.proofs.Common.{◌≡◌, ℕ, List, ◌<◌, ◌≤◌, ◌+◌,
 use Rattle.std.specs.Prelude.{◌==◌, not, filter, slice_set, slice_index_or, IsSome, IfSome}
 use Rattle.std.proofs.lemmas.List.{length-set, length-append, length-drop}
 use Rattle.snoop_rules.specs.declared.names.Request.{Request}
-use Rattle.snoop_rules.specs.Takers.{seen_by}
+use Rattle.snoop_rules.specs.Takers.{at_memory, seen_by}
 use Rattle.snoop_history.specs.Journal.{Journal}
 use Rattle.snoop_history.specs.declared.items.Item.TheVariants as item
 use Rattle.snoop_bus.specs.declared.transactions.Open.{Open}
@@ -19,7 +19,8 @@ use Rattle.snoop_machine.specs.PartsView.{queues_of}
 use Rattle.snoop_model.specs.Moves.Move.{Orders}
 use Rattle.snoop_model.specs.Pictures.Message.{IsMessage}
 use Rattle.snoop_model.specs.Moves.LookUps.{HasRow}
-use Rattle.snoop_model.specs.Moves.OrderMove.{IsHead, TakesMemRow}
+use Rattle.snoop_model.specs.Moves.OrderMove.{IsHead}
+use Rattle.snoop_model.specs.Moves.Move.{TakesMemRow}
 use Rattle.snoop_machine.proofs.Room.{held_in, held_in-set, keeps_room}
 use Rattle.snoop_model.proofs.Lines.EachRow.{row_of}
 use Rattle.snoop_machine.proofs.QueueHeads.{head_from_line, same_situation}
@@ -102,7 +103,7 @@ returns-clause-ordered c =
     let W : Situation → Type 0 = λ x. Waits x core block request in
     let F : Situation → Type 0 = λ x. (picture_of x block).transaction ≡ None in
     let M : Situation → Type 0 = λ x. IsMessage x.protocol (picture_of x block) core request message in
-    let N : Situation → Type 0 = λ x. TakesMemRow x.protocol (picture_of x block).memory request c.args.memory in
+    let N : Situation → Type 0 = λ x. TakesMemRow x.protocol (at_memory request) (picture_of x block).memory c.args.memory in
     let sent : IsMessage m.protocol (picture_of old block) core request message = subst M (sym is) c.requires.message in
     let value : c.get_or-before.result ≡ slice_index_or m.memory block no_memory = c.get_or-before.ensures in
     let next : Picture = record {
