@@ -175,7 +175,7 @@ plan-adds s (plan.Order core request block message memory) h answer new added m 
     let same : m.0 ≡ block = same_Some _ _ (sym m.1.0 ∙ h.1.head.first) in
     let orders = m.1.1.1.3 in
     let W : ℕ → Type 0 = λ x. Waits s core x m.1.1.0 in
-    let its : m.1.1.0 ≡ request = same_Some _ _ (sym (subst W same orders.waits) ∙ h.1.head.waits) in
+    let its : m.1.1.0 ≡ request = same_Some _ _ (sym (subst W same orders.ready.0) ∙ h.1.head.waits) in
     m.1.1.1.2 ∙ (ap (λ (b : ℕ). let r : Option Item = Some (item.Sent (record { core = core; request = m.1.1.0; block = b })) in r) same
     ∙ ap (λ (q : Request). let r : Option Item = Some (item.Sent (record { core = core; request = q; block = block })) in r) its)
 plan-adds s (plan.Writeback block closing memory) h answer new added m =

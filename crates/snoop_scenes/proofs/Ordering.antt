@@ -210,8 +210,7 @@ module _ (old : Situation) (core block : ℕ) (there : core < old.shape.cores) (
               refl,
               refl,
               record {
-                waits = waits;
-                free = free;
+                ready = (waits, free);
                 from = taken.sender.from;
                 payload = taken.sender.payload;
                 sent = taken.sender.sent;

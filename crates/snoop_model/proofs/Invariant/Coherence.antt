@@ -31,7 +31,7 @@ use Rattle.snoop_history.specs.Totals.{is_put_m}
 use Rattle.snoop_bus.specs.declared.transactions.Open.{Open}
 use Rattle.snoop_model.specs.declared.line.Line.{Line}
 use Rattle.snoop_model.specs.Pictures.Picture.{Picture, held_at, held_by, nothing_held}
-use Rattle.snoop_model.specs.Pictures.Situation.{Situation, picture_of, state_of, Waits}
+use Rattle.snoop_model.specs.Pictures.Situation.{Situation, picture_of, state_of, Waits, CanOrder}
 use Rattle.snoop_model.specs.Moves.Move.{IsWithin}
 use Rattle.snoop_model.specs.Moves.LookUps.{HasRow, HasMemRow, ConsultsCache, ConsultsMemory, FindsRows}
 use Rattle.snoop_model.specs.Pictures.OneWriter.{OneWriter, IsWriter}
@@ -182,10 +182,10 @@ waits_within s g core block q waits = elim (place s g core block) [
       let h : ◌≡◌ {A = Option Request} None (Some q) = subst P nothing waits in cc
 ]
 
-possible_order : (s : Situation) → IsCoherent s → (core block : ℕ) (q : Request) → Waits s core block q → (picture_of s block).transaction ≡ None → Possible s.protocol (length (picture_of s block).caches) (picture_of s block) core q
-possible_order s g core block q waits free =
-    let within = waits_within s g core block q waits in
-    let x = order_possible s.protocol s.shape.cores (flat s.log block) (picture_of s block) core q (g.good block within.1) within.0 waits free in
+possible_order : (s : Situation) → IsCoherent s → (core block : ℕ) (q : Request) → CanOrder s core block q → Possible s.protocol (length (picture_of s block).caches) (picture_of s block) core q
+possible_order s g core block q ready =
+    let within = waits_within s g core block q ready.0 in
+    let x = order_possible s.protocol s.shape.cores (flat s.log block) (picture_of s block) core q (g.good block within.1) within.0 ready.0 ready.1 in
     subst (λ (n : ℕ). Possible s.protocol n (picture_of s block) core q) (sym (g.shaped.row block within.1)) x
 
 put_is : (q : Request) → q ≡ request.PutM → is_put_m q ≡ true
@@ -193,10 +193,10 @@ put_is q e = ap is_put_m e
 
 -- an Order of any request that waits on a free block has exactly one sender, and is a line of the table
 pub orders_follow_sender_table : (s : Situation) → IsCoherent s → OrdersFollowSenderTable s
-orders_follow_sender_table s g core block q waits free =
+orders_follow_sender_table s g core block q ready =
     let p = s.protocol in
     let before : Picture = picture_of s block in
-    let x = possible_order s g core block q waits free in
+    let x = possible_order s g core block q ready in
     let led = led_line p q before.memory _ x.payload x.cell_of_memory.next x.order_line in
     record {
       from = x.from;
@@ -258,17 +258,17 @@ asked_row s g core block asking busy = elim (place s g core block) [
 ]
 
 -- and for a request that is ordered
-seen_row : (s : Situation) → IsCoherent s → (core block : ℕ) (q : Request) → Waits s core block q → (picture_of s block).transaction ≡ None → (k : ℕ) → HasRow s.protocol (state_of s k block) (seen_by k core q)
-seen_row s g core block q waits free k = elim (place s g k block) [
+seen_row : (s : Situation) → IsCoherent s → (core block : ℕ) (q : Request) → CanOrder s core block q → (k : ℕ) → HasRow s.protocol (state_of s k block) (seen_by k core q)
+seen_row s g core block q ready k = elim (place s g k block) [
   | inl within ↦
       let long : length (picture_of s block).caches ≡ s.shape.cores = g.shaped.row block within.1 in
-      let row = (possible_order s g core block q waits free).rows k (omega arith) in
+      let row = (possible_order s g core block q ready).rows k (omega arith) in
       has_row s.protocol (state_of s k block) (Some (seen_by k core q)) row
   | inr nothing ↦
       let W : ℕ → Type 0 = λ x. waiting_request (state_of s x block) ≡ Some q in
       let V : Line → Type 0 = λ x. waiting_request x.state ≡ Some q in
       let P : Line → Type 0 = λ x. HasRow s.protocol x.state (seen_by k core q) in
-      let apart : k ≢ core = λ same. (let clash : ◌≡◌ {A = Option Request} None (Some q) = subst V nothing (subst W (sym same) waits) in cc) in
+      let apart : k ≢ core = λ same. (let clash : ◌≡◌ {A = Option Request} None (Some q) = subst V nothing (subst W (sym same) ready.0) in cc) in
       subst P (sym nothing) (rw (seen_other k core q apart) (nothing_seen s.protocol q))
 ]
 
@@ -282,7 +282,7 @@ response_possible s g block closing opened = respond_possible s.protocol s.shape
 
 finds_cache : (s : Situation) → IsCoherent s → (step : Step) (core block : ℕ) (event : Option CacheEvent) → ConsultsCache s step core block event → IsSomeAnd event (HasRow s.protocol (state_of s core block))
 finds_cache s g (Ask asker on asking) core block event looks = rw looks.3 (asked_row s g core block asking looks.2)
-finds_cache s g (Order requestor) core block event looks = rw looks.1.2 (seen_row s g requestor block looks.0 looks.1.0 looks.1.1 core)
+finds_cache s g (Order requestor) core block event looks = rw looks.1.1 (seen_row s g requestor block looks.0 looks.1.0 core)
 finds_cache s g (Respond on) core block event looks =
     let closing = looks.0 in
     let row = (response_possible s g block closing looks.1.1).requestor (not_put closing.request looks.1.3) in
@@ -291,8 +291,8 @@ finds_cache s g (Respond on) core block event looks =
 finds_memory : (s : Situation) → IsCoherent s → (step : Step) (block : ℕ) (event : Option MemEvent) → ConsultsMemory s step block event → IsSomeAnd event (HasMemRow s.protocol (picture_of s block).memory)
 finds_memory s g (Ask asker on asking) block event looks = absurd looks
 finds_memory s g (Order requestor) block event looks =
-    let x = possible_order s g requestor block looks.0 looks.1.0 looks.1.1 in
-    rw looks.1.2 (has_mem_row s.protocol (picture_of s block).memory (Some (at_memory looks.0)) (x.cell_of_memory, x.memory_row))
+    let x = possible_order s g requestor block looks.0 looks.1.0 in
+    rw looks.1.1 (has_mem_row s.protocol (picture_of s block).memory (Some (at_memory looks.0)) (x.cell_of_memory, x.memory_row))
 finds_memory s g (Respond on) block event looks =
     let closing = looks.0 in
     let row = (response_possible s g block closing looks.1.1).memory looks.1.2 in

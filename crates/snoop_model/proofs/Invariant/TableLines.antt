@@ -37,7 +37,7 @@ order_is_by_table : (s : Situation) → IsCoherent s → (core block : ℕ) (q :
 order_is_by_table s g core block q new within o =
     let p = s.protocol in
     let before : Picture = picture_of s block in
-    let f = orders_follow_sender_table s g core block q o.waits o.free in
+    let f = orders_follow_sender_table s g core block q o.ready in
     let lists = in_lists s g block within.1 in
     let from : f.from ≡ o.from = o.sent.alone f.from f.payload f.sent.sends in
     let payload : f.payload ≡ o.payload = sends_one p before core q o.from f.payload o.payload (subst (λ (x : Option ℕ). Sends p before core q x f.payload) from f.sent.sends) o.sent.sends in
@@ -69,6 +69,6 @@ respond_is_by_table s g block closing did new within r =
 
 -- each move from a coherent situation is by the table
 pub moves_are_by_table : (s : Situation) → IsCoherent s → MovesAreByTable s
-moves_are_by_table s g block (Order core) answer new entry m = (m.0, (m.1.3.waits, order_is_by_table s g core block m.0 new m.1.0 m.1.3))
+moves_are_by_table s g block (Order core) answer new entry m = (m.0, (m.1.3.ready, order_is_by_table s g core block m.0 new m.1.0 m.1.3))
 moves_are_by_table s g block (Respond on) answer new entry m = respond_is_by_table s g block m.0 m.1.0 new m.1.1.1 m.1.1.4
 moves_are_by_table s g block (Ask core on asking) answer new entry m = tt

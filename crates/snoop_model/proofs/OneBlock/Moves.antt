@@ -140,8 +140,8 @@ pub orders_one : (old : Situation) (core block : ℕ) (q : Request) (new : Situa
     → one.Orders old.protocol (length (picture_of old block).caches) (picture_of old block) core q o.next
 orders_one old core block q new o within = record {
   requestor_in = within;
-  waits = o.waits;
-  calm = o.free;
+  waits = o.ready.0;
+  calm = o.ready.1;
   taken = λ d d_in. takes_by_row old.protocol (seen_by d core q) (held_by (picture_of old block) d) (held_by o.next d) (o.rows d (subst (λ (n : ℕ). d < n) (sym o.caches) d_in));
   cell_of_memory = record { action = o.memory.0; next = o.next.memory };
   is_memory_row = memory_cell_of-MemoryCell old.protocol (picture_of old block).memory (at_memory q) o.memory.0 o.next.memory o.memory.1;

@@ -169,11 +169,11 @@ not_refused s kept (Order core) answer new entry cause move refused =
     elim (order_cause s core cause refused) [
       | inl h ↦ let past : s.shape.cores ≤ core = h.1 in absurd (omega arith)
       | inr rest ↦ elim rest [
-        | inl h ↦ h.2 block move.1.1.0 its.3.waits
+        | inl h ↦ h.2 block move.1.1.0 its.3.ready.0
         | inr h ↦
             let same : h.0 ≡ block = same_some (sym h.1.2 ∙ move.1.0) in
             let taken : is_some (picture_of s block).transaction ≡ true = subst (λ (b : ℕ). is_some (picture_of s b).transaction ≡ true) same h.1.3 in
-            let free : is_some (picture_of s block).transaction ≡ false = ap is_some its.3.free in
+            let free : is_some (picture_of s block).transaction ≡ false = ap is_some its.3.ready.1 in
             cc
       ]
     ]
@@ -346,7 +346,7 @@ move_one s (Order core) answer answer' new new' entry entry' a b =
     let block : b.0 ≡ a.0 = same_some (sym b.1.0 ∙ a.1.0) in
     let P : ℕ → Type 0 = λ on. Orders s core on b.1.1.0 new' in
     let there : Orders s core a.0 b.1.1.0 new' = subst P block b.1.1.1.3 in
-    let q : b.1.1.0 ≡ a.1.1.0 = same_some (sym there.waits ∙ a.1.1.1.3.waits) in
+    let q : b.1.1.0 ≡ a.1.1.0 = same_some (sym there.ready.0 ∙ a.1.1.1.3.ready.0) in
     let Q : Request → Type 0 = λ x. Orders s core a.0 x new' in (
       a.1.1.1.1 ∙ (ap (λ (x : Request). reply.Ordered x) (sym q) ∙ sym b.1.1.1.1),
       orders_one s core a.0 a.1.1.0 new new' a.1.1.1.3 (subst Q q there),

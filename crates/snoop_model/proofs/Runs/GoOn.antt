@@ -38,7 +38,7 @@ use Rattle.snoop_model.specs.declared.replies.Reply.TheVariants as reply
 use Rattle.snoop_model.specs.declared.replies.Refused.{Refused}
 use Rattle.snoop_model.specs.declared.replies.Refused.TheVariants.{NoCore, NoBlock, Stalled, NothingWaiting, BusTaken, NoTransaction}
 use Rattle.snoop_model.specs.Pictures.Picture.{Picture, held_at, held_by, kept_on}
-use Rattle.snoop_model.specs.Pictures.Situation.{Situation, picture_of, with_picture, state_of, Waits}
+use Rattle.snoop_model.specs.Pictures.Situation.{Situation, picture_of, with_picture, state_of, Waits, CanOrder, StandsFirst}
 use Rattle.snoop_model.specs.Pictures.Sends.{value_sent}
 use Rattle.snoop_model.specs.Pictures.Sound.{keeps, request_for, missed_request, IsProper}
 use Rattle.snoop_model.specs.Moves.Move as Move
@@ -227,12 +227,12 @@ lines_at P (suc n) find =
     line_before P n first.0 first.1 (lines_at (λ k. P (suc k)) n (λ k h. find (suc k) (omega arith)))
 
 -- an Order on the block that stands first, free
-order_free : (s : Situation) → IsCoherent s → (core block : ℕ) (q : Request) → slice_get (queue_of s.queues core) 0 ≡ Some block → Waits s core block q → (picture_of s block).transaction ≡ None → LeadsOn s (Order core)
-order_free s g core block q first waits free =
+order_free : (s : Situation) → IsCoherent s → (core block : ℕ) (q : Request) → StandsFirst s core block → CanOrder s core block q → LeadsOn s (Order core)
+order_free s g core block q first ready =
     let p = s.protocol in
     let before : Picture = picture_of s block in
-    let finds : (k : ℕ) → HasRow p (held_by before k).state (seen_by k core q) = λ k. (finds_rows s g (Order core)).cache k block (Some (seen_by k core q)) (q, (waits, free, refl)) in
-    let line = orders_follow_sender_table s g core block q waits free in
+    let finds : (k : ℕ) → HasRow p (held_by before k).state (seen_by k core q) = λ k. (finds_rows s g (Order core)).cache k block (Some (seen_by k core q)) (q, (ready, refl)) in
+    let line = orders_follow_sender_table s g core block q ready in
     let rows = lines_at (λ k x. TakesRow p (seen_by k core q) (held_by before k) x) (length before.caches) (λ k h. (let row = finds k in (moves_to row.1.0 (held_by before k), (row.0, (row.1.0, (row.1.1, refl)))))) in
     let opened : Open = record { core = core; request = q; block = block; payload = line.payload; value = value_sent before line.from line.payload; from = line.from } in
     let next : Picture = record { caches = rows.0; memory = line.next; value = before.value; transaction = Some opened } in
@@ -245,12 +245,11 @@ order_free s g core block q first waits free =
         (
           q,
           (
-            waits_within s g core block q waits,
+            waits_within s g core block q ready.0,
             refl,
             refl,
             record {
-              waits = waits;
-              free = free;
+              ready = ready;
               from = line.from;
               payload = line.payload;
               sent = line.sent;
@@ -285,7 +284,7 @@ order_first s g kept core in_cores (Some block) first =
   where
     go : (q : Request) → Waits s core block q → (found : Option Open) → (picture_of s block).transaction ≡ found → LeadsOn s (Order core)
     go q waits (Some t) is = (Err (BusTaken block), (s, ((in_cores, first, rw is refl), refl)))
-    go q waits None is = order_free s g core block q first waits is
+    go q waits None is = order_free s g core block q first (waits, is)
 
 order_leads : (s : Situation) → IsCoherent s → IsWellKept s → (core : ℕ) → LeadsOn s (Order core)
 order_leads s g kept core = elim (cases_lt core s.shape.cores) [

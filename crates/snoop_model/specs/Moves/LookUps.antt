@@ -1,6 +1,6 @@
 -- Which rows a step looks up.
 -- Source: this project's profile.
-use Rattle.std.specs.Prelude.{◌≡◌, ◌≢◌, ℕ, Option, Some, None, IsSomeAnd, IsTrue}
+use Rattle.std.specs.Prelude.{◌≡◌, ◌≢◌, ℕ, Option, Some, IsSomeAnd, IsTrue}
 use Rattle.snoop_trace.specs.declared.step.Op.TheVariants as op
 use Rattle.snoop_trace.specs.declared.step.Step.{Step}
 use Rattle.snoop_trace.specs.declared.step.Step.TheVariants.{Ask, Order, Respond}
@@ -18,7 +18,7 @@ use Rattle.snoop_rules.specs.Cell.{Cell}
 use Rattle.snoop_rules.specs.MemoryCell.{MemoryCell}
 use Rattle.snoop_rules.specs.Takers.{asked, seen_by, at_memory, arrival, arrival_at_memory, takes_payload}
 use Rattle.snoop_bus.specs.declared.transactions.Open.{Open}
-use Rattle.snoop_model.specs.Pictures.Situation.{Situation, picture_of, state_of, Waits}
+use Rattle.snoop_model.specs.Pictures.Situation.{Situation, picture_of, state_of, CanOrder}
 
 -- the cache table has a row for the pair
 abbrev pub HasRow : Protocol → CacheState → CacheEvent → Type 0
@@ -33,16 +33,14 @@ HasMemRow protocol memory event = (act : MemAction) × ((next : MemState) × Mem
 abbrev pub ConsultsCache : Situation → Step → ℕ → ℕ → Option CacheEvent → Type 0
 ConsultsCache s (Ask asker on asking) core block event =
     (core ≡ asker) × (block ≡ on) × (¬ ((asking ≡ op.Evict) × (state_of s core block ≡ state.I))) × (event ≡ Some (asked asking))
-ConsultsCache s (Order requestor) core block event =
-    (request : Request) × (Waits s requestor block request × ((picture_of s block).transaction ≡ None) × (event ≡ Some (seen_by core requestor request)))
+ConsultsCache s (Order requestor) core block event = (request : Request) × (CanOrder s requestor block request × (event ≡ Some (seen_by core requestor request)))
 ConsultsCache s (Respond on) core block event =
     (closing : Open) × ((block ≡ on) × ((picture_of s block).transaction ≡ Some closing) × (core ≡ closing.core) × (closing.request ≢ PutM) × (event ≡ arrival closing.payload))
 
 -- at the step memory looks up its row for this event on the block: the request, or the payload that it takes. A payload that is for a requestor alone is no event, and has no row
 abbrev pub ConsultsMemory : Situation → Step → ℕ → Option MemEvent → Type 0
 ConsultsMemory s (Ask asker on asking) block event = ⊥
-ConsultsMemory s (Order requestor) block event =
-    (request : Request) × (Waits s requestor block request × ((picture_of s block).transaction ≡ None) × (event ≡ Some (at_memory request)))
+ConsultsMemory s (Order requestor) block event = (request : Request) × (CanOrder s requestor block request × (event ≡ Some (at_memory request)))
 ConsultsMemory s (Respond on) block event =
     (closing : Open) × ((block ≡ on) × ((picture_of s block).transaction ≡ Some closing) × IsTrue (takes_payload closing.request (picture_of s block).memory) × (event ≡ arrival_at_memory closing.payload))
 

@@ -31,7 +31,7 @@ use Rattle.snoop_bus.specs.Queues.{after_issue, after_order}
 use Rattle.snoop_model.specs.declared.replies.Reply.{Reply}
 use Rattle.snoop_model.specs.declared.replies.Reply.TheVariants as reply
 use Rattle.snoop_model.specs.Pictures.Picture.{Picture, held_at, held_by, kept_on}
-use Rattle.snoop_model.specs.Pictures.Situation.{Situation, picture_of, with_picture, state_of, Waits, StandsFirst}
+use Rattle.snoop_model.specs.Pictures.Situation.{Situation, picture_of, with_picture, state_of, CanOrder, StandsFirst}
 use Rattle.snoop_model.specs.declared.line.Line.{Line}
 use Rattle.snoop_model.specs.Pictures.Sends.{IsOnlySender, value_sent}
 
@@ -180,8 +180,7 @@ MovesAsk old core block asking answer new entry = IsAbsent old core block asking
 
 -- an Order: each controller takes its row for the request, looked up before it, at once
 pub record Orders (old : Situation) (core block : ℕ) (request : Request) (new : Situation) : Type 0 where
-  pub waits : Waits old core block request
-  pub free : (picture_of old block).transaction ≡ None
+  pub ready : CanOrder old core block request
   pub from : Option ℕ
   pub payload : Payload
   pub sent : IsOnlySender old.protocol (picture_of old block) core request from payload

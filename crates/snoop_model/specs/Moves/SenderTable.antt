@@ -15,7 +15,7 @@ use Rattle.snoop_history.specs.declared.items.Item.{Item}
 use Rattle.snoop_bus.specs.declared.transactions.Open.{Open}
 use Rattle.snoop_model.specs.declared.replies.Reply.{Reply}
 use Rattle.snoop_model.specs.Pictures.Picture.{Picture, held_by}
-use Rattle.snoop_model.specs.Pictures.Situation.{Situation, picture_of, Waits}
+use Rattle.snoop_model.specs.Pictures.Situation.{Situation, picture_of, CanOrder}
 use Rattle.snoop_model.specs.Moves.Move.{TakesMemRow, Settles, ArrivesAtMemory, MoveOn}
 use Rattle.snoop_model.specs.Pictures.Sends.{IsOnlySender}
 
@@ -51,9 +51,9 @@ pub record IsSettledByTable (old : Situation) (block : ℕ) (new : Situation) : 
   pub settled : ArrivesAtMemory closing old.protocol (picture_of old block) (picture_of new block)
   pub closed : (picture_of new block).transaction ≡ None
 
--- the step, on this block, is by the table, where it is an Order of what the core waits for or a Respond
+-- the step, on this block, is by the table, where it is an Order or a Respond
 abbrev pub IsByTable : ℕ → Situation → Step → Situation → Type 0
-IsByTable block old (Order core) new = (request : Request) × (Waits old core block request × IsOrderedByTable old core block request new)
+IsByTable block old (Order core) new = (request : Request) × (CanOrder old core block request × IsOrderedByTable old core block request new)
 IsByTable block old (Respond on) new = IsSettledByTable old block new
 IsByTable block old (Ask core on asking) new = ⊤
 
@@ -61,8 +61,6 @@ IsByTable block old (Ask core on asking) new = ⊤
 abbrev pub MovesAreByTable : Situation → Type 0
 MovesAreByTable s = (block : ℕ) (step : Step) (answer : Reply) (new : Situation) (entry : Option Item) → MoveOn block s step answer new entry → IsByTable block s step new
 
--- every request that waits on a free block would have exactly one sender, and be a line of the table
+-- every request that can be ordered would have exactly one sender, and be a line of the table
 abbrev pub OrdersFollowSenderTable : Situation → Type 0
-OrdersFollowSenderTable s =
-    (core block : ℕ) (request : Request) → Waits s core block request → (picture_of s block).transaction ≡ None →
-    FollowsSenderTable s.protocol (picture_of s block) core request
+OrdersFollowSenderTable s = (core block : ℕ) (request : Request) → CanOrder s core block request → FollowsSenderTable s.protocol (picture_of s block) core request

@@ -68,6 +68,10 @@ state_of s core block = (held_by (picture_of s block) core).state
 abbrev pub Waits : Situation → ℕ → ℕ → Request → Type 0
 Waits s core block request = waiting_request (state_of s core block) ≡ Some request
 
+-- the request waits, and no transaction is open on the block: it can be ordered
+abbrev pub CanOrder : Situation → ℕ → ℕ → Request → Type 0
+CanOrder s core block request = Waits s core block request × ((picture_of s block).transaction ≡ None)
+
 -- the block stands first in the core's queue
 abbrev pub StandsFirst : Situation → ℕ → ℕ → Type 0
 StandsFirst s core block = slice_get (queue_of s.queues core) 0 ≡ Some block

@@ -40,8 +40,8 @@ pub returns-clause-once : goal.returns-clause-once
 returns-clause-once c p shape steps outcomes new run = run_asked_once p shape steps outcomes new run
 
 pub returns-clause-lines : goal.returns-clause-lines
-returns-clause-lines c p shape steps outcomes new run core block request waits free =
-    subst (λ (x : Protocol). FollowsSenderTable x (picture_of new block) core request) (run_protocol steps outcomes (reset p shape) new run) (orders_follow_sender_table new (run_keeps steps outcomes (reset p shape) new (reset_coherent p shape) run) core block request waits free)
+returns-clause-lines c p shape steps outcomes new run core block request ready =
+    subst (λ (x : Protocol). FollowsSenderTable x (picture_of new block) core request) (run_protocol steps outcomes (reset p shape) new run) (orders_follow_sender_table new (run_keeps steps outcomes (reset p shape) new (reset_coherent p shape) run) core block request ready)
 
 pub returns-clause-by_table : goal.returns-clause-by_table
 returns-clause-by_table c p shape steps outcomes new run = moves_are_by_table new (run_keeps steps outcomes (reset p shape) new (reset_coherent p shape) run)

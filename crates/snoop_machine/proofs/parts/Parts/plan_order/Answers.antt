@@ -61,14 +61,14 @@ message-message-requires-clause-rows c =
     let request = c.in-Some.request in
     let Q : Picture → Type 0 = λ p. (k : ℕ) → k < length p.caches → HasRow c.self.inside.protocol (held_by p k).state (seen_by k c.args.core request) in
     subst Q (sym (picture d)) (λ k inside. rw (protocol d)
-    ((finds_rows s c.requires.coherent (Order c.args.core)).cache k c.in-Some.block (Some (seen_by k c.args.core request)) (request, (c.in-Some.ensures.some.waits, free_here d, refl))))
+    ((finds_rows s c.requires.coherent (Order c.args.core)).cache k c.in-Some.block (Some (seen_by k c.args.core request)) (request, ((c.in-Some.ensures.some.waits, free_here d), refl))))
 
 pub message-message-requires-clause-line : goal.message-message-requires-clause-line
 message-message-requires-clause-line c =
     let d = (goal.at.message-message-requires-clause-line c).In-Some-mem_cell in
     let Q : Picture → Type 0 = λ p. FollowsSenderTable c.self.inside.protocol p c.args.core c.in-Some.request in
     subst Q (sym (picture d))
-    (rw (protocol d) (orders_follow_sender_table c.args.self.now.situation c.requires.coherent c.args.core c.in-Some.block c.in-Some.request c.in-Some.ensures.some.waits (free_here d)))
+    (rw (protocol d) (orders_follow_sender_table c.args.self.now.situation c.requires.coherent c.args.core c.in-Some.block c.in-Some.request (c.in-Some.ensures.some.waits, free_here d)))
 
 pub returns-clause-found : goal.returns-clause-found
 returns-clause-found c =
@@ -105,5 +105,5 @@ unreachable-requires c =
     let Q : MemLine → Type 0 = λ x. IsMemImpossible m.protocol x.state (at_memory request) in
     let R : Standing → Type 0 = λ x. IsMemImpossible x.situation.protocol (picture_of x.situation block).memory (at_memory request) in
     let none : IsMemImpossible s.protocol (picture_of s block).memory (at_memory request) = subst R c.self.view_is (subst Q held (subst P c.event_at_memory.ensures c.in_default-mem_cell.ensures.impossible)) in
-    let line = orders_follow_sender_table s c.requires.coherent c.args.core block request head.waits free in
+    let line = orders_follow_sender_table s c.requires.coherent c.args.core block request (head.waits, free) in
     none line.ordered.0 line.next line.ordered.1

@@ -114,8 +114,7 @@ returns-clause-ordered c =
     } in
     let long = c.take_rows.ensures.taken.same_length in
     subst G is (record {
-      waits = subst W (sym is) c.requires.head.waits;
-      free = subst F (sym is) c.requires.free;
+      ready = (subst W (sym is) c.requires.head.waits, subst F (sym is) c.requires.free);
       from = message.from;
       payload = message.payload;
       sent = sent.only;
