@@ -1,15 +1,16 @@
 -- What holds between the maps and the holders, after one map has changed.
-use Rattle.std.proofs.Common.{◌≡◌, ℕ, ◌<◌, false, List, length, sym, ◌∙◌, ap, subst, inl, inr}
+use Rattle.std.proofs.Common.{◌≡◌, ℕ, ◌<◌, false, List, length, refl, sym, ◌∙◌, ap, subst, inl, inr}
 use Rattle.std.specs.Prelude.{slice_index_or, slice_set, nat_eq}
 use Rattle.std.proofs.lemmas.Bool.{cases_eq, ne_eqb}
-use Rattle.std.proofs.lemmas.List.{length-set, get_or-set_same, get_or-set_other}
+use Rattle.std.proofs.lemmas.List.{length-set, set-get_or, get_or-set_same, get_or-set_other}
 use Rattle.snoop_model.specs.declared.line.Line.{Line}
-use Rattle.snoop_model.specs.Pictures.Sound.{IsProper}
+use Rattle.snoop_model.specs.Pictures.Sound.{IsProper, keeps}
+use Rattle.snoop_model.specs.Invariant.Fits.{is_owner}
 use Rattle.snoop_machine.specs.declared.holders.Holders.{Holders}
 use Rattle.snoop_machine.specs.Holders.{AreHolders, HaveMoved}
 use Rattle.snoop_machine.specs.Cache.{Contents, no_cache, line_in, row_in}
 use Rattle.snoop_machine.specs.Lines.{AreLines, no_holders}
-use Rattle.snoop_machine.proofs.MapRows.{row-same, row-set, length-row, AreHolders-moved}
+use Rattle.snoop_machine.proofs.MapRows.{line-row, row-same, row-set, length-row, AreHolders-moved}
 
 module _ (caches : List Contents) (holders : List Holders) (lines : AreLines caches holders) (core : ℕ) (new : Contents) (within : core < length caches) where
   few_after : length (slice_set caches core new) < 257
@@ -60,3 +61,21 @@ module _ (caches : List Contents) (holders : List Holders) (lines : AreLines cac
               (subst (λ (row : List Line). AreHolders (slice_index_or holders b no_holders) row) (sym (row-same caches core b new (elsewhere b ne))) (lines.indexed b in_holders))
         ];
       }
+
+  -- the new map has another line of one block, in a state that stands in the same sets
+  pub AreLines-kept : (block : ℕ) (line : Line) → block < length holders → IsProper line → line_in new block ≡ line
+      → ((b : ℕ) → nat_eq block b ≡ false → line_in new b ≡ line_in (slice_index_or caches core no_cache) b)
+      → is_owner (line_in (slice_index_or caches core no_cache) block).state ≡ is_owner line.state
+      → keeps (line_in (slice_index_or caches core no_cache) block).state ≡ keeps line.state
+      → AreLines (slice_set caches core new) holders
+  AreLines-kept block line in_blocks proper wrote others owner reader =
+      let sets = lines.indexed block in_blocks in
+      let was = line-row caches core block in
+      subst (λ (l : List Holders). AreLines (slice_set caches core new) l) (set-get_or holders block no_holders)
+      (AreLines-set block line (slice_index_or holders block no_holders) in_blocks proper wrote others
+      (record {
+        owner = sets.owners core ∙ (ap (λ (x : Line). is_owner x.state) was ∙ owner);
+        reader = sets.readers core ∙ (ap (λ (x : Line). keeps x.state) was ∙ reader);
+        other_owners = λ k ne. refl;
+        other_readers = λ k ne. refl;
+      }))

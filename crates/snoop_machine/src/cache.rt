@@ -11,6 +11,7 @@ use snoop_rules::CacheState;
 use snoop_trace::NoMemory;
 use std::alloc::Global;
 use std::marker::Model;
+use std::mem::replace;
 
 /// The line of a block of which a cache holds nothing.
 const NOTHING: Line = Line {
@@ -96,19 +97,22 @@ impl Cache {
         self.lines.insert(block, NOTHING).unwrap();
     }
 
-    /// Writes the block's line. One in I is taken out.
-    pub(crate) fn set(&mut self, block: u32, line: Line)
+    /// Writes the block's line, and answers in which state it was. One in I is taken out.
+    pub(crate) fn set(&mut self, block: u32, line: Line) -> CacheState
         requires place { IsSome (lookup (nat_eq block) self.old.entries) }
         requires settled { line.state ≡ I → line ≡ nothing_held }
+        ensures before { result ≡ (line_in self.old block).state }
         ensures here { line_in self.new block ≡ line }
         ensures others { (b : ℕ) → nat_eq block b ≡ false → line_in self.new b ≡ line_in self.old b }
         ensures taken { line.state ≡ I → length self.new.entries + 1 ≡ length self.old.entries }
         ensures stays { ¬ (line.state ≡ I) → length self.new.entries ≡ length self.old.entries }
     {
         if matches!(&line.state, CacheState::I) {
-            self.lines.swap_remove(&block);
+            self.lines.swap_remove(&block).unwrap_or(NOTHING).state
         } else if let Some(place) = self.lines.get_mut(&block) {
-            *place = line;
+            replace(place, line).state
+        } else {
+            CacheState::I
         }
     }
 }

@@ -1,5 +1,5 @@
 //! The cores of a block that another's request concerns.
-ghost use Rattle.std.specs.Prelude.{◌≡◌, ◌≢◌, ℕ, ◌<◌, true, false};
+ghost use Rattle.std.specs.Prelude.{◌≡◌, ◌≢◌, ◌↔◌, ℕ, ◌<◌, true, false, IsTrue};
 ghost use Rattle.snoop_model.specs.Pictures.Sound.{keeps};
 ghost use Rattle.snoop_model.specs.Invariant.Fits.{is_owner};
 ghost use Rattle.snoop_machine.specs.CoreSet.{has};
@@ -52,6 +52,13 @@ impl Holders {
         concerned.set(requestor, true);
         concerned
     }
+}
+
+/// Whether cores in these states stand in the same sets.
+pub(crate) fn is_alike(one: CacheState, other: CacheState) -> bool
+    ensures { IsTrue result ↔ ((is_owner one ≡ is_owner other) × (keeps one ≡ keeps other)) }
+{
+    is_owner(one) == is_owner(other) && keeps(one) == keeps(other)
 }
 
 /// Whether a core in this state may write.

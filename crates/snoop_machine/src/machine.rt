@@ -1,6 +1,7 @@
 //! The machine, as its users have it.
-ghost use Rattle.std.specs.Prelude.{◌≡◌, ◌<◌, ◌↔◌, ◌++◌, ℕ, [], ◌∷◌, length, Option, is_some, IsTrue, IsOk, IfOk, IfErr, IfSome, Ok, Err, Some, option_to_list};
+ghost use Rattle.std.specs.Prelude.{◌≡◌, ◌<◌, ◌↔◌, ◌++◌, ℕ, [], ◌∷◌, length, Option, true, is_some, IsTrue, IsOk, IfOk, IfErr, IfSome, Ok, Err, Some, option_to_list};
 ghost use Rattle.snoop_trace.specs.declared.step.Step.{Step};
+ghost use Rattle.snoop_rules.specs.Waits.{waiting_request};
 ghost use Rattle.snoop_bus.specs.Queues.{queue_of};
 ghost use Rattle.snoop_history.specs.declared.items.Item.{Item};
 ghost use Rattle.snoop_history.specs.History.{flat};
@@ -166,6 +167,15 @@ impl Machine {
         ensures { IsTrue result ↔ (0 < length (queue_of self.now.situation.queues core)) }
     {
         self.parts.waiting(core)
+    }
+
+    /// Whether the core's request for the block waits to be ordered; false outside the shape.
+    pub fn waits_on(&self, core: u32, block: u32) -> bool
+        ensures inside { core < self.now.situation.shape.cores → block < self.now.situation.shape.blocks → result ≡ is_some (waiting_request (state_of self.now.situation core block)) }
+        ensures outside { result ≡ true → (core < self.now.situation.shape.cores) × (block < self.now.situation.shape.blocks) }
+    {
+        let shape = self.shape();
+        core < shape.cores() && block < shape.blocks() && self.parts.waits_on(core, block)
     }
 
     /// How many lines the core's map has, or `None` outside the shape: one for each block in which the core isn't in

@@ -1,6 +1,7 @@
 //! The parts of a machine, which its steps change one after another.
 ghost use Rattle.std.specs.Prelude.{◌≡◌, ◌<◌, ◌↔◌, ℕ, length, is_some, IsTrue, IfOk, IfSome, Some};
 ghost use Rattle.snoop_bus.specs.Queues.{queue_of};
+ghost use Rattle.snoop_rules.specs.Waits.{waiting_request};
 ghost use Rattle.snoop_model.specs.Pictures.Picture.{first_memory, held_by};
 ghost use Rattle.snoop_model.specs.Pictures.Situation.{picture_of, reset, state_of};
 ghost use Rattle.snoop_model.specs.Pictures.Sound.{IsProper, keeps, line_at};
@@ -14,6 +15,7 @@ mod respond;
 mod step;
 
 use crate::lines::Lines;
+use crate::turn::waits;
 use snoop_blocks::BlockTable;
 use snoop_bus::{Bus, Open};
 use snoop_history::{Did, Log};
@@ -146,6 +148,20 @@ impl Parts {
         ensures { IsTrue result ↔ (0 < length (queue_of self.now.situation.queues core)) }
     {
         self.bus.head(core).is_some()
+    }
+
+    /// Whether the core's request for the block waits to be ordered.
+    pub(crate) fn waits_on(&self, core: u32, block: u32) -> bool
+        requires core { core < self.now.situation.shape.cores }
+        requires block { block < self.now.situation.shape.blocks }
+        ensures { result ≡ is_some (waiting_request (state_of self.now.situation core block)) }
+    {
+        match self.head(core) {
+            // The queue alone shows it, but where another block's request stands first.
+            None => false,
+            Some((_, first)) if first == block => true,
+            Some(_) => waits(self.line(core, block).state),
+        }
     }
 
     /// How many lines the core's map has, or `None` outside the shape.

@@ -24,7 +24,7 @@ use snoop_rules::{MemState, Request, mem_cell};
 
 impl Parts {
     /// The core's oldest request.
-    fn head(&self, core: u32) -> Option<(Request, u32)>
+    pub(super) fn head(&self, core: u32) -> Option<(Request, u32)>
         requires { core < self.now.situation.shape.cores }
         ensures some { IfSome result (λ head. IsHead self.now.situation core head.0 head.1) }
         ensures none { IfNone result (WaitsOnNone self.now.situation core) }
