@@ -27,6 +27,7 @@ use snoop_trace::{NoMemory, Step};
 
 impl Parts {
     /// Takes one step: finds all that it will do, makes the room, and does it. A refused step changes nothing.
+    #[inline(always)]
     pub(crate) fn step(&mut self, step: Step) -> Result<Reply, Refused>
         requires { IsCoherent self.old.situation }
         ensures taken { IfOk result (λ reply. (entry : Option Item) × FirstMove self.old.situation step reply self.new.situation entry) }
