@@ -55,7 +55,7 @@ impl Holders {
 }
 
 /// Whether cores in these states stand in the same sets.
-pub(crate) fn is_alike(one: CacheState, other: CacheState) -> bool
+pub(crate) fn are_alike(one: CacheState, other: CacheState) -> bool
     ensures { IsTrue result ↔ ((is_owner one ≡ is_owner other) × (keeps one ≡ keeps other)) }
 {
     is_owner(one) == is_owner(other) && keeps(one) == keeps(other)

@@ -15,7 +15,6 @@ mod respond;
 mod step;
 
 use crate::lines::Lines;
-use crate::turn::waits;
 use snoop_blocks::BlockTable;
 use snoop_bus::{Bus, Open};
 use snoop_history::{Did, Log};
@@ -157,7 +156,7 @@ impl Parts {
         ensures { result ≡ is_some (waiting_request (state_of self.now.situation core block)) }
     {
         match self.head(core) {
-            // The queue alone shows it, but where another block's request stands first.
+            // The queue alone shows it, unless another block's request stands first.
             None => false,
             Some((_, first)) if first == block => true,
             Some(_) => waits(self.line(core, block).state),
@@ -215,4 +214,19 @@ fn first_state(protocol: Protocol) -> MemState
         Protocol::Msi => MemState::IorS,
         Protocol::Mesi => MemState::I,
     }
+}
+
+/// A request waits in this state.
+fn waits(state: CacheState) -> bool
+    ensures { result ≡ is_some (waiting_request state) }
+{
+    matches!(
+        &state,
+        CacheState::IsAd
+            | CacheState::ImAd
+            | CacheState::SmAd
+            | CacheState::MiA
+            | CacheState::EiA
+            | CacheState::IiA
+    )
 }

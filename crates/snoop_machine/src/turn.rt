@@ -1,10 +1,8 @@
 //! The turn of a core that does one work at a time.
-ghost use Rattle.std.specs.Prelude.{◌≡◌, ◌<◌, is_some};
-ghost use Rattle.snoop_rules.specs.Waits.{waiting_request};
+ghost use Rattle.std.specs.Prelude.{◌≡◌, ◌<◌};
 ghost use Rattle.snoop_model.specs.Turns.Turn.{turn_of};
 
 use crate::machine::Machine;
-use snoop_rules::CacheState;
 use snoop_trace::{Op, Step};
 
 impl Machine {
@@ -32,19 +30,4 @@ impl Machine {
             None
         }
     }
-}
-
-/// A request waits in this state.
-pub(crate) fn waits(state: CacheState) -> bool
-    ensures { result ≡ is_some (waiting_request state) }
-{
-    matches!(
-        &state,
-        CacheState::IsAd
-            | CacheState::ImAd
-            | CacheState::SmAd
-            | CacheState::MiA
-            | CacheState::EiA
-            | CacheState::IiA
-    )
 }

@@ -52,6 +52,6 @@ pub record Gathers (old new : Option (List ℕ)) (chunk text : List ℕ) : Type 
   pub appends : Appends old new front
   pub whole : text ≡ front ++ chunk
 
--- of a writer of which no write had failed: one has failed since exactly where it is blamed
+-- where it is known that no write to the writer had failed: one has failed since exactly where the writer is blamed
 abbrev pub BlamesWriter : Option Bool → Option Bool → Type 0 → Type 0
 BlamesWriter old new blamed = old ≡ Some false → (blamed → new ≡ Some true) × (¬ blamed → new ≡ Some false)

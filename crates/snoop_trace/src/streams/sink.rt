@@ -1,9 +1,9 @@
 //! Writers that know whether they can fail, and how a text is written to them.
 //!
-//! A call that writes answers `Write` exactly where a write failed, and then tries none again. Two
-//! clauses say so: `blamed`, for a writer of which it is known whether a write has failed; and
-//! `never_blamed`, for a writer whose contract rules failure out. `std::io::Write` has no words for
-//! either, so `Sink` adds them.
+//! Two clauses say when a call that writes answers `Write`. `blamed`, for a writer of which it is
+//! known whether a write has failed: exactly where one did, and none is tried again.
+//! `never_blamed`, for a writer whose contract rules failure out: never. `std::io::Write` has no
+//! words for either, so `Sink` adds them.
 ghost use Rattle.std.specs.Prelude.{◌≡◌, ◌<◌, ◌≤◌, [], Bool, true, false, Option, Some, None, Err, IsOk, IsErr, IfOk, OnOk, OnErr, IfErr, length};
 ghost use Rattle.std.specs.Io.{WritesAtMost};
 ghost use Rattle.std.specs.Io.KnownBytes.{Appends, WriteAppends};

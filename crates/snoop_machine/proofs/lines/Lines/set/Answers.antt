@@ -92,18 +92,18 @@ invariant_of-self c =
     let d = (goal.at.invariant_of-self c).After-index_mut-cache in
     let was : c.set-before.result ≡ (line_in (slice_index_or c.self.inside.caches.items c.args.core no_cache) c.args.block).state =
     c.set-before.ensures.before ∙ ap (λ (cache : Contents). (line_in cache c.args.block).state) (read d) in
-    let alike = c.is_alike.ensures.0 c.if-is_alike.true in
+    let alike = c.are_alike.ensures.0 c.if-are_alike.true in
     AreLines-kept c.self.inside.caches.items c.self.inside.holders c.self.invariant c.args.core c.set-before.new.self (within d).1 c.args.block c.args.line (within d).0 c.requires.proper
     c.set-before.ensures.here (elsewhere (goal.at.invariant_of-self c).After-set-before) (sym (ap is_owner was) ∙ alike.0) (sym (ap keeps was) ∙ alike.1)
 
-pub returns-then-is_alike-clause-rows : goal.returns-then-is_alike-clause-rows
-returns-then-is_alike-clause-rows c = rows_wrote (goal.at.returns-then-is_alike-clause-rows c).After-set-before
+pub returns-then-are_alike-clause-rows : goal.returns-then-are_alike-clause-rows
+returns-then-are_alike-clause-rows c = rows_wrote (goal.at.returns-then-are_alike-clause-rows c).After-set-before
 
-pub returns-then-is_alike-clause-lines : goal.returns-then-is_alike-clause-lines
-returns-then-is_alike-clause-lines c = lines_gone (goal.at.returns-then-is_alike-clause-lines c).After-set-before
+pub returns-then-are_alike-clause-lines : goal.returns-then-are_alike-clause-lines
+returns-then-are_alike-clause-lines c = lines_gone (goal.at.returns-then-are_alike-clause-lines c).After-set-before
 
-pub returns-then-is_alike-clause-others : goal.returns-then-is_alike-clause-others
-returns-then-is_alike-clause-others c = others_kept (goal.at.returns-then-is_alike-clause-others c).After-set-before
+pub returns-then-are_alike-clause-others : goal.returns-then-are_alike-clause-others
+returns-then-are_alike-clause-others c = others_kept (goal.at.returns-then-are_alike-clause-others c).After-set-before
 
 pub invariant_of-self-2 : goal.invariant_of-self-2
 invariant_of-self-2 c =
