@@ -17,7 +17,7 @@ use Rattle.snoop_model.specs.declared.line.Line.{Line}
 use Rattle.snoop_model.specs.declared.replies.Reply.{Reply}
 use Rattle.snoop_model.specs.Pictures.Picture.{held_at, nothing_held}
 use Rattle.snoop_model.specs.Pictures.Situation.{Situation, picture_of, state_of}
-use Rattle.snoop_model.specs.Moves.Move.{FirstMove, ArrivesFor, Fills, Responds}
+use Rattle.snoop_model.specs.Moves.Move.{FirstMove, ArrivesFor, Responds}
 use Rattle.snoop_model.specs.Invariant.WellKept.{IsWellKept}
 use Rattle.snoop_model.specs.Turns.Turn.{turn_of, step_under_way}
 use Rattle.snoop_model.proofs.Tables.Rows.{fill-waits}
@@ -55,12 +55,12 @@ arrives : (q : Request) (closing : Open) (protocol : Protocol) (log : List Item)
 arrives PutM closing protocol log old new did within a = ap (λ (l : List Line). waiting_request (held_at l closing.core).state) a.0
 arrives GetS closing protocol log old new did within f =
     ap (λ (l : List Line). waiting_request (held_at l closing.core).state) f.held
-    ∙ (ap (λ (l : Line). waiting_request l.state) (get_or-set_same old closing.core (record { state = f.next; kept = Some f.after; waiting = None }) nothing_held within)
-    ∙ fill-waits protocol (held_at old closing.core).state f.event f.act f.next f.asking f.fill f.row)
+    ∙ (ap (λ (l : Line). waiting_request l.state) (get_or-set_same old closing.core f.line nothing_held within ∙ f.fills.held)
+    ∙ fill-waits protocol (held_at old closing.core).state f.fills.event f.fills.act f.fills.next f.asking f.fills.fill f.fills.row)
 arrives GetM closing protocol log old new did within f =
     ap (λ (l : List Line). waiting_request (held_at l closing.core).state) f.held
-    ∙ (ap (λ (l : Line). waiting_request l.state) (get_or-set_same old closing.core (record { state = f.next; kept = Some f.after; waiting = None }) nothing_held within)
-    ∙ fill-waits protocol (held_at old closing.core).state f.event f.act f.next f.asking f.fill f.row)
+    ∙ (ap (λ (l : Line). waiting_request l.state) (get_or-set_same old closing.core f.line nothing_held within ∙ f.fills.held)
+    ∙ fill-waits protocol (held_at old closing.core).state f.fills.event f.fills.act f.fills.next f.asking f.fills.fill f.fills.row)
 
 closed_at : (s t : Situation) (core block : ℕ) (asking : Op) (transaction closing : Open) (did : Option Did) → IsWellKept s → core < s.shape.cores → block < s.shape.blocks
     → waiting_request (state_of s core block) ≡ None → (picture_of s block).transaction ≡ Some transaction → transaction.core ≡ core → Responds s block closing did t → turn_of t core block asking true ≡ None

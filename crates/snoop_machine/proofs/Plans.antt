@@ -34,8 +34,7 @@ use Rattle.snoop_model.specs.Pictures.Picture.{held_at}
 use Rattle.snoop_model.specs.Pictures.Situation.{Situation, picture_of, state_of, Waits}
 use Rattle.snoop_model.specs.Pictures.Sound.{line_at}
 use Rattle.snoop_machine.specs.Asked.{TakesAsk, RefusesAsk}
-use Rattle.snoop_machine.specs.Arrive.{FillsLine}
-use Rattle.snoop_model.specs.Moves.Move.{Performs, Hits, Takes, Fills, ArrivesFor, MovesAsk, FirstMove, came_of, next_did}
+use Rattle.snoop_model.specs.Moves.Move.{Performs, Hits, Takes, Fills, FillsRequestor, ArrivesFor, MovesAsk, FirstMove, came_of, next_did}
 use Rattle.snoop_model.specs.Moves.OrderMove.{IsHead}
 use Rattle.snoop_model.specs.Moves.Refuses.{Refuses}
 use Rattle.snoop_model.specs.Moves.StepMove.{IsDenied, RefusedFor}
@@ -147,7 +146,7 @@ module _ (s : Situation) (core block : ℕ) (asking : Op) (answer : Reply) (new 
       let P : CacheAction → Type 0 = λ a. Takes a asks.next s.log core block asking (line_at s.caches core block) asks.held answer added in
       (subst P same asks.taken).2
 
-fills_of : (q : Request) (closing : Open) (p : Protocol) (log : List Item) (old new : List Line) (did : Option Did) → q ≢ PutM → ArrivesFor q closing p log old new did → Fills closing p log old new did
+fills_of : (q : Request) (closing : Open) (p : Protocol) (log : List Item) (old new : List Line) (did : Option Did) → q ≢ PutM → ArrivesFor q closing p log old new did → FillsRequestor closing p log old new did
 fills_of GetS closing p log old new did get fills = fills
 fills_of GetM closing p log old new did get fills = fills
 fills_of PutM closing p log old new did get fills = absurd (get refl)
@@ -157,12 +156,12 @@ none_of q closing p log old new did e arrives = let P : Request → Type 0 = λ 
 
 -- the requestor performs the operation that waits
 fills-adds : (closing : Open) (p : Protocol) (log : List Item) (old new : List Line) (did : Option Did) (filled : Filled)
-    → Fills closing p log old new did → FillsLine p (held_at old closing.core) closing.payload closing.value filled
+    → FillsRequestor closing p log old new did → Fills closing p (held_at old closing.core) filled.line filled.op filled.value
     → did ≡ Some (next_did log closing.core closing.block filled.op filled.value false)
 fills-adds closing p log old new did filled f t =
-    let same : f.asking ≡ filled.op = same_Some _ _ (sym f.waited ∙ t.waited) in
-    let P : Op → Type 0 = λ o. Performs o closing.value f.value f.after in
-    let its = performs-one filled.op closing.value closing.value f.value filled.value f.after t.after refl (subst P same f.performed) t.performed in
+    let same : f.asking ≡ filled.op = same_Some _ _ (sym f.fills.waited ∙ t.waited) in
+    let P : Op → Type 0 = λ o. Performs o closing.value f.value f.fills.after in
+    let its = performs-one filled.op closing.value closing.value f.value filled.value f.fills.after t.after refl (subst P same f.fills.performed) t.performed in
     f.logged ∙ (ap (λ (o : Op). let r : Option Did = Some (next_did log closing.core closing.block o f.value false) in r) same
     ∙ ap (λ (v : ℕ). let r : Option Did = Some (next_did log closing.core closing.block filled.op v false) in r) its)
 
@@ -193,7 +192,7 @@ plan-adds s (plan.Fill block closing memory filled) h answer new added m =
     let same : m.1.1.0 ≡ closing = same_Some _ _ (sym (subst P on responds.opened) ∙ h.1.opened) in
     let Q : Open → Type 0 = λ o. ArrivesFor o.request o s.protocol s.log (picture_of s m.0).caches responds.next.caches m.1.1.1.0 in
     let fills = fills_of closing.request closing s.protocol s.log (picture_of s m.0).caches responds.next.caches m.1.1.1.0 h.2 (subst Q same responds.requestor) in
-    let R : ℕ → Type 0 = λ b. Fills closing s.protocol s.log (picture_of s b).caches responds.next.caches m.1.1.1.0 in
+    let R : ℕ → Type 0 = λ b. FillsRequestor closing s.protocol s.log (picture_of s b).caches responds.next.caches m.1.1.1.0 in
     let did = fills-adds closing s.protocol s.log (picture_of s block).caches responds.next.caches m.1.1.1.0 filled (subst R on fills) h.3 in
     m.1.1.1.1.3 ∙ (ap (λ (o : Open). let r : Option Item = Some (item.Came (came_of o) m.1.1.1.0) in r) same
     ∙ ap (λ (d : Option Did). let r : Option Item = Some (item.Came (came_of closing) d) in r) did)

@@ -11,39 +11,25 @@ use Rattle.snoop_model.specs.declared.line.Line.{Line}
 use Rattle.snoop_model.specs.declared.memory.MemLine.{MemLine}
 use Rattle.snoop_machine.specs.declared.respond.Filled.{Filled}
 use Rattle.snoop_model.specs.Pictures.Picture.{Picture, held_at}
-use Rattle.snoop_model.specs.Moves.Move.{Fills, ArrivesFor, ArrivesAtMemory, next_did}
-use Rattle.snoop_machine.specs.Arrive.{FillsLine, ArrivesIn}
+use Rattle.snoop_model.specs.Moves.Move.{Fills, FillsRequestor, ArrivesFor, ArrivesAtMemory, next_did}
+use Rattle.snoop_machine.specs.Arrive.{ArrivesIn}
 
 pub Arrives-put : (closing : Open) (p : Protocol) (log : List Item) (caches : List Line) → closing.request ≡ PutM → ArrivesFor closing.request closing p log caches caches None
 Arrives-put closing p log caches put =
     let P : Request → Type 0 = λ q. ArrivesFor q closing p log caches caches None in
     subst P (sym put) (refl, refl)
 
-arrives_get : (q : Request) (closing : Open) (p : Protocol) (log : List Item) (old new : List Line) (did : Option Did) → q ≢ PutM → Fills closing p log old new did → ArrivesFor q closing p log old new did
+arrives_get : (q : Request) (closing : Open) (p : Protocol) (log : List Item) (old new : List Line) (did : Option Did) → q ≢ PutM → FillsRequestor closing p log old new did → ArrivesFor q closing p log old new did
 arrives_get GetS closing p log old new did get fills = fills
 arrives_get GetM closing p log old new did get fills = fills
 arrives_get PutM closing p log old new did get fills = absurd (get refl)
 
 pub Arrives-get : (closing : Open) (p : Protocol) (log : List Item) (caches : List Line) (filled : Filled) → closing.request ≢ PutM
-    → FillsLine p (held_at caches closing.core) closing.payload closing.value filled
+    → Fills closing p (held_at caches closing.core) filled.line filled.op filled.value
     → ArrivesFor closing.request closing p log caches (slice_set caches closing.core filled.line) (Some (next_did log closing.core closing.block filled.op filled.value false))
 Arrives-get closing p log caches filled get f =
     arrives_get closing.request closing p log caches (slice_set caches closing.core filled.line) (Some (next_did log closing.core closing.block filled.op filled.value false)) get
-    (record {
-      event = f.event;
-      act = f.act;
-      next = f.next;
-      asking = filled.op;
-      value = filled.value;
-      after = f.after;
-      arrives = f.arrives;
-      row = f.row;
-      waited = f.waited;
-      fill = f.fill;
-      performed = f.performed;
-      logged = refl;
-      held = ap (λ (x : Line). slice_set caches closing.core x) f.held;
-    })
+    (record { line = filled.line; asking = filled.op; value = filled.value; fills = f; held = refl; logged = refl })
 
 pub ArrivesAtMemory-in : (closing : Open) (p : Protocol) (old new : Picture) (m n : MemLine)
     → old.memory ≡ m.state → old.value ≡ m.value → new.memory ≡ n.state → new.value ≡ n.value

@@ -15,19 +15,6 @@ use Rattle.snoop_model.specs.declared.memory.MemLine.{MemLine}
 use Rattle.snoop_machine.specs.declared.respond.Filled.{Filled}
 use Rattle.snoop_model.specs.Moves.Move.{Performs, IsFillFor, Settles, written}
 
--- the data reaches the requestor's line, which performs its waiting operation with it
-pub record FillsLine (protocol : Protocol) (old : Line) (payload : Payload) (sent : ℕ) (filled : Filled) : Type 0 where
-  pub event : CacheEvent
-  pub act : CacheAction
-  pub next : CacheState
-  pub after : ℕ
-  pub arrives : arrival payload ≡ Some event
-  pub row : Cell protocol old.state event act next
-  pub waited : old.waiting ≡ Some filled.op
-  pub fill : IsFillFor act filled.op
-  pub performed : Performs filled.op sent filled.value after
-  pub held : filled.line ≡ record { state = next; kept = Some after; waiting = None }
-
 -- memory's line before and after a response
 pub record ArrivesIn (request : Request) (protocol : Protocol) (payload : Payload) (sent : ℕ) (old new : MemLine) : Type 0 where
   pub act : MemAction

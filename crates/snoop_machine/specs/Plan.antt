@@ -21,11 +21,11 @@ use Rattle.snoop_model.specs.Moves.Standing.{Standing, has_line}
 use Rattle.snoop_model.specs.Moves.Prepared.{room_to_issue}
 use Rattle.snoop_model.specs.Pictures.Situation.{Situation, picture_of, no_memory}
 use Rattle.snoop_model.specs.Pictures.Sound.{IsProper, line_at}
-use Rattle.snoop_model.specs.Moves.Move.{IsWithin, TakesMemRow, came_of, next_did}
+use Rattle.snoop_model.specs.Moves.Move.{Fills, IsWithin, TakesMemRow, came_of, next_did}
 use Rattle.snoop_machine.specs.Asked.{TakesAsk}
 use Rattle.snoop_model.specs.Pictures.Message.{IsMessage}
 use Rattle.snoop_model.specs.Moves.OrderMove.{IsHead}
-use Rattle.snoop_machine.specs.Arrive.{FillsLine, ArrivesIn}
+use Rattle.snoop_machine.specs.Arrive.{ArrivesIn}
 
 -- the step that a plan is for
 abbrev pub step_of : Plan → Step
@@ -55,7 +55,7 @@ IsPlan s (Order core request block message memory) = (core < s.shape.cores) × I
 IsPlan s (Writeback block closing memory) = (block < s.shape.blocks) × IsClosing s block closing memory × (closing.request ≡ PutM)
 IsPlan s (Fill block closing memory filled) =
     (block < s.shape.blocks) × IsClosing s block closing memory × (closing.request ≢ PutM)
-    × FillsLine s.protocol (line_at s.caches closing.core block) closing.payload closing.value filled
+    × Fills closing s.protocol (line_at s.caches closing.core block) filled.line filled.op filled.value
 
 -- a plan for this step
 abbrev pub IsPlanFor : Situation → Step → Plan → Type 0

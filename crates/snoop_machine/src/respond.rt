@@ -3,8 +3,10 @@ ghost use Rattle.std.specs.Prelude.{◌≡◌, IsSomeAnd, IsTrue};
 ghost use Rattle.snoop_rules.specs.Takers.{arrival, arrival_at_memory, takes_payload};
 ghost use Rattle.snoop_model.specs.Pictures.Sound.{IsProper};
 ghost use Rattle.snoop_model.specs.Moves.LookUps.{HasRow, HasMemRow};
-ghost use Rattle.snoop_machine.specs.Arrive.{FillsLine, ArrivesIn};
+ghost use Rattle.snoop_model.specs.Moves.Move.{Fills};
+ghost use Rattle.snoop_machine.specs.Arrive.{ArrivesIn};
 
+use snoop_bus::Open;
 use snoop_model::{Line, MemLine};
 use snoop_rules::{
     CacheAction, CacheEvent, MemAction, MemEvent, MemState, Payload, Protocol, Request, cache_cell,
@@ -20,13 +22,13 @@ pub struct Filled {
     pub value: u64,
 }
 
-/// What the requestor does with a payload.
-pub(crate) fn fill(protocol: Protocol, line: Line, payload: Payload, sent: u64) -> Filled
+/// What the response brings to its requestor's line.
+pub(crate) fn fill(protocol: Protocol, line: Line, closing: Open) -> Filled
     requires proper { IsProper line }
-    requires possible { IsSomeAnd (arrival payload) (HasRow protocol line.state) }
-    ensures { FillsLine protocol line payload sent result }
+    requires possible { IsSomeAnd (arrival closing.payload) (HasRow protocol line.state) }
+    ensures { Fills closing protocol line result.line result.op result.value }
 {
-    let event = match payload {
+    let event = match closing.payload {
         Payload::Data => CacheEvent::Data,
         Payload::DataE => CacheEvent::DataE,
         Payload::NoData | Payload::NoDataE => unreachable!(),
@@ -38,11 +40,11 @@ pub(crate) fn fill(protocol: Protocol, line: Line, payload: Payload, sent: u64) 
         (CacheAction::FillLoad, Some(Op::Load)) => Filled {
             line: Line {
                 state: cell.next,
-                kept: Some(sent),
+                kept: Some(closing.value),
                 waiting: None,
             },
             op: Op::Load,
-            value: sent,
+            value: closing.value,
         },
         (CacheAction::FillStore, Some(Op::Store(value))) => Filled {
             line: Line {

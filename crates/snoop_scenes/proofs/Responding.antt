@@ -26,7 +26,7 @@ use Rattle.snoop_model.specs.declared.replies.Reply.{Reply}
 use Rattle.snoop_model.specs.declared.replies.Reply.TheVariants as reply
 use Rattle.snoop_model.specs.Pictures.Picture.{Picture, held_at}
 use Rattle.snoop_model.specs.Pictures.Situation.{Situation, picture_of, with_picture}
-use Rattle.snoop_model.specs.Moves.Move.{next_did, IsFillFor, Fills, ArrivesFor, written, came_of}
+use Rattle.snoop_model.specs.Moves.Move.{next_did, IsFillFor, FillsRequestor, ArrivesFor, written, came_of}
 use Rattle.snoop_model.specs.Runs.Run.{GoesFirst}
 use Rattle.snoop_scenes.proofs.Deciding.{if_some}
 use Rattle.snoop_scenes.proofs.Rows.{RowAt, row_at, memory_row_at}
@@ -57,28 +57,32 @@ module _ (closing : Open) (protocol : Protocol) (log : List Item) (lines : List 
   abbrev pub did_after : Op → ℕ → Option Did
   did_after o value = Some (next_did log closing.core closing.block o value false)
 
-  pub fills : Fills closing protocol log lines (lines_after found.next done.after) (did_after asking done.value)
+  pub fills : FillsRequestor closing protocol log lines (lines_after found.next done.after) (did_after asking done.value)
   fills = record {
-    event = event;
-    act = found.act;
-    next = found.next;
+    line = filled_line found.next done.after;
     asking = asking;
     value = done.value;
-    after = done.after;
-    arrives = arrives;
-    row = found.row;
-    waited = waited;
-    fill = fill;
-    performed = done.performs;
-    logged = refl;
+    fills = record {
+      event = event;
+      act = found.act;
+      next = found.next;
+      after = done.after;
+      arrives = arrives;
+      row = found.row;
+      waited = waited;
+      fill = fill;
+      performed = done.performs;
+      held = refl;
+    };
     held = refl;
+    logged = refl;
   }
 
 -- the data reaches its requestor
 pub record Filled (closing : Open) (protocol : Protocol) (log : List Item) (lines : List Line) : Type 0 where
   pub new : List Line
   pub did : Option Did
-  pub fills : Fills closing protocol log lines new did
+  pub fills : FillsRequestor closing protocol log lines new did
 
 abbrev pub filled : (closing : Open) (protocol : Protocol) (log : List Item) (lines : List Line) → Option (Filled closing protocol log lines)
 filled closing protocol log lines =

@@ -6,8 +6,8 @@ ghost use Rattle.snoop_model.specs.Moves.Standing.{KeepsRoom};
 ghost use Rattle.snoop_machine.specs.Following.{LosesLines};
 ghost use Rattle.snoop_model.specs.Pictures.Situation.{picture_of, no_memory};
 ghost use Rattle.snoop_model.specs.Pictures.Sound.{line_at};
-ghost use Rattle.snoop_machine.specs.Arrive.{FillsLine, ArrivesIn};
-ghost use Rattle.snoop_model.specs.Moves.Move.{Responds, came_of};
+ghost use Rattle.snoop_machine.specs.Arrive.{ArrivesIn};
+ghost use Rattle.snoop_model.specs.Moves.Move.{Fills, Responds, came_of};
 ghost use Rattle.snoop_model.specs.Moves.StepMove.{IsDenied};
 ghost use Rattle.snoop_machine.specs.Plan.{IsPlanFor};
 ghost use Rattle.snoop_model.specs.Invariant.Coherent.{IsCoherent};
@@ -59,7 +59,7 @@ impl Parts {
             });
         }
         let line = self.line(closing.core, block);
-        let filled = fill(self.protocol, line, closing.payload, closing.value);
+        let filled = fill(self.protocol, line, closing);
         Ok(Plan::Fill {
             block,
             closing,
@@ -100,7 +100,7 @@ impl Parts {
         requires room { 0 < self.old.room }
         requires opened { (picture_of self.old.situation block).transaction ≡ Some closing }
         requires get { closing.request ≢ PutM }
-        requires filled { FillsLine self.old.situation.protocol (line_at self.old.situation.caches closing.core block) closing.payload closing.value filled }
+        requires filled { Fills closing self.old.situation.protocol (line_at self.old.situation.caches closing.core block) filled.line filled.op filled.value }
         requires memory { ArrivesIn closing.request self.old.situation.protocol closing.payload closing.value (slice_index_or self.old.situation.memory block no_memory) memory }
         ensures responded { Responds self.old.situation block closing (Some result) self.new.situation }
         ensures room { KeepsRoom self.old self.new }

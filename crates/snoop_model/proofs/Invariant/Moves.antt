@@ -23,7 +23,7 @@ use Rattle.snoop_model.specs.declared.line.Line.{Line}
 use Rattle.snoop_model.specs.declared.memory.MemLine.{MemLine}
 use Rattle.snoop_model.specs.Pictures.Picture.{Picture, held_by}
 use Rattle.snoop_model.specs.Pictures.Situation.{Situation, picture_of, with_picture}
-use Rattle.snoop_model.specs.Moves.Move.{Takes, Fills, ArrivesFor, Asks, Orders, Responds, IsWithin, MoveOn, queues_after, came_of}
+use Rattle.snoop_model.specs.Moves.Move.{Takes, FillsRequestor, ArrivesFor, Asks, Orders, Responds, IsWithin, MoveOn, queues_after, came_of}
 use Rattle.snoop_model.specs.Invariant.Good.{Good}
 use Rattle.snoop_model.specs.Invariant.Coherent.{IsCoherent}
 use Rattle.snoop_model.proofs.OneBlock.Steps as one
@@ -157,10 +157,10 @@ order_moves old core block q new g within o =
 -- what a Respond leaves and logs
 arrives_length : (q : Request) (closing : Open) (p : Protocol) (log : List Item) (old new : List Line) (did : Option Did) → ArrivesFor q closing p log old new did → length new ≡ length old
 arrives_length request.PutM closing p log old new did a = ap length a.0
-arrives_length request.GetS closing p log old new did a = ap length a.held ∙ length-set old closing.core (record { state = a.next; kept = Some a.after; waiting = None })
-arrives_length request.GetM closing p log old new did a = ap length a.held ∙ length-set old closing.core (record { state = a.next; kept = Some a.after; waiting = None })
+arrives_length request.GetS closing p log old new did a = ap length a.held ∙ length-set old closing.core a.line
+arrives_length request.GetM closing p log old new did a = ap length a.held ∙ length-set old closing.core a.line
 
-fills_on : (block : ℕ) (closing : Open) (p : Protocol) (log : List Item) (old new : List Line) (did : Option Did) → closing.block ≡ block → Fills closing p log old new did → IsOn block did
+fills_on : (block : ℕ) (closing : Open) (p : Protocol) (log : List Item) (old new : List Line) (did : Option Did) → closing.block ≡ block → FillsRequestor closing p log old new did → IsOn block did
 fills_on block closing p log old new did placed f = subst (IsOn block) (sym f.logged) placed
 
 arrives_on : (q : Request) (block : ℕ) (closing : Open) (p : Protocol) (log : List Item) (old new : List Line) (did : Option Did) → closing.block ≡ block → ArrivesFor q closing p log old new did → IsOn block did
@@ -168,7 +168,7 @@ arrives_on request.PutM block closing p log old new did placed a = subst (IsOn b
 arrives_on request.GetS block closing p log old new did placed a = fills_on block closing p log old new did placed a
 arrives_on request.GetM block closing p log old new did placed a = fills_on block closing p log old new did placed a
 
-fills_follow : (block : ℕ) (closing : Open) (p : Protocol) (log : List Item) (old new : List Line) (did : Option Did) → closing.block ≡ block → Fills closing p log old new did → IsLawful (flat log block) (made_of did) → FollowsIn log (Some (item.Came (came_of closing) did))
+fills_follow : (block : ℕ) (closing : Open) (p : Protocol) (log : List Item) (old new : List Line) (did : Option Did) → closing.block ≡ block → FillsRequestor closing p log old new did → IsLawful (flat log block) (made_of did) → FollowsIn log (Some (item.Came (came_of closing) did))
 fills_follow block closing p log old new did placed f lawful =
     let here : IsLawful (flat log closing.block) (made_of did) = subst (λ (b : ℕ). IsLawful (flat log b) (made_of did)) (sym placed) lawful in
     subst (λ (x : Option Did). FollowsIn log (Some (item.Came (came_of closing) x))) (sym f.logged) (next_lawful log closing.core closing.block f.asking f.value false (subst (λ (x : Option Did). IsLawful (flat log closing.block) (made_of x)) f.logged here))

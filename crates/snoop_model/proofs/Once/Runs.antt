@@ -26,7 +26,7 @@ use Rattle.snoop_model.specs.declared.replies.Reply.{Reply}
 use Rattle.snoop_model.specs.declared.replies.Refused.{Refused}
 use Rattle.snoop_model.specs.Pictures.Picture.{Picture, held_at, held_by, nothing_held}
 use Rattle.snoop_model.specs.Pictures.Situation.{Situation, picture_of, reset}
-use Rattle.snoop_model.specs.Moves.Move.{Takes, Fills, ArrivesFor, Asks, Orders, Responds, IsWithin, MoveOn, next_did, came_of}
+use Rattle.snoop_model.specs.Moves.Move.{Takes, FillsRequestor, ArrivesFor, Asks, Orders, Responds, IsWithin, MoveOn, next_did, came_of}
 use Rattle.snoop_model.specs.Runs.Run.{RunFrom, Run}
 use Rattle.snoop_model.specs.Runs.Once.{same_op, did_it, one_if, waits_for, tally, asks, taken, times_asked, OnceMore, Once}
 use Rattle.snoop_model.specs.Invariant.Coherent.{IsCoherent}
@@ -128,16 +128,15 @@ record ArrivesOnce (closing : Open) (b : ℕ) (wanted : Op) (old new : List Line
   cores : (k : ℕ) → k ≢ closing.core → waits_so wanted (held_at new k).waiting ≡ waits_so wanted (held_at old k).waiting
   by : IsBy closing.core b did
 
-fills_once : (closing : Open) (p : Protocol) (log : List Item) (b : ℕ) (wanted : Op) (old new : List Line) (did : Option Did) → closing.block ≡ b → closing.core < length old → Fills closing p log old new did → ArrivesOnce closing b wanted old new did
+fills_once : (closing : Open) (p : Protocol) (log : List Item) (b : ℕ) (wanted : Op) (old new : List Line) (did : Option Did) → closing.block ≡ b → closing.core < length old → FillsRequestor closing p log old new did → ArrivesOnce closing b wanted old new did
 fills_once closing p log b wanted old new did placed inside f =
-    let filled : Line = record { state = f.next; kept = Some f.after; waiting = None } in
-    let line : held_at new closing.core ≡ filled = ap (λ (l : List Line). held_at l closing.core) f.held ∙ get_or-set_same old closing.core filled nothing_held inside in
-    let x : waits_so wanted (held_at new closing.core).waiting ≡ 0 = ap (λ (l : Line). waits_so wanted l.waiting) line in
-    let y : waits_so wanted (held_at old closing.core).waiting ≡ one_if (same_op wanted f.asking) = ap (waits_so wanted) f.waited in
-    let z : did_so wanted did ≡ one_if (same_op wanted f.asking) = ap (did_so wanted) f.logged ∙ performed_so wanted f.asking closing.value f.value f.after (next_did log closing.core closing.block f.asking f.value false) f.performed refl refl in
+    let line : held_at new closing.core ≡ f.line = ap (λ (l : List Line). held_at l closing.core) f.held ∙ get_or-set_same old closing.core f.line nothing_held inside in
+    let x : waits_so wanted (held_at new closing.core).waiting ≡ 0 = ap (λ (l : Line). waits_so wanted l.waiting) (line ∙ f.fills.held) in
+    let y : waits_so wanted (held_at old closing.core).waiting ≡ one_if (same_op wanted f.asking) = ap (waits_so wanted) f.fills.waited in
+    let z : did_so wanted did ≡ one_if (same_op wanted f.asking) = ap (did_so wanted) f.logged ∙ performed_so wanted f.asking closing.value f.value f.fills.after (next_did log closing.core closing.block f.asking f.value false) f.fills.performed refl refl in
     record {
       here = omega arith;
-      cores = λ k apart. ap (λ (l : List Line). waits_so wanted (held_at l k).waiting) f.held ∙ ap (λ (l : Line). waits_so wanted l.waiting) (get_or-set_other old closing.core k filled nothing_held apart);
+      cores = λ k apart. ap (λ (l : List Line). waits_so wanted (held_at l k).waiting) f.held ∙ ap (λ (l : Line). waits_so wanted l.waiting) (get_or-set_other old closing.core k f.line nothing_held apart);
       by = subst (IsBy closing.core b) (sym f.logged) (refl, placed);
     }
 

@@ -33,7 +33,7 @@ use Rattle.snoop_model.specs.declared.replies.Reply.{Reply}
 use Rattle.snoop_model.specs.declared.line.Line.{Line}
 use Rattle.snoop_model.specs.Pictures.Picture.{Picture, held_at, held_by, nothing_held}
 use Rattle.snoop_model.specs.Pictures.Sends.{Sends}
-use Rattle.snoop_model.specs.Moves.Move.{Takes, TakesRow, Fills, IsFillFor, Performs, ArrivesFor, Orders, Responds, is_load, written}
+use Rattle.snoop_model.specs.Moves.Move.{Takes, TakesRow, FillsRequestor, IsFillFor, Performs, ArrivesFor, Orders, Responds, is_load, written}
 use Rattle.snoop_model.specs.Pictures.Situation.{Situation, picture_of}
 use Rattle.snoop_model.proofs.OneBlock.Steps as one
 use Rattle.snoop_model.proofs.OneBlock.Steps.{Done, Loaded, Stored, sent_by, sent_by_memory, row_of, mem_row_of}
@@ -163,15 +163,16 @@ fills_one action.FillStore (op.Store stored) next v value after old new made fil
     (stored, waits, held ∙ ap (λ (x : ℕ). record { state = next; kept = Some x; waiting = None }) did.1, is_made ∙ ap (λ (x : ℕ). Some (Stored x)) did.0)
 fills_one _ _ next v value after old new made fill did waits held is_made = absurd fill
 
-filled_one : (p : Protocol) (closing : Open) (log : List Item) (before next : Picture) (did : Option Did) → closing.core < length before.caches → Fills closing p log before.caches next.caches did
+filled_one : (p : Protocol) (closing : Open) (log : List Item) (before next : Picture) (did : Option Did) → closing.core < length before.caches → FillsRequestor closing p log before.caches next.caches did
     → one.RequestorTakes false p (length before.caches) before closing next (made_of did)
 filled_one p closing log before next did within f =
-    let here : held_by next closing.core ≡ record { state = f.next; kept = Some f.after; waiting = None } =
-    ap (λ (x : List Line). held_at x closing.core) f.held ∙ get_or-set_same before.caches closing.core (record { state = f.next; kept = Some f.after; waiting = None }) nothing_held within in (
-      record { action = f.act; next = f.next },
-      arrives_row p (held_by before closing.core).state (arrival closing.payload) f.event f.act f.next f.arrives f.row,
-      fills_one f.act f.asking f.next closing.value f.value f.after (held_by before closing.core) (held_by next closing.core) (made_of did) f.fill f.performed f.waited here (ap made_of f.logged),
-      λ d d_in apart. ap (λ (x : List Line). held_at x d) f.held ∙ get_or-set_other before.caches closing.core d (record { state = f.next; kept = Some f.after; waiting = None }) nothing_held apart,
+    let g = f.fills in
+    let here : held_by next closing.core ≡ record { state = g.next; kept = Some g.after; waiting = None } =
+    ap (λ (x : List Line). held_at x closing.core) f.held ∙ (get_or-set_same before.caches closing.core f.line nothing_held within ∙ g.held) in (
+      record { action = g.act; next = g.next },
+      arrives_row p (held_by before closing.core).state (arrival closing.payload) g.event g.act g.next g.arrives g.row,
+      fills_one g.act f.asking g.next closing.value f.value g.after (held_by before closing.core) (held_by next closing.core) (made_of did) g.fill g.performed g.waited here (ap made_of f.logged),
+      λ d d_in apart. ap (λ (x : List Line). held_at x d) f.held ∙ get_or-set_other before.caches closing.core d f.line nothing_held apart,
     )
 
 arrives_one : (q : Request) (p : Protocol) (closing : Open) (log : List Item) (before next : Picture) (did : Option Did) → closing.core < length before.caches → ArrivesFor q closing p log before.caches next.caches did

@@ -15,25 +15,22 @@ use Rattle.snoop_bus.specs.declared.transactions.Open.{Open}
 use Rattle.snoop_model.specs.declared.line.Line.{Line}
 use Rattle.snoop_model.specs.Pictures.Picture.{held_at, held_by, nothing_held}
 use Rattle.snoop_model.specs.Pictures.Situation.{Situation, picture_of, state_of}
-use Rattle.snoop_model.specs.Moves.Move.{Responds, Fills, ArrivesFor}
+use Rattle.snoop_model.specs.Moves.Move.{Responds, FillsRequestor, ArrivesFor}
 use Rattle.snoop_model.proofs.Tables.Rows.{fill-waits}
 use Rattle.snoop_model.specs.Invariant.WellKept.{IsWellKept, awaited_request}
 use Rattle.snoop_model.proofs.Tables.WaitingRows.{has_missed, awaited-filled, awaited-get}
 use Rattle.snoop_model.proofs.Lists.Writes.{set_cases}
 
 by_request : (q : Request) (closing : Open) (p : Protocol) (log : List Item) (old new : List Line) (did : Option Did)
-    → ArrivesFor q closing p log old new did → ((q ≡ PutM) × (new ≡ old)) ⊎ Fills closing p log old new did
+    → ArrivesFor q closing p log old new did → ((q ≡ PutM) × (new ≡ old)) ⊎ FillsRequestor closing p log old new did
 by_request PutM closing p log old new did h = inl (refl, h.0)
 by_request GetS closing p log old new did h = inr h
 by_request GetM closing p log old new did h = inr h
 
-module _ (closing : Open) (p : Protocol) (log : List Item) (old new : List Line) (did : Option Did) (fills : Fills closing p log old new did) where
-  abbrev filled : Line
-  filled = record { state = fills.next; kept = Some fills.after; waiting = None }
-
+module _ (closing : Open) (p : Protocol) (log : List Item) (old new : List Line) (did : Option Did) (fills : FillsRequestor closing p log old new did) where
   -- the requestor's line, or one that is as it was
-  filled_or_same : (k : ℕ) → ((k ≡ closing.core) × (held_at new k ≡ record { state = fills.next; kept = Some fills.after; waiting = None })) ⊎ (held_at new k ≡ held_at old k)
-  filled_or_same k = elim (set_cases old closing.core k (record { state = fills.next; kept = Some fills.after; waiting = None }) nothing_held) [
+  filled_or_same : (k : ℕ) → ((k ≡ closing.core) × (held_at new k ≡ fills.line)) ⊎ (held_at new k ≡ held_at old k)
+  filled_or_same k = elim (set_cases old closing.core k fills.line nothing_held) [
     | inl e ↦ inl (e.0, ap (λ l. held_at l k) fills.held ∙ e.1)
     | inr e ↦ inr (ap (λ l. held_at l k) fills.held ∙ e)
   ]
@@ -41,8 +38,8 @@ module _ (closing : Open) (p : Protocol) (log : List Item) (old new : List Line)
   fills_waits : (k : ℕ) → waiting_request (held_at new k).state ≡ waiting_request (held_at old k).state
   fills_waits k = elim (filled_or_same k) [
     | inl e ↦
-        ap (λ (x : Line). waiting_request x.state) e.1
-        ∙ (fill-waits p (held_at old closing.core).state fills.event fills.act fills.next fills.asking fills.fill fills.row ∙ ap (λ j. waiting_request (held_at old j).state) (sym e.0))
+        ap (λ (x : Line). waiting_request x.state) (e.1 ∙ fills.fills.held)
+        ∙ (fill-waits p (held_at old closing.core).state fills.fills.event fills.fills.act fills.fills.next fills.asking fills.fills.fill fills.fills.row ∙ ap (λ j. waiting_request (held_at old j).state) (sym e.0))
     | inr e ↦ ap (λ (x : Line). waiting_request x.state) e
   ]
 
@@ -51,25 +48,25 @@ module _ (closing : Open) (p : Protocol) (log : List Item) (old new : List Line)
   fills_awaits = elim (cases_lt closing.core (length old)) [
     | inl lt ↦
         ap (λ l. awaited_request (held_at l closing.core).state) fills.held
-        ∙ (ap (λ (x : Line). awaited_request x.state) (get_or-set_same old closing.core (record { state = fills.next; kept = Some fills.after; waiting = None }) nothing_held lt)
-        ∙ awaited-filled p (held_at old closing.core).state closing.payload fills.event fills.act fills.next fills.arrives fills.row)
+        ∙ (ap (λ (x : Line). awaited_request x.state) (get_or-set_same old closing.core fills.line nothing_held lt ∙ fills.fills.held)
+        ∙ awaited-filled p (held_at old closing.core).state closing.payload fills.fills.event fills.fills.act fills.fills.next fills.fills.arrives fills.fills.row)
     | inr ge ↦
-        (let long = length-set old closing.core (record { state = fills.next; kept = Some fills.after; waiting = None }) in
+        (let long = length-set old closing.core fills.line in
         let same : length new ≡ length old = ap length fills.held ∙ long in
         ap (λ (x : Line). awaited_request x.state) (get_or_past new closing.core nothing_held (omega arith)))
   ]
 
   fills_other : (k : ℕ) → (k ≡ closing.core → ⊥) → held_at new k ≡ held_at old k
-  fills_other k ne = ap (λ l. held_at l k) fills.held ∙ get_or-set_other old closing.core k (record { state = fills.next; kept = Some fills.after; waiting = None }) nothing_held ne
+  fills_other k ne = ap (λ l. held_at l k) fills.held ∙ get_or-set_other old closing.core k fills.line nothing_held ne
 
   fills_waiting : (k : ℕ) (asking : Op) → (held_at new k).waiting ≡ Some asking → held_at new k ≡ held_at old k
   fills_waiting k asking h = elim (filled_or_same k) [
-    | inl e ↦ (let clash : ◌≡◌ {A = Option Op} None (Some asking) = sym (ap (λ (x : Line). x.waiting) e.1) ∙ h in cc)
+    | inl e ↦ (let clash : ◌≡◌ {A = Option Op} None (Some asking) = sym (ap (λ (x : Line). x.waiting) (e.1 ∙ fills.fills.held)) ∙ h in cc)
     | inr e ↦ e
   ]
 
   fills_length : length new ≡ length old
-  fills_length = ap length fills.held ∙ length-set old closing.core (record { state = fills.next; kept = Some fills.after; waiting = None })
+  fills_length = ap length fills.held ∙ length-set old closing.core fills.line
 
 module _ (s t : Situation) (kept : IsWellKept s) (block : ℕ) (closing : Open) (did : Option Did) (has_block : block < s.shape.blocks) (responds : Responds s block closing did t) where
   in_caches : block < length s.caches
@@ -78,7 +75,7 @@ module _ (s t : Situation) (kept : IsWellKept s) (block : ℕ) (closing : Open) 
   in_transactions : block < length s.transactions
   in_transactions = let e = kept.shaped.transactions in omega arith
 
-  arrived : ((closing.request ≡ PutM) × (responds.next.caches ≡ (picture_of s block).caches)) ⊎ Fills closing s.protocol s.log (picture_of s block).caches responds.next.caches did
+  arrived : ((closing.request ≡ PutM) × (responds.next.caches ≡ (picture_of s block).caches)) ⊎ FillsRequestor closing s.protocol s.log (picture_of s block).caches responds.next.caches did
   arrived = by_request closing.request closing s.protocol s.log (picture_of s block).caches responds.next.caches did responds.requestor
 
   new_row : slice_index_or t.caches block [] ≡ responds.next.caches

@@ -26,7 +26,7 @@ use Rattle.snoop_model.specs.declared.replies.Reply.{Reply}
 use Rattle.snoop_model.specs.declared.replies.Refused.{Refused}
 use Rattle.snoop_model.specs.Pictures.Picture.{Picture, held_at, held_by, nothing_held}
 use Rattle.snoop_model.specs.Pictures.Situation.{Situation, picture_of, state_of, reset}
-use Rattle.snoop_model.specs.Moves.Move.{Takes, Fills, ArrivesFor, Asks, Orders, Responds, IsWithin, MoveOn, queues_after}
+use Rattle.snoop_model.specs.Moves.Move.{Takes, FillsRequestor, ArrivesFor, Asks, Orders, Responds, IsWithin, MoveOn, queues_after}
 use Rattle.snoop_model.specs.Runs.Run.{Goes, RunFrom}
 use Rattle.snoop_model.specs.Runs.Once.{one_if}
 use Rattle.snoop_model.specs.Pictures.InQueue.{IsInQueue}
@@ -171,16 +171,16 @@ order_queued old c b q new g k within o core block =
     queue ∙ (ap (λ (n : ℕ). cond (eqb core c) (cond (eqb b block) 0 n) n) was ∙ sym state)
 
 -- a response changes no wait
-fills_waits : (closing : Open) (p : Protocol) (log : List Item) (old new : List Line) (did : Option Did) → closing.core < length old → Fills closing p log old new did → (k : ℕ) → waits (held_at new k).state ≡ waits (held_at old k).state
+fills_waits : (closing : Open) (p : Protocol) (log : List Item) (old new : List Line) (did : Option Did) → closing.core < length old → FillsRequestor closing p log old new did → (k : ℕ) → waits (held_at new k).state ≡ waits (held_at old k).state
 fills_waits closing p log old new did inside f k =
-    let filled : Line = record { state = f.next; kept = Some f.after; waiting = None } in
-    let now : held_at new k ≡ held_at (slice_set old closing.core filled) k = ap (λ (l : List Line). held_at l k) f.held in
+    let now : held_at new k ≡ held_at (slice_set old closing.core f.line) k = ap (λ (l : List Line). held_at l k) f.held in
     elim (eqb_tells k closing.core) [
-      | inr h ↦ ap (λ (x : Line). waits x.state) (now ∙ get_or-set_other old closing.core k filled nothing_held h.1)
+      | inr h ↦ ap (λ (x : Line). waits x.state) (now ∙ get_or-set_other old closing.core k f.line nothing_held h.1)
       | inl h ↦
-          let P : ℕ → Type 0 = λ x. waits (held_at (slice_set old closing.core filled) x).state ≡ waits (held_at old x).state in
-          let here : waits (held_at (slice_set old closing.core filled) closing.core).state ≡ waits (held_at old closing.core).state =
-          ap (λ (x : Line). waits x.state) (get_or-set_same old closing.core filled nothing_held inside) ∙ same_waits f.next (held_at old closing.core).state (fill-waits p (held_at old closing.core).state f.event f.act f.next f.asking f.fill f.row) in
+          let P : ℕ → Type 0 = λ x. waits (held_at (slice_set old closing.core f.line) x).state ≡ waits (held_at old x).state in
+          let here : waits (held_at (slice_set old closing.core f.line) closing.core).state ≡ waits (held_at old closing.core).state =
+          ap (λ (x : Line). waits x.state) (get_or-set_same old closing.core f.line nothing_held inside ∙ f.fills.held)
+          ∙ same_waits f.fills.next (held_at old closing.core).state (fill-waits p (held_at old closing.core).state f.fills.event f.fills.act f.fills.next f.asking f.fills.fill f.fills.row) in
           ap (λ (x : Line). waits x.state) now ∙ subst P (sym h.1) here
     ]
 

@@ -37,7 +37,7 @@ use Rattle.snoop_model.specs.declared.replies.Refused.TheVariants.{NoCore, NoBlo
 use Rattle.snoop_model.specs.Pictures.Picture.{Picture, held_at, held_by, nothing_held}
 use Rattle.snoop_model.specs.Pictures.Situation.{Situation, picture_of, with_picture, state_of}
 use Rattle.snoop_model.specs.Pictures.Sends.{Sends, value_sent}
-use Rattle.snoop_model.specs.Moves.Move.{TakesRow, Takes, Hits, Fills, ArrivesFor, ArrivesAtMemory, Asks, Orders, Responds, IsAbsent, IsWithin, FirstMove, Performs, moves_to, next_did, queues_after, came_of, written}
+use Rattle.snoop_model.specs.Moves.Move.{TakesRow, Takes, Hits, FillsRequestor, ArrivesFor, ArrivesAtMemory, Asks, Orders, Responds, IsAbsent, IsWithin, FirstMove, Performs, moves_to, next_did, queues_after, came_of, written}
 use Rattle.snoop_model.specs.Moves.Refuses.{Refuses, IsStall, WaitsOnNone}
 use Rattle.snoop_model.specs.Runs.Run.{GoesFirst, FirstRunFrom}
 use Rattle.snoop_model.specs.Invariant.WellKept.{IsWellKept}
@@ -297,17 +297,19 @@ fill_ends o log old new new' did did' (op.Store stored) value value' after after
     (held ∙ (ap (λ (v : ℕ). slice_set old o.core (let x : Line = record { state = next; kept = Some v; waiting = None } in x)) (a.1 ∙ sym b.1) ∙ sym held'), logged ∙ (ap (λ (v : ℕ). let x : Option Did = Some (next_did log o.core o.block (op.Store stored) v false) in x) (a.0 ∙ sym b.0) ∙ sym logged'))
 fill_ends o log old new new' did did' op.Evict value value' after after' next a b logged logged' held held' = absurd a
 
-fills_one : (o : Open) (p : Protocol) (log : List Item) (old new new' : List Line) (did did' : Option Did) → Fills o p log old new did → Fills o p log old new' did' → (new ≡ new') × (did ≡ did')
+fills_one : (o : Open) (p : Protocol) (log : List Item) (old new new' : List Line) (did did' : Option Did) → FillsRequestor o p log old new did → FillsRequestor o p log old new' did' → (new ≡ new') × (did ≡ did')
 fills_one o p log old new new' did did' a b =
     let state : CacheState = (held_at old o.core).state in
-    let event : b.event ≡ a.event = same_some (sym b.arrives ∙ a.arrives) in
-    let row : Cell p state a.event b.act b.next = subst (λ (e : CacheEvent). Cell p state e b.act b.next) event b.row in
-    let next : b.next ≡ a.next = (Cell-one p state a.event b.act a.act b.next a.next row a.row).1 in
-    let asking : b.asking ≡ a.asking = same_some (sym b.waited ∙ a.waited) in
-    let performed : Performs a.asking o.value b.value b.after = subst (λ (x : Op). Performs x o.value b.value b.after) asking b.performed in
+    let f = a.fills in
+    let g = b.fills in
+    let event : g.event ≡ f.event = same_some (sym g.arrives ∙ f.arrives) in
+    let row : Cell p state f.event g.act g.next = subst (λ (e : CacheEvent). Cell p state e g.act g.next) event g.row in
+    let next : g.next ≡ f.next = (Cell-one p state f.event g.act f.act g.next f.next row f.row).1 in
+    let asking : b.asking ≡ a.asking = same_some (sym g.waited ∙ f.waited) in
+    let performed : Performs a.asking o.value b.value g.after = subst (λ (x : Op). Performs x o.value b.value g.after) asking g.performed in
     let logged : did' ≡ Some (next_did log o.core o.block a.asking b.value false) = b.logged ∙ ap (λ (x : Op). let d : Option Did = Some (next_did log o.core o.block x b.value false) in d) asking in
-    let held : new' ≡ slice_set old o.core (record { state = a.next; kept = Some b.after; waiting = None }) = b.held ∙ ap (λ (x : CacheState). slice_set old o.core (let l : Line = record { state = x; kept = Some b.after; waiting = None } in l)) next in
-    fill_ends o log old new new' did did' a.asking a.value b.value a.after b.after a.next a.performed performed a.logged logged a.held held
+    let held : b.line ≡ record { state = f.next; kept = Some g.after; waiting = None } = g.held ∙ ap (λ (x : CacheState). let l : Line = record { state = x; kept = Some g.after; waiting = None } in l) next in
+    fill_ends o log old new new' did did' a.asking a.value b.value f.after g.after f.next f.performed performed a.logged logged (a.held ∙ ap (slice_set old o.core) f.held) (b.held ∙ ap (slice_set old o.core) held)
 
 arrives_one : (q : Request) (o : Open) (p : Protocol) (log : List Item) (old new new' : List Line) (did did' : Option Did) → ArrivesFor q o p log old new did → ArrivesFor q o p log old new' did' → (new ≡ new') × (did ≡ did')
 arrives_one request.PutM o p log old new new' did did' a b = (a.0 ∙ sym b.0, a.1 ∙ sym b.1)

@@ -42,7 +42,7 @@ use Rattle.snoop_model.specs.Pictures.Situation.{Situation, picture_of, with_pic
 use Rattle.snoop_model.specs.Pictures.Sends.{value_sent}
 use Rattle.snoop_model.specs.Pictures.Sound.{keeps, request_for, missed_request, IsProper}
 use Rattle.snoop_model.specs.Moves.Move as Move
-use Rattle.snoop_model.specs.Moves.Move.{TakesRow, ArrivesFor, ArrivesAtMemory, FirstMove, IsWithin, came_of, moves_to, hit_reply, kept_waiting, next_did, queues_after, written}
+use Rattle.snoop_model.specs.Moves.Move.{TakesRow, FillsRequestor, ArrivesFor, ArrivesAtMemory, FirstMove, IsWithin, came_of, moves_to, hit_reply, kept_waiting, next_did, queues_after, written}
 use Rattle.snoop_model.specs.Runs.Run.{GoesFirst, FirstRunFrom}
 use Rattle.snoop_model.specs.Invariant.WellKept.{IsWellKept}
 use Rattle.snoop_model.specs.Turns.TurnRule.{KeepsWell}
@@ -335,26 +335,19 @@ Brings p log old o q = (new : List Line) × ((did : Option Did) × ArrivesFor q 
 
 module _ (p : Protocol) (log : List Item) (old : List Line) (o : Open) where
   fill : (e : CacheEvent) → arrival o.payload ≡ Some e → (act : CacheAction) (next : CacheState) → Cell p (held_at old o.core).state e act next → fills act (held_at old o.core).state ≡ true → IsProper (held_at old o.core)
-      → (new : List Line) × ((did : Option Did) × Move.Fills o p log old new did)
+      → (new : List Line) × ((did : Option Did) × FillsRequestor o p log old new did)
   fill e arrives action.FillLoad next row fits proper =
       let did : Did = next_did log o.core o.block op.Load o.value false in (
         slice_set old o.core (record { state = next; kept = Some o.value; waiting = None }),
         (
           Some did,
           record {
-            event = e;
-            act = action.FillLoad;
-            next = next;
+            line = record { state = next; kept = Some o.value; waiting = None };
             asking = op.Load;
             value = o.value;
-            after = o.value;
-            arrives = arrives;
-            row = row;
-            waited = load_waits _ (proper.waiting ∙ same_request-true _ _ fits);
-            fill = tt;
-            performed = (refl, refl);
-            logged = refl;
+            fills = record { event = e; act = action.FillLoad; next = next; after = o.value; arrives = arrives; row = row; waited = load_waits _ (proper.waiting ∙ same_request-true _ _ fits); fill = tt; performed = (refl, refl); held = refl };
             held = refl;
+            logged = refl;
           },
         ),
       )
@@ -365,19 +358,12 @@ module _ (p : Protocol) (log : List Item) (old : List Line) (o : Open) where
         (
           Some did,
           record {
-            event = e;
-            act = action.FillStore;
-            next = next;
+            line = record { state = next; kept = Some waits.0; waiting = None };
             asking = op.Store waits.0;
             value = waits.0;
-            after = waits.0;
-            arrives = arrives;
-            row = row;
-            waited = waits.1;
-            fill = tt;
-            performed = (refl, refl);
-            logged = refl;
+            fills = record { event = e; act = action.FillStore; next = next; after = waits.0; arrives = arrives; row = row; waited = waits.1; fill = tt; performed = (refl, refl); held = refl };
             held = refl;
+            logged = refl;
           },
         ),
       )
@@ -389,7 +375,7 @@ module _ (p : Protocol) (log : List Item) (old : List Line) (o : Open) where
   fill e arrives (action.Send payload target) next row fits proper = cc
 
   fill_found : (found : Option CacheEvent) → arrival o.payload ≡ found → (row : CacheCell) → row_of p (held_at old o.core).state found ≡ Some row → IsProper (held_at old o.core)
-      → (new : List Line) × ((did : Option Did) × Move.Fills o p log old new did)
+      → (new : List Line) × ((did : Option Did) × FillsRequestor o p log old new did)
   fill_found None arrives row is proper = cc
   fill_found (Some e) arrives row is proper =
       let cell = Cell-found p (held_at old o.core).state e row is in

@@ -92,27 +92,33 @@ IsFillFor action.FillLoad op.Load = ⊤
 IsFillFor action.FillStore (op.Store stored) = ⊤
 IsFillFor _ _ = ⊥
 
--- the data reaches its requestor, which performs its waiting operation with it
-pub record Fills (closing : Open) (protocol : Protocol) (log : List Item) (old new : List Line) (did : Option Did) : Type 0 where
+-- the data fills its requestor's line, which performs its waiting operation with it
+pub record Fills (closing : Open) (protocol : Protocol) (old new : Line) (asking : Op) (value : ℕ) : Type 0 where
   pub event : CacheEvent
   pub act : CacheAction
   pub next : CacheState
-  pub asking : Op
-  pub value : ℕ
   pub after : ℕ
   pub arrives : arrival closing.payload ≡ Some event
-  pub row : Cell protocol (held_at old closing.core).state event act next
-  pub waited : (held_at old closing.core).waiting ≡ Some asking
+  pub row : Cell protocol old.state event act next
+  pub waited : old.waiting ≡ Some asking
   pub fill : IsFillFor act asking
   pub performed : Performs asking closing.value value after
+  pub held : new ≡ record { state = next; kept = Some after; waiting = None }
+
+-- the data reaches its requestor, and what that performs is logged
+pub record FillsRequestor (closing : Open) (protocol : Protocol) (log : List Item) (old new : List Line) (did : Option Did) : Type 0 where
+  pub line : Line
+  pub asking : Op
+  pub value : ℕ
+  pub fills : Fills closing protocol (held_at old closing.core) line asking value
+  pub held : new ≡ slice_set old closing.core line
   pub logged : did ≡ Some (next_did log closing.core closing.block asking value false)
-  pub held : new ≡ slice_set old closing.core (record { state = next; kept = Some after; waiting = None })
 
 -- what a response brings to the caches: nothing at a PutM
 abbrev pub ArrivesFor : Request → Open → Protocol → List Item → List Line → List Line → Option Did → Type 0
 ArrivesFor PutM closing protocol log old new did = (new ≡ old) × (did ≡ None)
-ArrivesFor GetS closing protocol log old new did = Fills closing protocol log old new did
-ArrivesFor GetM closing protocol log old new did = Fills closing protocol log old new did
+ArrivesFor GetS closing protocol log old new did = FillsRequestor closing protocol log old new did
+ArrivesFor GetM closing protocol log old new did = FillsRequestor closing protocol log old new did
 
 -- memory's value after an action: a write takes the data's value
 abbrev pub written : MemAction → ℕ → ℕ → ℕ

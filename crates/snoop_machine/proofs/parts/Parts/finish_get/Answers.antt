@@ -14,8 +14,8 @@ use Rattle.snoop_model.specs.Moves.Standing.{Standing}
 use Rattle.snoop_model.specs.Pictures.Situation.{Situation, picture_of, with_picture, no_memory}
 use Rattle.snoop_model.specs.Pictures.Sound.{IsSound, IsProper, line_at}
 use Rattle.snoop_machine.specs.PartsView.{queues_of}
-use Rattle.snoop_machine.specs.Arrive.{FillsLine, ArrivesIn}
-use Rattle.snoop_model.specs.Moves.Move.{ArrivesFor, Responds, came_of, next_did}
+use Rattle.snoop_machine.specs.Arrive.{ArrivesIn}
+use Rattle.snoop_model.specs.Moves.Move.{Fills, ArrivesFor, Responds, came_of, next_did}
 use Rattle.snoop_model.proofs.Lines.EachRow.{row_of}
 use Rattle.snoop_model.proofs.Lines.OneLine.{placed}
 use Rattle.snoop_machine.proofs.LineWrites.{IsSound-line}
@@ -34,8 +34,8 @@ invariant_of-self c =
     let filled = c.args.filled in
     let P : Standing → Type 0 = λ x. core < x.situation.shape.cores in
     let Q : Standing → Type 0 = λ x. block < x.situation.shape.blocks in
-    let T : Standing → Type 0 = λ x. FillsLine x.situation.protocol (line_at x.situation.caches core block) c.args.closing.payload c.args.closing.value filled in
-    let f : FillsLine m.protocol (line_at m.lines.rows core block) c.args.closing.payload c.args.closing.value filled = subst T (sym c.self.view_is) c.requires.filled in
+    let T : Standing → Type 0 = λ x. Fills c.args.closing x.situation.protocol (line_at x.situation.caches core block) filled.line filled.op filled.value in
+    let f : Fills c.args.closing m.protocol (line_at m.lines.rows core block) filled.line filled.op filled.value = subst T (sym c.self.view_is) c.requires.filled in
     let I : Line → Type 0 = λ x. IsProper x in
     let proper : IsProper filled.line = subst I (sym f.held) (IsProper-fill m.protocol (line_at m.lines.rows core block).state f.event f.act f.next filled.op f.after f.fill f.row) in
     let same : waiting_request filled.line.state ≡ waiting_request (line_at m.lines.rows core block).state =
@@ -73,7 +73,7 @@ returns-clause-responded c =
     let G : Situation → Type 0 = λ x. Responds x block closing (Some did) new in
     let F : Situation → Type 0 = λ x. (picture_of x block).transaction ≡ Some closing in
     let N : Situation → Type 0 = λ x. ArrivesIn closing.request x.protocol closing.payload closing.value (slice_index_or x.memory block no_memory) c.args.memory in
-    let T : Situation → Type 0 = λ x. FillsLine x.protocol (line_at x.caches core block) closing.payload closing.value filled in
+    let T : Situation → Type 0 = λ x. Fills closing x.protocol (line_at x.caches core block) filled.line filled.op filled.value in
     let next : Picture = record { caches = slice_set (row_of m.lines.rows block) core filled.line; memory = c.args.memory.state; value = c.args.memory.value; transaction = None } in
     let A : Did → Type 0 = λ d. ArrivesFor closing.request closing m.protocol m.log.items (row_of m.lines.rows block) (slice_set (row_of m.lines.rows block) core filled.line) (Some d) in
     subst G is (record {
@@ -91,9 +91,9 @@ returns-clause-responded c =
 pub set-requires-clause-proper : goal.set-requires-clause-proper
 set-requires-clause-proper c =
     let I : Line → Type 0 = λ x. IsProper x in
-    let S : Standing → Type 0 = λ x. FillsLine x.situation.protocol (line_at x.situation.caches c.args.closing.core c.args.block) c.args.closing.payload c.args.closing.value c.args.filled in
+    let S : Standing → Type 0 = λ x. Fills c.args.closing x.situation.protocol (line_at x.situation.caches c.args.closing.core c.args.block) c.args.filled.line c.args.filled.op c.args.filled.value in
     let m = c.self.inside in
-    let its : FillsLine m.protocol (line_at m.lines.rows c.args.closing.core c.args.block) c.args.closing.payload c.args.closing.value c.args.filled = subst S (sym c.self.view_is) c.requires.filled in
+    let its : Fills c.args.closing m.protocol (line_at m.lines.rows c.args.closing.core c.args.block) c.args.filled.line c.args.filled.op c.args.filled.value = subst S (sym c.self.view_is) c.requires.filled in
     subst I (sym its.held) (IsProper-fill m.protocol (line_at m.lines.rows c.args.closing.core c.args.block).state its.event its.act its.next c.args.filled.op its.after its.fill its.row)
 
 pub returns-clause-lines : goal.returns-clause-lines
