@@ -34,7 +34,7 @@ use Rattle.snoop_model.specs.Pictures.Picture.{held_at}
 use Rattle.snoop_model.specs.Pictures.Situation.{Situation, picture_of, state_of, Waits}
 use Rattle.snoop_model.specs.Pictures.Sound.{line_at}
 use Rattle.snoop_machine.specs.Asked.{TakesAsk, RefusesAsk}
-use Rattle.snoop_model.specs.Moves.Move.{Performs, Hits, Takes, Fills, FillsRequestor, ArrivesFor, MovesAsk, FirstMove, came_of, next_did}
+use Rattle.snoop_model.specs.Moves.Move.{Performs, Takes, Fills, FillsRequestor, ArrivesFor, MovesAsk, FirstMove, came_of, next_did}
 use Rattle.snoop_model.specs.Moves.OrderMove.{IsHead}
 use Rattle.snoop_model.specs.Moves.Refuses.{Refuses}
 use Rattle.snoop_model.specs.Moves.StepMove.{IsDenied, RefusedFor}
@@ -53,7 +53,7 @@ act_of (Drop line) = action.Drop
 row_found : (p : Protocol) (line : Line) (asking : Op) (way : Asked) → TakesAsk p line asking way
     → ((asking ≡ op.Evict) × (line.state ≡ I) × (way ≡ Absent)) ⊎ ((next : CacheState) × (Cell p line.state (asked asking) (act_of way) next × (act_of way ≢ action.Stall)))
 row_found p line asking Absent t = inl (t.0, t.1, refl)
-row_found p line asking (Hit new value) t = inr (t.next, (t.row, λ e. cc))
+row_found p line asking (Hit new value) t = inr (t.0, (t.1.0, λ e. cc))
 row_found p line asking (Issue request new) t = inr (t.0, (t.1.0, λ e. cc))
 row_found p line asking (Drop new) t = inr (t.0, (t.1.0, λ e. cc))
 
@@ -128,13 +128,13 @@ module _ (s : Situation) (core block : ℕ) (asking : Op) (answer : Reply) (new 
   ask-adds : (way : Asked) → TakesAsk s.protocol (line_at s.caches core block) asking way → MovesAsk s core block asking answer new added → added ≡ entry_of_ask s.log core block asking way
   ask-adds Absent t (inl absent) = absent.4
   ask-adds Absent t (inr asks) = absurd (no_row s.protocol (state_of s core block) asking asks.act asks.next t.0 t.1 asks.row)
-  ask-adds (Hit line value) t (inl absent) = absurd (no_row s.protocol (state_of s core block) asking action.Hit t.next absent.0 absent.1 t.row)
+  ask-adds (Hit line value) t (inl absent) = absurd (no_row s.protocol (state_of s core block) asking action.Hit t.0 absent.0 absent.1 t.1.0)
   ask-adds (Hit line value) t (inr asks) =
-      let same = (Cell-one s.protocol (state_of s core block) (asked asking) asks.act action.Hit asks.next t.next asks.row t.row).0 in
+      let same = (Cell-one s.protocol (state_of s core block) (asked asking) asks.act action.Hit asks.next t.0 asks.row t.1.0).0 in
       let P : CacheAction → Type 0 = λ a. Takes a asks.next s.log core block asking (line_at s.caches core block) asks.held answer added in
-      let h : Hits asks.next s.log core block asking (line_at s.caches core block) asks.held answer added = subst P same asks.taken in
-      let its = performs-one asking h.before t.before h.value value h.after t.after (same_Some _ _ (sym h.kept ∙ t.kept)) h.performed t.performed in
-      h.logged ∙ ap (λ (x : ℕ). let r : Option Item = Some (item.Did (next_did s.log core block asking x true)) in r) its
+      let h : Takes action.Hit asks.next s.log core block asking (line_at s.caches core block) asks.held answer added = subst P same asks.taken in
+      let its = performs-one asking h.1.0.before t.1.1.before h.0 value h.1.0.after t.1.1.after (same_Some _ _ (sym h.1.0.kept ∙ t.1.1.kept)) h.1.0.performed t.1.1.performed in
+      h.1.2 ∙ ap (λ (x : ℕ). let r : Option Item = Some (item.Did (next_did s.log core block asking x true)) in r) its
   ask-adds (Issue request line) t (inl absent) = absurd (no_row s.protocol (state_of s core block) asking (action.Issue request) t.0 absent.0 absent.1 t.1.0)
   ask-adds (Issue request line) t (inr asks) =
       let same = (Cell-one s.protocol (state_of s core block) (asked asking) asks.act (action.Issue request) asks.next t.0 asks.row t.1.0).0 in

@@ -1,6 +1,6 @@
 -- What an Ask does to one line.
 -- Source: this project's profile.
-use Rattle.std.specs.Prelude.{◌≡◌, ℕ, Some}
+use Rattle.std.specs.Prelude.{◌≡◌}
 use Rattle.snoop_trace.specs.declared.step.Op.{Op}
 use Rattle.snoop_trace.specs.declared.step.Op.TheVariants as op
 use Rattle.snoop_rules.specs.declared.names.Protocol.{Protocol}
@@ -14,25 +14,14 @@ use Rattle.snoop_machine.specs.declared.ask.Asked.{Asked}
 use Rattle.snoop_machine.specs.declared.ask.Asked.TheVariants.{Absent, Hit, Issue, Drop}
 use Rattle.snoop_model.specs.declared.replies.Refused.{Refused}
 use Rattle.snoop_model.specs.declared.replies.Refused.TheVariants.{Stalled}
-use Rattle.snoop_model.specs.Pictures.Picture.{kept_on}
-use Rattle.snoop_model.specs.Moves.Move.{Performs, moves_to, kept_waiting}
-
--- a hit on one line
-pub record HitsLine (protocol : Protocol) (old : Line) (asking : Op) (new : Line) (value : ℕ) : Type 0 where
-  pub next : CacheState
-  pub row : Cell protocol old.state (asked asking) action.Hit next
-  pub before : ℕ
-  pub after : ℕ
-  pub kept : old.kept ≡ Some before
-  pub performed : Performs asking before value after
-  pub held : new ≡ record { state = next; kept = Some after; waiting = old.waiting }
+use Rattle.snoop_model.specs.Moves.Move.{Hits, moves_to, kept_waiting}
 
 -- the line takes the row of an Ask
 abbrev pub TakesAsk : Protocol → Line → Op → Asked → Type 0
 TakesAsk protocol old asking Absent = (asking ≡ op.Evict) × (old.state ≡ state.I)
-TakesAsk protocol old asking (Hit new value) = HitsLine protocol old asking new value
+TakesAsk protocol old asking (Hit new value) = (next : CacheState) × (Cell protocol old.state (asked asking) action.Hit next × Hits next old new asking value)
 TakesAsk protocol old asking (Issue request new) =
-    (next : CacheState) × (Cell protocol old.state (asked asking) (action.Issue request) next × (new ≡ record { state = next; kept = kept_on next old.kept; waiting = kept_waiting asking }))
+    (next : CacheState) × (Cell protocol old.state (asked asking) (action.Issue request) next × (new ≡ record (moves_to next old) { waiting = kept_waiting asking }))
 TakesAsk protocol old asking (Drop new) = (next : CacheState) × (Cell protocol old.state (asked asking) action.Drop next × (new ≡ moves_to next old))
 
 -- why the Ask is refused on this line

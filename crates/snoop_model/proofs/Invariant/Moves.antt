@@ -85,14 +85,14 @@ as_many_after _ queues core block = refl
 
 -- what an Ask logs
 takes_on : (a : CacheAction) (next : CacheState) (log : List Item) (core block : ℕ) (asking : Op) (old new : Line) (answer : Reply) (entry : Option Item) → Takes a next log core block asking old new answer entry → IsOn block (did_in entry)
-takes_on action.Hit next log core block asking old new answer entry t = subst (λ (x : Option Item). IsOn block (did_in x)) (sym t.logged) refl
+takes_on action.Hit next log core block asking old new answer entry t = subst (λ (x : Option Item). IsOn block (did_in x)) (sym t.1.2) refl
 takes_on (action.Issue r) next log core block asking old new answer entry t = subst (λ (x : Option Item). IsOn block (did_in x)) (sym t.2) tt
 takes_on action.Drop next log core block asking old new answer entry t = subst (λ (x : Option Item). IsOn block (did_in x)) (sym t.2) tt
 takes_on _ next log core block asking old new answer entry t = absurd t
 
 takes_follows : (a : CacheAction) (next : CacheState) (log : List Item) (core block : ℕ) (asking : Op) (old new : Line) (answer : Reply) (entry : Option Item) → Takes a next log core block asking old new answer entry → IsLawful (flat log block) (made_of (did_in entry)) → FollowsIn log entry
 takes_follows action.Hit next log core block asking old new answer entry t lawful =
-    subst (FollowsIn log) (sym t.logged) (next_lawful log core block asking t.value true (subst (λ (x : Option Item). IsLawful (flat log block) (made_of (did_in x))) t.logged lawful))
+    subst (FollowsIn log) (sym t.1.2) (next_lawful log core block asking t.0 true (subst (λ (x : Option Item). IsLawful (flat log block) (made_of (did_in x))) t.1.2 lawful))
 takes_follows (action.Issue r) next log core block asking old new answer entry t lawful = subst (FollowsIn log) (sym t.2) tt
 takes_follows action.Drop next log core block asking old new answer entry t lawful = subst (FollowsIn log) (sym t.2) tt
 takes_follows _ next log core block asking old new answer entry t lawful = absurd t

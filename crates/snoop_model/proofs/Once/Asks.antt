@@ -85,8 +85,8 @@ performed_so wanted op.Evict before value after did h is_loaded is_value = absur
 pub line_once : (p : Protocol) (a : CacheAction) (next : CacheState) (log : List Item) (core block : ℕ) (asking : Op) (old new : Line) (answer : Reply) (entry : Option Item) → IsProper old → Cell p old.state (asked asking) a next → Takes a next log core block asking old new answer entry
     → (wanted : Op) → waits_so wanted new.waiting + did_so wanted (did_in entry) ≡ waits_so wanted old.waiting + one_if (same_op wanted asking)
 line_once p action.Hit next log core block asking old new answer entry proper row t wanted =
-    let e : waits_so wanted new.waiting ≡ waits_so wanted old.waiting = ap (λ (x : Line). waits_so wanted x.waiting) t.held in
-    let f : did_so wanted (did_in entry) ≡ one_if (same_op wanted asking) = ap (λ (x : Option Item). did_so wanted (did_in x)) t.logged ∙ performed_so wanted asking t.before t.value t.after (next_did log core block asking t.value true) t.performed refl refl in
+    let e : waits_so wanted new.waiting ≡ waits_so wanted old.waiting = ap (λ (x : Line). waits_so wanted x.waiting) t.1.0.held in
+    let f : did_so wanted (did_in entry) ≡ one_if (same_op wanted asking) = ap (λ (x : Option Item). did_so wanted (did_in x)) t.1.2 ∙ performed_so wanted asking t.1.0.before t.0 t.1.0.after (next_did log core block asking t.0 true) t.1.0.performed refl refl in
     omega arith
 line_once p (action.Issue q) next log core block asking old new answer entry proper row t wanted =
     let e : waits_so wanted new.waiting ≡ one_if (same_op wanted asking) = ap (λ (x : Line). waits_so wanted x.waiting) t.0 ∙ kept_so wanted asking in

@@ -70,7 +70,7 @@ tallied old new c b entry wanted asked logged by k core block =
     omega arith
 
 takes_by : (a : CacheAction) (next : CacheState) (log : List Item) (core block : ℕ) (asking : Op) (old new : Line) (answer : Reply) (entry : Option Item) → Takes a next log core block asking old new answer entry → IsBy core block (did_in entry)
-takes_by action.Hit next log core block asking old new answer entry t = subst (λ (x : Option Item). IsBy core block (did_in x)) (sym t.logged) (refl, refl)
+takes_by action.Hit next log core block asking old new answer entry t = subst (λ (x : Option Item). IsBy core block (did_in x)) (sym t.1.2) (refl, refl)
 takes_by (action.Issue r) next log core block asking old new answer entry t = subst (λ (x : Option Item). IsBy core block (did_in x)) (sym t.2) tt
 takes_by action.Drop next log core block asking old new answer entry t = subst (λ (x : Option Item). IsBy core block (did_in x)) (sym t.2) tt
 takes_by _ next log core block asking old new answer entry t = absurd t

@@ -91,10 +91,10 @@ made_nothing entry e = ap (λ (x : Option Item). made_of (did_in x)) e
 -- an Ask's row does what it does to one line
 pub takes_performs : (a : CacheAction) (next : CacheState) (log : List Item) (core block : ℕ) (asking : Op) (old new : Line) (answer : Reply) (entry : Option Item) → Takes a next log core block asking old new answer entry → one.Performs a asking next old new (made_of (did_in entry))
 takes_performs action.Hit next log core block op.Load old new answer entry t =
-    (t.before, t.kept, t.held ∙ ap (λ (v : ℕ). record { state = next; kept = Some v; waiting = old.waiting }) t.performed.1, ap (λ (x : Option Item). made_of (did_in x)) t.logged ∙ ap (λ (v : ℕ). Some (Loaded v)) t.performed.0)
+    (t.1.0.before, t.1.0.kept, t.1.0.held ∙ ap (λ (v : ℕ). record { state = next; kept = Some v; waiting = old.waiting }) t.1.0.performed.1, ap (λ (x : Option Item). made_of (did_in x)) t.1.2 ∙ ap (λ (v : ℕ). Some (Loaded v)) t.1.0.performed.0)
 takes_performs action.Hit next log core block (op.Store stored) old new answer entry t =
-    (t.held ∙ ap (λ (v : ℕ). record { state = next; kept = Some v; waiting = old.waiting }) t.performed.1, ap (λ (x : Option Item). made_of (did_in x)) t.logged ∙ ap (λ (v : ℕ). Some (Stored v)) t.performed.0)
-takes_performs action.Hit next log core block op.Evict old new answer entry t = absurd t.performed
+    (t.1.0.held ∙ ap (λ (v : ℕ). record { state = next; kept = Some v; waiting = old.waiting }) t.1.0.performed.1, ap (λ (x : Option Item). made_of (did_in x)) t.1.2 ∙ ap (λ (v : ℕ). Some (Stored v)) t.1.0.performed.0)
+takes_performs action.Hit next log core block op.Evict old new answer entry t = absurd t.1.0.performed
 takes_performs (action.Issue request) next log core block asking old new answer entry t = (t.0, made_nothing entry t.2)
 takes_performs action.Drop next log core block asking old new answer entry t = (t.0, made_nothing entry t.2)
 takes_performs action.None next log core block asking old new answer entry t = absurd t

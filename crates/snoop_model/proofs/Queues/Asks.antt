@@ -146,12 +146,12 @@ module _ (s : Situation) (kept : IsWellKept s) (core block : ℕ) (asking : Op) 
       → Takes act next s.log core block asking (held_by (picture_of s block) core) held answer entry
       → IsWellKept (record s { caches = placed s.caches core block held; queues = queues_after act s.queues core block; log = log })
   kept_taken action.Hit row taken =
-      let state : held.state ≡ next = ap (λ (x : Line). x.state) taken.held in
+      let state : held.state ≡ next = ap (λ (x : Line). x.state) taken.1.0.held in
       kept_line s kept core block held log has_core has_block
       (ap waiting_request state ∙ hit-waits s.protocol (state_of s core block) (asked asking) next row)
       (ap awaited_request state ∙ awaited-asked s.protocol (state_of s core block) asking action.Hit next row)
       (λ o h. ap has_missed state ∙ missed-asked s.protocol (state_of s core block) asking action.Hit next row
-      (kept.operations core block o (sym (ap (λ (x : Line). x.waiting) taken.held) ∙ h)))
+      (kept.operations core block o (sym (ap (λ (x : Line). x.waiting) taken.1.0.held) ∙ h)))
   kept_taken (action.Issue request) row taken =
       let state : held.state ≡ next = ap (λ (x : Line). x.state) taken.0 in
       let waits = issue-waits s.protocol (state_of s core block) (asked asking) request next row in

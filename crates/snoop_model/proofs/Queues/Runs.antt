@@ -47,7 +47,7 @@ same_waits s t e = ap (λ (x : Option Request). one_if (is_some x)) e
 ask_waits : (p : Protocol) (a : CacheAction) (next : CacheState) (log : List Item) (c b : ℕ) (asking : Op) (old new : Line) (answer : Reply) (entry : Option Item) (queues : List (List ℕ)) → Cell p old.state (asked asking) a next → Takes a next log c b asking old new answer entry
     → ((queues_after a queues c b ≡ after_issue queues c b) × ((waits old.state ≡ 0) × (waits new.state ≡ 1))) ⊎ ((queues_after a queues c b ≡ queues) × (waits new.state ≡ waits old.state))
 ask_waits p action.Hit next log c b asking old new answer entry queues row t =
-    inr (refl, ap (λ (x : Line). waits x.state) t.held ∙ same_waits next old.state (hit-waits p old.state (asked asking) next row))
+    inr (refl, ap (λ (x : Line). waits x.state) t.1.0.held ∙ same_waits next old.state (hit-waits p old.state (asked asking) next row))
 ask_waits p (action.Issue q) next log c b asking old new answer entry queues row t =
     let w = issue-waits p old.state (asked asking) q next row in
     inl (refl, (ap (λ (x : Option Request). one_if (is_some x)) w.0, ap (λ (x : Line). waits x.state) t.0 ∙ ap (λ (x : Option Request). one_if (is_some x)) w.1))

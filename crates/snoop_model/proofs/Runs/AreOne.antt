@@ -37,7 +37,7 @@ use Rattle.snoop_model.specs.declared.replies.Refused.TheVariants.{NoCore, NoBlo
 use Rattle.snoop_model.specs.Pictures.Picture.{Picture, held_at, held_by, nothing_held}
 use Rattle.snoop_model.specs.Pictures.Situation.{Situation, picture_of, with_picture, state_of}
 use Rattle.snoop_model.specs.Pictures.Sends.{Sends, value_sent}
-use Rattle.snoop_model.specs.Moves.Move.{TakesRow, Takes, Hits, FillsRequestor, ArrivesFor, ArrivesAtMemory, Asks, Orders, Responds, IsAbsent, IsWithin, FirstMove, Performs, moves_to, next_did, queues_after, came_of, written}
+use Rattle.snoop_model.specs.Moves.Move.{TakesRow, Takes, FillsRequestor, ArrivesFor, ArrivesAtMemory, Asks, Orders, Responds, IsAbsent, IsWithin, FirstMove, Performs, moves_to, next_did, queues_after, came_of, written}
 use Rattle.snoop_model.specs.Moves.Refuses.{Refuses, IsStall, WaitsOnNone}
 use Rattle.snoop_model.specs.Runs.Run.{GoesFirst, FirstRunFrom}
 use Rattle.snoop_model.specs.Invariant.WellKept.{IsWellKept}
@@ -190,25 +190,29 @@ not_refused s kept (Respond block) answer new entry cause move refused =
 
 -- an Ask's row does one thing
 hits_one : (next : CacheState) (log : List Item) (core block : ℕ) (asking : Op) (old new new' : Line) (answer answer' : Reply) (entry entry' : Option Item)
-    → Hits next log core block asking old new answer entry → Hits next log core block asking old new' answer' entry' → (new ≡ new') × (answer ≡ answer') × (entry ≡ entry')
+    → Takes action.Hit next log core block asking old new answer entry → Takes action.Hit next log core block asking old new' answer' entry' → (new ≡ new') × (answer ≡ answer') × (entry ≡ entry')
 hits_one next log core block op.Load old new new' answer answer' entry entry' a b =
-    let before : a.before ≡ b.before = same_some (sym a.kept ∙ b.kept) in
-    let value : a.value ≡ b.value = a.performed.0 ∙ (before ∙ sym b.performed.0) in
-    let after : a.after ≡ b.after = a.performed.1 ∙ (before ∙ sym b.performed.1) in
-    let line : new ≡ new' = a.held ∙ (ap (λ (v : ℕ). let x : Line = record { state = next; kept = Some v; waiting = old.waiting } in x) after ∙ sym b.held) in (
+    let f = a.1.0 in
+    let g = b.1.0 in
+    let before : f.before ≡ g.before = same_some (sym f.kept ∙ g.kept) in
+    let value : a.0 ≡ b.0 = f.performed.0 ∙ (before ∙ sym g.performed.0) in
+    let after : f.after ≡ g.after = f.performed.1 ∙ (before ∙ sym g.performed.1) in
+    let line : new ≡ new' = f.held ∙ (ap (λ (v : ℕ). let x : Line = record { state = next; kept = Some v; waiting = old.waiting } in x) after ∙ sym g.held) in (
       line,
-      a.answered ∙ (ap (λ v. reply.Hit v) value ∙ sym b.answered),
-      a.logged ∙ (ap (λ (v : ℕ). let x : Option Item = Some (item.Did (record { core = core; number = next_number log core; block = block; load = true; value = v; hit = true })) in x) value ∙ sym b.logged),
+      a.1.1 ∙ (ap (λ v. reply.Hit v) value ∙ sym b.1.1),
+      a.1.2 ∙ (ap (λ (v : ℕ). let x : Option Item = Some (item.Did (record { core = core; number = next_number log core; block = block; load = true; value = v; hit = true })) in x) value ∙ sym b.1.2),
     )
 hits_one next log core block (op.Store stored) old new new' answer answer' entry entry' a b =
-    let value : a.value ≡ b.value = a.performed.0 ∙ sym b.performed.0 in
-    let after : a.after ≡ b.after = a.performed.1 ∙ sym b.performed.1 in
-    let line : new ≡ new' = a.held ∙ (ap (λ (v : ℕ). let x : Line = record { state = next; kept = Some v; waiting = old.waiting } in x) after ∙ sym b.held) in (
+    let f = a.1.0 in
+    let g = b.1.0 in
+    let value : a.0 ≡ b.0 = f.performed.0 ∙ sym g.performed.0 in
+    let after : f.after ≡ g.after = f.performed.1 ∙ sym g.performed.1 in
+    let line : new ≡ new' = f.held ∙ (ap (λ (v : ℕ). let x : Line = record { state = next; kept = Some v; waiting = old.waiting } in x) after ∙ sym g.held) in (
       line,
-      a.answered ∙ sym b.answered,
-      a.logged ∙ (ap (λ (v : ℕ). let x : Option Item = Some (item.Did (record { core = core; number = next_number log core; block = block; load = false; value = v; hit = true })) in x) value ∙ sym b.logged),
+      a.1.1 ∙ sym b.1.1,
+      a.1.2 ∙ (ap (λ (v : ℕ). let x : Option Item = Some (item.Did (record { core = core; number = next_number log core; block = block; load = false; value = v; hit = true })) in x) value ∙ sym b.1.2),
     )
-hits_one next log core block op.Evict old new new' answer answer' entry entry' a b = absurd a.performed
+hits_one next log core block op.Evict old new new' answer answer' entry entry' a b = absurd a.1.0.performed
 
 takes_one : (act : CacheAction) (next : CacheState) (log : List Item) (core block : ℕ) (asking : Op) (old new new' : Line) (answer answer' : Reply) (entry entry' : Option Item)
     → Takes act next log core block asking old new answer entry → Takes act next log core block asking old new' answer' entry' → (new ≡ new') × (answer ≡ answer') × (entry ≡ entry')

@@ -136,7 +136,7 @@ module _ (s : Situation) (core block : ℕ) (within : IsWithin s core block) whe
               next = next;
               held = line;
               row = row;
-              taken = record { before = v; value = v; after = v; kept = kept; performed = (refl, refl); held = refl; answered = refl; logged = refl };
+              taken = (v, (record { before = v; after = v; kept = kept; performed = (refl, refl); held = refl }, refl, refl));
               after = refl;
             }),
           ),
@@ -157,7 +157,7 @@ module _ (s : Situation) (core block : ℕ) (within : IsWithin s core block) whe
               next = next;
               held = line;
               row = row;
-              taken = record { before = v; value = w; after = w; kept = kept; performed = (refl, refl); held = refl; answered = refl; logged = refl };
+              taken = (w, (record { before = v; after = w; kept = kept; performed = (refl, refl); held = refl }, refl, refl));
               after = refl;
             }),
           ),

@@ -75,7 +75,7 @@ performed_reply core block op.Evict before value after h = absurd h
 
 module _ (p : Protocol) (next : CacheState) (log : List Item) (core block : ℕ) (asking : Op) (old new : Line) (answer : Reply) (entry : Option Item) where
   taken_reply : (a : CacheAction) → Cell p old.state (asked asking) a next → Takes a next log core block asking old new answer entry → IsReplyTo (Ask core block asking) answer
-  taken_reply action.Hit row t = subst (λ (r : Reply). IsReplyTo (Ask core block asking) r) (sym t.answered) (performed_reply core block asking t.before t.value t.after t.performed)
+  taken_reply action.Hit row t = subst (λ (r : Reply). IsReplyTo (Ask core block asking) r) (sym t.1.1) (performed_reply core block asking t.1.0.before t.0 t.1.0.after t.1.0.performed)
   taken_reply (action.Issue q) row t = subst (λ (r : Reply). IsReplyTo (Ask core block asking) r) (sym t.1) (issued_reply core block asking q (issue_serves p old.state (asked asking) q next row))
   taken_reply action.Drop row t = subst (λ (r : Reply). IsReplyTo (Ask core block asking) r) (sym t.1) (gone_reply core block asking (drop_gives_up p old.state (asked asking) next row))
   taken_reply _ row t = absurd t
@@ -96,10 +96,10 @@ move_replies old new (Respond on) answer entry m = subst (λ (r : Reply). IsRepl
 hit_logs : (p : Protocol) (next : CacheState) (log : List Item) (core block : ℕ) (asking : Op) (old new : Line) (value : ℕ) (entry : Option Item) (a : CacheAction)
     → Takes a next log core block asking old new (reply.Hit value) entry → (asking ≡ op.Load) × (entry ≡ Some (item.Did (next_did log core block op.Load value true)))
 hit_logs p next log core block op.Load old new value entry action.Hit t =
-    let same : value ≡ t.value = (let e = t.answered in cc) in
-    (refl, t.logged ∙ ap (λ (v : ℕ). let r : Option Item = Some (item.Did (next_did log core block op.Load v true)) in r) (sym same))
-hit_logs p next log core block (op.Store v) old new value entry action.Hit t = let e = t.answered in cc
-hit_logs p next log core block op.Evict old new value entry action.Hit t = absurd t.performed
+    let same : value ≡ t.0 = (let e = t.1.1 in cc) in
+    (refl, t.1.2 ∙ ap (λ (v : ℕ). let r : Option Item = Some (item.Did (next_did log core block op.Load v true)) in r) (sym same))
+hit_logs p next log core block (op.Store v) old new value entry action.Hit t = let e = t.1.1 in cc
+hit_logs p next log core block op.Evict old new value entry action.Hit t = absurd t.1.0.performed
 hit_logs p next log core block asking old new value entry (action.Issue q) t = let e = t.1 in cc
 hit_logs p next log core block asking old new value entry action.Drop t = let e = t.1 in cc
 hit_logs p next log core block asking old new value entry _ t = absurd t

@@ -68,15 +68,12 @@ abbrev pub moves_to : CacheState → Line → Line
 moves_to next held = record { state = next; kept = kept_on next held.kept; waiting = held.waiting }
 
 -- a hit performs the operation on the kept value
-pub record Hits (next : CacheState) (log : List Item) (core block : ℕ) (asking : Op) (old new : Line) (answer : Reply) (entry : Option Item) : Type 0 where
+pub record Hits (next : CacheState) (old new : Line) (asking : Op) (value : ℕ) : Type 0 where
   pub before : ℕ
-  pub value : ℕ
   pub after : ℕ
   pub kept : old.kept ≡ Some before
   pub performed : Performs asking before value after
   pub held : new ≡ record { state = next; kept = Some after; waiting = old.waiting }
-  pub answered : answer ≡ hit_reply asking value
-  pub logged : entry ≡ Some (item.Did (next_did log core block asking value true))
 
 -- a core takes its row for a request, its own or another's
 abbrev pub TakesRow : Protocol → CacheEvent → Line → Line → Type 0
@@ -154,10 +151,10 @@ IsAbsent old core block asking answer new entry =
 -- what one core holds after an Ask by this row, what is replied, and the item that is added; a stall is no move
 abbrev pub Takes : CacheAction → CacheState → List Item → ℕ → ℕ → Op → Line → Line → Reply → Option Item → Type 0
 Takes action.Hit next log core block asking old new answer entry =
-    Hits next log core block asking old new answer entry
+    (value : ℕ) × (Hits next old new asking value × (answer ≡ hit_reply asking value)
+    × (entry ≡ Some (item.Did (next_did log core block asking value true))))
 Takes (action.Issue request) next log core block asking old new answer entry =
-    (new ≡ record { state = next; kept = kept_on next old.kept; waiting = kept_waiting asking })
-    × (answer ≡ reply.Issued request) × (entry ≡ None)
+    (new ≡ record (moves_to next old) { waiting = kept_waiting asking }) × (answer ≡ reply.Issued request) × (entry ≡ None)
 Takes action.Drop next log core block asking old new answer entry =
     (new ≡ moves_to next old) × (answer ≡ reply.Gone) × (entry ≡ None)
 Takes _ next log core block asking old new answer entry = ⊥

@@ -4,7 +4,7 @@ use Rattle.snoop_rules.specs.Waits.{waiting_request}
 use Rattle.snoop_machine.specs.declared.ask.Asked.{Asked}
 use Rattle.snoop_model.specs.declared.line.Line.{Line}
 use Rattle.snoop_model.specs.Pictures.Sound.{IsProper, line_at}
-use Rattle.snoop_machine.specs.Asked.{TakesAsk, HitsLine}
+use Rattle.snoop_machine.specs.Asked.{TakesAsk}
 use Rattle.snoop_model.proofs.Tables.Rows.{issue-waits, drop-waits, IsProper-issue, IsProper-hit, IsProper-drop}
 use Rattle.snoop_machine.proofs.parts.Parts.take_ask.Goals as goal
 
@@ -13,9 +13,9 @@ hit_line-requires-clause-proper c =
     let s = c.args.self.now.situation in
     let line = line_at s.caches c.args.core c.args.block in
     let P : Asked → Type 0 = λ way. TakesAsk s.protocol line c.args.op way in
-    let t : HitsLine s.protocol line c.args.op c.in-Hit.after c.in-Hit.value = subst P c.in-Hit.is c.requires.found in
+    let t = subst P c.in-Hit.is c.requires.found in
     let Q : Line → Type 0 = λ x. IsProper x in
-    subst Q (sym t.held) (IsProper-hit s.protocol line (asked c.args.op) t.next t.after c.requires.proper t.row)
+    subst Q (sym t.1.1.held) (IsProper-hit s.protocol line (asked c.args.op) t.0 t.1.1.after c.requires.proper t.1.0)
 
 pub issue_line-requires-clause-waits : goal.issue_line-requires-clause-waits
 issue_line-requires-clause-waits c =
