@@ -8,11 +8,9 @@ use Rattle.snoop_history.specs.declared.items.Did.{Did}
 use Rattle.snoop_history.specs.declared.items.Item.{Item}
 use Rattle.snoop_bus.specs.declared.transactions.Open.{Open}
 use Rattle.snoop_model.specs.declared.line.Line.{Line}
-use Rattle.snoop_model.specs.declared.memory.MemLine.{MemLine}
 use Rattle.snoop_machine.specs.declared.respond.Filled.{Filled}
-use Rattle.snoop_model.specs.Pictures.Picture.{Picture, held_at}
-use Rattle.snoop_model.specs.Moves.Move.{Fills, FillsRequestor, ArrivesFor, ArrivesAtMemory, next_did}
-use Rattle.snoop_machine.specs.Arrive.{ArrivesIn}
+use Rattle.snoop_model.specs.Pictures.Picture.{held_at}
+use Rattle.snoop_model.specs.Moves.Move.{Fills, FillsRequestor, ArrivesFor, next_did}
 
 pub Arrives-put : (closing : Open) (p : Protocol) (log : List Item) (caches : List Line) → closing.request ≡ PutM → ArrivesFor closing.request closing p log caches caches None
 Arrives-put closing p log caches put =
@@ -30,8 +28,3 @@ pub Arrives-get : (closing : Open) (p : Protocol) (log : List Item) (caches : Li
 Arrives-get closing p log caches filled get f =
     arrives_get closing.request closing p log caches (slice_set caches closing.core filled.line) (Some (next_did log closing.core closing.block filled.op filled.value false)) get
     (record { line = filled.line; asking = filled.op; value = filled.value; fills = f; held = refl; logged = refl })
-
-pub ArrivesAtMemory-in : (closing : Open) (p : Protocol) (old new : Picture) (m n : MemLine)
-    → old.memory ≡ m.state → old.value ≡ m.value → new.memory ≡ n.state → new.value ≡ n.value
-    → ArrivesIn closing.request p closing.payload closing.value m n → ArrivesAtMemory closing p old new
-ArrivesAtMemory-in closing p old new m n e f g h t = record { act = t.act; settled = rw (e, g) t.settled; value = rw (f, h) t.value }

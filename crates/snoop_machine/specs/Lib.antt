@@ -1,5 +1,4 @@
 pub mod Asked
-pub mod Arrive
 pub mod Plan
 pub mod PartsView
 pub mod MachineView

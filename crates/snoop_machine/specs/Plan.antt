@@ -21,11 +21,10 @@ use Rattle.snoop_model.specs.Moves.Standing.{Standing, has_line}
 use Rattle.snoop_model.specs.Moves.Prepared.{room_to_issue}
 use Rattle.snoop_model.specs.Pictures.Situation.{Situation, picture_of, no_memory}
 use Rattle.snoop_model.specs.Pictures.Sound.{IsProper, line_at}
-use Rattle.snoop_model.specs.Moves.Move.{Fills, IsWithin, TakesMemRow, came_of, next_did}
+use Rattle.snoop_model.specs.Moves.Move.{Fills, ArrivesAtMemory, IsWithin, TakesMemRow, came_of, next_did}
 use Rattle.snoop_machine.specs.Asked.{TakesAsk}
 use Rattle.snoop_model.specs.Pictures.Message.{IsMessage}
 use Rattle.snoop_model.specs.Moves.OrderMove.{IsHead}
-use Rattle.snoop_machine.specs.Arrive.{ArrivesIn}
 
 -- the step that a plan is for
 abbrev pub step_of : Plan → Step
@@ -46,7 +45,7 @@ pub record IsClosing (s : Situation) (block : ℕ) (closing : Open) (memory : Me
   pub opened : (picture_of s block).transaction ≡ Some closing
   pub its : closing.block ≡ block
   pub core : closing.core < s.shape.cores
-  pub arrives : ArrivesIn closing.request s.protocol closing.payload closing.value (slice_index_or s.memory block no_memory) memory
+  pub arrives : ArrivesAtMemory closing s.protocol (slice_index_or s.memory block no_memory) memory
 
 -- the rows were found for what the plan says
 abbrev pub IsPlan : Situation → Plan → Type 0

@@ -3,8 +3,7 @@ ghost use Rattle.std.specs.Prelude.{◌≡◌, IsSomeAnd, IsTrue};
 ghost use Rattle.snoop_rules.specs.Takers.{arrival, arrival_at_memory, takes_payload};
 ghost use Rattle.snoop_model.specs.Pictures.Sound.{IsProper};
 ghost use Rattle.snoop_model.specs.Moves.LookUps.{HasRow, HasMemRow};
-ghost use Rattle.snoop_model.specs.Moves.Move.{Fills};
-ghost use Rattle.snoop_machine.specs.Arrive.{ArrivesIn};
+ghost use Rattle.snoop_model.specs.Moves.Move.{Fills, ArrivesAtMemory};
 
 use snoop_bus::Open;
 use snoop_model::{Line, MemLine};
@@ -59,24 +58,17 @@ pub(crate) fn fill(protocol: Protocol, line: Line, closing: Open) -> Filled
     }
 }
 
-/// What memory holds once the message of a request's transaction has come: it takes that of a PutM, and another where it
-/// waits for one.
-pub(crate) fn arrive(
-    protocol: Protocol,
-    memory: MemLine,
-    request: Request,
-    payload: Payload,
-    sent: u64,
-) -> MemLine
-    requires { IsTrue (takes_payload request memory.state) → IsSomeAnd (arrival_at_memory payload) (HasMemRow protocol memory.state) }
-    ensures { ArrivesIn request protocol payload sent memory result }
+/// What memory holds once the message of a transaction has come: it takes that of a PutM, and another where it waits for one.
+pub(crate) fn arrive(protocol: Protocol, memory: MemLine, closing: Open) -> MemLine
+    requires { IsTrue (takes_payload closing.request memory.state) → IsSomeAnd (arrival_at_memory closing.payload) (HasMemRow protocol memory.state) }
+    ensures { ArrivesAtMemory closing protocol memory result }
 {
-    match (request, memory.state) {
+    match (closing.request, memory.state) {
         (Request::PutM, _)
         | (_, MemState::IorSD | MemState::MD | MemState::ID | MemState::SD | MemState::EorMD) => {}
         _ => return memory,
     }
-    let event = match payload {
+    let event = match closing.payload {
         Payload::Data => MemEvent::Data,
         Payload::NoData => MemEvent::NoData,
         Payload::NoDataE => MemEvent::NoDataE,
@@ -88,7 +80,7 @@ pub(crate) fn arrive(
     MemLine {
         state: cell.next,
         value: match cell.action {
-            MemAction::Write => sent,
+            MemAction::Write => closing.value,
             MemAction::None | MemAction::Send(_) => memory.value,
         },
     }

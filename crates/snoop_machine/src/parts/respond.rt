@@ -6,8 +6,7 @@ ghost use Rattle.snoop_model.specs.Moves.Standing.{KeepsRoom};
 ghost use Rattle.snoop_machine.specs.Following.{LosesLines};
 ghost use Rattle.snoop_model.specs.Pictures.Situation.{picture_of, no_memory};
 ghost use Rattle.snoop_model.specs.Pictures.Sound.{line_at};
-ghost use Rattle.snoop_machine.specs.Arrive.{ArrivesIn};
-ghost use Rattle.snoop_model.specs.Moves.Move.{Fills, Responds, came_of};
+ghost use Rattle.snoop_model.specs.Moves.Move.{Fills, ArrivesAtMemory, Responds, came_of};
 ghost use Rattle.snoop_model.specs.Moves.StepMove.{IsDenied};
 ghost use Rattle.snoop_machine.specs.Plan.{IsPlanFor};
 ghost use Rattle.snoop_model.specs.Invariant.Coherent.{IsCoherent};
@@ -44,13 +43,7 @@ impl Parts {
             return Err(Refused::NoTransaction);
         };
         let before = self.memory.get_or(block, NO_MEMORY);
-        let memory = arrive(
-            self.protocol,
-            before,
-            closing.request,
-            closing.payload,
-            closing.value,
-        );
+        let memory = arrive(self.protocol, before, closing);
         if matches!(&closing.request, Request::PutM) {
             return Ok(Plan::Writeback {
                 block,
@@ -75,7 +68,7 @@ impl Parts {
         requires room { 0 < self.old.room }
         requires opened { (picture_of self.old.situation block).transaction ≡ Some closing }
         requires put { closing.request ≡ PutM }
-        requires memory { ArrivesIn closing.request self.old.situation.protocol closing.payload closing.value (slice_index_or self.old.situation.memory block no_memory) memory }
+        requires memory { ArrivesAtMemory closing self.old.situation.protocol (slice_index_or self.old.situation.memory block no_memory) memory }
         ensures responded { Responds self.old.situation block closing None self.new.situation }
         ensures room { KeepsRoom self.old self.new }
         ensures lines { (k : ℕ) → LosesLines self.old self.new k }
@@ -101,7 +94,7 @@ impl Parts {
         requires opened { (picture_of self.old.situation block).transaction ≡ Some closing }
         requires get { closing.request ≢ PutM }
         requires filled { Fills closing self.old.situation.protocol (line_at self.old.situation.caches closing.core block) filled.line filled.op filled.value }
-        requires memory { ArrivesIn closing.request self.old.situation.protocol closing.payload closing.value (slice_index_or self.old.situation.memory block no_memory) memory }
+        requires memory { ArrivesAtMemory closing self.old.situation.protocol (slice_index_or self.old.situation.memory block no_memory) memory }
         ensures responded { Responds self.old.situation block closing (Some result) self.new.situation }
         ensures room { KeepsRoom self.old self.new }
         ensures lines { (k : ℕ) → LosesLines self.old self.new k }

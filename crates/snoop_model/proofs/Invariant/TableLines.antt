@@ -10,7 +10,7 @@ use Rattle.snoop_history.specs.declared.items.Did.{Did}
 use Rattle.snoop_history.specs.declared.items.Item.TheVariants as item
 use Rattle.snoop_bus.specs.declared.transactions.Open.{Open}
 use Rattle.snoop_bus.specs.Queues.{after_order}
-use Rattle.snoop_model.specs.Pictures.Picture.{Picture}
+use Rattle.snoop_model.specs.Pictures.Picture.{Picture, memory_line}
 use Rattle.snoop_model.specs.Pictures.Situation.{Situation, picture_of}
 use Rattle.snoop_model.specs.Pictures.Sends.{Sends, value_sent}
 use Rattle.snoop_model.specs.Moves.Move.{IsWithin, Orders, Responds, ArrivesAtMemory, came_of}
@@ -56,7 +56,7 @@ respond_is_by_table s g block closing did new within r =
     record {
       closing = closing;
       opened = r.opened;
-      settled = subst (λ (x : Picture). ArrivesAtMemory closing s.protocol (picture_of s block) x) (sym there) r.memory;
+      settled = subst (λ (x : Picture). ArrivesAtMemory closing s.protocol (memory_line (picture_of s block)) (memory_line x)) (sym there) r.memory;
       closed = ap (λ (x : Picture). x.transaction) there ∙ r.closed;
     }
 

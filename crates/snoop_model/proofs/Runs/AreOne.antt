@@ -34,7 +34,7 @@ use Rattle.snoop_model.specs.declared.replies.Reply.{Reply}
 use Rattle.snoop_model.specs.declared.replies.Reply.TheVariants as reply
 use Rattle.snoop_model.specs.declared.replies.Refused.{Refused}
 use Rattle.snoop_model.specs.declared.replies.Refused.TheVariants.{NoCore, NoBlock, Stalled, NothingWaiting, BusTaken, NoTransaction, NoMemory}
-use Rattle.snoop_model.specs.Pictures.Picture.{Picture, held_at, held_by, nothing_held}
+use Rattle.snoop_model.specs.Pictures.Picture.{Picture, held_at, held_by, nothing_held, memory_line}
 use Rattle.snoop_model.specs.Pictures.Situation.{Situation, picture_of, with_picture, state_of}
 use Rattle.snoop_model.specs.Pictures.Sends.{Sends, value_sent}
 use Rattle.snoop_model.specs.Moves.Move.{TakesRow, Takes, FillsRequestor, ArrivesFor, ArrivesAtMemory, Asks, Orders, Responds, IsAbsent, IsWithin, FirstMove, Performs, moves_to, next_did, queues_after, came_of, written}
@@ -334,7 +334,7 @@ responds_one s block o o' did did' new new' a b =
     let same : o' ≡ o = same_some (sym b.opened ∙ a.opened) in
     let requestor : ArrivesFor o.request o p s.log before.caches b.next.caches did' = subst (λ (x : Open). ArrivesFor x.request x p s.log before.caches b.next.caches did') same b.requestor in
     let caches = arrives_one o.request o p s.log before.caches a.next.caches b.next.caches did did' a.requestor requestor in
-    let its : ArrivesAtMemory o p before b.next = subst (λ (x : Open). ArrivesAtMemory x p before b.next) same b.memory in
+    let its : ArrivesAtMemory o p (memory_line before) (memory_line b.next) = subst (λ (x : Open). ArrivesAtMemory x p (memory_line before) (memory_line b.next)) same b.memory in
     let memory = memory_one (takes_payload o.request before.memory) p before.memory (arrival_at_memory o.payload) a.memory.act its.act a.next.memory b.next.memory a.memory.settled its.settled in
     let value : a.next.value ≡ b.next.value = a.memory.value ∙ (ap (λ act. written act o.value before.value) memory.0 ∙ sym its.value) in
     let next : a.next ≡ b.next = same_picture _ _ _ _ _ _ _ _ caches.0 memory.1 value (a.closed ∙ sym b.closed) in

@@ -30,9 +30,10 @@ use Rattle.snoop_bus.specs.declared.transactions.Open.{Open}
 use Rattle.snoop_bus.specs.Queues.{after_issue, after_order}
 use Rattle.snoop_model.specs.declared.replies.Reply.{Reply}
 use Rattle.snoop_model.specs.declared.replies.Reply.TheVariants as reply
-use Rattle.snoop_model.specs.Pictures.Picture.{Picture, held_at, held_by, kept_on}
+use Rattle.snoop_model.specs.Pictures.Picture.{Picture, held_at, held_by, memory_line, kept_on}
 use Rattle.snoop_model.specs.Pictures.Situation.{Situation, picture_of, with_picture, state_of, CanOrder, StandsFirst}
 use Rattle.snoop_model.specs.declared.line.Line.{Line}
+use Rattle.snoop_model.specs.declared.memory.MemLine.{MemLine}
 use Rattle.snoop_model.specs.Pictures.Sends.{IsOnlySender, value_sent}
 
 -- an operation on a block's value: the value that it loads or stores, and the block's value after it
@@ -129,10 +130,10 @@ Settles protocol request payload old act new =
     (IsSomeAnd (arrival_at_memory payload) (λ event. MemoryCell protocol old event act new))
     ((act ≡ mem_action.None) × (new ≡ old))
 
--- what the response of this transaction brings to memory
-pub record ArrivesAtMemory (closing : Open) (protocol : Protocol) (old new : Picture) : Type 0 where
+-- what the response of this transaction brings to memory's line
+pub record ArrivesAtMemory (closing : Open) (protocol : Protocol) (old new : MemLine) : Type 0 where
   pub act : MemAction
-  pub settled : Settles protocol closing.request closing.payload old.memory act new.memory
+  pub settled : Settles protocol closing.request closing.payload old.state act new.state
   pub value : new.value ≡ written act closing.value old.value
 
 -- the response, as the history has it
@@ -203,7 +204,7 @@ pub record Responds (old : Situation) (block : ℕ) (closing : Open) (did : Opti
   pub opened : (picture_of old block).transaction ≡ Some closing
   pub next : Picture
   pub requestor : ArrivesFor closing.request closing old.protocol old.log (picture_of old block).caches next.caches did
-  pub memory : ArrivesAtMemory closing old.protocol (picture_of old block) next
+  pub memory : ArrivesAtMemory closing old.protocol (memory_line (picture_of old block)) (memory_line next)
   pub closed : next.transaction ≡ None
   pub after : new ≡ record (with_picture old block next) {
     log = old.log ++ item.Came (came_of closing) did ∷ [];

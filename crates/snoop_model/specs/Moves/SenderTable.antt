@@ -14,7 +14,7 @@ use Rattle.snoop_rules.specs.WhoSends.{SentAs}
 use Rattle.snoop_history.specs.declared.items.Item.{Item}
 use Rattle.snoop_bus.specs.declared.transactions.Open.{Open}
 use Rattle.snoop_model.specs.declared.replies.Reply.{Reply}
-use Rattle.snoop_model.specs.Pictures.Picture.{Picture, held_by}
+use Rattle.snoop_model.specs.Pictures.Picture.{Picture, held_by, memory_line}
 use Rattle.snoop_model.specs.Pictures.Situation.{Situation, picture_of, CanOrder}
 use Rattle.snoop_model.specs.Moves.Move.{TakesMemRow, Settles, ArrivesAtMemory, MoveOn}
 use Rattle.snoop_model.specs.Pictures.Sends.{IsOnlySender}
@@ -48,7 +48,7 @@ pub record IsOrderedByTable (old : Situation) (core block : ℕ) (request : Requ
 pub record IsSettledByTable (old : Situation) (block : ℕ) (new : Situation) : Type 0 where
   pub closing : Open
   pub opened : (picture_of old block).transaction ≡ Some closing
-  pub settled : ArrivesAtMemory closing old.protocol (picture_of old block) (picture_of new block)
+  pub settled : ArrivesAtMemory closing old.protocol (memory_line (picture_of old block)) (memory_line (picture_of new block))
   pub closed : (picture_of new block).transaction ≡ None
 
 -- the step, on this block, is by the table, where it is an Order or a Respond

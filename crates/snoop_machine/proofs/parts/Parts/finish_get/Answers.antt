@@ -14,14 +14,13 @@ use Rattle.snoop_model.specs.Moves.Standing.{Standing}
 use Rattle.snoop_model.specs.Pictures.Situation.{Situation, picture_of, with_picture, no_memory}
 use Rattle.snoop_model.specs.Pictures.Sound.{IsSound, IsProper, line_at}
 use Rattle.snoop_machine.specs.PartsView.{queues_of}
-use Rattle.snoop_machine.specs.Arrive.{ArrivesIn}
-use Rattle.snoop_model.specs.Moves.Move.{Fills, ArrivesFor, Responds, came_of, next_did}
+use Rattle.snoop_model.specs.Moves.Move.{Fills, ArrivesFor, ArrivesAtMemory, Responds, came_of, next_did}
 use Rattle.snoop_model.proofs.Lines.EachRow.{row_of}
 use Rattle.snoop_model.proofs.Lines.OneLine.{placed}
 use Rattle.snoop_machine.proofs.LineWrites.{IsSound-line}
 use Rattle.snoop_machine.proofs.QueueViews.{IsSound-close}
 use Rattle.snoop_model.proofs.Tables.Rows.{fill-waits, IsProper-fill}
-use Rattle.snoop_machine.proofs.Responses.{Arrives-get, ArrivesAtMemory-in}
+use Rattle.snoop_machine.proofs.Responses.{Arrives-get}
 use Rattle.snoop_machine.proofs.QueueHeads.{same_situation}
 use Rattle.snoop_machine.proofs.Following.{follows-set}
 use Rattle.snoop_machine.proofs.parts.Parts.finish_get.Goals as goal
@@ -72,7 +71,7 @@ returns-clause-responded c =
     let new : Situation = record { protocol = m.protocol; shape = m.shape; caches = c.set.new.self.rows; memory = c.set-2.new.self; transactions = c.finish.new.self.transactions; queues = queues_of c.finish.new.self.queues; log = c.push.new.self.items } in
     let G : Situation → Type 0 = λ x. Responds x block closing (Some did) new in
     let F : Situation → Type 0 = λ x. (picture_of x block).transaction ≡ Some closing in
-    let N : Situation → Type 0 = λ x. ArrivesIn closing.request x.protocol closing.payload closing.value (slice_index_or x.memory block no_memory) c.args.memory in
+    let N : Situation → Type 0 = λ x. ArrivesAtMemory closing x.protocol (slice_index_or x.memory block no_memory) c.args.memory in
     let T : Situation → Type 0 = λ x. Fills closing x.protocol (line_at x.caches core block) filled.line filled.op filled.value in
     let next : Picture = record { caches = slice_set (row_of m.lines.rows block) core filled.line; memory = c.args.memory.state; value = c.args.memory.value; transaction = None } in
     let A : Did → Type 0 = λ d. ArrivesFor closing.request closing m.protocol m.log.items (row_of m.lines.rows block) (slice_set (row_of m.lines.rows block) core filled.line) (Some d) in
@@ -80,7 +79,7 @@ returns-clause-responded c =
       opened = subst F (sym is) c.requires.opened;
       next = next;
       requestor = subst A (sym did_is) (Arrives-get closing m.protocol m.log.items (row_of m.lines.rows block) filled c.requires.get (subst T (sym is) c.requires.filled));
-      memory = ArrivesAtMemory-in closing m.protocol (picture_of old block) next (slice_index_or m.memory block no_memory) c.args.memory refl refl refl refl (subst N (sym is) c.requires.memory);
+      memory = subst N (sym is) c.requires.memory;
       closed = refl;
       after = same_situation new (record (with_picture old block next) { log = m.log.items ++ item.Came (came_of closing) (Some did) ∷ [] })
           refl refl c.set.ensures.rows c.set-2.ensures

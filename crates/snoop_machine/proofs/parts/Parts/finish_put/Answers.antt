@@ -11,11 +11,10 @@ use Rattle.snoop_model.specs.Moves.Standing.{Standing}
 use Rattle.snoop_model.specs.Pictures.Situation.{Situation, picture_of, with_picture, no_memory}
 use Rattle.snoop_model.specs.Pictures.Sound.{IsSound}
 use Rattle.snoop_machine.specs.PartsView.{queues_of}
-use Rattle.snoop_machine.specs.Arrive.{ArrivesIn}
-use Rattle.snoop_model.specs.Moves.Move.{Responds, came_of}
+use Rattle.snoop_model.specs.Moves.Move.{ArrivesAtMemory, Responds, came_of}
 use Rattle.snoop_model.proofs.Lines.EachRow.{row_of}
 use Rattle.snoop_machine.proofs.QueueViews.{IsSound-close}
-use Rattle.snoop_machine.proofs.Responses.{Arrives-put, ArrivesAtMemory-in}
+use Rattle.snoop_machine.proofs.Responses.{Arrives-put}
 use Rattle.snoop_machine.proofs.QueueHeads.{same_situation}
 use Rattle.snoop_machine.proofs.parts.Parts.finish_put.Goals as goal
 
@@ -43,13 +42,13 @@ returns-clause-responded c =
     let new : Situation = record { protocol = m.protocol; shape = m.shape; caches = m.lines.rows; memory = c.set.new.self; transactions = c.finish.new.self.transactions; queues = queues_of c.finish.new.self.queues; log = c.push.new.self.items } in
     let G : Situation → Type 0 = λ x. Responds x block closing None new in
     let F : Situation → Type 0 = λ x. (picture_of x block).transaction ≡ Some closing in
-    let N : Situation → Type 0 = λ x. ArrivesIn closing.request x.protocol closing.payload closing.value (slice_index_or x.memory block no_memory) c.args.memory in
+    let N : Situation → Type 0 = λ x. ArrivesAtMemory closing x.protocol (slice_index_or x.memory block no_memory) c.args.memory in
     let next : Picture = record { caches = row_of m.lines.rows block; memory = c.args.memory.state; value = c.args.memory.value; transaction = None } in
     subst G is (record {
       opened = subst F (sym is) c.requires.opened;
       next = next;
       requestor = Arrives-put closing m.protocol m.log.items (row_of m.lines.rows block) c.requires.put;
-      memory = ArrivesAtMemory-in closing m.protocol (picture_of old block) next (slice_index_or m.memory block no_memory) c.args.memory refl refl refl refl (subst N (sym is) c.requires.memory);
+      memory = subst N (sym is) c.requires.memory;
       closed = refl;
       after = same_situation new (record (with_picture old block next) { log = m.log.items ++ item.Came (came_of closing) None ∷ [] })
           refl refl (sym (set-get_or m.lines.rows block [])) c.set.ensures
