@@ -1,5 +1,5 @@
--- A response, from what it does to one line and to memory.
-use Rattle.std.proofs.Common.{◌≡◌, ◌≢◌, false, List, Some, None, Option, refl, sym, ap, subst}
+-- What a response brings to the caches, from what it does to one line.
+use Rattle.std.proofs.Common.{◌≡◌, ◌≢◌, false, List, Some, None, Option, refl, sym, subst}
 use Rattle.std.specs.Prelude.{slice_set}
 use Rattle.snoop_rules.specs.declared.names.Protocol.{Protocol}
 use Rattle.snoop_rules.specs.declared.names.Request.{Request}

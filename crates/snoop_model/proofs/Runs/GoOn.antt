@@ -13,7 +13,6 @@ use Rattle.snoop_rules.specs.declared.names.CacheEvent.TheVariants as event
 use Rattle.snoop_rules.specs.declared.names.CacheAction.{CacheAction}
 use Rattle.snoop_rules.specs.declared.names.CacheAction.TheVariants as action
 use Rattle.snoop_rules.specs.declared.names.MemAction.TheVariants as mem_action
-use Rattle.snoop_rules.specs.declared.names.MemState.{MemState}
 use Rattle.snoop_rules.specs.declared.names.MemEvent.{MemEvent}
 use Rattle.snoop_rules.specs.declared.names.Request.{Request}
 use Rattle.snoop_rules.specs.declared.names.Request.TheVariants as request
@@ -42,8 +41,7 @@ use Rattle.snoop_model.specs.Pictures.Picture.{Picture, held_at, held_by, kept_o
 use Rattle.snoop_model.specs.Pictures.Situation.{Situation, picture_of, with_picture, state_of, Waits, CanOrder, StandsFirst}
 use Rattle.snoop_model.specs.Pictures.Sends.{value_sent}
 use Rattle.snoop_model.specs.Pictures.Sound.{keeps, request_for, missed_request, IsProper}
-use Rattle.snoop_model.specs.Moves.Move as Move
-use Rattle.snoop_model.specs.Moves.Move.{TakesRow, FillsRequestor, ArrivesFor, ArrivesAtMemory, FirstMove, IsWithin, came_of, moves_to, hit_reply, kept_waiting, next_did, queues_after, written}
+use Rattle.snoop_model.specs.Moves.Move.{TakesRow, FillsRequestor, ArrivesFor, ArrivesAtMemory, FirstMove, IsWithin, came_of, moves_to, kept_waiting, next_did, queues_after, written}
 use Rattle.snoop_model.specs.Runs.Run.{GoesFirst, FirstRunFrom}
 use Rattle.snoop_model.specs.Invariant.WellKept.{IsWellKept}
 use Rattle.snoop_model.specs.Turns.TurnRule.{KeepsWell}
