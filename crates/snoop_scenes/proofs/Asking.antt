@@ -63,7 +63,7 @@ module _ (old : Situation) (core block : ℕ) (asking : Op) (within : IsWithin o
           held = held;
           row = row;
           after = refl;
-          taken = record { before = before; value = done.value; after = done.after; kept = kept; performed = done.performs; held = refl; answered = refl; logged = refl };
+          taken = (done.value, (record { before = before; after = done.after; kept = kept; performed = done.performs; held = refl }, refl, refl));
         }));
       }
 
