@@ -37,7 +37,7 @@ step_of (Fill block closing memory filled) = step.Respond block
 pub record IsOrdered (s : Situation) (core : ℕ) (request : Request) (block : ℕ) (message : Message) (memory : MemState) : Type 0 where
   pub head : IsHead s core request block
   pub free : (picture_of s block).transaction ≡ None
-  pub memory_row : TakesMemRow s.protocol (at_memory request) (picture_of s block).memory memory
+  pub memory_row : TakesMemRow s.protocol (at_memory request) (picture_of s block).memory.state memory
   pub sent : IsMessage s.protocol (picture_of s block) core request message
 
 -- the block's transaction is this one, and leaves memory so

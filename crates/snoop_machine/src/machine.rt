@@ -142,7 +142,7 @@ impl Machine {
 
     /// Memory's state of the block, or `None` outside the shape.
     pub fn mem_state(&self, block: u32) -> Option<MemState>
-        ensures inside { block < self.now.situation.shape.blocks → result ≡ Some (picture_of self.now.situation block).memory }
+        ensures inside { block < self.now.situation.shape.blocks → result ≡ Some (picture_of self.now.situation block).memory.state }
         ensures outside { IfSome result (λ _. block < self.now.situation.shape.blocks) }
     {
         self.parts.mem_state(block)
@@ -150,7 +150,7 @@ impl Machine {
 
     /// Memory's value of the block, or `None` outside the shape.
     pub fn mem_value(&self, block: u32) -> Option<u64>
-        ensures inside { block < self.now.situation.shape.blocks → result ≡ Some (picture_of self.now.situation block).value }
+        ensures inside { block < self.now.situation.shape.blocks → result ≡ Some (picture_of self.now.situation block).memory.value }
         ensures outside { IfSome result (λ _. block < self.now.situation.shape.blocks) }
     {
         self.parts.mem_value(block)

@@ -119,7 +119,7 @@ impl Parts {
 
     /// Memory's state of the block, or `None` outside the shape.
     pub(crate) fn mem_state(&self, block: u32) -> Option<MemState>
-        ensures inside { block < self.now.situation.shape.blocks → result ≡ Some (picture_of self.now.situation block).memory }
+        ensures inside { block < self.now.situation.shape.blocks → result ≡ Some (picture_of self.now.situation block).memory.state }
         ensures outside { IfSome result (λ _. block < self.now.situation.shape.blocks) }
     {
         let line = self.memory.get(block)?;
@@ -128,7 +128,7 @@ impl Parts {
 
     /// Memory's value of the block, or `None` outside the shape.
     pub(crate) fn mem_value(&self, block: u32) -> Option<u64>
-        ensures inside { block < self.now.situation.shape.blocks → result ≡ Some (picture_of self.now.situation block).value }
+        ensures inside { block < self.now.situation.shape.blocks → result ≡ Some (picture_of self.now.situation block).memory.value }
         ensures outside { IfSome result (λ _. block < self.now.situation.shape.blocks) }
     {
         let line = self.memory.get(block)?;

@@ -73,14 +73,14 @@ pub record Ordered (protocol : Protocol) (before : Picture) (core : ℕ) (reques
   pub rows : (k : ℕ) → k < length caches → TakesRow protocol (seen_by k core request) (held_by before k) (held_at caches k)
   pub act : MemAction
   pub memory : MemState
-  pub row : MemoryCell protocol before.memory (at_memory request) act memory
+  pub row : MemoryCell protocol before.memory.state (at_memory request) act memory
   pub sender : Sender protocol before core request
 
 -- An Order seen by two caches and memory, each with its row.
 module _ (protocol : Protocol) (core : ℕ) (request : Request) (memory : MemState) (value : ℕ) (transaction : Option Open) (a b : Line)
     (first : RowAt protocol a.state (seen_by 0 core request)) (second : RowAt protocol b.state (seen_by 1 core request)) (third : MemoryRowAt protocol memory (at_memory request)) where
   abbrev pub before : Picture
-  before = record { caches = a ∷ b ∷ []; memory = memory; value = value; transaction = transaction }
+  before = record { caches = a ∷ b ∷ []; memory = record { state = memory; value = value }; transaction = transaction }
 
   abbrev pub Sent : Option ℕ → Payload → Type 0
   Sent from payload = Sends protocol before core request from payload
@@ -170,7 +170,7 @@ module _ (protocol : Protocol) (core : ℕ) (request : Request) (memory : MemSta
 
 -- each controller's row, and the message, found
 abbrev pub ordered : (protocol : Protocol) (core : ℕ) (request : Request) (memory : MemState) (value : ℕ) (transaction : Option Open) (lines : List Line)
-    → Option (Ordered protocol (record { caches = lines; memory = memory; value = value; transaction = transaction }) core request)
+    → Option (Ordered protocol (record { caches = lines; memory = record { state = memory; value = value }; transaction = transaction }) core request)
 ordered protocol core request memory value transaction (a ∷ b ∷ []) =
     if_some (row_at protocol a.state (seen_by 0 core request)) λ first is.
     if_some (row_at protocol b.state (seen_by 1 core request)) λ second is.
@@ -194,7 +194,7 @@ module _ (old : Situation) (core block : ℕ) (there : core < old.shape.cores) (
   -- A free bus.
   module _ (free : (picture_of old block).transaction ≡ None) (within : block < old.shape.blocks) (taken : Ordered old.protocol (picture_of old block) core request) where
     abbrev pub next : Picture
-    next = record { caches = taken.caches; memory = taken.memory; value = (picture_of old block).value; transaction = Some (opening taken.sender.from taken.sender.payload) }
+    next = record { caches = taken.caches; memory = record { state = taken.memory; value = (picture_of old block).memory.value }; transaction = Some (opening taken.sender.from taken.sender.payload) }
 
     pub goes_open : GoesFirst old (Order core) (Ok (reply.Ordered request)) (goes_to next)
     goes_open = (
@@ -235,5 +235,5 @@ module _ (old : Situation) (core block : ℕ) (there : core < old.shape.cores) (
   on_bus (Some busy) is = Some (record { outcome = Err (BusTaken block); new = old; goes = ((there, first, ap (λ (t : Option Open). is_some t) is), refl) })
   on_bus None free =
       if_true (ltb block old.shape.blocks) λ within.
-      if_some (ordered old.protocol core request (picture_of old block).memory (picture_of old block).value (picture_of old block).transaction (picture_of old block).caches) λ taken is.
+      if_some (ordered old.protocol core request (picture_of old block).memory.state (picture_of old block).memory.value (picture_of old block).transaction (picture_of old block).caches) λ taken is.
       Some (opens free (ltb-true block old.shape.blocks within) taken)

@@ -38,7 +38,7 @@ played old (Respond block) =
     (λ there. by_found (picture_of old block).transaction
     (λ closing opened.
     if_some (arrived closing.request closing old.protocol old.log (picture_of old block).caches) λ came is.
-    if_some (remembered (takes_payload closing.request (picture_of old block).memory) closing.payload old.protocol (picture_of old block).memory) λ kept is.
+    if_some (remembered (takes_payload closing.request (picture_of old block).memory.state) closing.payload old.protocol (picture_of old block).memory.state) λ kept is.
     Some (closes old block (ltb-true block old.shape.blocks there) closing opened came kept))
     (λ free. Some (responds_nothing old block (ltb-true block old.shape.blocks there) free)))
     (λ outside. Some (responds_no_block old block (ltb-false block old.shape.blocks outside)))

@@ -109,7 +109,7 @@ SettlesIf takes payload protocol old act new =
 
 -- a block with no transaction
 abbrev pub closed_picture : List Line → MemState → ℕ → Picture
-closed_picture caches memory value = record { caches = caches; memory = memory; value = value; transaction = None }
+closed_picture caches memory value = record { caches = caches; memory = record { state = memory; value = value }; transaction = None }
 
 -- what a response does to memory's state
 pub record Remembered (takes : Bool) (payload : Payload) (protocol : Protocol) (old : MemState) : Type 0 where
@@ -127,12 +127,12 @@ remembered true payload protocol old =
 -- A Respond of a block's open transaction.
 module _ (old : Situation) (block : ℕ) (there : block < old.shape.blocks) (closing : Open) (opened : (picture_of old block).transaction ≡ Some closing)
     (came : Arrived closing.request closing old.protocol old.log (picture_of old block).caches)
-    (kept : Remembered (takes_payload closing.request (picture_of old block).memory) closing.payload old.protocol (picture_of old block).memory) where
+    (kept : Remembered (takes_payload closing.request (picture_of old block).memory.state) closing.payload old.protocol (picture_of old block).memory.state) where
   abbrev pub answer : Option Did → Reply
   answer did = reply.Came closing.payload closing.from did
 
   abbrev pub next : Picture
-  next = closed_picture came.new kept.memory (written kept.act closing.value (picture_of old block).value)
+  next = closed_picture came.new kept.memory (written kept.act closing.value (picture_of old block).memory.value)
 
   abbrev pub goes_to : Picture → Option Did → Situation
   goes_to picture did = record (with_picture old block picture) { log = old.log ++ item.Came (came_of closing) did ∷ [] }

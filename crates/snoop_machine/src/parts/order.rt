@@ -78,7 +78,7 @@ impl Parts {
         requires head { IsHead self.old.situation core request block }
         requires room { 0 < self.old.room }
         requires free { (picture_of self.old.situation block).transaction ≡ None }
-        requires memory { TakesMemRow self.old.situation.protocol (at_memory request) (picture_of self.old.situation block).memory memory }
+        requires memory { TakesMemRow self.old.situation.protocol (at_memory request) (picture_of self.old.situation block).memory.state memory }
         requires message { IsMessage self.old.situation.protocol (picture_of self.old.situation block) core request message }
         ensures ordered { Orders self.old.situation core block request self.new.situation }
         ensures room { KeepsRoom self.old self.new }

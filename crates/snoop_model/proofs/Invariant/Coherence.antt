@@ -151,7 +151,7 @@ memory_current s g block within =
     record {
       carried = data_is picture.transaction (flat s.log block) it.carried;
       held = λ idle none.
-          it.fresh (resting_rule p picture.memory (talk_of picture.transaction) it.claims it.is_claims (nobody_owns p s.shape.cores (flat s.log block) picture it idle it.owner refl) (no_data picture.transaction none));
+          it.fresh (resting_rule p picture.memory.state (talk_of picture.transaction) it.claims it.is_claims (nobody_owns p s.shape.cores (flat s.log block) picture it idle it.owner refl) (no_data picture.transaction none));
     }
 
 -- an open transaction is of a block within the shape
@@ -196,7 +196,7 @@ orders_follow_sender_table s g core block q ready =
     let p = s.protocol in
     let before : Picture = picture_of s block in
     let x = possible_order s g core block q ready in
-    let led = led_line p q before.memory _ x.payload x.cell_of_memory.next x.order_line in
+    let led = led_line p q before.memory.state _ x.payload x.cell_of_memory.next x.order_line in
     record {
       from = x.from;
       payload = x.payload;
@@ -205,12 +205,12 @@ orders_follow_sender_table s g core block q ready =
         sends = sends_by_cell p before core q x.from x.payload x.sender.sends;
         alone = λ other message sends. x.sender.alone other message (sends_by_row p before core q other message sends);
       };
-      ordered = (x.cell_of_memory.action, MemoryCell-found p before.memory _ x.cell_of_memory x.memory_row);
+      ordered = (x.cell_of_memory.action, MemoryCell-found p before.memory.state _ x.cell_of_memory x.memory_row);
       is_line = record {
         act = led.act;
         done = led.done;
         settled = led.settled;
-        line = subst (λ (from : Option CacheState). SentAs p q before.memory from x.payload x.cell_of_memory.next led.done) (sender_state before core x.from) led.line;
+        line = subst (λ (from : Option CacheState). SentAs p q before.memory.state from x.payload x.cell_of_memory.next led.done) (sender_state before core x.from) led.line;
         writeback = λ e. x.writeback (put_is q e);
       };
     }
@@ -287,15 +287,15 @@ finds_cache s g (Respond on) core block event looks =
     let row = (response_possible s g block closing looks.1.1).requestor (not_put closing.request looks.1.3) in
     rw (looks.1.4, looks.1.2) (has_row s.protocol (state_of s closing.core block) (arrival closing.payload) row)
 
-finds_memory : (s : Situation) → IsCoherent s → (step : Step) (block : ℕ) (event : Option MemEvent) → ConsultsMemory s step block event → IsSomeAnd event (HasMemRow s.protocol (picture_of s block).memory)
+finds_memory : (s : Situation) → IsCoherent s → (step : Step) (block : ℕ) (event : Option MemEvent) → ConsultsMemory s step block event → IsSomeAnd event (HasMemRow s.protocol (picture_of s block).memory.state)
 finds_memory s g (Ask asker on asking) block event looks = absurd looks
 finds_memory s g (Order requestor) block event looks =
     let x = possible_order s g requestor block looks.0 looks.1.0 in
-    rw looks.1.1 (has_mem_row s.protocol (picture_of s block).memory (Some (at_memory looks.0)) (x.cell_of_memory, x.memory_row))
+    rw looks.1.1 (has_mem_row s.protocol (picture_of s block).memory.state (Some (at_memory looks.0)) (x.cell_of_memory, x.memory_row))
 finds_memory s g (Respond on) block event looks =
     let closing = looks.0 in
     let row = (response_possible s g block closing looks.1.1).memory looks.1.2 in
-    rw looks.1.3 (has_mem_row s.protocol (picture_of s block).memory (arrival_at_memory closing.payload) row)
+    rw looks.1.3 (has_mem_row s.protocol (picture_of s block).memory.state (arrival_at_memory closing.payload) row)
 
 -- no step meets an impossible cell
 pub finds_rows : (s : Situation) → IsCoherent s → (step : Step) → FindsRows s step

@@ -139,7 +139,7 @@ order_moves old core block q new g within o =
     let here : picture_of (changed old w.caches w.memory w.transactions queues entry) block ≡ o.next = next_picture old block o.next queues log (at (length old.caches) g.shaped.rows) (at (length old.memory) g.shaped.memory) (at (length old.transactions) g.shaped.transactions) in
     let whole : Keeps old block w.caches w.memory w.transactions queues entry = record {
       as_many_rows = length-set old.caches block o.next.caches;
-      as_much_memory = length-set old.memory block (record { state = o.next.memory; value = o.next.value });
+      as_much_memory = length-set old.memory block o.next.memory;
       as_many_queues = length-set old.queues core _;
       as_many_transactions = length-set old.transactions block o.next.transaction;
       others = λ b apart. next_other old block b o.next queues log apart;
@@ -193,7 +193,7 @@ respond_moves old block closing did new g within r =
     let here : picture_of (changed old w.caches w.memory w.transactions old.queues entry) block ≡ r.next = next_picture old block r.next old.queues log (at (length old.caches) g.shaped.rows) (at (length old.memory) g.shaped.memory) (at (length old.transactions) g.shaped.transactions) in
     let whole : Keeps old block w.caches w.memory w.transactions old.queues entry = record {
       as_many_rows = length-set old.caches block r.next.caches;
-      as_much_memory = length-set old.memory block (record { state = r.next.memory; value = r.next.value });
+      as_much_memory = length-set old.memory block r.next.memory;
       as_many_queues = refl;
       as_many_transactions = length-set old.transactions block r.next.transaction;
       others = λ b apart. next_other old block b r.next old.queues log apart;

@@ -27,7 +27,7 @@ use Rattle.snoop_model.proofs.Invariant.Moves.{move_keeps}
 
 -- a block at reset
 abbrev untouched : Protocol → ℕ → Picture
-untouched p n = record { caches = replicate n nothing_held; memory = first_memory p; value = 0; transaction = None }
+untouched p n = record { caches = replicate n nothing_held; memory = record { state = first_memory p; value = 0 }; transaction = None }
 
 pub nothing_proper : IsProper nothing_held
 nothing_proper = record { kept = refl; waiting = refl }

@@ -10,7 +10,7 @@ use Rattle.snoop_history.specs.declared.items.Did.{Did}
 use Rattle.snoop_history.specs.declared.items.Item.TheVariants as item
 use Rattle.snoop_bus.specs.declared.transactions.Open.{Open}
 use Rattle.snoop_bus.specs.Queues.{after_order}
-use Rattle.snoop_model.specs.Pictures.Picture.{Picture, memory_line}
+use Rattle.snoop_model.specs.Pictures.Picture.{Picture}
 use Rattle.snoop_model.specs.Pictures.Situation.{Situation, picture_of}
 use Rattle.snoop_model.specs.Pictures.Sends.{Sends, value_sent}
 use Rattle.snoop_model.specs.Moves.Move.{IsWithin, Orders, Responds, ArrivesAtMemory, came_of}
@@ -37,7 +37,7 @@ order_is_by_table s g core block q new within o =
     let there : picture_of new block ≡ o.next =
     ap (λ (x : Situation). picture_of x block) o.after
     ∙ next_picture s block o.next (after_order s.queues core block) (s.log ++ item.Sent (record { core = core; request = q; block = block }) ∷ []) lists.0 lists.1 lists.2 in
-    let memory : f.next ≡ (picture_of new block).memory = (MemoryCell-one p before.memory (at_memory q) f.ordered.0 o.memory.0 f.next o.next.memory f.ordered.1 o.memory.1).1 ∙ sym (ap (λ (x : Picture). x.memory) there) in
+    let memory : f.next ≡ (picture_of new block).memory.state = (MemoryCell-one p before.memory.state (at_memory q) f.ordered.0 o.memory.0 f.next o.next.memory.state f.ordered.1 o.memory.1).1 ∙ sym (ap (λ (x : Picture). x.memory.state) there) in
     record {
       from = o.from;
       payload = o.payload;
@@ -56,7 +56,7 @@ respond_is_by_table s g block closing did new within r =
     record {
       closing = closing;
       opened = r.opened;
-      settled = subst (λ (x : Picture). ArrivesAtMemory closing s.protocol (memory_line (picture_of s block)) (memory_line x)) (sym there) r.memory;
+      settled = subst (λ (x : Picture). ArrivesAtMemory closing s.protocol (picture_of s block).memory x.memory) (sym there) r.memory;
       closed = ap (λ (x : Picture). x.transaction) there ∙ r.closed;
     }
 

@@ -55,17 +55,17 @@ module _ (p : Protocol) (before : Picture) (core : ℕ) (request : Request) (n :
 
 module _ (p : Protocol) (before : Picture) (core : ℕ) (request : Request) where
   -- memory does not send
-  pub Silent-none : (act : MemAction) (next : MemState) → MemoryCell p before.memory (at_memory request) act next → memory_message act before.value ≡ None → SilentBelow p before core request 0
+  pub Silent-none : (act : MemAction) (next : MemState) → MemoryCell p before.memory.state (at_memory request) act next → memory_message act before.memory.value ≡ None → SilentBelow p before core request 0
   Silent-none (mem_action.Send payload) next row none = cc
   Silent-none mem_action.None next row none = silent
     where
       silent : (other : Option ℕ) (payload : Payload) → IsBelow 0 other → ¬ Sends p before core request other payload
-      silent None payload below sends = let e = (MemoryCell-one p before.memory (at_memory request) mem_action.None (mem_action.Send payload) next sends.0 row sends.1).0 in cc
+      silent None payload below sends = let e = (MemoryCell-one p before.memory.state (at_memory request) mem_action.None (mem_action.Send payload) next sends.0 row sends.1).0 in cc
       silent (Some k) payload below sends = absurd (omega arith)
   Silent-none mem_action.Write next row none = silent
     where
       silent : (other : Option ℕ) (payload : Payload) → IsBelow 0 other → ¬ Sends p before core request other payload
-      silent None payload below sends = let e = (MemoryCell-one p before.memory (at_memory request) mem_action.Write (mem_action.Send payload) next sends.0 row sends.1).0 in cc
+      silent None payload below sends = let e = (MemoryCell-one p before.memory.state (at_memory request) mem_action.Write (mem_action.Send payload) next sends.0 row sends.1).0 in cc
       silent (Some k) payload below sends = absurd (omega arith)
 
   sends_below : (other : Option ℕ) (payload : Payload) → Sends p before core request other payload → IsBelow (length before.caches) other
@@ -86,7 +86,7 @@ module _ (p : Protocol) (before : Picture) (core : ℕ) (request : Request) wher
       value = worth;
     }
 
-    pub IsMessage-memory : (m : Message) (act : MemAction) (next : MemState) → MemoryCell p before.memory (at_memory request) act next → memory_message act before.value ≡ Some m → IsMessage p before core request m
+    pub IsMessage-memory : (m : Message) (act : MemAction) (next : MemState) → MemoryCell p before.memory.state (at_memory request) act next → memory_message act before.memory.value ≡ Some m → IsMessage p before core request m
     IsMessage-memory m (mem_action.Send payload) next row is =
         let same = same_Some _ _ is in
         subst (IsMessage p before core request) same (IsMessage-sent _ (next, row) refl)

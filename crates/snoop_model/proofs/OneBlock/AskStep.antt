@@ -141,7 +141,7 @@ ask_keeps p n flat before c o after made g a =
     let hit_reads = ask_rule AskTests.ask_hit_reads AskTests.ask_hit_reads_holds p g.claims.shared (owns g.owner c) (awaited before.transaction c) (held_by before c).state o a.row fit a.is_row in
     let carry = ask_rule AskTests.ask_carries AskTests.ask_carries_holds p g.claims.shared (owns g.owner c) (awaited before.transaction c) (held_by before c).state o a.row fit a.is_row in
     let stores = ask_rule AskTests.ask_store_owns AskTests.ask_store_owns_holds p g.claims.shared (owns g.owner c) (awaited before.transaction c) (held_by before c).state o a.row fit a.is_row in
-    let line : claims_of p after.memory (talk_of after.transaction) ≡ Some g.claims = rw (a.memory, a.transaction) g.is_claims in
+    let line : claims_of p after.memory.state (talk_of after.transaction) ≡ Some g.claims = rw (a.memory, a.transaction) g.is_claims in
     elim (ask_cases flat a.row.action o a.row.next (held_by before c) (held_by after c) made (g.kept c a.asker_in) (implied (is_hit a.row.action) (keeps (held_by before c).state) hit_reads) carry a.performs) as (λ _. Good p n (flat_after flat made) after × IsLawful flat made) [
       | inl k ↦
           let carried : (d : ℕ) → d < n → Carried (held_by before d) (held_by after d) = λ d d_in. elim (eqb_tells d c) as (λ _. Carried (held_by before d) (held_by after d)) [
@@ -181,7 +181,7 @@ ask_keeps p n flat before c o after made g a =
               | inl e ↦ ap (λ (x : ℕ). (held_by after x).kept) e.1 ∙ s.kept
               | inr e ↦ absurd (clash (keeps (held_by after d).state) h (blind d d_in e.1))
             ];
-            clean = λ d d_in h. elim (eqb_tells d c) as (λ _. after.value ≡ s.value) [
+            clean = λ d d_in h. elim (eqb_tells d c) as (λ _. after.memory.value ≡ s.value) [
               | inl e ↦ absurd (clash (is_clean a.row.next) (ap is_clean (sym s.state) ∙ (ap (λ (x : ℕ). is_clean (held_by after x).state) (sym e.1) ∙ h)) (not_true (is_clean a.row.next) owning.1))
               | inr e ↦ absurd (clash (keeps (held_by after d).state) (clean_reads (held_by after d).state h) (blind d d_in e.1))
             ];

@@ -92,7 +92,7 @@ pub record Alone (p : Protocol) (n : ℕ) (flat : ℕ) (picture : Picture) (g : 
 
 pub owned_alone : (p : Protocol) (n : ℕ) (flat : ℕ) (picture : Picture) (g : Good p n flat picture) → g.claims.owned ≡ true → Alone p n flat picture g
 owned_alone p n flat picture g is_owned =
-    let h = owned_rule p picture.memory (talk_of picture.transaction) g.claims g.is_claims is_owned in
+    let h = owned_rule p picture.memory.state (talk_of picture.transaction) g.claims g.is_claims is_owned in
     let a = and_parts (not g.claims.shared) (not g.claims.fresh && calm_talk (talk_of picture.transaction)) h in
     let b = and_parts (not g.claims.fresh) (calm_talk (talk_of picture.transaction)) a.1 in
     record { unshared = not_true g.claims.shared a.0; unfresh = not_true g.claims.fresh b.0; calm = b.1 }

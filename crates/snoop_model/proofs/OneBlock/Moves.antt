@@ -40,7 +40,7 @@ use Rattle.snoop_model.proofs.OneBlock.Steps.{Done, Loaded, Stored, sent_by, sen
 
 -- who sends, said by the row's parts, is who sends by the row, and the other way round
 pub sends_by_row : (p : Protocol) (before : Picture) (c : ℕ) (q : Request) (from : Option ℕ) (sent : Payload) → Sends p before c q from sent → one.Sends p (length before.caches) before c q from sent
-sends_by_row p before c q None sent h = ap sent_by_memory (memory_cell_of-MemoryCell p before.memory (at_memory q) (mem_action.Send sent) h.0 h.1)
+sends_by_row p before c q None sent h = ap sent_by_memory (memory_cell_of-MemoryCell p before.memory.state (at_memory q) (mem_action.Send sent) h.0 h.1)
 sends_by_row p before c q (Some d) sent h = (h.0, ap sent_by (cell_of-Cell p (held_by before d).state (seen_by d c q) (action.Send sent h.1.0) h.1.1.0 h.1.1.1))
 
 send_of : (a : CacheAction) (next : CacheState) (sent : Payload) → sent_by (Some (record { action = a; next = next })) ≡ Some sent → (target : Target) × (a ≡ action.Send sent target)
@@ -70,7 +70,7 @@ memory_row_sends p m e (Some row) sent is h =
     (row.next, subst (λ (x : MemAction). MemoryCell p m e x row.next) (memory_send_of row.action row.next sent h) (MemoryCell-found p m e row is))
 
 pub sends_by_cell : (p : Protocol) (before : Picture) (c : ℕ) (q : Request) (from : Option ℕ) (sent : Payload) → one.Sends p (length before.caches) before c q from sent → Sends p before c q from sent
-sends_by_cell p before c q None sent h = memory_row_sends p before.memory (at_memory q) (memory_cell_of p before.memory (at_memory q)) sent refl h
+sends_by_cell p before c q None sent h = memory_row_sends p before.memory.state (at_memory q) (memory_cell_of p before.memory.state (at_memory q)) sent refl h
 sends_by_cell p before c q (Some d) sent h = (h.0, row_sends p (held_by before d).state (seen_by d c q) (cell_of p (held_by before d).state (seen_by d c q)) sent refl h.1)
 
 -- what an operation did to the block
@@ -116,9 +116,9 @@ arrives_row p s found e a next is row = rw is (cell_of-Cell p s e a next row)
 
 -- memory takes a payload
 pub memory_takes : (b : Bool) (p : Protocol) (closing : Open) (old new : Picture) (act : MemAction)
-    → MatchBool b (IsSomeAnd (arrival_at_memory closing.payload) (λ event. MemoryCell p old.memory event act new.memory)) ((act ≡ mem_action.None) × (new.memory ≡ old.memory)) → new.value ≡ written act closing.value old.value → one.MemoryTakes b p old closing new
-memory_takes true p closing old new act row value = (record { action = act; next = new.memory }, memory_arrives p old.memory (arrival_at_memory closing.payload) act new.memory row, refl, value)
-memory_takes false p closing old new act idle value = (idle.1, value ∙ ap (λ (a : MemAction). written a closing.value old.value) idle.0)
+    → MatchBool b (IsSomeAnd (arrival_at_memory closing.payload) (λ event. MemoryCell p old.memory.state event act new.memory.state)) ((act ≡ mem_action.None) × (new.memory.state ≡ old.memory.state)) → new.memory.value ≡ written act closing.value old.memory.value → one.MemoryTakes b p old closing new
+memory_takes true p closing old new act row value = (record { action = act; next = new.memory.state }, memory_arrives p old.memory.state (arrival_at_memory closing.payload) act new.memory.state row, refl, value)
+memory_takes false p closing old new act idle value = (idle.1, value ∙ ap (λ (a : MemAction). written a closing.value old.memory.value) idle.0)
 
 -- an Ask of one core is a step of the block
 pub asks_one : (p : Protocol) (before : Picture) (c : ℕ) (asking : Op) (a : CacheAction) (next : CacheState) (held : Line) (log : List Item) (block : ℕ) (answer : Reply) (entry : Option Item) → c < length before.caches
@@ -143,8 +143,8 @@ orders_one old core block q new o within = record {
   waits = o.ready.0;
   calm = o.ready.1;
   taken = λ d d_in. takes_by_row old.protocol (seen_by d core q) (held_by (picture_of old block) d) (held_by o.next d) (o.rows d (subst (λ (n : ℕ). d < n) (sym o.caches) d_in));
-  cell_of_memory = record { action = o.memory.0; next = o.next.memory };
-  is_memory_row = memory_cell_of-MemoryCell old.protocol (picture_of old block).memory (at_memory q) o.memory.0 o.next.memory o.memory.1;
+  cell_of_memory = record { action = o.memory.0; next = o.next.memory.state };
+  is_memory_row = memory_cell_of-MemoryCell old.protocol (picture_of old block).memory.state (at_memory q) o.memory.0 o.next.memory.state o.memory.1;
   memory = refl;
   value = o.value;
   from = o.from;
@@ -188,6 +188,6 @@ responds_one old block closing did new r within = record {
   opened = closing;
   was_open = r.opened;
   closes = r.closed;
-  memory = memory_takes (takes_payload closing.request (picture_of old block).memory) old.protocol closing (picture_of old block) r.next r.memory.act r.memory.settled r.memory.value;
+  memory = memory_takes (takes_payload closing.request (picture_of old block).memory.state) old.protocol closing (picture_of old block) r.next r.memory.act r.memory.settled r.memory.value;
   requestor = arrives_one closing.request old.protocol closing old.log (picture_of old block) r.next did within r.requestor;
 }

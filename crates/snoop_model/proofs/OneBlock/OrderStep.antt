@@ -40,11 +40,11 @@ pub record Looked (p : Protocol) (n : ℕ) (flat : ℕ) (before : Picture) (c : 
   pub requestor_in : c < n
   pub waits : waiting_request (held_by before c).state ≡ Some q
   pub calm : before.transaction ≡ None
-  pub quiet : claims_of p before.memory None ≡ Some good.claims
+  pub quiet : claims_of p before.memory.state None ≡ Some good.claims
   pub requestor_fits : fits p good.claims.shared (owns good.owner c) None (held_by before c).state ≡ true
   pub owned : (not (owns good.owner c) || good.claims.owned) ≡ true
   pub mc : MemCell
-  pub is_mc : memory_cell_of p before.memory (at_memory q) ≡ Some mc
+  pub is_mc : memory_cell_of p before.memory.state (at_memory q) ≡ Some mc
   pub oc : CacheCell
   pub is_oc : cell_of p (held_by before c).state (own q) ≡ Some oc
   pub pl : Payload
@@ -57,7 +57,7 @@ look p n flat before c q good c_in waits calm =
     let st = good.claims in
     let ow = owns good.owner c in
     let sr = (held_by before c).state in
-    let m = before.memory in
+    let m = before.memory.state in
     let quiet : claims_of p m None ≡ Some st = ap (λ (t : Option Open). claims_of p m (talk_of t)) (sym calm) ∙ good.is_claims in
     let fit : fits p st.shared ow None sr ≡ true = ap (λ (t : Option Open). fits p st.shared ow (awaited t c) sr) (sym calm) ∙ good.states c c_in in
     let owned : (not ow || st.owned) ≡ true = owns_owned good.owner c st.owned good.is_owned in
@@ -91,15 +91,15 @@ look p n flat before c q good c_in waits calm =
     }
 
 -- a test of an Order's end holds there
-pub end_of : (p : Protocol) (n : ℕ) (flat : ℕ) (before : Picture) (c : ℕ) (q : Request) (l : Looked p n flat before c q) (k : OrderTests.EndTest) → OrderTests.orders (OrderTests.end_case k) ≡ true → k p before.memory l.good.claims (held_by before c).state (owns l.good.owner c) q l.mc l.oc l.pl l.next ≡ true
-end_of p n flat before c q l k h = end_rule k h p before.memory l.good.claims (held_by before c).state (owns l.good.owner c) q l.mc l.oc l.pl l.next l.quiet l.requestor_fits l.owned l.waits l.is_mc l.is_oc l.is_pl l.is_next
+pub end_of : (p : Protocol) (n : ℕ) (flat : ℕ) (before : Picture) (c : ℕ) (q : Request) (l : Looked p n flat before c q) (k : OrderTests.EndTest) → OrderTests.orders (OrderTests.end_case k) ≡ true → k p before.memory.state l.good.claims (held_by before c).state (owns l.good.owner c) q l.mc l.oc l.pl l.next ≡ true
+end_of p n flat before c q l k h = end_rule k h p before.memory.state l.good.claims (held_by before c).state (owns l.good.owner c) q l.mc l.oc l.pl l.next l.quiet l.requestor_fits l.owned l.waits l.is_mc l.is_oc l.is_pl l.is_next
 
 -- a test of another core holds there
-pub other_of : (p : Protocol) (n : ℕ) (flat : ℕ) (before : Picture) (c : ℕ) (q : Request) (l : Looked p n flat before c q) (k : OrderTests.OtherTest) → OrderTests.orders (OrderTests.end_case (OrderTests.other_case k)) ≡ true → (d : ℕ) → d < n → d ≢ c → (xc : CacheCell) → cell_of p (held_by before d).state (other q) ≡ Some xc → k p before.memory l.good.claims (held_by before c).state (owns l.good.owner c) q l.mc l.oc l.pl l.next (held_by before d).state (owns l.good.owner d) xc ≡ true
+pub other_of : (p : Protocol) (n : ℕ) (flat : ℕ) (before : Picture) (c : ℕ) (q : Request) (l : Looked p n flat before c q) (k : OrderTests.OtherTest) → OrderTests.orders (OrderTests.end_case (OrderTests.other_case k)) ≡ true → (d : ℕ) → d < n → d ≢ c → (xc : CacheCell) → cell_of p (held_by before d).state (other q) ≡ Some xc → k p before.memory.state l.good.claims (held_by before c).state (owns l.good.owner c) q l.mc l.oc l.pl l.next (held_by before d).state (owns l.good.owner d) xc ≡ true
 other_of p n flat before c q l k h d d_in apart xc is_xc =
     let st = l.good.claims in
     let fit : fits p st.shared (owns l.good.owner d) None (held_by before d).state ≡ true = ap (λ (t : Option Open). fits p st.shared (owns l.good.owner d) (awaited t d) (held_by before d).state) (sym l.calm) ∙ l.good.states d d_in in
-    other_rule k p before.memory st (held_by before c).state (owns l.good.owner c) q l.mc l.oc l.pl l.next (end_of p n flat before c q l (OrderTests.other_case k) h) (held_by before d).state (owns l.good.owner d) xc fit (owns_apart l.good.owner c d apart) (owns_owned l.good.owner d st.owned l.good.is_owned) is_xc
+    other_rule k p before.memory.state st (held_by before c).state (owns l.good.owner c) q l.mc l.oc l.pl l.next (end_of p n flat before c q l (OrderTests.other_case k) h) (held_by before d).state (owns l.good.owner d) xc fit (owns_apart l.good.owner c d apart) (owns_owned l.good.owner d st.owned l.good.is_owned) is_xc
 
 -- each other core has its row
 pub other_cell : (p : Protocol) (n : ℕ) (flat : ℕ) (before : Picture) (c : ℕ) (q : Request) (l : Looked p n flat before c q) (d : ℕ) → d < n → (xc : CacheCell) × (cell_of p (held_by before d).state (other q) ≡ Some xc)
@@ -230,11 +230,11 @@ order_states p n flat before c q after l o opened is_core is_request d d_in =
     ]
 
 -- a clean owner's value is memory's
-order_fresh : (p : Protocol) (n : ℕ) (flat : ℕ) (before : Picture) (c : ℕ) (q : Request) (l : Looked p n flat before c q) → l.next.fresh ≡ true → before.value ≡ flat
+order_fresh : (p : Protocol) (n : ℕ) (flat : ℕ) (before : Picture) (c : ℕ) (q : Request) (l : Looked p n flat before c q) → l.next.fresh ≡ true → before.memory.value ≡ flat
 order_fresh p n flat before c q l h =
     let t = end_of p n flat before c q l OrderTests.fresh_after OrderTests.fresh_after_holds in
     let e : (l.good.claims.fresh || is_clean (held_by before c).state) ≡ true = implied l.next.fresh (l.good.claims.fresh || is_clean (held_by before c).state) t h in
-    elim (either_of l.good.claims.fresh (is_clean (held_by before c).state) e) as (λ _. before.value ≡ flat) [
+    elim (either_of l.good.claims.fresh (is_clean (held_by before c).state) e) as (λ _. before.memory.value ≡ flat) [
       | inl f ↦ l.good.fresh f
       | inr k ↦ l.good.clean c l.requestor_in k
     ]
@@ -282,10 +282,10 @@ pub order_keeps : (p : Protocol) (n : ℕ) (flat : ℕ) (before : Picture) (c : 
 unfolding look
 order_keeps p n flat before c q after good o =
     let l = look p n flat before c q good o.requestor_in o.waits o.calm in
-    let is_mc : o.cell_of_memory ≡ l.mc = some_is (memory_cell_of p before.memory (at_memory q)) o.cell_of_memory l.mc o.is_memory_row l.is_mc in
+    let is_mc : o.cell_of_memory ≡ l.mc = some_is (memory_cell_of p before.memory.state (at_memory q)) o.cell_of_memory l.mc o.is_memory_row l.is_mc in
     let is_pl : o.payload ≡ l.pl = sent_payload p n flat before c q l o.from o.payload o.sends in
     let opened = message o.block c q o.payload (value_sent before o.from o.payload) o.from in
-    let memory : after.memory ≡ l.mc.next = o.memory ∙ ap (λ (m : MemCell). m.next) is_mc in
+    let memory : after.memory.state ≡ l.mc.next = o.memory ∙ ap (λ (m : MemCell). m.next) is_mc in
     record {
       claims = l.next;
       is_claims = rw (o.opens, memory, is_pl) l.is_next;

@@ -36,12 +36,12 @@ use Rattle.snoop_model.proofs.Tables.RespondTests
 pub record Possible (p : Protocol) (n : ℕ) (before : Picture) (c : ℕ) (q : Request) : Type 0 where
   pub rows : (d : ℕ) → d < n → (r : CacheCell) × (cell_of p (held_by before d).state (seen_by d c q) ≡ Some r)
   pub cell_of_memory : MemCell
-  pub memory_row : memory_cell_of p before.memory (at_memory q) ≡ Some cell_of_memory
+  pub memory_row : memory_cell_of p before.memory.state (at_memory q) ≡ Some cell_of_memory
   pub from : Option ℕ
   pub payload : Payload
   pub sender : IsOnlySender p n before c q from payload
   pub writeback : is_put_m q ≡ true → from ≡ Some c
-  pub order_line : follows_sender_table p q before.memory (sender_as before c from) payload cell_of_memory.next ≡ true
+  pub order_line : follows_sender_table p q before.memory.state (sender_as before c from) payload cell_of_memory.next ≡ true
 
 possible_rows : (p : Protocol) (n : ℕ) (flat : ℕ) (before : Picture) (c : ℕ) (q : Request) (l : Looked p n flat before c q) (d : ℕ) → d < n → (r : CacheCell) × (cell_of p (held_by before d).state (seen_by d c q) ≡ Some r)
 possible_rows p n flat before c q l d d_in = elim (eqb_tells d c) as (λ _. (r : CacheCell) × (cell_of p (held_by before d).state (seen_by d c q) ≡ Some r)) [
@@ -62,7 +62,7 @@ roles : (p : Protocol) (n : ℕ) (flat : ℕ) (before : Picture) (c : ℕ) (q : 
 roles p n flat before c q l = record {
   memory = same_is _ _ (end_of p n flat before c q l OrderTests.memory_sends OrderTests.memory_sends_holds);
   requestor = same_is _ _ (end_of p n flat before c q l OrderTests.requestor_sends OrderTests.requestor_sends_holds);
-  puts = implied (owns l.good.owner c) (is_put_m q) (order_rule OrderTests.owner_only_puts OrderTests.owner_only_puts_holds p before.memory l.good.claims (held_by before c).state (owns l.good.owner c) q l.quiet l.requestor_fits l.owned l.waits);
+  puts = implied (owns l.good.owner c) (is_put_m q) (order_rule OrderTests.owner_only_puts OrderTests.owner_only_puts_holds p before.memory.state l.good.claims (held_by before c).state (owns l.good.owner c) q l.quiet l.requestor_fits l.owned l.waits);
   others = λ d d_in apart xc is_xc. same_is _ _ (other_of p n flat before c q l OrderTests.other_sends OrderTests.other_sends_holds d d_in apart xc is_xc);
 }
 
@@ -98,30 +98,30 @@ only p n flat before c q l roles (Some d) sent sends = elim (eqb_tells d c) as (
 pub record Sent (p : Protocol) (n : ℕ) (flat : ℕ) (before : Picture) (c : ℕ) (q : Request) (l : Looked p n flat before c q) : Type 0 where
   pub payload : Payload
   pub sends : Sends p n before c q (meant q c l.good.owner) payload
-  pub order_line : follows_sender_table p q before.memory (sender_as before c (meant q c l.good.owner)) l.pl l.mc.next ≡ true
+  pub order_line : follows_sender_table p q before.memory.state (sender_as before c (meant q c l.good.owner)) l.pl l.mc.next ≡ true
 
 sent_put : (p : Protocol) (n : ℕ) (flat : ℕ) (before : Picture) (c : ℕ) (q : Request) (l : Looked p n flat before c q) → Roles p n flat before c q l → is_put_m q ≡ true → Sent p n flat before c q l
 sent_put p n flat before c q l roles put =
     let x = some_of (sent_by (Some l.oc)) (roles.requestor ∙ put) in
     let row = own_row p n flat before c q l c refl in
-    let line : follows_sender_table p q before.memory (Requestor (held_by before c).state) l.pl l.mc.next ≡ true = implied (is_put_m q) _ (end_of p n flat before c q l OrderTests.order_line_of_put OrderTests.order_line_of_put_holds) put in
+    let line : follows_sender_table p q before.memory.state (Requestor (held_by before c).state) l.pl l.mc.next ≡ true = implied (is_put_m q) _ (end_of p n flat before c q l OrderTests.order_line_of_put OrderTests.order_line_of_put_holds) put in
     let who : meant q c l.good.owner ≡ Some c = rw put refl in
     record {
       payload = x.0;
       sends = subst (λ (w : Option ℕ). Sends p n before c q w x.0) (sym who) (l.requestor_in, ap sent_by row ∙ x.1);
-      order_line = subst (λ (w : Option ℕ). follows_sender_table p q before.memory (sender_as before c w) l.pl l.mc.next ≡ true) (sym who) (rw (eq-eqb c c refl) line);
+      order_line = subst (λ (w : Option ℕ). follows_sender_table p q before.memory.state (sender_as before c w) l.pl l.mc.next ≡ true) (sym who) (rw (eq-eqb c c refl) line);
     }
 
 sent_memory : (p : Protocol) (n : ℕ) (flat : ℕ) (before : Picture) (c : ℕ) (q : Request) (l : Looked p n flat before c q) → Roles p n flat before c q l → is_put_m q ≡ false → l.good.claims.owned ≡ false → Sent p n flat before c q l
 sent_memory p n flat before c q l roles no_put unowned =
     let e : is_some (sent_by_memory (Some l.mc)) ≡ true = roles.memory ∙ rw (no_put, unowned) refl in
     let x = some_of (sent_by_memory (Some l.mc)) e in
-    let line : follows_sender_table p q before.memory Memory l.pl l.mc.next ≡ true = implied (is_some (sent_by_memory (Some l.mc))) _ (end_of p n flat before c q l OrderTests.order_line_of_memory OrderTests.order_line_of_memory_holds) e in
+    let line : follows_sender_table p q before.memory.state Memory l.pl l.mc.next ≡ true = implied (is_some (sent_by_memory (Some l.mc))) _ (end_of p n flat before c q l OrderTests.order_line_of_memory OrderTests.order_line_of_memory_holds) e in
     let who : meant q c l.good.owner ≡ None = rw no_put (none_of l.good.owner (l.good.is_owned ∙ unowned)) in
     record {
       payload = x.0;
       sends = subst (λ (w : Option ℕ). Sends p n before c q w x.0) (sym who) (ap sent_by_memory l.is_mc ∙ x.1);
-      order_line = subst (λ (w : Option ℕ). follows_sender_table p q before.memory (sender_as before c w) l.pl l.mc.next ≡ true) (sym who) line;
+      order_line = subst (λ (w : Option ℕ). follows_sender_table p q before.memory.state (sender_as before c w) l.pl l.mc.next ≡ true) (sym who) line;
     }
 
 sent_owner : (p : Protocol) (n : ℕ) (flat : ℕ) (before : Picture) (c : ℕ) (q : Request) (l : Looked p n flat before c q) → Roles p n flat before c q l → is_put_m q ≡ false → (d : ℕ) → l.good.owner ≡ Some d → Sent p n flat before c q l
@@ -133,12 +133,12 @@ sent_owner p n flat before c q l roles no_put d is_d =
     let e : is_some (sent_by (Some xc.0)) ≡ true = roles.others d d_in apart xc.0 xc.1 ∙ rw (owning, no_put) refl in
     let x = some_of (sent_by (Some xc.0)) e in
     let row : cell_of p (held_by before d).state (seen_by d c q) ≡ Some xc.0 = ap (λ (v : CacheEvent). cell_of p (held_by before d).state v) (seen_other d c q apart) ∙ xc.1 in
-    let line : follows_sender_table p q before.memory (Core (held_by before d).state) l.pl l.mc.next ≡ true = implied (is_some (sent_by (Some xc.0))) _ (other_of p n flat before c q l OrderTests.order_line_of_core OrderTests.order_line_of_core_holds d d_in apart xc.0 xc.1) e in
+    let line : follows_sender_table p q before.memory.state (Core (held_by before d).state) l.pl l.mc.next ≡ true = implied (is_some (sent_by (Some xc.0))) _ (other_of p n flat before c q l OrderTests.order_line_of_core OrderTests.order_line_of_core_holds d d_in apart xc.0 xc.1) e in
     let who : meant q c l.good.owner ≡ Some d = rw no_put is_d in
     record {
       payload = x.0;
       sends = subst (λ (w : Option ℕ). Sends p n before c q w x.0) (sym who) (d_in, ap sent_by row ∙ x.1);
-      order_line = subst (λ (w : Option ℕ). follows_sender_table p q before.memory (sender_as before c w) l.pl l.mc.next ≡ true) (sym who) (rw (not_eqb d c apart) line);
+      order_line = subst (λ (w : Option ℕ). follows_sender_table p q before.memory.state (sender_as before c w) l.pl l.mc.next ≡ true) (sym who) (rw (not_eqb d c apart) line);
     }
 
 some_or_none : (o : Option ℕ) → (o ≡ None) ⊎ ((d : ℕ) × (o ≡ Some d))
@@ -169,7 +169,7 @@ order_possible p n flat before c q good c_in waits calm =
       payload = s.payload;
       sender = record { sends = s.sends; alone = only p n flat before c q l r };
       writeback = λ put. rw put refl;
-      order_line = subst (λ (x : Payload). follows_sender_table p q before.memory (sender_as before c (meant q c l.good.owner)) x l.mc.next ≡ true) (sym same_payload) s.order_line;
+      order_line = subst (λ (x : Payload). follows_sender_table p q before.memory.state (sender_as before c (meant q c l.good.owner)) x l.mc.next ≡ true) (sym same_payload) s.order_line;
     }
 
 fits_protocol : (p : Protocol) (shared ow : Bool) (w : Option Request) (s : CacheState) → fits p shared ow w s ≡ true → in_protocol p s ≡ true
@@ -188,15 +188,15 @@ respond_possible p n flat before o good was_open =
     let c = o.core in
     let s = (held_by before c).state in
     let ow = owns good.owner c in
-    let is_claims : claims_of p before.memory (Some (o.request, o.payload)) ≡ Some good.claims = ap (λ (t : Option Open). claims_of p before.memory (talk_of t)) (sym was_open) ∙ good.is_claims in
+    let is_claims : claims_of p before.memory.state (Some (o.request, o.payload)) ≡ Some good.claims = ap (λ (t : Option Open). claims_of p before.memory.state (talk_of t)) (sym was_open) ∙ good.is_claims in
     let waits : awaited before.transaction c ≡ Some o.request = ap (λ (t : Option Open). awaited t c) was_open ∙ rw (eq-eqb c c refl) refl in
     let fit : fits p good.claims.shared ow (Some o.request) s ≡ true = ap (λ (w : Option Request). fits p good.claims.shared ow w s) (sym waits) ∙ good.states c (good.requestor_in o was_open) in
     record {
       memory = λ h.
-          let t = respond_rule RespondTests.has_memory_arrival RespondTests.has_memory_arrival_holds p before.memory o.request o.payload good.claims is_claims in
-          some_of (mem_row_of p before.memory (arrival_at_memory o.payload)) (implied (takes_payload o.request before.memory) _ t h);
+          let t = respond_rule RespondTests.has_memory_arrival RespondTests.has_memory_arrival_holds p before.memory.state o.request o.payload good.claims is_claims in
+          some_of (mem_row_of p before.memory.state (arrival_at_memory o.payload)) (implied (takes_payload o.request before.memory.state) _ t h);
       requestor = λ no_put.
           let get : not (is_put_m o.request) ≡ true = rw no_put refl in
-          let test_first = when_at _ _ get (respond_rule RespondTests.has_arrival RespondTests.has_arrival_holds p before.memory o.request o.payload good.claims is_claims) in
+          let test_first = when_at _ _ get (respond_rule RespondTests.has_arrival RespondTests.has_arrival_holds p before.memory.state o.request o.payload good.claims is_claims) in
           some_of (row_of p s (arrival o.payload)) (when_at _ _ fit (either-at _ (all_states-at _ test_first s) ow));
     }

@@ -45,8 +45,8 @@ next_at p m None = refl
 next_at p m (Some e) = refl
 
 -- memory's next state is the tables'
-memory_after : (b : Bool) (p : Protocol) (before : Picture) (opened : Open) (after : Picture) → MemoryTakes b p before opened after → cond b (next_memory p before.memory (arrival_at_memory opened.payload)) (Some before.memory) ≡ Some after.memory
-memory_after true p before opened after t = next_at p before.memory (arrival_at_memory opened.payload) ∙ (ap next_of t.1 ∙ ap (λ (m : MemState). Some m) (sym t.2))
+memory_after : (b : Bool) (p : Protocol) (before : Picture) (opened : Open) (after : Picture) → MemoryTakes b p before opened after → cond b (next_memory p before.memory.state (arrival_at_memory opened.payload)) (Some before.memory.state) ≡ Some after.memory.state
+memory_after true p before opened after t = next_at p before.memory.state (arrival_at_memory opened.payload) ∙ (ap next_of t.1 ∙ ap (λ (m : MemState). Some m) (sym t.2))
 memory_after false p before opened after t = ap (λ (m : MemState). Some m) (sym t.0)
 
 written_flat : (a : MemAction) (v old flat : ℕ) → (writes a ≡ true → v ≡ flat) → old ≡ flat → written a v old ≡ flat
@@ -60,28 +60,28 @@ written_now mem_action.None v old flat h e = cc
 written_now (mem_action.Send pl) v old flat h e = cc
 
 -- what memory had of the flat value it keeps
-value_stays : (b : Bool) (p : Protocol) (before : Picture) (opened : Open) (after : Picture) (flat : ℕ) → MemoryTakes b p before opened after → (not b || given (mem_row_of p before.memory (arrival_at_memory opened.payload)) (λ r. not (writes r.action) || carries_value opened.payload)) ≡ true → (carries_value opened.payload ≡ true → opened.value ≡ flat) → before.value ≡ flat → after.value ≡ flat
+value_stays : (b : Bool) (p : Protocol) (before : Picture) (opened : Open) (after : Picture) (flat : ℕ) → MemoryTakes b p before opened after → (not b || given (mem_row_of p before.memory.state (arrival_at_memory opened.payload)) (λ r. not (writes r.action) || carries_value opened.payload)) ≡ true → (carries_value opened.payload ≡ true → opened.value ≡ flat) → before.memory.value ≡ flat → after.memory.value ≡ flat
 value_stays true p before opened after flat t test carried e =
-    let h = given_at (mem_row_of p before.memory (arrival_at_memory opened.payload)) (λ r. not (writes r.action) || carries_value opened.payload) t.0 t.1 test in
-    t.3 ∙ written_flat t.0.action opened.value before.value flat (λ w. carried (implied (writes t.0.action) (carries_value opened.payload) h w)) e
+    let h = given_at (mem_row_of p before.memory.state (arrival_at_memory opened.payload)) (λ r. not (writes r.action) || carries_value opened.payload) t.0 t.1 test in
+    t.3 ∙ written_flat t.0.action opened.value before.memory.value flat (λ w. carried (implied (writes t.0.action) (carries_value opened.payload) h w)) e
 value_stays false p before opened after flat t test carried e = t.1 ∙ e
 
-value_written : (b : Bool) (p : Protocol) (before : Picture) (opened : Open) (after : Picture) (flat : ℕ) → MemoryTakes b p before opened after → (b && carries_value opened.payload && given (mem_row_of p before.memory (arrival_at_memory opened.payload)) (λ r. writes r.action)) ≡ true → (carries_value opened.payload ≡ true → opened.value ≡ flat) → after.value ≡ flat
+value_written : (b : Bool) (p : Protocol) (before : Picture) (opened : Open) (after : Picture) (flat : ℕ) → MemoryTakes b p before opened after → (b && carries_value opened.payload && given (mem_row_of p before.memory.state (arrival_at_memory opened.payload)) (λ r. writes r.action)) ≡ true → (carries_value opened.payload ≡ true → opened.value ≡ flat) → after.memory.value ≡ flat
 value_written true p before opened after flat t test carried =
-    let parts = and_parts (carries_value opened.payload) (given (mem_row_of p before.memory (arrival_at_memory opened.payload)) (λ r. writes r.action)) test in
-    let w : writes t.0.action ≡ true = given_at (mem_row_of p before.memory (arrival_at_memory opened.payload)) (λ r. writes r.action) t.0 t.1 parts.1 in
-    t.3 ∙ written_now t.0.action opened.value before.value flat w (carried parts.0)
+    let parts = and_parts (carries_value opened.payload) (given (mem_row_of p before.memory.state (arrival_at_memory opened.payload)) (λ r. writes r.action)) test in
+    let w : writes t.0.action ≡ true = given_at (mem_row_of p before.memory.state (arrival_at_memory opened.payload)) (λ r. writes r.action) t.0 t.1 parts.1 in
+    t.3 ∙ written_now t.0.action opened.value before.memory.value flat w (carried parts.0)
 value_written false p before opened after flat t test carried = cc
 
 -- what a Respond of a good picture looks up
 pub record Found (p : Protocol) (n : ℕ) (flat : ℕ) (before after : Picture) (opened : Open) (g : Good p n flat before) : Type 0 where
-  pub is_claims : claims_of p before.memory (Some (opened.request, opened.payload)) ≡ Some g.claims
-  pub is_memory : after_respond p opened.request before.memory opened.payload ≡ Some after.memory
+  pub is_claims : claims_of p before.memory.state (Some (opened.request, opened.payload)) ≡ Some g.claims
+  pub is_memory : after_respond p opened.request before.memory.state opened.payload ≡ Some after.memory.state
   pub next : Claims
-  pub is_next : claims_of p after.memory None ≡ Some next
+  pub is_next : claims_of p after.memory.state None ≡ Some next
   pub carried : carries_value opened.payload ≡ true → opened.value ≡ flat
-  pub stays : before.value ≡ flat → after.value ≡ flat
-  pub refreshed : next.fresh ≡ true → (is_get_m opened.request ≡ false) × (after.value ≡ flat)
+  pub stays : before.memory.value ≡ flat → after.memory.value ≡ flat
+  pub refreshed : next.fresh ≡ true → (is_get_m opened.request ≡ false) × (after.memory.value ≡ flat)
   pub requestor_in : opened.core < n
   pub owned : next.owned ≡ (g.claims.owned || gains opened.request opened.payload)
 
@@ -90,14 +90,14 @@ find p n flat before after made g r =
     let o = r.opened in
     let q = o.request in
     let pl = o.payload in
-    let m = before.memory in
+    let m = before.memory.state in
     let is_claims : claims_of p m (Some (q, pl)) ≡ Some g.claims = ap (λ (t : Option Open). claims_of p m (talk_of t)) (sym r.was_open) ∙ g.is_claims in
-    let is_memory : after_respond p q m pl ≡ Some after.memory = memory_after (takes_payload q m) p before o after r.memory in
+    let is_memory : after_respond p q m pl ≡ Some after.memory.state = memory_after (takes_payload q m) p before o after r.memory in
     let h1 = respond_rule RespondTests.has_line_after RespondTests.has_line_after_holds p m q pl g.claims is_claims in
-    let some_next : (a : Claims) × (claims_of p after.memory None ≡ Some a) = some_of (claims_of p after.memory None) (given_at _ _ after.memory is_memory h1) in
+    let some_next : (a : Claims) × (claims_of p after.memory.state None ≡ Some a) = some_of (claims_of p after.memory.state None) (given_at _ _ after.memory.state is_memory h1) in
     let carried : carries_value pl ≡ true → o.value ≡ flat = g.carried o r.was_open in
-    let stays : before.value ≡ flat → after.value ≡ flat = value_stays (takes_payload q m) p before o after flat r.memory (respond_rule RespondTests.write_carries RespondTests.write_carries_holds p m q pl g.claims is_claims) carried in
-    let fresh_test = after_rule RespondTests.fresh_respond RespondTests.fresh_respond_holds p m q pl g.claims after.memory some_next.0 is_claims is_memory some_next.1 in
+    let stays : before.memory.value ≡ flat → after.memory.value ≡ flat = value_stays (takes_payload q m) p before o after flat r.memory (respond_rule RespondTests.write_carries RespondTests.write_carries_holds p m q pl g.claims is_claims) carried in
+    let fresh_test = after_rule RespondTests.fresh_respond RespondTests.fresh_respond_holds p m q pl g.claims after.memory.state some_next.0 is_claims is_memory some_next.1 in
     let written_test = takes_payload q m && carries_value pl && given (mem_row_of p m (arrival_at_memory pl)) (λ (x : MemCell). writes x.action) in
     record {
       is_claims = is_claims;
@@ -108,19 +108,19 @@ find p n flat before after made g r =
       stays = stays;
       refreshed = λ h.
           let h2 = and_parts (not (is_get_m q)) (g.claims.fresh || written_test) (implied some_next.0.fresh (not (is_get_m q) && (g.claims.fresh || written_test)) fresh_test h) in
-          let v : after.value ≡ flat = elim (either_of g.claims.fresh written_test h2.1) as (λ _. after.value ≡ flat) [
+          let v : after.memory.value ≡ flat = elim (either_of g.claims.fresh written_test h2.1) as (λ _. after.memory.value ≡ flat) [
             | inl f ↦ stays (g.fresh f)
             | inr w ↦ value_written (takes_payload q m) p before o after flat r.memory w carried
           ] in
           (not_true (is_get_m q) h2.0, v);
       requestor_in = g.requestor_in o r.was_open;
-      owned = same_is _ _ (after_rule RespondTests.gain_owned RespondTests.gain_owned_holds p m q pl g.claims after.memory some_next.0 is_claims is_memory some_next.1);
+      owned = same_is _ _ (after_rule RespondTests.gain_owned RespondTests.gain_owned_holds p m q pl g.claims after.memory.state some_next.0 is_claims is_memory some_next.1);
     }
 
 -- a core that is not answered keeps its state, and it fits the line after
 stays_fits : (p : Protocol) (n : ℕ) (flat : ℕ) (before after : Picture) (o : Open) (g : Good p n flat before) (f : Found p n flat before after o g) (d : ℕ) → d < n → fits p g.claims.shared (owns g.owner d) None (held_by before d).state ≡ true → fits p f.next.shared (owns g.owner d) None (held_by before d).state ≡ true
 stays_fits p n flat before after o g f d d_in fit =
-    let t = after_rule RespondTests.stay_fits RespondTests.stay_fits_holds p before.memory o.request o.payload g.claims after.memory f.next f.is_claims f.is_memory f.is_next in
+    let t = after_rule RespondTests.stay_fits RespondTests.stay_fits_holds p before.memory.state o.request o.payload g.claims after.memory.state f.next f.is_claims f.is_memory f.is_next in
     let s = (held_by before d).state in
     let ow = owns g.owner d in
     let h0 = either-at _ (all_states-at _ t s) ow in
@@ -129,7 +129,7 @@ stays_fits p n flat before after o g f d d_in fit =
 -- after a GetM no other core may read
 stays_blind : (p : Protocol) (n : ℕ) (flat : ℕ) (before after : Picture) (o : Open) (g : Good p n flat before) (f : Found p n flat before after o g) → is_get_m o.request ≡ true → (d : ℕ) → d < n → fits p g.claims.shared (owns g.owner d) None (held_by before d).state ≡ true → keeps (held_by before d).state ≡ false
 stays_blind p n flat before after o g f get_m d d_in fit =
-    let t = when_at _ _ get_m (after_rule RespondTests.stay_alone RespondTests.stay_alone_holds p before.memory o.request o.payload g.claims after.memory f.next f.is_claims f.is_memory f.is_next) in
+    let t = when_at _ _ get_m (after_rule RespondTests.stay_alone RespondTests.stay_alone_holds p before.memory.state o.request o.payload g.claims after.memory.state f.next f.is_claims f.is_memory f.is_next) in
     let s = (held_by before d).state in
     let ow = owns g.owner d in
     let h0 = either-at _ (all_states-at _ t s) ow in
@@ -159,7 +159,7 @@ respond_put p n flat before after made g r put same_held nothing =
     let calm : (d : ℕ) → is_calm (awaited before.transaction d) ≡ true = λ d. rw r.was_open (put_calm o d put) in
     let good : Good p n flat after = record {
       claims = f.next;
-      is_claims = ap (λ (t : Option Open). claims_of p after.memory (talk_of t)) r.closes ∙ f.is_next;
+      is_claims = ap (λ (t : Option Open). claims_of p after.memory.state (talk_of t)) r.closes ∙ f.is_next;
       owner = g.owner;
       owner_in = g.owner_in;
       is_owned = g.is_owned ∙ (or_false_is g.claims.owned ∙ (ap (λ (b : Bool). g.claims.owned || b) (sym gained) ∙ sym f.owned));
@@ -213,9 +213,9 @@ arrive p n flat before after o g f row was_open no_put is_row =
     let waits : awaited before.transaction c ≡ Some o.request = ap (λ (t : Option Open). awaited t c) was_open ∙ rw (eq-eqb c c refl) refl in
     let fit : fits p g.claims.shared ow (Some o.request) s ≡ true = ap (λ (w : Option Request). fits p g.claims.shared ow w s) (sym waits) ∙ g.states c f.requestor_in in
     let get : not (is_put_m o.request) ≡ true = rw no_put refl in
-    let test_first = when_at _ _ get (after_rule RespondTests.arrival_fits RespondTests.arrival_fits_holds p before.memory o.request o.payload g.claims after.memory f.next f.is_claims f.is_memory f.is_next) in
+    let test_first = when_at _ _ get (after_rule RespondTests.arrival_fits RespondTests.arrival_fits_holds p before.memory.state o.request o.payload g.claims after.memory.state f.next f.is_claims f.is_memory f.is_next) in
     let test_second = given_at _ _ row is_row (when_at _ _ fit (either-at _ (all_states-at _ test_first s) ow)) in
-    let u0 = when_at _ _ get (respond_rule RespondTests.arrival_fills RespondTests.arrival_fills_holds p before.memory o.request o.payload g.claims f.is_claims) in
+    let u0 = when_at _ _ get (respond_rule RespondTests.arrival_fills RespondTests.arrival_fills_holds p before.memory.state o.request o.payload g.claims f.is_claims) in
     let u1 = given_at _ _ row is_row (when_at _ _ fit (either-at _ (all_states-at _ u0 s) ow)) in
     let a = and_parts (not ow) (fits p f.next.shared (gains o.request o.payload) None row.next && (not (is_clean row.next) || (g.claims.fresh && not (is_get_m o.request)))) test_second in
     let b = and_parts (fits p f.next.shared (gains o.request o.payload) None row.next) (not (is_clean row.next) || (g.claims.fresh && not (is_get_m o.request))) a.1 in
@@ -278,17 +278,17 @@ respond_get p n flat before after made g r no_put row is_row fills others =
     let c = o.core in
     let gained = gains o.request o.payload in
     let a = arrive p n flat before after o g f row r.was_open no_put is_row in
-    let carries : carries_value o.payload ≡ true = right_of (is_put_m o.request) (carries_value o.payload) (respond_rule RespondTests.data_of_get RespondTests.data_of_get_holds p before.memory o.request o.payload g.claims f.is_claims) no_put in
+    let carries : carries_value o.payload ≡ true = right_of (is_put_m o.request) (carries_value o.payload) (respond_rule RespondTests.data_of_get RespondTests.data_of_get_holds p before.memory.state o.request o.payload g.claims f.is_claims) no_put in
     let l = fill flat row.action row.next o.value (held_by before c) (held_by after c) made (f.carried carries) fills in
     let fit : (d : ℕ) → d < n → d ≢ c → fits p g.claims.shared (owns g.owner d) None (held_by before d).state ≡ true = λ d d_in apart.
     let waits : awaited before.transaction d ≡ None = ap (λ (t : Option Open). awaited t d) r.was_open ∙ rw (not_eqb d c apart) refl in
     ap (λ (w : Option Request). fits p g.claims.shared (owns g.owner d) w (held_by before d).state) (sym waits) ∙ g.states d d_in in
-    let alone = after_rule RespondTests.gain_alone RespondTests.gain_alone_holds p before.memory o.request o.payload g.claims after.memory f.next f.is_claims f.is_memory f.is_next in
+    let alone = after_rule RespondTests.gain_alone RespondTests.gain_alone_holds p before.memory.state o.request o.payload g.claims after.memory.state f.next f.is_claims f.is_memory f.is_next in
     -- the flat value is as before, or no other core may read and memory isn't fresh
     let same_flat : is_get_m o.request ≡ false → flat_after flat made ≡ flat = λ h. l.load_keeps (a.fills ∙ h) in
     let good : Good p n (flat_after flat made) after = record {
       claims = f.next;
-      is_claims = ap (λ (t : Option Open). claims_of p after.memory (talk_of t)) r.closes ∙ f.is_next;
+      is_claims = ap (λ (t : Option Open). claims_of p after.memory.state (talk_of t)) r.closes ∙ f.is_next;
       owner = answered_owner gained c g.owner;
       owner_in = answered_in gained c g.owner n f.requestor_in g.owner_in;
       is_owned = answered_owned gained g.claims.owned c g.owner g.is_owned ∙ sym f.owned;
@@ -303,13 +303,13 @@ respond_get p n flat before after made g r no_put row is_row fills others =
           | inr m ↦ carried_kept (held_by before d) (held_by after d) flat (carried_same (held_by before d) (held_by after d) (others d d_in e.1)) (g.kept d d_in) h ∙ ap (λ (x : ℕ). Some x) (sym (same_flat m))
         ]
       ];
-      clean = λ d d_in h. elim (eqb_tells d c) as (λ _. after.value ≡ flat_after flat made) [
+      clean = λ d d_in h. elim (eqb_tells d c) as (λ _. after.memory.value ≡ flat_after flat made) [
         | inl e ↦
             let k = a.clean (ap is_clean (sym l.state) ∙ (ap (λ (x : ℕ). is_clean (held_by after x).state) (sym e.1) ∙ h)) in
             f.stays (g.fresh k.0) ∙ sym (same_flat k.1)
         | inr e ↦
             let was : is_clean (held_by before d).state ≡ true = ap (λ (x : Line). is_clean x.state) (sym (others d d_in e.1)) ∙ h in
-            elim (or_not (is_get_m o.request)) as (λ _. after.value ≡ flat_after flat made) [
+            elim (or_not (is_get_m o.request)) as (λ _. after.memory.value ≡ flat_after flat made) [
               | inl m ↦ absurd (clash (keeps (held_by before d).state) (clean_reads (held_by before d).state was) (stays_blind p n flat before after o g f m d d_in (fit d d_in e.1)))
               | inr m ↦ f.stays (g.clean d d_in was) ∙ sym (same_flat m)
             ]

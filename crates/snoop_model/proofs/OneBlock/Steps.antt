@@ -43,7 +43,7 @@ sent_by_memory (Some c) = elim c.action as (λ _. Option Payload) [ mem_action.S
 
 -- the controller, memory or a core, sends this payload when the core's request is ordered
 abbrev pub Sends : Protocol → ℕ → Picture → ℕ → Request → Option ℕ → Payload → Type 0
-Sends p n before c q None pl = sent_by_memory (memory_cell_of p before.memory (at_memory q)) ≡ Some pl
+Sends p n before c q None pl = sent_by_memory (memory_cell_of p before.memory.state (at_memory q)) ≡ Some pl
 Sends p n before c q (Some d) pl = (d < n) × (sent_by (cell_of p (held_by before d).state (seen_by d c q)) ≡ Some pl)
 
 pub record IsOnlySender (p : Protocol) (n : ℕ) (before : Picture) (c : ℕ) (q : Request) (from : Option ℕ) (pl : Payload) : Type 0 where
@@ -63,9 +63,9 @@ pub record Orders (p : Protocol) (n : ℕ) (before : Picture) (c : ℕ) (q : Req
   pub calm : before.transaction ≡ None
   pub taken : (d : ℕ) → d < n → Takes p (seen_by d c q) (held_by before d) (held_by after d)
   pub cell_of_memory : MemCell
-  pub is_memory_row : memory_cell_of p before.memory (at_memory q) ≡ Some cell_of_memory
-  pub memory : after.memory ≡ cell_of_memory.next
-  pub value : after.value ≡ before.value
+  pub is_memory_row : memory_cell_of p before.memory.state (at_memory q) ≡ Some cell_of_memory
+  pub memory : after.memory.state ≡ cell_of_memory.next
+  pub value : after.memory.value ≡ before.memory.value
   pub from : Option ℕ
   pub payload : Payload
   pub sends : Sends p n before c q from payload
@@ -97,8 +97,8 @@ pub record Asks (p : Protocol) (n : ℕ) (before : Picture) (c : ℕ) (asking : 
   pub is_row : cell_of p (held_by before c).state (asked asking) ≡ Some row
   pub performs : Performs row.action asking row.next (held_by before c) (held_by after c) made
   pub others : (d : ℕ) → d < n → d ≢ c → held_by after d ≡ held_by before d
-  pub memory : after.memory ≡ before.memory
-  pub value : after.value ≡ before.value
+  pub memory : after.memory.state ≡ before.memory.state
+  pub value : after.memory.value ≡ before.memory.value
   pub transaction : after.transaction ≡ before.transaction
 
 abbrev pub row_of : Protocol → CacheState → Option CacheEvent → Option CacheCell
@@ -111,8 +111,8 @@ mem_row_of p m (Some e) = memory_cell_of p m e
 
 -- memory takes the payload, or stays
 abbrev pub MemoryTakes : Bool → Protocol → Picture → Open → Picture → Type 0
-MemoryTakes true p before opened after = (r : MemCell) × (mem_row_of p before.memory (arrival_at_memory opened.payload) ≡ Some r) × (after.memory ≡ r.next) × (after.value ≡ written r.action opened.value before.value)
-MemoryTakes false p before opened after = (after.memory ≡ before.memory) × (after.value ≡ before.value)
+MemoryTakes true p before opened after = (r : MemCell) × (mem_row_of p before.memory.state (arrival_at_memory opened.payload) ≡ Some r) × (after.memory.state ≡ r.next) × (after.memory.value ≡ written r.action opened.value before.memory.value)
+MemoryTakes false p before opened after = (after.memory.state ≡ before.memory.state) × (after.memory.value ≡ before.memory.value)
 
 -- the waiting operation is performed with the data
 abbrev pub Fills : CacheAction → CacheState → ℕ → Line → Line → Option Done → Type 0
@@ -132,7 +132,7 @@ pub record Responds (p : Protocol) (n : ℕ) (before : Picture) (after : Picture
   pub opened : Open
   pub was_open : before.transaction ≡ Some opened
   pub closes : after.transaction ≡ None
-  pub memory : MemoryTakes (takes_payload opened.request before.memory) p before opened after
+  pub memory : MemoryTakes (takes_payload opened.request before.memory.state) p before opened after
   pub requestor : RequestorTakes (is_put_m opened.request) p n before opened after made
 
 -- an Evict in I, which the machine answers with no row
@@ -142,5 +142,5 @@ is_idle_evict _ _ = false
 
 -- a Respond finds its rows
 pub record Answerable (p : Protocol) (before : Picture) (o : Open) : Type 0 where
-  pub memory : takes_payload o.request before.memory ≡ true → (r : MemCell) × (mem_row_of p before.memory (arrival_at_memory o.payload) ≡ Some r)
+  pub memory : takes_payload o.request before.memory.state ≡ true → (r : MemCell) × (mem_row_of p before.memory.state (arrival_at_memory o.payload) ≡ Some r)
   pub requestor : is_put_m o.request ≡ false → (r : CacheCell) × (row_of p (held_by before o.core).state (arrival o.payload) ≡ Some r)

@@ -168,7 +168,7 @@ module _ (s t : Situation) (kept : IsWellKept s) (core block : ℕ) (request : R
             ∙ (ap length (get_or-set_other s.caches block b orders.next.caches [] ne) ∙ (kept.shaped.row b (subst P orders.after h) ∙ ap (λ (x : Situation). x.shape.cores) (sym orders.after))))
       ];
       memory = ap (λ (x : Situation). length x.memory) orders.after
-          ∙ (length-set s.memory block (record { state = orders.next.memory; value = orders.next.value }) ∙ (kept.shaped.memory ∙ ap (λ (x : Situation). x.shape.blocks) (sym orders.after)));
+          ∙ (length-set s.memory block orders.next.memory ∙ (kept.shaped.memory ∙ ap (λ (x : Situation). x.shape.blocks) (sym orders.after)));
       queues = ap (λ (x : Situation). length x.queues) orders.after
           ∙ (length-set s.queues core (filter (λ b. not (b == block)) (queue_of s.queues core)) ∙ (kept.shaped.queues ∙ ap (λ (x : Situation). x.shape.cores) (sym orders.after)));
       transactions = ap (λ (x : Situation). length x.transactions) orders.after

@@ -157,7 +157,7 @@ module _ (s t : Situation) (kept : IsWellKept s) (block : ℕ) (closing : Open) 
             ∙ (ap length (get_or-set_other s.caches block b responds.next.caches [] ne) ∙ (kept.shaped.row b (subst P responds.after h) ∙ ap (λ (x : Situation). x.shape.cores) (sym responds.after))))
       ];
       memory = ap (λ (x : Situation). length x.memory) responds.after
-          ∙ (length-set s.memory block (record { state = responds.next.memory; value = responds.next.value }) ∙ (kept.shaped.memory ∙ ap (λ (x : Situation). x.shape.blocks) (sym responds.after)));
+          ∙ (length-set s.memory block responds.next.memory ∙ (kept.shaped.memory ∙ ap (λ (x : Situation). x.shape.blocks) (sym responds.after)));
       queues = ap length same_queues ∙ (kept.shaped.queues ∙ ap (λ (x : Situation). x.shape.cores) (sym responds.after));
       transactions = ap (λ (x : Situation). length x.transactions) responds.after
           ∙ (length-set s.transactions block responds.next.transaction ∙ (kept.shaped.transactions ∙ ap (λ (x : Situation). x.shape.blocks) (sym responds.after)));

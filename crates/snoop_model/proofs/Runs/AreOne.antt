@@ -34,7 +34,7 @@ use Rattle.snoop_model.specs.declared.replies.Reply.{Reply}
 use Rattle.snoop_model.specs.declared.replies.Reply.TheVariants as reply
 use Rattle.snoop_model.specs.declared.replies.Refused.{Refused}
 use Rattle.snoop_model.specs.declared.replies.Refused.TheVariants.{NoCore, NoBlock, Stalled, NothingWaiting, BusTaken, NoTransaction, NoMemory}
-use Rattle.snoop_model.specs.Pictures.Picture.{Picture, held_at, held_by, nothing_held, memory_line}
+use Rattle.snoop_model.specs.Pictures.Picture.{Picture, held_at, held_by, nothing_held}
 use Rattle.snoop_model.specs.Pictures.Situation.{Situation, picture_of, with_picture, state_of}
 use Rattle.snoop_model.specs.Pictures.Sends.{Sends, value_sent}
 use Rattle.snoop_model.specs.Moves.Move.{TakesRow, Takes, FillsRequestor, ArrivesFor, ArrivesAtMemory, Asks, Orders, Responds, IsAbsent, IsWithin, FirstMove, Performs, moves_to, next_did, queues_after, came_of, written}
@@ -43,7 +43,7 @@ use Rattle.snoop_model.specs.Runs.Run.{GoesFirst, FirstRunFrom}
 use Rattle.snoop_model.specs.Invariant.WellKept.{IsWellKept}
 use Rattle.snoop_model.specs.Turns.TurnRule.{KeepsWell}
 use Rattle.snoop_model.proofs.Tables.EvictInI.{no_row}
-use Rattle.snoop_model.proofs.OneBlock.OfBlocks.{same_picture}
+use Rattle.snoop_model.proofs.OneBlock.OfBlocks.{same_picture, same_memory}
 use Rattle.snoop_model.proofs.Runs.GoOn.{IsSteady, first_in, steady_on}
 
 same_some : {A : Type 0} {a b : A} → ◌≡◌ {A = Option A} (Some a) (Some b) → a ≡ b
@@ -268,7 +268,7 @@ same_row xs ys long each = same_lists xs ys long (λ k d h. get_or_default xs k 
 -- a sender sends one payload
 pub sends_one : (p : Protocol) (before : Picture) (core : ℕ) (q : Request) (from : Option ℕ) (payload payload' : Payload) → Sends p before core q from payload → Sends p before core q from payload' → payload ≡ payload'
 sends_one p before core q None payload payload' a b =
-    let same : mem_action.Send payload ≡ mem_action.Send payload' = (MemoryCell-one p before.memory (at_memory q) (mem_action.Send payload) (mem_action.Send payload') a.0 b.0 a.1 b.1).0 in cc
+    let same : mem_action.Send payload ≡ mem_action.Send payload' = (MemoryCell-one p before.memory.state (at_memory q) (mem_action.Send payload) (mem_action.Send payload') a.0 b.0 a.1 b.1).0 in cc
 sends_one p before core q (Some d) payload payload' a b =
     let same : action.Send payload a.1.0 ≡ action.Send payload' b.1.0 = (Cell-one p (held_by before d).state (seen_by d core q) (action.Send payload a.1.0) (action.Send payload' b.1.0) a.1.1.0 b.1.1.0 a.1.1.1 b.1.1.1).0 in cc
 
@@ -283,9 +283,9 @@ orders_one s core block q new new' a b =
     let from : b.from ≡ a.from = a.sent.alone b.from b.payload b.sent.sends in
     let payload : a.payload ≡ b.payload = sends_one p before core q a.from a.payload b.payload a.sent.sends (subst (λ (f : Option ℕ). Sends p before core q f b.payload) from b.sent.sends) in
     let caches : a.next.caches ≡ b.next.caches = same_row a.next.caches b.next.caches (a.caches ∙ sym b.caches) (λ k h. row_one p (seen_by k core q) (held_by before k) (held_by a.next k) (held_by b.next k) (a.rows k h) (b.rows k (rw (← a.caches ∙ sym b.caches) h))) in
-    let memory : a.next.memory ≡ b.next.memory = (MemoryCell-one p before.memory (at_memory q) a.memory.0 b.memory.0 a.next.memory b.next.memory a.memory.1 b.memory.1).1 in
+    let memory : a.next.memory.state ≡ b.next.memory.state = (MemoryCell-one p before.memory.state (at_memory q) a.memory.0 b.memory.0 a.next.memory.state b.next.memory.state a.memory.1 b.memory.1).1 in
     let opened : a.next.transaction ≡ b.next.transaction = a.opened ∙ (ap (λ f. opening before core block q f a.payload) (sym from) ∙ (ap (λ x. opening before core block q b.from x) payload ∙ sym b.opened)) in
-    let next : a.next ≡ b.next = same_picture _ _ _ _ _ _ _ _ caches memory (a.value ∙ sym b.value) opened in
+    let next : a.next ≡ b.next = same_picture _ _ _ _ _ _ caches (same_memory _ _ _ _ memory (a.value ∙ sym b.value)) opened in
     let then : Picture → Situation = λ x. record (with_picture s block x) { queues = after_order s.queues core block; log = s.log ++ item.Sent (record { core = core; request = q; block = block }) ∷ [] } in
     a.after ∙ (ap then next ∙ sym b.after)
 
@@ -334,10 +334,10 @@ responds_one s block o o' did did' new new' a b =
     let same : o' ≡ o = same_some (sym b.opened ∙ a.opened) in
     let requestor : ArrivesFor o.request o p s.log before.caches b.next.caches did' = subst (λ (x : Open). ArrivesFor x.request x p s.log before.caches b.next.caches did') same b.requestor in
     let caches = arrives_one o.request o p s.log before.caches a.next.caches b.next.caches did did' a.requestor requestor in
-    let its : ArrivesAtMemory o p (memory_line before) (memory_line b.next) = subst (λ (x : Open). ArrivesAtMemory x p (memory_line before) (memory_line b.next)) same b.memory in
-    let memory = memory_one (takes_payload o.request before.memory) p before.memory (arrival_at_memory o.payload) a.memory.act its.act a.next.memory b.next.memory a.memory.settled its.settled in
-    let value : a.next.value ≡ b.next.value = a.memory.value ∙ (ap (λ act. written act o.value before.value) memory.0 ∙ sym its.value) in
-    let next : a.next ≡ b.next = same_picture _ _ _ _ _ _ _ _ caches.0 memory.1 value (a.closed ∙ sym b.closed) in
+    let its : ArrivesAtMemory o p before.memory b.next.memory = subst (λ (x : Open). ArrivesAtMemory x p before.memory b.next.memory) same b.memory in
+    let memory = memory_one (takes_payload o.request before.memory.state) p before.memory.state (arrival_at_memory o.payload) a.memory.act its.act a.next.memory.state b.next.memory.state a.memory.settled its.settled in
+    let value : a.next.memory.value ≡ b.next.memory.value = a.memory.value ∙ (ap (λ act. written act o.value before.memory.value) memory.0 ∙ sym its.value) in
+    let next : a.next ≡ b.next = same_picture _ _ _ _ _ _ caches.0 (same_memory _ _ _ _ memory.1 value) (a.closed ∙ sym b.closed) in
     let then : Open → Option Did → Picture → Situation = λ x d n. record (with_picture s block n) { log = s.log ++ item.Came (came_of x) d ∷ [] } in (
       sym same,
       caches.1,

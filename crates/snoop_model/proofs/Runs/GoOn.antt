@@ -37,7 +37,7 @@ use Rattle.snoop_model.specs.declared.replies.Reply.{Reply}
 use Rattle.snoop_model.specs.declared.replies.Reply.TheVariants as reply
 use Rattle.snoop_model.specs.declared.replies.Refused.{Refused}
 use Rattle.snoop_model.specs.declared.replies.Refused.TheVariants.{NoCore, NoBlock, Stalled, NothingWaiting, BusTaken, NoTransaction}
-use Rattle.snoop_model.specs.Pictures.Picture.{Picture, held_at, held_by, kept_on, memory_line}
+use Rattle.snoop_model.specs.Pictures.Picture.{Picture, held_at, held_by, kept_on}
 use Rattle.snoop_model.specs.Pictures.Situation.{Situation, picture_of, with_picture, state_of, Waits, CanOrder, StandsFirst}
 use Rattle.snoop_model.specs.Pictures.Sends.{value_sent}
 use Rattle.snoop_model.specs.Pictures.Sound.{keeps, request_for, missed_request, IsProper}
@@ -234,7 +234,7 @@ order_free s g core block q first ready =
     let line = orders_follow_sender_table s g core block q ready in
     let rows = lines_at (λ k x. TakesRow p (seen_by k core q) (held_by before k) x) (length before.caches) (λ k h. (let row = finds k in (moves_to row.1.0 (held_by before k), (row.0, (row.1.0, (row.1.1, refl)))))) in
     let opened : Open = record { core = core; request = q; block = block; payload = line.payload; value = value_sent before line.from line.payload; from = line.from } in
-    let next : Picture = record { caches = rows.0; memory = line.next; value = before.value; transaction = Some opened } in
+    let next : Picture = record { caches = rows.0; memory = record { state = line.next; value = before.memory.value }; transaction = Some opened } in
     let sent : Item = item.Sent (record { core = core; request = q; block = block }) in
     let new : Situation = record (with_picture s block next) { queues = after_order s.queues core block; log = s.log ++ sent ∷ [] } in
     moved s (Order core) (reply.Ordered q) new (Some sent) (
@@ -388,19 +388,19 @@ module _ (p : Protocol) (log : List Item) (old : List Line) (o : Open) where
 
 -- what the response brings to memory
 abbrev BringsToMemory : Protocol → Picture → Open → Type 0
-BringsToMemory p before o = (next : MemLine) × ArrivesAtMemory o p (memory_line before) next
+BringsToMemory p before o = (next : MemLine) × ArrivesAtMemory o p before.memory next
 
-memory_found : (p : Protocol) (before : Picture) (o : Open) → takes_payload o.request before.memory ≡ true → (found : Option MemEvent) → arrival_at_memory o.payload ≡ found → (row : MemCell) → mem_row_of p before.memory found ≡ Some row → BringsToMemory p before o
+memory_found : (p : Protocol) (before : Picture) (o : Open) → takes_payload o.request before.memory.state ≡ true → (found : Option MemEvent) → arrival_at_memory o.payload ≡ found → (row : MemCell) → mem_row_of p before.memory.state found ≡ Some row → BringsToMemory p before o
 memory_found p before o waits None arrives row is = cc
 memory_found p before o waits (Some e) arrives row is = (
-  record { state = row.next; value = written row.action o.value before.value },
-  record { act = row.action; settled = rw (waits, arrives) (MemoryCell-found p before.memory e row is); value = refl },
+  record { state = row.next; value = written row.action o.value before.memory.value },
+  record { act = row.action; settled = rw (waits, arrives) (MemoryCell-found p before.memory.state e row is); value = refl },
 )
 
-brings_to_memory : (p : Protocol) (before : Picture) (o : Open) → (takes_payload o.request before.memory ≡ true → (r : MemCell) × (mem_row_of p before.memory (arrival_at_memory o.payload) ≡ Some r)) → BringsToMemory p before o
-brings_to_memory p before o row = elim (or_not (takes_payload o.request before.memory)) as (λ _. BringsToMemory p before o) [
+brings_to_memory : (p : Protocol) (before : Picture) (o : Open) → (takes_payload o.request before.memory.state ≡ true → (r : MemCell) × (mem_row_of p before.memory.state (arrival_at_memory o.payload) ≡ Some r)) → BringsToMemory p before o
+brings_to_memory p before o row = elim (or_not (takes_payload o.request before.memory.state)) as (λ _. BringsToMemory p before o) [
   | inl waits ↦ memory_found p before o waits (arrival_at_memory o.payload) refl (row waits).0 (row waits).1
-  | inr idle ↦ (memory_line before, record { act = mem_action.None; settled = rw idle (refl, refl); value = refl })
+  | inr idle ↦ (before.memory, record { act = mem_action.None; settled = rw idle (refl, refl); value = refl })
 ]
 
 respond_open : (s : Situation) → IsCoherent s → (block : ℕ) → block < s.shape.blocks → (o : Open) → (picture_of s block).transaction ≡ Some o → LeadsOn s (Respond block)
@@ -411,7 +411,7 @@ respond_open s g block within o opened =
     let found : Answerable p before o = respond_possible p s.shape.cores (flat s.log block) before o good opened in
     let caches = brings p s.log before.caches o o.request found.requestor (good.proper o.core (good.requestor_in o opened)) in
     let memory = brings_to_memory p before o found.memory in
-    let next : Picture = record { caches = caches.0; memory = memory.0.state; value = memory.0.value; transaction = None } in
+    let next : Picture = record { caches = caches.0; memory = memory.0; transaction = None } in
     let came : Item = item.Came (came_of o) caches.1.0 in
     let new : Situation = record (with_picture s block next) { log = s.log ++ came ∷ [] } in
     moved s (Respond block) (reply.Came o.payload o.from caches.1.0) new (Some came) (

@@ -27,14 +27,14 @@ owns (Some o) d = d == o
 -- where n cores hold a block whose flat value is this one: each reader keeps it, and memory and the message have it where they are said to
 pub record Good (p : Protocol) (n : ℕ) (flat : ℕ) (picture : Picture) : Type 0 where
   pub claims : Claims
-  pub is_claims : claims_of p picture.memory (talk_of picture.transaction) ≡ Some claims
+  pub is_claims : claims_of p picture.memory.state (talk_of picture.transaction) ≡ Some claims
   pub owner : Option ℕ
   pub owner_in : (o : ℕ) → owner ≡ Some o → o < n
   pub is_owned : is_some owner ≡ claims.owned
   pub states : (d : ℕ) → d < n → fits p claims.shared (owns owner d) (awaited picture.transaction d) (held_by picture d).state ≡ true
   pub kept : (d : ℕ) → d < n → keeps (held_by picture d).state ≡ true → (held_by picture d).kept ≡ Some flat
-  pub clean : (d : ℕ) → d < n → is_clean (held_by picture d).state ≡ true → picture.value ≡ flat
-  pub fresh : claims.fresh ≡ true → picture.value ≡ flat
+  pub clean : (d : ℕ) → d < n → is_clean (held_by picture d).state ≡ true → picture.memory.value ≡ flat
+  pub fresh : claims.fresh ≡ true → picture.memory.value ≡ flat
   pub carried : (o : Open) → picture.transaction ≡ Some o → carries_value o.payload ≡ true → o.value ≡ flat
   pub requestor_in : (o : Open) → picture.transaction ≡ Some o → o.core < n
   pub proper : (d : ℕ) → d < n → IsProper (held_by picture d)

@@ -42,9 +42,9 @@ abbrev pub ConsultsMemory : Situation → Step → ℕ → Option MemEvent → T
 ConsultsMemory s (Ask asker on asking) block event = ⊥
 ConsultsMemory s (Order requestor) block event = (request : Request) × (CanOrder s requestor block request × (event ≡ Some (at_memory request)))
 ConsultsMemory s (Respond on) block event =
-    (closing : Open) × ((block ≡ on) × ((picture_of s block).transaction ≡ Some closing) × IsTrue (takes_payload closing.request (picture_of s block).memory) × (event ≡ arrival_at_memory closing.payload))
+    (closing : Open) × ((block ≡ on) × ((picture_of s block).transaction ≡ Some closing) × IsTrue (takes_payload closing.request (picture_of s block).memory.state) × (event ≡ arrival_at_memory closing.payload))
 
 -- each row that is looked up at the step is there: no controller meets an impossible cell
 pub record FindsRows (s : Situation) (step : Step) : Type 0 where
   pub cache : (core block : ℕ) (event : Option CacheEvent) → ConsultsCache s step core block event → IsSomeAnd event (HasRow s.protocol (state_of s core block))
-  pub memory : (block : ℕ) (event : Option MemEvent) → ConsultsMemory s step block event → IsSomeAnd event (HasMemRow s.protocol (picture_of s block).memory)
+  pub memory : (block : ℕ) (event : Option MemEvent) → ConsultsMemory s step block event → IsSomeAnd event (HasMemRow s.protocol (picture_of s block).memory.state)

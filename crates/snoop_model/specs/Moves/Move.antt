@@ -30,7 +30,7 @@ use Rattle.snoop_bus.specs.declared.transactions.Open.{Open}
 use Rattle.snoop_bus.specs.Queues.{after_issue, after_order}
 use Rattle.snoop_model.specs.declared.replies.Reply.{Reply}
 use Rattle.snoop_model.specs.declared.replies.Reply.TheVariants as reply
-use Rattle.snoop_model.specs.Pictures.Picture.{Picture, held_at, held_by, memory_line, kept_on}
+use Rattle.snoop_model.specs.Pictures.Picture.{Picture, held_at, held_by, kept_on}
 use Rattle.snoop_model.specs.Pictures.Situation.{Situation, picture_of, with_picture, state_of, CanOrder, StandsFirst}
 use Rattle.snoop_model.specs.declared.line.Line.{Line}
 use Rattle.snoop_model.specs.declared.memory.MemLine.{MemLine}
@@ -191,8 +191,8 @@ pub record Orders (old : Situation) (core block : ℕ) (request : Request) (new 
   pub next : Picture
   pub caches : length next.caches ≡ length (picture_of old block).caches
   pub rows : (k : ℕ) → k < length next.caches → TakesRow old.protocol (seen_by k core request) (held_by (picture_of old block) k) (held_by next k)
-  pub memory : TakesMemRow old.protocol (at_memory request) (picture_of old block).memory next.memory
-  pub value : next.value ≡ (picture_of old block).value
+  pub memory : TakesMemRow old.protocol (at_memory request) (picture_of old block).memory.state next.memory.state
+  pub value : next.memory.value ≡ (picture_of old block).memory.value
   pub opened : next.transaction ≡ Some (record { core = core; request = request; block = block; payload = payload; value = value_sent (picture_of old block) from payload; from = from })
   pub after : new ≡ record (with_picture old block next) {
     queues = after_order old.queues core block;
@@ -204,7 +204,7 @@ pub record Responds (old : Situation) (block : ℕ) (closing : Open) (did : Opti
   pub opened : (picture_of old block).transaction ≡ Some closing
   pub next : Picture
   pub requestor : ArrivesFor closing.request closing old.protocol old.log (picture_of old block).caches next.caches did
-  pub memory : ArrivesAtMemory closing old.protocol (memory_line (picture_of old block)) (memory_line next)
+  pub memory : ArrivesAtMemory closing old.protocol (picture_of old block).memory next.memory
   pub closed : next.transaction ≡ None
   pub after : new ≡ record (with_picture old block next) {
     log = old.log ++ item.Came (came_of closing) did ∷ [];

@@ -14,7 +14,7 @@ use Rattle.snoop_rules.specs.WhoSends.{SentAs}
 use Rattle.snoop_history.specs.declared.items.Item.{Item}
 use Rattle.snoop_bus.specs.declared.transactions.Open.{Open}
 use Rattle.snoop_model.specs.declared.replies.Reply.{Reply}
-use Rattle.snoop_model.specs.Pictures.Picture.{Picture, held_by, memory_line}
+use Rattle.snoop_model.specs.Pictures.Picture.{Picture, held_by}
 use Rattle.snoop_model.specs.Pictures.Situation.{Situation, picture_of, CanOrder}
 use Rattle.snoop_model.specs.Moves.Move.{TakesMemRow, Settles, ArrivesAtMemory, MoveOn}
 use Rattle.snoop_model.specs.Pictures.Sends.{IsOnlySender}
@@ -24,7 +24,7 @@ pub record IsLine (protocol : Protocol) (before : Picture) (core : ℕ) (request
   pub act : MemAction
   pub done : MemState
   pub settled : Settles protocol request payload next act done
-  pub line : SentAs protocol request before.memory (option_map (λ k. (held_by before k).state) from) payload next done
+  pub line : SentAs protocol request before.memory.state (option_map (λ k. (held_by before k).state) from) payload next done
   pub writeback : request ≡ PutM → from ≡ Some core
 
 -- the core's request, ordered now, has exactly one sender, and is a line of the table
@@ -33,7 +33,7 @@ pub record FollowsSenderTable (protocol : Protocol) (before : Picture) (core : �
   pub payload : Payload
   pub next : MemState
   pub sent : IsOnlySender protocol before core request from payload
-  pub ordered : TakesMemRow protocol (at_memory request) before.memory next
+  pub ordered : TakesMemRow protocol (at_memory request) before.memory.state next
   pub is_line : IsLine protocol before core request from payload next
 
 -- an Order that led from old to new is a line of the table
@@ -42,13 +42,13 @@ pub record IsOrderedByTable (old : Situation) (core block : ℕ) (request : Requ
   pub payload : Payload
   pub value : ℕ
   pub opened : (picture_of new block).transaction ≡ Some (record { core = core; request = request; block = block; payload = payload; value = value; from = from })
-  pub is_line : IsLine old.protocol (picture_of old block) core request from payload (picture_of new block).memory
+  pub is_line : IsLine old.protocol (picture_of old block) core request from payload (picture_of new block).memory.state
 
 -- a Respond that led from old to new closed the block's transaction, and memory took its row for the response, or stayed where it takes none
 pub record IsSettledByTable (old : Situation) (block : ℕ) (new : Situation) : Type 0 where
   pub closing : Open
   pub opened : (picture_of old block).transaction ≡ Some closing
-  pub settled : ArrivesAtMemory closing old.protocol (memory_line (picture_of old block)) (memory_line (picture_of new block))
+  pub settled : ArrivesAtMemory closing old.protocol (picture_of old block).memory (picture_of new block).memory
   pub closed : (picture_of new block).transaction ≡ None
 
 -- the step, on this block, is by the table, where it is an Order or a Respond

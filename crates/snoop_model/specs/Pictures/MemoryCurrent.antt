@@ -16,7 +16,7 @@ data_under_way (Some transaction) = if carries_value transaction.payload then So
 -- data under way is this value, and where no core may write the block and no data is under way, memory has it
 pub record IsMemoryCurrent (protocol : Protocol) (picture : Picture) (value : ℕ) : Type 0 where
   pub carried : IfSome (data_under_way picture.transaction) (λ sent. sent ≡ value)
-  pub held : ((core : ℕ) → ¬ IsWriter protocol picture core) → data_under_way picture.transaction ≡ None → picture.value ≡ value
+  pub held : ((core : ℕ) → ¬ IsWriter protocol picture core) → data_under_way picture.transaction ≡ None → picture.memory.value ≡ value
 
 -- the block's open transaction is one of this block, by a core of the machine
 abbrev pub NamesItsBlock : Situation → ℕ → Type 0

@@ -16,7 +16,7 @@ use Rattle.snoop_model.specs.Moves.LookUps.{HasRow}
 
 -- a block on which no transaction is open
 abbrev pub free_picture : List Line → MemLine → Picture
-free_picture row memory = record { caches = row; memory = memory.state; value = memory.value; transaction = None }
+free_picture row memory = record { caches = row; memory = memory; transaction = None }
 
 -- each core has a row for the request, and this message is that of the only sender
 pub record IsMessage (protocol : Protocol) (before : Picture) (core : ℕ) (request : Request) (message : Message) : Type 0 where

@@ -11,11 +11,10 @@ use Rattle.snoop_model.specs.declared.line.Line.{Line}
 use Rattle.snoop_model.specs.declared.memory.MemLine.{MemLine}
 use Rattle.snoop_bus.specs.declared.transactions.Open.{Open}
 
--- each core's line, memory's state and value, and the open transaction, if any
+-- each core's line, memory's line, and the open transaction, if any
 pub record Picture : Type 0 where
   pub caches : List Line
-  pub memory : MemState
-  pub value : ℕ
+  pub memory : MemLine
   pub transaction : Option Open
 
 -- a core that holds nothing of the block
@@ -29,10 +28,6 @@ held_at caches core = slice_index_or caches core nothing_held
 -- what a core holds of the block
 abbrev pub held_by : Picture → ℕ → Line
 held_by picture core = held_at picture.caches core
-
--- memory's line of the block
-abbrev pub memory_line : Picture → MemLine
-memory_line picture = record { state = picture.memory; value = picture.value }
 
 -- memory's state at reset
 abbrev pub first_memory : Protocol → MemState

@@ -16,7 +16,7 @@ use Rattle.snoop_model.specs.Pictures.Picture.{Picture, held_by}
 
 -- the controller, memory or a core, sends this payload when the core's request is ordered
 abbrev pub Sends : Protocol → Picture → ℕ → Request → Option ℕ → Payload → Type 0
-Sends protocol before core request None payload = (next : MemState) × MemoryCell protocol before.memory (at_memory request) (mem_action.Send payload) next
+Sends protocol before core request None payload = (next : MemState) × MemoryCell protocol before.memory.state (at_memory request) (mem_action.Send payload) next
 Sends protocol before core request (Some sender) payload =
     (sender < length before.caches) × ((target : Target) × ((next : CacheState) × Cell protocol (held_by before sender).state (seen_by sender core request) (action.Send payload target) next))
 
@@ -27,7 +27,7 @@ pub record IsOnlySender (protocol : Protocol) (before : Picture) (core : ℕ) (r
 
 -- the value that the controller can send
 abbrev pub value_at : Picture → Option ℕ → ℕ
-value_at before None = before.value
+value_at before None = before.memory.value
 value_at before (Some core) = unwrap_or (held_by before core).kept 0
 
 -- the value in the message

@@ -7,7 +7,7 @@ use Rattle.snoop_rules.specs.declared.names.CacheState.{CacheState}
 use Rattle.snoop_rules.specs.declared.names.Request.{Request}
 use Rattle.snoop_rules.specs.Waits.{waiting_request}
 use Rattle.snoop_history.specs.declared.items.Item.{Item}
-use Rattle.snoop_model.specs.Pictures.Picture.{Picture, first_memory, nothing_held, held_by, memory_line}
+use Rattle.snoop_model.specs.Pictures.Picture.{Picture, first_memory, nothing_held, held_by}
 use Rattle.snoop_model.specs.declared.line.Line.{Line}
 use Rattle.snoop_model.specs.declared.memory.MemLine.{MemLine}
 use Rattle.snoop_bus.specs.declared.transactions.Open.{Open}
@@ -46,8 +46,7 @@ abbrev pub picture_of : Situation → ℕ → Picture
 picture_of s block =
     record {
       caches = slice_index_or s.caches block [];
-      memory = (slice_index_or s.memory block no_memory).state;
-      value = (slice_index_or s.memory block no_memory).value;
+      memory = slice_index_or s.memory block no_memory;
       transaction = slice_index_or s.transactions block None;
     }
 
@@ -56,7 +55,7 @@ abbrev pub with_picture : Situation → ℕ → Picture → Situation
 with_picture s block picture =
     record s {
       caches = slice_set s.caches block picture.caches;
-      memory = slice_set s.memory block (memory_line picture);
+      memory = slice_set s.memory block picture.memory;
       transactions = slice_set s.transactions block picture.transaction;
     }
 

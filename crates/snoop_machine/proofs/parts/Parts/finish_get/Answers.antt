@@ -73,7 +73,7 @@ returns-clause-responded c =
     let F : Situation → Type 0 = λ x. (picture_of x block).transaction ≡ Some closing in
     let N : Situation → Type 0 = λ x. ArrivesAtMemory closing x.protocol (slice_index_or x.memory block no_memory) c.args.memory in
     let T : Situation → Type 0 = λ x. Fills closing x.protocol (line_at x.caches core block) filled.line filled.op filled.value in
-    let next : Picture = record { caches = slice_set (row_of m.lines.rows block) core filled.line; memory = c.args.memory.state; value = c.args.memory.value; transaction = None } in
+    let next : Picture = record { caches = slice_set (row_of m.lines.rows block) core filled.line; memory = c.args.memory; transaction = None } in
     let A : Did → Type 0 = λ d. ArrivesFor closing.request closing m.protocol m.log.items (row_of m.lines.rows block) (slice_set (row_of m.lines.rows block) core filled.line) (Some d) in
     subst G is (record {
       opened = subst F (sym is) c.requires.opened;

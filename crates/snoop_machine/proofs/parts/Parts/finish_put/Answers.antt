@@ -43,7 +43,7 @@ returns-clause-responded c =
     let G : Situation → Type 0 = λ x. Responds x block closing None new in
     let F : Situation → Type 0 = λ x. (picture_of x block).transaction ≡ Some closing in
     let N : Situation → Type 0 = λ x. ArrivesAtMemory closing x.protocol (slice_index_or x.memory block no_memory) c.args.memory in
-    let next : Picture = record { caches = row_of m.lines.rows block; memory = c.args.memory.state; value = c.args.memory.value; transaction = None } in
+    let next : Picture = record { caches = row_of m.lines.rows block; memory = c.args.memory; transaction = None } in
     subst G is (record {
       opened = subst F (sym is) c.requires.opened;
       next = next;

@@ -1,4 +1,4 @@
-use Rattle.std.proofs.Common.{◌≡◌, ◌<◌, Option, Some, None, refl, sym, ap, subst, arith, ◌∙◌, false}
+use Rattle.std.proofs.Common.{◌≡◌, ◌<◌, Option, Some, None, refl, sym, ap, subst, ◌∙◌, false}
 use Rattle.std.specs.Prelude.{ℕ, length, slice_index_or, is_some}
 use Rattle.snoop_trace.specs.declared.step.Step.TheVariants.{Order}
 use Rattle.snoop_rules.specs.declared.names.MemEvent.{MemEvent}
@@ -42,10 +42,10 @@ picture c =
 protocol : (c : In-Some-mem_cell) → c.self.inside.protocol ≡ c.args.self.now.situation.protocol
 protocol c = ap (λ (s : Standing). s.situation.protocol) c.self.view_is
 
-memory_row : (c : In-Some-mem_cell) → TakesMemRow c.args.self.now.situation.protocol (at_memory c.in-Some.request) (picture_of c.args.self.now.situation c.in-Some.block).memory c.in-Some-mem_cell.cell.next
+memory_row : (c : In-Some-mem_cell) → TakesMemRow c.args.self.now.situation.protocol (at_memory c.in-Some.request) (picture_of c.args.self.now.situation c.in-Some.block).memory.state c.in-Some-mem_cell.cell.next
 memory_row c =
     let P : MemEvent → Type 0 = λ e. MemoryCell c.self.inside.protocol c.get_or-memory.result.state e c.in-Some-mem_cell.cell.action c.in-Some-mem_cell.cell.next in
-    let Q : Picture → Type 0 = λ p. TakesMemRow c.self.inside.protocol (at_memory c.in-Some.request) p.memory c.in-Some-mem_cell.cell.next in
+    let Q : Picture → Type 0 = λ p. TakesMemRow c.self.inside.protocol (at_memory c.in-Some.request) p.memory.state c.in-Some-mem_cell.cell.next in
     rw (← protocol c) (subst Q (picture c) (c.in-Some-mem_cell.cell.action, subst P c.event_at_memory.ensures c.in-Some-mem_cell.ensures.row))
 
 free_here : (c : In-Some-mem_cell) → (picture_of c.args.self.now.situation c.in-Some.block).transaction ≡ None
@@ -103,7 +103,7 @@ unreachable-requires c =
     let held : c.get_or-memory.result ≡ slice_index_or m.memory block no_memory = c.get_or-memory.ensures in
     let P : MemEvent → Type 0 = λ event. IsMemImpossible m.protocol c.get_or-memory.result.state event in
     let Q : MemLine → Type 0 = λ x. IsMemImpossible m.protocol x.state (at_memory request) in
-    let R : Standing → Type 0 = λ x. IsMemImpossible x.situation.protocol (picture_of x.situation block).memory (at_memory request) in
-    let none : IsMemImpossible s.protocol (picture_of s block).memory (at_memory request) = subst R c.self.view_is (subst Q held (subst P c.event_at_memory.ensures c.in_default-mem_cell.ensures.impossible)) in
+    let R : Standing → Type 0 = λ x. IsMemImpossible x.situation.protocol (picture_of x.situation block).memory.state (at_memory request) in
+    let none : IsMemImpossible s.protocol (picture_of s block).memory.state (at_memory request) = subst R c.self.view_is (subst Q held (subst P c.event_at_memory.ensures c.in_default-mem_cell.ensures.impossible)) in
     let line = orders_follow_sender_table s c.requires.coherent c.args.core block request (head.waits, free) in
     none line.ordered.0 line.next line.ordered.1

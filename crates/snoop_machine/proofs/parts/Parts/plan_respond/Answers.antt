@@ -19,7 +19,7 @@ arrive-memory-requires c =
     let block = c.args.block in
     let closing = c.in-Some.closing in
     let P : MemLine → Type 0 = λ x. IsTrue (takes_payload closing.request x.state) → IsSomeAnd (arrival_at_memory closing.payload) (HasMemRow c.self.inside.protocol x.state) in
-    let Q : Standing → Type 0 = λ x. IsTrue (takes_payload closing.request (picture_of x.situation block).memory) → IsSomeAnd (arrival_at_memory closing.payload) (HasMemRow x.situation.protocol (picture_of x.situation block).memory) in
+    let Q : Standing → Type 0 = λ x. IsTrue (takes_payload closing.request (picture_of x.situation block).memory.state) → IsSomeAnd (arrival_at_memory closing.payload) (HasMemRow x.situation.protocol (picture_of x.situation block).memory.state) in
     let finds = finds_rows s c.requires.coherent (Respond block) in
     subst P (sym c.get_or-before.ensures) (subst Q (sym c.self.view_is)
     (λ takes. finds.memory block (arrival_at_memory closing.payload) (closing, (refl, sym c.transaction.ensures.value ∙ c.in-Some.is, takes, refl))))

@@ -103,13 +103,12 @@ returns-clause-ordered c =
     let W : Situation → Type 0 = λ x. Waits x core block request in
     let F : Situation → Type 0 = λ x. (picture_of x block).transaction ≡ None in
     let M : Situation → Type 0 = λ x. IsMessage x.protocol (picture_of x block) core request message in
-    let N : Situation → Type 0 = λ x. TakesMemRow x.protocol (at_memory request) (picture_of x block).memory c.args.memory in
+    let N : Situation → Type 0 = λ x. TakesMemRow x.protocol (at_memory request) (picture_of x block).memory.state c.args.memory in
     let sent : IsMessage m.protocol (picture_of old block) core request message = subst M (sym is) c.requires.message in
     let value : c.get_or-before.result ≡ slice_index_or m.memory block no_memory = c.get_or-before.ensures in
     let next : Picture = record {
       caches = row_of c.take_rows.new.self.rows block;
-      memory = c.args.memory;
-      value = (picture_of old block).value;
+      memory = record { state = c.args.memory; value = (picture_of old block).memory.value };
       transaction = Some (record { core = core; request = request; block = block; payload = message.payload; value = value_sent (picture_of old block) message.from message.payload; from = message.from });
     } in
     let long = c.take_rows.ensures.taken.same_length in
@@ -127,7 +126,7 @@ returns-clause-ordered c =
       after = same_situation new
           (record old {
             caches = slice_set m.lines.rows block next.caches;
-            memory = slice_set m.memory block (record { state = next.memory; value = next.value });
+            memory = slice_set m.memory block next.memory;
             transactions = slice_set m.bus.transactions block next.transaction;
             queues = after_order old.queues core block;
             log = m.log.items ++ item.Sent (record { core = core; request = request; block = block }) ∷ [];
