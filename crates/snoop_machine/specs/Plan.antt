@@ -1,6 +1,6 @@
 -- What a step will do, found before anything changes: a plan, the room that it needs, and the item that it adds.
 -- Source: this project's profile.
-use Rattle.std.specs.Prelude.{◌≡◌, ◌≢◌, ℕ, ◌<◌, true, false, List, Option, Some, None, slice_index, slice_index_or, ⊤}
+use Rattle.std.specs.Prelude.{◌≡◌, ◌≢◌, ℕ, ◌<◌, true, false, List, Option, Some, None, slice_index, ⊤}
 use Rattle.snoop_trace.specs.declared.step.Op.{Op}
 use Rattle.snoop_trace.specs.declared.step.Step.{Step}
 use Rattle.snoop_trace.specs.declared.step.Step.TheVariants as step
@@ -19,7 +19,7 @@ use Rattle.snoop_machine.specs.declared.plan.Plan.{Plan}
 use Rattle.snoop_machine.specs.declared.plan.Plan.TheVariants.{Ask, Order, Writeback, Fill}
 use Rattle.snoop_model.specs.Moves.Standing.{Standing, has_line}
 use Rattle.snoop_model.specs.Moves.Prepared.{room_to_issue}
-use Rattle.snoop_model.specs.Pictures.Situation.{Situation, picture_of, no_memory}
+use Rattle.snoop_model.specs.Pictures.Situation.{Situation, picture_of}
 use Rattle.snoop_model.specs.Pictures.Sound.{IsProper, line_at}
 use Rattle.snoop_model.specs.Moves.Move.{Fills, ArrivesAtMemory, IsWithin, TakesMemRow, came_of, next_did}
 use Rattle.snoop_machine.specs.Asked.{TakesAsk}
@@ -45,7 +45,7 @@ pub record IsClosing (s : Situation) (block : ℕ) (closing : Open) (memory : Me
   pub opened : (picture_of s block).transaction ≡ Some closing
   pub its : closing.block ≡ block
   pub core : closing.core < s.shape.cores
-  pub arrives : ArrivesAtMemory closing s.protocol (slice_index_or s.memory block no_memory) memory
+  pub arrives : ArrivesAtMemory closing s.protocol (picture_of s block).memory memory
 
 -- the rows were found for what the plan says
 abbrev pub IsPlan : Situation → Plan → Type 0

@@ -1,5 +1,5 @@
 use Rattle.std.proofs.Common.{◌≡◌, ◌<◌, ◌++◌, ◌∷◌, [], List, length, Some, None, false, ◌∙◌, refl, sym, ap, subst}
-use Rattle.std.specs.Prelude.{slice_set, slice_index_or}
+use Rattle.std.specs.Prelude.{slice_set}
 use Rattle.std.proofs.lemmas.List.{length-set}
 use Rattle.snoop_rules.specs.Waits.{waiting_request}
 use Rattle.snoop_history.specs.Journal.{Journal}
@@ -11,7 +11,7 @@ use Rattle.snoop_model.specs.declared.line.Line.{Line}
 use Rattle.snoop_model.specs.declared.memory.MemLine.{MemLine}
 use Rattle.snoop_model.specs.Pictures.Picture.{Picture}
 use Rattle.snoop_model.specs.Moves.Standing.{Standing}
-use Rattle.snoop_model.specs.Pictures.Situation.{Situation, picture_of, with_picture, no_memory}
+use Rattle.snoop_model.specs.Pictures.Situation.{Situation, picture_of, with_picture}
 use Rattle.snoop_model.specs.Pictures.Sound.{IsSound, IsProper, line_at}
 use Rattle.snoop_machine.specs.PartsView.{queues_of}
 use Rattle.snoop_model.specs.Moves.Move.{Fills, ArrivesFor, ArrivesAtMemory, Responds, came_of, next_did}
@@ -71,7 +71,7 @@ returns-clause-responded c =
     let new : Situation = record { protocol = m.protocol; shape = m.shape; caches = c.set.new.self.rows; memory = c.set-2.new.self; transactions = c.finish.new.self.transactions; queues = queues_of c.finish.new.self.queues; log = c.push.new.self.items } in
     let G : Situation → Type 0 = λ x. Responds x block closing (Some did) new in
     let F : Situation → Type 0 = λ x. (picture_of x block).transaction ≡ Some closing in
-    let N : Situation → Type 0 = λ x. ArrivesAtMemory closing x.protocol (slice_index_or x.memory block no_memory) c.args.memory in
+    let N : Situation → Type 0 = λ x. ArrivesAtMemory closing x.protocol (picture_of x block).memory c.args.memory in
     let T : Situation → Type 0 = λ x. Fills closing x.protocol (line_at x.caches core block) filled.line filled.op filled.value in
     let next : Picture = record { caches = slice_set (row_of m.lines.rows block) core filled.line; memory = c.args.memory; transaction = None } in
     let A : Did → Type 0 = λ d. ArrivesFor closing.request closing m.protocol m.log.items (row_of m.lines.rows block) (slice_set (row_of m.lines.rows block) core filled.line) (Some d) in

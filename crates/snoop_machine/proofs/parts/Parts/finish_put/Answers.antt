@@ -1,6 +1,5 @@
 use Rattle.std.proofs.Common.{◌≡◌, ◌<◌, ◌++◌, ◌∷◌, [], List, length, Some, None, ◌∙◌, refl, sym, ap, subst}
 use Rattle.snoop_model.specs.declared.memory.MemLine.{MemLine}
-use Rattle.std.specs.Prelude.{slice_index_or}
 use Rattle.std.proofs.lemmas.List.{length-set, set-get_or}
 use Rattle.snoop_history.specs.Journal.{Journal}
 use Rattle.snoop_history.specs.declared.items.Came.{Came}
@@ -8,7 +7,7 @@ use Rattle.snoop_history.specs.declared.items.Item.TheVariants as item
 use Rattle.snoop_bus.specs.Traffic.{Traffic}
 use Rattle.snoop_model.specs.Pictures.Picture.{Picture}
 use Rattle.snoop_model.specs.Moves.Standing.{Standing}
-use Rattle.snoop_model.specs.Pictures.Situation.{Situation, picture_of, with_picture, no_memory}
+use Rattle.snoop_model.specs.Pictures.Situation.{Situation, picture_of, with_picture}
 use Rattle.snoop_model.specs.Pictures.Sound.{IsSound}
 use Rattle.snoop_machine.specs.PartsView.{queues_of}
 use Rattle.snoop_model.specs.Moves.Move.{ArrivesAtMemory, Responds, came_of}
@@ -42,7 +41,7 @@ returns-clause-responded c =
     let new : Situation = record { protocol = m.protocol; shape = m.shape; caches = m.lines.rows; memory = c.set.new.self; transactions = c.finish.new.self.transactions; queues = queues_of c.finish.new.self.queues; log = c.push.new.self.items } in
     let G : Situation → Type 0 = λ x. Responds x block closing None new in
     let F : Situation → Type 0 = λ x. (picture_of x block).transaction ≡ Some closing in
-    let N : Situation → Type 0 = λ x. ArrivesAtMemory closing x.protocol (slice_index_or x.memory block no_memory) c.args.memory in
+    let N : Situation → Type 0 = λ x. ArrivesAtMemory closing x.protocol (picture_of x block).memory c.args.memory in
     let next : Picture = record { caches = row_of m.lines.rows block; memory = c.args.memory; transaction = None } in
     subst G is (record {
       opened = subst F (sym is) c.requires.opened;
