@@ -35,7 +35,7 @@ macro_rules! help_text {
 Exit status:
   0  done, even where steps were refused
   1  the text was refused, or could not be read (Read); nothing was written
-     Of its first faulty record, counted without blank lines:
+     The message names the first faulty record (blank lines are not counted):
        BadKind, BadFields  no such letter; another number of fields
        BadNumber           no number up to 2^64 - 1
        NoCore, NoBlock     outside --cores; outside --blocks
@@ -69,6 +69,7 @@ Reads standard input: `snoop steps < FILE`. Each line is a step:
   E,core,address        the core evicts the block of the address
   O,core                the bus orders the core's oldest request
   R,address             the response for the block of the address comes
+For a text without O and R, use `snoop run`.
 Numbers are decimal, or hexadecimal after 0x. An address is in bytes.
 Example: printf 'L,0,0\\nO,0\\nR,0\\n' | snoop steps
 
@@ -79,7 +80,8 @@ Each step has a line of output: the step, a colon and the reply.
   ordered GetS              the request is ordered, its transaction open
   Data from memory, load 5  the response (Data, DataE, NoData or NoDataE), who
                             sent it, and the load or store that it completes
-  refused Stalled IM_AD     not taken, and why
+  refused Stalled IM_AD     not taken: the line is between two states; or
+                            NothingWaiting, BusTaken 0 (block 0 is open), NoTransaction
 Then the report: loads and stores performed, and the hits among them; requests
 ordered; responses from memory and from caches; writebacks, with the clean and the
 stale ones; and the last value stored in each block."
@@ -91,6 +93,7 @@ Reads standard input: `snoop run < FILE`. Each line is what a core does next:
   L,core,address        the core loads from the address
   S,core,address,value  the core stores the value at the address
   E,core,address        the core evicts the block of the address
+O and R are refused here (BadKind): a text that has them is for `snoop steps`.
 Numbers are decimal, or hexadecimal after 0x. An address is in bytes.
 Example: printf 'S,0,0,5\\nL,1,0\\n' | snoop run
 
@@ -114,6 +117,7 @@ Reads standard input: `snoop threads < FILE`. Each line is what a core does next
   L,core,address        the core loads from the address
   S,core,address,value  the core stores the value at the address
   E,core,address        the core evicts the block of the address
+O and R are refused here (BadKind): a text that has them is for `snoop steps`.
 Numbers are decimal, or hexadecimal after 0x. An address is in bytes.
 
 The output is a text of steps, for `snoop steps` with the same options, which

@@ -31,7 +31,8 @@ pub trait Sink: Write {
         ensures bytes { WriteAppends (Self.contents self.old) (Self.contents self.new) result buf.now }
         ensures some { IfOk result (λ n. 0 < length buf.now → 0 < n) }
         ensures sure { never_fails ≡ true → IsOk result }
-        ensures noted { BlamesWriter (failed self.old) (failed self.new) (IsErr result) };
+        ensures noted { BlamesWriter (failed self.old) (failed self.new) (IsErr result) }
+        ensures stays { failed self.old ≡ Some true → failed self.new ≡ Some true };
 }
 
 impl Sink for Vec<u8> {
@@ -89,6 +90,7 @@ impl<W: Write> AnyWriter<W> {
         ensures bytes { WriteAppends (W.contents self.old.inner) (W.contents self.new.inner) result buf.now }
         ensures some { IfOk result (λ n. 0 < length buf.now → 0 < n) }
         ensures noted { BlamesWriter (Some self.old.failed) (Some self.new.failed) (IsErr result) }
+        ensures stays { self.old.failed ≡ true → self.new.failed ≡ true }
     {
         let written = match self.inner.write(buf) {
             Ok(0) if !buf.is_empty() => Err(io::Error::from(ErrorKind::WriteZero)),
@@ -102,7 +104,12 @@ impl<W: Write> AnyWriter<W> {
 impl<W: Write> Write for AnyWriter<W> {
     ghost contents = { λ w. W.contents w.inner };
 
-    fn write(&mut self, buf: &[u8]) -> io::Result<usize> {
+    fn write(&mut self, buf: &[u8]) -> io::Result<usize>
+        ensures bound { WritesAtMost result buf.now }
+        ensures bytes { WriteAppends (W.contents self.old.inner) (W.contents self.new.inner) result buf.now }
+        ensures noted { BlamesWriter (Some self.old.failed) (Some self.new.failed) (IsErr result) }
+        ensures stays { self.old.failed ≡ true → self.new.failed ≡ true }
+    {
         self.write_noting(buf)
     }
 
