@@ -442,7 +442,7 @@ def table(options):
 def main():
     parser = argparse.ArgumentParser(description=__doc__, formatter_class=argparse.RawDescriptionHelpFormatter)
     parser.add_argument("command", choices=("steps", "run", "states", "getters", "storm", "table"))
-    parser.add_argument("--protocol", choices=("msi", "mesi"), default="msi", help="default msi")
+    parser.add_argument("--protocol", type=str.lower, choices=("msi", "mesi"), default="msi", help="default msi")
     parser.add_argument("--cores", type=int, default=2, help="how many cores, 1 to 256 (default 2)")
     parser.add_argument("--blocks", type=int, default=4, help="how many blocks of memory, 1 to 65536 (default 4)")
     parser.add_argument("--block-bytes", type=int, default=64, help="bytes of a block, a power of two up to 4096 (default 64)")
