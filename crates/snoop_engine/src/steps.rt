@@ -33,7 +33,7 @@ pub fn simulate_steps<R: Source + Drop, W: Sink>(
     // A reader or a writer whose contract rules failure out is never blamed.
     ensures reads { R.never_fails ≡ true → IsSomeAnd (R.remaining reader) (λ bytes. length bytes < 2 ^ 64 - 1) → result ≢ Err (SimFault.Text text_fault.Read) }
     ensures writes { W.never_fails ≡ true → result ≢ Err SimFault.Write }
-    // Where it is known whether a write to the writer has failed, it is blamed exactly where one did, and none is tried again.
+    // Where it is known that no write to the writer had failed, it is blamed exactly where one fails, and none is tried again.
     ensures blamed { BlamesWriter (W.failed writer.old) (W.failed writer.new) (result ≡ Err SimFault.Write) }
 {
     let steps = read_steps(alloc, reader, shape).map_err(SimFault::Text)?;

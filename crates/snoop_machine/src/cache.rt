@@ -97,7 +97,7 @@ impl Cache {
         self.lines.insert(block, NOTHING).unwrap();
     }
 
-    /// Writes the block's line, and answers the state that it was in. One in I is taken out.
+    /// Writes the block's line, and answers the state that it was in. A line in I is taken out.
     pub(crate) fn set(&mut self, block: u32, line: Line) -> CacheState
         requires place { IsSome (lookup (nat_eq block) self.old.entries) }
         requires settled { line.state ≡ I → line ≡ nothing_held }

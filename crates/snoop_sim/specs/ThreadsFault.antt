@@ -50,7 +50,7 @@ abbrev pub ungathered : GatherFault → ThreadsFault
 ungathered joining.NoMemory = NoMemory
 ungathered fault = Gather fault
 
--- a fault of the threads: none of the text or the writer, and none that can't happen with new seats, one for each core, and rows within the shape; out of memory has one name
+-- a fault of the threads: never one of the text or the writer, nor one that new seats (one for each core) and rows within the shape rule out; out of memory has one name
 abbrev pub IsOfThreads : ThreadsFault → Type 0
 IsOfThreads (Text fault) = ⊥
 IsOfThreads Write = ⊥

@@ -80,8 +80,9 @@ Each step has a line of output: the step, a colon and the reply.
   ordered GetS              the request is ordered, its transaction open
   Data from memory, load 5  the response (Data, DataE, NoData or NoDataE), who
                             sent it, and the load or store that it completes
-  refused Stalled IM_AD     not taken: the line is between two states; or
-                            NothingWaiting, BusTaken 0 (block 0 is open), NoTransaction
+  refused Stalled IM_AD     not taken: the core's line is in a transient state; or
+                            NothingWaiting, NoTransaction, or BusTaken 0: block 0
+                            has an open transaction
 Then the report: loads and stores performed, and the hits among them; requests
 ordered; responses from memory and from caches; writebacks, with the clean and the
 stale ones; and the last value stored in each block."

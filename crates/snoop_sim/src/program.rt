@@ -38,7 +38,7 @@ pub fn command<T: Threads + Wait + Sync, R: Source + Drop, W: Sink, E: Write>(
     // Refused threads have written nothing.
     ensures refused { result ≡ 5 → W.contents writer.new ≡ W.contents writer.old }
     ensures never_blamed { W.never_fails ≡ true → result ≢ 4 }
-    // Where it is known whether a write to the writer has failed, the status is 4 exactly where one did, and none is tried again.
+    // Where it is known that no write to the writer had failed, the status is 4 exactly where one fails, and none is tried again.
     ensures blamed { BlamesWriter (W.failed writer.old) (W.failed writer.new) (result ≡ 4) }
 {
     match perform(rt, alloc, words, reader, writer) {

@@ -68,7 +68,7 @@ next_did log core block op value hit = record { core = core; number = next_numbe
 abbrev pub moves_to : CacheState → Line → Line
 moves_to next held = record { state = next; kept = kept_on next held.kept; waiting = held.waiting }
 
--- a hit performs the operation on the kept value
+-- what a hit leaves in a line: the operation is performed on the kept value
 pub record Hits (next : CacheState) (old new : Line) (asking : Op) (value : ℕ) : Type 0 where
   pub before : ℕ
   pub after : ℕ
@@ -90,7 +90,7 @@ IsFillFor action.FillLoad op.Load = ⊤
 IsFillFor action.FillStore (op.Store stored) = ⊤
 IsFillFor _ _ = ⊥
 
--- the data fills its requestor's line, which performs its waiting operation with it
+-- the data reaches the requestor's line, and the operation that waits there is performed with it
 pub record Fills (closing : Open) (protocol : Protocol) (old new : Line) (asking : Op) (value : ℕ) : Type 0 where
   pub event : CacheEvent
   pub act : CacheAction
@@ -103,7 +103,7 @@ pub record Fills (closing : Open) (protocol : Protocol) (old new : Line) (asking
   pub performed : Performs asking closing.value value after
   pub held : new ≡ record { state = next; kept = Some after; waiting = None }
 
--- the data reaches its requestor, and what that performs is logged
+-- the same, on the requestor's line among all lines, and the operation as the history will have it
 pub record FillsRequestor (closing : Open) (protocol : Protocol) (log : List Item) (old new : List Line) (did : Option Did) : Type 0 where
   pub line : Line
   pub asking : Op

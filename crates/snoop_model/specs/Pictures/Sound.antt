@@ -41,7 +41,7 @@ missed_request SmAd = Some GetM
 missed_request SmD = Some GetM
 missed_request _ = None
 
--- a line keeps a value exactly in the states that keep one; the operation that waits in it is the one that its state says has missed, and none waits in other states, so that a line in I holds nothing
+-- a line keeps a value exactly in the states that may be read, and an operation waits in it exactly in those in which one has missed, a load or a store as the state says; so a line in I holds nothing
 pub record IsProper (line : Line) : Type 0 where
   pub kept : is_some line.kept ≡ keeps line.state
   pub waiting : option_map request_for line.waiting ≡ missed_request line.state

@@ -1,7 +1,7 @@
 //! Writers that know whether they can fail, and how a text is written to them.
 //!
 //! Two clauses say when a call that writes answers `Write`. `blamed`, for a writer of which it is
-//! known whether a write has failed: exactly where one did, and none is tried again.
+//! known that no write had failed: exactly where one fails, and none is tried again.
 //! `never_blamed`, for a writer whose contract rules failure out: never. `std::io::Write` has no
 //! words for either, so `Sink` adds them.
 ghost use Rattle.std.specs.Prelude.{◌≡◌, ◌<◌, ◌≤◌, [], Bool, true, false, Option, Some, None, Err, IsOk, IsErr, IfOk, OnOk, OnErr, IfErr, length};
@@ -31,8 +31,7 @@ pub trait Sink: Write {
         ensures bytes { WriteAppends (Self.contents self.old) (Self.contents self.new) result buf.now }
         ensures some { IfOk result (λ n. 0 < length buf.now → 0 < n) }
         ensures sure { never_fails ≡ true → IsOk result }
-        ensures noted { BlamesWriter (failed self.old) (failed self.new) (IsErr result) }
-        ensures stays { failed self.old ≡ Some true → failed self.new ≡ Some true };
+        ensures noted { BlamesWriter (failed self.old) (failed self.new) (IsErr result) };
 }
 
 impl Sink for Vec<u8> {
@@ -107,6 +106,7 @@ impl<W: Write> Write for AnyWriter<W> {
     fn write(&mut self, buf: &[u8]) -> io::Result<usize>
         ensures bound { WritesAtMost result buf.now }
         ensures bytes { WriteAppends (W.contents self.old.inner) (W.contents self.new.inner) result buf.now }
+        ensures some { IfOk result (λ n. 0 < length buf.now → 0 < n) }
         ensures noted { BlamesWriter (Some self.old.failed) (Some self.new.failed) (IsErr result) }
         ensures stays { self.old.failed ≡ true → self.new.failed ≡ true }
     {
@@ -123,7 +123,14 @@ impl<W: Write> Sink for AnyWriter<W> {
 
     ghost failed = { λ w. Some w.failed };
 
-    fn put(&mut self, buf: &[u8]) -> io::Result<usize> {
+    fn put(&mut self, buf: &[u8]) -> io::Result<usize>
+        ensures bound { WritesAtMost result buf.now }
+        ensures bytes { WriteAppends (W.contents self.old.inner) (W.contents self.new.inner) result buf.now }
+        ensures some { IfOk result (λ n. 0 < length buf.now → 0 < n) }
+        ensures sure { false ≡ true → IsOk result }
+        ensures noted { BlamesWriter (Some self.old.failed) (Some self.new.failed) (IsErr result) }
+        ensures stays { self.old.failed ≡ true → self.new.failed ≡ true }
+    {
         self.write_noting(buf)
     }
 }
