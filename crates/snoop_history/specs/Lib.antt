@@ -8,3 +8,4 @@ pub mod Marked
 pub mod Kept
 pub mod Board
 pub mod Report
+pub mod Joins
