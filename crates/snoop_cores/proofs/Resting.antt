@@ -65,11 +65,13 @@ joins b seats items steps kept safe rests tallied one_each free answered items_a
       at = b.situation;
       taken = kept.run;
       log_is = refl;
-      legal = safe.legal;
+      joins = record {
+        legal = safe.legal;
+        answered = λ k d lt. answered (slice_index_or seats k d).core (one_each.known k d lt) k d lt refl;
+      };
       quiet = quiet;
       one_each = one_each;
       idle = λ k d lt. (free (slice_index_or seats k d).core (one_each.known k d lt)).1 k d lt refl;
-      answered = λ k d lt. answered (slice_index_or seats k d).core (one_each.known k d lt) k d lt refl;
       once = asked_once b.situation b.steps quiet (tallied b.situation.protocol b.situation.shape b.steps b.situation kept.run);
     }))
   where

@@ -73,19 +73,23 @@ pub record IsHeld (protocol : Protocol) (shape : Extent) (b : Locked) : Type 0 w
   pub protocol_is : b.situation.protocol ≡ protocol
   pub shape_is : b.situation.shape ≡ shape
 
--- a log and steps of one moment at which nothing is under way or pending; they join the seats
+-- a history that joins the seats: it is legal, and each seat was answered exactly its core's operations in it
+pub record Joins (items : List Item) (seats : List Seating) : Type 0 where
+  pub legal : Legal items
+  pub answered : All (λ seat. answers_of items seat.core ≡ seat.answers) seats
+
+-- a log and steps of one moment at which nothing is under way or pending; the log joins the seats
 pub record IsJoined (protocol : Protocol) (shape : Extent) (seats : List Seating) (items : List Item) (steps : List Step) : Type 0 where
   -- the steps were all taken, lead there from reset, and made this log
   pub at : Situation
   pub taken : AllTaken protocol shape steps at
   pub log_is : items ≡ at.log
-  pub legal : Legal items
+  pub joins : Joins items seats
   -- no core waits, and no transaction is open
   pub quiet : IsQuiet at
-  -- the seats are one for each core, none has a pending operation, and each was answered exactly its core's operations
+  -- the seats are one for each core, and none has a pending operation
   pub one_each : OneForEach shape.cores seats
   pub idle : All (λ seat. seat.pending ≡ None) seats
-  pub answered : All (λ seat. answers_of items seat.core ≡ seat.answers) seats
   -- the loads and stores that the steps ask are the operations of the log, each as often
   pub once : (core block : ℕ) (wanted : Op) → count_by (did_it block wanted) (answers_of items core) ≡ count_by (asks core block wanted) steps
 

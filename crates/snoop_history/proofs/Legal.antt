@@ -42,6 +42,18 @@ listed-push cores blocks items entry kept within numbered =
 pub legal-grows : (items : List Item) (entry : Item) → Legal items → Follows items entry → Legal (items ++ entry ∷ [])
 legal-grows items entry legal follows = each-grows Follows items entry legal follows
 
+-- an element of a list stands at the same place of a longer one, after the same elements
+slice_get-front : {A : Type 0} (items rest : List A) (k : ℕ) (x : A) → slice_get items k ≡ Some x →
+    (slice_get (items ++ rest) k ≡ Some x) × (take k (items ++ rest) ≡ take k items)
+slice_get-front [] rest k x at = cc
+slice_get-front (y ∷ ys) rest zero x at = (at, refl)
+slice_get-front (y ∷ ys) rest (suc k) x at =
+    let p = slice_get-front ys rest k x at in (p.0, ap (λ l. y ∷ l) p.1)
+
+pub legal-begins : (items rest : List Item) → Legal (items ++ rest) → Legal items
+legal-begins items rest legal k x at =
+    let p = slice_get-front items rest k x at in rw (← p.1) (legal k x p.0)
+
 -- the last value stored by one item, after another
 flat-one : (before : ℕ) (block : ℕ) (did : Option Did) →
     last_or before (map (λ d. d.value) (filter (is_store_to block) (cons_option did []))) ≡ option_map_or (λ d. if is_store_to block d then d.value else before) did before

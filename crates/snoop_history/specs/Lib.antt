@@ -8,4 +8,3 @@ pub mod Marked
 pub mod Kept
 pub mod Board
 pub mod Report
-pub mod Joins

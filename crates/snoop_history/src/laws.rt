@@ -1,7 +1,8 @@
 //! Laws of histories and boards, for the proofs of callers.
-ghost use Rattle.std.specs.Prelude.{◌≡◌, ℕ, List, [], ◌∷◌, ◌++◌, fold};
+ghost use Rattle.std.specs.Prelude.{◌≡◌, ℕ, List, [], ◌∷◌, ◌++◌, fold, All};
 ghost use Rattle.snoop_history.specs.declared.items.Item.{Item};
 ghost use Rattle.snoop_history.specs.History.{Legal, Follows, flat, stores};
+ghost use Rattle.snoop_history.specs.Within.{IsWithin, inside};
 ghost use Rattle.snoop_history.specs.Board.{board_of, absorbed};
 
 /// A legal history stays legal when an item that may come next is added.
@@ -9,9 +10,24 @@ pub fn legal_grows()
     ensures { (items : List Item) (entry : Item) → Legal items → Follows items entry → Legal (items ++ entry ∷ []) }
 {}
 
+/// The first items of a legal history are legal.
+pub fn legal_begins()
+    ensures { (items rest : List Item) → Legal (items ++ rest) → Legal items }
+{}
+
 /// Flat memory after one more item: the value that it stores to the block, or the value from before.
 pub fn flat_grows()
     ensures { (items : List Item) (entry : Item) (block : ℕ) → flat (items ++ entry ∷ []) block ≡ stores entry block (flat items block) }
+{}
+
+/// A board counts the whole of a history that lies within its shape.
+pub fn inside_whole()
+    ensures { (cores blocks : ℕ) (items : List Item) → All (IsWithin cores blocks) items → inside cores blocks items ≡ items }
+{}
+
+/// The board of a list with one item more.
+pub fn board_grows()
+    ensures { (cores blocks : ℕ) (items : List Item) (entry : Item) → board_of cores blocks (items ++ entry ∷ []) ≡ absorbed (board_of cores blocks items) entry }
 {}
 
 /// Items that are absorbed one by one, from the board of no items on, give the board of their list. So boards that absorb the same list are equal.

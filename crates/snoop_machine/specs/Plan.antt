@@ -34,7 +34,7 @@ step_of (Writeback block closing memory) = step.Respond block
 step_of (Fill block closing memory filled) = step.Respond block
 
 -- the core's oldest request can be ordered, with this message, and leads memory to this state
-pub record IsOrdered (s : Situation) (core : ℕ) (request : Request) (block : ℕ) (message : Message) (memory : MemState) : Type 0 where
+pub record CanBeOrdered (s : Situation) (core : ℕ) (request : Request) (block : ℕ) (message : Message) (memory : MemState) : Type 0 where
   pub head : IsHead s core request block
   pub free : (picture_of s block).transaction ≡ None
   pub memory_row : TakesMemRow s.protocol (at_memory request) (picture_of s block).memory.state memory
@@ -50,7 +50,7 @@ pub record IsClosing (s : Situation) (block : ℕ) (closing : Open) (memory : Me
 -- the rows were found for what the plan says
 abbrev pub IsPlan : Situation → Plan → Type 0
 IsPlan s (Ask core block asking way) = IsWithin s core block × TakesAsk s.protocol (line_at s.caches core block) asking way × IsProper (line_at s.caches core block)
-IsPlan s (Order core request block message memory) = (core < s.shape.cores) × IsOrdered s core request block message memory
+IsPlan s (Order core request block message memory) = (core < s.shape.cores) × CanBeOrdered s core request block message memory
 IsPlan s (Writeback block closing memory) = (block < s.shape.blocks) × IsClosing s block closing memory × (closing.request ≡ PutM)
 IsPlan s (Fill block closing memory filled) =
     (block < s.shape.blocks) × IsClosing s block closing memory × (closing.request ≢ PutM)

@@ -1,5 +1,5 @@
 //! What a response does to one line, and to memory.
-ghost use Rattle.std.specs.Prelude.{◌≡◌, IsSomeAnd, IsTrue};
+ghost use Rattle.std.specs.Prelude.{IsSomeAnd, IsTrue};
 ghost use Rattle.snoop_rules.specs.Takers.{arrival, arrival_at_memory, takes_payload};
 ghost use Rattle.snoop_model.specs.Pictures.Sound.{IsProper};
 ghost use Rattle.snoop_model.specs.Moves.LookUps.{HasRow, HasMemRow};

@@ -57,7 +57,7 @@ threaded protocol shape rows stops old new log steps fresh each same ran none jo
           let done : Grows (rows_of (slice_index_or old core d).core rows) (slice_index_or old core d) (slice_index_or new core d) =
           subst (λ (stop : Option Stop). RanTo stop rows (slice_index_or old core d) (slice_index_or new core d))
           (All-get_or (λ (stop : Option Stop). stop ≡ None) stops core None (omega (arith, inside, each)) none) (ran core d inside) in
-          let told = All-get_or (λ (s : Seating). answers_of log s.core ≡ s.answers) new core d (omega (arith, inside, same)) joined.answered in
+          let told = All-get_or (λ (s : Seating). answers_of log s.core ≡ s.answers) new core d (omega (arith, inside, same)) joined.joins.answered in
           subst (λ (l : List Item). Answers shape (rows_of core rows) (answers_of l core)) joined.log_is
           (answered_rows shape rows core (slice_index_or old core d) (slice_index_or new core d) log (fresh.1 core d lt) done told);
     }

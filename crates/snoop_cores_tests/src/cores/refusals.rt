@@ -5,6 +5,7 @@ use snoop_cores::{
     AdvanceFault, Free, GatherFault, Late, MakeFault, RunFault, Seat, SeatFault, Shared, Turn,
     ViewFault, gather, run_seats,
 };
+use snoop_history::Did;
 use snoop_rules::Protocol;
 use snoop_trace::{Op, Shape};
 use std::test::Fail;
@@ -90,21 +91,54 @@ fn places_for_seats_and_watches(rt: HostRuntime) -> Result<(), Fail> {
 }
 
 #[test]
-fn faults_are_shown_by_their_names(rt: HostRuntime) -> Result<(), Fail> {
+fn faults_of_calls_are_shown_by_their_names(rt: HostRuntime) -> Result<(), Fail> {
+    let did = Did {
+        core: 0,
+        number: 0,
+        block: 0,
+        load: true,
+        value: 7,
+        hit: false,
+    };
     let shown = format!(in rt.alloc();
-        "{} {} {} {} {} {} {}",
-        MakeFault::NoPlace,
+        "{} {} {} {} {} {} {} {} {} {}",
+        SeatFault::NoBlock,
+        SeatFault::NoMemory,
         SeatFault::Busy(work(Op::Load)),
+        SeatFault::Stranger(did),
+        ViewFault::NoBlock,
         ViewFault::NoVersion,
-        RunFault::NoSeat { core: 0 },
-        GatherFault::Mismatch { core: 0, place: 0 },
+        AdvanceFault::NoCore,
+        AdvanceFault::NoBlock,
         AdvanceFault::Other(work(Op::Load)),
+        AdvanceFault::NoMemory
+    )
+    .map_err(|_| Fail::from("memory"))?;
+    assert_eq!(rt;
+        shown.as_str(),
+        "NoBlock NoMemory Busy Stranger NoBlock NoVersion NoCore NoBlock Other NoMemory"
+    );
+    Ok(())
+}
+
+#[test]
+fn faults_of_all_seats_are_shown_by_their_names(rt: HostRuntime) -> Result<(), Fail> {
+    let shown = format!(in rt.alloc();
+        "{} {} {} {} {} {} {} {} {}",
+        MakeFault::NoMemory,
+        MakeFault::NoPlace,
+        RunFault::NoSeat { core: 0 },
+        RunFault::NoMemory,
+        GatherFault::Mismatch { core: 0, place: 0 },
+        GatherFault::Pending { core: 0 },
+        GatherFault::NoMemory,
+        GatherFault::NotAllSeats { core: 0 },
         Late
     )
     .map_err(|_| Fail::from("memory"))?;
     assert_eq!(rt;
         shown.as_str(),
-        "NoPlace Busy NoVersion NoSeat Mismatch Other Late"
+        "NoMemory NoPlace NoSeat NoMemory Mismatch Pending NoMemory NotAllSeats Late"
     );
     Ok(())
 }
