@@ -1,11 +1,11 @@
 -- The response to a core's own transaction leaves its work with no step.
 use Rattle.std.proofs.Common.{◌≡◌, ℕ, ◌<◌, ◌==◌, Bool, true, false, true≢false, List, [], length, Option, Some, None, refl, sym, ap, ◌∙◌, subst, arith}
-use Rattle.std.specs.Prelude.{slice_set, slice_index_or, is_some, if◌then◌else◌}
+use Rattle.std.specs.Prelude.{slice_index_or, is_some}
 use Rattle.std.proofs.lemmas.Bool.Decides.{nat_tests}
 use Rattle.std.proofs.lemmas.List.{get_or-set_same}
 use Rattle.snoop_trace.specs.declared.step.Op.{Op}
 use Rattle.snoop_trace.specs.declared.step.Step.{Step}
-use Rattle.snoop_trace.specs.declared.step.Step.TheVariants.{Order, Respond}
+use Rattle.snoop_trace.specs.declared.step.Step.TheVariants.{Respond}
 use Rattle.snoop_rules.specs.declared.names.Protocol.{Protocol}
 use Rattle.snoop_rules.specs.declared.names.Request.{Request}
 use Rattle.snoop_rules.specs.declared.names.Request.TheVariants.{GetS, GetM, PutM}

@@ -14,14 +14,14 @@ use Rattle.snoop_machine.specs.declared.ask.Asked.{Asked}
 use Rattle.snoop_machine.specs.declared.ask.Asked.TheVariants.{Absent, Hit, Issue, Drop}
 use Rattle.snoop_model.specs.declared.replies.Refused.{Refused}
 use Rattle.snoop_model.specs.declared.replies.Refused.TheVariants.{Stalled}
-use Rattle.snoop_model.specs.Moves.Move.{Hits, moves_to, kept_waiting}
+use Rattle.snoop_model.specs.Moves.Move.{Hits, moves_to, moves_waiting}
 
 -- the line takes the row of an Ask
 abbrev pub TakesAsk : Protocol → Line → Op → Asked → Type 0
 TakesAsk protocol old asking Absent = (asking ≡ op.Evict) × (old.state ≡ state.I)
 TakesAsk protocol old asking (Hit new value) = (next : CacheState) × (Cell protocol old.state (asked asking) action.Hit next × Hits next old new asking value)
 TakesAsk protocol old asking (Issue request new) =
-    (next : CacheState) × (Cell protocol old.state (asked asking) (action.Issue request) next × (new ≡ record (moves_to next old) { waiting = kept_waiting asking }))
+    (next : CacheState) × (Cell protocol old.state (asked asking) (action.Issue request) next × (new ≡ moves_waiting next asking old))
 TakesAsk protocol old asking (Drop new) = (next : CacheState) × (Cell protocol old.state (asked asking) action.Drop next × (new ≡ moves_to next old))
 
 -- why the Ask is refused on this line

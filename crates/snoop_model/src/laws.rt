@@ -1,11 +1,10 @@
 //! What holds of every run: calls that do nothing, and ensure it.
 ghost use Rattle.std.specs.Prelude.{◌<◌, ℕ};
 ghost use Rattle.snoop_trace.specs.declared.step.Step.{Step};
-ghost use Rattle.snoop_rules.specs.declared.names.Request.{Request};
 ghost use Rattle.snoop_history.specs.History.{flat, Legal};
 ghost use Rattle.snoop_model.specs.Pictures.Picture.{held_by};
 ghost use Rattle.snoop_model.specs.Pictures.Sound.{IsProper};
-ghost use Rattle.snoop_model.specs.Pictures.Situation.{picture_of, CanOrder};
+ghost use Rattle.snoop_model.specs.Pictures.Situation.{picture_of};
 ghost use Rattle.snoop_model.specs.Runs.Run.{EveryRun, RunsAreOne, RunsGoOn, TakenBegins, TakenGoesOn};
 ghost use Rattle.snoop_model.specs.Runs.Tallied.{AskedAreTallied};
 ghost use Rattle.snoop_model.specs.Pictures.OneWriter.{OneWriter};
@@ -13,7 +12,7 @@ ghost use Rattle.snoop_model.specs.Pictures.Current.{IsCurrent};
 ghost use Rattle.snoop_model.specs.Pictures.MemoryCurrent.{IsMemoryCurrent, NamesItsBlock};
 ghost use Rattle.snoop_model.specs.Runs.Once.{Once};
 ghost use Rattle.snoop_model.specs.Moves.LookUps.{FindsRows};
-ghost use Rattle.snoop_model.specs.Moves.SenderTable.{FollowsSenderTable, MovesAreByTable};
+ghost use Rattle.snoop_model.specs.Moves.SenderTable.{OrdersFollowSenderTable, MovesAreByTable};
 ghost use Rattle.snoop_model.specs.Pictures.InQueue.{IsInQueue};
 
 /// Coherence of every run from reset, for every number of cores and blocks, under MSI and MESI.
@@ -35,7 +34,7 @@ pub fn coherent()
     ensures opened { EveryRun (λ protocol steps outcomes s. (block : ℕ) → NamesItsBlock s block) }
     ensures once { EveryRun (λ protocol steps outcomes s. Once steps outcomes s) }
     ensures possible { EveryRun (λ protocol steps outcomes s. (step : Step) → FindsRows s step) }
-    ensures lines { EveryRun (λ protocol steps outcomes s. (core block : ℕ) (request : Request) → CanOrder s core block request → FollowsSenderTable protocol (picture_of s block) core request) }
+    ensures lines { EveryRun (λ protocol steps outcomes s. OrdersFollowSenderTable protocol s) }
     ensures by_table { EveryRun (λ protocol steps outcomes s. MovesAreByTable s) }
     ensures proper { EveryRun (λ protocol steps outcomes s. (core block : ℕ) → IsProper (held_by (picture_of s block) core)) }
     ensures queued { EveryRun (λ protocol steps outcomes s. (core block : ℕ) → IsInQueue s core block) }

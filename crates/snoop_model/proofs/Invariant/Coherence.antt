@@ -191,7 +191,7 @@ put_is : (q : Request) → q ≡ request.PutM → is_put_m q ≡ true
 put_is q e = ap is_put_m e
 
 -- an Order of any request that waits on a free block has exactly one sender, and is a line of the table
-pub orders_follow_sender_table : (s : Situation) → IsCoherent s → OrdersFollowSenderTable s
+pub orders_follow_sender_table : (s : Situation) → IsCoherent s → OrdersFollowSenderTable s.protocol s
 orders_follow_sender_table s g core block q ready =
     let p = s.protocol in
     let before : Picture = picture_of s block in

@@ -68,6 +68,10 @@ next_did log core block op value hit = record { core = core; number = next_numbe
 abbrev pub moves_to : CacheState → Line → Line
 moves_to next held = record { state = next; kept = kept_on next held.kept; waiting = held.waiting }
 
+-- a core that moves to a state with its request issued: the operation waits, but an eviction does not
+abbrev pub moves_waiting : CacheState → Op → Line → Line
+moves_waiting next asking held = record (moves_to next held) { waiting = kept_waiting asking }
+
 -- what a hit leaves in a line: the operation is performed on the kept value
 pub record Hits (next : CacheState) (old new : Line) (asking : Op) (value : ℕ) : Type 0 where
   pub before : ℕ
@@ -155,7 +159,7 @@ Takes action.Hit next log core block asking old new answer entry =
     (value : ℕ) × (Hits next old new asking value × (answer ≡ hit_reply asking value)
     × (entry ≡ Some (item.Did (next_did log core block asking value true))))
 Takes (action.Issue request) next log core block asking old new answer entry =
-    (new ≡ record (moves_to next old) { waiting = kept_waiting asking }) × (answer ≡ reply.Issued request) × (entry ≡ None)
+    (new ≡ moves_waiting next asking old) × (answer ≡ reply.Issued request) × (entry ≡ None)
 Takes action.Drop next log core block asking old new answer entry =
     (new ≡ moves_to next old) × (answer ≡ reply.Gone) × (entry ≡ None)
 Takes _ next log core block asking old new answer entry = ⊥

@@ -61,6 +61,6 @@ IsByTable block old (Ask core on asking) new = ⊤
 abbrev pub MovesAreByTable : Situation → Type 0
 MovesAreByTable s = (block : ℕ) (step : Step) (answer : Reply) (new : Situation) (entry : Option Item) → MoveOn block s step answer new entry → IsByTable block s step new
 
--- every request that can be ordered would have exactly one sender, and be a line of the table
-abbrev pub OrdersFollowSenderTable : Situation → Type 0
-OrdersFollowSenderTable s = (core block : ℕ) (request : Request) → CanOrder s core block request → FollowsSenderTable s.protocol (picture_of s block) core request
+-- every request that can be ordered would have exactly one sender, and be a line of the protocol's table
+abbrev pub OrdersFollowSenderTable : Protocol → Situation → Type 0
+OrdersFollowSenderTable protocol s = (core block : ℕ) (request : Request) → CanOrder s core block request → FollowsSenderTable protocol (picture_of s block) core request

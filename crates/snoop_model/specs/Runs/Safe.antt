@@ -23,7 +23,7 @@ pub record IsSafe (s : Situation) : Type 0 where
   pub memory : (block : ℕ) → block < s.shape.blocks → IsMemoryCurrent s.protocol (picture_of s block) (flat s.log block)
   pub opened : (block : ℕ) → NamesItsBlock s block
   pub possible : (step : Step) → FindsRows s step
-  pub lines : OrdersFollowSenderTable s
+  pub lines : OrdersFollowSenderTable s.protocol s
   pub by_table : MovesAreByTable s
   pub proper : (core block : ℕ) → IsProper (held_by (picture_of s block) core)
   pub queued : (core block : ℕ) → IsInQueue s core block
