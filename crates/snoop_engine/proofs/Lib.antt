@@ -6,3 +6,4 @@ pub mod Rounds
 pub mod Dealing
 pub mod Journeys
 pub mod DrivenLemmas
+pub mod Packing

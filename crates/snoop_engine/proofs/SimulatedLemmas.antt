@@ -1,6 +1,6 @@
 -- From the lines and the report to the whole output of a simulation.
 use Rattle.std.proofs.Common.{◌≡◌, ℕ, List, [], ◌∷◌, ◌++◌, Option, refl, sym, ap, subst, ◌∙◌, append_assoc}
-use Rattle.std.specs.Prelude.{Result}
+use Rattle.std.specs.Prelude.{Result, Ok, Err}
 use Rattle.std.specs.Io.KnownBytes.{Appends}
 use Rattle.snoop_trace.specs.Extent.{Extent}
 use Rattle.snoop_trace.specs.Output.{AppendsFront}
@@ -15,7 +15,11 @@ use Rattle.snoop_model.specs.Runs.Run.{FirstRunFrom, RunsGoOn, TheRun}
 use Rattle.snoop_model.specs.declared.replies.Reply.{Reply}
 use Rattle.snoop_model.specs.declared.replies.Refused.{Refused}
 use Rattle.snoop_engine.specs.Written.{WritesFront, WritesLines}
-use Rattle.snoop_engine.specs.Simulated.{Begins, Reports}
+use Rattle.snoop_engine.specs.Simulated.{Begins, Reads, Reports, Simulates}
+use Rattle.snoop_engine.specs.Fault.{written}
+use Rattle.snoop_engine.specs.declared.fault.SimFault.{SimFault}
+use Rattle.snoop_trace.specs.declared.fault.WriteFault.{WriteFault}
+use Rattle.snoop_trace.specs.declared.fault.WriteFault.TheVariants as write
 
 -- a beginning of a text is one of a longer text
 front_of_longer : (a b : Option (List ℕ)) (text more : List ℕ) → AppendsFront a b text → AppendsFront a b (text ++ more)
@@ -107,3 +111,9 @@ begins_nothing go_on protocol shape steps a =
       run = all.1.1;
       output = record { front = []; rest = line_texts shape steps all.0 ++ report_of all.1.0.log; whole = refl; appends = appends_none a };
     }
+
+-- a failed write, or out of memory, after the whole text was read
+pub simulates_front : (protocol : Protocol) (shape : Extent) (input : Option (List ℕ)) (steps : List Step) (fault : WriteFault) (result : Result (Unit {0}) SimFault) (old new : Option (List ℕ))
+    → result ≡ Err (written fault) → Reads shape input (Ok steps) → Begins protocol shape steps old new → Simulates protocol shape input result old new
+simulates_front protocol shape input steps write.Write result old new e reads begins = rw e (steps, (reads, begins))
+simulates_front protocol shape input steps write.NoMemory result old new e reads begins = rw e (steps, (reads, begins))

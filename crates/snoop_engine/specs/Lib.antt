@@ -1,5 +1,6 @@
 pub mod Fault
 pub mod Line
+pub mod Packed
 pub mod Written
 pub mod Simulated
 pub mod Todo

@@ -6,6 +6,7 @@ mod driver;
 mod fault;
 mod lane;
 mod line;
+mod packed;
 mod run;
 mod steps;
 mod work;

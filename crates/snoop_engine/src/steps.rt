@@ -11,12 +11,13 @@ ghost use Rattle.snoop_model.specs.Runs.Run.{GoesFirst};
 
 use crate::fault::SimFault;
 use crate::line::push_line;
+use crate::packed::StepQueue;
 use snoop_history::write_report;
 use snoop_machine::laws::runs_go_on;
 use snoop_machine::{Machine, Refused};
 use snoop_rules::Protocol;
-use snoop_trace::streams::{Sink, Source, spill, write_whole};
-use snoop_trace::{NoMemory, Shape, Step, WriteFault, read_steps};
+use snoop_trace::streams::{Sink, Source, gather_steps, spill, write_whole};
+use snoop_trace::{NoMemory, Shape, Step, WriteFault};
 use std::alloc::Global;
 
 /// Reads a text of steps to its end, takes them in order on a machine at reset, and writes the line of each
@@ -36,8 +37,8 @@ pub fn simulate_steps<R: Source + Drop, W: Sink>(
     // Where it is known that no write to the writer had failed, it is blamed exactly where one fails, and none is tried again.
     ensures blamed { BlamesWriter (W.failed writer.old) (W.failed writer.new) (result ≡ Err SimFault.Write) }
 {
-    let steps = read_steps(alloc, reader, shape).map_err(SimFault::Text)?;
-    write_output(alloc, writer, protocol, shape, &steps)?;
+    let steps = gather_steps(alloc, reader, shape, StepQueue::new(alloc)).map_err(SimFault::Text)?;
+    write_output(alloc, writer, protocol, shape, steps)?;
     Ok(())
 }
 
@@ -47,16 +48,16 @@ fn write_output<W: Sink>(
     writer: &mut W,
     protocol: Protocol,
     shape: Shape,
-    steps: &[Step],
+    mut steps: StepQueue,
 ) -> Result<(), WriteFault>
-    ensures ok { OnOk result (Reports protocol shape steps.now (W.contents writer.old) (W.contents writer.new)) }
-    ensures front { OnErr result (Begins protocol shape steps.now (W.contents writer.old) (W.contents writer.new)) }
+    ensures ok { OnOk result (Reports protocol shape steps (W.contents writer.old) (W.contents writer.new)) }
+    ensures front { OnErr result (Begins protocol shape steps (W.contents writer.old) (W.contents writer.new)) }
     ensures never_blamed { W.never_fails ≡ true → result ≢ Err WriteFault.Write }
     ensures blamed { BlamesWriter (W.failed writer.old) (W.failed writer.new) (result ≡ Err WriteFault.Write) }
 {
     runs_go_on();
     let mut machine = Machine::reset(alloc, protocol, shape)?;
-    write_lines(alloc, writer, shape, &mut machine, steps)?;
+    write_lines(alloc, writer, shape, &mut machine, &mut steps)?;
     write_report(alloc, writer, machine.log())?;
     Ok(())
 }
@@ -67,16 +68,16 @@ fn write_lines<W: Sink>(
     writer: &mut W,
     shape: Shape,
     machine: &mut Machine,
-    steps: &[Step],
+    steps: &mut StepQueue,
 ) -> Result<(), WriteFault>
-    ensures ok { OnOk result (WritesLines shape machine.old.situation steps.now machine.new.situation (W.contents writer.old) (W.contents writer.new)) }
-    ensures front { OnErr result (WritesFront shape machine.old.situation steps.now (W.contents writer.old) (W.contents writer.new)) }
+    ensures ok { OnOk result (WritesLines shape machine.old.situation steps.old machine.new.situation (W.contents writer.old) (W.contents writer.new)) }
+    ensures front { OnErr result (WritesFront shape machine.old.situation steps.old (W.contents writer.old) (W.contents writer.new)) }
     ensures never_blamed { W.never_fails ≡ true → result ≢ Err WriteFault.Write }
     ensures blamed { BlamesWriter (W.failed writer.old) (W.failed writer.new) (result ≡ Err WriteFault.Write) }
 {
     let mut chunk = Vec::new(alloc);
-    for step in steps {
-        push_taken(&mut chunk, shape, machine, *step)?;
+    while let Some(step) = steps.next() {
+        push_taken(&mut chunk, shape, machine, step)?;
         spill(writer, &mut chunk)?;
     }
     write_whole(writer, &chunk)?;

@@ -146,3 +146,9 @@ step_in shape n fields = do
 -- a row of the shape: its core is there, and its address lies in a block
 abbrev pub IsRowWithin : Extent → Row → Type 0
 IsRowWithin shape row = (row.core < shape.cores) × (row.address / shape.block_bytes < shape.blocks)
+
+-- a step of the shape: its core and its block are there
+abbrev pub IsStepWithin : Extent → Step → Type 0
+IsStepWithin shape (Ask core block op) = (core < shape.cores) × (block < shape.blocks)
+IsStepWithin shape (Order core) = core < shape.cores
+IsStepWithin shape (Respond block) = block < shape.blocks

@@ -45,6 +45,17 @@ pub enum TextFault {
     NoMemory,
 }
 
+impl From<NoMemory> for TextFault {
+    ghost use Rattle.std.specs.Prelude.{◌≡◌};
+    ghost use Rattle.snoop_trace.specs.declared.fault.TextFault.TheVariants as text;
+
+    ghost from_gives = { λ e r. r ≡ text.NoMemory };
+
+    fn from(_: NoMemory) -> Self {
+        TextFault::NoMemory
+    }
+}
+
 /// Why a text was not written whole.
 #[derive(Clone, Copy, Debug, PartialEq, Eq, Error)]
 pub enum WriteFault {

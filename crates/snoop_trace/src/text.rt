@@ -2,7 +2,7 @@
 ghost use Rattle.std.specs.Prelude.{◌≡◌, ◌≢◌, ◌<◌, ◌+◌, ◌-◌, ◌^◌, [], length, true, false, All, IfSome, IfOk, IsSome, IsSomeAnd, Err};
 ghost use Rattle.csv.specs.Reading.{default_config, reader_state, records, source_of};
 ghost use Rattle.csv.specs.declared.parser.State.TheVariants as st;
-ghost use Rattle.snoop_trace.specs.Grammar.{IsRowWithin};
+ghost use Rattle.snoop_trace.specs.Grammar.{IsRowWithin, IsStepWithin};
 ghost use Rattle.snoop_trace.specs.Progress.{IsPlain, IsSaid, TakesEntry};
 ghost use Rattle.snoop_trace.specs.Text.{Gives, entries_from, records_of, rows_of, steps_of};
 
@@ -11,6 +11,7 @@ use crate::record::Entry;
 use crate::shape::Shape;
 use crate::step::{Row, Step};
 use crate::streams::Source;
+use crate::streams::entries::Entries;
 use crate::streams::source::Watched;
 use csv::{ByteRecord, Reader, ReaderBuilder};
 use std::alloc::Global;
@@ -40,29 +41,26 @@ fn next_entry<E: Entry, R: Source>(
 }
 
 // All entries of a text, after none.
-fn take_entries<E: Entry, R: Source>(
+fn take_entries<E: Entry, C: Entries<E>, R: Source>(
     text: &mut Reader<Watched<R>>,
     fields: &mut ByteRecord,
     shape: Shape,
-    entries: &mut Vec<E>,
+    entries: &mut C,
 ) -> Result<(), TextFault>
     requires plain { IsPlain text.old }
     requires begins { reader_state text.old ≡ st.StartRecord }
-    requires empty { entries.old.items ≡ [] }
+    requires empty { C.listed entries.old ≡ [] }
+    requires fits { (entry : E) → IsSaid (E.says shape) entry → C.fits entry }
     ensures read { IfSome (source_of (λ r. R.remaining r.inner) text.old)
-        (λ xs. Gives (λ _. entries.new.items) result (entries_from (E.says shape) 1 (records default_config xs))) }
-    ensures said { IfOk result (λ _. All (IsSaid (E.says shape)) entries.new.items) }
+        (λ xs. Gives (λ _. C.listed entries.new) result (entries_from (E.says shape) 1 (records default_config xs))) }
+    ensures said { IfOk result (λ _. All (IsSaid (E.says shape)) (C.listed entries.new)) }
     ensures never_blamed { R.never_fails ≡ true
         → IsSomeAnd (source_of (λ r. R.remaining r.inner) text.old) (λ xs. length xs < 2 ^ 64 - 1)
         → result ≢ Err TextFault.Read }
 {
     for i in 0..u64::MAX {
         match next_entry(text, fields, shape, i + 1) {
-            Ok(Some(entry)) => {
-                if entries.push(entry).is_err() {
-                    return Err(TextFault::NoMemory);
-                }
-            }
+            Ok(Some(entry)) => entries.append(entry)?,
             Ok(None) => return Ok(()),
             Err(fault) => return Err(fault),
         }
@@ -70,15 +68,18 @@ fn take_entries<E: Entry, R: Source>(
     Err(TextFault::Read)
 }
 
-// The entries that a text gives, or its first fault.
-fn read_entries<E: Entry, R: Source + Drop>(
+// The entries that a text gives, after none, or its first fault.
+fn read_entries<E: Entry, C: Entries<E> + Drop, R: Source + Drop>(
     alloc: Global,
     reader: R,
     shape: Shape,
-) -> Result<Vec<E>, TextFault>
+    mut entries: C,
+) -> Result<C, TextFault>
+    requires empty { C.listed entries ≡ [] }
+    requires fits { (entry : E) → IsSaid (E.says shape) entry → C.fits entry }
     ensures read { IfSome (R.remaining reader)
-        (λ bytes. Gives (λ entries. entries.items) result (entries_from (E.says shape) 1 (records_of bytes))) }
-    ensures said { IfOk result (λ entries. All (IsSaid (E.says shape)) entries.items) }
+        (λ bytes. Gives C.listed result (entries_from (E.says shape) 1 (records_of bytes))) }
+    ensures said { IfOk result (λ entries. All (IsSaid (E.says shape)) (C.listed entries)) }
     ensures never_blamed { R.never_fails ≡ true → IsSomeAnd (R.remaining reader) (λ bytes. length bytes < 2 ^ 64 - 1)
         → result ≢ Err TextFault.Read }
 {
@@ -87,7 +88,6 @@ fn read_entries<E: Entry, R: Source + Drop>(
         .flexible(true)
         .from_reader(alloc, Watched::new(reader));
     let mut fields = ByteRecord::new(alloc);
-    let mut entries = Vec::new(alloc);
     take_entries(&mut text, &mut fields, shape, &mut entries)?;
     Ok(entries)
 }
@@ -119,7 +119,24 @@ pub fn read_steps<R: Source + Drop>(
     ensures never_blamed { R.never_fails ≡ true → IsSomeAnd (R.remaining reader) (λ bytes. length bytes < 2 ^ 64 - 1)
         → result ≢ Err TextFault.Read }
 {
-    read_entries(alloc, reader, shape)
+    read_entries::<Step, Vec<Step>, R>(alloc, reader, shape, Vec::new(alloc))
+}
+
+/// The same steps, or the same fault, gathered in another list, which is empty at first and fits every step of the shape.
+pub fn gather_steps<C: Entries<Step> + Drop, R: Source + Drop>(
+    alloc: Global,
+    reader: R,
+    shape: Shape,
+    steps: C,
+) -> Result<C, TextFault>
+    requires empty { C.listed steps ≡ [] }
+    requires fits { (step : Step) → IsStepWithin shape step → C.fits step }
+    ensures read { IfSome (R.remaining reader)
+        (λ bytes. Gives C.listed result (steps_of shape bytes)) }
+    ensures never_blamed { R.never_fails ≡ true → IsSomeAnd (R.remaining reader) (λ bytes. length bytes < 2 ^ 64 - 1)
+        → result ≢ Err TextFault.Read }
+{
+    read_entries::<Step, C, R>(alloc, reader, shape, steps)
 }
 
 /// The rows that a text gives, or its first fault.
@@ -137,5 +154,5 @@ pub fn read_rows<R: Source + Drop>(
     ensures never_blamed { R.never_fails ≡ true → IsSomeAnd (R.remaining reader) (λ bytes. length bytes < 2 ^ 64 - 1)
         → result ≢ Err TextFault.Read }
 {
-    read_entries(alloc, reader, shape)
+    read_entries::<Row, Vec<Row>, R>(alloc, reader, shape, Vec::new(alloc))
 }

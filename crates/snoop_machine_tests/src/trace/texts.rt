@@ -1,6 +1,6 @@
 //! Texts that are read and written whole.
 
-use snoop_trace::streams::{CHUNK, spill, write_whole};
+use snoop_trace::streams::{CHUNK, gather_steps, spill, write_whole};
 use snoop_trace::{Op, Row, Shape, Step, read_rows, read_steps, write_steps};
 use std::io;
 use std::test::Fail;
@@ -40,6 +40,9 @@ fn steps_are_written_and_read_again(rt: HostRuntime) -> Result<(), Fail> {
         (text.as_slice(), steps.as_slice()),
         (TEXT.as_bytes(), STEPS.as_slice())
     );
+    let none: Vec<Step> = Vec::new(alloc);
+    let gathered = gather_steps(alloc, text.as_slice(), shape, none)?;
+    assert_eq!(rt; gathered.as_slice(), STEPS.as_slice());
     Ok(())
 }
 

@@ -1,0 +1,28 @@
+//! What the entries of a text are gathered in.
+ghost use Rattle.std.specs.Prelude.{◌≡◌, ◌++◌, ◌∷◌, [], List, OnOk, ⊤};
+
+use crate::fault::NoMemory;
+
+/// A list that the entries of a text are appended to, in whatever form it keeps them.
+pub trait Entries<E> {
+    // The entries, in their order.
+    ghost listed: { Self → List E };
+
+    // The entries that it can keep.
+    ghost fits: { E → Type 0 };
+
+    /// Appends an entry.
+    fn append(&mut self, entry: E) -> Result<(), NoMemory>
+        requires { fits entry }
+        ensures { OnOk result (listed self.new ≡ listed self.old ++ entry ∷ []) };
+}
+
+impl<E: Copy> Entries<E> for Vec<E> {
+    ghost listed = { λ v. v.items };
+
+    ghost fits = { λ entry. ⊤ };
+
+    fn append(&mut self, entry: E) -> Result<(), NoMemory> {
+        self.push(entry).map_err(|_| NoMemory)
+    }
+}
