@@ -2,10 +2,11 @@
 use Rattle.std.proofs.Common.{◌≡◌, ℕ, ◌+◌, false, List, [], ◌∷◌, ◌++◌, length, length-append, slice_index_or, refl, ap, ◌∙◌, arith, inl, inr}
 use Rattle.std.proofs.lemmas.Bool.{cases_Bool}
 use Rattle.snoop_trace.specs.declared.step.Step.{Step}
+use Rattle.snoop_model.specs.Runs.Once.{one_if}
 use Rattle.snoop_engine.specs.declared.packed.Kind.{Kind}
 use Rattle.snoop_engine.specs.declared.packed.Kind.TheVariants as kind
 use Rattle.snoop_engine.specs.declared.packed.Head.{Head}
-use Rattle.snoop_engine.specs.Packed.{is_store, one_if, step_by, step_of, steps_in, stores_in}
+use Rattle.snoop_engine.specs.Packed.{is_store, step_by, step_of, steps_in, stores_in}
 
 -- a step that stores nothing is the same with any value
 any_value : (k : Kind) (h : Head) (a b : ℕ) → is_store k ≡ false → step_by k h a ≡ step_by k h b

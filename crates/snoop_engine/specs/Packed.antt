@@ -5,6 +5,7 @@ use Rattle.snoop_trace.specs.Extent.{Extent}
 use Rattle.snoop_trace.specs.declared.step.Op.TheVariants as op
 use Rattle.snoop_trace.specs.declared.step.Step.{Step}
 use Rattle.snoop_trace.specs.declared.step.Step.TheVariants.{Ask, Order, Respond}
+use Rattle.snoop_model.specs.Runs.Once.{one_if}
 use Rattle.snoop_engine.specs.declared.packed.Kind.{Kind}
 use Rattle.snoop_engine.specs.declared.packed.Kind.TheVariants as kind
 use Rattle.snoop_engine.specs.declared.packed.Head.{Head}
@@ -34,11 +35,6 @@ values_of _ = []
 abbrev pub is_store : Kind → Bool
 is_store kind.Store = true
 is_store _ = false
-
--- one, where this is so
-abbrev pub one_if : Bool → ℕ
-one_if true = 1
-one_if false = 0
 
 -- how many of the steps store
 abbrev pub stores_in : List Head → ℕ

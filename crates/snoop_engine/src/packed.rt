@@ -1,7 +1,8 @@
 //! The steps of a text, packed until they are taken.
 ghost use Rattle.std.specs.Prelude.{◌≡◌, ◌++◌, [], length, IfNone, OnOk, OnErr, option_to_list, slice_index_or};
 ghost use Rattle.snoop_trace.specs.Grammar.{IsStepWithin};
-ghost use Rattle.snoop_engine.specs.Packed.{largest, is_store, one_if, step_of, values_of};
+ghost use Rattle.snoop_model.specs.Runs.Once.{one_if};
+ghost use Rattle.snoop_engine.specs.Packed.{largest, is_store, step_of, values_of};
 
 use snoop_trace::streams::Entries;
 use snoop_trace::{NoMemory, Op, Step};
