@@ -11,6 +11,7 @@ text is reported as the program reports it (a line on standard error, status 1, 
            memory's state and memory's value
   getters  all that a machine's getters answer after each step, as crates/snoop_getters prints it
   storm    makes a text of random steps
+  crowd    the output of a long text, or a text of many rows, as a rule writes it, without the machine below
   table    a controller's table, as `snoop table`
 
     tools/reference.py steps --protocol mesi < examples/silent_upgrade.steps
@@ -19,6 +20,7 @@ text is reported as the program reports it (a line on standard error, status 1, 
     tools/reference.py states --block 1 < examples/two_blocks_open.steps
     tools/reference.py getters --protocol mesi --cores 2 --blocks 1 < examples/silent_upgrade.steps
     tools/reference.py storm --cores 8 --blocks 3 --count 1000 > storm.steps
+    tools/reference.py crowd all_cores_store | sed -n 's/: .*//p' | ./snoop steps --cores 256
     tools/reference.py table --protocol mesi --which memory
 """
 import argparse
@@ -433,6 +435,60 @@ def storm(options):
         print((f"L,{core},{address}", f"S,{core},{address},{n}", f"E,{core},{address}", f"O,{core}", f"R,{address}")[k % 5])
 
 
+def all_cores_store(_):
+    """The output where all 256 cores ask to store, and then each is ordered and answered in turn."""
+    for core in range(256):
+        yield f"S,{core},0,{core}: issued GetM"
+    for core in range(256):
+        yield f"O,{core}: ordered GetM"
+        yield f"R,0: Data from {f'core {core - 1}' if core else 'memory'}, store {core}"
+    yield "loads 0 hits 0\nstores 256 hits 0\nGetS 0 GetM 256 PutM 0\nfrom memory 1 from caches 255"
+    yield "writebacks 0 clean 0 stale 0\nblock 0 value 255"
+
+
+def stale_writebacks_of_all_cores(_):
+    """The output where each of 256 cores stores and evicts in turn, and then all writebacks are ordered."""
+    for core in range(256):
+        yield f"S,{core},0,{core + 1}: issued GetM"
+        yield f"O,{core}: ordered GetM"
+        yield f"R,0: Data from {f'core {core - 1}' if core else 'memory'}, store {core + 1}"
+        yield f"E,{core},0: issued PutM"
+    for core in range(256):
+        yield f"O,{core}: ordered PutM"
+        yield f"R,0: {'NoData' if core < 255 else 'Data'} from core {core}"
+    yield "loads 0 hits 0\nstores 256 hits 0\nGetS 0 GetM 256 PutM 256\nfrom memory 1 from caches 255"
+    yield "writebacks 1 clean 0 stale 255\nblock 0 value 256"
+
+
+def loads_and_drops(count):
+    """The output under MSI where a core loads so many blocks, and then drops each."""
+    for block in range(count):
+        yield f"L,0,{64 * block}: issued GetS\nO,0: ordered GetS\nR,{64 * block}: Data from memory, load 0"
+    for block in range(count):
+        yield f"E,0,{64 * block}: gone"
+    yield f"loads {count} hits 0\nstores 0 hits 0\nGetS {count} GetM 0 PutM 0\nfrom memory {count} from caches 0"
+    yield "writebacks 0 clean 0 stale 0"
+    for block in range(count):
+        yield f"block {block} value 0"
+
+
+def many_rows(count):
+    """A text of so many rows, of 8 cores on 6 blocks."""
+    for n in range(count):
+        core, address = (n * 5 + n // 7) % 8, (n * 7 + n // 11) % 6 * 64 + n % 64
+        kind = "E" if n % 10 == 9 else "S" if n % 3 == 0 else "L"
+        yield f"{kind},{core},{address}" + (f",{n}" if kind == "S" else "")
+
+
+CROWDS = {crowd.__name__: crowd for crowd in (all_cores_store, stale_writebacks_of_all_cores, loads_and_drops, many_rows)}
+
+
+def crowd(options):
+    """The lines of a crowd."""
+    for lines in CROWDS[options.name](options.count):
+        print(lines)
+
+
 def table(options):
     """The rows of a table, a line each."""
     for row in rows()[options.protocol][options.which == "memory"]:
@@ -441,21 +497,24 @@ def table(options):
 
 def main():
     parser = argparse.ArgumentParser(description=__doc__, formatter_class=argparse.RawDescriptionHelpFormatter)
-    parser.add_argument("command", choices=("steps", "run", "states", "getters", "storm", "table"))
+    parser.add_argument("command", choices=("steps", "run", "states", "getters", "storm", "crowd", "table"))
+    parser.add_argument("name", nargs="?", choices=tuple(CROWDS), help="crowd: which one")
     parser.add_argument("--protocol", type=str.lower, choices=("msi", "mesi"), default="msi", help="default msi")
     parser.add_argument("--cores", type=int, default=2, help="how many cores, 1 to 256 (default 2)")
     parser.add_argument("--blocks", type=int, default=4, help="how many blocks of memory, 1 to 65536 (default 4)")
     parser.add_argument("--block-bytes", type=int, default=64, help="bytes of a block, a power of two up to 4096 (default 64)")
     parser.add_argument("--block", type=int, default=0, metavar="N", help="states: the number of the block (default 0)")
     parser.add_argument("--which", choices=("cache", "memory"), default="cache", help="table: whose table (default cache)")
-    parser.add_argument("--count", type=int, default=1000, help="storm: how many steps (default 1000)")
+    parser.add_argument("--count", type=int, default=1000, help="storm: how many steps; crowd: how many blocks or rows, where that is open (default 1000)")
     parser.add_argument("--seed", type=int, default=1, help="storm: where the generator begins (default 1)")
     options = parser.parse_args()
     if not (1 <= options.cores <= 256 and 1 <= options.blocks <= 65536 and options.block_bytes in [2**k for k in range(13)]):
         parser.error("no such shape: 1 to 256 cores, 1 to 65536 blocks, block bytes a power of two up to 4096")
+    if (options.command == "crowd") != (options.name is not None):
+        parser.error("`crowd` takes a name, and no other command does")
     try:
-        if options.command in ("storm", "table"):
-            {"storm": storm, "table": table}[options.command](options)
+        if options.command in ("storm", "crowd", "table"):
+            {"storm": storm, "crowd": crowd, "table": table}[options.command](options)
         else:
             {"steps": steps, "run": run, "states": states, "getters": getters}[options.command](options, sys.stdin.buffer.read())
         sys.stdout.flush()
