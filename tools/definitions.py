@@ -1,11 +1,13 @@
 #!/usr/bin/env python3
-"""Prints docs/DEFINITIONS.md, or writes it: each definition of crates/*/specs with the comment above it.
+"""Prints docs/DEFINITIONS.md, or writes it: the words that public contracts and the coherence theorem are made of.
 
     tools/definitions.py --write
+    tools/definitions.py IsJoined Serves
     tools/definitions.py --headline
 
-The second lists the definitions that the coherence theorem uses, each after those that it is made of, and counts them with their files
-and lines. If a file has no comment at its head, or a definition none above it, these are named, nothing is written and the status is 1.
+The second lists these words of any crate with their texts, each after those that it is made of; the third does so for the coherence
+theorem. Both count them with their files and lines. If a file of crates/*/specs has no comment at its head, or a definition none above
+it, these are named, nothing is written and the status is 1.
 """
 import argparse
 import pathlib
@@ -14,29 +16,36 @@ import sys
 from typing import NamedTuple
 
 TOP = pathlib.Path(__file__).resolve().parent.parent
-CRATES = ["snoop_trace", "snoop_rules", "snoop_history", "snoop_bus", "snoop_model", "snoop_machine", "snoop_versions", "snoop_bench", "snoop_cores", "snoop_engine", "snoop_sim", "snoop_scenes"]
 NAME = re.compile(r"(?:(?:abbrev|unfoldable) )?pub (?:(?:record|data) )?([^\s:({]+)")
+MODULE = re.compile(r"use Rattle\.(\w+)\.specs\.([\w.]+?) as (\w+);")
 IMPORT = re.compile(r"use Rattle\.(\w+)\.specs\.([\w.]+?)\.\{([^}]*)\}")
 WORD = re.compile(r"[^\s(){}\[\],;.]+")
 THEOREM = TOP / "crates" / "snoop_model" / "src" / "laws.rt"
 
 HEAD = """# Definitions
 
-The words that contracts are written in, by crate and file: what is proved is proved of these. Most of them say a thing in another way than the code does it. Which request waits is
-read off a core's state, where the code has queues; flat values and counts are recomputed from the whole history, where it has running numbers. Some follow the code closely: the controllers'
-tables (`cell_of`, `memory_cell_of`), a line for each row as in docs/PROTOCOL.md; how a record is read, field by field (`Grammar.antt`); and how counts grow by one item (`tallied` in `Journal.antt`), where
-it is proved that what grows so is the count of the whole list.
+The words that the contracts of public functions are written in, by crate: what is proved is proved of these. A ● marks those
+that the coherence theorem `laws::coherent` stands on, with the words below them.
 
-A ● marks the words that the coherence theorem `laws::coherent` stands on; `tools/definitions.py --headline` lists these alone, each after those that it is made of.
+`tools/definitions.py WORD..` shows the text of any word of any crate, after the words that it is made of, and
+`tools/definitions.py --headline` that of the theorem's. Both read the files in `crates/*/specs`, where each definition has a
+comment above it and each file says what it is about and where its rules come from: *the Primer* is *A Primer on Memory
+Consistency and Cache Coherence*, second edition, and *this project's profile* is what docs/PROTOCOL.md and docs/TEXTS.md lay down
+themselves. This page is made of these comments by `tools/definitions.py --write`.
 
-This page is written by `tools/definitions.py` from the comments in `crates/*/specs`. Each file begins with what it is about, and with the source of its rules:
-*the Primer* is *A Primer on Memory Consistency and Cache Coherence*, second edition, and *this project's profile* is what docs/PROTOCOL.md and docs/TEXTS.md lay down themselves.
+Most words say a thing in another way than the code does it. Which request waits is read from a core's state, where the code has
+queues; flat values and counts are computed from the whole history, where it has running numbers. Some follow the code closely: the
+controllers' tables (`cell_of`, `memory_cell_of`), a line for each row as in docs/PROTOCOL.md; how a record is read, field by field
+(`Grammar.antt`); and how counts grow by one item (`tallied` in `Journal.antt`), where it is proved that what grows so is the count
+of the whole list.
 
 Three conventions:
 
-- A fact is spelled like a type (`OneWriter`, `IsReader`), a function like a function (`flat`, `picture_of`). `A × B` is "A and B", `A ⊎ B` is "A or B", and `(x : T) × P` is "there is an x with P".
-- Look-ups in lists have a default: outside a machine's shape a core holds nothing (state I), no transaction is open and memory's value is 0. So statements about
-  all cores and blocks need no bounds, and mean nothing more outside the shape. (The clause `memory` has a bound all the same: the invariant doesn't say that a history has no store outside the shape.)
+- A fact is spelled like a type (`OneWriter`, `IsReader`), a function like a function (`flat`, `picture_of`). `A × B` is "A and B",
+  `A ⊎ B` is "A or B", and `(x : T) × P` is "there is an x with P".
+- Look-ups in lists have a default: outside a machine's shape a core holds nothing (state I), no transaction is open and memory's
+  value is 0. So statements about all cores and blocks need no bounds, and mean nothing more outside the shape. (The clause `memory`
+  has a bound all the same: the invariant doesn't say that a history has no store outside the shape.)
 - A core's list of waiting blocks is its *queue*; a *line* is a cache line.
 
 """
@@ -53,6 +62,12 @@ class Page(NamedTuple):
     head: str
     imports: dict  # a name to the module that has it
     definitions: list
+
+
+def crates():
+    """The crates that have definitions, in the order of crates.txt."""
+    named = re.findall(r"^(\w+)", (TOP / "crates.txt").read_text(), re.MULTILINE)
+    return [crate for crate in named if (TOP / "crates" / crate / "specs").is_dir()]
 
 
 def files_of(specs):
@@ -107,13 +122,13 @@ def made_of(page, text):
     return [page.imports.get(word) or key_of(page, word) for word in WORD.findall(text) if word in page.imports or word in local]
 
 
-def headline(pages):
-    """The definitions that the coherence theorem uses, each after those that it is made of, with their pages."""
-    known = {key_of(page, definition.name): (page, definition) for page in pages for definition in page.definitions}
-    source = THEOREM.read_text()
-    imports = imports_in(source.replace("ghost use", "use"))
-    clauses = source[source.index("pub fn coherent()"):]
-    clauses = clauses[:clauses.index("\n{}")]
+def known_in(pages):
+    """The definitions of all pages, each with its page, by their keys."""
+    return {key_of(page, definition.name): (page, definition) for page in pages for definition in page.definitions}
+
+
+def with_parts(known, keys):
+    """These definitions, each after those that it is made of."""
     found = {}
 
     def visit(key):
@@ -125,10 +140,53 @@ def headline(pages):
             del found[key]
             found[key] = known[key]
 
-    for word in WORD.findall(clauses):
-        if word in imports:
-            visit(imports[word])
+    for key in keys:
+        visit(key)
     return found
+
+
+def cited_in(text, imports, modules):
+    """The keys of what contracts speak of: imported words, and words of an imported module, as `spec.word`."""
+    for word in WORD.findall(text):
+        if word in imports:
+            yield imports[word]
+    for module, word in re.findall(r"\b(\w+)\.(\w+)", text):
+        if module in modules:
+            yield (*modules[module], word)
+
+
+def imports_of(source):
+    """The words and the modules that a source imports for its contracts, by the names that it uses."""
+    text = source.replace("ghost use", "use")
+    return imports_in(text), {name: (crate, module) for crate, module, name in MODULE.findall(text)}
+
+
+def contracts_in(source):
+    """The clauses of a source's public functions, those of public traits among them."""
+    is_trait = False
+    for block in re.split(r"\n\n+(?=\S)", source):
+        is_trait = re.search(r"^pub trait", block, re.MULTILINE)
+        for signature in re.findall(rf"^ *{'(?:pub )?' if is_trait else 'pub '}fn .*?(?:\n *\{{\}}?$|;$| \{{$)", block, re.MULTILINE | re.DOTALL):
+            yield "\n".join(re.findall(r"(?:requires|ensures)\b.*", signature, re.DOTALL))
+
+
+def cited(known):
+    """The keys of what public contracts speak of."""
+    found = set()
+    for path in TOP.glob("crates/*/src/**/*.rt"):
+        source = path.read_text()
+        imports, modules = imports_of(source)
+        for clauses in contracts_in(source):
+            found.update(key for key in cited_in(clauses, imports, modules) if key in known)
+    return found
+
+
+def headline(known):
+    """The definitions that the coherence theorem uses, each after those that it is made of."""
+    source = THEOREM.read_text()
+    imports, modules = imports_of(source)
+    clauses = source[source.index("pub fn coherent()"):]
+    return with_parts(known, cited_in(clauses[:clauses.index("\n{}")], imports, modules))
 
 
 def missing_in(page):
@@ -137,14 +195,12 @@ def missing_in(page):
         f"{page.path}: {definition.name} has no comment" for definition in page.definitions if not definition.meaning]
 
 
-def section_of(page, marked):
-    """A file as a section of the page; its head alone where it has only modules."""
-    text = f"### {page.path}\n\n{page.head}\n\n"
-    if page.definitions:
-        rows = "".join(
-            f"| {'● ' if key_of(page, name) in marked else ''}`{name}` | {meaning.replace('|', chr(92) + '|')} |\n" for name, meaning, _ in page.definitions)
-        text += f"| Definition | Meaning |\n|---|---|\n{rows}\n"
-    return text
+def section_of(crate, pages, shown, marked):
+    """A crate's words that are shown, in the order of its files."""
+    rows = "".join(
+        f"| {'● ' if key_of(page, name) in marked else ''}`{name}` | {meaning.replace('|', chr(92) + '|')} | {page.path.relative_to(pathlib.Path('crates', crate, 'specs'))} |\n"
+        for page in pages for name, meaning, _ in page.definitions if key_of(page, name) in shown)
+    return rows and f"## {crate}\n\n| Word | Meaning | File |\n|---|---|---|\n{rows}\n"
 
 
 def listed(found):
@@ -159,18 +215,27 @@ def listed(found):
 
 def main():
     parser = argparse.ArgumentParser(description=__doc__, formatter_class=argparse.RawDescriptionHelpFormatter)
+    parser.add_argument("words", nargs="*", help="show these words and what they are made of, instead of the page")
     parser.add_argument("--write", action="store_true", help="write the page instead of printing it")
-    parser.add_argument("--headline", action="store_true", help="list what the coherence theorem uses, instead of the page")
+    parser.add_argument("--headline", action="store_true", help="show what the coherence theorem uses, instead of the page")
     options = parser.parse_args()
-    pages = {crate: [page_of(path) for path in files_of(TOP / "crates" / crate / "specs")] for crate in CRATES}
+    pages = {crate: [page_of(path) for path in files_of(TOP / "crates" / crate / "specs")] for crate in crates()}
     missing = [what for found in pages.values() for page in found for what in missing_in(page)]
     if missing:
         sys.exit("\n".join(missing))
-    marked = headline([page for found in pages.values() for page in found])
+    known = known_in([page for found in pages.values() for page in found])
+    unknown = set(options.words) - {name for _, _, name in known}
+    if unknown:
+        sys.exit("no such word: " + " ".join(sorted(unknown)))
+    if options.words:
+        sys.stdout.write(listed(with_parts(known, [key for key in known if key[2] in options.words])))
+        return
+    marked = headline(known)
     if options.headline:
         sys.stdout.write(listed(marked))
         return
-    text = HEAD + "".join(f"## {crate}\n\n" + "".join(section_of(page, marked) for page in found) for crate, found in pages.items())
+    shown = cited(known) | set(marked)
+    text = HEAD + "".join(section_of(crate, found, shown, marked) for crate, found in pages.items())
     text = text.rstrip() + "\n"
     if options.write:
         (TOP / "docs" / "DEFINITIONS.md").write_text(text)
