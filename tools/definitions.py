@@ -1,5 +1,5 @@
 #!/usr/bin/env python3
-"""Prints docs/DEFINITIONS.md, or writes it: the words that public contracts and the coherence theorem are made of.
+"""Prints docs/DEFINITIONS.md, or writes it: the words that public contracts speak of.
 
     tools/definitions.py --write
     tools/definitions.py IsJoined Serves
@@ -24,28 +24,32 @@ THEOREM = TOP / "crates" / "snoop_model" / "src" / "laws.rt"
 
 HEAD = """# Definitions
 
-The words that the contracts of public functions are written in, by crate: what is proved is proved of these. A ● marks those
-that the coherence theorem `laws::coherent` stands on, with the words below them.
+The words that the contracts of public functions speak of, by crate: what is proved is proved of
+these. A ● marks those that the coherence theorem `laws::coherent` stands on.
 
-`tools/definitions.py WORD..` shows the text of any word of any crate, after the words that it is made of, and
-`tools/definitions.py --headline` that of the theorem's. Both read the files in `crates/*/specs`, where each definition has a
-comment above it and each file says what it is about and where its rules come from: *the Primer* is *A Primer on Memory
-Consistency and Cache Coherence*, second edition, and *this project's profile* is what docs/PROTOCOL.md and docs/TEXTS.md lay down
+`tools/definitions.py WORD..` shows the text of any word of any crate, after the words that it is
+made of, and `tools/definitions.py --headline` all that the theorem stands on. Both read
+`crates/*/specs`, where each definition has a comment above it, and each file says what it is about
+and where its rules come from: *the Primer* is *A Primer on Memory Consistency and Cache Coherence*,
+second edition, and *this project's profile* is what docs/PROTOCOL.md and docs/TEXTS.md lay down
 themselves. This page is made of these comments by `tools/definitions.py --write`.
 
-Most words say a thing in another way than the code does it. Which request waits is read from a core's state, where the code has
-queues; flat values and counts are computed from the whole history, where it has running numbers. Some follow the code closely: the
-controllers' tables (`cell_of`, `memory_cell_of`), a line for each row as in docs/PROTOCOL.md; how a record is read, field by field
-(`Grammar.antt`); and how counts grow by one item (`tallied` in `Journal.antt`), where it is proved that what grows so is the count
-of the whole list.
+Most words say a thing in another way than the code does it. Which request waits is read from a
+core's state, where the code has queues; flat values and counts are computed from the whole history,
+where it has running numbers. Some follow the code closely: the controllers' tables (`cell_of`,
+`memory_cell_of`), a line for each row as in docs/PROTOCOL.md; how a record is read, field by field
+(`Grammar.antt`); and how counts grow by one item (`tallied` in `Journal.antt`), where it is proved
+that what grows so is the count of the whole list.
 
 Three conventions:
 
-- A fact is spelled like a type (`OneWriter`, `IsReader`), a function like a function (`flat`, `picture_of`). `A × B` is "A and B",
-  `A ⊎ B` is "A or B", and `(x : T) × P` is "there is an x with P".
-- Look-ups in lists have a default: outside a machine's shape a core holds nothing (state I), no transaction is open and memory's
-  value is 0. So statements about all cores and blocks need no bounds, and mean nothing more outside the shape. (The clause `memory`
-  has a bound all the same: the invariant doesn't say that a history has no store outside the shape.)
+- A fact is spelled like a type (`OneWriter`, `IsReader`), a function like a function (`flat`,
+  `picture_of`). `A × B` is "A and B", `A ⊎ B` is "A or B", and `(x : T) × P` is "there is an x with
+  P".
+- Look-ups in lists have a default: outside a machine's shape a core holds nothing (state I), no
+  transaction is open and memory's value is 0. So statements about all cores and blocks need no
+  bounds, and mean nothing more outside the shape. (The clause `memory` has a bound all the same:
+  the invariant doesn't say that a history has no store outside the shape.)
 - A core's list of waiting blocks is its *queue*; a *line* is a cache line.
 
 """
@@ -234,7 +238,7 @@ def main():
     if options.headline:
         sys.stdout.write(listed(marked))
         return
-    shown = cited(known) | set(marked)
+    shown = cited(known)
     text = HEAD + "".join(section_of(crate, found, shown, marked) for crate, found in pages.items())
     text = text.rstrip() + "\n"
     if options.write:

@@ -1,11 +1,13 @@
 #!/usr/bin/env python3
-"""Takes out of the documents what ./check compares with the program, and writes it to a folder.
+"""Takes out of the documents what ./check compares with the program, and finds mistakes in them.
 
     tools/docs.py states FOLDER     of examples/README.md, each table that follows a scene state by state: SCENE.PROTOCOL.states
     tools/docs.py programs FOLDER   of docs/LIBRARY.md, each program and what it prints: CRATE.rt and CRATE.stdout
     tools/docs.py commands FOLDER   of README.md, each command after "$ " and the output that it shows: N.command and N.out
+    tools/docs.py mistakes          lines of prose that are too wide, files that are named and not there, and public functions of the
+                                    program's crates that docs/PROVED.md does not name
 
-Ends with 1 where there is nothing of the kind, or a program stands without its crate or without what it prints.
+Ends with 1 where there is nothing of the kind, a program stands without its crate or without what it prints, or there is a mistake.
 """
 import pathlib
 import re
@@ -41,10 +43,59 @@ def commands():
         yield f"{number}.out", output
 
 
+WIDTH = 100
+FILE = re.compile(r"docs/[A-Z]+\.md|(?<![\w/.-])(?:crates|tools|examples|benches)/[a-z\d_./]*[a-z\d_](?![\w*/-])")
+
+
+def pages():
+    """All documents, each with its text."""
+    for path in sorted([*TOP.glob("*.md"), *(TOP / "docs").glob("*.md"), *TOP.glob("*/README.md")]):
+        yield path.relative_to(TOP), path.read_text()
+
+
+def wide():
+    """Lines of prose that are too wide: tables, quotes and links alone may be."""
+    for path, text in pages():
+        is_quoted = False
+        for number, line in enumerate(text.splitlines(), 1):
+            is_quoted ^= line.lstrip().startswith("```")
+            if len(line) > WIDTH and not is_quoted and not line.startswith(("|", "    ")):
+                yield f"{path}:{number}: {len(line)} columns, and not {WIDTH}"
+
+
+def missing():
+    """Files that are named and not there; what is built is not asked for."""
+    for path, text in pages():
+        for name in sorted(set(FILE.findall(text))):
+            if "/out/" not in name and not (TOP / name).exists():
+                yield f"{path}: there is no {name}"
+
+
+def unproved():
+    """Public functions of the crates that the program stands on, which docs/PROVED.md does not name."""
+    uses = {line.split(":")[0].split()[0]: line.split(":")[1].split() for line in (TOP / "crates.txt").read_text().splitlines() if ":" in line}
+    crates, page = ["snoop"], (TOP / "docs" / "PROVED.md").read_text()
+    for crate in crates:
+        crates += [used for used in uses.get(crate, []) if used in uses and used not in crates]
+        for path in sorted((TOP / "crates" / crate / "src").rglob("*.rt")):
+            for name in re.findall(r"^ *pub fn (\w+)", path.read_text(), re.M):
+                if not re.search(rf"\b{name}\b", page):
+                    yield f"docs/PROVED.md: {name} of {crate} is missing"
+
+
+def mistakes():
+    """Prints what is wrong in the documents, and ends with 1 if anything is."""
+    found = [*wide(), *missing(), *unproved()]
+    print("\n".join(found))
+    sys.exit(bool(found))
+
+
 KINDS = {kind.__name__: kind for kind in (states, programs, commands)}
 
 
 def main():
+    if sys.argv[1:] == ["mistakes"]:
+        mistakes()
     if len(sys.argv) != 3 or sys.argv[1] not in KINDS:
         sys.exit(__doc__.strip())
     folder = pathlib.Path(sys.argv[2])
