@@ -6,3 +6,4 @@ pub mod Coherence
 pub mod Safety
 pub mod Steps
 pub mod TableLines
+pub mod OpenLines

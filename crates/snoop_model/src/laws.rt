@@ -12,7 +12,7 @@ ghost use Rattle.snoop_model.specs.Pictures.Current.{IsCurrent};
 ghost use Rattle.snoop_model.specs.Pictures.MemoryCurrent.{IsMemoryCurrent, NamesItsBlock};
 ghost use Rattle.snoop_model.specs.Runs.Once.{Once};
 ghost use Rattle.snoop_model.specs.Moves.LookUps.{FindsRows};
-ghost use Rattle.snoop_model.specs.Moves.SenderTable.{OrdersFollowSenderTable, MovesAreByTable};
+ghost use Rattle.snoop_model.specs.Moves.SenderTable.{OrdersFollowSenderTable, GoesByTable};
 ghost use Rattle.snoop_model.specs.Pictures.InQueue.{IsInQueue};
 
 /// Coherence of every run from reset, for every number of cores and blocks, under MSI and MESI.
@@ -35,7 +35,7 @@ pub fn coherent()
     ensures once { EveryRun (λ protocol steps outcomes s. Once steps outcomes s) }
     ensures possible { EveryRun (λ protocol steps outcomes s. (step : Step) → FindsRows s step) }
     ensures lines { EveryRun (λ protocol steps outcomes s. OrdersFollowSenderTable protocol s) }
-    ensures by_table { EveryRun (λ protocol steps outcomes s. MovesAreByTable s) }
+    ensures by_table { EveryRun (λ protocol steps outcomes s. GoesByTable s) }
     ensures proper { EveryRun (λ protocol steps outcomes s. (core block : ℕ) → IsProper (held_by (picture_of s block) core)) }
     ensures queued { EveryRun (λ protocol steps outcomes s. (core block : ℕ) → IsInQueue s core block) }
 {}

@@ -18,7 +18,8 @@ use Rattle.snoop_model.specs.Moves.StepMove.{RefusedFor}
 use Rattle.snoop_model.specs.Invariant.Coherent.{IsCoherent}
 use Rattle.snoop_model.specs.Invariant.MachineKeeps.{MachineKeeps}
 use Rattle.snoop_model.specs.Runs.Safe.{IsSafe}
-use Rattle.snoop_model.proofs.Invariant.TableLines.{moves_are_by_table}
+use Rattle.snoop_model.proofs.Invariant.TableLines.{goes_by_table}
+use Rattle.snoop_model.proofs.Invariant.OpenLines.{reset_on_lines, move_on_lines}
 use Rattle.snoop_model.proofs.Invariant.Coherence.{has_one_writer, readers_current, memory_current, names_its_block, finds_rows, orders_follow_sender_table, place}
 use Rattle.snoop_model.proofs.Invariant.Runs.{reset_coherent, nothing_proper}
 use Rattle.snoop_model.proofs.Queues.Runs.{reset_queued, move_queued}
@@ -49,7 +50,7 @@ is_safe s keeps = record {
   opened = names_its_block s keeps.coherent;
   possible = finds_rows s keeps.coherent;
   lines = orders_follow_sender_table s keeps.coherent;
-  by_table = moves_are_by_table s keeps.coherent;
+  by_table = goes_by_table s keeps.coherent keeps.on_lines;
   proper = all_proper s keeps.coherent;
   queued = keeps.queued;
   well_kept = keeps.well_kept;
@@ -58,6 +59,7 @@ is_safe s keeps = record {
 pub reset_keeps : (protocol : Protocol) (shape : Extent) → MachineKeeps (reset protocol shape)
 reset_keeps protocol shape = record {
   coherent = reset_coherent protocol shape;
+  on_lines = reset_on_lines protocol shape;
   queued = reset_queued protocol shape;
   well_kept = (starts_well protocol shape (λ core. None)).0;
 }
@@ -65,6 +67,7 @@ reset_keeps protocol shape = record {
 move_keeps_all : (old new : Situation) (step : Step) (answer : Reply) (entry : Option Item) → MachineKeeps old → FirstMove old step answer new entry → MachineKeeps new
 move_keeps_all old new step answer entry keeps move = record {
   coherent = first_keeps old step answer new entry keeps.coherent move;
+  on_lines = move_on_lines move.0 old step answer new entry keeps.coherent keeps.on_lines move.1.1;
   queued = move_queued move.0 old step answer new entry keeps.coherent keeps.queued move.1.1;
   well_kept = keeps_well old new step answer entry keeps.well_kept move;
 }

@@ -1,9 +1,18 @@
--- Each Order that is taken is a line of the table of senders, and each Respond settles memory by it.
-use Rattle.std.proofs.Common.{◌≡◌, ℕ, ◌<◌, ◌++◌, ◌∷◌, [], length, Option, sym, ◌∙◌, ap, subst}
+-- Each Order that is taken is a line of the table of senders, and each Respond settles memory by the line of its transaction.
+use Rattle.std.proofs.Common.{◌≡◌, ℕ, ◌<◌, ◌++◌, ◌∷◌, [], length, Option, Some, None, refl, inl, inr, sym, ◌∙◌, ap, subst}
+use Rattle.std.specs.Prelude.{IfSome}
 use Rattle.snoop_trace.specs.declared.step.Step.TheVariants.{Ask, Order, Respond}
+use Rattle.snoop_rules.specs.declared.names.Protocol.{Protocol}
+use Rattle.snoop_rules.specs.declared.names.Protocol.TheVariants as protocol
+use Rattle.snoop_rules.specs.declared.names.CacheState.{CacheState}
 use Rattle.snoop_rules.specs.declared.names.MemState.{MemState}
+use Rattle.snoop_rules.specs.declared.names.MemState.TheVariants as mem
+use Rattle.snoop_rules.specs.declared.names.MemAction.{MemAction}
 use Rattle.snoop_rules.specs.declared.names.Request.{Request}
+use Rattle.snoop_rules.specs.declared.names.Request.TheVariants as request
 use Rattle.snoop_rules.specs.declared.names.Payload.{Payload}
+use Rattle.snoop_rules.specs.declared.names.Payload.TheVariants as payload
+use Rattle.snoop_rules.specs.WhoSends.{Goes, SentAs}
 use Rattle.snoop_rules.specs.Takers.{at_memory}
 use Rattle.snoop_rules.proofs.MemRows.{MemoryCell-one}
 use Rattle.snoop_history.specs.declared.items.Did.{Did}
@@ -13,9 +22,10 @@ use Rattle.snoop_bus.specs.Queues.{after_order}
 use Rattle.snoop_model.specs.Pictures.Picture.{Picture}
 use Rattle.snoop_model.specs.Pictures.Situation.{Situation, picture_of}
 use Rattle.snoop_model.specs.Pictures.Sends.{Sends, value_sent}
-use Rattle.snoop_model.specs.Moves.Move.{IsWithin, Orders, Responds, ArrivesAtMemory, came_of}
-use Rattle.snoop_model.specs.Moves.SenderTable.{IsLine, IsOrderedByTable, IsSettledByTable, MovesAreByTable}
+use Rattle.snoop_model.specs.Moves.Move.{IsWithin, Settles, Orders, Responds, ArrivesAtMemory, came_of}
+use Rattle.snoop_model.specs.Moves.SenderTable.{IsLine, IsOnLine, IsOrderedByTable, IsSettledByTable, IsOpenByTable, MovesAreByTable, GoesByTable}
 use Rattle.snoop_model.specs.Invariant.Coherent.{IsCoherent}
+use Rattle.snoop_model.specs.Invariant.MachineKeeps.{AreOnLines}
 use Rattle.snoop_model.proofs.Invariant.Coherence.{orders_follow_sender_table}
 use Rattle.snoop_model.proofs.OneBlock.OfBlocks.{next_picture}
 use Rattle.snoop_model.proofs.Runs.AreOne.{sends_one}
@@ -26,7 +36,7 @@ in_lists s g block within =
     let at : (n : ℕ) → n ≡ s.shape.blocks → block < n = λ n e. subst (λ (x : ℕ). block < x) (sym e) within in
     (at (length s.caches) g.shaped.rows, at (length s.memory) g.shaped.memory, at (length s.transactions) g.shaped.transactions)
 
-order_is_by_table : (s : Situation) → IsCoherent s → (core block : ℕ) (q : Request) (new : Situation) → IsWithin s core block → Orders s core block q new → IsOrderedByTable s core block q new
+pub order_is_by_table : (s : Situation) → IsCoherent s → (core block : ℕ) (q : Request) (new : Situation) → IsWithin s core block → Orders s core block q new → IsOrderedByTable s core block q new
 order_is_by_table s g core block q new within o =
     let p = s.protocol in
     let before : Picture = picture_of s block in
@@ -48,7 +58,7 @@ order_is_by_table s g core block q new within o =
           (subst (λ (x : Option ℕ). IsLine p before core q x f.payload f.next) from f.is_line));
     }
 
-respond_is_by_table : (s : Situation) → IsCoherent s → (block : ℕ) (closing : Open) (did : Option Did) (new : Situation) → block < s.shape.blocks → Responds s block closing did new → IsSettledByTable s block new
+pub respond_is_by_table : (s : Situation) → IsCoherent s → (block : ℕ) (closing : Open) (did : Option Did) (new : Situation) → block < s.shape.blocks → Responds s block closing did new → IsSettledByTable s block new
 respond_is_by_table s g block closing did new within r =
     let lists = in_lists s g block within in
     let there : picture_of new block ≡ r.next =
@@ -61,7 +71,62 @@ respond_is_by_table s g block closing did new within r =
     }
 
 -- each move from a coherent situation is by the table
-pub moves_are_by_table : (s : Situation) → IsCoherent s → MovesAreByTable s
+moves_are_by_table : (s : Situation) → IsCoherent s → MovesAreByTable s
 moves_are_by_table s g block (Order core) answer new entry m = (m.0, (m.1.3.ready, order_is_by_table s g core block m.0 new m.1.0 m.1.3))
 moves_are_by_table s g block (Respond on) answer new entry m = respond_is_by_table s g block m.0 m.1.0 new m.1.1.1 m.1.1.4
 moves_are_by_table s g block (Ask core on asking) answer new entry m = tt
+
+-- memory's row for the response leads to the line's last column
+module _ (sent : Payload) (next done new : MemState) (act : MemAction) where
+  goes : (p : Protocol) (q : Request) (with_sent : Payload) (with_next with_done : MemState) → Goes with_sent with_next with_done sent next done → (Settles p q with_sent with_next act new → new ≡ with_done) → Settles p q sent next act new → new ≡ done
+  goes p q with_sent with_next with_done g h = rw (g.0, g.1, g.2) h
+
+  line_settles : (p : Protocol) (q : Request) (before : MemState) (sender : Option CacheState) → SentAs p q before sender sent next done → Settles p q sent next act new → new ≡ done
+  line_settles protocol.Msi request.GetS mem.IorS sender l = goes protocol.Msi request.GetS payload.Data mem.IorS mem.IorS l.1 (λ s. s.1)
+  line_settles protocol.Msi request.GetS mem.M sender l = goes protocol.Msi request.GetS payload.Data mem.IorSD mem.IorS l.1 (λ s. s.1)
+  line_settles protocol.Msi request.GetM mem.IorS sender l = goes protocol.Msi request.GetM payload.Data mem.M mem.M l.1 (λ s. s.1)
+  line_settles protocol.Msi request.GetM mem.M sender l = goes protocol.Msi request.GetM payload.Data mem.M mem.M l.1 (λ s. s.1)
+  line_settles protocol.Msi request.PutM mem.IorS sender l = goes protocol.Msi request.PutM payload.NoData mem.IorSD mem.IorS l.1 (λ s. s.1)
+  line_settles protocol.Msi request.PutM mem.M sender l = elim l [
+    | inl a ↦ goes protocol.Msi request.PutM payload.Data mem.MD mem.IorS a.1 (λ s. s.1)
+    | inr a ↦ goes protocol.Msi request.PutM payload.NoData mem.MD mem.M a.1 (λ s. s.1)
+  ]
+  line_settles protocol.Mesi request.GetS mem.I sender l = goes protocol.Mesi request.GetS payload.DataE mem.EorM mem.EorM l.1 (λ s. s.1)
+  line_settles protocol.Mesi request.GetS mem.S sender l = goes protocol.Mesi request.GetS payload.Data mem.S mem.S l.1 (λ s. s.1)
+  line_settles protocol.Mesi request.GetS mem.EorM sender l = goes protocol.Mesi request.GetS payload.Data mem.SD mem.S l.1 (λ s. s.1)
+  line_settles protocol.Mesi request.GetM mem.I sender l = goes protocol.Mesi request.GetM payload.Data mem.EorM mem.EorM l.1 (λ s. s.1)
+  line_settles protocol.Mesi request.GetM mem.S sender l = goes protocol.Mesi request.GetM payload.Data mem.EorM mem.EorM l.1 (λ s. s.1)
+  line_settles protocol.Mesi request.GetM mem.EorM sender l = goes protocol.Mesi request.GetM payload.Data mem.EorM mem.EorM l.1 (λ s. s.1)
+  line_settles protocol.Mesi request.PutM mem.I sender l = goes protocol.Mesi request.PutM payload.NoData mem.ID mem.I l.1 (λ s. s.1)
+  line_settles protocol.Mesi request.PutM mem.S sender l = goes protocol.Mesi request.PutM payload.NoData mem.SD mem.S l.1 (λ s. s.1)
+  line_settles protocol.Mesi request.PutM mem.EorM sender l = elim l [
+    | inl a ↦ goes protocol.Mesi request.PutM payload.Data mem.EorMD mem.I a.1 (λ s. s.1)
+    | inr a ↦ elim a [
+      | inl b ↦ goes protocol.Mesi request.PutM payload.NoDataE mem.EorMD mem.I b.1 (λ s. s.1)
+      | inr b ↦ goes protocol.Mesi request.PutM payload.NoData mem.EorMD mem.EorM b.1 (λ s. s.1)
+    ]
+  ]
+  line_settles _ _ _ sender l = absurd l
+
+-- a Respond taken next leaves memory in the last state of its transaction's line
+open_is_by_table : (s : Situation) → IsCoherent s → AreOnLines s → (block : ℕ) → IfSome (picture_of s block).transaction (IsOpenByTable s block)
+open_is_by_table s g lines block = go (picture_of s block).transaction refl (lines block)
+  where
+    OnLine : Open → Type 0
+    OnLine o = (done : MemState) × IsOnLine s.protocol o (picture_of s block).memory.state done
+    go : (found : Option Open) → (picture_of s block).transaction ≡ found → IfSome found OnLine → IfSome found (IsOpenByTable s block)
+    go None is line = tt
+    go (Some o) is line =
+        record {
+          done = line.0;
+          on_line = line.1;
+          settled = λ answer new entry m.
+              let by = respond_is_by_table s g block m.0 m.1.0 new m.1.1.1 m.1.1.4 in
+              let same : by.closing ≡ o = cc in
+              let settles : Settles s.protocol o.request o.payload (picture_of s block).memory.state by.settled.act (picture_of new block).memory.state = subst (λ (x : Open). Settles s.protocol x.request x.payload (picture_of s block).memory.state by.settled.act (picture_of new block).memory.state) same by.settled.settled in
+              line_settles o.payload (picture_of s block).memory.state line.0 (picture_of new block).memory.state by.settled.act s.protocol o.request line.1.before _ line.1.line settles;
+        }
+
+-- from a coherent situation whose open transactions are on lines of the table all goes by the table
+pub goes_by_table : (s : Situation) → IsCoherent s → AreOnLines s → GoesByTable s
+goes_by_table s g lines = record { opened = open_is_by_table s g lines; moves = moves_are_by_table s g }

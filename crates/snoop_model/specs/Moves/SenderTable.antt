@@ -1,9 +1,10 @@
--- Each Order is a line of the table of senders.
+-- Each Order, each open transaction and each Respond goes by the table of senders.
 -- Source: "A Primer on Memory Consistency and Cache Coherence", 2nd edition, chapter 7; MESI's memory is this project's profile.
-use Rattle.std.specs.Prelude.{◌≡◌, ℕ, Option, Some, None, option_map, ⊤}
+use Rattle.std.specs.Prelude.{◌≡◌, ℕ, Option, Some, None, IfSome, option_map, ⊤}
 use Rattle.snoop_trace.specs.declared.step.Step.{Step}
 use Rattle.snoop_trace.specs.declared.step.Step.TheVariants.{Ask, Order, Respond}
 use Rattle.snoop_rules.specs.declared.names.Protocol.{Protocol}
+use Rattle.snoop_rules.specs.declared.names.CacheState.{CacheState}
 use Rattle.snoop_rules.specs.declared.names.MemState.{MemState}
 use Rattle.snoop_rules.specs.declared.names.MemAction.{MemAction}
 use Rattle.snoop_rules.specs.declared.names.Request.{Request}
@@ -60,6 +61,24 @@ IsByTable block old (Ask core on asking) new = ⊤
 -- each move from here is by the table
 abbrev pub MovesAreByTable : Situation → Type 0
 MovesAreByTable s = (block : ℕ) (step : Step) (answer : Reply) (new : Situation) (entry : Option Item) → MoveOn block s step answer new entry → IsByTable block s step new
+
+-- the open transaction is on a line of the table: its request and its payload, sent by memory, or by a core that was in this state; memory's state is the line's after the Order, and `done` is the line's after the Respond; at a PutM the sender is the requestor itself
+pub record IsOnLine (protocol : Protocol) (transaction : Open) (memory done : MemState) : Type 0 where
+  pub before : MemState
+  pub held : CacheState
+  pub line : SentAs protocol transaction.request before (option_map (λ _. held) transaction.from) transaction.payload memory done
+  pub writeback : transaction.request ≡ PutM → transaction.from ≡ Some transaction.core
+
+-- the block's open transaction is on a line of the table with memory's state now, and a Respond taken next leaves memory in that line's last state
+pub record IsOpenByTable (s : Situation) (block : ℕ) (transaction : Open) : Type 0 where
+  pub done : MemState
+  pub on_line : IsOnLine s.protocol transaction (picture_of s block).memory.state done
+  pub settled : (answer : Reply) (new : Situation) (entry : Option Item) → MoveOn block s (Respond block) answer new entry → (picture_of new block).memory.state ≡ done
+
+-- each open transaction, and each move from here, is by the table
+pub record GoesByTable (s : Situation) : Type 0 where
+  pub opened : (block : ℕ) → IfSome (picture_of s block).transaction (IsOpenByTable s block)
+  pub moves : MovesAreByTable s
 
 -- every request that can be ordered would have exactly one sender, and be a line of the protocol's table
 abbrev pub OrdersFollowSenderTable : Protocol → Situation → Type 0

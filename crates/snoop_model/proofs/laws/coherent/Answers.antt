@@ -10,7 +10,8 @@ use Rattle.snoop_model.specs.Moves.SenderTable.{FollowsSenderTable}
 use Rattle.snoop_model.proofs.Invariant.Runs.{reset_coherent, run_keeps, run_protocol}
 use Rattle.snoop_model.proofs.Invariant.Coherence.{has_one_writer, readers_current, memory_current, names_its_block, orders_follow_sender_table, finds_rows}
 use Rattle.snoop_model.proofs.Invariant.Safety.{all_proper}
-use Rattle.snoop_model.proofs.Invariant.TableLines.{moves_are_by_table}
+use Rattle.snoop_model.proofs.Invariant.TableLines.{goes_by_table}
+use Rattle.snoop_model.proofs.Invariant.OpenLines.{reset_on_lines, run_on_lines}
 use Rattle.snoop_model.proofs.Once.Runs.{run_asked_once}
 use Rattle.snoop_model.proofs.Queues.Runs.{reset_queued, run_queued}
 use Rattle.snoop_model.proofs.laws.coherent.Goals as goal
@@ -44,7 +45,8 @@ returns-clause-lines c p shape steps outcomes new run core block request ready =
     subst (λ (x : Protocol). FollowsSenderTable x (picture_of new block) core request) (run_protocol steps outcomes (reset p shape) new run) (orders_follow_sender_table new (run_keeps steps outcomes (reset p shape) new (reset_coherent p shape) run) core block request ready)
 
 pub returns-clause-by_table : goal.returns-clause-by_table
-returns-clause-by_table c p shape steps outcomes new run = moves_are_by_table new (run_keeps steps outcomes (reset p shape) new (reset_coherent p shape) run)
+returns-clause-by_table c p shape steps outcomes new run =
+    goes_by_table new (run_keeps steps outcomes (reset p shape) new (reset_coherent p shape) run) (run_on_lines steps outcomes (reset p shape) new (reset_coherent p shape) (reset_on_lines p shape) run)
 
 pub returns-clause-proper : goal.returns-clause-proper
 returns-clause-proper c p shape steps outcomes new run = all_proper new (run_keeps steps outcomes (reset p shape) new (reset_coherent p shape) run)
