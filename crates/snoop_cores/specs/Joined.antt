@@ -93,16 +93,20 @@ pub record IsJoined (protocol : Protocol) (shape : Extent) (seats : List Seating
   -- the loads and stores that the steps ask are the operations of the log, each as often
   pub once : (core block : ℕ) (wanted : Op) → count_by (did_it block wanted) (answers_of items core) ≡ count_by (asks core block wanted) steps
 
--- why nothing was gathered
+-- no core has work under way, and no seat has a pending operation
+abbrev pub IsFreeOfWork : Locked → List Seating → Type 0
+IsFreeOfWork b seats = (core : ℕ) → core < b.situation.shape.cores → IsFree b seats core
+
+-- a bench and seats, one for each core, do not join: the least core that is not free; or, where all are free, the least core whose answers differ, and the first place where they do; or, where none differ, only memory
+abbrev pub RefusesJoin : Locked → List Seating → GatherFault → Type 0
+RefusesJoin b seats (NotAllSeats core) = ⊥
+RefusesJoin b seats (Pending core) = (core < b.situation.shape.cores) × ((lower : ℕ) → lower < core → IsFree b seats lower) × ¬ IsFree b seats core
+RefusesJoin b seats (Mismatch core place) =
+    IsFreeOfWork b seats × (core < b.situation.shape.cores)
+    × ((lower : ℕ) → lower < core → IsAnswered b.situation.log seats lower) × DiffersAt b.situation.log seats core place
+RefusesJoin b seats NoMemory = IsFreeOfWork b seats × ((core : ℕ) → core < b.situation.shape.cores → IsAnswered b.situation.log seats core)
+
+-- why nothing was gathered: the seats are not one for each core, or do not join some bench of this protocol and shape
 abbrev pub RefusesGather : Protocol → Extent → List Seating → GatherFault → Type 0
 RefusesGather protocol shape seats (NotAllSeats core) = IsNotAllSeats shape.cores seats core
-RefusesGather protocol shape seats (Pending core) =
-    OneForEach shape.cores seats × (core < shape.cores)
-    × ((b : Locked) × IsHeld protocol shape b × ((lower : ℕ) → lower < core → IsFree b seats lower) × ¬ IsFree b seats core)
-RefusesGather protocol shape seats (Mismatch core place) =
-    OneForEach shape.cores seats × (core < shape.cores)
-    × ((b : Locked) × IsHeld protocol shape b × ((each : ℕ) → each < shape.cores → IsFree b seats each)
-    × ((lower : ℕ) → lower < core → IsAnswered b.situation.log seats lower) × DiffersAt b.situation.log seats core place)
-RefusesGather protocol shape seats NoMemory =
-    OneForEach shape.cores seats
-    × ((b : Locked) × IsHeld protocol shape b × ((each : ℕ) → each < shape.cores → IsFree b seats each) × ((each : ℕ) → each < shape.cores → IsAnswered b.situation.log seats each))
+RefusesGather protocol shape seats fault = OneForEach shape.cores seats × ((b : Locked) × IsHeld protocol shape b × RefusesJoin b seats fault)

@@ -1,8 +1,8 @@
 //! The log of the lock, joined with what the seats were answered.
-ghost use Rattle.std.specs.Prelude.{◌≡◌, ℕ, ◌<◌, Err, IfOk, IfErr, IfSome, IfNone, IsTrue, [], ◌∷◌, length, option_to_list, Some, slice_get, slice_index_or};
+ghost use Rattle.std.specs.Prelude.{◌≡◌, ℕ, ◌<◌, Err, IfOk, IfErr, OnOk, IfSome, IfNone, IsTrue, [], ◌∷◌, length, option_to_list, Some, slice_get, slice_index_or};
 ghost use Rattle.snoop_history.specs.History.{answers_of, next_number};
 ghost use Rattle.snoop_cores.specs.Seats.{Seating, InOrder};
-ghost use Rattle.snoop_cores.specs.Joined.{seats_of, OneForEach, IsNotAllSeats, IsIdle, IsFree, IsAnswered, IsFirst, DiffersAt, IsJoined, RefusesGather};
+ghost use Rattle.snoop_cores.specs.Joined.{seats_of, OneForEach, IsNotAllSeats, IsIdle, IsFree, IsAnswered, IsFreeOfWork, IsFirst, DiffersAt, IsJoined, RefusesJoin, RefusesGather};
 ghost use Rattle.snoop_cores.specs.declared.fault.GatherFault.TheVariants.{NotAllSeats};
 
 use crate::fault::GatherFault;
@@ -43,6 +43,7 @@ pub fn gather<R: Wait>(
         return Err(GatherFault::NotAllSeats { core });
     }
     let bench = shared.lock(rt);
+    bench.kept();
     join(alloc, &bench, seats)
 }
 
@@ -51,7 +52,8 @@ fn join(alloc: Global, bench: &Bench, seats: &[Seat]) -> Result<Gathered, Gather
     requires { OneForEach bench.now.situation.shape.cores seats.now }
     ensures ok { IfOk result (λ gathered. IsJoined bench.now.situation.protocol bench.now.situation.shape seats.now gathered.log.items gathered.steps.items) }
     ensures shape { IfOk result (λ gathered. (gathered.log.cores ≡ bench.now.situation.shape.cores) × (gathered.log.blocks ≡ bench.now.situation.shape.blocks)) }
-    ensures err { IfErr result (λ fault. RefusesGather bench.now.situation.protocol bench.now.situation.shape seats.now fault) }
+    ensures free { OnOk result (IsFreeOfWork bench.now seats.now) }
+    ensures err { IfErr result (λ fault. RefusesJoin bench.now seats.now fault) }
 {
     bench.kept();
     asked_are_tallied();
@@ -112,7 +114,7 @@ fn count_seats(seats: &[Seat], core: u32) -> usize
 // The least core with work under way or a pending operation.
 fn busy_core(bench: &Bench, seats: &[Seat]) -> Option<u32>
     ensures some { IfSome result (λ core. (core < bench.now.situation.shape.cores) × ((lower : ℕ) → lower < core → IsFree bench.now seats.now lower) × ¬ IsFree bench.now seats.now core) }
-    ensures none { IfNone result ((core : ℕ) → core < bench.now.situation.shape.cores → IsFree bench.now seats.now core) }
+    ensures none { IfNone result (IsFreeOfWork bench.now seats.now) }
 {
     for core in 0..bench.shape().cores() {
         if bench.work(core).is_some() || !is_idle(seats, core) {

@@ -10,28 +10,18 @@ returns-in-Some-difference-clause-err c =
     let s = c.in-Some-difference.ensures.some in
     let items : c.log.result.now.items ≡ c.args.bench.now.situation.log = c.log.ensures.items in
     let cores : c.cores.result ≡ c.args.bench.now.situation.shape.cores = c.cores.ensures.value ∙ ap (λ (e : Extent). e.cores) c.shape.ensures in (
-      c.requires,
+      c.in_default.ensures.none,
       subst (λ (n : ℕ). c.in-Some-difference.core < n) cores s.0,
-      (
-        c.args.bench.now,
-        record { kept = c.kept.ensures.kept; protocol_is = refl; shape_is = refl },
-        c.in_default.ensures.none,
-        subst (λ (l : List Item). (lower : ℕ) → lower < c.in-Some-difference.core → IsAnswered l c.args.seats.now lower) items s.1,
-        subst (λ (l : List Item). DiffersAt l c.args.seats.now c.in-Some-difference.core c.in-Some-difference.place) items s.2,
-      ),
+      subst (λ (l : List Item). (lower : ℕ) → lower < c.in-Some-difference.core → IsAnswered l c.args.seats.now lower) items s.1,
+      subst (λ (l : List Item). DiffersAt l c.args.seats.now c.in-Some-difference.core c.in-Some-difference.place) items s.2,
     )
 
 pub returns-in_default-copy-clause-err : goal.returns-in_default-copy-clause-err
 returns-in_default-copy-clause-err c =
     let items : c.log.result.now.items ≡ c.args.bench.now.situation.log = c.log.ensures.items in
     let cores : c.cores.result ≡ c.args.bench.now.situation.shape.cores = c.cores.ensures.value ∙ ap (λ (e : Extent). e.cores) c.shape.ensures in (
-      c.requires,
-      (
-        c.args.bench.now,
-        record { kept = c.kept.ensures.kept; protocol_is = refl; shape_is = refl },
-        c.in_default.ensures.none,
-        λ core lt. subst (λ (l : List Item). IsAnswered l c.args.seats.now core) items (c.in_default-difference.ensures.none core (subst (λ (n : ℕ). core < n) (sym cores) lt)),
-      ),
+      c.in_default.ensures.none,
+      λ core lt. subst (λ (l : List Item). IsAnswered l c.args.seats.now core) items (c.in_default-difference.ensures.none core (subst (λ (n : ℕ). core < n) (sym cores) lt)),
     )
 
 pub returns-clause-ok : goal.returns-clause-ok
