@@ -35,9 +35,9 @@ pub record Begins (protocol : Protocol) (shape : Extent) (steps : List Step) (ol
   pub run : TheRun protocol shape steps outcomes final
   pub output : AppendsFront old new (line_texts shape steps outcomes ++ report_of final.log)
 
--- the whole text was read and its whole output written; or nothing was written; or a beginning of the output
+-- the whole text was read, and its whole output written, or a beginning of it; or the text was refused
 abbrev pub Simulates : Protocol → Extent → Option (List ℕ) → Result (Unit {0}) SimFault → Option (List ℕ) → Option (List ℕ) → Type 0
 Simulates protocol shape input (Ok u) old new = (steps : List Step) × (Reads shape input (Ok steps) × Reports protocol shape steps old new)
-Simulates protocol shape input (Err (Text fault)) old new = Reads shape input (Err fault) × (new ≡ old)
+Simulates protocol shape input (Err (Text fault)) old new = Reads shape input (Err fault)
 Simulates protocol shape input (Err NoMemory) old new = (steps : List Step) × (Reads shape input (Ok steps) × Begins protocol shape steps old new)
 Simulates protocol shape input (Err Write) old new = (steps : List Step) × (Reads shape input (Ok steps) × Begins protocol shape steps old new)

@@ -50,9 +50,9 @@ pub record BeginsRun (protocol : Protocol) (shape : Extent) (rows : List Row) (o
       AppendsFront old new (line_texts shape steps outcomes)
       ⊎ (Serves shape rows steps outcomes reached × AppendsFront old new (line_texts shape steps outcomes ++ report_of reached.log))
 
--- the whole text was read and its rows served, with all of it written; or nothing was written; or a beginning
+-- the whole text was read, and its rows served and all of it written, or a beginning of it; or the text was refused
 abbrev pub SimulatesRun : Protocol → Extent → Option (List ℕ) → Result (Unit {0}) SimFault → Option (List ℕ) → Option (List ℕ) → Type 0
 SimulatesRun protocol shape input (Ok u) old new = (rows : List Row) × (ReadsRows shape input (Ok rows) × ReportsRun protocol shape rows old new)
-SimulatesRun protocol shape input (Err (Text fault)) old new = ReadsRows shape input (Err fault) × (new ≡ old)
+SimulatesRun protocol shape input (Err (Text fault)) old new = ReadsRows shape input (Err fault)
 SimulatesRun protocol shape input (Err NoMemory) old new = (rows : List Row) × (ReadsRows shape input (Ok rows) × BeginsRun protocol shape rows old new)
 SimulatesRun protocol shape input (Err Write) old new = (rows : List Row) × (ReadsRows shape input (Ok rows) × BeginsRun protocol shape rows old new)

@@ -2,6 +2,7 @@
 ghost use Rattle.std.specs.Prelude.{◌≡◌, ◌≢◌, ◌<◌, ◌-◌, ◌^◌, true, length, All, Err, OnOk, OnErr, IsSomeAnd};
 ghost use Rattle.snoop_trace.specs.Grammar.{IsRowWithin};
 ghost use Rattle.snoop_trace.specs.Output.{BlamesWriter};
+ghost use Rattle.snoop_trace.specs.declared.fault.TextFault.{TextFault};
 ghost use Rattle.snoop_trace.specs.declared.fault.TextFault.TheVariants as text_fault;
 ghost use Rattle.snoop_engine.specs.Driven.{WritesDriven, WritesDrivenFront};
 ghost use Rattle.snoop_engine.specs.SimulatedRun.{BeginsRun, ReportsRun, SimulatesRun};
@@ -26,6 +27,8 @@ pub fn simulate_run<R: Source + Drop, W: Sink>(
     shape: Shape,
 ) -> Result<(), SimFault>
     ensures does { SimulatesRun protocol shape (R.remaining reader) result (W.contents writer.old) (W.contents writer.new) }
+    // A refused text leaves the writer as it was.
+    ensures unwritten { (fault : TextFault) → result ≡ Err (SimFault.Text fault) → writer.new ≡ writer.old }
 
     // A reader or a writer whose contract rules failure out is never blamed.
     ensures reads { R.never_fails ≡ true → IsSomeAnd (R.remaining reader) (λ bytes. length bytes < 2 ^ 64 - 1) → result ≢ Err (SimFault.Text text_fault.Read) }

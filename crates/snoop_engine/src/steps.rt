@@ -3,6 +3,7 @@ ghost use Rattle.std.specs.Prelude.{◌≡◌, ◌≢◌, ◌<◌, ◌++◌, ◌
 ghost use Rattle.snoop_model.specs.declared.replies.Reply.{Reply as Answer};
 ghost use Rattle.snoop_model.specs.declared.replies.Refused.{Refused as Cause};
 ghost use Rattle.snoop_trace.specs.Output.{BlamesWriter};
+ghost use Rattle.snoop_trace.specs.declared.fault.TextFault.{TextFault};
 ghost use Rattle.snoop_trace.specs.declared.fault.TextFault.TheVariants as text_fault;
 ghost use Rattle.snoop_engine.specs.Line.{line_text};
 ghost use Rattle.snoop_engine.specs.Simulated.{Begins, Reports, Simulates};
@@ -30,6 +31,8 @@ pub fn simulate_steps<R: Source + Drop, W: Sink>(
     shape: Shape,
 ) -> Result<(), SimFault>
     ensures does { Simulates protocol shape (R.remaining reader) result (W.contents writer.old) (W.contents writer.new) }
+    // A refused text leaves the writer as it was.
+    ensures unwritten { (fault : TextFault) → result ≡ Err (SimFault.Text fault) → writer.new ≡ writer.old }
 
     // A reader or a writer whose contract rules failure out is never blamed.
     ensures reads { R.never_fails ≡ true → IsSomeAnd (R.remaining reader) (λ bytes. length bytes < 2 ^ 64 - 1) → result ≢ Err (SimFault.Text text_fault.Read) }

@@ -1,6 +1,7 @@
 -- From the threads' answers and the gathered log to the rows.
 use Rattle.std.proofs.Common.{◌≡◌, ℕ, ◌<◌, ◌/◌, ◌==◌, List, [], ◌∷◌, ◌++◌, length, take, All, Option, Some, None, Bool, true, nat_lt, if◌then◌else◌, refl, sym, ap, subst, ◌∙◌, arith, inr}
-use Rattle.std.specs.Prelude.{slice_index_or, IsSome, IfErr, Result, Ok, Err}
+use Rattle.std.specs.Prelude.{slice_index_or, IsSome, IfErr, MatchResult, OnOk, OnErr, Result, Ok, Err}
+use Rattle.std.specs.Io.KnownBytes.{Appends}
 use Rattle.std.specs.Result.{IsErrAnd}
 use Rattle.std.proofs.lemmas.Bool.Decides.{nat_tests}
 use Rattle.std.proofs.lemmas.List.Elements.{All-filter, All-from_get_or, All-get_or}
@@ -10,7 +11,6 @@ use Rattle.snoop_trace.specs.Grammar.{block_at, IsRowWithin}
 use Rattle.snoop_trace.specs.declared.step.Op.{Op}
 use Rattle.snoop_trace.specs.Output.{AppendsFront, steps_text}
 use Rattle.snoop_trace.specs.declared.fault.WriteFault.{WriteFault}
-use Rattle.snoop_trace.specs.declared.fault.WriteFault.TheVariants as write
 use Rattle.snoop_trace.specs.declared.step.Row.{Row}
 use Rattle.snoop_trace.specs.declared.step.Step.{Step}
 use Rattle.snoop_rules.specs.declared.names.Protocol.{Protocol}
@@ -28,8 +28,9 @@ use Rattle.snoop_cores.specs.Rows.{Answers, Leaves, Grows, FailsOn, IsRefused, I
 use Rattle.snoop_cores.specs.Joined.{IsJoined}
 use Rattle.snoop_engine.specs.SimulatedRun.{ReadsRows}
 use Rattle.snoop_sim.specs.Threaded.{SimulatesThreads, Threaded}
-use Rattle.snoop_sim.specs.ThreadsFault.{IsOfThreads, IsOfFirstStop, not_run, stopped, unwritten}
+use Rattle.snoop_sim.specs.ThreadsFault.{IsOfThreads, IsOfFirstStop}
 use Rattle.snoop_sim.specs.declared.fault.ThreadsFault.{ThreadsFault}
+use Rattle.snoop_sim.specs.declared.fault.ThreadsFault.TheVariants as threads
 
 -- a seat that did nothing before has done its rows: its answers, which are its core's operations, are theirs
 answered_rows : (shape : Extent) (rows : List Row) (core : ℕ) (s t : Seating) (log : List Item) → IsNew core shape s → Grows (rows_of s.core rows) s t
@@ -84,12 +85,19 @@ row_served shape seats row fresh within = record {
     found = let some : IsSome (Some (row.address / shape.block_bytes)) = refl in subst (λ (o : Option ℕ). IsSome o) (sym (row_block shape row within)) some
 
 -- so rows within the shape are refused for memory alone
-pub begun : (shape : Extent) (seats : List Seating) (rows : List Row) (fault : RunFault) → AreSeats shape seats → All (IsRowWithin shape) rows → RefusesRows seats rows fault → IsOfThreads (not_run fault)
+pub begun : (shape : Extent) (seats : List Seating) (rows : List Row) (fault : RunFault) → AreSeats shape seats → All (IsRowWithin shape) rows → RefusesRows seats rows fault → IsOfThreads (threads.Run fault)
 begun shape seats rows run.NoMemory fresh within refuses = tt
 begun shape seats rows (run.NoSeat core) fresh within refuses =
     let row : Row = refuses.0 in
     let there : slice_index_or rows refuses.1.place row ≡ row = refuses.1.there row in
     absurd (refuses.1.unserved (row_served shape seats row fresh (subst (IsRowWithin shape) there (All-get_or (IsRowWithin shape) rows refuses.1.place row refuses.1.inside within))))
+
+-- a refused call, whose fault got a name of this crate
+pub named : {A F : Type 0} (called : Result A F) (answer : Result A ThreadsFault) (name : F → ThreadsFault) (fault : ThreadsFault)
+    → MatchResult called (λ a. answer ≡ Ok a) (λ f. IsErrAnd answer (λ e. e ≡ name f)) → answer ≡ Err fault → (f : F) × ((called ≡ Err f) × (fault ≡ name f))
+named (Ok a) answer name fault cases is = absurd (let e : Ok a ≡ Err fault = sym cases ∙ is in cc)
+named (Err f) (Ok a) name fault cases is = absurd cases
+named (Err f) (Err e) name fault cases is = (f, (refl, let same : e ≡ fault = cc in sym same ∙ cases))
 
 -- a fault that was turned into this one
 pub turned : {A : Type 0} (answer : Result A ThreadsFault) (fault : ThreadsFault) → IsErrAnd answer (λ (f : ThreadsFault). f ≡ fault) → IsOfThreads fault → IfErr answer IsOfThreads
@@ -102,14 +110,14 @@ idle_after [] s t new leaves = ap (λ (x : Seating). x.pending) leaves ∙ new
 idle_after (row ∷ rows) s t new leaves = leaves.pending
 
 -- what a row within the shape, of a seat with nothing pending, is refused for
-why_refused : (block blocks : ℕ) (fault : SeatFault) (wanted : Op) (s t : Seating) → block < blocks → s.shape.blocks ≡ blocks → s.pending ≡ None → FailsOn (Some block) fault wanted s t → IsOfThreads (stopped fault)
+why_refused : (block blocks : ℕ) (fault : SeatFault) (wanted : Op) (s t : Seating) → block < blocks → s.shape.blocks ≡ blocks → s.pending ≡ None → FailsOn (Some block) fault wanted s t → IsOfThreads (threads.Seat fault)
 why_refused block blocks seat.NoBlock wanted s t lt is idle fails = absurd (let outside = fails.0 in omega (arith, lt, is, outside))
 why_refused block blocks seat.NoMemory wanted s t lt is idle fails = tt
 why_refused block blocks (seat.Busy other) wanted s t lt is idle fails = absurd (let e : None ≡ Some other = sym idle ∙ fails.1 in cc)
 why_refused block blocks (seat.Stranger did) wanted s t lt is idle fails = tt
 
 -- what new seats' rows within the shape are refused for
-row_refused : (shape : Extent) (core number : ℕ) (rows : List Row) (s t : Seating) (fault : SeatFault) → IsNew core shape s → All (IsRowWithin shape) rows → IsRefused number fault rows s t → IsOfThreads (stopped fault)
+row_refused : (shape : Extent) (core number : ℕ) (rows : List Row) (s t : Seating) (fault : SeatFault) → IsNew core shape s → All (IsRowWithin shape) rows → IsRefused number fault rows s t → IsOfThreads (threads.Seat fault)
 row_refused shape core number rows s t fault new within refused =
     let own : List Row = rows_of s.core rows in
     let lt : number < length own = slice_get_within own number refused.row refused.there in
@@ -134,12 +142,12 @@ first_refused shape rows stops old new fault fresh each within ran first =
     subst (λ (o : Option Stop). RanTo o rows (slice_index_or old first.place d) (slice_index_or new first.place d)) stop (ran first.place d inside) in
     subst IsOfThreads (sym first.is) (row_refused shape first.place first.number rows (slice_index_or old first.place d) (slice_index_or new first.place d) first.refused (fresh.1 first.place d (omega (arith, inside, fresh.0))) within refused)
 
--- the steps stand, and their writing broke off
-pub broken_off : (protocol : Protocol) (shape : Extent) (input : Option (List ℕ)) (rows : List Row) (steps : List Step) (fault : WriteFault) (answer : Result (Unit {0}) ThreadsFault) (old new : Option (List ℕ))
-    → IsErrAnd answer (λ (f : ThreadsFault). f ≡ unwritten fault) → ReadsRows shape input (Ok rows) → Threaded protocol shape rows steps → AppendsFront old new (steps_text shape steps)
-    → SimulatesThreads protocol shape input answer old new
-broken_off protocol shape input rows steps fault (Ok u) old new is read stand front = absurd is
-broken_off protocol shape input rows steps write.Write (Err f) old new is read stand front =
-    subst (λ (x : ThreadsFault). SimulatesThreads protocol shape input (Err x) old new) (sym is) (rows, (read, record { steps = steps; threaded = stand; output = front }))
-broken_off protocol shape input rows steps write.NoMemory (Err f) old new is read stand front =
-    subst (λ (x : ThreadsFault). SimulatesThreads protocol shape input (Err x) old new) (sym is) (rows, (read, inr (record { steps = steps; threaded = stand; output = front })))
+-- the steps stand, and were written, or their writing broke off
+pub steps_written : (protocol : Protocol) (shape : Extent) (input : Option (List ℕ)) (rows : List Row) (steps : List Step) (wrote : Result (Unit {0}) WriteFault) (answer : Result (Unit {0}) ThreadsFault) (old new : Option (List ℕ))
+    → MatchResult wrote (λ u. answer ≡ Ok u) (λ f. IsErrAnd answer (λ e. e ≡ threads.Write f)) → ReadsRows shape input (Ok rows) → Threaded protocol shape rows steps
+    → OnOk wrote (Appends old new (steps_text shape steps)) → OnErr wrote (AppendsFront old new (steps_text shape steps)) → SimulatesThreads protocol shape input answer old new
+steps_written protocol shape input rows steps (Ok u) answer old new cases read stand all front =
+    subst (λ (x : Result (Unit {0}) ThreadsFault). SimulatesThreads protocol shape input x old new) (sym cases) (rows, (read, record { steps = steps; threaded = stand; output = all }))
+steps_written protocol shape input rows steps (Err f) (Ok u) old new cases read stand all front = absurd cases
+steps_written protocol shape input rows steps (Err f) (Err e) old new cases read stand all front =
+    subst (λ (x : ThreadsFault). SimulatesThreads protocol shape input (Err x) old new) (sym cases) (rows, (read, record { steps = steps; threaded = stand; output = front }))

@@ -2,6 +2,11 @@
 -- Source: this project's profile.
 use Rattle.std.specs.Prelude.{ℕ}
 use Rattle.snoop_trace.specs.declared.fault.TextFault.TheVariants as text
+use Rattle.snoop_trace.specs.declared.fault.WriteFault.TheVariants as write
+use Rattle.snoop_cores.specs.declared.fault.MakeFault.TheVariants as make
+use Rattle.snoop_cores.specs.declared.fault.RunFault.TheVariants as run
+use Rattle.snoop_cores.specs.declared.fault.SeatFault.TheVariants as seat
+use Rattle.snoop_cores.specs.declared.fault.GatherFault.TheVariants as gathering
 use Rattle.snoop_sim.specs.declared.failure.Failure.{Failure}
 use Rattle.snoop_sim.specs.declared.failure.Failure.TheVariants.{CommandLine, NoCommand, NotUtf8, Shape, Simulation, Threads}
 use Rattle.snoop_engine.specs.declared.fault.SimFault.{SimFault}
@@ -20,8 +25,12 @@ status_of_fault Write = 4
 abbrev pub status_of_threads : ThreadsFault → ℕ
 status_of_threads (threads.Text text.NoMemory) = 3
 status_of_threads (threads.Text _) = 1
-status_of_threads threads.NoMemory = 3
-status_of_threads threads.Write = 4
+status_of_threads (threads.Make make.NoMemory) = 3
+status_of_threads (threads.Run run.NoMemory) = 3
+status_of_threads (threads.Seat seat.NoMemory) = 3
+status_of_threads (threads.Gather gathering.NoMemory) = 3
+status_of_threads (threads.Write write.NoMemory) = 3
+status_of_threads (threads.Write write.Write) = 4
 status_of_threads _ = 5
 
 -- 2 for the command line or the shape

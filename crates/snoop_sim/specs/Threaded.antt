@@ -1,6 +1,6 @@
 -- What a simulation of rows in threads leaves, by what it answers.
 -- Source: this project's profile.
-use Rattle.std.specs.Prelude.{◌≡◌, ℕ, ◌<◌, List, Option, Result, Ok, Err, ◌⊎◌}
+use Rattle.std.specs.Prelude.{ℕ, ◌<◌, List, Option, Result, Ok, Err}
 use Rattle.std.specs.Io.KnownBytes.{Appends}
 use Rattle.snoop_trace.specs.Extent.{Extent}
 use Rattle.snoop_trace.specs.Output.{AppendsFront, steps_text}
@@ -15,7 +15,7 @@ use Rattle.snoop_cores.specs.Rows.{Answers, rows_of}
 use Rattle.snoop_engine.specs.SimulatedRun.{ReadsRows}
 use Rattle.snoop_sim.specs.ThreadsFault.{IsOfThreads}
 use Rattle.snoop_sim.specs.declared.fault.ThreadsFault.{ThreadsFault}
-use Rattle.snoop_sim.specs.declared.fault.ThreadsFault.TheVariants.{Text, NoMemory, Write}
+use Rattle.snoop_sim.specs.declared.fault.ThreadsFault.TheVariants.{Text, Write}
 
 -- the steps, each of them taken, lead from reset to rest, and each core's operations are the loads and stores of its rows, in order
 pub record Threaded (protocol : Protocol) (shape : Extent) (rows : List Row) (steps : List Step) : Type 0 where
@@ -36,14 +36,13 @@ pub record BeginsThreaded (protocol : Protocol) (shape : Extent) (rows : List Ro
   pub threaded : Threaded protocol shape rows steps
   pub output : AppendsFront old new (steps_text shape steps)
 
--- what was written for the rows that were read: all the steps; a beginning of them; or nothing, where there were none to write
+-- what was written for the rows that were read: all the steps, or a beginning of them, or nothing, where the threads were refused
 abbrev pub Outputs : Protocol → Extent → List Row → Result (Unit {0}) ThreadsFault → Option (List ℕ) → Option (List ℕ) → Type 0
 Outputs protocol shape rows (Ok u) old new = WritesThreaded protocol shape rows old new
-Outputs protocol shape rows (Err Write) old new = BeginsThreaded protocol shape rows old new
-Outputs protocol shape rows (Err NoMemory) old new = (new ≡ old) ⊎ BeginsThreaded protocol shape rows old new
-Outputs protocol shape rows (Err fault) old new = IsOfThreads fault × (new ≡ old)
+Outputs protocol shape rows (Err (Write fault)) old new = BeginsThreaded protocol shape rows old new
+Outputs protocol shape rows (Err fault) old new = IsOfThreads fault
 
--- the text was refused, and nothing written; or its rows were read, and this was written
+-- the text was refused; or its rows were read, and this was written
 abbrev pub SimulatesThreads : Protocol → Extent → Option (List ℕ) → Result (Unit {0}) ThreadsFault → Option (List ℕ) → Option (List ℕ) → Type 0
-SimulatesThreads protocol shape input (Err (Text fault)) old new = ReadsRows shape input (Err fault) × (new ≡ old)
+SimulatesThreads protocol shape input (Err (Text fault)) old new = ReadsRows shape input (Err fault)
 SimulatesThreads protocol shape input answer old new = (rows : List Row) × (ReadsRows shape input (Ok rows) × Outputs protocol shape rows answer old new)

@@ -41,28 +41,6 @@ impl From<ShapeFault> for Failure {
     }
 }
 
-impl From<SimFault> for Failure {
-    ghost use Rattle.std.specs.Prelude.{◌≡◌};
-    ghost use Rattle.snoop_sim.specs.declared.failure.Failure.TheVariants as failure;
-
-    ghost from_gives = { λ e r. r ≡ failure.Simulation e };
-
-    fn from(fault: SimFault) -> Self {
-        Failure::Simulation(fault)
-    }
-}
-
-impl From<ThreadsFault> for Failure {
-    ghost use Rattle.std.specs.Prelude.{◌≡◌};
-    ghost use Rattle.snoop_sim.specs.declared.failure.Failure.TheVariants as failure;
-
-    ghost from_gives = { λ e r. r ≡ failure.Threads e };
-
-    fn from(fault: ThreadsFault) -> Self {
-        Failure::Threads(fault)
-    }
-}
-
 impl From<clap::Error> for Failure {
     ghost use Rattle.std.specs.Prelude.{◌≡◌, ◌≢◌, ◌⊎◌};
     ghost use Rattle.clap.specs.Values.{kind_of};
@@ -117,10 +95,7 @@ impl Failure {
             Failure::Simulation(SimFault::Text(TextFault::NoMemory) | SimFault::NoMemory) => 3,
             Failure::Simulation(SimFault::Text(_)) => 1,
             Failure::Simulation(SimFault::Write) => 4,
-            Failure::Threads(ThreadsFault::Text(TextFault::NoMemory) | ThreadsFault::NoMemory) => 3,
-            Failure::Threads(ThreadsFault::Text(_)) => 1,
-            Failure::Threads(ThreadsFault::Write) => 4,
-            Failure::Threads(_) => 5,
+            Failure::Threads(fault) => fault.status(),
         }
     }
 }

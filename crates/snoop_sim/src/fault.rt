@@ -1,25 +1,21 @@
 //! Why a simulation in threads stopped.
+ghost use Rattle.std.specs.Prelude.{◌≡◌};
+ghost use Rattle.snoop_sim.specs.Status.{status_of_threads};
 
 use snoop_cores::{GatherFault, MakeFault, RunFault, SeatFault};
 use snoop_trace::{TextFault, WriteFault};
 use thiserror::Error;
 
-/// Why a simulation in threads stopped. What was written at each, `simulate_threads` says.
+/// Why a simulation in threads stopped. After `Write` a beginning of the steps was written, at each other fault nothing.
 #[derive(Clone, Copy, Debug, PartialEq, Eq, Error)]
 pub enum ThreadsFault {
     /// The text was refused.
     #[error(transparent)]
     Text(TextFault),
-    /// Out of memory, in whichever layer.
-    #[error("NoMemory")]
-    NoMemory,
-    /// A write failed.
-    #[error("Write")]
-    Write,
     /// The shared machine was not made.
     #[error(transparent)]
     Make(MakeFault),
-    /// The rows were not begun. It never comes for rows within the shape, where each core has a seat.
+    /// The rows were not begun: out of memory, since rows within the shape have a seat each.
     #[error(transparent)]
     Run(RunFault),
     /// A seat was refused a row.
@@ -28,74 +24,26 @@ pub enum ThreadsFault {
     /// The steps were not gathered.
     #[error(transparent)]
     Gather(GatherFault),
+    /// The steps were not written whole.
+    #[error(transparent)]
+    Write(WriteFault),
 }
 
-impl From<WriteFault> for ThreadsFault {
-    ghost use Rattle.std.specs.Prelude.{◌≡◌};
-    ghost use Rattle.snoop_sim.specs.ThreadsFault.{unwritten};
-
-    ghost from_gives = { λ e r. r ≡ unwritten e };
-
-    fn from(fault: WriteFault) -> Self {
-        match fault {
-            WriteFault::Write => ThreadsFault::Write,
-            WriteFault::NoMemory => ThreadsFault::NoMemory,
-        }
-    }
-}
-
-impl From<MakeFault> for ThreadsFault {
-    ghost use Rattle.std.specs.Prelude.{◌≡◌};
-    ghost use Rattle.snoop_sim.specs.ThreadsFault.{unmade};
-
-    ghost from_gives = { λ e r. r ≡ unmade e };
-
-    fn from(fault: MakeFault) -> Self {
-        match fault {
-            MakeFault::NoMemory => ThreadsFault::NoMemory,
-            other => ThreadsFault::Make(other),
-        }
-    }
-}
-
-impl From<RunFault> for ThreadsFault {
-    ghost use Rattle.std.specs.Prelude.{◌≡◌};
-    ghost use Rattle.snoop_sim.specs.ThreadsFault.{not_run};
-
-    ghost from_gives = { λ e r. r ≡ not_run e };
-
-    fn from(fault: RunFault) -> Self {
-        match fault {
-            RunFault::NoMemory => ThreadsFault::NoMemory,
-            other => ThreadsFault::Run(other),
-        }
-    }
-}
-
-impl From<SeatFault> for ThreadsFault {
-    ghost use Rattle.std.specs.Prelude.{◌≡◌};
-    ghost use Rattle.snoop_sim.specs.ThreadsFault.{stopped};
-
-    ghost from_gives = { λ e r. r ≡ stopped e };
-
-    fn from(fault: SeatFault) -> Self {
-        match fault {
-            SeatFault::NoMemory => ThreadsFault::NoMemory,
-            other => ThreadsFault::Seat(other),
-        }
-    }
-}
-
-impl From<GatherFault> for ThreadsFault {
-    ghost use Rattle.std.specs.Prelude.{◌≡◌};
-    ghost use Rattle.snoop_sim.specs.ThreadsFault.{ungathered};
-
-    ghost from_gives = { λ e r. r ≡ ungathered e };
-
-    fn from(fault: GatherFault) -> Self {
-        match fault {
-            GatherFault::NoMemory => ThreadsFault::NoMemory,
-            other => ThreadsFault::Gather(other),
+impl ThreadsFault {
+    /// The status that the program ends with.
+    pub(crate) fn status(&self) -> u8
+        ensures { result ≡ status_of_threads self.now }
+    {
+        match self {
+            ThreadsFault::Text(TextFault::NoMemory)
+            | ThreadsFault::Make(MakeFault::NoMemory)
+            | ThreadsFault::Run(RunFault::NoMemory)
+            | ThreadsFault::Seat(SeatFault::NoMemory)
+            | ThreadsFault::Gather(GatherFault::NoMemory)
+            | ThreadsFault::Write(WriteFault::NoMemory) => 3,
+            ThreadsFault::Text(_) => 1,
+            ThreadsFault::Write(WriteFault::Write) => 4,
+            _ => 5,
         }
     }
 }

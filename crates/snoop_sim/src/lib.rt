@@ -3,6 +3,7 @@
 
 mod failure;
 mod fault;
+mod help;
 mod options;
 mod program;
 mod threads;

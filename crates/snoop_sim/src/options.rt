@@ -6,6 +6,7 @@ ghost use Rattle.snoop_sim.specs.CommandLine.{IsLocal, IsProtocols, IsSnoop, IsT
 ghost use Rattle.snoop_sim.specs.Options.{IsNumberOf, IsShapeOf, protocol_named, which_named};
 
 use crate::failure::Failure;
+use crate::help;
 use clap::builder::ValueParser;
 use clap::{Arg, ArgMatches, Command, Error, value_parser};
 use snoop_rules::{Protocol, Which};
@@ -25,114 +26,6 @@ pub(crate) enum Task {
 static PROTOCOLS: [&str; 2] = ["msi", "mesi"];
 
 static TABLES: [&str; 2] = ["cache", "memory"];
-
-macro_rules! help_text {
-    ($text:literal) => {
-        concat!(
-            $text,
-            "
-
-Exit status:
-  0  done, even where steps were refused
-  1  the text was refused, or could not be read (Read); nothing was written
-     The message names the first faulty record (blank lines are not counted):
-       BadKind, BadFields  no such letter; another number of fields
-       BadNumber           no number up to 2^64 - 1
-       NoCore, NoBlock     outside --cores; outside --blocks
-  2  the command line was refused, or the shape (BadCores, BadBlocks, BadBytes:
-     outside the limits of its options); nothing was written
-  3  out of memory
-  4  a write failed
-  5  the threads of `snoop threads` were refused; nothing was written
-
-More in docs/TEXTS.md."
-        )
-    };
-}
-
-static PROGRAM_HELP: &str = help_text!(
-    "\
-Reads a text from standard input, and writes one to standard output:
-  snoop steps < FILE
-  printf 'L,0,0\\nO,0\\nR,0\\n' | snoop steps
-
-`steps` and `run` write a line for each step, which ends with the machine's reply
-(hit, store hit, issued, ordered, Data, NoData, gone, absent, refused), and then a
-report: counts, and the last value of each block. `snoop COMMAND --help` says more."
-);
-
-static STEPS_HELP: &str = help_text!(
-    "\
-Reads standard input: `snoop steps < FILE`. Each line is a step:
-  L,core,address        the core loads from the address
-  S,core,address,value  the core stores the value at the address
-  E,core,address        the core evicts the block of the address
-  O,core                the bus orders the core's oldest request
-  R,address             the response for the block of the address comes
-For a text without O and R, use `snoop run`.
-Numbers are decimal, or hexadecimal after 0x. An address is in bytes.
-Example: printf 'L,0,0\\nO,0\\nR,0\\n' | snoop steps
-
-Each step has a line of output: the step, a colon and the reply.
-  hit 5, store hit          done in the core's own copy; the load read 5
-  issued GetS               the request waits: GetS, GetM or PutM
-  gone, absent              evicted without a request; nothing to evict
-  ordered GetS              the request is ordered, its transaction open
-  Data from memory, load 5  the response (Data, DataE, NoData or NoDataE), who
-                            sent it, and the load or store that it completes
-  refused Stalled IM_AD     not taken: the core's line is in a transient state; or
-                            NothingWaiting, NoTransaction, or BusTaken 0: block 0
-                            has an open transaction
-Then the report: loads and stores performed, and the hits among them; requests
-ordered; responses from memory and from caches; writebacks, with the clean and the
-stale ones; and the last value stored in each block."
-);
-
-static RUN_HELP: &str = help_text!(
-    "\
-Reads standard input: `snoop run < FILE`. Each line is what a core does next:
-  L,core,address        the core loads from the address
-  S,core,address,value  the core stores the value at the address
-  E,core,address        the core evicts the block of the address
-O and R are refused here (BadKind): a text that has them is for `snoop steps`.
-Numbers are decimal, or hexadecimal after 0x. An address is in bytes.
-Example: printf 'S,0,0,5\\nL,1,0\\n' | snoop run
-
-Snoop finds the bus steps itself: O,core orders the core's oldest request, and
-R,address brings the response. Each step has a line of output: the step, a colon
-and the reply.
-  hit 5, store hit          done in the core's own copy; the load read 5
-  issued GetS               the request waits: GetS, GetM or PutM
-  gone, absent              evicted without a request; nothing to evict
-  ordered GetS              the request is ordered, its transaction open
-  Data from memory, load 5  the response (Data, DataE, NoData or NoDataE), who
-                            sent it, and the load or store that it completes
-Then the report: loads and stores performed, and the hits among them; requests
-ordered; responses from memory and from caches; writebacks, with the clean and the
-stale ones; and the last value stored in each block."
-);
-
-static THREADS_HELP: &str = help_text!(
-    "\
-Reads standard input: `snoop threads < FILE`. Each line is what a core does next:
-  L,core,address        the core loads from the address
-  S,core,address,value  the core stores the value at the address
-  E,core,address        the core evicts the block of the address
-O and R are refused here (BadKind): a text that has them is for `snoop steps`.
-Numbers are decimal, or hexadecimal after 0x. An address is in bytes.
-
-The output is a text of steps, for `snoop steps` with the same options, which
-writes their replies and the report (see `snoop steps --help`):
-  snoop threads --cores 4 < FILE | snoop steps --cores 4
-Which order the threads take is open: the output may differ from run to run."
-);
-
-static TABLE_HELP: &str = help_text!(
-    "\
-No input is read. Each line of output is a cell of the table: state, event, action
-and next state, with commas between.
-Example: snoop table --protocol mesi --which memory"
-);
 
 /// The task that the words ask for; the first of them is the program's own name.
 pub(crate) fn task_in(alloc: Global, words: &[String]) -> Result<Task, Failure>
@@ -167,25 +60,25 @@ fn grammar<'a>(alloc: Global) -> Result<Command<'a>, AllocError>
         .bin_name("snoop")?
         .version("0.1.0")
         .about("Simulates private caches on a snooping bus, under MSI or MESI")
-        .after_help(PROGRAM_HELP)
+        .after_help(help::PROGRAM)
         .subcommand_required(true)
         .subcommand(simulation(
             alloc,
             "steps",
             "Read steps; write each one's reply and a report",
-            STEPS_HELP,
+            help::STEPS,
         )?)?
         .subcommand(simulation(
             alloc,
             "run",
             "Read what each core does; write each step's reply and a report",
-            RUN_HELP,
+            help::RUN,
         )?)?
         .subcommand(simulation(
             alloc,
             "threads",
             "Read what each core does, let a thread for each do it; write the steps taken",
-            THREADS_HELP,
+            help::THREADS,
         )?)?
         .subcommand(table(alloc)?)
 }
@@ -228,7 +121,7 @@ fn table<'a>(alloc: Global) -> Result<Command<'a>, AllocError>
         .default_value("cache");
     Command::new(alloc, "table")
         .about("Write a controller's table: state, event, action and next state")
-        .after_help(TABLE_HELP)
+        .after_help(help::TABLE)
         .arg(protocol(alloc))?
         .arg(which)
 }

@@ -33,10 +33,10 @@ pub fn command<T: Threads + Wait + Sync, R: Source + Drop, W: Sink, E: Write>(
 ) -> u8
     ensures does { Ends (map string_bytes words.now) R.never_fails (R.remaining reader) result (W.contents writer.old) (W.contents writer.new) }
     ensures known { result < 6 }
-    // A text, a command line or a shape is refused before anything is written.
-    ensures unwritten { 0 < result → result < 3 → W.contents writer.new ≡ W.contents writer.old }
-    // Refused threads have written nothing.
-    ensures refused { result ≡ 5 → W.contents writer.new ≡ W.contents writer.old }
+    // A text, a command line or a shape is refused, and leaves the writer as it was.
+    ensures unwritten { 0 < result → result < 3 → writer.new ≡ writer.old }
+    // So do refused threads.
+    ensures refused { result ≡ 5 → writer.new ≡ writer.old }
     ensures never_blamed { W.never_fails ≡ true → result ≢ 4 }
     // Where it is known that no write to the writer had failed, the status is 4 exactly where one fails, and none is tried again.
     ensures blamed { BlamesWriter (W.failed writer.old) (W.failed writer.new) (result ≡ 4) }
@@ -66,8 +66,8 @@ fn perform<T: Threads + Wait + Sync, R: Source + Drop, W: Sink>(
 ) -> Result<(), Failure>
     ensures does { Leaves (map string_bytes words.now) (R.remaining reader) result (W.contents writer.old) (W.contents writer.new) }
     ensures reads { IsFairToReader R.never_fails (R.remaining reader) result }
-    ensures unwritten { IfErr result (λ failure. status_of failure < 3 → W.contents writer.new ≡ W.contents writer.old) }
-    ensures refused { IfErr result (λ failure. status_of failure ≡ 5 → W.contents writer.new ≡ W.contents writer.old) }
+    ensures unwritten { IfErr result (λ failure. status_of failure < 3 → writer.new ≡ writer.old) }
+    ensures refused { IfErr result (λ failure. status_of failure ≡ 5 → writer.new ≡ writer.old) }
     ensures never_blamed { IfErr result (λ failure. W.never_fails ≡ true → status_of failure ≢ 4) }
     ensures blamed { BlamesWriter (W.failed writer.old) (W.failed writer.new) (status_of_ending result ≡ 4) }
 {
@@ -84,23 +84,26 @@ fn perform_task<T: Threads + Wait + Sync, R: Source + Drop, W: Sink>(
 ) -> Result<(), Failure>
     ensures does { Performs task (R.remaining reader) result (W.contents writer.old) (W.contents writer.new) }
     ensures reads { IsFairToReader R.never_fails (R.remaining reader) result }
-    ensures unwritten { IfErr result (λ failure. status_of failure < 3 → W.contents writer.new ≡ W.contents writer.old) }
-    ensures refused { IfErr result (λ failure. status_of failure ≡ 5 → W.contents writer.new ≡ W.contents writer.old) }
+    ensures unwritten { IfErr result (λ failure. status_of failure < 3 → writer.new ≡ writer.old) }
+    ensures refused { IfErr result (λ failure. status_of failure ≡ 5 → writer.new ≡ writer.old) }
     ensures never_blamed { IfErr result (λ failure. W.never_fails ≡ true → status_of failure ≢ 4) }
     ensures blamed { BlamesWriter (W.failed writer.old) (W.failed writer.new) (status_of_ending result ≡ 4) }
 {
     match task {
-        Task::Help(help) => write_help(alloc, writer, &help)?,
-        Task::Steps(protocol, shape) => simulate_steps(alloc, reader, writer, protocol, shape)?,
-        Task::Run(protocol, shape) => simulate_run(alloc, reader, writer, protocol, shape)?,
-        Task::Threads(protocol, shape) => simulate_threads(
-            rt, alloc, reader, writer, protocol, shape,
-        )?,
-        Task::Table(protocol, which) => write_table(alloc, writer, protocol, which).map_err(
-            SimFault::from,
-        )?,
+        Task::Help(help) => write_help(alloc, writer, &help).map_err(Failure::Simulation),
+        Task::Steps(protocol, shape) => {
+            simulate_steps(alloc, reader, writer, protocol, shape).map_err(Failure::Simulation)
+        }
+        Task::Run(protocol, shape) => {
+            simulate_run(alloc, reader, writer, protocol, shape).map_err(Failure::Simulation)
+        }
+        Task::Threads(protocol, shape) => {
+            simulate_threads(rt, alloc, reader, writer, protocol, shape).map_err(Failure::Threads)
+        }
+        Task::Table(protocol, which) => write_table(alloc, writer, protocol, which)
+            .map_err(SimFault::from)
+            .map_err(Failure::Simulation),
     }
-    Ok(())
 }
 
 fn write_help<W: Sink>(alloc: Global, writer: &mut W, help: &clap::Error) -> Result<(), SimFault>

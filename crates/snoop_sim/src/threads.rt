@@ -6,13 +6,13 @@ ghost use Rattle.snoop_trace.specs.Output.{BlamesWriter};
 ghost use Rattle.snoop_trace.specs.declared.fault.TextFault.TheVariants as text_fault;
 ghost use Rattle.snoop_sim.specs.Threaded.{SimulatesThreads, Threaded};
 ghost use Rattle.snoop_cores.specs.Rows.{IsNotLate};
-ghost use Rattle.snoop_sim.specs.ThreadsFault.{IsOfThreads, IsOfFirstStop};
+ghost use Rattle.snoop_sim.specs.ThreadsFault.{IsBeforeWriting, IsOfThreads, IsOfFirstStop};
 
 use crate::fault::ThreadsFault;
-use snoop_cores::{Free, Seat, Shared, Stop, gather, run_seats};
+use snoop_cores::{Free, Seat, Shared, Stop, end_seats, gather, run_seats};
 use snoop_rules::Protocol;
 use snoop_trace::streams::{Sink, Source};
-use snoop_trace::{Row, Shape, Step, read_rows, write_steps};
+use snoop_trace::{Row, Shape, Step, WriteFault, read_rows, write_steps};
 use std::alloc::Global;
 use std::sync::Wait;
 use std::thread::Threads;
@@ -20,8 +20,8 @@ use std::thread::Threads;
 /// Reads a text of rows to its end, and lets each core do its rows in a thread of its own, in the order of the text, on a shared
 /// machine at reset. Writes the steps that were taken as a text, one a line. In which order the threads took them is open.
 ///
-/// After `Text` nothing was written. After `Write` the writer holds a beginning of the steps. After `NoMemory` it holds a
-/// beginning too, or nothing new. At every other fault the threads were refused, and nothing was written.
+/// After `Write` the writer holds a beginning of the steps. After every other fault, where the text or the threads were refused,
+/// it is as it was.
 pub fn simulate_threads<T: Threads + Wait + Sync, R: Source + Drop, W: Sink>(
     rt: &T,
     alloc: Global,
@@ -31,17 +31,18 @@ pub fn simulate_threads<T: Threads + Wait + Sync, R: Source + Drop, W: Sink>(
     shape: Shape,
 ) -> Result<(), ThreadsFault>
     ensures does { SimulatesThreads protocol shape (R.remaining reader) result (W.contents writer.old) (W.contents writer.new) }
+    // A refused text and refused threads leave the writer as it was.
+    ensures unwritten { IfErr result (λ fault. IsBeforeWriting fault → writer.new ≡ writer.old) }
 
     // A reader or a writer whose contract rules failure out is never blamed.
     ensures reads { R.never_fails ≡ true → IsSomeAnd (R.remaining reader) (λ bytes. length bytes < 2 ^ 64 - 1) → result ≢ Err (ThreadsFault.Text text_fault.Read) }
-    ensures writes { W.never_fails ≡ true → result ≢ Err ThreadsFault.Write }
+    ensures writes { W.never_fails ≡ true → result ≢ Err (ThreadsFault.Write WriteFault.Write) }
     // Where it is known that no write to the writer had failed, it is blamed exactly where one fails, and none is tried again.
-    ensures blamed { BlamesWriter (W.failed writer.old) (W.failed writer.new) (result ≡ Err ThreadsFault.Write) }
+    ensures blamed { BlamesWriter (W.failed writer.old) (W.failed writer.new) (result ≡ Err (ThreadsFault.Write WriteFault.Write)) }
 {
     let rows = read_rows(alloc, reader, shape).map_err(ThreadsFault::Text)?;
     let steps = take_rows(rt, alloc, protocol, shape, rows)?;
-    write_steps(alloc, writer, shape, &steps)?;
-    Ok(())
+    write_steps(alloc, writer, shape, &steps).map_err(ThreadsFault::Write)
 }
 
 /// The steps that threads take for the rows.
@@ -56,7 +57,8 @@ fn take_rows<T: Threads + Wait + Sync>(
     ensures ok { IfOk result (λ steps. Threaded protocol shape rows.items steps.items) }
     ensures err { IfErr result IsOfThreads }
 {
-    let (shared, mut seats, watches) = Shared::new(rt, alloc, protocol, shape, 0)?;
+    let (shared, mut seats, watches) =
+        Shared::new(rt, alloc, protocol, shape, 0).map_err(ThreadsFault::Make)?;
     watches.destroy_empty();
     let steps = take_seated(rt, alloc, &shared, &mut seats, &rows);
     end_seats(rt, seats);
@@ -77,9 +79,9 @@ fn take_seated<T: Threads + Wait + Sync>(
     ensures ok { IfOk result (λ steps. Threaded shared.now.protocol shared.now.shape rows.now steps.items) }
     ensures err { IfErr result IsOfThreads }
 {
-    let stops = run_seats(rt, alloc, seats, rows, &Free)?;
+    let stops = run_seats(rt, alloc, seats, rows, &Free).map_err(ThreadsFault::Run)?;
     check_stops(&stops)?;
-    let gathered = gather(rt, alloc, shared, seats)?;
+    let gathered = gather(rt, alloc, shared, seats).map_err(ThreadsFault::Gather)?;
     Ok(gathered.steps)
 }
 
@@ -92,16 +94,9 @@ fn check_stops(stops: &[Option<Stop>]) -> Result<(), ThreadsFault>
     for stop in stops {
         match *stop {
             None => {}
-            Some(Stop::Fault(_, fault)) => return Err(ThreadsFault::from(fault)),
+            Some(Stop::Fault(_, fault)) => return Err(ThreadsFault::Seat(fault)),
             Some(Stop::Late(_)) => unreachable!(),
         }
     }
     Ok(())
-}
-
-fn end_seats<T: Wait>(rt: &T, mut seats: Vec<Seat>) {
-    while let Some(seat) = seats.pop() {
-        seat.end(rt);
-    }
-    seats.destroy_empty();
 }

@@ -1,13 +1,9 @@
-use Rattle.std.proofs.Common.{rules}
-use Rattle.std.specs.Prelude.{Ok}
-use Rattle.snoop_engine.specs.SimulatedRun.{ReadsRows}
-use Rattle.snoop_sim.specs.Threaded.{Threaded}
-use Rattle.snoop_sim.proofs.Threading.{broken_off}
+use Rattle.std.proofs.Common.{rules, ◌≡◌, Ok}
+use Rattle.snoop_sim.proofs.Threading.{steps_written}
 use Rattle.snoop_sim.proofs.threads.simulate_threads.Goals as goal
 
-pub returns-in_err-write_steps-clause-does : goal.returns-in_err-write_steps-clause-does
-returns-in_err-write_steps-clause-does g c =
-    let read : ReadsRows c.args.shape (g.R.Read.remaining c.args.reader) (Ok c.in_ok-rows.rows.items) = search rules in
-    let stand : Threaded c.args.protocol c.args.shape c.in_ok-rows.rows.items c.in_ok-steps.steps.items = search rules in
-    broken_off c.args.protocol c.args.shape _ c.in_ok-rows.rows.items c.in_ok-steps.steps.items c.in_err-write_steps.field-0.0 _ _ _ c.from_residual-in_err-write_steps.ensures.1 read stand
-    (rw c.deref.ensures.value at c.in_err-write_steps.ensures.front)
+pub returns-clause-does : goal.returns-clause-does
+returns-clause-does g c =
+    let read : c.read_rows.result ≡ Ok c.in_ok-rows.rows = (let a = c.map_err.ensures.cases in let b = c.in_ok-rows.was in search rules) in
+    steps_written c.args.protocol c.args.shape _ c.in_ok-rows.rows.items c.in_ok-steps.steps.items c.write_steps.result c.map_err-2.result _ _ c.map_err-2.ensures.cases
+    (rw read at c.read_rows.ensures.read) c.in_ok-steps.ensures.ok (rw c.deref.ensures.value at c.write_steps.ensures.ok) (rw c.deref.ensures.value at c.write_steps.ensures.front)

@@ -1,0 +1,147 @@
+//! The texts of the helps.
+
+/// A help: texts, and by name the parts that several helps have.
+macro_rules! help {
+    (@ [$($text:literal)*]) => {
+        concat!($($text),*)
+    };
+    (@ [$($text:literal)*] asks $($rest:tt)*) => {
+        help!(@ [$($text)* "
+  L,core,address        the core loads from the address
+  S,core,address,value  the core stores the value at the address
+  E,core,address        the core evicts the block of the address"] $($rest)*)
+    };
+    (@ [$($text:literal)*] numbers $($rest:tt)*) => {
+        help!(@ [$($text)* "
+Numbers are decimal, or hexadecimal after 0x. An address is in bytes. A block has one
+value: a load from any of its addresses reads what was last stored to any of them."] $($rest)*)
+    };
+    (@ [$($text:literal)*] replies $($rest:tt)*) => {
+        help!(@ [$($text)* "
+
+Each step has a line of output: the step, a colon and the reply.
+  hit 5, store hit          done in the core's own copy; the load read 5
+  issued GetS               the request waits: GetS, GetM or PutM
+  gone, absent              evicted without a request; nothing to evict
+  ordered GetS              the request is ordered, its transaction open
+  Data from memory, load 5  the response (Data, DataE, NoData or NoDataE), who
+                            sent it, and the load or store that it completes"] $($rest)*)
+    };
+    (@ [$($text:literal)*] report $($rest:tt)*) => {
+        help!(@ [$($text)* "
+Then the report: loads and stores performed, and the hits among them; requests
+ordered; responses from memory and from caches; writebacks, with the clean and the
+stale ones; and the last value stored in each block."] $($rest)*)
+    };
+    (@ [$($text:literal)*] faults $letters:literal $counts:literal $($rest:tt)*) => {
+        help!(@ [$($text)* "
+
+One fault refuses the whole text. The message names the first faulty record (blank
+lines are not counted):
+  BadKind    no capital " $letters " at the line's head (no header, no comments)
+  BadFields  " $counts "
+  BadNumber  not decimal or 0x.., or above 2^64 - 1; blanks, signs and comments are
+             not allowed
+  NoCore     the core is --cores or above
+  NoBlock    the address is --blocks times --block-bytes (256 by default) or above"] $($rest)*)
+    };
+    (@ [$($text:literal)*] more $($rest:tt)*) => {
+        help!(@ [$($text)* "
+
+Exit statuses: snoop --help
+More in docs/TEXTS.md."] $($rest)*)
+    };
+    (@ [$($text:literal)*] $next:literal $($rest:tt)*) => {
+        help!(@ [$($text)* $next] $($rest)*)
+    };
+    ($($part:tt)*) => {
+        help!(@ [] $($part)*)
+    };
+}
+
+pub(crate) static PROGRAM: &str = "\
+Reads a text from standard input, and writes one to standard output. A file is
+handed in by `<`:
+  snoop steps < FILE
+  printf 'L,0,0\\nO,0\\nR,0\\n' | snoop steps
+
+`steps` and `run` write a line for each step, which ends with the machine's reply
+(hit, store hit, issued, ordered, Data, NoData, gone, absent, refused), and then a
+report: counts, and the last value of each block. `snoop COMMAND --help` says more.
+
+Exit statuses:
+  0  done, even where steps were refused
+  1  the text was refused, or could not be read (Read); nothing was written
+  2  the command line was refused, or the shape (BadCores, BadBlocks, BadBytes:
+     outside the limits of its options); nothing was written
+  3  out of memory; the output may be cut short
+  4  a write failed; the output may be cut short
+  5  the threads of `snoop threads` were refused; nothing was written
+
+More in docs/TEXTS.md.";
+
+pub(crate) static STEPS: &str = help!(
+    "Reads standard input: `snoop steps < FILE`. Each line is a step:"
+    asks
+    "
+  O,core                the bus orders the core's oldest request
+  R,address             the response for the block of the address comes"
+    numbers
+    "
+Example: printf 'L,0,0\\nO,0\\nR,0\\n' | snoop steps"
+    replies
+    "
+  refused Stalled IM_AD     not taken: the core's line is in a transient state; or
+                            NothingWaiting, NoTransaction, or BusTaken 0: block 0
+                            has an open transaction"
+    report
+    "
+All counts 0? A text without O and R is for `snoop run`."
+    faults "L, S, E, O or R" "L and E take 2 numbers, S 3, O and R 1"
+    more
+);
+
+pub(crate) static RUN: &str = help!(
+    "Reads standard input: `snoop run < FILE`. Each line is what a core does next:"
+    asks
+    numbers
+    "
+Example: printf 'S,0,0,5\\nL,1,0\\n' | snoop run
+
+Snoop finds the bus steps itself: O,core orders the core's oldest request, and
+R,address brings the response. `run` keeps the order of each core's lines alone, and
+lets the cores go side by side. To keep the order of the whole text, as of a trace:
+  awk -F, '{print; print \"O,\"$2; print \"R,\"$3}' FILE | snoop steps"
+    replies
+    report
+    faults "L, S or E" "L and E take 2 numbers, S 3"
+    "
+A text with O and R is for `snoop steps`."
+    more
+);
+
+pub(crate) static THREADS: &str = help!(
+    "Reads standard input: `snoop threads < FILE`. Each line is what a core does next:"
+    asks
+    numbers
+    "
+Example: printf 'S,0,0,5\\nL,1,0\\n' | snoop threads
+
+Each core's lines are done in a thread of its own, in their order. The output is a
+text of steps, for `snoop steps` with the same options, which writes their replies
+and the report (see `snoop steps --help`):
+  snoop threads --cores 4 < FILE | snoop steps --cores 4
+It is one possible order, which may differ from run to run, and measures nothing."
+    faults "L, S or E" "L and E take 2 numbers, S 3"
+    "
+A text with O and R is for `snoop steps`."
+    more
+);
+
+pub(crate) static TABLE: &str = "\
+No input is read. Each line of output is a cell of the table: state, event, action
+and next state, with commas between.
+Example: snoop table --protocol mesi --which memory
+
+Exit statuses: snoop --help
+More in docs/PROTOCOL.md.";
