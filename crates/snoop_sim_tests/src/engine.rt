@@ -2,8 +2,8 @@
 
 use snoop_rules::Protocol;
 use snoop_sim::{SimFault, ThreadsFault, simulate_run, simulate_steps, simulate_threads};
-use snoop_trace::Shape;
 use snoop_trace::streams::{Sink, Source};
+use snoop_trace::{Shape, WriteFault};
 use std::alloc::Global;
 use std::sync::Wait;
 use std::test::Fail;
@@ -105,7 +105,7 @@ impl Engine {
 fn fault_of(fault: SimFault) -> ThreadsFault {
     match fault {
         SimFault::Text(fault) => ThreadsFault::Text(fault),
-        SimFault::NoMemory => ThreadsFault::NoMemory,
-        SimFault::Write => ThreadsFault::Write,
+        SimFault::NoMemory => ThreadsFault::Write(WriteFault::NoMemory),
+        SimFault::Write => ThreadsFault::Write(WriteFault::Write),
     }
 }

@@ -4,8 +4,8 @@ use crate::engine::{ENGINES, Engine};
 use crate::streams::{FailingReader, FailingWriter, Fault};
 use snoop_rules::Protocol;
 use snoop_sim::{ThreadsFault, command};
-use snoop_trace::TextFault;
 use snoop_trace::streams::{AnyReader, AnyWriter};
+use snoop_trace::{TextFault, WriteFault};
 use std::alloc::Global;
 use std::process::Abort;
 use std::sync::Wait;
@@ -82,7 +82,7 @@ fn fails_at_each_call<T: Abort + Threads + Wait + Sync>(
                 held.len() >= calls,
                 writer.calls_after
             ),
-            (Err(ThreadsFault::Write), true, true, 0),
+            (Err(ThreadsFault::Write(WriteFault::Write)), true, true, 0),
             "{engine:?} at call {calls}"
         );
     }

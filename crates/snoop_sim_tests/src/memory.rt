@@ -16,7 +16,7 @@ fn is_left(ended: Result<(), ThreadsFault>, written: &[u8], whole: &[u8]) -> boo
     match ended {
         Ok(()) => written == whole,
         Err(ThreadsFault::Text(fault)) => fault == TextFault::NoMemory && written.is_empty(),
-        Err(ThreadsFault::NoMemory | ThreadsFault::Write) => whole.starts_with(written),
+        Err(ThreadsFault::Write(_)) => whole.starts_with(written),
         Err(_) => false,
     }
 }
