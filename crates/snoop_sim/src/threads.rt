@@ -57,8 +57,9 @@ fn take_rows<T: Threads + Wait + Sync>(
     ensures ok { IfOk result (λ steps. Threaded protocol shape rows.items steps.items) }
     ensures err { IfErr result IsOfThreads }
 {
-    let (shared, mut seats, watches) =
-        Shared::new(rt, alloc, protocol, shape, 0).map_err(ThreadsFault::Make)?;
+    let (shared, mut seats, watches) = Shared::new(rt, alloc, protocol, shape, 0).map_err(
+        ThreadsFault::Make,
+    )?;
     watches.destroy_empty();
     let steps = take_seated(rt, alloc, &shared, &mut seats, &rows);
     end_seats(rt, seats);
