@@ -30,6 +30,7 @@ pub record Records (r : Inside) : Type 0 where
   pub ready : r.writer.ready ≡ []
   pub cores : r.writer.cores ≡ r.machine.situation.shape.cores
   pub blocks : r.writer.blocks ≡ r.machine.situation.shape.blocks
+  pub words : r.writer.words ≡ r.machine.situation.shape.words
 
 -- one step is taken: it is a move, stands last among the steps, and its item is published
 pub record Takes (step : Step) (answer : Reply) (p q : Recording) : Type 0 where

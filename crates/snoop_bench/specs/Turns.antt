@@ -69,7 +69,7 @@ Asked _ core work given p q = ⊥
 
 -- a turn in its case
 abbrev pub TurnsIn : Case → ℕ → Work → Turn → Locked → Locked → Type 0
-TurnsIn asks core work given p q = (answer : Reply) × (Takes (Ask core work.block work.op) answer (record_of p) (record_of q) × Asked answer core work given p q)
+TurnsIn asks core work given p q = (answer : Reply) × (Takes (Ask core work.block work.word work.op) answer (record_of p) (record_of q) × Asked answer core work given p q)
 TurnsIn orders core work given p q = (answer : Reply) × (Takes (Order core) answer (record_of p) (record_of q) × ((given ≡ turn.Going) × (q.works ≡ p.works)))
 TurnsIn helps core work given p q = (answer : Reply) × (Takes (Respond work.block) answer (record_of p) (record_of q) × ((given ≡ turn.Going) × (q.works ≡ p.works)))
 TurnsIn ends core work given p q = (answer : Reply) × (Takes (Respond work.block) answer (record_of p) (record_of q) × (Finishes q.situation core work work.op given × (q.works ≡ slice_set p.works core None)))

@@ -4,6 +4,7 @@ use Rattle.std.specs.Prelude.{◌≡◌, ℕ, List, Option, true, false, slice_g
 use Rattle.snoop_trace.specs.declared.step.Op.{Op}
 use Rattle.snoop_trace.specs.declared.step.Op.TheVariants as op
 use Rattle.snoop_history.specs.declared.items.Did.{Did}
+use Rattle.snoop_model.specs.declared.line.Access.{Access}
 use Rattle.snoop_bench.specs.declared.work.Work.{Work}
 
 -- the core's work under way, if any
@@ -14,6 +15,10 @@ work_at works core = option_and_then (λ work. work) (slice_get works core)
 abbrev pub under_way : List (Option Work) → ℕ → Option ℕ
 under_way works core = option_map (λ work. work.block) (work_at works core)
 
+-- the operation of a work, on its word
+abbrev pub access_of : Work → Access
+access_of work = record { word = work.word; op = work.op }
+
 -- the operation is a load, or a store of the value; an eviction is none
 abbrev pub IsOp : Op → Did → Type 0
 IsOp op.Load did = did.load ≡ true
@@ -22,4 +27,4 @@ IsOp op.Evict did = ⊥
 
 -- the operation does the work
 abbrev pub Does : Did → Work → Type 0
-Does did work = (did.block ≡ work.block) × IsOp work.op did
+Does did work = (did.block ≡ work.block) × (did.word ≡ work.word) × IsOp work.op did

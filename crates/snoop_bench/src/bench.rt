@@ -1,8 +1,9 @@
 //! The value under the lock.
-ghost use Rattle.std.specs.Prelude.{◌≡◌, ◌≢◌, ◌<◌, ◌^◌, true, false, is_some, length, IsOk, IfOk, IfErr, OnOk, OnErr, Err, Some, None, slice_set};
+ghost use Rattle.std.specs.Prelude.{◌≡◌, ◌≢◌, ◌<◌, ◌^◌, ◌↔◌, IsTrue, true, false, is_some, length, IsOk, IfOk, IfErr, OnOk, OnErr, Err, Some, None, slice_set};
 ghost use Rattle.snoop_rules.specs.Waits.{waiting_request};
 ghost use Rattle.snoop_model.specs.declared.replies.Reply.{Reply};
 ghost use Rattle.snoop_model.specs.Pictures.Situation.{state_of};
+ghost use Rattle.snoop_model.specs.Moves.Move.{IsWordWithin};
 ghost use Rattle.snoop_model.specs.Runs.Safe.{IsSafe};
 ghost use Rattle.snoop_model.specs.Turns.Turn.{turn_of};
 ghost use Rattle.snoop_bench.specs.declared.work.AdvanceFault.{AdvanceFault};
@@ -19,7 +20,7 @@ use crate::work::{AdvanceFault, Turn, Work};
 use snoop_history::Log;
 use snoop_machine::turns_are_served;
 use snoop_rules::Protocol;
-use snoop_trace::{NoMemory, Shape, Step};
+use snoop_trace::{NoMemory, Op, Shape, Step};
 use snoop_versions::Readers;
 use std::alloc::Global;
 use std::marker::Model;
@@ -129,13 +130,13 @@ impl Bench {
         ensures exactly { (fault : AdvanceFault) → MustRefuse fault core work self.old → result ≡ Err fault }
 
         // A turn that takes no step takes no memory.
-        ensures closed { IsInside core work self.old → work_at self.old.works core ≡ Some work → turn_of self.old.situation core work.block work.op true ≡ None → IsOk result }
+        ensures closed { IsInside core work self.old → work_at self.old.works core ≡ Some work → turn_of self.old.situation core work.block work.word work.op true ≡ None → IsOk result }
     {
         let shape = self.shape();
         if core >= shape.cores() {
             return Err(AdvanceFault::NoCore);
         }
-        if work.block >= shape.blocks() {
+        if work.block >= shape.blocks() || !self.has_word(work) {
             return Err(AdvanceFault::NoBlock);
         }
         let Some(under_way) = self.work(core) else {
@@ -153,6 +154,16 @@ impl Bench {
         Ok(turn)
     }
 
+    // Whether the work is of a word that there is. An eviction's word is not looked at.
+    fn has_word(&self, work: Work) -> bool
+        ensures { IsTrue result ↔ IsWordWithin self.now.situation work.word work.op }
+    {
+        match work.op {
+            Op::Load | Op::Store(_) => work.word < self.shape().words(),
+            Op::Evict => true,
+        }
+    }
+
     // The core, which has no work under way, asks.
     fn begin<R: Wait>(&mut self, rt: &R, core: u32, work: Work) -> Result<Turn, NoMemory>
         requires inside { IsInside core work self.old }
@@ -165,6 +176,7 @@ impl Bench {
         let step = Step::Ask {
             core,
             block: work.block,
+            word: work.word,
             op: work.op,
         };
         let reply = self.recorder.take(rt, step)?;
@@ -179,10 +191,10 @@ impl Bench {
         requires its { work_at self.old.works core ≡ Some work }
         ensures ok { IfOk result (λ given. Turns core work given self.old self.new) }
         ensures err { OnErr result (self.new ≡ self.old) }
-        ensures closed { turn_of self.old.situation core work.block work.op true ≡ None → IsOk result }
+        ensures closed { turn_of self.old.situation core work.block work.word work.op true ≡ None → IsOk result }
     {
         let machine = self.recorder.machine();
-        let Some(step) = machine.turn_step(core, work.block, work.op, true) else {
+        let Some(step) = machine.turn_step(core, work.block, work.word, work.op, true) else {
             return Ok(self.close(core, work));
         };
         if machine.waits_on(core, work.block) {
@@ -197,7 +209,7 @@ impl Bench {
     fn serve<R: Wait>(&mut self, rt: &R, core: u32, work: Work, step: Step) -> Result<(), NoMemory>
         requires inside { IsInside core work self.old }
         requires its { work_at self.old.works core ≡ Some work }
-        requires step { turn_of self.old.situation core work.block work.op true ≡ Some step }
+        requires step { turn_of self.old.situation core work.block work.word work.op true ≡ Some step }
         requires waits { is_some (waiting_request (state_of self.old.situation core work.block)) ≡ true }
         ensures ok { OnOk result ((answer : Reply) × (Takes step answer (record_of self.old) (record_of self.new) × (self.new.works ≡ self.old.works))) }
         ensures err { OnErr result (self.new ≡ self.old) }
@@ -219,7 +231,7 @@ impl Bench {
     ) -> Result<Turn, NoMemory>
         requires inside { IsInside core work self.old }
         requires its { work_at self.old.works core ≡ Some work }
-        requires step { turn_of self.old.situation core work.block work.op true ≡ Some step }
+        requires step { turn_of self.old.situation core work.block work.word work.op true ≡ Some step }
         requires waits { is_some (waiting_request (state_of self.old.situation core work.block)) ≡ false }
         ensures ok { IfOk result (λ given. TurnsIn ends core work given self.old self.new) }
         ensures err { OnErr result (self.new ≡ self.old) }
@@ -237,7 +249,7 @@ impl Bench {
     fn close(&mut self, core: u32, work: Work) -> Turn
         requires inside { IsInside core work self.old }
         requires its { work_at self.old.works core ≡ Some work }
-        requires closed { turn_of self.old.situation core work.block work.op true ≡ None }
+        requires closed { turn_of self.old.situation core work.block work.word work.op true ≡ None }
         ensures { TurnsIn over core work result self.old self.new }
     {
         turns_are_served();

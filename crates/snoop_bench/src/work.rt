@@ -2,10 +2,11 @@
 use snoop_trace::Op;
 use thiserror::Error;
 
-/// What a core is to do: a load, a store or an eviction of a block.
+/// What a core is to do: a load or a store of a word of a block, or an eviction of the block, whose word is not looked at.
 #[derive(Clone, Copy, Debug, PartialEq, Eq)]
 pub struct Work {
     pub block: u32,
+    pub word: u32,
     pub op: Op,
 }
 

@@ -37,7 +37,7 @@ abbrev pub AreBlocksWithin : List Waiting → ℕ → Type 0
 AreBlocksWithin queues blocks = All (λ queue. All (λ r. r.1 < blocks) queue.requests) queues
 
 -- the core's oldest request leaves its queue, which has room for one more, and its transaction opens with this message
-pub record Starts (old new : Traffic) (core : ℕ) (request : Request) (block : ℕ) (payload : Payload) (value : ℕ) (from : Option ℕ) : Type 0 where
+pub record Starts (old new : Traffic) (core : ℕ) (request : Request) (block : ℕ) (payload : Payload) (value : List ℕ) (from : Option ℕ) : Type 0 where
   pub room : ℕ
   pub more : room ≡ (waiting_of old core).room + 1
   pub queues : new.queues ≡ slice_set old.queues core (record { requests = drop 1 (waiting_of old core).requests; room = room })

@@ -6,7 +6,7 @@ use crate::queues::Queue;
 use crate::transactions::Open;
 use snoop_blocks::BlockTable;
 use snoop_rules::{Payload, Request};
-use snoop_trace::{NoMemory, Shape};
+use snoop_trace::{NoMemory, Shape, Words};
 use std::alloc::Global;
 use std::marker::Model;
 
@@ -104,7 +104,7 @@ impl Bus {
 
     /// Orders the core's oldest request: it leaves the queue, and its transaction opens with the
     /// message that the core `from`, or memory, sends.
-    pub fn start(&mut self, core: u32, payload: Payload, value: u64, from: Option<u32>)
+    pub fn start(&mut self, core: u32, payload: Payload, value: Words, from: Option<u32>)
         requires core { core < length self.old.queues }
         requires head { IsSome (head_of self.old core) }
         requires free { IfSome (head_of self.old core) (λ head. transaction_on self.old head.1 ≡ None) }

@@ -77,7 +77,7 @@ module _ (shape : Extent) (start here : Progress) (a b : Option (List ℕ)) (chu
 module _ (protocol : Protocol) (shape : Extent) (rows : List Row) (start : Progress) (at : start.situation ≡ reset protocol shape)
     (left : (core : ℕ) → (todo_of start.lanes core).left ≡ works_of shape rows core) (all : left_in start.lanes ≡ length rows) where
   -- all was written
-  pub reports_run : (end : Progress) (items : List Item) (a b c : Option (List ℕ)) → items ≡ end.situation.log → WritesDriven shape start end a b → Appends b c (report_of items)
+  pub reports_run : (end : Progress) (items : List Item) (a b c : Option (List ℕ)) → items ≡ end.situation.log → WritesDriven shape start end a b → Appends b c (report_of shape.words items)
       → ReportsRun protocol shape rows a c
   reports_run end items a b c last far p = record {
     steps = far.steps;
@@ -85,12 +85,12 @@ module _ (protocol : Protocol) (shape : Extent) (rows : List Row) (start : Progr
     final = end.situation;
     run = subst (λ (s : Situation). FirstRunFrom s far.steps far.outcomes end.situation) at far.way.run;
     serves = end_serves protocol shape rows start far.steps far.outcomes end.situation at left all far.way;
-    output = appends_more a b c (line_texts shape far.steps far.outcomes) (report_of end.situation.log) far.lines (subst (λ (l : List Item). Appends b c (report_of l)) last p);
+    output = appends_more a b c (line_texts shape far.steps far.outcomes) (report_of shape.words end.situation.log) far.lines (subst (λ (l : List Item). Appends b c (report_of shape.words l)) last p);
   }
 
   -- the report was cut
   pub begins_run_report : (end : Progress) (items : List Item) (a b c : Option (List ℕ)) → items ≡ end.situation.log → WritesDriven shape start end a b
-      → AppendsFront b c (report_of items) → BeginsRun protocol shape rows a c
+      → AppendsFront b c (report_of shape.words items) → BeginsRun protocol shape rows a c
   begins_run_report end items a b c last far cut =
       let serves = end_serves protocol shape rows start far.steps far.outcomes end.situation at left all far.way in
       record {
@@ -100,7 +100,7 @@ module _ (protocol : Protocol) (shape : Extent) (rows : List Row) (start : Progr
         run = subst (λ (s : Situation). FirstRunFrom s far.steps far.outcomes end.situation) at far.way.run;
         taken = far.way.taken;
         asked = λ core. ([], sym (serves.asked core) ∙ sym (append-nil _));
-        output = inr (serves, front_after a b c (line_texts shape far.steps far.outcomes) (report_of end.situation.log) far.lines (subst (λ (l : List Item). AppendsFront b c (report_of l)) last cut));
+        output = inr (serves, front_after a b c (line_texts shape far.steps far.outcomes) (report_of shape.words end.situation.log) far.lines (subst (λ (l : List Item). AppendsFront b c (report_of shape.words l)) last cut));
       }
 
   -- the lines were cut

@@ -103,7 +103,7 @@ module _ (rule : TurnRule) (s : Situation) (lanes : List Todo) (turns : List ℕ
         work = subst W (sym idle) tt;
       })
 
-  pub goes_begun : IsOver lanes s core → (w : Work) → w.block < s.shape.blocks → (r : Option Step) → r ≡ Some (Ask core w.block w.op) → IfSome r (IsEnabled s)
+  pub goes_begun : IsOver lanes s core → (w : Work) → w.block < s.shape.blocks → (r : Option Step) → r ≡ Some (Ask core w.block w.word w.op) → IfSome r (IsEnabled s)
   goes_begun over w has_block None is = tt
   goes_begun over w has_block (Some step) is =
       let bare : ℕ → Option ℕ = λ k. cond {A = Option ℕ} (eqb k core) None (under_way lanes k) in
@@ -113,7 +113,7 @@ module _ (rule : TurnRule) (s : Situation) (lanes : List Todo) (turns : List ℕ
 
 -- the step asks the first of what the core had left
 pub takes_first : (lanes : List Todo) (core : ℕ) (next : Todo) (w : Work) → core < length lanes → (todo_of lanes core).left ≡ w ∷ next.left
-    → (r : Option Step) → r ≡ Some (Ask core w.block w.op) → IfSome r (λ step. TakesUp lanes step (slice_set lanes core next))
+    → (r : Option Step) → r ≡ Some (Ask core w.block w.word w.op) → IfSome r (λ step. TakesUp lanes step (slice_set lanes core next))
 takes_first lanes core next w has_lane first None is = tt
 takes_first lanes core next w has_lane first (Some step) is = λ k.
     (let P : Step → Type 0 = λ x. (todo_of lanes k).left ≡ option_to_list (ask_of k x) ++ (todo_of (slice_set lanes core next) k).left in
@@ -127,7 +127,7 @@ takes_first lanes core next w has_lane first (Some step) is = λ k.
     ]))
 
 pub same_shape : (s t : Situation) (step : Step) (answer : Reply) (entry : Option Item) → FirstMove s step answer t entry → t.shape ≡ s.shape
-same_shape s t (Ask core on asking) answer entry m = elim m.1.1.2 [ inl absent ↦ ap (λ (x : Situation). x.shape) absent.3 | inr asks ↦ ap (λ (x : Situation). x.shape) asks.after ]
+same_shape s t (Ask core on word asking) answer entry m = elim m.1.1.2 [ inl absent ↦ ap (λ (x : Situation). x.shape) absent.3 | inr asks ↦ ap (λ (x : Situation). x.shape) asks.after ]
 same_shape s t (Order core) answer entry m = ap (λ (x : Situation). x.shape) m.1.1.1.3.after
 same_shape s t (Respond on) answer entry m = ap (λ (x : Situation). x.shape) m.1.1.1.1.4.after
 

@@ -43,24 +43,24 @@ front_after a b c text more p cut =
 
 -- all was written
 pub reports : (protocol : Protocol) (shape : Extent) (steps : List Step) (from to : Situation) (items : List Item) (a b c : Option (List ℕ))
-    → from ≡ reset protocol shape → items ≡ to.log → WritesLines shape from steps to a b → Appends b c (report_of items) → Reports protocol shape steps a c
+    → from ≡ reset protocol shape → items ≡ to.log → WritesLines shape from steps to a b → Appends b c (report_of shape.words items) → Reports protocol shape steps a c
 reports protocol shape steps from to items a b c start last far p =
     record {
       outcomes = far.outcomes;
       final = to;
       run = subst (λ (s : Situation). FirstRunFrom s steps far.outcomes to) start far.run;
-      output = appends_more a b c (line_texts shape steps far.outcomes) (report_of to.log) far.lines (subst (λ (l : List Item). Appends b c (report_of l)) last p);
+      output = appends_more a b c (line_texts shape steps far.outcomes) (report_of shape.words to.log) far.lines (subst (λ (l : List Item). Appends b c (report_of shape.words l)) last p);
     }
 
 -- the report was cut
 pub begins_report : (protocol : Protocol) (shape : Extent) (steps : List Step) (from to : Situation) (items : List Item) (a b c : Option (List ℕ))
-    → from ≡ reset protocol shape → items ≡ to.log → WritesLines shape from steps to a b → AppendsFront b c (report_of items) → Begins protocol shape steps a c
+    → from ≡ reset protocol shape → items ≡ to.log → WritesLines shape from steps to a b → AppendsFront b c (report_of shape.words items) → Begins protocol shape steps a c
 begins_report protocol shape steps from to items a b c start last far cut =
     record {
       outcomes = far.outcomes;
       final = to;
       run = subst (λ (s : Situation). FirstRunFrom s steps far.outcomes to) start far.run;
-      output = front_after a b c (line_texts shape steps far.outcomes) (report_of to.log) far.lines (subst (λ (l : List Item). AppendsFront b c (report_of l)) last cut);
+      output = front_after a b c (line_texts shape steps far.outcomes) (report_of shape.words to.log) far.lines (subst (λ (l : List Item). AppendsFront b c (report_of shape.words l)) last cut);
     }
 
 -- the lines of a run that goes on
@@ -90,15 +90,15 @@ begins_lines go_on protocol shape steps from a b start far =
     let final = further.1.0 in
     let lines : List ℕ = line_texts shape far.first far.outcomes in
     let later : List ℕ = line_texts shape far.rest more in
-    let text : line_texts shape steps (far.outcomes ++ more) ++ report_of final.log ≡ lines ++ (later ++ report_of final.log) =
-    ap (λ (l : List Step). line_texts shape l (far.outcomes ++ more) ++ report_of final.log) far.whole
-    ∙ (ap (λ (t : List ℕ). t ++ report_of final.log) (line_texts_on shape far.first far.rest far.outcomes more (reset protocol shape) far.to run)
-    ∙ append_assoc lines later (report_of final.log)) in
+    let text : line_texts shape steps (far.outcomes ++ more) ++ report_of shape.words final.log ≡ lines ++ (later ++ report_of shape.words final.log) =
+    ap (λ (l : List Step). line_texts shape l (far.outcomes ++ more) ++ report_of shape.words final.log) far.whole
+    ∙ (ap (λ (t : List ℕ). t ++ report_of shape.words final.log) (line_texts_on shape far.first far.rest far.outcomes more (reset protocol shape) far.to run)
+    ∙ append_assoc lines later (report_of shape.words final.log)) in
     record {
       outcomes = far.outcomes ++ more;
       final = final;
       run = subst (λ (l : List Step). TheRun protocol shape l (far.outcomes ++ more) final) (sym far.whole) (runs_on far.first far.rest far.outcomes more (reset protocol shape) far.to final run further.1.1);
-      output = subst (λ (t : List ℕ). AppendsFront a b t) (sym text) (front_of_longer a b lines (later ++ report_of final.log) far.lines);
+      output = subst (λ (t : List ℕ). AppendsFront a b t) (sym text) (front_of_longer a b lines (later ++ report_of shape.words final.log) far.lines);
     }
 
 -- nothing was written
@@ -109,7 +109,7 @@ begins_nothing go_on protocol shape steps a =
       outcomes = all.0;
       final = all.1.0;
       run = all.1.1;
-      output = record { front = []; rest = line_texts shape steps all.0 ++ report_of all.1.0.log; whole = refl; appends = appends_none a };
+      output = record { front = []; rest = line_texts shape steps all.0 ++ report_of shape.words all.1.0.log; whole = refl; appends = appends_none a };
     }
 
 -- a failed write, or out of memory, after the whole text was read

@@ -12,13 +12,13 @@ use Rattle.snoop_engine.specs.declared.packed.Head.{Head}
 
 -- a shape as large as there is
 abbrev pub largest : Extent
-largest = record { cores = 256; blocks = 65536; block_bytes = 1 }
+largest = record { cores = 256; blocks = 65536; block_bytes = 4096; words = 64 }
 
 -- a step of this kind, of a head's core and block, that stores this value where it stores
 abbrev pub step_by : Kind → Head → ℕ → Step
-step_by kind.Load head value = Ask head.core head.block op.Load
-step_by kind.Store head value = Ask head.core head.block (op.Store value)
-step_by kind.Evict head value = Ask head.core head.block op.Evict
+step_by kind.Load head value = Ask head.core head.block head.word op.Load
+step_by kind.Store head value = Ask head.core head.block head.word (op.Store value)
+step_by kind.Evict head value = Ask head.core head.block head.word op.Evict
 step_by kind.Order head value = Order head.core
 step_by kind.Respond head value = Respond head.block
 
@@ -28,7 +28,7 @@ step_of head value = step_by head.kind head value
 
 -- what the step stores, as a list
 abbrev pub values_of : Step → List ℕ
-values_of (Ask core block (op.Store value)) = value ∷ []
+values_of (Ask core block word (op.Store value)) = value ∷ []
 values_of _ = []
 
 -- this kind of step stores a value

@@ -26,14 +26,14 @@ pub record Reports (protocol : Protocol) (shape : Extent) (steps : List Step) (o
   pub outcomes : List (Result Reply Refused)
   pub final : Situation
   pub run : TheRun protocol shape steps outcomes final
-  pub output : Appends old new (line_texts shape steps outcomes ++ report_of final.log)
+  pub output : Appends old new (line_texts shape steps outcomes ++ report_of shape.words final.log)
 
 -- the writer got a beginning of that
 pub record Begins (protocol : Protocol) (shape : Extent) (steps : List Step) (old new : Option (List ℕ)) : Type 0 where
   pub outcomes : List (Result Reply Refused)
   pub final : Situation
   pub run : TheRun protocol shape steps outcomes final
-  pub output : AppendsFront old new (line_texts shape steps outcomes ++ report_of final.log)
+  pub output : AppendsFront old new (line_texts shape steps outcomes ++ report_of shape.words final.log)
 
 -- the whole text was read and its whole output written; or nothing was written; or a beginning of the output
 abbrev pub Simulates : Protocol → Extent → Option (List ℕ) → Result (Unit {0}) SimFault → Option (List ℕ) → Option (List ℕ) → Type 0

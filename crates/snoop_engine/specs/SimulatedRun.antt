@@ -32,7 +32,7 @@ pub record ReportsRun (protocol : Protocol) (shape : Extent) (rows : List Row) (
   pub final : Situation
   pub run : TheRun protocol shape steps outcomes final
   pub serves : Serves shape rows steps outcomes final
-  pub output : Appends old new (line_texts shape steps outcomes ++ report_of final.log)
+  pub output : Appends old new (line_texts shape steps outcomes ++ report_of shape.words final.log)
 
 -- a core's first rows: the others are left
 abbrev pub IsBeginningOf : List Work → List Work → Type 0
@@ -48,7 +48,7 @@ pub record BeginsRun (protocol : Protocol) (shape : Extent) (rows : List Row) (o
   pub asked : (core : ℕ) → IsBeginningOf (asks_of steps core) (works_of shape rows core)
   pub output :
       AppendsFront old new (line_texts shape steps outcomes)
-      ⊎ (Serves shape rows steps outcomes reached × AppendsFront old new (line_texts shape steps outcomes ++ report_of reached.log))
+      ⊎ (Serves shape rows steps outcomes reached × AppendsFront old new (line_texts shape steps outcomes ++ report_of shape.words reached.log))
 
 -- the whole text was read and its rows served, with all of it written; or nothing was written; or a beginning
 abbrev pub SimulatesRun : Protocol → Extent → Option (List ℕ) → Result (Unit {0}) SimFault → Option (List ℕ) → Option (List ℕ) → Type 0

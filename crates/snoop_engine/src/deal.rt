@@ -20,7 +20,12 @@ pub(crate) fn deal(alloc: Global, shape: Shape, rows: &[Row]) -> Result<Vec<Lane
     let mut lanes = empty_lanes(alloc, shape)?;
     for row in rows {
         let block = shape.block_of(row.address).unwrap();
-        lanes[row.core as usize].push(Work { block, op: row.op })?;
+        let work = Work {
+            block,
+            word: shape.word_asked(row.address, row.op),
+            op: row.op,
+        };
+        lanes[row.core as usize].push(work)?;
     }
     Ok(lanes)
 }

@@ -20,12 +20,13 @@ pub(crate) enum Kind {
     Respond,
 }
 
-/// A step of the largest shape or a smaller one, without the value that it stores: 4 bytes where `Step` has 24. A field
+/// A step of the largest shape or a smaller one, without the value that it stores: 6 bytes where `Step` has 32. A field
 /// that its kind does not need is arbitrary.
 #[derive(Clone, Copy, Debug)]
 pub(crate) struct Head {
     block: u16,
     core: u8,
+    word: u8,
     kind: Kind,
 }
 
@@ -37,9 +38,15 @@ impl Head {
         ensures stores { one_if (is_store result.kind) ≡ length (values_of step) }
     {
         match step {
-            Step::Ask { core, block, op } => Head {
+            Step::Ask {
+                core,
+                block,
+                word,
+                op,
+            } => Head {
                 block: block as u16,
                 core: core as u8,
+                word: word as u8,
                 kind: match op {
                     Op::Load => Kind::Load,
                     Op::Store(_) => Kind::Store,
@@ -49,11 +56,13 @@ impl Head {
             Step::Order { core } => Head {
                 block: 0,
                 core: core as u8,
+                word: 0,
                 kind: Kind::Order,
             },
             Step::Respond { block } => Head {
                 block: block as u16,
                 core: 0,
+                word: 0,
                 kind: Kind::Respond,
             },
         }
@@ -65,20 +74,24 @@ impl Head {
     {
         let core = self.core as u32;
         let block = self.block as u32;
+        let word = self.word as u32;
         match self.kind {
             Kind::Load => Step::Ask {
                 core,
                 block,
+                word,
                 op: Op::Load,
             },
             Kind::Store => Step::Ask {
                 core,
                 block,
+                word,
                 op: Op::Store(value),
             },
             Kind::Evict => Step::Ask {
                 core,
                 block,
+                word,
                 op: Op::Evict,
             },
             Kind::Order => Step::Order { core },

@@ -23,8 +23,8 @@ arrives_get GetM closing p log old new did get fills = fills
 arrives_get PutM closing p log old new did get fills = absurd (get refl)
 
 pub Arrives-get : (closing : Open) (p : Protocol) (log : List Item) (caches : List Line) (filled : Filled) → closing.request ≢ PutM
-    → Fills closing p (held_at caches closing.core) filled.line filled.op filled.value
-    → ArrivesFor closing.request closing p log caches (slice_set caches closing.core filled.line) (Some (next_did log closing.core closing.block filled.op filled.value false))
+    → Fills closing p (held_at caches closing.core) filled.line filled.access filled.value
+    → ArrivesFor closing.request closing p log caches (slice_set caches closing.core filled.line) (Some (next_did log closing.core closing.block filled.access.word filled.access.op filled.value false))
 Arrives-get closing p log caches filled get f =
-    arrives_get closing.request closing p log caches (slice_set caches closing.core filled.line) (Some (next_did log closing.core closing.block filled.op filled.value false)) get
-    (record { line = filled.line; asking = filled.op; value = filled.value; fills = f; held = refl; logged = refl })
+    arrives_get closing.request closing p log caches (slice_set caches closing.core filled.line) (Some (next_did log closing.core closing.block filled.access.word filled.access.op filled.value false)) get
+    (record { line = filled.line; asking = filled.access; value = filled.value; fills = f; held = refl; logged = refl })

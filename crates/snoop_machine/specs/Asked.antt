@@ -1,6 +1,6 @@
 -- What an Ask does to one line.
 -- Source: this project's profile.
-use Rattle.std.specs.Prelude.{◌≡◌}
+use Rattle.std.specs.Prelude.{◌≡◌, ℕ}
 use Rattle.snoop_trace.specs.declared.step.Op.{Op}
 use Rattle.snoop_trace.specs.declared.step.Op.TheVariants as op
 use Rattle.snoop_rules.specs.declared.names.Protocol.{Protocol}
@@ -17,12 +17,12 @@ use Rattle.snoop_model.specs.declared.replies.Refused.TheVariants.{Stalled}
 use Rattle.snoop_model.specs.Moves.Move.{Hits, moves_to, moves_waiting}
 
 -- the line takes the row of an Ask
-abbrev pub TakesAsk : Protocol → Line → Op → Asked → Type 0
-TakesAsk protocol old asking Absent = (asking ≡ op.Evict) × (old.state ≡ state.I)
-TakesAsk protocol old asking (Hit new value) = (next : CacheState) × (Cell protocol old.state (asked asking) action.Hit next × Hits next old new asking value)
-TakesAsk protocol old asking (Issue request new) =
-    (next : CacheState) × (Cell protocol old.state (asked asking) (action.Issue request) next × (new ≡ moves_waiting next asking old))
-TakesAsk protocol old asking (Drop new) = (next : CacheState) × (Cell protocol old.state (asked asking) action.Drop next × (new ≡ moves_to next old))
+abbrev pub TakesAsk : Protocol → Line → ℕ → Op → Asked → Type 0
+TakesAsk protocol old word asking Absent = (asking ≡ op.Evict) × (old.state ≡ state.I)
+TakesAsk protocol old word asking (Hit new value) = (next : CacheState) × (Cell protocol old.state (asked asking) action.Hit next × Hits next old new word asking value)
+TakesAsk protocol old word asking (Issue request new) =
+    (next : CacheState) × (Cell protocol old.state (asked asking) (action.Issue request) next × (new ≡ moves_waiting next word asking old))
+TakesAsk protocol old word asking (Drop new) = (next : CacheState) × (Cell protocol old.state (asked asking) action.Drop next × (new ≡ moves_to next old))
 
 -- why the Ask is refused on this line
 abbrev pub RefusesAsk : Protocol → Line → Op → Refused → Type 0

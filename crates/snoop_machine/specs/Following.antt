@@ -27,5 +27,5 @@ AddsLinesToAsk _ asker block old new core = lines_of new core ≡ lines_of old c
 
 -- the room for a step adds one line at most, and only where it is an Ask that issues a request that has no line yet
 abbrev pub AddsLines : Plan → Standing → Standing → ℕ → Type 0
-AddsLines (Ask asker block asking way) old new core = AddsLinesToAsk way asker block old new core
+AddsLines (Ask asker block word asking way) old new core = AddsLinesToAsk way asker block old new core
 AddsLines _ old new core = lines_of new core ≡ lines_of old core

@@ -42,3 +42,4 @@ pub record IsWhole (m : Inside) : Type 0 where
   pub memory : length m.memory ≡ m.shape.blocks
   pub cores : m.log.cores ≡ m.shape.cores
   pub blocks : m.log.blocks ≡ m.shape.blocks
+  pub words : m.log.words ≡ m.shape.words

@@ -1,5 +1,6 @@
 //! The machine, as its users have it.
-ghost use Rattle.std.specs.Prelude.{◌≡◌, ◌<◌, ◌↔◌, ◌++◌, ℕ, [], ◌∷◌, length, Option, true, is_some, IsTrue, IsOk, IfOk, IfErr, IfSome, Ok, Err, Some, option_to_list};
+ghost use Rattle.std.specs.Prelude.{◌≡◌, ◌<◌, ◌↔◌, ◌++◌, ℕ, [], ◌∷◌, length, option_map, Option, true, is_some, IsTrue, IsOk, IfOk, IfErr, IfSome, Ok, Err, Some, option_to_list};
+ghost use Rattle.snoop_trace.specs.Words.{word_at};
 ghost use Rattle.snoop_trace.specs.declared.step.Step.{Step};
 ghost use Rattle.snoop_rules.specs.Waits.{waiting_request};
 ghost use Rattle.snoop_bus.specs.Queues.{queue_of};
@@ -129,15 +130,16 @@ impl Machine {
         self.parts.state(core, block)
     }
 
-    /// The value that the core keeps of the block, which is that of the last store to it, or `None` outside the shape and in a
+    /// The value of a word that the core keeps, which is that of the last store to it, or `None` outside the shape and in a
     /// state that may not read.
-    pub fn kept(&self, core: u32, block: u32) -> Option<u64>
-        ensures inside { core < self.now.situation.shape.cores → block < self.now.situation.shape.blocks → result ≡ (held_by (picture_of self.now.situation block) core).kept }
-        ensures readable { core < self.now.situation.shape.cores → block < self.now.situation.shape.blocks → is_some result ≡ keeps (state_of self.now.situation core block) }
-        ensures current { IfSome result (λ value. value ≡ flat self.now.situation.log block) }
-        ensures outside { IfSome result (λ _. (core < self.now.situation.shape.cores) × (block < self.now.situation.shape.blocks)) }
+    pub fn kept(&self, core: u32, block: u32, word: u32) -> Option<u64>
+        ensures inside { core < self.now.situation.shape.cores → block < self.now.situation.shape.blocks → word < self.now.situation.shape.words → result ≡ option_map (λ ws. word_at ws word) (held_by (picture_of self.now.situation block) core).kept }
+        ensures readable { core < self.now.situation.shape.cores → block < self.now.situation.shape.blocks → word < self.now.situation.shape.words → is_some result ≡ keeps (state_of self.now.situation core block) }
+        ensures current { IfSome result (λ value. value ≡ flat self.now.situation.log block word) }
+        ensures outside { IfSome result (λ _. (core < self.now.situation.shape.cores) × (block < self.now.situation.shape.blocks) × (word < self.now.situation.shape.words)) }
     {
-        self.parts.kept(core, block)
+        self.shape().within_limits();
+        self.parts.kept(core, block, word)
     }
 
     /// Memory's state of the block, or `None` outside the shape.
@@ -148,12 +150,12 @@ impl Machine {
         self.parts.mem_state(block)
     }
 
-    /// Memory's value of the block, or `None` outside the shape.
-    pub fn mem_value(&self, block: u32) -> Option<u64>
-        ensures inside { block < self.now.situation.shape.blocks → result ≡ Some (picture_of self.now.situation block).memory.value }
-        ensures outside { IfSome result (λ _. block < self.now.situation.shape.blocks) }
+    /// Memory's value of a word, or `None` outside the shape.
+    pub fn mem_value(&self, block: u32, word: u32) -> Option<u64>
+        ensures inside { block < self.now.situation.shape.blocks → word < self.now.situation.shape.words → result ≡ Some (word_at (picture_of self.now.situation block).memory.value word) }
+        ensures outside { IfSome result (λ _. (block < self.now.situation.shape.blocks) × (word < self.now.situation.shape.words)) }
     {
-        self.parts.mem_value(block)
+        self.parts.mem_value(block, word)
     }
 
     /// The block's open transaction, if there is one; `None` outside the shape.
@@ -192,7 +194,7 @@ impl Machine {
     /// The history of all that was performed, ordered and answered.
     pub fn log(&self) -> &Log
         ensures items { result.now.items ≡ self.now.situation.log }
-        ensures shape { (result.now.cores ≡ self.now.situation.shape.cores) × (result.now.blocks ≡ self.now.situation.shape.blocks) }
+        ensures shape { (result.now.cores ≡ self.now.situation.shape.cores) × (result.now.blocks ≡ self.now.situation.shape.blocks) × (result.now.words ≡ self.now.situation.shape.words) }
     {
         self.parts.log()
     }

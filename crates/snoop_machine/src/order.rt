@@ -1,5 +1,6 @@
 //! What an Order does to the lines of its block, and who sends.
 ghost use Rattle.std.specs.Prelude.{◌≡◌, ◌↔◌, IsTrue, ℕ, ◌<◌, List, [], length, Some, slice_index_or, slice_set, unwrap_or, if◌then◌else◌};
+ghost use Rattle.snoop_trace.specs.Words.{zero_words};
 ghost use Rattle.snoop_rules.specs.Waits.{waiting_request};
 ghost use Rattle.snoop_rules.specs.Takers.{seen_by, at_memory, carries_value};
 ghost use Rattle.snoop_model.specs.Pictures.Picture.{held_at};
@@ -16,6 +17,7 @@ use snoop_rules::{
     CacheAction, CacheEvent, CacheState, MemAction, MemCell, MemEvent, Payload, Protocol, Request,
     cache_cell, mem_cell,
 };
+use snoop_trace::Words;
 
 /// What a core sees of a request, its own or another's.
 pub(crate) fn event_seen(core: u32, requestor: u32, request: Request) -> CacheEvent
@@ -94,14 +96,14 @@ impl Lines {
     }
 }
 
-/// The value that the line's cache puts into a message.
-fn value_for(line: Line, payload: Payload) -> u64
-    ensures { result ≡ (if carries_value payload then unwrap_or line.kept 0 else 0) }
+/// The words that the line's cache puts into a message.
+fn words_for(line: Line, payload: Payload) -> Words
+    ensures { result ≡ (if carries_value payload then unwrap_or line.kept zero_words else zero_words) }
 {
     if carries(payload) {
-        line.kept.unwrap_or(0)
+        line.kept.unwrap_or(Words::zero())
     } else {
-        0
+        Words::zero()
     }
 }
 
@@ -112,7 +114,11 @@ fn message_of_memory(memory: MemLine, cell: MemCell) -> Option<Message>
     match cell.action {
         MemAction::Send(payload) => Some(Message {
             payload,
-            value: if carries(payload) { memory.value } else { 0 },
+            value: if carries(payload) {
+                memory.value
+            } else {
+                Words::zero()
+            },
             from: None,
         }),
         MemAction::None | MemAction::Write => None,
@@ -152,7 +158,7 @@ impl Lines {
             if let CacheAction::Send(payload, _) = cell.action {
                 return Message {
                     payload,
-                    value: value_for(line, payload),
+                    value: words_for(line, payload),
                     from: Some(core),
                 };
             }

@@ -1,9 +1,10 @@
 //! The parts of a machine, which its steps change one after another.
-ghost use Rattle.std.specs.Prelude.{◌≡◌, ◌<◌, ◌↔◌, ℕ, length, is_some, IsTrue, IfOk, IfSome, Some};
+ghost use Rattle.std.specs.Prelude.{◌≡◌, ◌<◌, ◌↔◌, ℕ, length, option_map, is_some, IsTrue, IfOk, IfSome, Some};
+ghost use Rattle.snoop_trace.specs.Words.{word_at};
 ghost use Rattle.snoop_bus.specs.Queues.{queue_of};
 ghost use Rattle.snoop_rules.specs.Waits.{waiting_request};
 ghost use Rattle.snoop_model.specs.Pictures.Picture.{first_memory, held_by};
-ghost use Rattle.snoop_model.specs.Pictures.Situation.{picture_of, reset, state_of};
+ghost use Rattle.snoop_model.specs.Pictures.Situation.{no_memory, picture_of, reset, state_of};
 ghost use Rattle.snoop_model.specs.Pictures.Sound.{IsProper, keeps, line_at};
 ghost use Rattle.snoop_model.specs.Moves.Move.{next_did};
 ghost use Rattle.snoop_model.specs.Moves.Standing.{lines_of};
@@ -18,17 +19,21 @@ use crate::lines::Lines;
 use snoop_blocks::BlockTable;
 use snoop_bus::{Bus, Open};
 use snoop_history::{Did, Log};
-use snoop_model::{Line, MemLine};
+use snoop_model::{Access, Line, MemLine};
 use snoop_rules::{CacheState, MemState, Protocol};
-use snoop_trace::{NoMemory, Op, Shape};
+use snoop_trace::{NoMemory, Op, Shape, Words};
 use std::alloc::Global;
 use std::marker::Model;
 
 /// What stands for memory's line of a block that there isn't.
-const NO_MEMORY: MemLine = MemLine {
-    state: MemState::IorS,
-    value: 0,
-};
+fn no_memory() -> MemLine
+    ensures { result ≡ no_memory }
+{
+    MemLine {
+        state: MemState::IorS,
+        value: Words::zero(),
+    }
+}
 
 /// The caches, memory, the bus that joins them, and the history of what they did.
 #[derive(Debug, Drop)]
@@ -65,7 +70,7 @@ impl Parts {
         let log = Log::new(alloc, shape)?;
         let first = MemLine {
             state: first_state(protocol),
-            value: 0,
+            value: Words::zero(),
         };
         let memory = BlockTable::new(alloc, shape.blocks(), first)?;
         Ok(Parts {
@@ -104,14 +109,14 @@ impl Parts {
         }
     }
 
-    /// The value that the core keeps of the block, or `None` outside the shape and in a state that may not read.
-    pub(crate) fn kept(&self, core: u32, block: u32) -> Option<u64>
-        ensures inside { core < self.now.situation.shape.cores → block < self.now.situation.shape.blocks → result ≡ (held_by (picture_of self.now.situation block) core).kept }
-        ensures readable { core < self.now.situation.shape.cores → block < self.now.situation.shape.blocks → is_some result ≡ keeps (state_of self.now.situation core block) }
-        ensures outside { IfSome result (λ _. (core < self.now.situation.shape.cores) × (block < self.now.situation.shape.blocks)) }
+    /// The value of a word that the core keeps, or `None` outside the shape and in a state that may not read.
+    pub(crate) fn kept(&self, core: u32, block: u32, word: u32) -> Option<u64>
+        ensures inside { core < self.now.situation.shape.cores → block < self.now.situation.shape.blocks → word < self.now.situation.shape.words → result ≡ option_map (λ ws. word_at ws word) (held_by (picture_of self.now.situation block) core).kept }
+        ensures readable { core < self.now.situation.shape.cores → block < self.now.situation.shape.blocks → word < self.now.situation.shape.words → is_some result ≡ keeps (state_of self.now.situation core block) }
+        ensures outside { IfSome result (λ _. (core < self.now.situation.shape.cores) × (block < self.now.situation.shape.blocks) × (word < self.now.situation.shape.words)) }
     {
-        if core < self.shape.cores() && block < self.shape.blocks() {
-            self.line(core, block).kept
+        if core < self.shape.cores() && block < self.shape.blocks() && word < self.shape.words() {
+            word_kept(self.line(core, block), word)
         } else {
             None
         }
@@ -126,13 +131,16 @@ impl Parts {
         Some(line.state)
     }
 
-    /// Memory's value of the block, or `None` outside the shape.
-    pub(crate) fn mem_value(&self, block: u32) -> Option<u64>
-        ensures inside { block < self.now.situation.shape.blocks → result ≡ Some (picture_of self.now.situation block).memory.value }
-        ensures outside { IfSome result (λ _. block < self.now.situation.shape.blocks) }
+    /// Memory's value of a word, or `None` outside the shape.
+    pub(crate) fn mem_value(&self, block: u32, word: u32) -> Option<u64>
+        ensures inside { block < self.now.situation.shape.blocks → word < self.now.situation.shape.words → result ≡ Some (word_at (picture_of self.now.situation block).memory.value word) }
+        ensures outside { IfSome result (λ _. (block < self.now.situation.shape.blocks) × (word < self.now.situation.shape.words)) }
     {
+        if word >= self.shape.words() {
+            return None;
+        }
         let line = self.memory.get(block)?;
-        Some(line.value)
+        Some(line.value.at(word))
     }
 
     /// The block's open transaction, if there is one.
@@ -175,7 +183,7 @@ impl Parts {
     /// The history of all that was performed, ordered and answered.
     pub(crate) fn log(&self) -> &Log
         ensures items { result.now.items ≡ self.now.situation.log }
-        ensures shape { (result.now.cores ≡ self.now.situation.shape.cores) × (result.now.blocks ≡ self.now.situation.shape.blocks) }
+        ensures shape { (result.now.cores ≡ self.now.situation.shape.cores) × (result.now.blocks ≡ self.now.situation.shape.blocks) × (result.now.words ≡ self.now.situation.shape.words) }
     {
         &self.log
     }
@@ -191,18 +199,31 @@ impl Parts {
     }
 
     /// The core's next operation, as the history will have it.
-    fn next_did(&self, core: u32, block: u32, op: Op, value: u64, hit: bool) -> Did
+    fn next_did(&self, core: u32, block: u32, access: Access, value: u64, hit: bool) -> Did
         requires { core < self.now.situation.shape.cores }
-        ensures { result ≡ next_did self.now.situation.log core block op value hit }
+        ensures { result ≡ next_did self.now.situation.log core block access.word access.op value hit }
     {
         Did {
             core,
             number: self.log.count(core).unwrap(),
             block,
-            load: matches!(&op, Op::Load),
+            word: access.word,
+            load: matches!(&access.op, Op::Load),
             value,
             hit,
         }
+    }
+}
+
+/// The value of a word that a line keeps, if it keeps any.
+fn word_kept(line: Line, word: u32) -> Option<u64>
+    requires { word < 64 }
+    ensures value { result ≡ option_map (λ ws. word_at ws word) line.kept }
+    ensures some { is_some result ≡ is_some line.kept }
+{
+    match line.kept {
+        Some(words) => Some(words.at(word)),
+        None => None,
     }
 }
 

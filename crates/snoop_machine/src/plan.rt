@@ -12,6 +12,7 @@ pub enum Plan {
     Ask {
         core: u32,
         block: u32,
+        word: u32,
         op: Op,
         asked: Asked,
     },

@@ -1,7 +1,7 @@
 //! What holds of every run: calls that do nothing, and ensure it.
 ghost use Rattle.std.specs.Prelude.{◌<◌, ℕ};
 ghost use Rattle.snoop_trace.specs.declared.step.Step.{Step};
-ghost use Rattle.snoop_history.specs.History.{flat, Legal};
+ghost use Rattle.snoop_history.specs.History.{flat_words, Legal};
 ghost use Rattle.snoop_model.specs.Pictures.Picture.{held_by};
 ghost use Rattle.snoop_model.specs.Pictures.Sound.{IsProper};
 ghost use Rattle.snoop_model.specs.Pictures.Situation.{picture_of};
@@ -29,8 +29,8 @@ ghost use Rattle.snoop_model.specs.Pictures.InQueue.{IsInQueue};
 pub fn coherent()
     ensures one_writer { EveryRun (λ protocol steps outcomes s. (block : ℕ) → OneWriter protocol (picture_of s block)) }
     ensures legal { EveryRun (λ protocol steps outcomes s. Legal s.log) }
-    ensures current { EveryRun (λ protocol steps outcomes s. (block : ℕ) → IsCurrent protocol (picture_of s block) (flat s.log block)) }
-    ensures memory { EveryRun (λ protocol steps outcomes s. (block : ℕ) → block < s.shape.blocks → IsMemoryCurrent protocol (picture_of s block) (flat s.log block)) }
+    ensures current { EveryRun (λ protocol steps outcomes s. (block : ℕ) → IsCurrent protocol (picture_of s block) (flat_words s.log block)) }
+    ensures memory { EveryRun (λ protocol steps outcomes s. (block : ℕ) → block < s.shape.blocks → IsMemoryCurrent protocol (picture_of s block) (flat_words s.log block)) }
     ensures opened { EveryRun (λ protocol steps outcomes s. (block : ℕ) → NamesItsBlock s block) }
     ensures once { EveryRun (λ protocol steps outcomes s. Once steps outcomes s) }
     ensures possible { EveryRun (λ protocol steps outcomes s. (step : Step) → FindsRows s step) }

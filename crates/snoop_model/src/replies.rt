@@ -31,7 +31,7 @@ pub enum Reply {
 pub enum Refused {
     /// The core is outside the shape.
     NoCore,
-    /// The block is outside the shape.
+    /// The block is outside the shape, or the word of a load or store.
     NoBlock,
     /// The core's controller takes no such operation while it is in this state.
     Stalled(CacheState),

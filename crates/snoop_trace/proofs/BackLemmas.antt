@@ -22,7 +22,7 @@ use Rattle.std.proofs.lemmas.Nat.{mul-le}
 use Rattle.csv.specs.Writing.{is_blank, read_back}
 use Rattle.csv.specs.Reading.{Reached, records, strip_bom}
 use Rattle.snoop_trace.specs.Grammar.{ask, asked, block_in, number, numeral, order, respond, step_in, store, without_value}
-use Rattle.snoop_trace.specs.Output.{IsWithin, address_of, step_text, steps_text}
+use Rattle.snoop_trace.specs.Output.{IsWithin, address_of, step_text, steps_text, word_address}
 use Rattle.snoop_trace.specs.Text.{entries_from, steps_of}
 use Rattle.snoop_trace.specs.Extent.{Extent, IsWithinLimits}
 use Rattle.snoop_trace.specs.Records.{record_writer}
@@ -31,6 +31,7 @@ use Rattle.snoop_trace.specs.declared.step.Step.{Step}
 use Rattle.snoop_trace.specs.declared.step.Step.TheVariants.{Ask, Order, Respond}
 use Rattle.snoop_trace.proofs.CsvLemmas.{reached-shorter, records-ended, records-reached}
 use Rattle.snoop_trace.proofs.PowerLemmas.{power_some}
+use Rattle.snoop_trace.proofs.WordPlaces.{address_back, address_before}
 
 -- no digit calls for quotes
 digit_plain : (c : ℕ) → digit_value c < 10 → needs_byte default_writer c ≡ false
@@ -74,9 +75,9 @@ number_decimal n h =
 
 -- the fields of a step
 abbrev row_of : Extent → Step → List (List ℕ)
-row_of shape (Ask core block Load) = codes "L" ∷ decimal core ∷ decimal (address_of shape block) ∷ []
-row_of shape (Ask core block (Store value)) = codes "S" ∷ decimal core ∷ decimal (address_of shape block) ∷ decimal value ∷ []
-row_of shape (Ask core block Evict) = codes "E" ∷ decimal core ∷ decimal (address_of shape block) ∷ []
+row_of shape (Ask core block word Load) = codes "L" ∷ decimal core ∷ decimal (word_address shape block word) ∷ []
+row_of shape (Ask core block word (Store value)) = codes "S" ∷ decimal core ∷ decimal (word_address shape block word) ∷ decimal value ∷ []
+row_of shape (Ask core block word Evict) = codes "E" ∷ decimal core ∷ decimal (address_of shape block) ∷ []
 row_of shape (Order core) = codes "O" ∷ decimal core ∷ []
 row_of shape (Respond block) = codes "R" ∷ decimal (address_of shape block) ∷ []
 
@@ -91,6 +92,12 @@ address_small shape block limits h =
     let most : block * shape.block_bytes ≤ 65536 * 4096 = mul-le block shape.block_bytes 65536 4096 (omega (arith, limits.blocks.1)) limits.block_bytes.1 in
     omega arith
 
+word_small : (shape : Extent) (block word : ℕ) → IsWithinLimits shape → block < shape.blocks → word < shape.words → word_address shape block word < 2 ^ 64
+word_small shape block word limits h inside =
+    let most : (block + 1) * shape.block_bytes ≤ 65536 * 4096 = mul-le (block + 1) shape.block_bytes 65536 4096 (omega (arith, h, limits.blocks.1)) limits.block_bytes.1 in
+    let grow : (block + 1) * shape.block_bytes ≡ block * shape.block_bytes + shape.block_bytes = omega arith in
+    omega (arith, most, grow, address_before shape block word limits inside)
+
 -- where the commas stand: in a row's text on the left, in a step's on the right
 four_parts : (k : ℕ) (a b c : List ℕ) → k ∷ ((44 ∷ (a ++ (44 ∷ (b ++ (44 ∷ (c ++ [])))))) ++ (10 ∷ [])) ≡ (((((k ∷ 44 ∷ []) ++ a ++ (44 ∷ [])) ++ b) ++ (44 ∷ [])) ++ c) ++ (10 ∷ [])
 four_parts k a b c = simp (append_assoc, append-nil) refl
@@ -103,16 +110,16 @@ two_parts k a = simp append-nil refl
 
 line_row : (shape : Extent) (s : Step) → IsWithinLimits shape → IsWithin shape s → row_text default_writer (row_of shape s) ≡ step_text shape s ++ codes "\n"
 unfolding fields_text is_blank
-line_row shape (Ask core block Load) limits h =
+line_row shape (Ask core block word Load) limits h =
     let one = plain core (core_small shape core limits h.0) in
-    let two = plain (address_of shape block) (address_small shape block limits h.1) in
-    rw (one, two) (three_parts 76 (decimal core) (decimal (address_of shape block)))
-line_row shape (Ask core block (Store value)) limits h =
+    let two = plain (word_address shape block word) (word_small shape block word limits h.1 h.2) in
+    rw (one, two) (three_parts 76 (decimal core) (decimal (word_address shape block word)))
+line_row shape (Ask core block word (Store value)) limits h =
     let one = plain core (core_small shape core limits h.0) in
-    let two = plain (address_of shape block) (address_small shape block limits h.1) in
-    let three = plain value h.2 in
-    rw (one, two, three) (four_parts 83 (decimal core) (decimal (address_of shape block)) (decimal value))
-line_row shape (Ask core block Evict) limits h =
+    let two = plain (word_address shape block word) (word_small shape block word limits h.1 h.2) in
+    let three = plain value h.3 in
+    rw (one, two, three) (four_parts 83 (decimal core) (decimal (word_address shape block word)) (decimal value))
+line_row shape (Ask core block word Evict) limits h =
     let one = plain core (core_small shape core limits h.0) in
     let two = plain (address_of shape block) (address_small shape block limits h.1) in
     rw (one, two) (three_parts 69 (decimal core) (decimal (address_of shape block)))
@@ -145,27 +152,35 @@ block_back shape n block limits h =
     let t : nat_lt block shape.blocks ≡ true = lt-ltb block shape.blocks h in
     rw (back, t) refl
 
+word_block_back : (shape : Extent) (n block word : ℕ) → IsWithinLimits shape → block < shape.blocks → word < shape.words → block_in shape n (word_address shape block word) ≡ Ok block
+word_block_back shape n block word limits h inside =
+    let back = (address_back shape block word limits inside).0 in
+    let t : nat_lt block shape.blocks ≡ true = lt-ltb block shape.blocks h in
+    rw (back, t) refl
+
 step_back : (shape : Extent) (n : ℕ) (s : Step) → IsWithinLimits shape → IsWithin shape s → step_in shape n (row_of shape s) ≡ Ok s
 unfolding step_in ask asked without_value store order respond
-step_back shape n (Ask core block Load) limits h =
+step_back shape n (Ask core block word Load) limits h =
+    let one = number_decimal core (core_small shape core limits h.0) in
+    let two = number_decimal (word_address shape block word) (word_small shape block word limits h.1 h.2) in
+    let t : nat_lt core shape.cores ≡ true = lt-ltb core shape.cores h.0 in
+    let b = word_block_back shape n block word limits h.1 h.2 in
+    let w = (address_back shape block word limits h.2).1 in
+    rw (one, two, t, b, w) refl
+step_back shape n (Ask core block word (Store value)) limits h =
+    let one = number_decimal core (core_small shape core limits h.0) in
+    let two = number_decimal (word_address shape block word) (word_small shape block word limits h.1 h.2) in
+    let three = number_decimal value h.3 in
+    let t : nat_lt core shape.cores ≡ true = lt-ltb core shape.cores h.0 in
+    let b = word_block_back shape n block word limits h.1 h.2 in
+    let w = (address_back shape block word limits h.2).1 in
+    rw (one, two, three, t, b, w) refl
+step_back shape n (Ask core block word Evict) limits h =
     let one = number_decimal core (core_small shape core limits h.0) in
     let two = number_decimal (address_of shape block) (address_small shape block limits h.1) in
     let t : nat_lt core shape.cores ≡ true = lt-ltb core shape.cores h.0 in
     let b = block_back shape n block limits h.1 in
-    rw (one, two, t, b) refl
-step_back shape n (Ask core block (Store value)) limits h =
-    let one = number_decimal core (core_small shape core limits h.0) in
-    let two = number_decimal (address_of shape block) (address_small shape block limits h.1) in
-    let three = number_decimal value h.2 in
-    let t : nat_lt core shape.cores ≡ true = lt-ltb core shape.cores h.0 in
-    let b = block_back shape n block limits h.1 in
-    rw (one, two, three, t, b) refl
-step_back shape n (Ask core block Evict) limits h =
-    let one = number_decimal core (core_small shape core limits h.0) in
-    let two = number_decimal (address_of shape block) (address_small shape block limits h.1) in
-    let t : nat_lt core shape.cores ≡ true = lt-ltb core shape.cores h.0 in
-    let b = block_back shape n block limits h.1 in
-    rw (one, two, t, b) refl
+    rw (one, two, t, b, h.2) refl
 step_back shape n (Order core) limits h =
     let one = number_decimal core (core_small shape core limits h) in
     let t : nat_lt core shape.cores ≡ true = lt-ltb core shape.cores h in
@@ -176,9 +191,9 @@ step_back shape n (Respond block) limits h =
     rw (two, b) refl
 
 some_row : (shape : Extent) (s : Step) → read_back (row_of shape s) ≡ row_of shape s
-some_row shape (Ask core block Load) = refl
-some_row shape (Ask core block (Store value)) = refl
-some_row shape (Ask core block Evict) = refl
+some_row shape (Ask core block word Load) = refl
+some_row shape (Ask core block word (Store value)) = refl
+some_row shape (Ask core block word Evict) = refl
 some_row shape (Order core) = refl
 some_row shape (Respond block) = refl
 
@@ -205,9 +220,9 @@ strip_first a (b ∷ c ∷ xs) e = rw e refl
 no_mark : (shape : Extent) (steps : List Step) → strip_bom (steps_text shape steps) ≡ steps_text shape steps
 unfolding strip_bom
 no_mark shape [] = refl
-no_mark shape (Ask core block Load ∷ steps) = strip_first 76 _ refl
-no_mark shape (Ask core block (Store value) ∷ steps) = strip_first 83 _ refl
-no_mark shape (Ask core block Evict ∷ steps) = strip_first 69 _ refl
+no_mark shape (Ask core block word Load ∷ steps) = strip_first 76 _ refl
+no_mark shape (Ask core block word (Store value) ∷ steps) = strip_first 83 _ refl
+no_mark shape (Ask core block word Evict ∷ steps) = strip_first 69 _ refl
 no_mark shape (Order core ∷ steps) = strip_first 79 _ refl
 no_mark shape (Respond block ∷ steps) = strip_first 82 _ refl
 

@@ -1,4 +1,5 @@
 pub mod PowerLemmas
+pub mod WordPlaces
 pub mod NumeralLemmas
 pub mod FieldLemmas
 pub mod RecordLemmas

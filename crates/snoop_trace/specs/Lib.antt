@@ -1,5 +1,6 @@
 pub mod Extent
 pub mod Shape
+pub mod Words
 pub mod Grammar
 pub mod Text
 pub mod Progress

@@ -1,6 +1,6 @@
 -- What is written: the text of steps, and what a writer holds after a write.
 -- Source: this project's profile.
-use Rattle.std.specs.Prelude.{◌<◌, ◌≡◌, ℕ, ◌*◌, ◌^◌, Bool, true, false, List, ◌++◌, codes, Option, Some}
+use Rattle.std.specs.Prelude.{◌<◌, ◌≡◌, ℕ, ◌+◌, ◌*◌, ◌/◌, ◌^◌, Bool, true, false, List, ◌++◌, codes, Option, Some}
 use Rattle.std.specs.Fmt.{decimal}
 use Rattle.std.specs.Io.KnownBytes.{Appends}
 use Rattle.std.specs.List.{flat_map}
@@ -13,19 +13,23 @@ use Rattle.snoop_trace.specs.declared.step.Step.TheVariants.{Ask, Order, Respond
 abbrev pub address_of : Extent → ℕ → ℕ
 address_of shape block = block * shape.block_bytes
 
+-- the first address of a word of a block
+abbrev pub word_address : Extent → ℕ → ℕ → ℕ
+word_address shape block word = address_of shape block + word * (shape.block_bytes / shape.words)
+
 -- a step as a record
 abbrev pub step_text : Extent → Step → List ℕ
-step_text shape (Ask core block Load) = codes "L," ++ decimal core ++ codes "," ++ decimal (address_of shape block)
-step_text shape (Ask core block (Store value)) = codes "S," ++ decimal core ++ codes "," ++ decimal (address_of shape block) ++ codes "," ++ decimal value
-step_text shape (Ask core block Evict) = codes "E," ++ decimal core ++ codes "," ++ decimal (address_of shape block)
+step_text shape (Ask core block word Load) = codes "L," ++ decimal core ++ codes "," ++ decimal (word_address shape block word)
+step_text shape (Ask core block word (Store value)) = codes "S," ++ decimal core ++ codes "," ++ decimal (word_address shape block word) ++ codes "," ++ decimal value
+step_text shape (Ask core block word Evict) = codes "E," ++ decimal core ++ codes "," ++ decimal (address_of shape block)
 step_text shape (Order core) = codes "O," ++ decimal core
 step_text shape (Respond block) = codes "R," ++ decimal (address_of shape block)
 
--- a step of the shape: its core and block are within it, and a stored value is a number
+-- a step of the shape as it is read: its core, block and word are within it, a stored value is a number, and an eviction's word is 0
 abbrev pub IsWithin : Extent → Step → Type 0
-IsWithin shape (Ask core block Load) = (core < shape.cores) × (block < shape.blocks)
-IsWithin shape (Ask core block (Store value)) = (core < shape.cores) × (block < shape.blocks) × (value < 2 ^ 64)
-IsWithin shape (Ask core block Evict) = (core < shape.cores) × (block < shape.blocks)
+IsWithin shape (Ask core block word Load) = (core < shape.cores) × (block < shape.blocks) × (word < shape.words)
+IsWithin shape (Ask core block word (Store value)) = (core < shape.cores) × (block < shape.blocks) × (word < shape.words) × (value < 2 ^ 64)
+IsWithin shape (Ask core block word Evict) = (core < shape.cores) × (block < shape.blocks) × (word ≡ 0)
 IsWithin shape (Order core) = core < shape.cores
 IsWithin shape (Respond block) = block < shape.blocks
 

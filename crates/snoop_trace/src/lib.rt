@@ -1,4 +1,4 @@
-//! Shapes of machines, rows and steps, and the texts that they are read from and written to.
+//! Shapes of machines, words, rows and steps, and the texts that they are read from and written to.
 #![tactic(auto)]
 
 mod fault;
@@ -10,9 +10,11 @@ mod shape;
 mod step;
 pub mod streams;
 mod text;
+mod words;
 
 pub use fault::{NoMemory, TextFault, WriteFault};
 pub use output::write_steps;
 pub use shape::{Shape, ShapeFault};
 pub use step::{Op, Row, Step};
 pub use text::{read_rows, read_steps};
+pub use words::Words;

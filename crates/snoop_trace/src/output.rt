@@ -11,8 +11,9 @@ ghost use Rattle.snoop_trace.specs.declared.step.Step.TheVariants.{Ask};
 use crate::fault::{NoMemory, WriteFault};
 use crate::shape::{MAX_BLOCK_BYTES, MAX_BLOCKS, MAX_CORES, Shape};
 use crate::step::{Op, Step};
-use crate::streams::step_text::address_of;
+use crate::streams::step_text::{address_of, word_address};
 use crate::streams::{Sink, write_whole};
+use crate::words::MAX_WORDS;
 use csv::{Writer, WriterBuilder};
 use itoa::Buffer;
 use std::alloc::Global;
@@ -42,6 +43,7 @@ pub fn write_steps<W: Sink>(
     prove!(shape.cores() <= MAX_CORES);
     prove!(shape.blocks() <= MAX_BLOCKS);
     prove!(shape.block_bytes() <= MAX_BLOCK_BYTES);
+    prove!(shape.words() <= MAX_WORDS);
     let mut at = 0;
     while at < steps.len() {
         let end = batch_end(at, steps.len());
@@ -81,7 +83,12 @@ fn write_record(records: &mut Writer<Vec<u8>>, shape: Shape, step: Step) -> Resu
     ensures ready { OnOk result (IsReady records.new) }
 {
     match step {
-        Step::Ask { core, block, op } => write_ask(records, shape, core, block, op),
+        Step::Ask {
+            core,
+            block,
+            word,
+            op,
+        } => write_ask(records, shape, core, block, word, op),
         Step::Order { core } => write_one(records, b'O', core as u64),
         Step::Respond { block } => write_one(records, b'R', address_of(shape, block)),
     }
@@ -93,17 +100,19 @@ fn write_ask(
     shape: Shape,
     core: u32,
     block: u32,
+    word: u32,
     op: Op,
 ) -> Result<(), NoMemory>
     requires { IsReady records.old }
-    ensures ok { OnOk result (Writes records.old records.new (step_text shape (Ask core block op) ++ codes "\n")) }
+    ensures ok { OnOk result (Writes records.old records.new (step_text shape (Ask core block word op) ++ codes "\n")) }
     ensures ready { OnOk result (IsReady records.new) }
 {
-    let address = address_of(shape, block);
     match op {
-        Op::Load => write_two(records, b'L', core, address),
-        Op::Evict => write_two(records, b'E', core, address),
-        Op::Store(value) => write_three(records, b'S', core, address, value),
+        Op::Load => write_two(records, b'L', core, word_address(shape, block, word)),
+        Op::Evict => write_two(records, b'E', core, address_of(shape, block)),
+        Op::Store(value) => {
+            write_three(records, b'S', core, word_address(shape, block, word), value)
+        }
     }
 }
 

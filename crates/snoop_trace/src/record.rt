@@ -124,6 +124,7 @@ fn ask(shape: Shape, n: u64, letter: u8, fields: &ByteRecord) -> Result<Step, Te
     Ok(Step::Ask {
         core: row.core,
         block,
+        word: shape.word_asked(row.address, row.op),
         op: row.op,
     })
 }

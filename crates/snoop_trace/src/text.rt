@@ -107,7 +107,7 @@ fn read_entries<E: Entry, C: Entries<E> + Drop, R: Source + Drop>(
 /// | `R,address` | the block's response comes |
 ///
 /// A number is decimal digits, or `0x` and hexadecimal digits of either case, of a value below
-/// 2^64. An address stands for the block that it lies in. `TextFault` says what is refused; after
+/// 2^64. An address stands for the block that it lies in, and for a load or store for the word too. `TextFault` says what is refused; after
 /// `Read` and `NoMemory` nothing is said of the text.
 pub fn read_steps<R: Source + Drop>(
     alloc: Global,
@@ -136,6 +136,7 @@ pub fn gather_steps<C: Entries<Step> + Drop, R: Source + Drop>(
     ensures never_blamed { R.never_fails ≡ true → IsSomeAnd (R.remaining reader) (λ bytes. length bytes < 2 ^ 64 - 1)
         → result ≢ Err TextFault.Read }
 {
+    shape.within_limits();
     read_entries::<Step, C, R>(alloc, reader, shape, steps)
 }
 

@@ -15,7 +15,7 @@ ghost use Rattle.snoop_model.specs.Moves.StepMove.{IsDenied};
 ghost use Rattle.snoop_machine.specs.Plan.{IsPlanFor};
 ghost use Rattle.snoop_model.specs.Invariant.Coherent.{IsCoherent};
 
-use super::{NO_MEMORY, Parts};
+use super::{Parts, no_memory};
 use crate::order::event_at_memory;
 use crate::plan::Plan;
 use snoop_history::{Item, Sent};
@@ -48,7 +48,7 @@ impl Parts {
         if self.bus.open(block).is_some() {
             return Err(Refused::BusTaken(block));
         }
-        let memory = self.memory.get_or(block, NO_MEMORY);
+        let memory = self.memory.get_or(block, no_memory());
         let Some(cell) = mem_cell(self.protocol, memory.state, event_at_memory(request)) else {
             unreachable!();
         };
@@ -84,7 +84,7 @@ impl Parts {
         ensures room { KeepsRoom self.old self.new }
         ensures lines { (k : ℕ) → LosesLines self.old self.new k }
     {
-        let before = self.memory.get_or(block, NO_MEMORY);
+        let before = self.memory.get_or(block, no_memory());
         self.lines.take_rows(self.protocol, core, request, block);
         let after = MemLine {
             state: memory,

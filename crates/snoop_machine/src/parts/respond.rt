@@ -1,6 +1,7 @@
 //! A Respond: found, and made.
 ghost use Rattle.std.specs.Prelude.{◌≡◌, ◌≢◌, ◌<◌, ℕ, IfOk, IfErr, IfSome, Some, None, Err};
 ghost use Rattle.snoop_trace.specs.declared.step.Step.TheVariants.{Respond};
+ghost use Rattle.snoop_trace.specs.Words.{IsWord};
 ghost use Rattle.snoop_rules.specs.declared.names.Request.TheVariants.{PutM};
 ghost use Rattle.snoop_model.specs.Moves.Standing.{KeepsRoom};
 ghost use Rattle.snoop_machine.specs.Following.{LosesLines};
@@ -13,7 +14,7 @@ ghost use Rattle.snoop_model.specs.Invariant.Coherent.{IsCoherent};
 ghost use Rattle.snoop_model.specs.Moves.Refuses.{Refuses};
 ghost use Rattle.snoop_model.specs.declared.replies.Refused.{Refused};
 
-use super::{NO_MEMORY, Parts};
+use super::{Parts, no_memory};
 use crate::plan::Plan;
 use crate::respond::{Filled, arrive, fill};
 use snoop_bus::Open;
@@ -42,8 +43,8 @@ impl Parts {
         let Some(closing) = self.transaction(block) else {
             return Err(Refused::NoTransaction);
         };
-        let before = self.memory.get_or(block, NO_MEMORY);
-        let memory = arrive(self.protocol, before, closing);
+        let before = self.memory.get_or(block, no_memory());
+        let memory = arrive(self.protocol, before, &closing);
         if matches!(&closing.request, Request::PutM) {
             return Ok(Plan::Writeback {
                 block,
@@ -52,7 +53,7 @@ impl Parts {
             });
         }
         let line = self.line(closing.core, block);
-        let filled = fill(self.protocol, line, closing);
+        let filled = fill(self.protocol, line, &closing);
         Ok(Plan::Fill {
             block,
             closing,
@@ -93,13 +94,14 @@ impl Parts {
         requires room { 0 < self.old.room }
         requires opened { (picture_of self.old.situation block).transaction ≡ Some closing }
         requires get { closing.request ≢ PutM }
-        requires filled { Fills closing self.old.situation.protocol (line_at self.old.situation.caches closing.core block) filled.line filled.op filled.value }
+        requires filled { Fills closing self.old.situation.protocol (line_at self.old.situation.caches closing.core block) filled.line filled.access filled.value }
+        requires word { IsWord self.old.situation.shape filled.access.word }
         requires memory { ArrivesAtMemory closing self.old.situation.protocol (picture_of self.old.situation block).memory memory }
         ensures responded { Responds self.old.situation block closing (Some result) self.new.situation }
         ensures room { KeepsRoom self.old self.new }
         ensures lines { (k : ℕ) → LosesLines self.old self.new k }
     {
-        let did = self.next_did(closing.core, closing.block, filled.op, filled.value, false);
+        let did = self.next_did(closing.core, closing.block, filled.access, filled.value, false);
         self.lines.set(closing.core, block, filled.line);
         self.memory.set(block, memory);
         let _ = self.bus.finish(block);

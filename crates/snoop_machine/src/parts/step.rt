@@ -1,9 +1,8 @@
 //! A step in its three stages: find, make room, make.
-ghost use Rattle.std.specs.Prelude.{◌≡◌, ◌≢◌, ◌<◌, ◌+◌, ◌++◌, ℕ, true, false, Option, OnOk, OnErr, IfOk, IfErr, IsOk, Err, slice_index, option_to_list};
+ghost use Rattle.std.specs.Prelude.{◌≡◌, ◌≢◌, ◌<◌, ◌+◌, ◌++◌, ℕ, IsTrue, ◌↔◌, true, false, Option, OnOk, OnErr, IfOk, IfErr, IsOk, Err, slice_index, option_to_list};
 ghost use Rattle.snoop_history.specs.declared.items.Item.{Item};
 ghost use Rattle.snoop_model.specs.declared.replies.Refused.TheVariants.{NoMemory as OutOfMemory};
-ghost use Rattle.snoop_model.specs.declared.replies.Reply.TheVariants.{Came as CameReply};
-ghost use Rattle.snoop_model.specs.Moves.Move.{FirstMove};
+ghost use Rattle.snoop_model.specs.Moves.Move.{FirstMove, IsWordWithin};
 ghost use Rattle.snoop_model.specs.Moves.StepMove.{RefusedFor, IsDenied};
 ghost use Rattle.snoop_rules.specs.declared.names.CacheState.TheVariants.{I};
 ghost use Rattle.snoop_model.specs.Pictures.Situation.{state_of};
@@ -20,10 +19,9 @@ use super::Parts;
 use super::respond::came;
 use crate::ask::Asked;
 use crate::plan::Plan;
-use snoop_bus::Open;
-use snoop_history::{Did, Item, Sent};
-use snoop_model::{Refused, Reply};
-use snoop_trace::{NoMemory, Step};
+use snoop_history::{Item, Sent};
+use snoop_model::{Access, Refused, Reply};
+use snoop_trace::{NoMemory, Op, Step};
 
 impl Parts {
     /// Takes one step: finds all that it will do, makes the room, and does it. A refused step changes nothing.
@@ -40,8 +38,11 @@ impl Parts {
         // What `prepare` reported comes true.
         ensures prepared { (entry : Option Item) → IsPrepared self.old step entry → IsOk result × (self.new.situation.log ≡ self.old.situation.log ++ option_to_list entry) }
     {
-        let plan = self.planned(step)?;
-        self.make_room(plan)?;
+        let plan = match self.planned(step) {
+            Ok(plan) => plan,
+            Err(cause) => return Err(cause),
+        };
+        self.make_room(&plan)?;
         Ok(self.perform(plan))
     }
 
@@ -56,8 +57,11 @@ impl Parts {
         ensures lines { (core : ℕ) → HoldsOn self.old self.new step core }
         ensures unchanged { self.new.situation ≡ self.old.situation }
     {
-        let plan = self.planned(step)?;
-        self.make_room(plan)?;
+        let plan = match self.planned(step) {
+            Ok(plan) => plan,
+            Err(cause) => return Err(cause),
+        };
+        self.make_room(&plan)?;
         Ok(self.item(plan))
     }
 
@@ -74,23 +78,40 @@ impl Parts {
         match step {
             Step::Ask { core, .. } if core >= cores => Err(Refused::NoCore),
             Step::Order { core } if core >= cores => Err(Refused::NoCore),
-            Step::Ask { block, .. } if block >= blocks => Err(Refused::NoBlock),
+            Step::Ask {
+                block, word, op, ..
+            } if block >= blocks || !self.has_word(word, op) => Err(Refused::NoBlock),
             Step::Respond { block } if block >= blocks => Err(Refused::NoBlock),
-            Step::Ask { core, block, op } => self.plan_ask(core, block, op),
+            Step::Ask {
+                core,
+                block,
+                word,
+                op,
+            } => self.plan_ask(core, block, word, op),
             Step::Order { core } => self.plan_order(core),
             Step::Respond { block } => self.plan_respond(block),
         }
     }
 
+    /// Whether the operation is of a word that there is. An eviction's word is not looked at.
+    fn has_word(&self, word: u32, op: Op) -> bool
+        ensures { IsTrue result ↔ IsWordWithin self.now.situation word op }
+    {
+        match op {
+            Op::Load | Op::Store(_) => word < self.shape.words(),
+            Op::Evict => true,
+        }
+    }
+
     /// Makes room for what the plan adds.
     #[inline(always)]
-    fn make_room(&mut self, plan: Plan) -> Result<(), NoMemory>
-        requires { IsPlan self.old.situation plan }
-        ensures ok { OnOk result (HasRoom self.new plan) }
-        ensures full { OnErr result (room_for self.old plan ≡ 0) }
+    fn make_room(&mut self, plan: &Plan) -> Result<(), NoMemory>
+        requires { IsPlan self.old.situation plan.now }
+        ensures ok { OnOk result (HasRoom self.new plan.now) }
+        ensures full { OnErr result (room_for self.old plan.now ≡ 0) }
         ensures refused { OnErr result (self.new ≡ self.old) }
         ensures room { KeepsRoom self.old self.new }
-        ensures lines { (core : ℕ) → AddsLines plan self.old self.new core }
+        ensures lines { (core : ℕ) → AddsLines plan.now self.old self.new core }
         ensures unchanged { self.new.situation ≡ self.old.situation }
     {
         match plan {
@@ -99,20 +120,25 @@ impl Parts {
                 block,
                 asked,
                 ..
-            } => self.make_room_to_ask(core, block, asked),
+            } => self.make_room_to_ask(*core, *block, asked),
             Plan::Order { .. } | Plan::Writeback { .. } | Plan::Fill { .. } => self.reserve_item(),
         }
     }
 
     /// Makes room for what an Ask of the core adds.
     #[inline(always)]
-    fn make_room_to_ask(&mut self, core: u32, block: u32, asked: Asked) -> Result<(), NoMemory>
+    fn make_room_to_ask(
+        &mut self,
+        core: u32,
+        block: u32,
+        asked: &Asked,
+    ) -> Result<(), NoMemory>
         requires { core < self.old.situation.shape.cores }
-        ensures ok { OnOk result (HasRoomToAsk self.new core block asked) }
-        ensures full { OnErr result (room_for_ask self.old core block asked ≡ 0) }
+        ensures ok { OnOk result (HasRoomToAsk self.new core block asked.now) }
+        ensures full { OnErr result (room_for_ask self.old core block asked.now ≡ 0) }
         ensures refused { OnErr result (self.new ≡ self.old) }
         ensures room { KeepsRoom self.old self.new }
-        ensures lines { (k : ℕ) → AddsLinesToAsk asked core block self.old self.new k }
+        ensures lines { (k : ℕ) → AddsLinesToAsk asked.now core block self.old self.new k }
         ensures unchanged { self.new.situation ≡ self.old.situation }
     {
         match asked {
@@ -214,9 +240,10 @@ impl Parts {
             Plan::Ask {
                 core,
                 block,
+                word,
                 op,
                 asked,
-            } => self.take_ask(core, block, op, asked),
+            } => self.take_ask(core, block, word, op, asked),
             Plan::Order {
                 core,
                 request,
@@ -232,8 +259,13 @@ impl Parts {
                 closing,
                 memory,
             } => {
+                let (payload, from) = (closing.payload, closing.from);
                 self.finish_put(block, closing, memory);
-                reply_of(closing, None)
+                Reply::Came {
+                    payload,
+                    from,
+                    did: None,
+                }
             }
             Plan::Fill {
                 block,
@@ -241,8 +273,13 @@ impl Parts {
                 memory,
                 filled,
             } => {
+                let (payload, from) = (closing.payload, closing.from);
                 let did = self.finish_get(block, closing, filled, memory);
-                reply_of(closing, Some(did))
+                Reply::Came {
+                    payload,
+                    from,
+                    did: Some(did),
+                }
             }
         }
     }
@@ -256,9 +293,16 @@ impl Parts {
             Plan::Ask {
                 core,
                 block,
+                word,
                 op,
                 asked: Asked::Hit(_, value),
-            } => Some(Item::Did(self.next_did(core, block, op, value, true))),
+            } => Some(Item::Did(self.next_did(
+                core,
+                block,
+                Access { word, op },
+                value,
+                true,
+            ))),
             Plan::Ask { .. } => None,
             Plan::Order {
                 core,
@@ -279,23 +323,12 @@ impl Parts {
                 let did = self.next_did(
                     closing.core,
                     closing.block,
-                    filled.op,
+                    filled.access,
                     filled.value,
                     false,
                 );
                 Some(Item::Came(came(closing), Some(did)))
             }
         }
-    }
-}
-
-/// The reply to a Respond.
-fn reply_of(closing: Open, did: Option<Did>) -> Reply
-    ensures { result ≡ CameReply closing.payload closing.from did }
-{
-    Reply::Came {
-        payload: closing.payload,
-        from: closing.from,
-        did,
     }
 }

@@ -1,15 +1,19 @@
 -- The invariant holds at reset, and after each step of a run.
-use Rattle.std.proofs.Common.{◌≡◌, ℕ, ◌<◌, List, [], ◌∷◌, length, replicate, true, false, Option, None, refl, inl, inr, ap, sym, ◌∙◌, subst, arith, get_or}
+use Rattle.std.proofs.Common.{Some, ◌≡◌, ℕ, zero, suc, map, ◌+◌, ◌<◌, List, [], ◌∷◌, length, replicate, true, false, Option, None, refl, inl, inr, ap, sym, ◌∙◌, subst, arith, get_or}
 use Rattle.std.specs.Prelude.{Result, Ok, Err}
 use Rattle.std.proofs.lemmas.Bool.{cases_lt}
 use Rattle.std.proofs.lemmas.List.{length-replicate, get_or-replicate, get_or_past}
+use Rattle.std.specs.List.{range_with_len}
 use Rattle.snoop_trace.specs.Extent.{Extent}
+use Rattle.snoop_trace.specs.Words.{zero_words}
+use Rattle.snoop_history.specs.History.{flat, flat_words}
 use Rattle.snoop_trace.specs.declared.step.Step.{Step}
 use Rattle.snoop_trace.specs.declared.step.Step.TheVariants.{Ask, Order, Respond}
 use Rattle.snoop_rules.specs.declared.names.Protocol.{Protocol}
 use Rattle.snoop_rules.specs.declared.names.Protocol.TheVariants as protocol
 use Rattle.snoop_history.specs.declared.items.Item.{Item}
 use Rattle.snoop_bus.specs.declared.transactions.Open.{Open}
+use Rattle.snoop_model.specs.declared.line.Access.{Access}
 use Rattle.snoop_model.specs.declared.line.Line.{Line}
 use Rattle.snoop_model.specs.declared.replies.Reply.{Reply}
 use Rattle.snoop_model.specs.declared.replies.Refused.{Refused}
@@ -27,12 +31,12 @@ use Rattle.snoop_model.proofs.Invariant.Moves.{move_keeps}
 
 -- a block at reset
 abbrev untouched : Protocol → ℕ → Picture
-untouched p n = record { caches = replicate n nothing_held; memory = record { state = first_memory p; value = 0 }; transaction = None }
+untouched p n = record { caches = replicate n nothing_held; memory = record { state = first_memory p; value = zero_words }; transaction = None }
 
 pub nothing_proper : IsProper nothing_held
 nothing_proper = record { kept = refl; waiting = refl }
 
-untouched_good : (p : Protocol) (n : ℕ) → Good p n 0 (untouched p n)
+untouched_good : (p : Protocol) (n : ℕ) → Good p n zero_words (untouched p n)
 unfolding claims_of fits is_owner is_sharer is_clean wait_fits in_protocol same
 untouched_good protocol.Msi n = record {
   claims = record { owned = false; shared = true; fresh = true };
@@ -66,7 +70,7 @@ untouched_good protocol.Mesi n = record {
 reset_picture : (p : Protocol) (shape : Extent) (block : ℕ) → block < shape.blocks → picture_of (reset p shape) block ≡ untouched p shape.cores
 reset_picture p shape block within =
     let caches : get_or (replicate shape.blocks (replicate shape.cores nothing_held)) block [] ≡ replicate shape.cores nothing_held = get_or-replicate shape.blocks block (replicate shape.cores nothing_held) [] within in
-    let memory = get_or-replicate shape.blocks block (record { state = first_memory p; value = 0 }) no_memory within in
+    let memory = get_or-replicate shape.blocks block (record { state = first_memory p; value = zero_words }) no_memory within in
     let transaction : ◌≡◌ {A = Option Open} (get_or (replicate shape.blocks None) block None) None = replicated shape.blocks block None in
     rw (caches, memory, transaction) refl
 
@@ -82,17 +86,26 @@ reset_line p shape core block = elim (cases_lt block shape.blocks) [
       ap (λ (l : List Line). held_at l core) (get_or_past (replicate shape.blocks (replicate shape.cores nothing_held)) block [] (omega arith)) ∙ get_or_past [] core nothing_held (omega arith)
 ]
 
+-- flat memory at reset
+flat_reset : (block : ℕ) → flat_words [] block ≡ zero_words
+flat_reset block = sym (replicate-map 64 0)
+  where
+    replicate-map : (n a : ℕ) → replicate n 0 ≡ map (flat [] block) (range_with_len a n)
+    replicate-map zero a = refl
+    replicate-map (suc n) a = ap (λ (l : List ℕ). 0 ∷ l) (replicate-map n (a + 1))
+
 pub reset_coherent : (p : Protocol) (shape : Extent) → IsCoherent (reset p shape)
 reset_coherent p shape = record {
   shaped = record {
     rows = length-replicate shape.blocks (replicate shape.cores nothing_held);
     row = λ b b_in. ap (λ (x : Picture). length x.caches) (reset_picture p shape b b_in) ∙ length-replicate shape.cores nothing_held;
-    memory = length-replicate shape.blocks (record { state = first_memory p; value = 0 });
+    memory = length-replicate shape.blocks (record { state = first_memory p; value = zero_words });
     queues = length-replicate shape.cores [];
     transactions = length-replicate shape.blocks None;
   };
   opened = λ b o is_open. (let none = reset_open p shape b in cc);
-  good = λ b b_in. subst (Good p shape.cores 0) (sym (reset_picture p shape b b_in)) (untouched_good p shape.cores);
+  good = λ b b_in. subst (Good p shape.cores (flat_words [] b)) (sym (reset_picture p shape b b_in)) (subst (λ (ws : List ℕ). Good p shape.cores ws (untouched p shape.cores)) (sym (flat_reset b)) (untouched_good p shape.cores));
+  accesses = λ core b access waits. (let none = reset_line p shape core b in let e : ◌≡◌ {A = Option Access} None (Some access) = ap (λ (x : Line). x.waiting) (sym none) ∙ waits in cc);
   legal = λ k entry h. cc;
 }
 
@@ -112,7 +125,7 @@ run_keeps (step ∷ steps) [] old new g r = absurd r
 
 -- a run keeps its protocol
 move_protocol : (block : ℕ) (old : Situation) (step : Step) (answer : Reply) (new : Situation) (entry : Option Item) → MoveOn block old step answer new entry → new.protocol ≡ old.protocol
-move_protocol block old (Ask core on asking) answer new entry m = elim m.2 as (λ _. new.protocol ≡ old.protocol) [
+move_protocol block old (Ask core on word asking) answer new entry m = elim m.2 as (λ _. new.protocol ≡ old.protocol) [
   | inl idle ↦ ap (λ (s : Situation). s.protocol) idle.3
   | inr a ↦ ap (λ (s : Situation). s.protocol) a.after
 ]

@@ -1,6 +1,6 @@
 -- What every machine keeps makes it safe, and its steps keep it.
-use Rattle.std.proofs.Common.{ℕ, ◌<◌, Option, inl, inr, sym, ◌∙◌, subst, Some, None}
-use Rattle.std.specs.Prelude.{◌≡◌, Result, Ok, Err, IfOk, IfErr, IfSome, is_some}
+use Rattle.std.proofs.Common.{ℕ, List, ◌<◌, ◌≤◌, arith, ap, Option, inl, inr, sym, ◌∙◌, subst, Some, None}
+use Rattle.std.specs.Prelude.{◌≡◌, option_map, Result, Ok, Err, IfOk, IfErr, IfSome, is_some}
 use Rattle.std.proofs.lemmas.Option.{same_Some}
 use Rattle.snoop_trace.specs.Extent.{Extent}
 use Rattle.snoop_trace.specs.declared.step.Step.{Step}
@@ -24,6 +24,8 @@ use Rattle.snoop_model.proofs.Invariant.Runs.{reset_coherent, nothing_proper}
 use Rattle.snoop_model.proofs.Queues.Runs.{reset_queued, move_queued}
 use Rattle.snoop_model.proofs.Queues.Moves.{starts_well, keeps_well}
 use Rattle.snoop_model.proofs.Invariant.Steps.{first_keeps}
+use Rattle.snoop_model.proofs.Invariant.FlatMemory.{word_flat}
+use Rattle.snoop_trace.specs.Words.{word_at}
 
 -- each line keeps and awaits what its state says
 pub all_proper : (s : Situation) → IsCoherent s → (core block : ℕ) → IsProper (held_by (picture_of s block) core)
@@ -32,13 +34,14 @@ all_proper s g core block = elim (place s g core block) [
   | inr nothing ↦ subst IsProper (sym nothing) nothing_proper
 ]
 
--- what a core keeps is the block's flat value
-pub kept_is_flat : (s : Situation) → IsCoherent s → (core block : ℕ) → (found : Option ℕ) → IfSome found (λ _. (core < s.shape.cores) × (block < s.shape.blocks))
-    → (core < s.shape.cores → block < s.shape.blocks → found ≡ (held_by (picture_of s block) core).kept)
-    → (core < s.shape.cores → block < s.shape.blocks → is_some found ≡ keeps (state_of s core block)) → IfSome found (λ value. value ≡ flat s.log block)
-kept_is_flat s g core block None within inside readable = tt
-kept_is_flat s g core block (Some value) within inside readable =
-    same_Some _ _ (inside within.0 within.1 ∙ (g.good block within.1).kept core within.0 (sym (readable within.0 within.1)))
+-- a word that a core keeps has its value in flat memory
+pub kept_is_flat : (s : Situation) → IsCoherent s → s.shape.words ≤ 64 → (core block word : ℕ) → (found : Option ℕ) → IfSome found (λ _. (core < s.shape.cores) × (block < s.shape.blocks) × (word < s.shape.words))
+    → (core < s.shape.cores → block < s.shape.blocks → word < s.shape.words → found ≡ option_map (λ ws. word_at ws word) (held_by (picture_of s block) core).kept)
+    → (core < s.shape.cores → block < s.shape.blocks → word < s.shape.words → is_some found ≡ keeps (state_of s core block)) → IfSome found (λ value. value ≡ flat s.log block word)
+kept_is_flat s g few core block word None within inside readable = tt
+kept_is_flat s g few core block word (Some value) within inside readable =
+    let kept = (g.good block within.1).kept core within.0 (sym (readable within.0 within.1 within.2)) in
+    same_Some _ _ (inside within.0 within.1 within.2 ∙ ap (λ o. option_map (λ (ws : List ℕ). word_at ws word) o) kept) ∙ word_flat s.log block word (omega (arith, few, within.2))
 
 pub is_safe : (s : Situation) → MachineKeeps s → IsSafe s
 is_safe s keeps = record {

@@ -64,4 +64,4 @@ respond_is_by_table s g block closing did new within r =
 pub moves_are_by_table : (s : Situation) → IsCoherent s → MovesAreByTable s
 moves_are_by_table s g block (Order core) answer new entry m = (m.0, (m.1.3.ready, order_is_by_table s g core block m.0 new m.1.0 m.1.3))
 moves_are_by_table s g block (Respond on) answer new entry m = respond_is_by_table s g block m.0 m.1.0 new m.1.1.1 m.1.1.4
-moves_are_by_table s g block (Ask core on asking) answer new entry m = tt
+moves_are_by_table s g block (Ask core on word asking) answer new entry m = tt

@@ -20,7 +20,7 @@ use Rattle.snoop_model.proofs.OneBlock.OfBlocks.{asked_picture, asked_other, nex
 in_list : (blocks b n : ℕ) → n ≡ blocks → b < blocks → b < n
 in_list blocks b n e within = subst (λ (x : ℕ). b < x) (sym e) within
 
-module _ (old : Situation) (c b : ℕ) (asking : Op) (answer : Reply) (new : Situation) (entry : Option Item) (g : IsCoherent old) (within : IsWithin old c b) (a : Asks old c b asking answer new entry) where
+module _ (old : Situation) (c b word : ℕ) (asking : Op) (answer : Reply) (new : Situation) (entry : Option Item) (g : IsCoherent old) (within : IsWithin old c b) (a : Asks old c b word asking answer new entry) where
   pub ask_here : picture_of new b ≡ record (picture_of old b) { caches = slice_set (picture_of old b).caches c a.held }
   ask_here = ap (λ (s : Situation). picture_of s b) a.after ∙ asked_picture old b (slice_set (picture_of old b).caches c a.held) (queues_after a.act old.queues c b) (old.log ++ option_to_list entry) (in_list old.shape.blocks b (length old.caches) g.shaped.rows within.1)
 

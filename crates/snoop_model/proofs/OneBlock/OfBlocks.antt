@@ -18,8 +18,8 @@ same_picture caches caches' memory memory' transaction transaction' e f h =
     ∙ (ap (λ (x : MemLine). record { caches = caches'; memory = x; transaction = transaction }) f
     ∙ ap (λ (x : Option Open). record { caches = caches'; memory = memory'; transaction = x }) h)
 
-pub same_memory : (state state' : MemState) (value value' : ℕ) → state ≡ state' → value ≡ value' → ◌≡◌ {A = MemLine} (record { state = state; value = value }) (record { state = state'; value = value' })
-same_memory state state' value value' e f = ap (λ (x : MemState). record { state = x; value = value }) e ∙ ap (λ (x : ℕ). record { state = state'; value = x }) f
+pub same_memory : (state state' : MemState) (value value' : List ℕ) → state ≡ state' → value ≡ value' → ◌≡◌ {A = MemLine} (record { state = state; value = value }) (record { state = state'; value = value' })
+same_memory state state' value value' e f = ap (λ (x : MemState). record { state = x; value = value }) e ∙ ap (λ (x : List ℕ). record { state = state'; value = x }) f
 
 -- the block that an Ask changes
 pub asked_picture : (s : Situation) (block : ℕ) (row : List Line) (queues : List (List ℕ)) (log : List Item) → block < length s.caches

@@ -44,20 +44,20 @@ same_waits : (s t : CacheState) → waiting_request s ≡ waiting_request t → 
 same_waits s t e = ap (λ (x : Option Request). one_if (is_some x)) e
 
 -- an Ask issues a request for a block on which the core did not wait, or leaves queue and wait
-ask_waits : (p : Protocol) (a : CacheAction) (next : CacheState) (log : List Item) (c b : ℕ) (asking : Op) (old new : Line) (answer : Reply) (entry : Option Item) (queues : List (List ℕ)) → Cell p old.state (asked asking) a next → Takes a next log c b asking old new answer entry
+ask_waits : (p : Protocol) (a : CacheAction) (next : CacheState) (log : List Item) (c b word : ℕ) (asking : Op) (old new : Line) (answer : Reply) (entry : Option Item) (queues : List (List ℕ)) → Cell p old.state (asked asking) a next → Takes a next log c b word asking old new answer entry
     → ((queues_after a queues c b ≡ after_issue queues c b) × ((waits old.state ≡ 0) × (waits new.state ≡ 1))) ⊎ ((queues_after a queues c b ≡ queues) × (waits new.state ≡ waits old.state))
-ask_waits p action.Hit next log c b asking old new answer entry queues row t =
+ask_waits p action.Hit next log c b word asking old new answer entry queues row t =
     inr (refl, ap (λ (x : Line). waits x.state) t.1.0.held ∙ same_waits next old.state (hit-waits p old.state (asked asking) next row))
-ask_waits p (action.Issue q) next log c b asking old new answer entry queues row t =
+ask_waits p (action.Issue q) next log c b word asking old new answer entry queues row t =
     let w = issue-waits p old.state (asked asking) q next row in
     inl (refl, (ap (λ (x : Option Request). one_if (is_some x)) w.0, ap (λ (x : Line). waits x.state) t.0 ∙ ap (λ (x : Option Request). one_if (is_some x)) w.1))
-ask_waits p action.Drop next log c b asking old new answer entry queues row t =
+ask_waits p action.Drop next log c b word asking old new answer entry queues row t =
     inr (refl, ap (λ (x : Line). waits x.state) t.0 ∙ same_waits next old.state (drop-waits p old.state (asked asking) next row))
-ask_waits p action.None next log c b asking old new answer entry queues row t = absurd t
-ask_waits p action.Stall next log c b asking old new answer entry queues row t = absurd t
-ask_waits p action.FillLoad next log c b asking old new answer entry queues row t = absurd t
-ask_waits p action.FillStore next log c b asking old new answer entry queues row t = absurd t
-ask_waits p (action.Send sent target) next log c b asking old new answer entry queues row t = absurd t
+ask_waits p action.None next log c b word asking old new answer entry queues row t = absurd t
+ask_waits p action.Stall next log c b word asking old new answer entry queues row t = absurd t
+ask_waits p action.FillLoad next log c b word asking old new answer entry queues row t = absurd t
+ask_waits p action.FillStore next log c b word asking old new answer entry queues row t = absurd t
+ask_waits p (action.Send sent target) next log c b word asking old new answer entry queues row t = absurd t
 
 -- the pictures of the other cores and blocks are as they were
 others_waits : (old new : Situation) (c b core block : ℕ) → ((k : ℕ) → k ≢ c → held_by (picture_of new b) k ≡ held_by (picture_of old b) k) → ((k : ℕ) → k ≢ b → picture_of new k ≡ picture_of old k)
@@ -112,14 +112,14 @@ issued old new c b q within queues was is others core block =
           ]
     ]
 
-ask_queued : (old : Situation) (c b : ℕ) (asking : Op) (answer : Reply) (new : Situation) (entry : Option Item) → IsCoherent old → AreQueued old → IsWithin old c b → Asks old c b asking answer new entry → AreQueued new
-ask_queued old c b asking answer new entry g q within a =
+ask_queued : (old : Situation) (c b word : ℕ) (asking : Op) (answer : Reply) (new : Situation) (entry : Option Item) → IsCoherent old → AreQueued old → IsWithin old c b → Asks old c b word asking answer new entry → AreQueued new
+ask_queued old c b word asking answer new entry g q within a =
     let queues : new.queues ≡ queues_after a.act old.queues c b = ap (λ (s : Situation). s.queues) a.after in
     let in_queues : c < length old.queues = subst (λ (n : ℕ). c < n) (sym g.shaped.queues) within.0 in
-    let line = ask_line old c b asking answer new entry g within a in
-    let others = λ (core block : ℕ). others_waits old new c b core block (ask_other_core old c b asking answer new entry g within a) (ask_other_block old c b asking answer new entry g within a) in
+    let line = ask_line old c b word asking answer new entry g within a in
+    let others = λ (core block : ℕ). others_waits old new c b core block (ask_other_core old c b word asking answer new entry g within a) (ask_other_block old c b word asking answer new entry g within a) in
     let here : (x : ℕ) → waits a.held.state ≡ x → waits (state_of new c b) ≡ x = λ x e. ap (λ (y : Line). waits y.state) line ∙ e in
-    elim (ask_waits old.protocol a.act a.next old.log c b asking (held_by (picture_of old b) c) a.held answer entry old.queues a.row a.taken) [
+    elim (ask_waits old.protocol a.act a.next old.log c b word asking (held_by (picture_of old b) c) a.held answer entry old.queues a.row a.taken) [
       | inl i ↦ issued old new c b q in_queues (queues ∙ i.0) i.1.0 (here 1 i.1.1) others
       | inr i ↦ left_alone old new q (queues ∙ i.0) (λ core block. elim (others core block) [
         | inr e ↦ e
@@ -180,7 +180,7 @@ fills_waits closing p log old new did inside f k =
           let P : ℕ → Type 0 = λ x. waits (held_at (slice_set old closing.core f.line) x).state ≡ waits (held_at old x).state in
           let here : waits (held_at (slice_set old closing.core f.line) closing.core).state ≡ waits (held_at old closing.core).state =
           ap (λ (x : Line). waits x.state) (get_or-set_same old closing.core f.line nothing_held inside ∙ f.fills.held)
-          ∙ same_waits f.fills.next (held_at old closing.core).state (fill-waits p (held_at old closing.core).state f.fills.event f.fills.act f.fills.next f.asking f.fills.fill f.fills.row) in
+          ∙ same_waits f.fills.next (held_at old closing.core).state (fill-waits p (held_at old closing.core).state f.fills.event f.fills.act f.fills.next f.asking.op f.fills.fill f.fills.row) in
           ap (λ (x : Line). waits x.state) now ∙ subst P (sym h.1) here
     ]
 
@@ -201,9 +201,9 @@ respond_queued old b closing did new g q within r =
 
 -- a move keeps the queues
 pub move_queued : (block : ℕ) (old : Situation) (step : Step) (answer : Reply) (new : Situation) (entry : Option Item) → IsCoherent old → AreQueued old → MoveOn block old step answer new entry → AreQueued new
-move_queued block old (Ask core on asking) answer new entry g q m = elim m.2 as (λ _. AreQueued new) [
+move_queued block old (Ask core on word asking) answer new entry g q m = elim m.2 as (λ _. AreQueued new) [
   | inl idle ↦ subst AreQueued (sym idle.3) q
-  | inr a ↦ ask_queued old core block asking answer new entry g q m.1 a
+  | inr a ↦ ask_queued old core block word asking answer new entry g q m.1 a
 ]
 move_queued block old (Order core) answer new entry g q m = order_queued old core block m.0 new g q m.1.0 m.1.3
 move_queued block old (Respond on) answer new entry g q m = respond_queued old block m.0 m.1.0 new g q m.1.1.1 m.1.1.4

@@ -20,7 +20,7 @@ same_alike : (old new : Situation) → new ≡ old → IsAlike old new
 same_alike old new same = (ap (λ (s : Situation). s.protocol) same, ap (λ (s : Situation). s.shape) same)
 
 pub move_stays : (old new : Situation) (step : Step) (answer : Reply) (entry : Option Item) → FirstMove old step answer new entry → IsAlike old new
-move_stays old new (Ask core on asking) answer entry m = elim m.1.1.2 [
+move_stays old new (Ask core on word asking) answer entry m = elim m.1.1.2 [
   | inl absent ↦ same_alike old new absent.3
   | inr asks ↦ (ap (λ (s : Situation). s.protocol) asks.after, ap (λ (s : Situation). s.shape) asks.after)
 ]

@@ -1,6 +1,6 @@
 -- The inductive invariant of one block's picture, for any number of cores.
 -- Source: this project's profile.
-use Rattle.std.specs.Prelude.{◌≡◌, ◌<◌, ◌==◌, ℕ, Bool, true, false, cond, Option, Some, None, is_some}
+use Rattle.std.specs.Prelude.{◌≡◌, ◌<◌, ◌==◌, ℕ, List, Bool, true, false, cond, Option, Some, None, is_some}
 use Rattle.snoop_rules.specs.declared.names.Protocol.{Protocol}
 use Rattle.snoop_rules.specs.declared.names.Request.{Request}
 use Rattle.snoop_rules.specs.Takers.{carries_value}
@@ -24,8 +24,8 @@ abbrev pub owns : Option ℕ → ℕ → Bool
 owns None d = false
 owns (Some o) d = d == o
 
--- where n cores hold a block whose flat value is this one: each reader keeps it, and memory and the message have it where they are said to
-pub record Good (p : Protocol) (n : ℕ) (flat : ℕ) (picture : Picture) : Type 0 where
+-- where n cores hold a block whose words in flat memory are these: each reader keeps it, and memory and the message have it where they are said to
+pub record Good (p : Protocol) (n : ℕ) (flat : List ℕ) (picture : Picture) : Type 0 where
   pub claims : Claims
   pub is_claims : claims_of p picture.memory.state (talk_of picture.transaction) ≡ Some claims
   pub owner : Option ℕ

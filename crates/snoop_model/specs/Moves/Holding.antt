@@ -6,13 +6,13 @@ use Rattle.snoop_trace.specs.declared.step.Step.{Step}
 use Rattle.snoop_trace.specs.declared.step.Step.TheVariants.{Ask, Order, Respond}
 use Rattle.snoop_rules.specs.declared.names.CacheState.TheVariants.{I}
 use Rattle.snoop_model.specs.Pictures.Situation.{Situation, state_of}
-use Rattle.snoop_model.specs.Moves.Move.{IsWithin}
+use Rattle.snoop_model.specs.Moves.Move.{IsWithin, IsWordWithin}
 use Rattle.snoop_model.specs.Moves.Standing.{Standing, lines_of, has_line}
 
 -- the step is an Ask of the core that leaves I, a load or a store of a block that the core does not hold, and its map has no line for the block yet
 abbrev pub NeedsLine : Standing → Step → ℕ → Type 0
-NeedsLine s (Ask asker block asking) core =
-    (asker ≡ core) × IsWithin s.situation asker block × (asking ≢ op.Evict) × (state_of s.situation asker block ≡ I) × (has_line s asker block ≡ false)
+NeedsLine s (Ask asker block word asking) core =
+    (asker ≡ core) × IsWithin s.situation asker block × (asking ≢ op.Evict) × (state_of s.situation asker block ≡ I) × (has_line s asker block ≡ false) × IsWordWithin s.situation word asking
 NeedsLine s (Order orderer) core = ⊥
 NeedsLine s (Respond block) core = ⊥
 

@@ -1,6 +1,7 @@
 -- The look-up of the sender at an Order, and the rows that the cores take.
 -- Source: this project's profile.
 use Rattle.std.specs.Prelude.{◌≡◌, ℕ, ◌<◌, List, length, Option, Some, None, if◌then◌else◌}
+use Rattle.snoop_trace.specs.Words.{zero_words}
 use Rattle.snoop_rules.specs.declared.names.Protocol.{Protocol}
 use Rattle.snoop_rules.specs.declared.names.Request.{Request}
 use Rattle.snoop_rules.specs.Takers.{seen_by, carries_value}
@@ -30,7 +31,7 @@ pub record TakesRows (protocol : Protocol) (core : ℕ) (request : Request) (old
   pub rows : (k : ℕ) → k < length old → TakesRow protocol (seen_by k core request) (held_at old k) (held_at new k)
 
 -- the message that memory sends by an action
-abbrev pub memory_message : MemAction → ℕ → Option Message
-memory_message (mem_action.Send payload) value = Some (record { payload = payload; value = if carries_value payload then value else 0; from = None })
+abbrev pub memory_message : MemAction → List ℕ → Option Message
+memory_message (mem_action.Send payload) value = Some (record { payload = payload; value = if carries_value payload then value else zero_words; from = None })
 memory_message mem_action.None value = None
 memory_message mem_action.Write value = None

@@ -34,8 +34,8 @@ abbrev pub first_memory : Protocol → MemState
 first_memory Msi = mem.IorS
 first_memory Mesi = mem.I
 
--- what is left of a kept value when a state comes: it is given up in I, IM_AD and II_A
-abbrev pub kept_on : CacheState → Option ℕ → Option ℕ
+-- what is left of kept words when a state comes: they are given up in I, IM_AD and II_A
+abbrev pub kept_on : CacheState → Option (List ℕ) → Option (List ℕ)
 kept_on I kept = None
 kept_on ImAd kept = None
 kept_on IiA kept = None

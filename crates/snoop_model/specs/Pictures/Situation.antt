@@ -2,6 +2,7 @@
 -- Source: this project's profile.
 use Rattle.std.specs.Prelude.{◌≡◌, ℕ, List, [], Option, Some, None, slice_get, slice_index_or, slice_set, replicate}
 use Rattle.snoop_trace.specs.Extent.{Extent}
+use Rattle.snoop_trace.specs.Words.{zero_words}
 use Rattle.snoop_rules.specs.declared.names.Protocol.{Protocol}
 use Rattle.snoop_rules.specs.declared.names.CacheState.{CacheState}
 use Rattle.snoop_rules.specs.declared.names.Request.{Request}
@@ -31,7 +32,7 @@ reset protocol shape =
       protocol = protocol;
       shape = shape;
       caches = replicate shape.blocks (replicate shape.cores nothing_held);
-      memory = replicate shape.blocks (record { state = first_memory protocol; value = 0 });
+      memory = replicate shape.blocks (record { state = first_memory protocol; value = zero_words });
       transactions = replicate shape.blocks None;
       queues = replicate shape.cores [];
       log = [];
@@ -39,7 +40,7 @@ reset protocol shape =
 
 -- what stands for memory outside the shape
 abbrev pub no_memory : MemLine
-no_memory = record { state = IorS; value = 0 }
+no_memory = record { state = IorS; value = zero_words }
 
 -- the picture of a block
 abbrev pub picture_of : Situation → ℕ → Picture

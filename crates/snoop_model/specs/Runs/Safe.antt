@@ -2,7 +2,7 @@
 -- Source: the single-writer-multiple-reader invariant and the data values of "A Primer on Memory Consistency and Cache Coherence", 2nd edition; the rest is this project's profile.
 use Rattle.std.specs.Prelude.{ℕ, ◌<◌}
 use Rattle.snoop_trace.specs.declared.step.Step.{Step}
-use Rattle.snoop_history.specs.History.{flat, Legal}
+use Rattle.snoop_history.specs.History.{flat_words, Legal}
 use Rattle.snoop_model.specs.Pictures.Picture.{held_by}
 use Rattle.snoop_model.specs.Pictures.Situation.{Situation, picture_of}
 use Rattle.snoop_model.specs.Pictures.OneWriter.{OneWriter}
@@ -19,8 +19,8 @@ use Rattle.snoop_model.specs.Invariant.WellKept.{IsWellKept}
 pub record IsSafe (s : Situation) : Type 0 where
   pub one_writer : (block : ℕ) → OneWriter s.protocol (picture_of s block)
   pub legal : Legal s.log
-  pub current : (block : ℕ) → IsCurrent s.protocol (picture_of s block) (flat s.log block)
-  pub memory : (block : ℕ) → block < s.shape.blocks → IsMemoryCurrent s.protocol (picture_of s block) (flat s.log block)
+  pub current : (block : ℕ) → IsCurrent s.protocol (picture_of s block) (flat_words s.log block)
+  pub memory : (block : ℕ) → block < s.shape.blocks → IsMemoryCurrent s.protocol (picture_of s block) (flat_words s.log block)
   pub opened : (block : ℕ) → NamesItsBlock s block
   pub possible : (step : Step) → FindsRows s step
   pub lines : OrdersFollowSenderTable s.protocol s

@@ -9,7 +9,7 @@ use Rattle.snoop_history.specs.declared.items.Item.{Item}
 use Rattle.snoop_model.specs.declared.replies.Reply.{Reply}
 use Rattle.snoop_model.specs.declared.replies.Refused.{Refused}
 use Rattle.snoop_model.specs.Pictures.Situation.{Situation, reset}
-use Rattle.snoop_model.specs.Moves.Move.{FirstMove}
+use Rattle.snoop_model.specs.Moves.Move.{FirstMove, IsWordWithin}
 use Rattle.snoop_model.specs.Moves.Refuses.{Refuses}
 use Rattle.snoop_model.specs.Turns.Turn.{turn_of}
 use Rattle.snoop_model.specs.Turns.Serving.{IsServing, IsUnderWay, owed, paid}
@@ -30,9 +30,9 @@ KeepsWell =
 -- no step of a turn is refused, memory aside
 abbrev pub NeverRefused : Type 0
 NeverRefused =
-    (s : Situation) (under_way : ℕ → Option ℕ) (core block : ℕ) (asking : Op) (begun : Bool) (step : Step)
-    → IsServing under_way s → IsWellKept s → core < s.shape.cores → block < s.shape.blocks
-    → under_way core ≡ (if begun then Some block else None) → turn_of s core block asking begun ≡ Some step
+    (s : Situation) (under_way : ℕ → Option ℕ) (core block word : ℕ) (asking : Op) (begun : Bool) (step : Step)
+    → IsServing under_way s → IsWellKept s → core < s.shape.cores → block < s.shape.blocks → IsWordWithin s word asking
+    → under_way core ≡ (if begun then Some block else None) → turn_of s core block word asking begun ≡ Some step
     → (cause : Refused) → ¬ Refuses s step cause
 
 -- a move serves on, once the core that asks has its block under way
@@ -46,8 +46,8 @@ ServesOn =
 -- a work that has no step left is over: its core may have any other under way
 abbrev pub Ends : Type 0
 Ends =
-    (s : Situation) (before after : ℕ → Option ℕ) (core block : ℕ) (asking : Op)
-    → IsServing before s → IsWellKept s → before core ≡ Some block → turn_of s core block asking true ≡ None
+    (s : Situation) (before after : ℕ → Option ℕ) (core block word : ℕ) (asking : Op)
+    → IsServing before s → IsWellKept s → before core ≡ Some block → turn_of s core block word asking true ≡ None
     → ((other : ℕ) → other ≢ core → after other ≡ before other)
     → IsServing after s
 

@@ -1,7 +1,7 @@
 -- Each clause, from the invariant of every run.
 use Rattle.std.proofs.Common.{subst}
 use Rattle.snoop_rules.specs.declared.names.Protocol.{Protocol}
-use Rattle.snoop_history.specs.History.{flat}
+use Rattle.snoop_history.specs.History.{flat_words}
 use Rattle.snoop_model.specs.Pictures.Situation.{picture_of, reset}
 use Rattle.snoop_model.specs.Pictures.OneWriter.{OneWriter}
 use Rattle.snoop_model.specs.Pictures.Current.{IsCurrent}
@@ -24,11 +24,11 @@ returns-clause-legal c p shape steps outcomes new run = (run_keeps steps outcome
 
 pub returns-clause-current : goal.returns-clause-current
 returns-clause-current c p shape steps outcomes new run block =
-    subst (λ (x : Protocol). IsCurrent x (picture_of new block) (flat new.log block)) (run_protocol steps outcomes (reset p shape) new run) (readers_current new (run_keeps steps outcomes (reset p shape) new (reset_coherent p shape) run) block)
+    subst (λ (x : Protocol). IsCurrent x (picture_of new block) (flat_words new.log block)) (run_protocol steps outcomes (reset p shape) new run) (readers_current new (run_keeps steps outcomes (reset p shape) new (reset_coherent p shape) run) block)
 
 pub returns-clause-memory : goal.returns-clause-memory
 returns-clause-memory c p shape steps outcomes new run block within =
-    subst (λ (x : Protocol). IsMemoryCurrent x (picture_of new block) (flat new.log block)) (run_protocol steps outcomes (reset p shape) new run) (memory_current new (run_keeps steps outcomes (reset p shape) new (reset_coherent p shape) run) block within)
+    subst (λ (x : Protocol). IsMemoryCurrent x (picture_of new block) (flat_words new.log block)) (run_protocol steps outcomes (reset p shape) new run) (memory_current new (run_keeps steps outcomes (reset p shape) new (reset_coherent p shape) run) block within)
 
 pub returns-clause-opened : goal.returns-clause-opened
 returns-clause-opened c p shape steps outcomes new run = names_its_block new (run_keeps steps outcomes (reset p shape) new (reset_coherent p shape) run)

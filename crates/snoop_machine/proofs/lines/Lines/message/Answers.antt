@@ -1,5 +1,6 @@
 use Rattle.std.proofs.Common.{◌<◌, length, arith, sym, ap, ◌∙◌, subst, Some}
 use Rattle.std.specs.Prelude.{unwrap_or, if◌then◌else◌}
+use Rattle.snoop_trace.specs.Words.{zero_words}
 use Rattle.snoop_rules.specs.declared.names.CacheState.{CacheState}
 use Rattle.snoop_rules.specs.declared.names.CacheEvent.{CacheEvent}
 use Rattle.snoop_rules.specs.declared.names.CacheAction.{CacheAction}
@@ -55,9 +56,9 @@ returns-in-Send c =
     let before = free_picture (row_of c.args.self.now.rows c.args.block) c.args.memory in
     let core = c.in-Some-next.core in
     let P : CacheAction → Type 0 = λ act. Cell c.args.protocol (held_at (row_of c.args.self.now.rows c.args.block) core).state (seen_by core c.args.requestor c.args.request) act c.in-Some-cache_cell.cell.next in
-    IsMessage-sent c.args.protocol before c.args.requestor c.args.request c.requires.rows c.requires.line (record { payload = c.in-Send.payload; value = c.value_for.result; from = Some core })
+    IsMessage-sent c.args.protocol before c.args.requestor c.args.request c.requires.rows c.requires.line (record { payload = c.in-Send.payload; value = c.words_for.result; from = Some core })
     (within_row (goal.at.returns-in-Send c).In-Some-next, (c.in-Send.field-1, (c.in-Some-cache_cell.cell.next, subst P c.in-Send.is (row d))))
-    (c.value_for.ensures ∙ ap (λ (line : Line). if carries_value c.in-Send.payload then unwrap_or line.kept 0 else 0) c.get-line.ensures.line)
+    (c.words_for.ensures ∙ ap (λ (line : Line). if carries_value c.in-Send.payload then unwrap_or line.kept zero_words else zero_words) c.get-line.ensures.line)
 
 pub loop-core-preserved : goal.loop-core-preserved
 loop-core-preserved c =

@@ -38,6 +38,7 @@ invariant_of-self-2 c =
       memory = c.self.invariant.memory;
       cores = c.self.invariant.cores;
       blocks = c.self.invariant.blocks;
+      words = c.self.invariant.words;
     }
 
 pub returns-in_err-reserve-clause-full : goal.returns-in_err-reserve-clause-full

@@ -29,6 +29,7 @@ invariant_of-self c =
       memory = ap (λ (l : List MemLine). length l) c.set.ensures ∙ (length-set m.memory c.args.block c.args.memory ∙ c.self.invariant.memory);
       cores = ap (λ (j : Journal). j.cores) c.push.ensures ∙ c.self.invariant.cores;
       blocks = ap (λ (j : Journal). j.blocks) c.push.ensures ∙ c.self.invariant.blocks;
+      words = ap (λ (j : Journal). j.words) c.push.ensures ∙ c.self.invariant.words;
     }
 
 pub returns-clause-responded : goal.returns-clause-responded

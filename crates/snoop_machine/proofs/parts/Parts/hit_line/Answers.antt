@@ -24,6 +24,7 @@ invariant_of-self c =
       memory = c.self.invariant.memory;
       cores = ap (λ (j : Journal). j.cores) c.push.ensures ∙ c.self.invariant.cores;
       blocks = ap (λ (j : Journal). j.blocks) c.push.ensures ∙ c.self.invariant.blocks;
+      words = ap (λ (j : Journal). j.words) c.push.ensures ∙ c.self.invariant.words;
     }
 
 pub returns-clause-lines : goal.returns-clause-lines

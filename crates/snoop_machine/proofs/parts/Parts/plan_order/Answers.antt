@@ -28,7 +28,7 @@ none_from_is_some (Some x) h = cc
 
 -- what memory holds
 memory_is : (c : In-Some-mem_cell) → c.get_or-memory.result ≡ slice_index_or c.self.inside.memory c.in-Some.block no_memory
-memory_is c = c.get_or-memory.ensures
+memory_is c = c.get_or-memory.ensures ∙ ap (λ (x : MemLine). slice_index_or c.self.inside.memory c.in-Some.block x) c.no_memory.ensures
 
 -- the block that stands first has no open transaction, and this picture
 picture : (c : In-Some-mem_cell) → free_picture (row_of c.self.inside.lines.rows c.in-Some.block) c.get_or-memory.result ≡ picture_of c.args.self.now.situation c.in-Some.block
@@ -100,7 +100,7 @@ unreachable-requires c =
     let W : Standing → Type 0 = λ x. block < x.situation.shape.blocks in
     let within : block < m.shape.blocks = subst W (sym c.self.view_is) head.within in
     let long = c.self.invariant.memory in
-    let held : c.get_or-memory.result ≡ slice_index_or m.memory block no_memory = c.get_or-memory.ensures in
+    let held : c.get_or-memory.result ≡ slice_index_or m.memory block no_memory = c.get_or-memory.ensures ∙ ap (λ (x : MemLine). slice_index_or m.memory block x) c.no_memory.ensures in
     let P : MemEvent → Type 0 = λ event. IsMemImpossible m.protocol c.get_or-memory.result.state event in
     let Q : MemLine → Type 0 = λ x. IsMemImpossible m.protocol x.state (at_memory request) in
     let R : Standing → Type 0 = λ x. IsMemImpossible x.situation.protocol (picture_of x.situation block).memory.state (at_memory request) in

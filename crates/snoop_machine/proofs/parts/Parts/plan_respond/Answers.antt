@@ -1,5 +1,5 @@
-use Rattle.std.proofs.Common.{◌≡◌, ◌≢◌, true, false, refl, sym, ◌∙◌, subst}
-use Rattle.std.specs.Prelude.{IsSomeAnd, IsTrue}
+use Rattle.std.proofs.Common.{◌≡◌, ◌≢◌, true, false, refl, sym, ap, ◌∙◌, subst}
+use Rattle.std.specs.Prelude.{IsSomeAnd, IsTrue, slice_index_or}
 use Rattle.snoop_trace.specs.declared.step.Step.TheVariants.{Respond}
 use Rattle.snoop_rules.specs.declared.names.Request.TheVariants.{PutM}
 use Rattle.snoop_rules.specs.Takers.{arrival, arrival_at_memory, takes_payload}
@@ -21,7 +21,7 @@ arrive-memory-requires c =
     let P : MemLine → Type 0 = λ x. IsTrue (takes_payload closing.request x.state) → IsSomeAnd (arrival_at_memory closing.payload) (HasMemRow c.self.inside.protocol x.state) in
     let Q : Standing → Type 0 = λ x. IsTrue (takes_payload closing.request (picture_of x.situation block).memory.state) → IsSomeAnd (arrival_at_memory closing.payload) (HasMemRow x.situation.protocol (picture_of x.situation block).memory.state) in
     let finds = finds_rows s c.requires.coherent (Respond block) in
-    subst P (sym c.get_or-before.ensures) (subst Q (sym c.self.view_is)
+    subst P (sym (c.get_or-before.ensures ∙ ap (λ (x : MemLine). slice_index_or c.self.inside.memory block x) c.no_memory.ensures)) (subst Q (sym c.self.view_is)
     (λ takes. finds.memory block (arrival_at_memory closing.payload) (closing, (refl, sym c.transaction.ensures.value ∙ c.in-Some.is, takes, refl))))
 
 pub fill-filled-requires-clause-possible : goal.fill-filled-requires-clause-possible

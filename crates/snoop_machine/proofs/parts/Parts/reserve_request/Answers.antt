@@ -26,6 +26,7 @@ invariant_of-self c =
       memory = c.self.invariant.memory;
       cores = c.self.invariant.cores;
       blocks = c.self.invariant.blocks;
+      words = c.self.invariant.words;
     }
 
 pub returns-clause-unchanged : goal.returns-clause-unchanged

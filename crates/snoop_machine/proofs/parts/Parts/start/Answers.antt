@@ -1,6 +1,7 @@
 use Rattle.std.proofs.Common.{◌≡◌, ℕ, List, ◌<◌, ◌≤◌, ◌+◌, ◌++◌, ◌∷◌, [], length, drop, Option, Some, None, ◌∙◌, refl, sym, ap, subst, arith}
 use Rattle.std.specs.Prelude.{◌==◌, not, filter, slice_set, slice_index_or, IsSome, IfSome}
 use Rattle.std.proofs.lemmas.List.{length-set, length-append, length-drop}
+use Rattle.snoop_trace.specs.declared.words.Words.{Words}
 use Rattle.snoop_rules.specs.declared.names.Request.{Request}
 use Rattle.snoop_rules.specs.Takers.{at_memory, seen_by}
 use Rattle.snoop_history.specs.Journal.{Journal}
@@ -84,6 +85,7 @@ invariant_of-self c =
       memory = ap (λ (l : List MemLine). length l) c.set.ensures ∙ (length-set m.memory c.args.block (record { state = c.args.memory; value = c.get_or-before.result.value }) ∙ c.self.invariant.memory);
       cores = ap (λ (j : Journal). j.cores) c.push.ensures ∙ c.self.invariant.cores;
       blocks = ap (λ (j : Journal). j.blocks) c.push.ensures ∙ c.self.invariant.blocks;
+      words = ap (λ (j : Journal). j.words) c.push.ensures ∙ c.self.invariant.words;
     }
 
 pub returns-clause-ordered : goal.returns-clause-ordered
@@ -105,7 +107,7 @@ returns-clause-ordered c =
     let M : Situation → Type 0 = λ x. IsMessage x.protocol (picture_of x block) core request message in
     let N : Situation → Type 0 = λ x. TakesMemRow x.protocol (at_memory request) (picture_of x block).memory.state c.args.memory in
     let sent : IsMessage m.protocol (picture_of old block) core request message = subst M (sym is) c.requires.message in
-    let value : c.get_or-before.result ≡ slice_index_or m.memory block no_memory = c.get_or-before.ensures in
+    let value : c.get_or-before.result ≡ slice_index_or m.memory block no_memory = c.get_or-before.ensures ∙ ap (λ (x : MemLine). slice_index_or m.memory block x) c.no_memory.ensures in
     let next : Picture = record {
       caches = row_of c.take_rows.new.self.rows block;
       memory = record { state = c.args.memory; value = (picture_of old block).memory.value };
@@ -133,7 +135,7 @@ returns-clause-ordered c =
           })
           refl refl c.take_rows.ensures.others
           (c.set.ensures ∙ ap (λ (x : MemLine). slice_set m.memory block (let r : MemLine = record { state = c.args.memory; value = x.value } in r)) value)
-          (s.transactions ∙ ap (λ (x : ℕ). slice_set m.bus.transactions block (let o : Option Open = Some (record { core = core; request = request; block = block; payload = message.payload; value = x; from = message.from }) in o)) sent.value)
+          (s.transactions ∙ ap (λ (x : Words). slice_set m.bus.transactions block (let o : Option Open = Some (record { core = core; request = request; block = block; payload = message.payload; value = x; from = message.from }) in o)) sent.value)
           (ap queues_of s.queues ∙ (queues_of-set m.bus.queues core (record { requests = drop 1 (waiting_of m.bus core).requests; room = s.room })
           ∙ ap (λ l. slice_set (queues_of m.bus.queues) core l)
           (blocks_of-rest (waiting_of m.bus core).requests request block h (c.self.invariant.sound.once core) ∙ ap (filter (λ x. not (x == block))) (sym (queue_of-queues_of m.bus.queues core)))))

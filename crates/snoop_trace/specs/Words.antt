@@ -1,0 +1,24 @@
+-- The words of a block.
+-- Source: this project's profile.
+use Rattle.std.specs.Prelude.{◌≡◌, ◌<◌, ◌≤◌, ℕ, List, replicate, slice_index_or}
+use Rattle.snoop_trace.specs.Extent.{Extent}
+
+-- the most words that a block may have
+abbrev pub word_places : ℕ
+word_places = 64
+
+-- the value of one word; 0 where there is none
+abbrev pub word_at : List ℕ → ℕ → ℕ
+word_at words word = slice_index_or words word 0
+
+-- the words of a block in which each is 0
+abbrev pub zero_words : List ℕ
+zero_words = replicate 64 0
+
+-- each word from this one on is 0
+abbrev pub AreZeroFrom : ℕ → List ℕ → Type 0
+AreZeroFrom count words = (word : ℕ) → count ≤ word → word_at words word ≡ 0
+
+-- a word that blocks of the shape have: below their number of words, and so one of the places, as no shape has more words
+abbrev pub IsWord : Extent → ℕ → Type 0
+IsWord shape word = (word < shape.words) × (word < word_places)
