@@ -14,7 +14,7 @@ use Rattle.snoop_rules.specs.declared.names.CacheAction.TheVariants as action
 use Rattle.snoop_rules.specs.Cell.{Cell}
 use Rattle.snoop_rules.specs.Waits.{waiting_request}
 use Rattle.snoop_rules.specs.Takers.{seen_by, own, other}
-use Rattle.snoop_model.specs.declared.line.Line.{Line}
+use Rattle.snoop_model.specs.Pictures.Lines.{Line}
 use Rattle.snoop_model.specs.Pictures.Picture.{held_at, nothing_held}
 use Rattle.snoop_model.specs.Pictures.Sound.{IsProper}
 use Rattle.snoop_model.specs.Invariant.Fits.{is_owner}

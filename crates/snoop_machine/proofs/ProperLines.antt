@@ -5,7 +5,7 @@ use Rattle.snoop_trace.specs.declared.words.Words.{Words}
 use Rattle.snoop_rules.specs.declared.names.CacheState.{CacheState}
 use Rattle.snoop_rules.specs.declared.names.CacheState.TheVariants as state
 use Rattle.snoop_model.specs.declared.line.Access.{Access}
-use Rattle.snoop_model.specs.declared.line.Line.{Line}
+use Rattle.snoop_model.specs.Pictures.Lines.{Line}
 use Rattle.snoop_model.specs.Pictures.Picture.{kept_on, nothing_held}
 use Rattle.snoop_model.specs.Pictures.Sound.{IsProper, keeps, request_for, missed_request}
 use Rattle.snoop_model.specs.Moves.Move.{moves_to}

@@ -9,13 +9,12 @@ use Rattle.snoop_rules.specs.declared.names.MemState.{MemState}
 use Rattle.snoop_rules.specs.declared.names.Request.{Request}
 use Rattle.snoop_rules.specs.declared.names.Request.TheVariants.{PutM}
 use Rattle.snoop_rules.specs.Takers.{at_memory}
-use Rattle.snoop_bus.specs.declared.transactions.Open.{Open}
+use Rattle.snoop_bus.specs.Traffic.{Open}
 use Rattle.snoop_history.specs.declared.items.Item.{Item}
 use Rattle.snoop_history.specs.declared.items.Item.TheVariants as item
 use Rattle.snoop_machine.specs.declared.ask.Asked.{Asked}
 use Rattle.snoop_machine.specs.declared.ask.Asked.TheVariants as asked
-use Rattle.snoop_model.specs.declared.memory.MemLine.{MemLine}
-use Rattle.snoop_model.specs.declared.message.Message.{Message}
+use Rattle.snoop_model.specs.Pictures.Lines.{MemLine, Message}
 use Rattle.snoop_machine.specs.declared.plan.Plan.{Plan}
 use Rattle.snoop_machine.specs.declared.plan.Plan.TheVariants.{Ask, Order, Writeback, Fill}
 use Rattle.snoop_model.specs.Moves.Standing.{Standing, has_line}

@@ -8,25 +8,29 @@ ghost use Rattle.snoop_machine.specs.Cache.{line_in, blocks_of};
 use indexmap::IndexMap;
 use snoop_model::Line;
 use snoop_rules::CacheState;
-use snoop_trace::NoMemory;
+use snoop_trace::{Block, Kept, NoMemory};
 use std::alloc::Global;
 use std::marker::Model;
 use std::mem::replace;
 
 /// The line of a block of which a cache holds nothing.
-const NOTHING: Line = Line {
-    state: CacheState::I,
-    kept: None,
-    waiting: None,
-};
+fn nothing<B: Block>() -> Line<Kept<B>>
+    ensures { result ≡ nothing_held }
+{
+    Line {
+        state: CacheState::I,
+        kept: None,
+        waiting: None,
+    }
+}
 
 /// The lines of one core, by block. A block without one is in I.
 #[derive(Debug, Drop)]
-pub(crate) struct Cache {
-    lines: IndexMap<u32, Line>,
+pub(crate) struct Cache<B: Block> {
+    lines: IndexMap<u32, Line<Kept<B>>>,
 }
 
-impl Model for Cache {
+impl<B: Block> Model for Cache<B> {
     ghost use Rattle.indexmap.specs.IndexMap.{spare};
     ghost use Rattle.snoop_machine.specs.Cache.{Contents};
 
@@ -35,8 +39,8 @@ impl Model for Cache {
     ghost view = { λ c. record { entries = c.lines.entries; spare = spare c.lines } };
 }
 
-impl Cache {
-    pub(crate) fn new(alloc: Global) -> Cache
+impl<B: Block> Cache<B> {
+    pub(crate) fn new(alloc: Global) -> Cache<B>
         ensures { result.entries ≡ [] }
     {
         Cache {
@@ -59,10 +63,10 @@ impl Cache {
     }
 
     /// What the core holds of the block.
-    pub(crate) fn get(&self, block: u32) -> Line
+    pub(crate) fn get(&self, block: u32) -> Line<Kept<B>>
         ensures { result ≡ line_in self.now block }
     {
-        self.lines.get(&block).copied().unwrap_or(NOTHING)
+        self.lines.get(&block).copied().unwrap_or(nothing())
     }
 
     /// Whether there is room for one more line.
@@ -94,11 +98,11 @@ impl Cache {
         ensures same { (b : ℕ) → line_in self.new b ≡ line_in self.old b }
         ensures blocks { blocks_of self.new ≡ blocks_of self.old ++ block ∷ [] }
     {
-        self.lines.insert(block, NOTHING).unwrap();
+        self.lines.insert(block, nothing()).unwrap();
     }
 
     /// Writes the block's line, and answers the state that it was in. A line in I is taken out.
-    pub(crate) fn set(&mut self, block: u32, line: Line) -> CacheState
+    pub(crate) fn set(&mut self, block: u32, line: Line<Kept<B>>) -> CacheState
         requires place { IsSome (lookup (nat_eq block) self.old.entries) }
         requires settled { line.state ≡ I → line ≡ nothing_held }
         ensures before { result ≡ (line_in self.old block).state }
@@ -108,7 +112,7 @@ impl Cache {
         ensures stays { ¬ (line.state ≡ I) → length self.new.entries ≡ length self.old.entries }
     {
         if matches!(&line.state, CacheState::I) {
-            self.lines.swap_remove(&block).unwrap_or(NOTHING).state
+            self.lines.swap_remove(&block).unwrap_or(nothing()).state
         } else if let Some(place) = self.lines.get_mut(&block) {
             replace(place, line).state
         } else {

@@ -1,5 +1,5 @@
 //! The parts of a machine, which its steps change one after another.
-ghost use Rattle.std.specs.Prelude.{◌≡◌, ◌<◌, ◌↔◌, ℕ, length, option_map, is_some, IsTrue, IfOk, IfSome, Some};
+ghost use Rattle.std.specs.Prelude.{◌≡◌, ◌<◌, ◌≤◌, ◌↔◌, ℕ, length, option_map, is_some, IsTrue, IfOk, IfSome, Some};
 ghost use Rattle.snoop_trace.specs.Words.{word_at};
 ghost use Rattle.snoop_bus.specs.Queues.{queue_of};
 ghost use Rattle.snoop_rules.specs.Waits.{waiting_request};
@@ -21,56 +21,59 @@ use snoop_bus::{Bus, Open};
 use snoop_history::{Did, Log};
 use snoop_model::{Access, Line, MemLine};
 use snoop_rules::{CacheState, MemState, Protocol};
-use snoop_trace::{NoMemory, Op, Shape, Words};
+use snoop_trace::{Block, Kept, NoMemory, Op, Shape};
 use std::alloc::Global;
 use std::marker::Model;
 
 /// What stands for memory's line of a block that there isn't.
-fn no_memory() -> MemLine
+fn no_memory<B: Block>() -> MemLine<Kept<B>>
+    requires { B.count ≤ 64 }
     ensures { result ≡ no_memory }
 {
     MemLine {
         state: MemState::IorS,
-        value: Words::zero(),
+        value: Kept::zero(),
     }
 }
 
 /// The caches, memory, the bus that joins them, and the history of what they did.
 #[derive(Debug, Drop)]
-pub(crate) struct Parts {
+pub(crate) struct Parts<B: Block> {
     protocol: Protocol,
     shape: Shape,
-    lines: Lines,
-    memory: BlockTable<MemLine>,
-    bus: Bus,
+    lines: Lines<B>,
+    memory: BlockTable<MemLine<Kept<B>>>,
+    bus: Bus<Kept<B>>,
     log: Log,
 }
 
-impl Model for Parts {
+impl<B: Block> Model for Parts<B> {
     ghost use Rattle.snoop_model.specs.Moves.Standing.{Standing};
 
     ghost Value = { Standing };
 
-    ghost use Rattle.snoop_machine.specs.PartsView.{standing, IsWhole};
+    ghost use Rattle.snoop_machine.specs.PartsView.{fields, standing, IsWhole};
 
-    ghost view = { standing };
+    ghost view = { λ m. standing (fields m.protocol m.shape m.lines m.memory m.bus m.log) };
 
-    ghost invariant = { IsWhole };
+    ghost invariant = { λ m. IsWhole B.count (fields m.protocol m.shape m.lines m.memory m.bus m.log) };
 }
 
-impl Parts {
+impl<B: Block> Parts<B> {
     /// The parts of a machine at reset.
     pub(crate) fn reset(alloc: Global, protocol: Protocol, shape: Shape) -> Result<Self, NoMemory>
+        requires words { shape.words ≡ B.count }
         ensures situation { IfOk result (λ parts. parts.situation ≡ reset protocol shape) }
         ensures empty { IfOk result (λ parts. (core : ℕ) → lines_of parts core ≡ 0) }
     {
         prove!(shape.cores() <= 256);
+        prove!(shape.words() <= 64);
         let lines = Lines::new(alloc, shape)?;
         let bus = Bus::new(alloc, shape)?;
         let log = Log::new(alloc, shape)?;
         let first = MemLine {
             state: first_state(protocol),
-            value: Words::zero(),
+            value: Kept::zero(),
         };
         let memory = BlockTable::new(alloc, shape.blocks(), first)?;
         Ok(Parts {
@@ -144,7 +147,7 @@ impl Parts {
     }
 
     /// The block's open transaction, if there is one.
-    pub(crate) fn open(&self, block: u32) -> Option<Open>
+    pub(crate) fn open(&self, block: u32) -> Option<Open<Kept<B>>>
         ensures { result ≡ (picture_of self.now.situation block).transaction }
     {
         self.bus.open(block)
@@ -189,7 +192,7 @@ impl Parts {
     }
 
     /// What the core holds of the block.
-    fn line(&self, core: u32, block: u32) -> Line
+    fn line(&self, core: u32, block: u32) -> Line<Kept<B>>
         requires core { core < self.now.situation.shape.cores }
         requires block { block < self.now.situation.shape.blocks }
         ensures line { result ≡ line_at self.now.situation.caches core block }
@@ -216,8 +219,8 @@ impl Parts {
 }
 
 /// The value of a word that a line keeps, if it keeps any.
-fn word_kept(line: Line, word: u32) -> Option<u64>
-    requires { word < 64 }
+fn word_kept<B: Block>(line: Line<Kept<B>>, word: u32) -> Option<u64>
+    requires { word < B.count }
     ensures value { result ≡ option_map (λ ws. word_at ws word) line.kept }
     ensures some { is_some result ≡ is_some line.kept }
 {

@@ -8,32 +8,32 @@ use snoop_trace::Op;
 
 /// What a step will do, found before anything changes.
 #[derive(Clone, Copy, Debug)]
-pub enum Plan {
+pub enum Plan<K> {
     Ask {
         core: u32,
         block: u32,
         word: u32,
         op: Op,
-        asked: Asked,
+        asked: Asked<K>,
     },
     Order {
         core: u32,
         request: Request,
         block: u32,
-        message: Message,
+        message: Message<K>,
         memory: MemState,
     },
     /// Memory takes the message of a PutM.
     Writeback {
         block: u32,
-        closing: Open,
-        memory: MemLine,
+        closing: Open<K>,
+        memory: MemLine<K>,
     },
     /// The requestor takes the data that it waits for, and so does memory where it waits too.
     Fill {
         block: u32,
-        closing: Open,
-        memory: MemLine,
-        filled: Filled,
+        closing: Open<K>,
+        memory: MemLine<K>,
+        filled: Filled<K>,
     },
 }

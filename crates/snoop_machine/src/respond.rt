@@ -11,20 +11,24 @@ use snoop_rules::{
     CacheAction, CacheEvent, MemAction, MemEvent, MemState, Payload, Protocol, Request, cache_cell,
     mem_cell,
 };
-use snoop_trace::Op;
+use snoop_trace::{Block, Kept, Op};
 
 /// The requestor's line after its data has come, and what it performed with it.
 #[derive(Clone, Copy, Debug)]
-pub struct Filled {
-    pub line: Line,
+pub struct Filled<K> {
+    pub line: Line<K>,
     pub access: Access,
     pub value: u64,
 }
 
 /// What the response brings to its requestor's line.
-pub(crate) fn fill(protocol: Protocol, line: Line, closing: &Open) -> Filled
+pub(crate) fn fill<B: Block>(
+    protocol: Protocol,
+    line: Line<Kept<B>>,
+    closing: &Open<Kept<B>>,
+) -> Filled<Kept<B>>
     requires proper { IsProper line }
-    requires word { IfSome line.waiting (λ access. access.word < 64) }
+    requires word { IfSome line.waiting (λ access. access.word < B.count) }
     requires possible { IsSomeAnd (arrival closing.now.payload) (HasRow protocol line.state) }
     ensures { Fills closing.now protocol line result.line result.access result.value }
 {
@@ -69,7 +73,11 @@ pub(crate) fn fill(protocol: Protocol, line: Line, closing: &Open) -> Filled
 }
 
 /// What memory holds once the message of a transaction has come: it takes that of a PutM, and another where it waits for one.
-pub(crate) fn arrive(protocol: Protocol, memory: MemLine, closing: &Open) -> MemLine
+pub(crate) fn arrive<B: Block>(
+    protocol: Protocol,
+    memory: MemLine<Kept<B>>,
+    closing: &Open<Kept<B>>,
+) -> MemLine<Kept<B>>
     requires { IsTrue (takes_payload closing.now.request memory.state) → IsSomeAnd (arrival_at_memory closing.now.payload) (HasMemRow protocol memory.state) }
     ensures { ArrivesAtMemory closing.now protocol memory result }
 {

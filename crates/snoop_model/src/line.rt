@@ -11,10 +11,10 @@ pub struct Access {
 
 /// What a cache holds of one block.
 #[derive(Clone, Copy, Debug, PartialEq, Eq)]
-pub struct Line {
+pub struct Line<K = Words> {
     pub state: CacheState,
     /// The words that loads read, where the state may read.
-    pub kept: Option<Words>,
+    pub kept: Option<K>,
     /// The load or store that waits.
     pub waiting: Option<Access>,
 }

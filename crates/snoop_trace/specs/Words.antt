@@ -1,6 +1,7 @@
 -- The words of a block.
 -- Source: this project's profile.
-use Rattle.std.specs.Prelude.{◌≡◌, ◌<◌, ◌≤◌, ℕ, List, replicate, slice_index_or}
+use Rattle.std.specs.Prelude.{◌≡◌, ◌<◌, ◌≤◌, ◌-◌, ◌++◌, ℕ, List, length, replicate, slice_index_or, take}
+use Rattle.std.proofs.Math.Seq.{take-append_seam}
 use Rattle.snoop_trace.specs.Extent.{Extent}
 
 -- the most words that a block may have
@@ -18,6 +19,14 @@ zero_words = replicate 64 0
 -- each word from this one on is 0
 abbrev pub AreZeroFrom : ℕ → List ℕ → Type 0
 AreZeroFrom count words = (word : ℕ) → count ≤ word → word_at words word ≡ 0
+
+-- the values of a block that has so many words: those that it doesn't have are 0
+abbrev pub padded : ℕ → List ℕ → List ℕ
+padded n values = values ++ replicate (64 - n) 0
+
+-- the words that a block has, of its values
+pub taken-padded : (n : ℕ) (values : List ℕ) → length values ≡ n → take n (padded n values) ≡ values
+taken-padded n values long = rw (← long) (take-append_seam values (replicate (64 - length values) 0))
 
 -- a word that blocks of the shape have: below their number of words, and so one of the places, as no shape has more words
 abbrev pub IsWord : Extent → ℕ → Type 0

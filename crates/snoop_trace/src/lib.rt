@@ -17,4 +17,4 @@ pub use output::write_steps;
 pub use shape::{Shape, ShapeFault};
 pub use step::{Op, Row, Step};
 pub use text::{read_rows, read_steps};
-pub use words::Words;
+pub use words::{Block, Few, Kept, Words};

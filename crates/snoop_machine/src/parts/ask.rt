@@ -23,12 +23,18 @@ use crate::plan::Plan;
 use snoop_history::Item;
 use snoop_model::{Access, Line, Refused, Reply};
 use snoop_rules::Request;
-use snoop_trace::Op;
+use snoop_trace::{Block, Kept, Op};
 
-impl Parts {
+impl<B: Block> Parts<B> {
     /// What an Ask will do, of a core and a block that there are.
     #[inline(always)]
-    pub(super) fn plan_ask(&self, core: u32, block: u32, word: u32, op: Op) -> Result<Plan, Refused>
+    pub(super) fn plan_ask(
+        &self,
+        core: u32,
+        block: u32,
+        word: u32,
+        op: Op,
+    ) -> Result<Plan<Kept<B>>, Refused>
         requires core { core < self.now.situation.shape.cores }
         requires block { block < self.now.situation.shape.blocks }
         requires word { IsWordWithin self.now.situation word op }
@@ -56,7 +62,7 @@ impl Parts {
         block: u32,
         word: u32,
         op: Op,
-        asked: Asked,
+        asked: Asked<Kept<B>>,
     ) -> Reply
         requires core { core < self.old.situation.shape.cores }
         requires block { block < self.old.situation.shape.blocks }
@@ -87,7 +93,7 @@ impl Parts {
 
     /// Writes the line, and puts the request last in the core's queue.
     #[inline(always)]
-    fn issue_line(&mut self, core: u32, block: u32, line: Line, request: Request)
+    fn issue_line(&mut self, core: u32, block: u32, line: Line<Kept<B>>, request: Request)
         requires core { core < self.old.situation.shape.cores }
         requires block { block < self.old.situation.shape.blocks }
         requires room { (has_line self.old core block ≡ true) × (0 < slice_index self.old.rooms core) }
@@ -104,7 +110,7 @@ impl Parts {
 
     /// Writes the line, which waits as it did.
     #[inline(always)]
-    fn put_line(&mut self, core: u32, block: u32, line: Line)
+    fn put_line(&mut self, core: u32, block: u32, line: Line<Kept<B>>)
         requires core { core < self.old.situation.shape.cores }
         requires block { block < self.old.situation.shape.blocks }
         requires same { waiting_request line.state ≡ waiting_request (line_at self.old.situation.caches core block).state }
@@ -119,7 +125,7 @@ impl Parts {
 
     /// Writes the line after a hit, and logs the operation.
     #[inline(always)]
-    fn hit_line(&mut self, core: u32, block: u32, access: Access, line: Line, value: u64)
+    fn hit_line(&mut self, core: u32, block: u32, access: Access, line: Line<Kept<B>>, value: u64)
         requires core { core < self.old.situation.shape.cores }
         requires block { block < self.old.situation.shape.blocks }
         requires word { IsWord self.old.situation.shape access.word }

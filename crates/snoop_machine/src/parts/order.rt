@@ -21,8 +21,9 @@ use crate::plan::Plan;
 use snoop_history::{Item, Sent};
 use snoop_model::{MemLine, Message, Refused};
 use snoop_rules::{MemState, Request, mem_cell};
+use snoop_trace::{Block, Kept};
 
-impl Parts {
+impl<B: Block> Parts<B> {
     /// The core's oldest request.
     pub(super) fn head(&self, core: u32) -> Option<(Request, u32)>
         requires { core < self.now.situation.shape.cores }
@@ -35,7 +36,7 @@ impl Parts {
 
     /// What an Order will do, of a core that there is.
     #[inline(always)]
-    pub(super) fn plan_order(&self, core: u32) -> Result<Plan, Refused>
+    pub(super) fn plan_order(&self, core: u32) -> Result<Plan<Kept<B>>, Refused>
         requires core { core < self.now.situation.shape.cores }
         requires coherent { IsCoherent self.now.situation }
         ensures found { IfOk result (λ plan. IsPlanFor self.now.situation (Order core) plan) }
@@ -71,7 +72,7 @@ impl Parts {
         core: u32,
         request: Request,
         block: u32,
-        message: Message,
+        message: Message<Kept<B>>,
         memory: MemState,
     )
         requires core { core < self.old.situation.shape.cores }

@@ -21,10 +21,11 @@ use snoop_bus::Open;
 use snoop_history::{Came, Did, Item};
 use snoop_model::{MemLine, Refused};
 use snoop_rules::Request;
+use snoop_trace::{Block, Kept};
 
-impl Parts {
+impl<B: Block> Parts<B> {
     /// The block's open transaction.
-    fn transaction(&self, block: u32) -> Option<Open>
+    fn transaction(&self, block: u32) -> Option<Open<Kept<B>>>
         ensures value { result ≡ (picture_of self.now.situation block).transaction }
         ensures within { IfSome result (λ closing. (closing.block ≡ block) × (closing.core < self.now.situation.shape.cores)) }
     {
@@ -33,7 +34,7 @@ impl Parts {
 
     /// What a Respond will do, of a block that there is.
     #[inline(always)]
-    pub(super) fn plan_respond(&self, block: u32) -> Result<Plan, Refused>
+    pub(super) fn plan_respond(&self, block: u32) -> Result<Plan<Kept<B>>, Refused>
         requires block { block < self.now.situation.shape.blocks }
         requires coherent { IsCoherent self.now.situation }
         ensures found { IfOk result (λ plan. IsPlanFor self.now.situation (Respond block) plan) }
@@ -64,7 +65,12 @@ impl Parts {
 
     /// Memory takes the message of a PutM, and its transaction closes.
     #[inline(always)]
-    pub(super) fn finish_put(&mut self, block: u32, closing: Open, memory: MemLine)
+    pub(super) fn finish_put(
+        &mut self,
+        block: u32,
+        closing: Open<Kept<B>>,
+        memory: MemLine<Kept<B>>,
+    )
         requires block { block < self.old.situation.shape.blocks }
         requires room { 0 < self.old.room }
         requires opened { (picture_of self.old.situation block).transaction ≡ Some closing }
@@ -84,9 +90,9 @@ impl Parts {
     pub(super) fn finish_get(
         &mut self,
         block: u32,
-        closing: Open,
-        filled: Filled,
-        memory: MemLine,
+        closing: Open<Kept<B>>,
+        filled: Filled<Kept<B>>,
+        memory: MemLine<Kept<B>>,
     ) -> Did
         requires core { closing.core < self.old.situation.shape.cores }
         requires block { block < self.old.situation.shape.blocks }
@@ -111,7 +117,7 @@ impl Parts {
 }
 
 /// The response, as the history has it.
-pub(super) fn came(closing: Open) -> Came
+pub(super) fn came<B: Block>(closing: Open<Kept<B>>) -> Came
     ensures { result ≡ came_of closing }
 {
     Came {

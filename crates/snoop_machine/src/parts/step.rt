@@ -21,9 +21,9 @@ use crate::ask::Asked;
 use crate::plan::Plan;
 use snoop_history::{Item, Sent};
 use snoop_model::{Access, Refused, Reply};
-use snoop_trace::{NoMemory, Op, Step};
+use snoop_trace::{Block, Kept, NoMemory, Op, Step};
 
-impl Parts {
+impl<B: Block> Parts<B> {
     /// Takes one step: finds all that it will do, makes the room, and does it. A refused step changes nothing.
     #[inline(always)]
     pub(crate) fn step(&mut self, step: Step) -> Result<Reply, Refused>
@@ -67,7 +67,7 @@ impl Parts {
 
     /// What the step will do, or why it is refused.
     #[inline(always)]
-    fn planned(&self, step: Step) -> Result<Plan, Refused>
+    fn planned(&self, step: Step) -> Result<Plan<Kept<B>>, Refused>
         requires { IsCoherent self.now.situation }
         ensures found { IfOk result (λ plan. IsPlanFor self.now.situation step plan) }
         ensures denied { IfErr result (λ cause. IsDenied self.now.situation step cause) }
@@ -105,7 +105,7 @@ impl Parts {
 
     /// Makes room for what the plan adds.
     #[inline(always)]
-    fn make_room(&mut self, plan: &Plan) -> Result<(), NoMemory>
+    fn make_room(&mut self, plan: &Plan<Kept<B>>) -> Result<(), NoMemory>
         requires { IsPlan self.old.situation plan.now }
         ensures ok { OnOk result (HasRoom self.new plan.now) }
         ensures full { OnErr result (room_for self.old plan.now ≡ 0) }
@@ -131,7 +131,7 @@ impl Parts {
         &mut self,
         core: u32,
         block: u32,
-        asked: &Asked,
+        asked: &Asked<Kept<B>>,
     ) -> Result<(), NoMemory>
         requires { core < self.old.situation.shape.cores }
         ensures ok { OnOk result (HasRoomToAsk self.new core block asked.now) }
@@ -229,7 +229,7 @@ impl Parts {
 
     /// Does what the plan says.
     #[inline(always)]
-    fn perform(&mut self, plan: Plan) -> Reply
+    fn perform(&mut self, plan: Plan<Kept<B>>) -> Reply
         requires found { IsPlan self.old.situation plan }
         requires room { HasRoom self.old plan }
         ensures moved { FirstMove self.old.situation (step_of plan) result self.new.situation (entry_of self.old.situation.log plan) }
@@ -285,7 +285,7 @@ impl Parts {
     }
 
     /// The item that the planned step adds.
-    fn item(&self, plan: Plan) -> Option<Item>
+    fn item(&self, plan: Plan<Kept<B>>) -> Option<Item>
         requires { IsPlan self.now.situation plan }
         ensures { result ≡ entry_of self.now.situation.log plan }
     {

@@ -27,8 +27,8 @@ use Rattle.snoop_rules.proofs.Rows.{cell_of-Cell, Cell-found}
 use Rattle.snoop_rules.proofs.MemRows.{MemoryCell-found}
 use Rattle.snoop_history.specs.History.{flat_words}
 use Rattle.snoop_history.specs.Totals.{is_put_m}
-use Rattle.snoop_bus.specs.declared.transactions.Open.{Open}
-use Rattle.snoop_model.specs.declared.line.Line.{Line}
+use Rattle.snoop_bus.specs.Traffic.{Open}
+use Rattle.snoop_model.specs.Pictures.Lines.{Line}
 use Rattle.snoop_model.specs.Pictures.Picture.{Picture, held_at, held_by, nothing_held}
 use Rattle.snoop_model.specs.Pictures.Situation.{Situation, picture_of, state_of, Waits, CanOrder}
 use Rattle.snoop_model.specs.Moves.Move.{IsWithin}

@@ -22,11 +22,10 @@ use Rattle.snoop_history.specs.declared.items.Item.{Item}
 use Rattle.snoop_history.specs.declared.items.Item.TheVariants as item
 use Rattle.snoop_history.specs.History.{flat_words}
 use Rattle.snoop_bus.specs.Queues.{after_order}
-use Rattle.snoop_bus.specs.declared.transactions.Open.{Open}
+use Rattle.snoop_bus.specs.Traffic.{Open}
 use Rattle.snoop_model.specs.declared.replies.Reply.{Reply}
 use Rattle.snoop_model.specs.declared.line.Access.{Access}
-use Rattle.snoop_model.specs.declared.line.Line.{Line}
-use Rattle.snoop_model.specs.declared.memory.MemLine.{MemLine}
+use Rattle.snoop_model.specs.Pictures.Lines.{Line, MemLine}
 use Rattle.snoop_model.specs.Pictures.Picture.{Picture, held_at, held_by, nothing_held}
 use Rattle.snoop_model.specs.Pictures.Situation.{Situation, picture_of, with_picture}
 use Rattle.snoop_model.specs.Moves.Move.{Takes, FillsRequestor, ArrivesFor, Asks, Orders, Responds, IsWithin, IsWordWithin, MoveOn, kept_waiting, queues_after, came_of}

@@ -12,9 +12,9 @@ use Rattle.snoop_trace.specs.declared.step.Step.TheVariants.{Ask, Order, Respond
 use Rattle.snoop_rules.specs.declared.names.Protocol.{Protocol}
 use Rattle.snoop_rules.specs.declared.names.Protocol.TheVariants as protocol
 use Rattle.snoop_history.specs.declared.items.Item.{Item}
-use Rattle.snoop_bus.specs.declared.transactions.Open.{Open}
+use Rattle.snoop_bus.specs.Traffic.{Open}
 use Rattle.snoop_model.specs.declared.line.Access.{Access}
-use Rattle.snoop_model.specs.declared.line.Line.{Line}
+use Rattle.snoop_model.specs.Pictures.Lines.{Line}
 use Rattle.snoop_model.specs.declared.replies.Reply.{Reply}
 use Rattle.snoop_model.specs.declared.replies.Refused.{Refused}
 use Rattle.snoop_model.specs.declared.replies.Refused.TheVariants.{NoMemory}

@@ -8,7 +8,7 @@ use Rattle.snoop_rules.specs.Takers.{at_memory}
 use Rattle.snoop_rules.proofs.MemRows.{MemoryCell-one}
 use Rattle.snoop_history.specs.declared.items.Did.{Did}
 use Rattle.snoop_history.specs.declared.items.Item.TheVariants as item
-use Rattle.snoop_bus.specs.declared.transactions.Open.{Open}
+use Rattle.snoop_bus.specs.Traffic.{Open}
 use Rattle.snoop_bus.specs.Queues.{after_order}
 use Rattle.snoop_model.specs.Pictures.Picture.{Picture}
 use Rattle.snoop_model.specs.Pictures.Situation.{Situation, picture_of}

@@ -18,7 +18,7 @@ use Rattle.snoop_rules.specs.MemoryCell.{MemoryCell}
 use Rattle.snoop_rules.specs.Takers.{seen_by, at_memory}
 use Rattle.snoop_rules.proofs.Rows.{Cell-one}
 use Rattle.snoop_rules.proofs.MemRows.{MemoryCell-one}
-use Rattle.snoop_model.specs.declared.message.Message.{Message}
+use Rattle.snoop_model.specs.Pictures.Lines.{Message}
 use Rattle.snoop_model.specs.Pictures.Picture.{Picture, held_by}
 use Rattle.snoop_model.specs.Pictures.Sends.{Sends, value_sent}
 use Rattle.snoop_model.specs.Moves.LookUps.{HasRow}

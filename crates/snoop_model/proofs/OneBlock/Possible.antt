@@ -17,7 +17,7 @@ use Rattle.snoop_rules.specs.Cell.{cell_of}
 use Rattle.snoop_rules.specs.MemoryCell.{memory_cell_of}
 use Rattle.snoop_rules.proofs.Every.{all_states-at}
 use Rattle.snoop_history.specs.Totals.{is_put_m}
-use Rattle.snoop_bus.specs.declared.transactions.Open.{Open}
+use Rattle.snoop_bus.specs.Traffic.{Open}
 use Rattle.snoop_model.specs.Pictures.Picture.{Picture, held_by}
 use Rattle.snoop_model.specs.Invariant.Fits.{claims_of, in_protocol, fits}
 use Rattle.snoop_model.specs.Invariant.Good.{Good, talk_of, awaited, owns}

@@ -25,8 +25,8 @@ use Rattle.snoop_rules.specs.Cell.{Cell}
 use Rattle.snoop_rules.proofs.Every.{all_states-at}
 use Rattle.snoop_rules.proofs.Rows.{Cell-found}
 use Rattle.snoop_history.specs.Totals.{is_put_m, is_get_m}
-use Rattle.snoop_bus.specs.declared.transactions.Open.{Open}
-use Rattle.snoop_model.specs.declared.line.Line.{Line}
+use Rattle.snoop_bus.specs.Traffic.{Open}
+use Rattle.snoop_model.specs.Pictures.Lines.{Line}
 use Rattle.snoop_model.specs.Pictures.Picture.{Picture, held_by}
 use Rattle.snoop_model.specs.Moves.Move.{written}
 use Rattle.snoop_model.specs.Pictures.Sound.{keeps, IsProper}

@@ -4,7 +4,7 @@ use Rattle.std.specs.Prelude.{sum_by, count_by, is_some, slice_set}
 use Rattle.snoop_trace.specs.declared.step.Step.TheVariants.{Ask, Order, Respond}
 use Rattle.snoop_rules.specs.declared.names.CacheAction.{CacheAction}
 use Rattle.snoop_rules.specs.declared.names.CacheAction.TheVariants as action
-use Rattle.snoop_bus.specs.declared.transactions.Open.{Open}
+use Rattle.snoop_bus.specs.Traffic.{Open}
 use Rattle.snoop_bus.specs.Queues.{after_order}
 use Rattle.snoop_model.specs.Pictures.Situation.{Situation}
 use Rattle.snoop_model.specs.Moves.Move.{queues_after}

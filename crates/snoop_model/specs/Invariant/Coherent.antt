@@ -3,7 +3,7 @@
 use Rattle.std.specs.Prelude.{◌≡◌, ℕ, ◌<◌, Some}
 use Rattle.snoop_trace.specs.Words.{IsWord}
 use Rattle.snoop_history.specs.History.{flat_words, Legal}
-use Rattle.snoop_bus.specs.declared.transactions.Open.{Open}
+use Rattle.snoop_bus.specs.Traffic.{Open}
 use Rattle.snoop_model.specs.declared.line.Access.{Access}
 use Rattle.snoop_model.specs.Pictures.Picture.{held_by}
 use Rattle.snoop_model.specs.Pictures.Situation.{Situation, picture_of}

@@ -7,9 +7,7 @@ use Rattle.snoop_rules.specs.declared.names.Request.{Request}
 use Rattle.snoop_rules.specs.Takers.{seen_by, carries_value}
 use Rattle.snoop_rules.specs.declared.names.MemAction.{MemAction}
 use Rattle.snoop_rules.specs.declared.names.MemAction.TheVariants as mem_action
-use Rattle.snoop_model.specs.declared.line.Line.{Line}
-use Rattle.snoop_model.specs.declared.memory.MemLine.{MemLine}
-use Rattle.snoop_model.specs.declared.message.Message.{Message}
+use Rattle.snoop_model.specs.Pictures.Lines.{Line, MemLine, Message}
 use Rattle.snoop_model.specs.Pictures.Picture.{Picture, held_at, held_by}
 use Rattle.snoop_model.specs.Pictures.Sends.{IsOnlySender, value_sent}
 use Rattle.snoop_model.specs.Moves.Move.{TakesRow}

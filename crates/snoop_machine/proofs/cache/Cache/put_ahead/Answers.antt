@@ -4,7 +4,7 @@ use Rattle.std.specs.Map.{lookup, keys_of}
 use Rattle.std.proofs.lemmas.List.{map-append}
 use Rattle.indexmap.proofs.CallerLemmas.{insert_entry-new}
 use Rattle.indexmap.specs.IndexMap.{spare}
-use Rattle.snoop_model.specs.declared.line.Line.{Line}
+use Rattle.snoop_model.specs.Pictures.Lines.{Line}
 use Rattle.snoop_model.specs.Pictures.Picture.{nothing_held}
 use Rattle.snoop_machine.specs.Cache.{Contents, blocks_of}
 use Rattle.snoop_machine.proofs.cache.Cache.put_ahead.Goals as goal

@@ -9,7 +9,7 @@ use Rattle.snoop_rules.specs.Cell.{Cell}
 use Rattle.snoop_rules.specs.MemoryCell.{MemoryCell}
 use Rattle.snoop_rules.specs.Possible.{IsImpossible}
 use Rattle.snoop_rules.specs.Takers.{seen_by, carries_value}
-use Rattle.snoop_model.specs.declared.line.Line.{Line}
+use Rattle.snoop_model.specs.Pictures.Lines.{Line}
 use Rattle.snoop_model.specs.Pictures.Picture.{held_at}
 use Rattle.snoop_model.specs.Pictures.Message.{free_picture}
 use Rattle.snoop_model.proofs.Lines.TheSender.{Silent-more, Silent-past, Silent-all, IsMessage-sent, IsMessage-memory}

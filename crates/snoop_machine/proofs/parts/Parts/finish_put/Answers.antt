@@ -1,5 +1,5 @@
 use Rattle.std.proofs.Common.{◌≡◌, ◌<◌, ◌++◌, ◌∷◌, [], List, length, Some, None, ◌∙◌, refl, sym, ap, subst}
-use Rattle.snoop_model.specs.declared.memory.MemLine.{MemLine}
+use Rattle.snoop_model.specs.Pictures.Lines.{MemLine}
 use Rattle.std.proofs.lemmas.List.{length-set, set-get_or}
 use Rattle.snoop_history.specs.Journal.{Journal}
 use Rattle.snoop_history.specs.declared.items.Came.{Came}

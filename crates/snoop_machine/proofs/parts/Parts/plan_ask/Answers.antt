@@ -4,7 +4,7 @@ use Rattle.snoop_trace.specs.declared.step.Op.TheVariants.{Evict}
 use Rattle.snoop_trace.specs.declared.step.Step.TheVariants.{Ask}
 use Rattle.snoop_rules.specs.declared.names.CacheState.TheVariants.{I}
 use Rattle.snoop_rules.specs.Takers.{asked as event_of}
-use Rattle.snoop_model.specs.declared.line.Line.{Line}
+use Rattle.snoop_model.specs.Pictures.Lines.{Line}
 use Rattle.snoop_machine.specs.declared.plan.Plan.TheVariants as plan
 use Rattle.snoop_model.specs.Moves.Standing.{Standing}
 use Rattle.snoop_model.specs.Pictures.Sound.{IsProper, line_at}

@@ -5,9 +5,9 @@ use Rattle.snoop_rules.specs.declared.names.MemEvent.{MemEvent}
 use Rattle.snoop_rules.specs.MemoryCell.{MemoryCell}
 use Rattle.snoop_rules.specs.Possible.{IsMemImpossible}
 use Rattle.snoop_rules.specs.Takers.{at_memory, seen_by}
-use Rattle.snoop_bus.specs.declared.transactions.Open.{Open}
+use Rattle.snoop_bus.specs.Traffic.{Open}
 use Rattle.snoop_bus.specs.Traffic.{transaction_on}
-use Rattle.snoop_model.specs.declared.memory.MemLine.{MemLine}
+use Rattle.snoop_model.specs.Pictures.Lines.{MemLine}
 use Rattle.snoop_model.specs.Pictures.Picture.{Picture, held_by}
 use Rattle.snoop_model.specs.Moves.Standing.{Standing}
 use Rattle.snoop_model.specs.Pictures.Situation.{picture_of, no_memory}

@@ -1,6 +1,6 @@
 use Rattle.std.proofs.Common.{◌≡◌, ◌<◌, sym, subst, List, ◌∙◌, refl}
 use Rattle.snoop_rules.specs.Waits.{waiting_request}
-use Rattle.snoop_model.specs.declared.line.Line.{Line}
+use Rattle.snoop_model.specs.Pictures.Lines.{Line}
 use Rattle.snoop_model.specs.Moves.Standing.{Standing}
 use Rattle.snoop_model.specs.Pictures.Sound.{IsSound, line_at}
 use Rattle.snoop_machine.proofs.LineWrites.{IsSound-line}

@@ -1,11 +1,10 @@
 use Rattle.snoop_model.specs.Pictures.Picture.{first_memory}
-use Rattle.snoop_model.specs.declared.memory.MemLine.{MemLine}
+use Rattle.snoop_model.specs.Pictures.Lines.{MemLine, Line}
 use Rattle.snoop_rules.specs.declared.names.MemState.{MemState}
 use Rattle.snoop_model.specs.Pictures.Situation.{reset}
 use Rattle.std.proofs.Common.{rules, ◌≡◌, ℕ, List, [], length, replicate, refl, sym, ap, subst, ◌∙◌}
 use Rattle.snoop_trace.specs.Words.{zero_words}
 use Rattle.snoop_history.specs.Journal.{Journal}
-use Rattle.snoop_model.specs.declared.line.Line.{Line}
 use Rattle.snoop_model.specs.Pictures.Sound.{IsSound}
 use Rattle.std.specs.Prelude.{slice_index_or}
 use Rattle.std.proofs.lemmas.List.{length-replicate}

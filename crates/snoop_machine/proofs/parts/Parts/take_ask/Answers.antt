@@ -2,7 +2,7 @@ use Rattle.std.proofs.Common.{◌∙◌, sym, ap, subst}
 use Rattle.snoop_rules.specs.Takers.{asked}
 use Rattle.snoop_rules.specs.Waits.{waiting_request}
 use Rattle.snoop_machine.specs.declared.ask.Asked.{Asked}
-use Rattle.snoop_model.specs.declared.line.Line.{Line}
+use Rattle.snoop_model.specs.Pictures.Lines.{Line}
 use Rattle.snoop_model.specs.Pictures.Sound.{IsProper, line_at}
 use Rattle.snoop_machine.specs.Asked.{TakesAsk}
 use Rattle.snoop_model.proofs.Tables.Rows.{issue-waits, drop-waits, IsProper-issue, IsProper-hit, IsProper-drop}
