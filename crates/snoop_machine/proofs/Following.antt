@@ -11,8 +11,7 @@ use Rattle.snoop_model.specs.Pictures.Situation.{state_of}
 use Rattle.snoop_model.specs.Pictures.Sound.{line_at}
 use Rattle.snoop_model.specs.Moves.Standing.{Standing, lines_of}
 use Rattle.snoop_model.proofs.Lines.EachRow.{row_of}
-use Rattle.snoop_machine.specs.declared.parts.Parts.TheInside.{Inside}
-use Rattle.snoop_machine.specs.PartsView.{standing, IsWhole}
+use Rattle.snoop_machine.specs.PartsView.{Fields, standing, IsWhole}
 use Rattle.snoop_machine.specs.Lines.{Held, LinesGo, gone, is_invalid}
 use Rattle.snoop_machine.specs.Following.{LosesLines}
 use Rattle.snoop_machine.proofs.LineMaps.{gone-none, gone-one, is_I}
@@ -50,7 +49,7 @@ module _ (old new : Standing) (block : ℕ) (others : (b : ℕ) → b ≢ block 
         ];
       }
 
-module _ (m : Inside) (old : Standing) (view : standing m ≡ old) (new : Standing) (block : ℕ) (held : Held) (rows : new.situation.caches ≡ held.rows) (lines : new.lines ≡ held.lines) where
+module _ (m : Fields) (old : Standing) (view : standing m ≡ old) (new : Standing) (block : ℕ) (held : Held) (rows : new.situation.caches ≡ held.rows) (lines : new.lines ≡ held.lines) where
   -- the lines of one block have moved
   pub follows-rows : held.rows ≡ slice_set m.lines.rows block (row_of held.rows block) → LinesGo block m.lines held → (k : ℕ) → LosesLines old new k
   follows-rows wrote go k =

@@ -18,7 +18,7 @@ use Rattle.snoop_model.specs.Moves.Holding.{NeedsLine, MovesToI, HoldsOn}
 use Rattle.snoop_model.proofs.Lines.EachRow.{row_of}
 use Rattle.snoop_model.proofs.Tables.EvictInI.{no_row}
 use Rattle.snoop_machine.specs.declared.ask.Asked.TheVariants.{Absent, Hit, Issue, Drop}
-use Rattle.snoop_machine.specs.declared.plan.Plan.{Plan}
+use Rattle.snoop_machine.specs.Plan.{Plan}
 use Rattle.snoop_machine.specs.declared.plan.Plan.TheVariants as plan
 use Rattle.snoop_machine.specs.Plan.{IsPlan, IsPlanFor, step_of}
 use Rattle.snoop_machine.specs.Following.{LosesLines, AddsLines}

@@ -1,6 +1,6 @@
 -- What an Ask does to one line.
 -- Source: this project's profile.
-use Rattle.std.specs.Prelude.{◌≡◌, ℕ}
+use Rattle.std.specs.Prelude.{◌≡◌, ℕ, List}
 use Rattle.snoop_trace.specs.declared.step.Op.{Op}
 use Rattle.snoop_trace.specs.declared.step.Op.TheVariants as op
 use Rattle.snoop_rules.specs.declared.names.Protocol.{Protocol}
@@ -10,11 +10,15 @@ use Rattle.snoop_rules.specs.declared.names.CacheAction.TheVariants as action
 use Rattle.snoop_rules.specs.Cell.{Cell}
 use Rattle.snoop_rules.specs.Takers.{asked}
 use Rattle.snoop_model.specs.Pictures.Lines.{Line}
-use Rattle.snoop_machine.specs.declared.ask.Asked.{Asked}
+use Rattle.snoop_machine.specs.declared.ask.Asked as declared
 use Rattle.snoop_machine.specs.declared.ask.Asked.TheVariants.{Absent, Hit, Issue, Drop}
 use Rattle.snoop_model.specs.declared.replies.Refused.{Refused}
 use Rattle.snoop_model.specs.declared.replies.Refused.TheVariants.{Stalled}
 use Rattle.snoop_model.specs.Moves.Move.{Hits, moves_to, moves_waiting}
+
+-- what an Ask does to its core's line
+abbrev pub Asked : Type 0
+Asked = declared.Asked (List ℕ)
 
 -- the line takes the row of an Ask
 abbrev pub TakesAsk : Protocol → Line → ℕ → Op → Asked → Type 0

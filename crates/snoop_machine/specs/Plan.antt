@@ -12,19 +12,27 @@ use Rattle.snoop_rules.specs.Takers.{at_memory}
 use Rattle.snoop_bus.specs.Traffic.{Open}
 use Rattle.snoop_history.specs.declared.items.Item.{Item}
 use Rattle.snoop_history.specs.declared.items.Item.TheVariants as item
-use Rattle.snoop_machine.specs.declared.ask.Asked.{Asked}
 use Rattle.snoop_machine.specs.declared.ask.Asked.TheVariants as asked
 use Rattle.snoop_model.specs.Pictures.Lines.{MemLine, Message}
-use Rattle.snoop_machine.specs.declared.plan.Plan.{Plan}
+use Rattle.snoop_machine.specs.declared.plan.Plan as declared
+use Rattle.snoop_machine.specs.declared.respond.Filled as filling
 use Rattle.snoop_machine.specs.declared.plan.Plan.TheVariants.{Ask, Order, Writeback, Fill}
 use Rattle.snoop_model.specs.Moves.Standing.{Standing, has_line}
 use Rattle.snoop_model.specs.Moves.Prepared.{room_to_issue}
 use Rattle.snoop_model.specs.Pictures.Situation.{Situation, picture_of}
 use Rattle.snoop_model.specs.Pictures.Sound.{IsProper, line_at}
 use Rattle.snoop_model.specs.Moves.Move.{Fills, ArrivesAtMemory, IsWithin, IsWordWithin, TakesMemRow, came_of, next_did}
-use Rattle.snoop_machine.specs.Asked.{TakesAsk}
+use Rattle.snoop_machine.specs.Asked.{Asked, TakesAsk}
 use Rattle.snoop_model.specs.Pictures.Message.{IsMessage}
 use Rattle.snoop_model.specs.Moves.OrderMove.{IsHead}
+
+-- what a response brings to its requestor's line
+abbrev pub Filled : Type 0
+Filled = filling.Filled (List ℕ)
+
+-- what a step will do
+abbrev pub Plan : Type 0
+Plan = declared.Plan (List ℕ)
 
 -- the step that a plan is for
 abbrev pub step_of : Plan → Step

@@ -1,6 +1,6 @@
 //! The parts of a machine, which its steps change one after another.
 ghost use Rattle.std.specs.Prelude.{◌≡◌, ◌<◌, ◌≤◌, ◌↔◌, ℕ, length, option_map, is_some, IsTrue, IfOk, IfSome, Some};
-ghost use Rattle.snoop_trace.specs.Words.{word_at};
+ghost use Rattle.snoop_trace.specs.Words.{AreZeroFrom, word_at};
 ghost use Rattle.snoop_bus.specs.Queues.{queue_of};
 ghost use Rattle.snoop_rules.specs.Waits.{waiting_request};
 ghost use Rattle.snoop_model.specs.Pictures.Picture.{first_memory, held_by};
@@ -147,10 +147,27 @@ impl<B: Block> Parts<B> {
     }
 
     /// The block's open transaction, if there is one.
-    pub(crate) fn open(&self, block: u32) -> Option<Open<Kept<B>>>
-        ensures { result ≡ (picture_of self.now.situation block).transaction }
+    pub(crate) fn open(&self, block: u32) -> Option<Open>
+        ensures value { result ≡ (picture_of self.now.situation block).transaction }
+        ensures padded { IfSome result (λ opened. AreZeroFrom self.now.situation.shape.words opened.value) }
     {
-        self.bus.open(block)
+        let opened = self.bus.open(block)?;
+        Some(Open {
+            core: opened.core,
+            request: opened.request,
+            block: opened.block,
+            payload: opened.payload,
+            value: opened.value.to_words(),
+            from: opened.from,
+        })
+    }
+
+    /// The core whose transaction is open on the block, if one is.
+    pub(crate) fn requestor(&self, block: u32) -> Option<u32>
+        ensures { result ≡ option_map (λ opened. opened.core) (picture_of self.now.situation block).transaction }
+    {
+        let opened = self.bus.open(block)?;
+        Some(opened.core)
     }
 
     /// Whether a request of the core waits to be ordered.

@@ -22,14 +22,14 @@ impl Machine {
                 op,
             });
         }
-        let Some(transaction) = self.open(block) else {
+        let Some(requestor) = self.requestor(block) else {
             return if self.waits_on(core, block) {
                 Some(Step::Order { core })
             } else {
                 None
             };
         };
-        if transaction.core == core || self.waits_on(core, block) {
+        if requestor == core || self.waits_on(core, block) {
             Some(Step::Respond { block })
         } else {
             None

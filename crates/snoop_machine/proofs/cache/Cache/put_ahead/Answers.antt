@@ -19,7 +19,7 @@ none None e = refl
 none (Some line) e = cc
 
 pub returns-clause-blocks : goal.returns-clause-blocks
-returns-clause-blocks c =
+returns-clause-blocks g c =
     let m = c.self.inside.lines in
     let block = c.args.block in
     let room : 0 < spare m = subst (λ (cache : Contents). 0 < cache.spare) (sym c.self.view_is) c.requires.room in

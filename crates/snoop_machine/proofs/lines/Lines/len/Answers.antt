@@ -3,9 +3,9 @@ use Rattle.snoop_machine.proofs.LineMaps.{among_seen, held_placed}
 use Rattle.snoop_machine.proofs.lines.Lines.len.Goals as goal
 
 pub returns-clause-held : goal.returns-clause-held
-returns-clause-held c block held =
-    sym (among_seen c.self.inside c.args.self.now c.self.view_is c.args.core block) ∙ held_placed c.self.inside c.args.self.now c.self.view_is c.args.core block held
+returns-clause-held g c block held =
+    sym (among_seen c.self.inside.caches.items c.self.inside.holders c.args.self.now c.self.view_is c.args.core block) ∙ held_placed c.self.inside.caches.items c.self.inside.holders c.args.self.now c.self.view_is c.args.core block held
 
 pub returns-in_err-cache-clause-held : goal.returns-in_err-cache-clause-held
-returns-in_err-cache-clause-held c block held =
-    sym (among_seen c.self.inside c.args.self.now c.self.view_is c.args.core block) ∙ held_placed c.self.inside c.args.self.now c.self.view_is c.args.core block held
+returns-in_err-cache-clause-held g c block held =
+    sym (among_seen c.self.inside.caches.items c.self.inside.holders c.args.self.now c.self.view_is c.args.core block) ∙ held_placed c.self.inside.caches.items c.self.inside.holders c.args.self.now c.self.view_is c.args.core block held

@@ -12,7 +12,7 @@ use Rattle.snoop_model.specs.Pictures.Picture.{Picture}
 use Rattle.snoop_model.specs.Moves.Standing.{Standing}
 use Rattle.snoop_model.specs.Pictures.Situation.{Situation, picture_of, with_picture}
 use Rattle.snoop_model.specs.Pictures.Sound.{IsSound, IsProper, line_at}
-use Rattle.snoop_machine.specs.PartsView.{queues_of}
+use Rattle.snoop_machine.specs.PartsView.{fields, queues_of}
 use Rattle.snoop_model.specs.Moves.Move.{Fills, ArrivesFor, ArrivesAtMemory, Responds, came_of, next_did}
 use Rattle.snoop_model.proofs.Lines.EachRow.{row_of}
 use Rattle.snoop_model.proofs.Lines.OneLine.{placed}
@@ -25,8 +25,8 @@ use Rattle.snoop_machine.proofs.Following.{follows-set}
 use Rattle.snoop_machine.proofs.parts.Parts.finish_get.Goals as goal
 
 pub invariant_of-self : goal.invariant_of-self
-invariant_of-self c =
-    let m = c.self.inside in
+invariant_of-self g c =
+    let m = (fields c.self.inside.protocol c.self.inside.shape c.self.inside.lines c.self.inside.memory c.self.inside.bus c.self.inside.log) in
     let block = c.args.block in
     let core = c.args.closing.core in
     let filled = c.args.filled in
@@ -53,8 +53,8 @@ invariant_of-self c =
     }
 
 pub returns-clause-responded : goal.returns-clause-responded
-returns-clause-responded c =
-    let m = c.self.inside in
+returns-clause-responded g c =
+    let m = (fields c.self.inside.protocol c.self.inside.shape c.self.inside.lines c.self.inside.memory c.self.inside.bus c.self.inside.log) in
     let block = c.args.block in
     let closing = c.args.closing in
     let core = c.args.closing.core in
@@ -88,14 +88,14 @@ returns-clause-responded c =
     })
 
 pub set-requires-clause-proper : goal.set-requires-clause-proper
-set-requires-clause-proper c =
+set-requires-clause-proper g c =
     let I : Line → Type 0 = λ x. IsProper x in
     let S : Standing → Type 0 = λ x. Fills c.args.closing x.situation.protocol (line_at x.situation.caches c.args.closing.core c.args.block) c.args.filled.line c.args.filled.access c.args.filled.value in
-    let m = c.self.inside in
+    let m = (fields c.self.inside.protocol c.self.inside.shape c.self.inside.lines c.self.inside.memory c.self.inside.bus c.self.inside.log) in
     let its : Fills c.args.closing m.protocol (line_at m.lines.rows c.args.closing.core c.args.block) c.args.filled.line c.args.filled.access c.args.filled.value = subst S (sym c.self.view_is) c.requires.filled in
     subst I (sym its.held) (IsProper-fill m.protocol (line_at m.lines.rows c.args.closing.core c.args.block).state its.event its.act its.next c.args.filled.access.op its.after its.fill its.row)
 
 pub returns-clause-lines : goal.returns-clause-lines
-returns-clause-lines c =
-    follows-set c.self.inside c.args.self.now c.self.view_is _ c.args.block c.set.new.self refl refl c.self.invariant c.args.closing.core c.args.filled.line c.requires.core c.requires.block
+returns-clause-lines g c =
+    follows-set (fields c.self.inside.protocol c.self.inside.shape c.self.inside.lines c.self.inside.memory c.self.inside.bus c.self.inside.log) c.args.self.now c.self.view_is _ c.args.block c.set.new.self refl refl c.self.invariant c.args.closing.core c.args.filled.line c.requires.core c.requires.block
     c.set.ensures.rows c.set.ensures.lines c.set.ensures.others

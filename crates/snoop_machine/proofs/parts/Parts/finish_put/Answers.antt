@@ -9,7 +9,7 @@ use Rattle.snoop_model.specs.Pictures.Picture.{Picture}
 use Rattle.snoop_model.specs.Moves.Standing.{Standing}
 use Rattle.snoop_model.specs.Pictures.Situation.{Situation, picture_of, with_picture}
 use Rattle.snoop_model.specs.Pictures.Sound.{IsSound}
-use Rattle.snoop_machine.specs.PartsView.{queues_of}
+use Rattle.snoop_machine.specs.PartsView.{fields, queues_of}
 use Rattle.snoop_model.specs.Moves.Move.{ArrivesAtMemory, Responds, came_of}
 use Rattle.snoop_model.proofs.Lines.EachRow.{row_of}
 use Rattle.snoop_machine.proofs.QueueViews.{IsSound-close}
@@ -18,8 +18,8 @@ use Rattle.snoop_machine.proofs.QueueHeads.{same_situation}
 use Rattle.snoop_machine.proofs.parts.Parts.finish_put.Goals as goal
 
 pub invariant_of-self : goal.invariant_of-self
-invariant_of-self c =
-    let m = c.self.inside in
+invariant_of-self g c =
+    let m = (fields c.self.inside.protocol c.self.inside.shape c.self.inside.lines c.self.inside.memory c.self.inside.bus c.self.inside.log) in
     let Q : Standing → Type 0 = λ x. c.args.block < x.situation.shape.blocks in
     let R : Traffic → Type 0 = λ bus. IsSound m.shape m.lines.rows bus in
     record {
@@ -33,8 +33,8 @@ invariant_of-self c =
     }
 
 pub returns-clause-responded : goal.returns-clause-responded
-returns-clause-responded c =
-    let m = c.self.inside in
+returns-clause-responded g c =
+    let m = (fields c.self.inside.protocol c.self.inside.shape c.self.inside.lines c.self.inside.memory c.self.inside.bus c.self.inside.log) in
     let block = c.args.block in
     let closing = c.args.closing in
     let old : Situation = record { protocol = m.protocol; shape = m.shape; caches = m.lines.rows; memory = m.memory; transactions = m.bus.transactions; queues = queues_of m.bus.queues; log = m.log.items } in

@@ -15,7 +15,7 @@ use Rattle.snoop_machine.proofs.Plans.{IsDenied-ask, plan-allowed}
 use Rattle.snoop_machine.proofs.parts.Parts.plan_ask.Goals as goal
 
 pub returns-in_err-asked-clause-denied : goal.returns-in_err-asked-clause-denied
-returns-in_err-asked-clause-denied c =
+returns-in_err-asked-clause-denied g c =
     let s = c.args.self.now.situation in
     let P : Line → Type 0 = λ line. RefusesAsk c.self.inside.protocol line c.args.op c.in_err-asked.field-0.0 in
     let Q : Standing → Type 0 = λ x. RefusesAsk x.situation.protocol (line_at s.caches c.args.core c.args.block) c.args.op c.in_err-asked.field-0.0 in
@@ -24,7 +24,7 @@ returns-in_err-asked-clause-denied c =
     (subst Q c.self.view_is (subst P c.line-line.ensures.line c.in_err-asked.ensures.refused)))
 
 pub returns-clause-exactly : goal.returns-clause-exactly
-returns-clause-exactly c =
+returns-clause-exactly g c =
     let s = c.args.self.now.situation in
     let asked = c.in_ok-asked.asked in
     let P : Line → Type 0 = λ line. TakesAsk c.self.inside.protocol line c.args.word c.args.op asked in
@@ -35,7 +35,7 @@ returns-clause-exactly c =
     λ cause refuses. absurd (plan-allowed s (plan.Ask c.args.core c.args.block c.args.word c.args.op asked) ((c.requires.core, c.requires.block), takes, proper, c.requires.word) cause refuses)
 
 pub ask-requires-clause-possible : goal.ask-requires-clause-possible
-ask-requires-clause-possible c =
+ask-requires-clause-possible g c =
     let s = c.args.self.now.situation in
     let line = line_at s.caches c.args.core c.args.block in
     let P : Line → Type 0 = λ x. (¬ ((c.args.op ≡ Evict) × (x.state ≡ I))) → HasRow c.self.inside.protocol x.state (event_of c.args.op) in

@@ -13,7 +13,7 @@ use Rattle.snoop_machine.proofs.parts.Parts.plan_respond.Goals as goal
 use Rattle.snoop_machine.proofs.parts.Parts.plan_respond.Goals.{in-PutM, in_default-matches}
 
 pub arrive-memory-requires : goal.arrive-memory-requires
-arrive-memory-requires c =
+arrive-memory-requires g c =
     let s = c.args.self.now.situation in
     let block = c.args.block in
     let closing = c.in-Some.closing in
@@ -24,7 +24,7 @@ arrive-memory-requires c =
     (λ takes. finds.memory block (arrival_at_memory closing.payload) (closing, (refl, sym c.transaction.ensures.value ∙ c.in-Some.is, takes, refl))))
 
 pub fill-filled-requires-clause-possible : goal.fill-filled-requires-clause-possible
-fill-filled-requires-clause-possible c =
+fill-filled-requires-clause-possible g c =
     let s = c.args.self.now.situation in
     let closing = c.in-Some.closing in
     let get : closing.request ≢ PutM = elim c.match-matches.branch [

@@ -14,7 +14,7 @@ use Rattle.snoop_machine.proofs.QueueHeads.{same_situation}
 use Rattle.snoop_machine.proofs.parts.Parts.reset.Goals as goal
 
 pub invariant_of-result : goal.invariant_of-result
-invariant_of-result c =
+invariant_of-result g c =
     let S : List (List Line) → Type 0 = λ caches. IsSound c.args.shape caches c.in_ok-bus.bus in
     record {
       few = search rules;
@@ -27,7 +27,7 @@ invariant_of-result c =
     }
 
 pub returns-clause-situation : goal.returns-clause-situation
-returns-clause-situation c =
+returns-clause-situation g c =
     let items : c.in_ok-memory.memory ≡ replicate c.args.shape.blocks (record { state = first_memory c.args.protocol; value = zero_words }) =
     c.in_ok-memory.ensures
     ∙ (ap (λ (n : ℕ). let l : List MemLine = replicate n (record { state = c.first_state.result; value = c.zero.result }) in l) c.blocks-2.ensures.value
@@ -38,5 +38,5 @@ returns-clause-situation c =
     (ap (λ (j : Journal). j.items) c.in_ok-log.ensures)
 
 pub returns-clause-empty : goal.returns-clause-empty
-returns-clause-empty c core =
+returns-clause-empty g c core =
     ap (λ (l : List (List ℕ)). length (slice_index_or l core [])) c.in_ok-lines.ensures.lines ∙ ap (λ (l : List ℕ). length l) (replicated c.args.shape.cores core [])

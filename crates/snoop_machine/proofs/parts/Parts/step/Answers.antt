@@ -10,12 +10,12 @@ use Rattle.snoop_machine.proofs.Holding.{HoldsOn-taken}
 use Rattle.snoop_machine.proofs.parts.Parts.step.Goals as goal
 
 pub returns-in_err-make_room-clause-refused : goal.returns-in_err-make_room-clause-refused
-returns-in_err-make_room-clause-refused c =
+returns-in_err-make_room-clause-refused g c =
     let p = err_from_is_err_and c.from_residual.result c.from_residual.ensures.1 in
     rw (p.1, p.2) (RefusedFor-memory c.args.self.now.situation c.args.step c.in-Ok.plan c.in-Ok.ensures.found, c.in_err-make_room.ensures.refused)
 
 pub returns-clause-prepared : goal.returns-clause-prepared
-returns-clause-prepared c =
+returns-clause-prepared g c =
     let plan = c.in-Ok.plan in
     let new = c.perform.new.self.situation in
     let P : Situation → Type 0 = λ s. FirstMove s (step_of plan) c.perform.result new (entry_of s.log plan) in
@@ -24,7 +24,7 @@ returns-clause-prepared c =
     λ entry prepared. (refl, prepared-log c.args.self.now new c.args.step c.perform.result (entry_of c.args.self.now.situation.log plan) entry prepared move)
 
 pub returns-clause-lines : goal.returns-clause-lines
-returns-clause-lines c core =
+returns-clause-lines g c core =
     let plan = c.in-Ok.plan in
     let new = c.perform.new.self.situation in
     let P : Situation → Type 0 = λ s. FirstMove s (step_of plan) c.perform.result new (entry_of s.log plan) in
