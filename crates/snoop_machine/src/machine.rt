@@ -23,26 +23,14 @@ ghost use Rattle.snoop_model.specs.Runs.Safe.{IsSafe};
 ghost use Rattle.snoop_model.specs.Runs.Once.{OnceMore};
 ghost use Rattle.snoop_model.specs.Runs.Runs.{HasRun};
 
-use crate::parts::Parts;
+use crate::any_parts::AnyParts;
 use snoop_bus::Open;
 use snoop_history::{Item, Log};
 use snoop_model::{Refused, Reply};
 use snoop_rules::{CacheState, MemState, Protocol};
-use snoop_trace::{Few, NoMemory, Shape, Step};
+use snoop_trace::{NoMemory, Shape, Step};
 use std::alloc::Global;
 use std::marker::Model;
-
-/// The parts of a machine, by how many words a block has: each holds no more than these.
-#[derive(Debug, Drop)]
-enum AnyParts {
-    One(Parts<Few<1>>),
-    Two(Parts<Few<2>>),
-    Four(Parts<Few<4>>),
-    Eight(Parts<Few<8>>),
-    Sixteen(Parts<Few<16>>),
-    ThirtyTwo(Parts<Few<32>>),
-    SixtyFour(Parts<Few<64>>),
-}
 
 /// Caches, memory, the bus that joins them, and the history of what they did.
 ///
@@ -73,16 +61,7 @@ impl Machine {
         ensures safe { IfOk result (λ machine. IsSafe machine.situation) }
         ensures empty { IfOk result (λ machine. (core : ℕ) → lines_of machine core ≡ 0) }
     {
-        let parts = match shape.words() {
-            1 => AnyParts::One(Parts::reset(alloc, protocol, shape)?),
-            2 => AnyParts::Two(Parts::reset(alloc, protocol, shape)?),
-            4 => AnyParts::Four(Parts::reset(alloc, protocol, shape)?),
-            8 => AnyParts::Eight(Parts::reset(alloc, protocol, shape)?),
-            16 => AnyParts::Sixteen(Parts::reset(alloc, protocol, shape)?),
-            32 => AnyParts::ThirtyTwo(Parts::reset(alloc, protocol, shape)?),
-            64 => AnyParts::SixtyFour(Parts::reset(alloc, protocol, shape)?),
-            _ => unreachable!(),
-        };
+        let parts = AnyParts::reset(alloc, protocol, shape)?;
         Ok(Machine { parts })
     }
 
@@ -113,15 +92,7 @@ impl Machine {
         ensures safe { IsSafe self.new.situation }
         ensures once { IfOk result (λ reply. OnceMore self.old.situation (step ∷ []) (Ok reply ∷ []) self.new.situation) }
     {
-        match &mut self.parts {
-            AnyParts::One(parts) => parts.step(step),
-            AnyParts::Two(parts) => parts.step(step),
-            AnyParts::Four(parts) => parts.step(step),
-            AnyParts::Eight(parts) => parts.step(step),
-            AnyParts::Sixteen(parts) => parts.step(step),
-            AnyParts::ThirtyTwo(parts) => parts.step(step),
-            AnyParts::SixtyFour(parts) => parts.step(step),
-        }
+        self.parts.step(step)
     }
 
     /// Makes the room for a step, and reports the item that it will add. The same step, taken next, is not refused and takes no memory.
@@ -134,45 +105,21 @@ impl Machine {
         ensures lines { (core : ℕ) → HoldsOn self.old self.new step core }
         ensures unchanged { self.new.situation ≡ self.old.situation }
     {
-        match &mut self.parts {
-            AnyParts::One(parts) => parts.prepare(step),
-            AnyParts::Two(parts) => parts.prepare(step),
-            AnyParts::Four(parts) => parts.prepare(step),
-            AnyParts::Eight(parts) => parts.prepare(step),
-            AnyParts::Sixteen(parts) => parts.prepare(step),
-            AnyParts::ThirtyTwo(parts) => parts.prepare(step),
-            AnyParts::SixtyFour(parts) => parts.prepare(step),
-        }
+        self.parts.prepare(step)
     }
 
     /// The protocol that all controllers follow.
     pub fn protocol(&self) -> Protocol
         ensures { result ≡ self.now.situation.protocol }
     {
-        match &self.parts {
-            AnyParts::One(parts) => parts.protocol(),
-            AnyParts::Two(parts) => parts.protocol(),
-            AnyParts::Four(parts) => parts.protocol(),
-            AnyParts::Eight(parts) => parts.protocol(),
-            AnyParts::Sixteen(parts) => parts.protocol(),
-            AnyParts::ThirtyTwo(parts) => parts.protocol(),
-            AnyParts::SixtyFour(parts) => parts.protocol(),
-        }
+        self.parts.protocol()
     }
 
     /// How many cores and blocks there are, and the bytes of a block.
     pub fn shape(&self) -> Shape
         ensures { result ≡ self.now.situation.shape }
     {
-        match &self.parts {
-            AnyParts::One(parts) => parts.shape(),
-            AnyParts::Two(parts) => parts.shape(),
-            AnyParts::Four(parts) => parts.shape(),
-            AnyParts::Eight(parts) => parts.shape(),
-            AnyParts::Sixteen(parts) => parts.shape(),
-            AnyParts::ThirtyTwo(parts) => parts.shape(),
-            AnyParts::SixtyFour(parts) => parts.shape(),
-        }
+        self.parts.shape()
     }
 
     /// The core's state of the block, or `None` outside the shape.
@@ -180,15 +127,7 @@ impl Machine {
         ensures inside { core < self.now.situation.shape.cores → block < self.now.situation.shape.blocks → result ≡ Some (state_of self.now.situation core block) }
         ensures outside { IfSome result (λ _. (core < self.now.situation.shape.cores) × (block < self.now.situation.shape.blocks)) }
     {
-        match &self.parts {
-            AnyParts::One(parts) => parts.state(core, block),
-            AnyParts::Two(parts) => parts.state(core, block),
-            AnyParts::Four(parts) => parts.state(core, block),
-            AnyParts::Eight(parts) => parts.state(core, block),
-            AnyParts::Sixteen(parts) => parts.state(core, block),
-            AnyParts::ThirtyTwo(parts) => parts.state(core, block),
-            AnyParts::SixtyFour(parts) => parts.state(core, block),
-        }
+        self.parts.state(core, block)
     }
 
     /// The value of a word that the core keeps, which is that of the last store to it, or `None` outside the shape and in a
@@ -200,15 +139,7 @@ impl Machine {
         ensures outside { IfSome result (λ _. (core < self.now.situation.shape.cores) × (block < self.now.situation.shape.blocks) × (word < self.now.situation.shape.words)) }
     {
         self.shape().within_limits();
-        match &self.parts {
-            AnyParts::One(parts) => parts.kept(core, block, word),
-            AnyParts::Two(parts) => parts.kept(core, block, word),
-            AnyParts::Four(parts) => parts.kept(core, block, word),
-            AnyParts::Eight(parts) => parts.kept(core, block, word),
-            AnyParts::Sixteen(parts) => parts.kept(core, block, word),
-            AnyParts::ThirtyTwo(parts) => parts.kept(core, block, word),
-            AnyParts::SixtyFour(parts) => parts.kept(core, block, word),
-        }
+        self.parts.kept(core, block, word)
     }
 
     /// Memory's state of the block, or `None` outside the shape.
@@ -216,15 +147,7 @@ impl Machine {
         ensures inside { block < self.now.situation.shape.blocks → result ≡ Some (picture_of self.now.situation block).memory.state }
         ensures outside { IfSome result (λ _. block < self.now.situation.shape.blocks) }
     {
-        match &self.parts {
-            AnyParts::One(parts) => parts.mem_state(block),
-            AnyParts::Two(parts) => parts.mem_state(block),
-            AnyParts::Four(parts) => parts.mem_state(block),
-            AnyParts::Eight(parts) => parts.mem_state(block),
-            AnyParts::Sixteen(parts) => parts.mem_state(block),
-            AnyParts::ThirtyTwo(parts) => parts.mem_state(block),
-            AnyParts::SixtyFour(parts) => parts.mem_state(block),
-        }
+        self.parts.mem_state(block)
     }
 
     /// Memory's value of a word, or `None` outside the shape.
@@ -232,15 +155,7 @@ impl Machine {
         ensures inside { block < self.now.situation.shape.blocks → word < self.now.situation.shape.words → result ≡ Some (word_at (picture_of self.now.situation block).memory.value word) }
         ensures outside { IfSome result (λ _. (block < self.now.situation.shape.blocks) × (word < self.now.situation.shape.words)) }
     {
-        match &self.parts {
-            AnyParts::One(parts) => parts.mem_value(block, word),
-            AnyParts::Two(parts) => parts.mem_value(block, word),
-            AnyParts::Four(parts) => parts.mem_value(block, word),
-            AnyParts::Eight(parts) => parts.mem_value(block, word),
-            AnyParts::Sixteen(parts) => parts.mem_value(block, word),
-            AnyParts::ThirtyTwo(parts) => parts.mem_value(block, word),
-            AnyParts::SixtyFour(parts) => parts.mem_value(block, word),
-        }
+        self.parts.mem_value(block, word)
     }
 
     /// The block's open transaction, if there is one; `None` outside the shape.
@@ -250,45 +165,21 @@ impl Machine {
         // The words that a block doesn't have are 0.
         ensures padded { IfSome result (λ opened. AreZeroFrom self.now.situation.shape.words opened.value) }
     {
-        match &self.parts {
-            AnyParts::One(parts) => parts.open(block),
-            AnyParts::Two(parts) => parts.open(block),
-            AnyParts::Four(parts) => parts.open(block),
-            AnyParts::Eight(parts) => parts.open(block),
-            AnyParts::Sixteen(parts) => parts.open(block),
-            AnyParts::ThirtyTwo(parts) => parts.open(block),
-            AnyParts::SixtyFour(parts) => parts.open(block),
-        }
+        self.parts.open(block)
     }
 
     /// The core whose transaction is open on the block, or `None` where none is, and outside the shape.
     pub fn requestor(&self, block: u32) -> Option<u32>
         ensures { result ≡ option_map (λ opened. opened.core) (picture_of self.now.situation block).transaction }
     {
-        match &self.parts {
-            AnyParts::One(parts) => parts.requestor(block),
-            AnyParts::Two(parts) => parts.requestor(block),
-            AnyParts::Four(parts) => parts.requestor(block),
-            AnyParts::Eight(parts) => parts.requestor(block),
-            AnyParts::Sixteen(parts) => parts.requestor(block),
-            AnyParts::ThirtyTwo(parts) => parts.requestor(block),
-            AnyParts::SixtyFour(parts) => parts.requestor(block),
-        }
+        self.parts.requestor(block)
     }
 
     /// Whether a request of the core waits to be ordered; false outside the shape.
     pub fn waiting(&self, core: u32) -> bool
         ensures { IsTrue result ↔ (0 < length (queue_of self.now.situation.queues core)) }
     {
-        match &self.parts {
-            AnyParts::One(parts) => parts.waiting(core),
-            AnyParts::Two(parts) => parts.waiting(core),
-            AnyParts::Four(parts) => parts.waiting(core),
-            AnyParts::Eight(parts) => parts.waiting(core),
-            AnyParts::Sixteen(parts) => parts.waiting(core),
-            AnyParts::ThirtyTwo(parts) => parts.waiting(core),
-            AnyParts::SixtyFour(parts) => parts.waiting(core),
-        }
+        self.parts.waiting(core)
     }
 
     /// Whether the core's request for the block waits to be ordered; false outside the shape.
@@ -297,18 +188,7 @@ impl Machine {
         ensures outside { result ≡ true → (core < self.now.situation.shape.cores) × (block < self.now.situation.shape.blocks) }
     {
         let shape = self.shape();
-        if core >= shape.cores() || block >= shape.blocks() {
-            return false;
-        }
-        match &self.parts {
-            AnyParts::One(parts) => parts.waits_on(core, block),
-            AnyParts::Two(parts) => parts.waits_on(core, block),
-            AnyParts::Four(parts) => parts.waits_on(core, block),
-            AnyParts::Eight(parts) => parts.waits_on(core, block),
-            AnyParts::Sixteen(parts) => parts.waits_on(core, block),
-            AnyParts::ThirtyTwo(parts) => parts.waits_on(core, block),
-            AnyParts::SixtyFour(parts) => parts.waits_on(core, block),
-        }
+        core < shape.cores() && block < shape.blocks() && self.parts.waits_on(core, block)
     }
 
     /// How many lines the core's map has, or `None` outside the shape: one for each block in which the core isn't in
@@ -318,15 +198,7 @@ impl Machine {
         ensures held { HasHeldLines self.now core }
         ensures outside { IfSome result (λ _. core < self.now.situation.shape.cores) }
     {
-        match &self.parts {
-            AnyParts::One(parts) => parts.lines(core),
-            AnyParts::Two(parts) => parts.lines(core),
-            AnyParts::Four(parts) => parts.lines(core),
-            AnyParts::Eight(parts) => parts.lines(core),
-            AnyParts::Sixteen(parts) => parts.lines(core),
-            AnyParts::ThirtyTwo(parts) => parts.lines(core),
-            AnyParts::SixtyFour(parts) => parts.lines(core),
-        }
+        self.parts.lines(core)
     }
 
     /// The history of all that was performed, ordered and answered.
@@ -334,15 +206,7 @@ impl Machine {
         ensures items { result.now.items ≡ self.now.situation.log }
         ensures shape { (result.now.cores ≡ self.now.situation.shape.cores) × (result.now.blocks ≡ self.now.situation.shape.blocks) × (result.now.words ≡ self.now.situation.shape.words) }
     {
-        match &self.parts {
-            AnyParts::One(parts) => parts.log(),
-            AnyParts::Two(parts) => parts.log(),
-            AnyParts::Four(parts) => parts.log(),
-            AnyParts::Eight(parts) => parts.log(),
-            AnyParts::Sixteen(parts) => parts.log(),
-            AnyParts::ThirtyTwo(parts) => parts.log(),
-            AnyParts::SixtyFour(parts) => parts.log(),
-        }
+        self.parts.log()
     }
 }
 
@@ -354,7 +218,7 @@ pub fn run_steps(machine: &mut Machine, steps: &[Step]) -> usize
 {
     let mut taken = 0;
     for step in steps {
-        if machine.step(*step).is_ok() {
+        if machine.parts.step(*step).is_ok() {
             taken += 1;
         }
     }

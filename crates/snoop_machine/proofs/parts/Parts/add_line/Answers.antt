@@ -39,6 +39,8 @@ invariant_of-self-2 g c =
       cores = c.self.invariant.cores;
       blocks = c.self.invariant.blocks;
       words = c.self.invariant.words;
+      held = c.self.invariant.held;
+      few_words = c.self.invariant.few_words;
     }
 
 pub returns-in_err-reserve-clause-full : goal.returns-in_err-reserve-clause-full

@@ -30,6 +30,8 @@ invariant_of-self g c =
       cores = ap (λ (j : Journal). j.cores) c.push.ensures ∙ c.self.invariant.cores;
       blocks = ap (λ (j : Journal). j.blocks) c.push.ensures ∙ c.self.invariant.blocks;
       words = ap (λ (j : Journal). j.words) c.push.ensures ∙ c.self.invariant.words;
+      held = c.self.invariant.held;
+      few_words = c.self.invariant.few_words;
     }
 
 pub returns-clause-responded : goal.returns-clause-responded

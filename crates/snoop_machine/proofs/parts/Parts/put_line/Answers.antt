@@ -25,6 +25,8 @@ invariant_of-self g c =
       cores = c.self.invariant.cores;
       blocks = c.self.invariant.blocks;
       words = c.self.invariant.words;
+      held = c.self.invariant.held;
+      few_words = c.self.invariant.few_words;
     }
 
 pub returns-clause-lines : goal.returns-clause-lines

@@ -24,6 +24,8 @@ invariant_of-result g c =
       cores = ap (λ (j : Journal). j.cores) c.in_ok-log.ensures;
       blocks = ap (λ (j : Journal). j.blocks) c.in_ok-log.ensures;
       words = ap (λ (j : Journal). j.words) c.in_ok-log.ensures;
+      held = c.requires;
+      few_words = search rules;
     }
 
 pub returns-clause-situation : goal.returns-clause-situation
