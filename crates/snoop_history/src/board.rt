@@ -14,7 +14,7 @@ use std::marker::Model;
 /// The board of a list of items: values by block and word, counts and last operations by core, and totals,
 /// in tables of a fixed size. Counts stop at the largest `u64`.
 ///
-/// An item whose core or block, or those of its operation, lie outside the shape is counted by the
+/// An item outside the shape, by its core, its block or the core, block or word of its operation, is counted by the
 /// totals and changes nothing else.
 #[derive(Debug, Drop)]
 pub struct Board {

@@ -23,7 +23,7 @@ const BATCH: usize = 1024;
 
 /// Writes steps as a text, one a line, each ended by a line feed.
 ///
-/// Where the steps are within the shape, `read_steps` reads the same steps from the text. After
+/// Where the steps are within the shape and an eviction's word is 0, `read_steps` reads the same steps from the text. After
 /// `Write` and `NoMemory` the writer holds a beginning of the text after what it held, the failed
 /// write's own bytes aside.
 #[tactic(auto, using(crate::proofs::BackLemmas::all_read_again))]
