@@ -19,7 +19,8 @@ from types import SimpleNamespace
 import reference
 
 PROGRAM = os.environ.get("SNOOP", pathlib.Path(__file__).resolve().parent.parent / "crates" / "snoop" / "out" / "snoop")
-SHAPES = [(1, 1, 1), (2, 4, 64), (2, 4, 64), (2, 4, 64), (3, 2, 4096), (4, 16, 1), (256, 4, 64), (1, 300, 2)]
+SHAPES = [(1, 1, 1, 1), (2, 4, 64, 1), (2, 4, 64, 1), (2, 4, 64, 1), (3, 2, 4096, 1), (4, 16, 1, 1), (256, 4, 64, 1), (1, 300, 2, 1),
+          (2, 4, 64, 8), (2, 4, 64, 2), (3, 2, 4096, 64), (4, 16, 16, 2), (2, 4, 512, 64)]
 LINE_ENDS = [b"\n", b"\n", b"\n", b"\r\n", b"\r", b"\n\n", b"\r\n\r\n"]
 HOSTILE = [b"", b" ", b"-1", b"+1", b"0x", b"0X1", b"0xg", b"1.0", b"1e3", b"\xff", b"\xc3\xa9", b"\x00", b"18446744073709551615",
            b"18446744073709551616", b"0xffffffffffffffff", b"0x10000000000000000", b"0" * 40 + b"1", b"99999999999999999999999999", b"4294967296"]
@@ -106,7 +107,7 @@ def by_reference(options, given):
 def by_program(options, given):
     """What the program answers."""
     words = [PROGRAM, options.command, "--protocol", options.protocol, "--cores", str(options.cores), "--blocks", str(options.blocks),
-             "--block-bytes", str(options.block_bytes)]
+             "--block-bytes", str(options.block_bytes), "--words", str(options.words)]
     done = subprocess.run(words, input=given, capture_output=True, check=False)
     return done.returncode, done.stdout, done.stderr
 
@@ -119,9 +120,9 @@ def main():
     chance = random.Random(asked.seed)
     refused = different = 0
     for _ in range(asked.count):
-        cores, blocks, block_bytes = chance.choice(SHAPES)
+        cores, blocks, block_bytes, words = chance.choice(SHAPES)
         options = SimpleNamespace(command=chance.choice(["steps", "run"]), protocol=chance.choice(["msi", "mesi"]),
-                                  cores=cores, blocks=blocks, block_bytes=block_bytes)
+                                  cores=cores, blocks=blocks, block_bytes=block_bytes, words=words)
         given = text(chance, options)
         expected = by_reference(options, given)
         refused += expected[0] == 1

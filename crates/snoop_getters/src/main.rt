@@ -29,7 +29,7 @@ fn machine_of(alloc: Global, words: &[String]) -> Result<Machine> {
 fn push_held(out: &mut String, machine: &Machine, core: u32, block: u32) -> Result<()> {
     let state = machine.state(core, block).context("no such line")?;
     write!(out, "{state}")?;
-    if let Some(value) = machine.kept(core, block) {
+    if let Some(value) = machine.kept(core, block, 0) {
         write!(out, "={value}")?;
     }
     if machine.waits_on(core, block) {
@@ -63,7 +63,7 @@ fn push_block(out: &mut String, machine: &Machine, block: u32) -> Result<()> {
         out.push(',')?;
     }
     let memory = machine.mem_state(block).context("no such block")?;
-    let value = machine.mem_value(block).context("no such block")?;
+    let value = machine.mem_value(block, 0).context("no such block")?;
     write!(out, "{memory}={value},")?;
     if let Some(open) = machine.open(block) {
         push_open(out, &open)?;
@@ -95,7 +95,7 @@ fn push_log(out: &mut String, log: &Log, shape: Shape) -> Result<()> {
     }
     out.push('|')?;
     for block in 0..shape.blocks() {
-        let value = log.flat(block).context("no such block")?;
+        let value = log.flat(block, 0).context("no such block")?;
         write!(out, "{value},")?;
     }
     out.push('\n')?;

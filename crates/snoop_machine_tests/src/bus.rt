@@ -4,7 +4,7 @@ mod memory;
 
 use snoop_bus::{Bus, Open};
 use snoop_rules::{Payload, Request};
-use snoop_trace::{NoMemory, Shape};
+use snoop_trace::{NoMemory, Shape, Words};
 use std::alloc::Global;
 use std::test::Fail;
 
@@ -43,7 +43,7 @@ fn start(bus: &mut Bus, core: u32, payload: Payload, value: u64, from: Option<u3
     if bus.open(block).is_some() {
         return false;
     }
-    bus.start(core, payload, value, from);
+    bus.start(core, payload, Words::zero().with(0, value), from);
     true
 }
 
@@ -58,7 +58,7 @@ fn requests_from_issue_to_response(rt: HostRuntime) -> Result<(), Fail> {
         request: Request::PutM,
         block: 3,
         payload: Payload::NoData,
-        value: 0,
+        value: Words::zero(),
         from: Some(1),
     };
 

@@ -14,6 +14,7 @@ fn did(core: u32, number: u64, block: u32, load: bool, value: u64) -> Did {
         core,
         number,
         block,
+        word: 0,
         load,
         value,
         hit: false,
@@ -127,7 +128,7 @@ fn a_log_and_its_copy(rt: HostRuntime) -> Result<(), Fail> {
         );
         assert_eq!(rt;
             (
-                [log.flat(0), log.flat(1), log.flat(4)],
+                [log.flat(0, 0), log.flat(1, 0), log.flat(4, 0)],
                 [log.count(0), log.count(1), log.count(2)],
                 [log.last(0), log.last(1), log.last(2)],
                 answers.each_ref().map(|dids| dids.as_slice()),
@@ -155,7 +156,7 @@ fn a_board_of_the_block_boundary(rt: HostRuntime) -> Result<(), Fail> {
                 board.has_shape(shape),
                 board.has_shape(Shape::new(3, 4, 64)?)
             ],
-            [board.value(0), board.value(1), board.value(4)],
+            [board.value(0, 0), board.value(1, 0), board.value(4, 0)],
             [board.count(0), board.count(1), board.count(2)],
             [board.last(0), board.last(1), board.last(2)],
             board.totals(),
@@ -242,6 +243,7 @@ fn reports(rt: HostRuntime) -> Result<(), Fail> {
             core,
             number: 0,
             block,
+            word: 0,
             load,
             value,
             hit: true,

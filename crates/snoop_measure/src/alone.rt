@@ -29,9 +29,9 @@ fn perform<R: Wait>(rt: &R, seats: &mut [Seat], shape: Shape, row: &Row) -> Resu
         .context("a row has no seat")?;
     match row.op {
         Op::Load => {
-            seat.load(rt, block)?;
+            seat.load(rt, block, 0)?;
         }
-        Op::Store(value) => seat.store(rt, block, value)?,
+        Op::Store(value) => seat.store(rt, block, 0, value)?,
         Op::Evict => {
             seat.evict(rt, block)?;
         }
@@ -43,6 +43,7 @@ fn perform<R: Wait>(rt: &R, seats: &mut [Seat], shape: Shape, row: &Row) -> Resu
 fn advance<R: Wait>(rt: &R, bench: &mut Bench, row: &Row) -> Result<()> {
     let work = Work {
         block: block_of(bench.shape(), row)?,
+        word: 0,
         op: row.op,
     };
     for _ in 0..TURNS {

@@ -30,7 +30,7 @@ fn read(watch: &mut Watch, is_done: &AtomicBool, readings: &AtomicU64) {
         if is_done.load(Ordering::SeqCst) {
             break;
         }
-        if watch.value(0).is_ok() {
+        if watch.value(0, 0).is_ok() {
             count = count.saturating_add(1);
         }
     }
@@ -59,7 +59,7 @@ fn time_stores<R: Wait + Clock>(rt: &R, seat: &mut Seat, count: u64) -> Result<D
     let blocks = seat.shape().blocks() as u64;
     let start = Instant::now(rt)?;
     for number in 0..count {
-        seat.store(rt, (number % blocks) as u32, number)?;
+        seat.store(rt, (number % blocks) as u32, 0, number)?;
     }
     Ok(start.elapsed(rt)?)
 }

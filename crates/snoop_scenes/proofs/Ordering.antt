@@ -77,7 +77,7 @@ pub record Ordered (protocol : Protocol) (before : Picture) (core : ℕ) (reques
   pub sender : Sender protocol before core request
 
 -- An Order seen by two caches and memory, each with its row.
-module _ (protocol : Protocol) (core : ℕ) (request : Request) (memory : MemState) (value : ℕ) (transaction : Option Open) (a b : Line)
+module _ (protocol : Protocol) (core : ℕ) (request : Request) (memory : MemState) (value : List ℕ) (transaction : Option Open) (a b : Line)
     (first : RowAt protocol a.state (seen_by 0 core request)) (second : RowAt protocol b.state (seen_by 1 core request)) (third : MemoryRowAt protocol memory (at_memory request)) where
   abbrev pub before : Picture
   before = record { caches = a ∷ b ∷ []; memory = record { state = memory; value = value }; transaction = transaction }
@@ -169,7 +169,7 @@ module _ (protocol : Protocol) (core : ℕ) (request : Request) (memory : MemSta
   }
 
 -- each controller's row, and the message, found
-abbrev pub ordered : (protocol : Protocol) (core : ℕ) (request : Request) (memory : MemState) (value : ℕ) (transaction : Option Open) (lines : List Line)
+abbrev pub ordered : (protocol : Protocol) (core : ℕ) (request : Request) (memory : MemState) (value : List ℕ) (transaction : Option Open) (lines : List Line)
     → Option (Ordered protocol (record { caches = lines; memory = record { state = memory; value = value }; transaction = transaction }) core request)
 ordered protocol core request memory value transaction (a ∷ b ∷ []) =
     if_some (row_at protocol a.state (seen_by 0 core request)) λ first is.

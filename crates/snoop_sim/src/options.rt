@@ -39,8 +39,8 @@ Exit status:
        BadKind, BadFields  no such letter; another number of fields
        BadNumber           no number up to 2^64 - 1
        NoCore, NoBlock     outside --cores; outside --blocks
-  2  the command line was refused, or the shape (BadCores, BadBlocks, BadBytes:
-     outside the limits of its options); nothing was written
+  2  the command line was refused, or the shape (BadCores, BadBlocks, BadBytes,
+     BadWords: outside the limits of its options); nothing was written
   3  out of memory
   4  a write failed
   5  the threads of `snoop threads` were refused; nothing was written
@@ -58,7 +58,7 @@ Reads a text from standard input, and writes one to standard output:
 
 `steps` and `run` write a line for each step, which ends with the machine's reply
 (hit, store hit, issued, ordered, Data, NoData, gone, absent, refused), and then a
-report: counts, and the last value of each block. `snoop COMMAND --help` says more."
+report: counts, and the last values of each block. `snoop COMMAND --help` says more."
 );
 
 static STEPS_HELP: &str = help_text!(
@@ -85,7 +85,7 @@ Each step has a line of output: the step, a colon and the reply.
                             has an open transaction
 Then the report: loads and stores performed, and the hits among them; requests
 ordered; responses from memory and from caches; writebacks, with the clean and the
-stale ones; and the last value stored in each block."
+stale ones; and the last value stored in each word of each block."
 );
 
 static RUN_HELP: &str = help_text!(
@@ -109,7 +109,7 @@ and the reply.
                             sent it, and the load or store that it completes
 Then the report: loads and stores performed, and the hits among them; requests
 ordered; responses from memory and from caches; writebacks, with the clean and the
-stale ones; and the last value stored in each block."
+stale ones; and the last value stored in each word of each block."
 );
 
 static THREADS_HELP: &str = help_text!(
@@ -215,6 +215,12 @@ fn simulation<'a>(
             "block-bytes",
             "64",
             "Bytes of a block, a power of two up to 4096",
+        ))?
+        .arg(number(
+            alloc,
+            "words",
+            "1",
+            "Words of a block, a power of two up to 64; several have 8 bytes or more each",
         ))
 }
 
@@ -278,10 +284,11 @@ fn which_in(options: &ArgMatches) -> Which
 fn shape_in(options: &ArgMatches) -> Result<Shape, ShapeFault>
     ensures { IsShapeOf (rows_of (found_of options.now)) result }
 {
-    Shape::new(
+    Shape::with_words(
         number_in(options, "cores"),
         number_in(options, "blocks"),
         number_in(options, "block-bytes"),
+        number_in(options, "words"),
     )
 }
 

@@ -30,7 +30,7 @@ fn play<R: Threads + Wait + Print + Sync>(
         }
     }
     for watch in watches.iter_mut() {
-        let (first, second) = (watch.value(0)?, watch.value(1)?);
+        let (first, second) = (watch.value(0, 0)?, watch.value(1, 0)?);
         println!(rt; "watch: block 0 has {first}, block 1 has {second}")?;
     }
     let totals = gather(rt, alloc, shared, seats)?.log.totals();

@@ -5,10 +5,11 @@ use snoop_rules::Protocol;
 use snoop_trace::{Op, Shape};
 use std::test::Fail;
 
-/// The store of the value in block 0.
+/// The store of the value in word 0 of block 0.
 pub(super) fn store(value: u64) -> Work {
     Work {
         block: 0,
+        word: 0,
         op: Op::Store(value),
     }
 }
@@ -18,10 +19,12 @@ fn a_turn_closes_the_work_of_another_core(rt: HostRuntime) -> Result<(), Fail> {
     let mut bench = Bench::new(rt.alloc(), Protocol::Msi, Shape::new(2, 4, 64)?, 1)?;
     let load = Work {
         block: 0,
+        word: 0,
         op: Op::Load,
     };
     let outside = Work {
         block: 4,
+        word: 0,
         op: Op::Load,
     };
     let turns = [

@@ -53,8 +53,8 @@ fn each_core_waits_for_the_other(rt: HostRuntime) -> Result<(), Fail> {
             &gate,
         );
         let gathered = scene.gathered(&rt, rt.alloc()).map(|gathered| (
-            gathered.log.flat(0),
-            gathered.log.flat(1),
+            gathered.log.flat(0, 0),
+            gathered.log.flat(1, 0),
             counts(gathered.log.totals()),
             gathered.steps.len(),
         ));

@@ -14,6 +14,7 @@ use std::thread::Threads;
 
 const STORE_5: Work = Work {
     block: 0,
+    word: 0,
     op: Op::Store(5),
 };
 
@@ -21,18 +22,21 @@ const STORE_5: Work = Work {
 const ASK_0: Step = Step::Ask {
     core: 0,
     block: 0,
+    word: 0,
     op: Op::Store(5),
 };
 
 const ASK_1: Step = Step::Ask {
     core: 1,
     block: 0,
+    word: 0,
     op: Op::Store(6),
 };
 
 const LOAD_1: Step = Step::Ask {
     core: 1,
     block: 0,
+    word: 0,
     op: Op::Load,
 };
 
@@ -64,6 +68,7 @@ const HANDED_OVER: [Item; 4] = [
             core: 0,
             number: 0,
             block: 0,
+            word: 0,
             load: false,
             value: 5,
             hit: false,
@@ -86,6 +91,7 @@ const HANDED_OVER: [Item; 4] = [
             core: 1,
             number: 0,
             block: 0,
+            word: 0,
             load: true,
             value: 5,
             hit: false,
@@ -162,7 +168,7 @@ fn a_pending_store_is_handed_over_once(rt: HostRuntime) -> Result<(), Fail> {
     if stored == Some(Err(SeatFault::NoMemory)) {
         stored = goes_on(&mut scene, &rt, rt.alloc());
     }
-    let own = scene.seats.get_mut(0).and_then(|seat| seat.value(0).ok());
+    let own = scene.seats.get_mut(0).and_then(|seat| seat.value(0, 0).ok());
     let before = scene
         .watches
         .get_mut(0)
@@ -175,7 +181,7 @@ fn a_pending_store_is_handed_over_once(rt: HostRuntime) -> Result<(), Fail> {
     let value = scene
         .watches
         .get_mut(0)
-        .and_then(|watch| watch.value(0).ok());
+        .and_then(|watch| watch.value(0, 0).ok());
     let first = gathers(&scene, &rt, rt.alloc());
     let second = gathers(&scene, &rt, rt.alloc());
     scene.end(&rt);
@@ -238,6 +244,7 @@ fn is_in_order(
 fn another_store_ends_an_open_transaction(rt: HostRuntime) -> Result<(), Fail> {
     let unrelated = Work {
         block: 1,
+        word: 0,
         op: Op::Load,
     };
     let (whole, stopped) = ORDERS.as_slice().split_at(1);
@@ -260,7 +267,7 @@ fn another_store_ends_an_open_transaction(rt: HostRuntime) -> Result<(), Fail> {
         let Some(Gathered { log, steps }) = gathered else {
             return Err(Fail::from("a gathering"));
         };
-        let ordered = is_in_order(steps.as_slice(), count, log.flat(0), orders);
+        let ordered = is_in_order(steps.as_slice(), count, log.flat(0, 0), orders);
         assert_eq!(rt;
             (loaded, stored, other, ordered),
             (true, Some(Ok(Turn::Stored)), Some(Ok(Turn::Stored)), true),
@@ -278,7 +285,7 @@ fn another_store_ends_an_open_transaction(rt: HostRuntime) -> Result<(), Fail> {
 /// The operation of a row, where it lies in a block.
 fn work_of(row: &Row) -> Option<Work> {
     let block = u32::try_from(row.address / 64).ok()?;
-    Some(Work { block, op: row.op })
+    Some(Work { block, word: 0, op: row.op })
 }
 
 /// Ends the rows of a core that stopped: out of memory at the row that is pending now, which the same call performs.

@@ -96,6 +96,7 @@ fn faults_of_calls_are_shown_by_their_names(rt: HostRuntime) -> Result<(), Fail>
         core: 0,
         number: 0,
         block: 0,
+        word: 0,
         load: true,
         value: 7,
         hit: false,

@@ -46,8 +46,8 @@ impl Scene {
     ) -> Option<Result<Turn, SeatFault>> {
         let seat = self.seats.get_mut(core as usize)?;
         Some(match work.op {
-            Op::Load => seat.load(rt, work.block).map(|value| Turn::Loaded(value)),
-            Op::Store(value) => seat.store(rt, work.block, value).map(|()| Turn::Stored),
+            Op::Load => seat.load(rt, work.block, work.word).map(|value| Turn::Loaded(value)),
+            Op::Store(value) => seat.store(rt, work.block, work.word, value).map(|()| Turn::Stored),
             Op::Evict => seat
                 .evict(rt, work.block)
                 .map(|evicted| Turn::Evicted(evicted)),
@@ -107,7 +107,7 @@ pub(super) fn row(core: u32, op: Op, address: u64) -> Row {
 }
 
 pub(super) fn work(op: Op) -> Work {
-    Work { block: 0, op }
+    Work { block: 0, word: 0, op }
 }
 
 /// Whether the core asks for its rows and no more, in their order.
@@ -117,12 +117,13 @@ pub(super) fn ask_rows(steps: &[Step], rows: &[Row], core: u32) -> bool {
         if let Step::Ask {
             core: asking,
             block,
+            word,
             op,
         } = *step
             && asking == core
         {
             match wanted.next() {
-                Some(row) if row.op == op && row.address / 64 == u64::from(block) => {}
+                Some(row) if row.op == op && row.address / 64 == u64::from(block) && word == 0 => {}
                 _ => return false,
             }
         }

@@ -23,6 +23,7 @@ const STORED: Did = Did {
     core: 0,
     number: 0,
     block: 1,
+    word: 0,
     load: false,
     value: 7,
     hit: true,
@@ -33,6 +34,7 @@ const LOADED: Did = Did {
     core: 1,
     number: 0,
     block: 1,
+    word: 0,
     load: true,
     value: 7,
     hit: true,
@@ -43,7 +45,7 @@ fn is_current(log: &Log, item: Item) -> bool
     ensures { IsTrue result → ForSome (operation_of item) (λ did. IsTrue did.load → did.value ≡ flat log.now.items did.block) }
 {
     match item.did() {
-        Some(did) => !did.load || log.flat(did.block) == Some(did.value),
+        Some(did) => !did.load || log.flat(did.block, 0) == Some(did.value),
         None => true,
     }
 }
@@ -88,7 +90,7 @@ fn add_at_last<R: Wait>(rt: &R, log: &mut Log, writer: &mut VersionWriter, item:
 fn readings(
     reader: &mut VersionReader,
 ) -> Option<(Option<u64>, Totals, Option<(Option<u64>, Option<Did>)>)> {
-    Some((reader.value(1)?, reader.totals()?, reader.own(1)))
+    Some((reader.value(1, 0)?, reader.totals()?, reader.own(1)))
 }
 
 fn log_at_last(alloc: Global, shape: Shape) -> Result<Log, NoMemory>

@@ -20,11 +20,11 @@ fn no_version_to_read(rt: HostRuntime) -> Result<(), Fail> {
     );
     let mut reader = readers.reader(shape);
     let full = readers.reader(shape).is_none();
-    let read = reader.as_mut().map(|reader| reader.value(1));
+    let read = reader.as_mut().map(|reader| reader.value(1, 0));
     writer.end(&rt);
     let ended = reader
         .as_mut()
-        .map(|reader| (reader.value(1), reader.totals(), reader.own(1)));
+        .map(|reader| (reader.value(1, 0), reader.totals(), reader.own(1)));
     assert_eq!(rt;
         (mismatched, full, read, ended),
         (

@@ -41,7 +41,7 @@ fn a_log_grows_by_each_item(rt: HostRuntime) -> Result<(), Fail> {
     let alloc = rt.alloc();
     let log = full_log(alloc, Shape::new(2, 4, 64)?)?;
     assert!(rt; has_items(&log, &block_boundary()));
-    assert_eq!(rt; log.flat(1), Some(7));
+    assert_eq!(rt; log.flat(1, 0), Some(7));
     let copy = match log.copy() {
         Ok(copy) => copy,
         Err(_) => log.copy()?,
@@ -68,7 +68,7 @@ fn a_board_is_made_and_absorbs_without_memory(rt: HostRuntime) -> Result<(), Fai
         board.absorb(item);
     }
     assert_eq!(rt;
-        (board.value(1), board.count(0), board.last(1)),
+        (board.value(1, 0), board.count(0), board.last(1)),
         (Some(7), Some(1), Some(did(1, 0, 1, true, 7)))
     );
     Ok(())

@@ -41,9 +41,9 @@ fn seen_of(machine: &Machine) -> BlockSeen {
     let log = machine.log();
     BlockSeen {
         caches: [machine.state(0, 0), machine.state(1, 0)],
-        kept: [machine.kept(0, 0), machine.kept(1, 0)],
+        kept: [machine.kept(0, 0, 0), machine.kept(1, 0, 0)],
         memory: machine.mem_state(0),
-        value: machine.mem_value(0),
+        value: machine.mem_value(0, 0),
         waiting: [machine.waits_on(0, 0), machine.waits_on(1, 0)],
         open: machine.open(0),
         items: log.len(),
@@ -75,7 +75,7 @@ fn a_step_out_of_memory_changes_nothing_and_is_taken_again(rt: HostRuntime) -> R
         count(&rt, &mut taken, outcome.map(|_| ()));
     }
     let log = machine.log();
-    assert_eq!(rt; (taken, log.flat(0), log.len()), (12, Some(5), 8));
+    assert_eq!(rt; (taken, log.flat(0, 0), log.len()), (12, Some(5), 8));
     Ok(())
 }
 
@@ -97,6 +97,6 @@ fn a_prepared_step_takes_no_memory(rt: HostRuntime) -> Result<(), Fail> {
         }
         count(&rt, &mut taken, prepared.map(|_| ()));
     }
-    assert_eq!(rt; (taken, machine.log().flat(0)), (12, Some(5)));
+    assert_eq!(rt; (taken, machine.log().flat(0, 0)), (12, Some(5)));
     Ok(())
 }

@@ -16,7 +16,7 @@ fn a_refused_step_is_passed_over_and_not_counted(rt: HostRuntime) -> Result<(), 
     assert_eq!(rt; (begun, state), (9, Some(CacheState::SmD)));
     let ended = run_steps(&mut machine, &UPGRADE_RACE[9..]);
     assert_eq!(rt;
-        (ended, machine.kept(0, 0), machine.log().flat(0)),
+        (ended, machine.kept(0, 0, 0), machine.log().flat(0, 0)),
         (3, Some(5), Some(5))
     );
     Ok(())
@@ -27,7 +27,7 @@ fn end_of(machine: &Machine) -> (Option<Item>, Option<u64>, Totals) {
     let log = machine.log();
     (
         log.item(log.len().saturating_sub(1)),
-        machine.kept(255, 0),
+        machine.kept(255, 0, 0),
         log.totals(),
     )
 }
@@ -44,6 +44,7 @@ const LAST_STORE: Item = Item::Came(
         core: 255,
         number: 0,
         block: 0,
+        word: 0,
         load: false,
         value: 255,
         hit: false,
@@ -119,7 +120,7 @@ fn only_the_last_of_all_writebacks_is_not_stale(rt: HostRuntime) -> Result<(), F
         let mut machine = machine_of(rt.alloc(), protocol, 256)?;
         let taken = run_steps(&mut machine, &steps);
         assert_eq!(rt;
-            (taken, end_of(&machine), machine.mem_value(0)),
+            (taken, end_of(&machine), machine.mem_value(0, 0)),
             (1536, (Some(WRITTEN_BACK), None, totals), Some(255))
         );
     }

@@ -118,6 +118,7 @@ const FIRST_LOAD: Did = Did {
     core: 0,
     number: 0,
     block: 0,
+    word: 0,
     load: true,
     value: 0,
     hit: false,
@@ -128,6 +129,7 @@ const STORE_OF_6: Did = Did {
     core: 1,
     number: 1,
     block: 0,
+    word: 0,
     load: false,
     value: 6,
     hit: false,
@@ -147,7 +149,7 @@ fn the_loser_of_an_upgrade_race_asks_for_the_whole_block(rt: HostRuntime) -> Res
             "at {step:?}"
         );
     }
-    assert_eq!(rt; machine.log().flat(0), Some(5));
+    assert_eq!(rt; machine.log().flat(0, 0), Some(5));
     Ok(())
 }
 
@@ -166,10 +168,10 @@ struct Seen {
 fn seen_of(machine: &Machine) -> Seen {
     Seen {
         states: [machine.state(0, 1), machine.state(1, 1)],
-        kept: [machine.kept(0, 1), machine.kept(1, 1)],
+        kept: [machine.kept(0, 1, 0), machine.kept(1, 1, 0)],
         waiting: [machine.waiting(0), machine.waiting(1)],
         memory: machine.mem_state(1),
-        value: machine.mem_value(1),
+        value: machine.mem_value(1, 0),
         open: machine.open(1),
         items: machine.log().len(),
     }
@@ -180,6 +182,7 @@ const STORE_OF_7: Did = Did {
     core: 0,
     number: 0,
     block: 1,
+    word: 0,
     load: false,
     value: 7,
     hit: false,
@@ -200,6 +203,7 @@ static STORED_AND_EVICTED: [(Step, Option<Item>); 8] = [
         Step::Ask {
             core: 0,
             block: 1,
+            word: 0,
             op: Op::Store(7),
         },
         None,
@@ -220,6 +224,7 @@ static STORED_AND_EVICTED: [(Step, Option<Item>); 8] = [
         Step::Ask {
             core: 0,
             block: 1,
+            word: 0,
             op: Op::Load,
         },
         Some(Item::Did(Did {
@@ -233,6 +238,7 @@ static STORED_AND_EVICTED: [(Step, Option<Item>); 8] = [
         Step::Ask {
             core: 0,
             block: 1,
+            word: 0,
             op: Op::Evict,
         },
         None,
@@ -260,6 +266,7 @@ static STORED_AND_EVICTED: [(Step, Option<Item>); 8] = [
         Step::Ask {
             core: 0,
             block: 1,
+            word: 0,
             op: Op::Evict,
         },
         None,
@@ -282,7 +289,7 @@ fn preparing_tells_the_item_and_changes_nothing(rt: HostRuntime) -> Result<(), F
     }
     let refused = machine.prepare(Step::Order { core: 0 });
     assert_eq!(rt;
-        (refused, machine.mem_value(1)),
+        (refused, machine.mem_value(1, 0)),
         (Err(Refused::NothingWaiting), Some(7))
     );
     Ok(())
@@ -298,6 +305,7 @@ static TURNS: [(u32, Op, bool, Option<Step>); 8] = [
         Some(Step::Ask {
             core: 0,
             block: 0,
+            word: 0,
             op: Op::Load,
         }),
     ),
@@ -308,6 +316,7 @@ static TURNS: [(u32, Op, bool, Option<Step>); 8] = [
         Some(Step::Ask {
             core: 1,
             block: 0,
+            word: 0,
             op: Op::Store(5),
         }),
     ),
@@ -324,14 +333,14 @@ fn turns_of_two_cores(rt: HostRuntime) -> Result<(), Fail> {
     let mut machine = two_cores(rt.alloc())?;
     for (core, op, under_way, step) in &TURNS {
         assert!(rt; *core < machine.shape().cores());
-        let found = machine.turn_step(*core, 0, *op, *under_way);
+        let found = machine.turn_step(*core, 0, 0, *op, *under_way);
         assert_eq!(rt; found, *step, "of core {core}");
         if let Some(step) = found {
             machine.step(step)?;
         }
     }
     assert_eq!(rt;
-        (machine.kept(1, 0), machine.protocol()),
+        (machine.kept(1, 0, 0), machine.protocol()),
         (Some(5), Protocol::Msi)
     );
     Ok(())

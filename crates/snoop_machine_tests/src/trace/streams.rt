@@ -11,6 +11,7 @@ static STEPS: [Step; 3] = [
     Step::Ask {
         core: 0,
         block: 1,
+        word: 0,
         op: Op::Store(7),
     },
     Step::Order { core: 0 },

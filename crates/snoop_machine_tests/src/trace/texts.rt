@@ -10,16 +10,19 @@ static STEPS: [Step; 5] = [
     Step::Ask {
         core: 0,
         block: 0,
+        word: 0,
         op: Op::Load,
     },
     Step::Ask {
         core: 255,
         block: 65535,
+        word: 0,
         op: Op::Store(u64::MAX),
     },
     Step::Ask {
         core: 10,
         block: 1,
+        word: 0,
         op: Op::Evict,
     },
     Step::Order { core: 100 },
@@ -82,6 +85,7 @@ fn a_long_text_is_written_in_chunks(rt: HostRuntime) -> Result<(), Fail> {
         steps.push(Step::Ask {
             core: 1,
             block: 3,
+            word: 0,
             op: Op::Store(value),
         })?;
     }
