@@ -18,7 +18,7 @@ use Rattle.snoop_model.specs.Moves.Refuses.{WaitsOnNone}
 use Rattle.snoop_scenes.proofs.Deciding.{by_found, by_test}
 use Rattle.snoop_scenes.proofs.Played.{Played}
 
-not_below : (word count : ℕ) → count ≤ word → word < count → ⊥
+pub not_below : (word count : ℕ) → count ≤ word → word < count → ⊥
 not_below word count past below = omega (arith, past, below)
 
 -- goes one way where blocks have the word, and another where they don't
