@@ -487,8 +487,9 @@ def stale_writebacks_of_all_cores(_):
     yield "writebacks 1 clean 0 stale 255\nblock 0 value 256"
 
 
-def loads_and_drops(count):
+def loads_and_drops(options):
     """The output under MSI where a core loads so many blocks, and then drops each."""
+    count = options.count
     for block in range(count):
         yield f"L,0,{64 * block}: issued GetS\nO,0: ordered GetS\nR,{64 * block}: Data from memory, load 0"
     for block in range(count):
@@ -499,10 +500,10 @@ def loads_and_drops(count):
         yield f"block {block} value 0"
 
 
-def many_rows(count):
+def many_rows(options):
     """A text of so many rows, of 8 cores on 6 blocks."""
-    for n in range(count):
-        core, address = (n * 5 + n // 7) % 8, (n * 7 + n // 11) % 6 * 64 + n % 64
+    for n in range(options.count):
+        core, address = (n * 5 + n // 7) % 8, (n * 7 + n // 11) % 6 * options.block_bytes + n % options.block_bytes
         kind = "E" if n % 10 == 9 else "S" if n % 3 == 0 else "L"
         yield f"{kind},{core},{address}" + (f",{n}" if kind == "S" else "")
 
@@ -512,7 +513,7 @@ CROWDS = {crowd.__name__: crowd for crowd in (all_cores_store, stale_writebacks_
 
 def crowd(options):
     """The lines of a crowd."""
-    for lines in CROWDS[options.name](options.count):
+    for lines in CROWDS[options.name](options):
         print(lines)
 
 

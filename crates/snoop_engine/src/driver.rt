@@ -51,6 +51,7 @@ impl Driver {
         ensures left { IfOk result (λ driver. (core : ℕ) → (todo_of driver.lanes core).left ≡ works_of shape rows.items core) }
         ensures all { IfOk result (λ driver. left_in driver.lanes ≡ length rows.items) }
     {
+        shape.within_limits();
         let machine = Machine::reset(alloc, protocol, shape)?;
         let lanes = deal(alloc, shape, &rows)?;
         let turns = all_cores(alloc, shape)?;

@@ -1,5 +1,5 @@
 //! Shows a machine after each step of a text: all that its getters answer, a line for each step, taken or refused.
-//! The words are the protocol, how many cores and how many blocks; the text comes on standard input.
+//! The words are the protocol, how many cores, blocks and words of a block; the text comes on standard input.
 #![tactic(auto)]
 
 use anyhow::{Context, Result, bail};
@@ -13,24 +13,46 @@ use std::alloc::Global;
 
 /// What the command line asks for: a protocol and a shape, with blocks of 64 bytes.
 fn machine_of(alloc: Global, words: &[String]) -> Result<Machine> {
-    let [_, protocol, cores, blocks] = words else {
-        bail!("a protocol, cores and blocks are wanted");
+    let [_, protocol, cores, blocks, words] = words else {
+        bail!("a protocol, cores, blocks and words are wanted");
     };
     let protocol = match protocol.as_str() {
         "msi" => Protocol::Msi,
         "mesi" => Protocol::Mesi,
         _ => bail!("there are msi and mesi"),
     };
-    let shape = Shape::new(cores.as_str().parse()?, blocks.as_str().parse()?, 64)?;
+    let shape = Shape::with_words(
+        cores.as_str().parse()?,
+        blocks.as_str().parse()?,
+        64,
+        words.as_str().parse()?,
+    )?;
     Ok(Machine::reset(alloc, protocol, shape)?)
 }
 
-/// Appends what the core holds of the block: its state, the value that it keeps, and a mark where its request waits.
+/// Appends the value of each of the block's words, with a stroke between them.
+fn push_values(
+    out: &mut String,
+    words: u32,
+    value: impl Fn(u32) -> Option<u64>,
+) -> Result<()> {
+    for word in 0..words {
+        if word > 0 {
+            out.push('/')?;
+        }
+        write!(out, "{}", value(word).context("no such word")?)?;
+    }
+    Ok(())
+}
+
+/// Appends what the core holds of the block: its state, the values that it keeps, and a mark where its request waits.
 fn push_held(out: &mut String, machine: &Machine, core: u32, block: u32) -> Result<()> {
     let state = machine.state(core, block).context("no such line")?;
     write!(out, "{state}")?;
-    if let Some(value) = machine.kept(core, block, 0) {
-        write!(out, "={value}")?;
+    let words = machine.shape().words();
+    if machine.kept(core, block, 0).is_some() {
+        out.push('=')?;
+        push_values(out, words, |word| machine.kept(core, block, word))?;
     }
     if machine.waits_on(core, block) {
         out.push('!')?;
@@ -38,8 +60,8 @@ fn push_held(out: &mut String, machine: &Machine, core: u32, block: u32) -> Resu
     Ok(())
 }
 
-/// Appends the open transaction: requestor, request, payload, value, and the core that sends it or memory.
-fn push_open(out: &mut String, open: &Open) -> Result<()> {
+/// Appends the open transaction: requestor, request, payload, values, and the core that sends it or memory.
+fn push_open(out: &mut String, open: &Open, words: u32) -> Result<()> {
     let Open {
         core,
         request,
@@ -48,7 +70,9 @@ fn push_open(out: &mut String, open: &Open) -> Result<()> {
         from,
         ..
     } = open;
-    write!(out, "{core}:{request}:{payload}:{value}:")?;
+    write!(out, "{core}:{request}:{payload}:")?;
+    push_values(out, words, |word| value.get(word))?;
+    out.push(':')?;
     match from {
         Some(sender) => write!(out, "{sender}")?,
         None => out.push_str("memory")?,
@@ -56,17 +80,19 @@ fn push_open(out: &mut String, open: &Open) -> Result<()> {
     Ok(())
 }
 
-/// Appends all that is seen of the block: what each core holds, memory's state and value, and the open transaction.
+/// Appends all that is seen of the block: what each core holds, memory's state and values, and the open transaction.
 fn push_block(out: &mut String, machine: &Machine, block: u32) -> Result<()> {
     for core in 0..machine.shape().cores() {
         push_held(out, machine, core, block)?;
         out.push(',')?;
     }
     let memory = machine.mem_state(block).context("no such block")?;
-    let value = machine.mem_value(block, 0).context("no such block")?;
-    write!(out, "{memory}={value},")?;
+    let words = machine.shape().words();
+    write!(out, "{memory}=")?;
+    push_values(out, words, |word| machine.mem_value(block, word))?;
+    out.push(',')?;
     if let Some(open) = machine.open(block) {
-        push_open(out, &open)?;
+        push_open(out, &open, words)?;
     }
     out.push('|')?;
     Ok(())
@@ -86,7 +112,7 @@ fn push_machine(out: &mut String, machine: &Machine) -> Result<()> {
     Ok(())
 }
 
-/// Appends the log's line: how many items there are, each core's operations, and each block's value in flat memory.
+/// Appends the log's line: how many items there are, each core's operations, and each block's values in flat memory.
 fn push_log(out: &mut String, log: &Log, shape: Shape) -> Result<()> {
     write!(out, "{}|", log.len())?;
     for core in 0..shape.cores() {
@@ -95,8 +121,8 @@ fn push_log(out: &mut String, log: &Log, shape: Shape) -> Result<()> {
     }
     out.push('|')?;
     for block in 0..shape.blocks() {
-        let value = log.flat(block, 0).context("no such block")?;
-        write!(out, "{value},")?;
+        push_values(out, shape.words(), |word| log.flat(block, word))?;
+        out.push(',')?;
     }
     out.push('\n')?;
     Ok(())

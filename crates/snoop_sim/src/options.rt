@@ -220,7 +220,7 @@ fn simulation<'a>(
             alloc,
             "words",
             "1",
-            "Words of a block, a power of two up to 64; several have 8 bytes or more each",
+            "Words of a block, a power of two up to 64",
         ))
 }
 
