@@ -5,3 +5,4 @@ mod refusals;
 mod scene;
 mod seats;
 mod storms;
+mod words;

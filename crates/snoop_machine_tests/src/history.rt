@@ -313,3 +313,44 @@ fn failing_writer(rt: HostRuntime) -> Result<(), Fail> {
     );
     Ok(())
 }
+
+// Core 0's store in word 0 of block 1, and core 1's store in word 1.
+fn two_words() -> [Item; 2] {
+    let first = Did {
+        hit: true,
+        ..did(0, 0, 1, false, 7)
+    };
+    let second = Did {
+        word: 1,
+        hit: true,
+        ..did(1, 0, 1, false, 9)
+    };
+    [Item::Did(first), Item::Did(second)]
+}
+
+#[test]
+fn words_of_a_block_have_values_of_their_own(rt: HostRuntime) -> Result<(), Fail> {
+    let alloc = rt.alloc();
+    let shape = Shape::with_words(2, 4, 64, 2)?;
+    let log = log_of(alloc, shape, two_words().as_slice())?;
+    let board = board_of(alloc, shape, two_words().as_slice())?;
+    let values = [Some(7), Some(9), None, Some(0), None];
+    assert_eq!(rt;
+        (
+            log.len(),
+            [log.flat(1, 0), log.flat(1, 1), log.flat(1, 2), log.flat(0, 1), log.flat(4, 0)],
+            [board.value(1, 0), board.value(1, 1), board.value(1, 2), board.value(0, 1), board.value(4, 0)],
+            board.has_shape(Shape::new(2, 4, 64)?),
+        ),
+        (2, values, values, false)
+    );
+    let mut report = Vec::new(alloc);
+    write_report(alloc, &mut report, &log)?;
+    let expected = "loads 0 hits 0\nstores 2 hits 2\nGetS 0 GetM 0 PutM 0\nfrom memory 0 from caches 0\nwritebacks 0 clean 0 stale 0\nblock 1 value 7 9\n";
+    assert_eq!(rt; report.as_slice(), expected.as_bytes());
+
+    // A word that blocks do not have.
+    let one_word = log_of(alloc, Shape::new(2, 4, 64)?, two_words().as_slice())?;
+    assert_eq!(rt; one_word.len(), 1);
+    Ok(())
+}

@@ -1,7 +1,7 @@
 //! Texts that are read and written whole.
 
 use snoop_trace::streams::{CHUNK, gather_steps, spill, write_whole};
-use snoop_trace::{Op, Row, Shape, Step, read_rows, read_steps, write_steps};
+use snoop_trace::{Op, Row, Shape, ShapeFault, Step, read_rows, read_steps, write_steps};
 use std::io;
 use std::test::Fail;
 
@@ -111,6 +111,84 @@ fn a_full_chunk_is_spilled(rt: HostRuntime) -> Result<(), Fail> {
     assert_eq!(rt;
         (before, after),
         ((6, CHUNK - 1), (6 + CHUNK, 0, Some(&b'y')))
+    );
+    Ok(())
+}
+
+#[test]
+fn a_step_is_written_with_the_first_address_of_its_word(rt: HostRuntime) -> Result<(), Fail> {
+    let alloc = rt.alloc();
+    let shape = Shape::with_words(2, 4, 64, 8)?;
+    let text = b"L,0,63\nS,1,72,5\nE,1,255\nR,255".as_slice();
+    let steps = read_steps(alloc, text, shape)?;
+    let expected = [
+        Step::Ask {
+            core: 0,
+            block: 0,
+            word: 7,
+            op: Op::Load,
+        },
+        Step::Ask {
+            core: 1,
+            block: 1,
+            word: 1,
+            op: Op::Store(5),
+        },
+        Step::Ask {
+            core: 1,
+            block: 3,
+            word: 0,
+            op: Op::Evict,
+        },
+        Step::Respond { block: 3 },
+    ];
+    let mut written = Vec::new(alloc);
+    write_steps(alloc, &mut written, shape, &steps)?;
+    let again = read_steps(alloc, written.as_slice(), shape)?;
+    assert_eq!(rt;
+        (steps.as_slice(), written.as_slice(), again.as_slice()),
+        (
+            expected.as_slice(),
+            b"L,0,56\nS,1,72,5\nE,1,192\nR,192\n".as_slice(),
+            expected.as_slice()
+        )
+    );
+    Ok(())
+}
+
+#[test]
+fn words_that_blocks_can_have(rt: HostRuntime) -> Result<(), Fail> {
+    let bad = Some(ShapeFault::BadWords);
+    let cases = [
+        (Shape::with_words(2, 4, 64, 1).err(), None),
+        (Shape::with_words(2, 4, 64, 8).err(), None),
+        (Shape::with_words(2, 4, 1, 1).err(), None),
+        (Shape::with_words(2, 4, 512, 64).err(), None),
+        (Shape::with_words(2, 4, 64, 0).err(), bad),
+        (Shape::with_words(2, 4, 64, 3).err(), bad),
+        (Shape::with_words(2, 4, 64, 16).err(), bad),
+        (Shape::with_words(2, 4, 4096, 128).err(), bad),
+        (Shape::with_words(2, 4, 8, 2).err(), bad),
+        (
+            Shape::with_words(2, 4, 48, 3).err(),
+            Some(ShapeFault::BadBytes),
+        ),
+        (
+            Shape::with_words(0, 4, 48, 3).err(),
+            Some(ShapeFault::BadCores),
+        ),
+    ];
+    for (found, expected) in &cases {
+        assert_eq!(rt; *found, *expected);
+    }
+    let shape = Shape::with_words(2, 4, 64, 4)?;
+    assert_eq!(rt;
+        (
+            shape.words(),
+            Shape::new(2, 4, 64)?.words(),
+            [shape.word_of(0), shape.word_of(15), shape.word_of(16), shape.word_of(127)],
+        ),
+        (4, 1, [0, 0, 1, 3])
     );
     Ok(())
 }
