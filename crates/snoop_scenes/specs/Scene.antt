@@ -76,13 +76,15 @@ store_word core block word value = Ask core block word (op.Store value)
 abbrev pub evict_word : ℕ → ℕ → ℕ → Step
 evict_word core block word = Ask core block word op.Evict
 
--- the same of a block's first word
+-- the core asks to load the block's first word
 abbrev pub load : ℕ → ℕ → Step
 load core block = load_word core block 0
 
+-- the core asks to store the value in the block's first word
 abbrev pub store : ℕ → ℕ → ℕ → Step
 store core block value = store_word core block 0 value
 
+-- the core asks to give the block up
 abbrev pub evict : ℕ → ℕ → Step
 evict core block = evict_word core block 0
 
