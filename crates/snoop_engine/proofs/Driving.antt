@@ -25,6 +25,7 @@ use Rattle.snoop_model.specs.Turns.TurnRule.{TurnRule}
 use Rattle.snoop_engine.specs.Todo.{Todo, todo_of, nothing_to_do, under_way, block_of}
 use Rattle.snoop_engine.specs.Round.{IsOver, IsEnabled, IsFit, IsIdle, IsTodoWithin, IsWorkWithin, TakesUp}
 use Rattle.snoop_engine.specs.Served.{ask_of}
+use Rattle.snoop_engine.proofs.TakenLemmas.{same_shape}
 
 within_of : (o : Option Work) (w : Work) (s : Situation) → o ≡ Some w → IfSome o (IsWorkWithin s) → IsWorkWithin s w
 within_of None w s e h = cc
@@ -147,11 +148,6 @@ takes_first lanes core next w has_lane first (Some step) is = λ k.
           (let same : (todo_of (slice_set lanes core next) k).left ≡ (todo_of lanes k).left = ap (λ (t : Todo). t.left) (get_or-set_other lanes core k next nothing_to_do ne) in
           rw (ne_eqb core k (λ e. ne (sym e)), same) refl)
     ]))
-
-pub same_shape : (s t : Situation) (step : Step) (answer : Reply) (entry : Option Item) → FirstMove s step answer t entry → t.shape ≡ s.shape
-same_shape s t (Ask core on word asking) answer entry m = elim m.1.1.2 [ inl absent ↦ ap (λ (x : Situation). x.shape) absent.3 | inr asks ↦ ap (λ (x : Situation). x.shape) asks.after ]
-same_shape s t (Order core) answer entry m = ap (λ (x : Situation). x.shape) m.1.1.1.3.after
-same_shape s t (Respond on) answer entry m = ap (λ (x : Situation). x.shape) m.1.1.1.1.4.after
 
 -- a move keeps what holds between turns
 pub fit_moves : TurnRule → (s t : Situation) (lanes : List Todo) (turns : List ℕ) (step : Step) (answer : Reply) (entry : Option Item)

@@ -59,7 +59,7 @@ left_fewer (x ∷ xs) (y ∷ ys) (suc core) one same =
 -- what a step takes up is what it pays for
 left_paid : (old new : List Todo) (step : Step) → TakesUp old step new → 3 * left_in old ≡ paid step + 3 * left_in new
 left_paid old new (Ask core block word asking) takes =
-    let L : Bool → List Work = λ b. option_to_list (cond b (Some (record { block = block; op = asking })) None) in
+    let L : Bool → List Work = λ b. option_to_list (cond b (Some (record { block = block; word = word; op = asking })) None) in
     let first : length (todo_of old core).left ≡ suc (length (todo_of new core).left) =
     ap length (takes core) ∙ ap (λ b. length (L b ++ (todo_of new core).left)) (eq-eqb core core refl) in
     let own : length (todo_of old core).left ≡ 1 + length (todo_of new core).left = omega (arith, first) in

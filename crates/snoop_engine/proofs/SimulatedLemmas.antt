@@ -16,6 +16,7 @@ use Rattle.snoop_model.specs.declared.replies.Reply.{Reply}
 use Rattle.snoop_model.specs.declared.replies.Refused.{Refused}
 use Rattle.snoop_engine.specs.Written.{WritesFront, WritesLines}
 use Rattle.snoop_engine.specs.Simulated.{Begins, Reads, Reports, Simulates}
+use Rattle.snoop_engine.proofs.TakenLemmas.{report_words}
 use Rattle.snoop_engine.specs.Fault.{written}
 use Rattle.snoop_engine.specs.declared.fault.SimFault.{SimFault}
 use Rattle.snoop_trace.specs.declared.fault.WriteFault.{WriteFault}
@@ -42,25 +43,29 @@ front_after a b c text more p cut =
     }
 
 -- all was written
-pub reports : (protocol : Protocol) (shape : Extent) (steps : List Step) (from to : Situation) (items : List Item) (a b c : Option (List ℕ))
-    → from ≡ reset protocol shape → items ≡ to.log → WritesLines shape from steps to a b → Appends b c (report_of shape.words items) → Reports protocol shape steps a c
-reports protocol shape steps from to items a b c start last far p =
+pub reports : (protocol : Protocol) (shape : Extent) (steps : List Step) (from to : Situation) (words : ℕ) (items : List Item) (a b c : Option (List ℕ))
+    → from ≡ reset protocol shape → words ≡ to.shape.words → items ≡ to.log → WritesLines shape from steps to a b → Appends b c (report_of words items) → Reports protocol shape steps a c
+reports protocol shape steps from to words items a b c start these last far p =
+    let run : TheRun protocol shape steps far.outcomes to = subst (λ (s : Situation). FirstRunFrom s steps far.outcomes to) start far.run in
+    let report = report_words (λ (n : ℕ) (l : List Item). Appends b c (report_of n l)) protocol shape steps far.outcomes to words items run these p in
     record {
       outcomes = far.outcomes;
       final = to;
-      run = subst (λ (s : Situation). FirstRunFrom s steps far.outcomes to) start far.run;
-      output = appends_more a b c (line_texts shape steps far.outcomes) (report_of shape.words to.log) far.lines (subst (λ (l : List Item). Appends b c (report_of shape.words l)) last p);
+      run = run;
+      output = appends_more a b c (line_texts shape steps far.outcomes) (report_of shape.words to.log) far.lines (subst (λ (l : List Item). Appends b c (report_of shape.words l)) last report);
     }
 
 -- the report was cut
-pub begins_report : (protocol : Protocol) (shape : Extent) (steps : List Step) (from to : Situation) (items : List Item) (a b c : Option (List ℕ))
-    → from ≡ reset protocol shape → items ≡ to.log → WritesLines shape from steps to a b → AppendsFront b c (report_of shape.words items) → Begins protocol shape steps a c
-begins_report protocol shape steps from to items a b c start last far cut =
+pub begins_report : (protocol : Protocol) (shape : Extent) (steps : List Step) (from to : Situation) (words : ℕ) (items : List Item) (a b c : Option (List ℕ))
+    → from ≡ reset protocol shape → words ≡ to.shape.words → items ≡ to.log → WritesLines shape from steps to a b → AppendsFront b c (report_of words items) → Begins protocol shape steps a c
+begins_report protocol shape steps from to words items a b c start these last far cut =
+    let run : TheRun protocol shape steps far.outcomes to = subst (λ (s : Situation). FirstRunFrom s steps far.outcomes to) start far.run in
+    let report = report_words (λ (n : ℕ) (l : List Item). AppendsFront b c (report_of n l)) protocol shape steps far.outcomes to words items run these cut in
     record {
       outcomes = far.outcomes;
       final = to;
-      run = subst (λ (s : Situation). FirstRunFrom s steps far.outcomes to) start far.run;
-      output = front_after a b c (line_texts shape steps far.outcomes) (report_of shape.words to.log) far.lines (subst (λ (l : List Item). AppendsFront b c (report_of shape.words l)) last cut);
+      run = run;
+      output = front_after a b c (line_texts shape steps far.outcomes) (report_of shape.words to.log) far.lines (subst (λ (l : List Item). AppendsFront b c (report_of shape.words l)) last report);
     }
 
 -- the lines of a run that goes on

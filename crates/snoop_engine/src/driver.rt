@@ -64,7 +64,8 @@ impl Driver {
 
     /// The history of the steps so far.
     pub(crate) fn log(&self) -> &Log
-        ensures { result.now.items ≡ self.now.situation.log }
+        ensures items { result.now.items ≡ self.now.situation.log }
+        ensures words { result.now.words ≡ self.now.situation.shape.words }
     {
         self.machine.log()
     }
