@@ -7,7 +7,7 @@ ghost use Rattle.snoop_history.specs.Totals.{capped_totals, totals_of};
 ghost use Rattle.snoop_bench.specs.Works.{Does};
 ghost use Rattle.snoop_versions.specs.Readings.{StartsWith};
 ghost use Rattle.snoop_cores.specs.Seats.{IsNew, Sees};
-ghost use Rattle.snoop_cores.specs.Calls.{IsWordFor, MayBegin, Completes, Fails, RefusedAtOnce};
+ghost use Rattle.snoop_cores.specs.Calls.{IsHere, IsWordFor, MayBegin, Completes, Fails, RefusedAtOnce};
 ghost use Rattle.snoop_cores.specs.Rows.{FailsRow, Grows, IsNotLate, RanTo};
 ghost use Rattle.snoop_cores.specs.declared.fault.ViewFault.TheVariants.{NoBlock, NoVersion};
 
@@ -225,8 +225,7 @@ impl Seat {
         ensures err { IfErr result (λ fault. Fails fault work self.old self.new) }
         ensures at_once { RefusedAtOnce work self.old (λ fault. result ≡ Err fault) }
     {
-        let shape = self.share.shape();
-        if work.block >= shape.blocks() || !has_word(shape, work) {
+        if !is_here(self.share.shape(), work) {
             return Err(SeatFault::NoBlock);
         }
         if let Some(did) = self.strange {
@@ -317,6 +316,13 @@ impl Seat {
         }
         Ok(())
     }
+}
+
+// Whether there are the work's block and its word.
+fn is_here(shape: Shape, work: Work) -> bool
+    ensures { IsTrue result ↔ IsHere shape work }
+{
+    work.block < shape.blocks() && has_word(shape, work)
 }
 
 // Whether the work is of a word that there is. An eviction's word is not looked at.

@@ -5,9 +5,11 @@ use Rattle.std.specs.Result.{IsErrAnd}
 use Rattle.std.proofs.lemmas.Bool.Decides.{nat_tests}
 use Rattle.std.proofs.lemmas.List.Elements.{All-filter, All-from_get_or, All-get_or}
 use Rattle.std.proofs.lemmas.Option.{get_or_from_slice_get, slice_get_within}
-use Rattle.snoop_trace.specs.Extent.{Extent}
-use Rattle.snoop_trace.specs.Grammar.{block_at, IsRowWithin}
+use Rattle.snoop_trace.specs.Extent.{Extent, IsWithinLimits}
+use Rattle.snoop_trace.specs.Grammar.{block_at, word_asked, IsRowWithin}
+use Rattle.snoop_trace.proofs.WordPlaces.{asked_within}
 use Rattle.snoop_trace.specs.declared.step.Op.{Op}
+use Rattle.snoop_trace.specs.declared.step.Op.TheVariants as op
 use Rattle.snoop_trace.specs.Output.{AppendsFront, steps_text}
 use Rattle.snoop_trace.specs.declared.fault.WriteFault.{WriteFault}
 use Rattle.snoop_trace.specs.declared.fault.WriteFault.TheVariants as write
@@ -24,6 +26,7 @@ use Rattle.snoop_cores.specs.declared.fault.SeatFault.TheVariants as seat
 use Rattle.snoop_cores.specs.declared.stop.Stop.{Stop}
 use Rattle.snoop_cores.specs.declared.stop.Stop.TheVariants.{Fault}
 use Rattle.snoop_cores.specs.Seats.{AreSeats, IsNew, Seating}
+use Rattle.snoop_cores.specs.Calls.{IsWordFor}
 use Rattle.snoop_cores.specs.Rows.{Answers, Leaves, Grows, FailsOn, IsRefused, IsServed, RanTo, RefusesRows, rows_of}
 use Rattle.snoop_cores.specs.Joined.{IsJoined}
 use Rattle.snoop_engine.specs.SimulatedRun.{ReadsRows}
@@ -101,38 +104,45 @@ idle_after : (rows : List Row) (s t : Seating) → s.pending ≡ None → Leaves
 idle_after [] s t new leaves = ap (λ (x : Seating). x.pending) leaves ∙ new
 idle_after (row ∷ rows) s t new leaves = leaves.pending
 
+-- the word that an operation at an address is of is there
+word_here : (shape : Extent) (address : ℕ) (asking : Op) → IsWithinLimits shape → IsWordFor shape (word_asked shape address asking) asking
+word_here shape address op.Load limits = asked_within shape address op.Load limits
+word_here shape address (op.Store value) limits = asked_within shape address (op.Store value) limits
+word_here shape address op.Evict limits = tt
+
 -- what a row within the shape, of a seat with nothing pending, is refused for
-why_refused : (block blocks : ℕ) (fault : SeatFault) (wanted : Op) (s t : Seating) → block < blocks → s.shape.blocks ≡ blocks → s.pending ≡ None → FailsOn (Some block) fault wanted s t → IsOfThreads (stopped fault)
-why_refused block blocks seat.NoBlock wanted s t lt is idle fails = absurd (let outside = fails.0 in omega (arith, lt, is, outside))
-why_refused block blocks seat.NoMemory wanted s t lt is idle fails = tt
-why_refused block blocks (seat.Busy other) wanted s t lt is idle fails = absurd (let e : None ≡ Some other = sym idle ∙ fails.1 in cc)
-why_refused block blocks (seat.Stranger did) wanted s t lt is idle fails = tt
+why_refused : (block : ℕ) (fault : SeatFault) (row : Row) (s t : Seating) → IsWithinLimits s.shape → block < s.shape.blocks → s.pending ≡ None → FailsOn (Some block) fault row s t → IsOfThreads (stopped fault)
+why_refused block seat.NoBlock row s t limits lt idle fails = absurd (fails.0 (lt, word_here s.shape row.address row.op limits))
+why_refused block seat.NoMemory row s t limits lt idle fails = tt
+why_refused block (seat.Busy other) row s t limits lt idle fails = absurd (let e : None ≡ Some other = sym idle ∙ fails.1 in cc)
+why_refused block (seat.Stranger did) row s t limits lt idle fails = tt
 
 -- what new seats' rows within the shape are refused for
-row_refused : (shape : Extent) (core number : ℕ) (rows : List Row) (s t : Seating) (fault : SeatFault) → IsNew core shape s → All (IsRowWithin shape) rows → IsRefused number fault rows s t → IsOfThreads (stopped fault)
-row_refused shape core number rows s t fault new within refused =
+row_refused : (shape : Extent) (core number : ℕ) (rows : List Row) (s t : Seating) (fault : SeatFault) → IsWithinLimits shape → IsNew core shape s → All (IsRowWithin shape) rows → IsRefused number fault rows s t → IsOfThreads (stopped fault)
+row_refused shape core number rows s t fault limits new within refused =
     let own : List Row = rows_of s.core rows in
     let lt : number < length own = slice_get_within own number refused.row refused.there in
     let all : All (IsRowWithin shape) own = All-filter (λ (row : Row). row.core == s.core) (IsRowWithin shape) rows within in
     let inside : IsRowWithin shape refused.row = subst (IsRowWithin shape) (get_or_from_slice_get own number refused.row refused.row refused.there) (All-get_or (IsRowWithin shape) own number refused.row lt all) in
     let same : refused.between.shape ≡ shape = refused.grown.stays.shape ∙ new.shape_is in
     let at : block_at refused.between.shape refused.row.address ≡ Some (refused.row.address / shape.block_bytes) = ap (λ (e : Extent). block_at e refused.row.address) same ∙ row_block shape refused.row inside in
-    why_refused (refused.row.address / shape.block_bytes) shape.blocks fault refused.row.op refused.between t inside.1 (ap (λ (e : Extent). e.blocks) same)
+    why_refused (refused.row.address / shape.block_bytes) fault refused.row refused.between t (subst IsWithinLimits (sym same) limits)
+    (subst (λ (e : Extent). refused.row.address / shape.block_bytes < e.blocks) (sym same) inside.1)
     (idle_after (take number own) s refused.between new.pending refused.grown.leaves)
-    (subst (λ (o : Option ℕ). FailsOn o fault refused.row.op refused.between t) at refused.fails)
+    (subst (λ (o : Option ℕ). FailsOn o fault refused.row refused.between t) at refused.fails)
 
 -- the fault of the first seat that stopped is one of threads
 pub first_refused : (shape : Extent) (rows : List Row) (stops : List (Option Stop)) (old new : List Seating) (fault : ThreadsFault)
-    → AreSeats shape old → length stops ≡ length old → All (IsRowWithin shape) rows
+    → IsWithinLimits shape → AreSeats shape old → length stops ≡ length old → All (IsRowWithin shape) rows
     → ((i : ℕ) (d : Seating) → i < length old → RanTo (slice_index_or stops i None) rows (slice_index_or old i d) (slice_index_or new i d))
     → IsOfFirstStop stops fault → IsOfThreads fault
-first_refused shape rows stops old new fault fresh each within ran first =
+first_refused shape rows stops old new fault limits fresh each within ran first =
     let d : Seating = record { core = 0; shape = shape; seen = []; answers = []; pending = None; strange = None; stop = None } in
     let inside : first.place < length old = let lt = slice_get_within stops first.place (Some (Fault first.number first.refused)) first.there in omega (arith, lt, each) in
     let stop : slice_index_or stops first.place None ≡ Some (Fault first.number first.refused) = get_or_from_slice_get stops first.place (Some (Fault first.number first.refused)) None first.there in
     let refused : IsRefused first.number first.refused rows (slice_index_or old first.place d) (slice_index_or new first.place d) =
     subst (λ (o : Option Stop). RanTo o rows (slice_index_or old first.place d) (slice_index_or new first.place d)) stop (ran first.place d inside) in
-    subst IsOfThreads (sym first.is) (row_refused shape first.place first.number rows (slice_index_or old first.place d) (slice_index_or new first.place d) first.refused (fresh.1 first.place d (omega (arith, inside, fresh.0))) within refused)
+    subst IsOfThreads (sym first.is) (row_refused shape first.place first.number rows (slice_index_or old first.place d) (slice_index_or new first.place d) first.refused limits (fresh.1 first.place d (omega (arith, inside, fresh.0))) within refused)
 
 -- the steps stand, and their writing broke off
 pub broken_off : (protocol : Protocol) (shape : Extent) (input : Option (List ℕ)) (rows : List Row) (steps : List Step) (fault : WriteFault) (answer : Result (Unit {0}) ThreadsFault) (old new : Option (List ℕ))

@@ -77,6 +77,7 @@ fn take_seated<T: Threads + Wait + Sync>(
     ensures ok { IfOk result (λ steps. Threaded shared.now.protocol shared.now.shape rows.now steps.items) }
     ensures err { IfErr result IsOfThreads }
 {
+    shared.shape().within_limits();
     let stops = run_seats(rt, alloc, seats, rows, &Free)?;
     check_stops(&stops)?;
     let gathered = gather(rt, alloc, shared, seats)?;
