@@ -10,7 +10,7 @@ use Rattle.snoop_cores.proofs.gathering.first_difference.Goals.{in-Some-own_did+
 use Rattle.snoop_cores.proofs.gathering.first_difference.Goals as goal
 
 abbrev no_did : Did
-no_did = record { core = 0; number = 0; block = 0; load = Rattle.std.proofs.Common.false; value = 0; hit = Rattle.std.proofs.Common.false }
+no_did = record { core = 0; number = 0; block = 0; word = 0; load = Rattle.std.proofs.Common.false; value = 0; hit = Rattle.std.proofs.Common.false }
 
 abbrev no_item : Item
 no_item = item.Did no_did
