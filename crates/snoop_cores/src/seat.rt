@@ -132,7 +132,13 @@ impl Seat {
     /// core that the seat did not make; from then on `load`, `store` and `evict` answer the same wherever `NoBlock` does not come.
     /// `Busy` where another operation is pending. `NoMemory` leaves this one pending: the same call, made again, goes on with it and
     /// does it once.
-    pub fn store<R: Wait>(&mut self, rt: &R, block: u32, word: u32, value: u64) -> Result<(), SeatFault>
+    pub fn store<R: Wait>(
+        &mut self,
+        rt: &R,
+        block: u32,
+        word: u32,
+        value: u64,
+    ) -> Result<(), SeatFault>
         ensures ok { OnOk result ((did : Did) × Completes (record { block = block; word = word; op = Store value }) (did ∷ []) self.old self.new × Does did (record { block = block; word = word; op = Store value })) }
         ensures err { IfErr result (λ fault. Fails fault (record { block = block; word = word; op = Store value }) self.old self.new) }
         ensures at_once { RefusedAtOnce (record { block = block; word = word; op = Store value }) self.old (λ fault. result ≡ Err fault) }

@@ -108,7 +108,8 @@ impl Driver {
         ensures over { IfNone result (IsOver self.now.lanes self.now.situation core) }
     {
         let work = self.lanes[core as usize].work()?;
-        self.machine.turn_step(core, work.block, work.word, work.op, true)
+        self.machine
+            .turn_step(core, work.block, work.word, work.op, true)
     }
 
     /// The first step of the core's next row.
@@ -125,7 +126,8 @@ impl Driver {
         ensures idle { IfNone result (((todo_of self.old.lanes core).left ≡ []) × IsIdle (todo_of self.new.lanes core)) }
     {
         let work = self.lanes[core as usize].take_up()?;
-        self.machine.turn_step(core, work.block, work.word, work.op, false)
+        self.machine
+            .turn_step(core, work.block, work.word, work.op, false)
     }
 
     /// The step of the core's turn. A row that it takes up is under way from here on.

@@ -31,11 +31,7 @@ fn machine_of(alloc: Global, words: &[String]) -> Result<Machine> {
 }
 
 /// Appends the value of each of the block's words, with a stroke between them.
-fn push_values(
-    out: &mut String,
-    words: u32,
-    value: impl Fn(u32) -> Option<u64>,
-) -> Result<()> {
+fn push_values(out: &mut String, words: u32, value: impl Fn(u32) -> Option<u64>) -> Result<()> {
     for word in 0..words {
         if word > 0 {
             out.push('/')?;

@@ -338,15 +338,28 @@ fn words_of_a_block_have_values_of_their_own(rt: HostRuntime) -> Result<(), Fail
     assert_eq!(rt;
         (
             log.len(),
-            [log.flat(1, 0), log.flat(1, 1), log.flat(1, 2), log.flat(0, 1), log.flat(4, 0)],
-            [board.value(1, 0), board.value(1, 1), board.value(1, 2), board.value(0, 1), board.value(4, 0)],
+            [
+                log.flat(1, 0),
+                log.flat(1, 1),
+                log.flat(1, 2),
+                log.flat(0, 1),
+                log.flat(4, 0)
+            ],
+            [
+                board.value(1, 0),
+                board.value(1, 1),
+                board.value(1, 2),
+                board.value(0, 1),
+                board.value(4, 0)
+            ],
             board.has_shape(Shape::new(2, 4, 64)?),
         ),
         (2, values, values, false)
     );
     let mut report = Vec::new(alloc);
     write_report(alloc, &mut report, &log)?;
-    let expected = "loads 0 hits 0\nstores 2 hits 2\nGetS 0 GetM 0 PutM 0\nfrom memory 0 from caches 0\nwritebacks 0 clean 0 stale 0\nblock 1 value 7 9\n";
+    let expected =
+        "loads 0 hits 0\nstores 2 hits 2\nGetS 0 GetM 0 PutM 0\nfrom memory 0 from caches 0\nwritebacks 0 clean 0 stale 0\nblock 1 value 7 9\n";
     assert_eq!(rt; report.as_slice(), expected.as_bytes());
 
     // A word that blocks do not have.

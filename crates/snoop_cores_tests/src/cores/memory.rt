@@ -168,7 +168,10 @@ fn a_pending_store_is_handed_over_once(rt: HostRuntime) -> Result<(), Fail> {
     if stored == Some(Err(SeatFault::NoMemory)) {
         stored = goes_on(&mut scene, &rt, rt.alloc());
     }
-    let own = scene.seats.get_mut(0).and_then(|seat| seat.value(0, 0).ok());
+    let own = scene
+        .seats
+        .get_mut(0)
+        .and_then(|seat| seat.value(0, 0).ok());
     let before = scene
         .watches
         .get_mut(0)
@@ -285,7 +288,11 @@ fn another_store_ends_an_open_transaction(rt: HostRuntime) -> Result<(), Fail> {
 /// The operation of a row, where it lies in a block.
 fn work_of(row: &Row) -> Option<Work> {
     let block = u32::try_from(row.address / 64).ok()?;
-    Some(Work { block, word: 0, op: row.op })
+    Some(Work {
+        block,
+        word: 0,
+        op: row.op,
+    })
 }
 
 /// Ends the rows of a core that stopped: out of memory at the row that is pending now, which the same call performs.

@@ -46,8 +46,12 @@ impl Scene {
     ) -> Option<Result<Turn, SeatFault>> {
         let seat = self.seats.get_mut(core as usize)?;
         Some(match work.op {
-            Op::Load => seat.load(rt, work.block, work.word).map(|value| Turn::Loaded(value)),
-            Op::Store(value) => seat.store(rt, work.block, work.word, value).map(|()| Turn::Stored),
+            Op::Load => seat
+                .load(rt, work.block, work.word)
+                .map(|value| Turn::Loaded(value)),
+            Op::Store(value) => seat
+                .store(rt, work.block, work.word, value)
+                .map(|()| Turn::Stored),
             Op::Evict => seat
                 .evict(rt, work.block)
                 .map(|evicted| Turn::Evicted(evicted)),
@@ -107,7 +111,11 @@ pub(super) fn row(core: u32, op: Op, address: u64) -> Row {
 }
 
 pub(super) fn work(op: Op) -> Work {
-    Work { block: 0, word: 0, op }
+    Work {
+        block: 0,
+        word: 0,
+        op,
+    }
 }
 
 /// Whether the core asks for its rows and no more, in their order.

@@ -10,7 +10,8 @@ use std::test::Fail;
 #[test]
 fn two_seats_store_to_two_words_of_a_block(rt: HostRuntime) -> Result<(), Fail> {
     let shape = Shape::with_words(2, 4, 64, 2)?;
-    let Ok((shared, mut seats, mut watches)) = Shared::new(&rt, rt.alloc(), Protocol::Msi, shape, 1) else {
+    let Ok((shared, mut seats, mut watches)) = Shared::new(&rt, rt.alloc(), Protocol::Msi, shape, 1)
+    else {
         return Err(Fail::from("a shared machine"));
     };
     let stored = [
@@ -25,9 +26,11 @@ fn two_seats_store_to_two_words_of_a_block(rt: HostRuntime) -> Result<(), Fail> 
         seats.get_mut(0).map(|seat| seat.load(&rt, 0, 2).err()),
         seats.get_mut(0).map(|seat| seat.store(&rt, 0, 2, 5).err()),
     ];
-    let values = watches
-        .get_mut(0)
-        .map(|watch| [watch.value(0, 0), watch.value(0, 1), watch.value(0, 2)]);
+    let values = watches.get_mut(0).map(|watch| [
+        watch.value(0, 0),
+        watch.value(0, 1),
+        watch.value(0, 2),
+    ]);
     let own = seats
         .get_mut(0)
         .map(|seat| [seat.value(0, 1), seat.value(0, 2)]);
@@ -36,16 +39,20 @@ fn two_seats_store_to_two_words_of_a_block(rt: HostRuntime) -> Result<(), Fail> 
         seats,
         watches,
     };
-    let gathered = scene
-        .gathered(&rt, rt.alloc())
-        .map(|gathered| [gathered.log.flat(0, 0), gathered.log.flat(0, 1)]);
+    let gathered = scene.gathered(&rt, rt.alloc()).map(|gathered| [
+        gathered.log.flat(0, 0),
+        gathered.log.flat(0, 1),
+    ]);
     scene.end(&rt);
     assert_eq!(rt;
         (stored, loaded, outside),
         (
             [Some(Ok(())), Some(Ok(()))],
             [Some(Ok(9)), Some(Ok(7))],
-            [Some(Some(SeatFault::NoBlock)), Some(Some(SeatFault::NoBlock))],
+            [
+                Some(Some(SeatFault::NoBlock)),
+                Some(Some(SeatFault::NoBlock))
+            ],
         )
     );
     assert_eq!(rt;

@@ -24,9 +24,7 @@ fn no_version_to_read(rt: HostRuntime) -> Result<(), Fail> {
     let full = readers.reader(shape).is_none();
     let read = reader.as_mut().map(|reader| reader.value(1, 0));
     writer.end(&rt);
-    let ended = reader
-        .as_mut()
-        .map(|reader| (reader.value(1, 0), reader.totals(), reader.own(1)));
+    let ended = reader.as_mut().map(|reader| (reader.value(1, 0), reader.totals(), reader.own(1)));
     assert_eq!(rt;
         (mismatched, full, read, ended),
         (

@@ -30,7 +30,12 @@ fn add(count: &mut u64, one_more: bool) {
 fn step_of(number: u64, place: u64) -> Step {
     let core = (number / 5 % 8) as u32;
     let block = (number / 40 % 3) as u32;
-    let ask = |op| Step::Ask { core, block, word: 0, op };
+    let ask = |op| Step::Ask {
+        core,
+        block,
+        word: 0,
+        op,
+    };
     match number % 5 {
         0 => ask(Op::Load),
         1 => ask(Op::Store(place)),
@@ -175,7 +180,11 @@ fn storm(rt: &impl Abort, alloc: Global, protocol: Protocol) -> Result<(), Fail>
     assert_eq!(rt; replay.wrong, 0);
     assert!(rt; replay.totals == machine.log().totals());
     for (block, value) in (0..BLOCKS).zip(replay.flat) {
-        assert_eq!(rt; machine.log().flat(block, 0), Some(value), "of block {block}");
+        assert_eq!(rt;
+            machine.log().flat(block, 0),
+            Some(value),
+            "of block {block}"
+        );
     }
     assert!(rt; replay.totals.stale > 0 && replay.totals.store_hits > 0);
 

@@ -55,7 +55,12 @@ pub fn two_cores(alloc: Global) -> Result<Machine, Fail> {
 }
 
 pub fn ask(core: u32, block: u32, op: Op) -> Step {
-    Step::Ask { core, block, word: 0, op }
+    Step::Ask {
+        core,
+        block,
+        word: 0,
+        op,
+    }
 }
 
 pub fn order(core: u32) -> Step {

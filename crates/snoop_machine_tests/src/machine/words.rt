@@ -99,7 +99,12 @@ fn a_fill_keeps_the_other_words_and_a_writeback_carries_all(rt: HostRuntime) -> 
     let given_up = run_steps(&mut machine, &evicted);
     let all = [Some(7), Some(0), Some(9), Some(4), None];
     assert_eq!(rt;
-        (given_up, remembered(&machine), kept(&machine, 1), flat(&machine)),
+        (
+            given_up,
+            remembered(&machine),
+            kept(&machine, 1),
+            flat(&machine)
+        ),
         (3, all, [None; 5], all)
     );
     Ok(())

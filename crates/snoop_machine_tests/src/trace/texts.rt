@@ -186,7 +186,12 @@ fn words_that_blocks_can_have(rt: HostRuntime) -> Result<(), Fail> {
         (
             shape.words(),
             Shape::new(2, 4, 64)?.words(),
-            [shape.word_of(0), shape.word_of(15), shape.word_of(16), shape.word_of(127)],
+            [
+                shape.word_of(0),
+                shape.word_of(15),
+                shape.word_of(16),
+                shape.word_of(127)
+            ],
         ),
         (4, 1, [0, 0, 1, 3])
     );
