@@ -25,7 +25,6 @@ use Rattle.snoop_trace.specs.Grammar.{ask, asked, block_in, number, numeral, ord
 use Rattle.snoop_trace.specs.Output.{IsWithin, address_of, step_text, steps_text}
 use Rattle.snoop_trace.specs.Text.{entries_from, steps_of}
 use Rattle.snoop_trace.specs.Extent.{Extent, IsWithinLimits}
-use Rattle.snoop_trace.specs.Records.{record_writer}
 use Rattle.snoop_trace.specs.declared.step.Op.TheVariants.{Load, Store, Evict}
 use Rattle.snoop_trace.specs.declared.step.Step.{Step}
 use Rattle.snoop_trace.specs.declared.step.Step.TheVariants.{Ask, Order, Respond}
@@ -122,22 +121,6 @@ line_row shape (Order core) limits h =
 line_row shape (Respond block) limits h =
     let two = plain (address_of shape block) (address_small shape block limits h) in
     rw two (two_parts 82 (decimal (address_of shape block)))
-
--- what csv writes of a record with a letter and so many numbers
-pub one_written : (letter a : ℕ) → needs_byte default_writer letter ≡ false → a < 2 ^ 64
-    → row_text record_writer ((letter ∷ []) ∷ decimal a ∷ []) ≡ ((letter ∷ 44 ∷ []) ++ decimal a) ++ (10 ∷ [])
-unfolding fields_text is_blank
-one_written letter a e h = rw (e, plain a h) (two_parts letter (decimal a))
-
-pub two_written : (letter a b : ℕ) → needs_byte default_writer letter ≡ false → a < 2 ^ 64 → b < 2 ^ 64
-    → row_text record_writer ((letter ∷ []) ∷ decimal a ∷ decimal b ∷ []) ≡ (((letter ∷ 44 ∷ []) ++ decimal a ++ (44 ∷ [])) ++ decimal b) ++ (10 ∷ [])
-unfolding fields_text is_blank
-two_written letter a b e h i = rw (e, plain a h, plain b i) (three_parts letter (decimal a) (decimal b))
-
-pub three_written : (letter a b c : ℕ) → needs_byte default_writer letter ≡ false → a < 2 ^ 64 → b < 2 ^ 64 → c < 2 ^ 64
-    → row_text record_writer ((letter ∷ []) ∷ decimal a ∷ decimal b ∷ decimal c ∷ []) ≡ (((((letter ∷ 44 ∷ []) ++ decimal a ++ (44 ∷ [])) ++ decimal b) ++ (44 ∷ [])) ++ decimal c) ++ (10 ∷ [])
-unfolding fields_text is_blank
-three_written letter a b c e h i j = rw (e, plain a h, plain b i, plain c j) (four_parts letter (decimal a) (decimal b) (decimal c))
 
 block_back : (shape : Extent) (n block : ℕ) → IsWithinLimits shape → block < shape.blocks → block_in shape n (address_of shape block) ≡ Ok block
 block_back shape n block limits h =

@@ -1,14 +1,12 @@
 -- The lines of steps: those that were written, and those to come.
-use Rattle.std.proofs.Common.{◌≡◌, ◌≤◌, ℕ, ◌+◌, List, [], ◌∷◌, ◌++◌, take, drop, Option, refl, sym, ap, arith, ◌∙◌, append_assoc}
-use Rattle.std.specs.Prelude.{◌-◌, codes}
+use Rattle.std.proofs.Common.{◌≡◌, ◌≤◌, ◌<◌, ℕ, ◌+◌, List, [], ◌∷◌, ◌++◌, take, drop, length, get_or, Option, refl, sym, ap, ◌∙◌, append_assoc}
+use Rattle.std.specs.Prelude.{codes}
 use Rattle.std.specs.Io.KnownBytes.{Appends}
-use Rattle.std.specs.List.{slice_range}
-use Rattle.std.proofs.Math.Seq.{take-add}
-use Rattle.std.proofs.lemmas.List.{append-nil, take-append-drop}
+use Rattle.std.proofs.lemmas.List.{append-nil, take-append-drop, take_all, take_more}
 use Rattle.snoop_trace.specs.Extent.{Extent}
-use Rattle.snoop_trace.specs.Output.{AppendsFront, step_text, steps_text}
+use Rattle.snoop_trace.specs.Output.{AppendsFront, Gathers, step_text, steps_text}
 use Rattle.snoop_trace.specs.declared.step.Step.{Step}
-use Rattle.snoop_trace.proofs.OutputLemmas.{appends_more}
+use Rattle.snoop_trace.proofs.GathersLemmas.{gathers_cut, gathers_done, gathers_more, gathers_stop}
 
 steps_text_append : (shape : Extent) (xs ys : List Step) → steps_text shape (xs ++ ys) ≡ steps_text shape xs ++ steps_text shape ys
 steps_text_append shape [] ys = refl
@@ -16,7 +14,7 @@ steps_text_append shape (x ∷ xs) ys =
     ap (λ (t : List ℕ). (step_text shape x ++ codes "\n") ++ t) (steps_text_append shape xs ys) ∙ sym (append_assoc (step_text shape x ++ codes "\n") (steps_text shape xs) (steps_text shape ys))
 
 -- the lines of some steps, and then one more
-pub line_more : (shape : Extent) (steps : List Step) (i : ℕ) (s : Step) → take (i + 1) steps ≡ take i steps ++ (s ∷ [])
+line_more : (shape : Extent) (steps : List Step) (i : ℕ) (s : Step) → take (i + 1) steps ≡ take i steps ++ (s ∷ [])
     → steps_text shape (take (i + 1) steps) ≡ steps_text shape (take i steps) ++ (step_text shape s ++ codes "\n")
 line_more shape steps i s more =
     ap (steps_text shape) more ∙ steps_text_append shape (take i steps) (s ∷ []) ∙ ap (λ (t : List ℕ). steps_text shape (take i steps) ++ t) (append-nil (step_text shape s ++ codes "\n"))
@@ -25,32 +23,25 @@ line_more shape steps i s more =
 lines_split : (shape : Extent) (steps : List Step) (i : ℕ) → steps_text shape steps ≡ steps_text shape (take i steps) ++ steps_text shape (drop i steps)
 lines_split shape steps i = ap (steps_text shape) (sym (take-append-drop i steps)) ∙ steps_text_append shape (take i steps) (drop i steps)
 
+-- one line more
+pub lines_more : (a b : Option (List ℕ)) (chunk grown : List ℕ) (shape : Extent) (steps : List Step) (i : ℕ) (d : Step) → i < length steps
+    → Gathers a b chunk (steps_text shape (take i steps)) → grown ≡ chunk ++ (step_text shape (get_or steps i d) ++ codes "\n")
+    → Gathers a b grown (steps_text shape (take (i + 1) steps))
+lines_more a b chunk grown shape steps i d h far e =
+    rw (line_more shape steps i (get_or steps i d) (take_more steps i d h))
+    (gathers_more a b chunk grown (steps_text shape (take i steps)) (step_text shape (get_or steps i d) ++ codes "\n") far e)
+
 -- a stop before a write
-pub batch_stop : (a b : Option (List ℕ)) (shape : Extent) (steps : List Step) (i : ℕ)
-    → Appends a b (steps_text shape (take i steps)) → AppendsFront a b (steps_text shape steps)
-batch_stop a b shape steps i far = record { front = steps_text shape (take i steps); rest = steps_text shape (drop i steps); whole = lines_split shape steps i; appends = far }
-
--- a batch of steps more
-pub batch_lines : (shape : Extent) (steps : List Step) (i j : ℕ) → i ≤ j → steps_text shape (take j steps) ≡ steps_text shape (take i steps) ++ steps_text shape (slice_range steps i j)
-batch_lines shape steps i j le =
-    let sum : i + (j - i) ≡ j = omega (arith, le) in
-    let split : take j steps ≡ take i steps ++ slice_range steps i j = rw sum at (take-add {A = Step} i (j - i) steps) in
-    ap (steps_text shape) split ∙ steps_text_append shape (take i steps) (slice_range steps i j)
-
--- a batch was written
-pub batch_more : (a b c : Option (List ℕ)) (shape : Extent) (steps : List Step) (i j : ℕ) → i ≤ j
-    → Appends a b (steps_text shape (take i steps)) → Appends b c (steps_text shape (slice_range steps i j)) → Appends a c (steps_text shape (take j steps))
-batch_more a b c shape steps i j le far more = rw (batch_lines shape steps i j le) (appends_more a b c (steps_text shape (take i steps)) (steps_text shape (slice_range steps i j)) far more)
+pub lines_stop : (a b : Option (List ℕ)) (chunk : List ℕ) (shape : Extent) (steps : List Step) (i : ℕ)
+    → Gathers a b chunk (steps_text shape (take i steps)) → AppendsFront a b (steps_text shape steps)
+lines_stop a b chunk shape steps i far = rw (lines_split shape steps i) (gathers_stop a b chunk (steps_text shape (take i steps)) (steps_text shape (drop i steps)) far)
 
 -- a stop in a write
-pub batch_cut : (a b c : Option (List ℕ)) (shape : Extent) (steps : List Step) (i j : ℕ) → i ≤ j
-    → Appends a b (steps_text shape (take i steps)) → AppendsFront b c (steps_text shape (slice_range steps i j)) → AppendsFront a c (steps_text shape steps)
-batch_cut a b c shape steps i j le far cut =
-    let before = steps_text shape (take i steps) in
-    record {
-      front = before ++ cut.front;
-      rest = cut.rest ++ steps_text shape (drop j steps);
-      whole = lines_split shape steps j ∙ ap (λ (t : List ℕ). t ++ steps_text shape (drop j steps)) (batch_lines shape steps i j le ∙ ap (λ (t : List ℕ). before ++ t) cut.whole ∙ sym (append_assoc before cut.front cut.rest))
-          ∙ append_assoc (before ++ cut.front) cut.rest (steps_text shape (drop j steps));
-      appends = appends_more a b c before cut.front far cut.appends;
-    }
+pub lines_cut : (a b c : Option (List ℕ)) (chunk : List ℕ) (shape : Extent) (steps : List Step) (i : ℕ)
+    → Gathers a b chunk (steps_text shape (take i steps)) → AppendsFront b c chunk → AppendsFront a c (steps_text shape steps)
+lines_cut a b c chunk shape steps i far cut = rw (lines_split shape steps i) (gathers_cut a b c chunk (steps_text shape (take i steps)) (steps_text shape (drop i steps)) far cut)
+
+-- all was written
+pub lines_done : (a b c : Option (List ℕ)) (chunk : List ℕ) (shape : Extent) (steps : List Step) (i : ℕ) → length steps ≤ i
+    → Gathers a b chunk (steps_text shape (take i steps)) → Appends b c chunk → Appends a c (steps_text shape steps)
+lines_done a b c chunk shape steps i h far p = rw (ap (steps_text shape) (sym (take_all i steps h))) (gathers_done a b c chunk (steps_text shape (take i steps)) far p)

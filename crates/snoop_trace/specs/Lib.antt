@@ -4,4 +4,3 @@ pub mod Grammar
 pub mod Text
 pub mod Progress
 pub mod Output
-pub mod Records

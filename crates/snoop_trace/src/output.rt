@@ -1,31 +1,20 @@
 //! Steps as a text of records.
-ghost use Rattle.std.specs.Prelude.{◌≡◌, ◌≢◌, ◌<◌, ◌≤◌, ◌++◌, ◌∷◌, [], All, Ok, Err, IfOk, OnOk, OnErr, codes, false, map, true};
-ghost use Rattle.std.specs.Fmt.{decimal};
+ghost use Rattle.std.specs.Prelude.{◌≡◌, ◌≢◌, ◌++◌, All, Ok, Err, OnOk, OnErr, codes, true};
 ghost use Rattle.std.specs.Io.KnownBytes.{Appends};
-ghost use Rattle.csv.specs.Writing.{default_writer, needs_byte, row_text};
 ghost use Rattle.snoop_trace.specs.Output.{AppendsFront, BlamesWriter, IsWithin, step_text, steps_text};
-ghost use Rattle.snoop_trace.specs.Records.{IsReady, Writes, record_writer};
 ghost use Rattle.snoop_trace.specs.Text.{steps_of};
-ghost use Rattle.snoop_trace.specs.declared.step.Step.TheVariants.{Ask};
 
 use crate::fault::{NoMemory, WriteFault};
 use crate::shape::{MAX_BLOCK_BYTES, MAX_BLOCKS, MAX_CORES, Shape};
-use crate::step::{Op, Step};
-use crate::streams::step_text::address_of;
-use crate::streams::{Sink, write_whole};
-use csv::{Writer, WriterBuilder};
-use itoa::Buffer;
+use crate::step::Step;
+use crate::streams::{Sink, push_byte, push_step, spill, write_whole};
 use std::alloc::Global;
-
-/// How many records are gathered before they are written.
-const BATCH: usize = 1024;
 
 /// Writes steps as a text, one a line, each ended by a line feed.
 ///
 /// Where the steps are within the shape, `read_steps` reads the same steps from the text. After
 /// `Write` and `NoMemory` the writer holds a beginning of the text after what it held, the failed
 /// write's own bytes aside.
-#[tactic(auto, using(crate::proofs::BackLemmas::all_read_again))]
 pub fn write_steps<W: Sink>(
     alloc: Global,
     writer: &mut W,
@@ -42,129 +31,34 @@ pub fn write_steps<W: Sink>(
     prove!(shape.cores() <= MAX_CORES);
     prove!(shape.blocks() <= MAX_BLOCKS);
     prove!(shape.block_bytes() <= MAX_BLOCK_BYTES);
-    let mut at = 0;
-    while at < steps.len() {
-        let end = batch_end(at, steps.len());
-        let text = records_text(alloc, shape, &steps[at..end])?;
-        write_whole(writer, &text)?;
-        at = end;
+    write_records(alloc, writer, shape, steps)
+}
+
+// Writes the records of steps, each ended by a line feed.
+fn write_records<W: Sink>(
+    alloc: Global,
+    writer: &mut W,
+    shape: Shape,
+    steps: &[Step],
+) -> Result<(), WriteFault>
+    ensures ok { OnOk result (Appends (W.contents writer.old) (W.contents writer.new) (steps_text shape steps.now)) }
+    ensures front { OnErr result (AppendsFront (W.contents writer.old) (W.contents writer.new) (steps_text shape steps.now)) }
+    ensures never_blamed { W.never_fails ≡ true → result ≢ Err WriteFault.Write }
+    ensures blamed { BlamesWriter (W.failed writer.old) (W.failed writer.new) (result ≡ Err WriteFault.Write) }
+{
+    let mut chunk = Vec::new(alloc);
+    for step in steps {
+        push_record(&mut chunk, shape, *step)?;
+        spill(writer, &mut chunk)?;
     }
+    write_whole(writer, &chunk)?;
     Ok(())
 }
 
-// Where the batch ends that begins at a place below the end of all.
-fn batch_end(at: usize, len: usize) -> usize
-    requires { at < len }
-    ensures some { at < result }
-    ensures within { result ≤ len }
+// Appends a step's record and a line feed.
+fn push_record(out: &mut Vec<u8>, shape: Shape, step: Step) -> Result<(), NoMemory>
+    ensures ok { OnOk result (out.new.items ≡ out.old.items ++ (step_text shape step ++ codes "\n")) }
 {
-    if len - at < BATCH { len } else { at + BATCH }
-}
-
-// The text of steps.
-fn records_text(alloc: Global, shape: Shape, steps: &[Step]) -> Result<Vec<u8>, NoMemory>
-    ensures { IfOk result (λ text. text.items ≡ steps_text shape steps.now) }
-{
-    let mut records = WriterBuilder::new()
-        .flexible(true)
-        .from_writer(Vec::new(alloc));
-    for step in steps {
-        write_record(&mut records, shape, *step)?;
-    }
-    records.into_inner().map_err(|_| NoMemory)
-}
-
-// Writes the record of a step.
-fn write_record(records: &mut Writer<Vec<u8>>, shape: Shape, step: Step) -> Result<(), NoMemory>
-    requires { IsReady records.old }
-    ensures ok { OnOk result (Writes records.old records.new (step_text shape step ++ codes "\n")) }
-    ensures ready { OnOk result (IsReady records.new) }
-{
-    match step {
-        Step::Ask { core, block, op } => write_ask(records, shape, core, block, op),
-        Step::Order { core } => write_one(records, b'O', core as u64),
-        Step::Respond { block } => write_one(records, b'R', address_of(shape, block)),
-    }
-}
-
-// Writes the record of what a core asks for.
-fn write_ask(
-    records: &mut Writer<Vec<u8>>,
-    shape: Shape,
-    core: u32,
-    block: u32,
-    op: Op,
-) -> Result<(), NoMemory>
-    requires { IsReady records.old }
-    ensures ok { OnOk result (Writes records.old records.new (step_text shape (Ask core block op) ++ codes "\n")) }
-    ensures ready { OnOk result (IsReady records.new) }
-{
-    let address = address_of(shape, block);
-    match op {
-        Op::Load => write_two(records, b'L', core, address),
-        Op::Evict => write_two(records, b'E', core, address),
-        Op::Store(value) => write_three(records, b'S', core, address, value),
-    }
-}
-
-// Writes a letter and one number.
-#[tactic(auto, using(crate::proofs::BackLemmas::one_written))]
-fn write_one(records: &mut Writer<Vec<u8>>, letter: u8, number: u64) -> Result<(), NoMemory>
-    requires ready { IsReady records.old }
-    requires plain { needs_byte default_writer letter ≡ false }
-    ensures ok { OnOk result (Writes records.old records.new (letter ∷ [] ++ codes "," ++ decimal number ++ codes "\n")) }
-    ensures ready { OnOk result (IsReady records.new) }
-{
-    let mut digits = Buffer::new();
-    let number = digits.format(number).as_bytes();
-    write_fields(records, &[&[letter], number])
-}
-
-// Writes a letter and two numbers.
-#[tactic(auto, using(crate::proofs::BackLemmas::two_written))]
-fn write_two(
-    records: &mut Writer<Vec<u8>>,
-    letter: u8,
-    core: u32,
-    address: u64,
-) -> Result<(), NoMemory>
-    requires ready { IsReady records.old }
-    requires plain { needs_byte default_writer letter ≡ false }
-    ensures ok { OnOk result (Writes records.old records.new (letter ∷ [] ++ codes "," ++ decimal core ++ codes "," ++ decimal address ++ codes "\n")) }
-    ensures ready { OnOk result (IsReady records.new) }
-{
-    let (mut of_core, mut of_address) = (Buffer::new(), Buffer::new());
-    let core = of_core.format(core).as_bytes();
-    let address = of_address.format(address).as_bytes();
-    write_fields(records, &[&[letter], core, address])
-}
-
-// Writes a letter and three numbers.
-#[tactic(auto, using(crate::proofs::BackLemmas::three_written))]
-fn write_three(
-    records: &mut Writer<Vec<u8>>,
-    letter: u8,
-    core: u32,
-    address: u64,
-    value: u64,
-) -> Result<(), NoMemory>
-    requires ready { IsReady records.old }
-    requires plain { needs_byte default_writer letter ≡ false }
-    ensures ok { OnOk result (Writes records.old records.new (letter ∷ [] ++ codes "," ++ decimal core ++ codes "," ++ decimal address ++ codes "," ++ decimal value ++ codes "\n")) }
-    ensures ready { OnOk result (IsReady records.new) }
-{
-    let (mut of_core, mut of_address, mut of_value) = (Buffer::new(), Buffer::new(), Buffer::new());
-    let core = of_core.format(core).as_bytes();
-    let address = of_address.format(address).as_bytes();
-    let value = of_value.format(value).as_bytes();
-    write_fields(records, &[&[letter], core, address, value])
-}
-
-// Writes a record.
-fn write_fields(records: &mut Writer<Vec<u8>>, fields: &[&[u8]]) -> Result<(), NoMemory>
-    requires { IsReady records.old }
-    ensures ok { OnOk result (Writes records.old records.new (row_text record_writer (map (λ f. f.now) fields.now))) }
-    ensures ready { OnOk result (IsReady records.new) }
-{
-    records.write_fields(fields).map_err(|_| NoMemory)
+    push_step(out, shape, step)?;
+    push_byte(out, b'\n')
 }

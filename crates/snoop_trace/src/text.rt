@@ -1,12 +1,13 @@
 //! Reading a text of steps or of rows.
 ghost use Rattle.std.specs.Prelude.{◌≡◌, ◌≢◌, [], true, All, IfSome, IfOk, IsSome, Err};
-ghost use Rattle.csv.specs.Reading.{default_config, reader_state, records, source_of};
+ghost use Rattle.csv.specs.Reading.{ReadRecord, default_config, reader_state, records, source_of};
+ghost use Rattle.csv.specs.Records.{fields_of};
 ghost use Rattle.csv.specs.declared.parser.State.TheVariants as st;
 ghost use Rattle.snoop_trace.specs.Grammar.{IsRowWithin, IsStepWithin};
 ghost use Rattle.snoop_trace.specs.Progress.{IsPlain, IsSaid, TakesEntry};
 ghost use Rattle.snoop_trace.specs.Text.{BlamesReader, Gives, entries_from, records_of, rows_of, steps_of};
 
-use crate::fault::TextFault;
+use crate::fault::{NoMemory, TextFault};
 use crate::record::Entry;
 use crate::shape::Shape;
 use crate::step::{Row, Step};
@@ -19,8 +20,23 @@ use std::alloc::Global;
 use std::io::Read;
 use std::marker::Brand;
 
-// The entry of record n, which is the next one; None at the end of the text. A failed read is
-// answered as out of memory here: `read_known` tells the two apart.
+// Whether there is one more record, and its fields. A failed read is answered as out of memory
+// here: `read_known` tells the two apart.
+fn next_record<R: Read>(
+    text: &mut Reader<R>,
+    fields: &mut ByteRecord,
+) -> Result<bool, NoMemory>
+    requires { IsPlain text.old }
+    ensures plain { IfOk result (λ found. found ≡ true → IsPlain text.new) }
+    ensures reads { IfOk result (λ found. ReadRecord R.remaining text.old text.new found (fields_of fields.new)) }
+{
+    let Ok(found) = text.read_byte_record(fields) else {
+        return Err(NoMemory);
+    };
+    Ok(found)
+}
+
+// The entry of record n, which is the next one; None at the end of the text.
 fn next_entry<E: Entry, R: Read>(
     text: &mut Reader<R>,
     fields: &mut ByteRecord,
@@ -33,10 +49,8 @@ fn next_entry<E: Entry, R: Read>(
     ensures said { IfOk result (λ entry. IfSome entry (IsSaid (E.says shape))) }
     ensures not_read { result ≢ Err TextFault.Read }
 {
-    match text.read_byte_record(fields) {
-        Ok(true) => {}
-        Ok(false) => return Ok(None),
-        Err(_) => return Err(TextFault::NoMemory),
+    if !next_record(text, fields)? {
+        return Ok(None);
     }
     match E::from_record(shape, n, fields) {
         Ok(entry) => Ok(Some(entry)),

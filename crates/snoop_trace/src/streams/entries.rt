@@ -23,6 +23,9 @@ impl<E: Copy> Entries<E> for Vec<E> {
     ghost fits = { λ entry. ⊤ };
 
     fn append(&mut self, entry: E) -> Result<(), NoMemory> {
-        self.push(entry).map_err(|_| NoMemory)
+        match self.push(entry) {
+            Ok(()) => Ok(()),
+            Err(_) => Err(NoMemory),
+        }
     }
 }

@@ -1,0 +1,8 @@
+use Rattle.std.proofs.Common.{◌≡◌, take, Some, false}
+use Rattle.snoop_trace.specs.Output.{Gathers, steps_text}
+use Rattle.snoop_trace.proofs.output.write_records.Given as goal
+
+-- the first records were written or stand in the chunk, and no write has failed
+abbrev pub invariant-loop-step : goal.invariant-loop-step
+invariant-loop-step g l = Gathers (g.W.Write.contents l.fn.writer) (g.W.Write.contents l.writer) l.chunk.items (steps_text l.shape (take l.step-index l.steps))
+    × (g.W.Sink.failed l.fn.writer ≡ Some false → g.W.Sink.failed l.writer ≡ Some false)
