@@ -6,7 +6,7 @@ ghost use Rattle.snoop_trace.specs.Grammar as spec;
 use csv::ByteRecord;
 
 /// The field after the kind, where there is one alone.
-#[tactic(auto, using(crate::proofs::FieldLemmas::one_at))]
+
 pub(crate) fn one_of(fields: &ByteRecord) -> Option<&[u8]>
     ensures { option_map (λ f. f.now) result ≡ spec.one_of (fields_of fields.now) }
 {
@@ -18,7 +18,7 @@ pub(crate) fn one_of(fields: &ByteRecord) -> Option<&[u8]>
 }
 
 /// The fields after the kind, where there are two.
-#[tactic(auto, using(crate::proofs::FieldLemmas::two_at, crate::proofs::FieldLemmas::field_there))]
+
 pub(crate) fn two_of(fields: &ByteRecord) -> Option<(&[u8], &[u8])>
     ensures { option_map (λ f. (f.0.now, f.1.now)) result ≡ spec.two_of (fields_of fields.now) }
 {
@@ -29,7 +29,7 @@ pub(crate) fn two_of(fields: &ByteRecord) -> Option<(&[u8], &[u8])>
 }
 
 /// The fields after the kind, where there are three.
-#[tactic(auto, using(crate::proofs::FieldLemmas::three_at, crate::proofs::FieldLemmas::field_there))]
+
 pub(crate) fn three_of(fields: &ByteRecord) -> Option<(&[u8], &[u8], &[u8])>
     ensures { option_map (λ f. (f.0.now, f.1.now, f.2.now)) result ≡ spec.three_of (fields_of fields.now) }
 {
@@ -40,7 +40,7 @@ pub(crate) fn three_of(fields: &ByteRecord) -> Option<(&[u8], &[u8], &[u8])>
 }
 
 /// The kind, where it is one letter.
-#[tactic(auto, using(crate::proofs::FieldLemmas::no_letter, crate::proofs::FieldLemmas::the_letter, crate::proofs::FieldLemmas::other_letter))]
+
 pub(crate) fn letter_of(fields: &ByteRecord) -> Option<u8>
     ensures { result ≡ spec.letter_of (fields_of fields.now) }
 {
