@@ -21,7 +21,7 @@ const NOTHING: Line = Line {
 };
 
 /// The lines of one core, by block. A block without one is in I.
-#[derive(Debug, Drop)]
+#[derive(Drop)]
 pub(crate) struct Cache {
     lines: IndexMap<u32, Line>,
 }

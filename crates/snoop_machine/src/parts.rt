@@ -31,7 +31,7 @@ const NO_MEMORY: MemLine = MemLine {
 };
 
 /// The caches, memory, the bus that joins them, and the history of what they did.
-#[derive(Debug, Drop)]
+#[derive(Drop)]
 pub(crate) struct Parts {
     protocol: Protocol,
     shape: Shape,
@@ -60,14 +60,14 @@ impl Parts {
         ensures empty { IfOk result (λ parts. (core : ℕ) → lines_of parts core ≡ 0) }
     {
         prove!(shape.cores() <= 256);
-        let lines = Lines::new(alloc, shape)?;
-        let bus = Bus::new(alloc, shape)?;
-        let log = Log::new(alloc, shape)?;
         let first = MemLine {
             state: first_state(protocol),
             value: 0,
         };
         let memory = BlockTable::new(alloc, shape.blocks(), first)?;
+        let lines = Lines::new(alloc, shape)?;
+        let bus = Bus::new(alloc, shape)?;
+        let log = Log::new(alloc, shape)?;
         Ok(Parts {
             protocol,
             shape,
@@ -122,8 +122,11 @@ impl Parts {
         ensures inside { block < self.now.situation.shape.blocks → result ≡ Some (picture_of self.now.situation block).memory.state }
         ensures outside { IfSome result (λ _. block < self.now.situation.shape.blocks) }
     {
-        let line = self.memory.get(block)?;
-        Some(line.state)
+        if block < self.shape.blocks() {
+            Some(self.memory.get_or(block, NO_MEMORY).state)
+        } else {
+            None
+        }
     }
 
     /// Memory's value of the block, or `None` outside the shape.
@@ -131,8 +134,11 @@ impl Parts {
         ensures inside { block < self.now.situation.shape.blocks → result ≡ Some (picture_of self.now.situation block).memory.value }
         ensures outside { IfSome result (λ _. block < self.now.situation.shape.blocks) }
     {
-        let line = self.memory.get(block)?;
-        Some(line.value)
+        if block < self.shape.blocks() {
+            Some(self.memory.get_or(block, NO_MEMORY).value)
+        } else {
+            None
+        }
     }
 
     /// The block's open transaction, if there is one.

@@ -7,7 +7,7 @@ use snoop_rules::{MemState, Request};
 use snoop_trace::Op;
 
 /// What a step will do, found before anything changes.
-#[derive(Clone, Copy, Debug)]
+#[derive(Clone, Copy)]
 pub enum Plan {
     Ask {
         core: u32,

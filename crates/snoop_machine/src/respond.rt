@@ -14,7 +14,7 @@ use snoop_rules::{
 use snoop_trace::Op;
 
 /// The requestor's line after its data has come, and what it performed with it.
-#[derive(Clone, Copy, Debug)]
+#[derive(Clone, Copy)]
 pub struct Filled {
     pub line: Line,
     pub op: Op,

@@ -15,15 +15,23 @@ ghost use Rattle.snoop_model.specs.Moves.LookUps.{FindsRows};
 ghost use Rattle.snoop_model.specs.Moves.SenderTable.{OrdersFollowSenderTable, GoesByTable};
 ghost use Rattle.snoop_model.specs.Pictures.InQueue.{IsInQueue};
 
-/// Coherence of every run from reset, for every number of cores and blocks, under MSI and MESI.
+/// Coherence of every run from reset, for every number of cores and blocks, under MSI and MESI:
 ///
-/// Each block has one writer alone, or only readers; the log is legal, and each copy that may be read has the value of the
-/// last store in it; so has data under way, and so has memory where no core may write the block and no data is under way; an
-/// open transaction is of its block, by a core of the machine; each load and store that was asked stands once in the log, or
-/// waits; no step meets an impossible cell, nor would an Order of a waiting request of any free block; such an Order would have
-/// exactly one sender, and be a line of the table of senders; each Order that is taken next, of whatever block, is a line of
-/// that table, and at a response memory takes its own row; a core keeps a value of a block exactly where its state may read,
-/// and an operation waits exactly where one has missed; and each core's queue has the blocks on which it waits, each once.
+/// - `one_writer`: each block has one writer alone, or only readers.
+/// - `legal`: each load of the history has the value of the last store before it, and each core's operations are numbered in
+///   order.
+/// - `current`: each copy that may be read has the value of the last store to its block.
+/// - `memory`: so has data under way, and so has memory where no core may write the block and no data is under way.
+/// - `opened`: an open transaction is of its block, by a core of the machine.
+/// - `once`: each load and store that was asked stands once in the history, or waits.
+/// - `possible`: no step meets an impossible cell, nor would an Order of a waiting request of any free block.
+/// - `lines`: such an Order would have exactly one sender, and be a line of the table of senders.
+/// - `by_table`: each Order that is taken next, of whatever block, is a line of that table; an open transaction is on one, with
+///   memory's state now as the state after the Order; and a Respond that is taken next closes it, by memory's own row, and
+///   leaves memory in that line's state after the Respond.
+/// - `proper`: a core keeps a value of a block exactly where its state may read, and an operation waits exactly where one has
+///   missed.
+/// - `queued`: each core's queue has the blocks on which it waits, each once.
 ///
 /// Source: chapters 2 and 7 of "A Primer on Memory Consistency and Cache Coherence", 2nd edition.
 pub fn coherent()

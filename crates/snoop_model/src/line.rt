@@ -3,7 +3,7 @@ use snoop_rules::CacheState;
 use snoop_trace::Op;
 
 /// What a cache holds of one block.
-#[derive(Clone, Copy, Debug, PartialEq, Eq)]
+#[derive(Clone, Copy)]
 pub struct Line {
     pub state: CacheState,
     /// The value that a load reads, where the state may read.

@@ -2,6 +2,7 @@
 use snoop_history::Did;
 use snoop_rules::{CacheState, Payload, Request};
 use snoop_trace::NoMemory as NoRoom;
+use thiserror::Error;
 
 /// What a taken step answers.
 #[derive(Clone, Copy, Debug, PartialEq, Eq)]
@@ -27,7 +28,7 @@ pub enum Reply {
 }
 
 /// Why a step was refused: the first cause that holds. Nothing has changed.
-#[derive(Clone, Copy, Debug, PartialEq, Eq)]
+#[derive(Clone, Copy, Debug, Error, PartialEq, Eq)]
 pub enum Refused {
     /// The core is outside the shape.
     NoCore,

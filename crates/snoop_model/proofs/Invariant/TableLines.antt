@@ -114,6 +114,7 @@ open_is_by_table s g lines block = go (picture_of s block).transaction refl (lin
   where
     OnLine : Open → Type 0
     OnLine o = (done : MemState) × IsOnLine s.protocol o (picture_of s block).memory.state done
+
     go : (found : Option Open) → (picture_of s block).transaction ≡ found → IfSome found OnLine → IfSome found (IsOpenByTable s block)
     go None is line = tt
     go (Some o) is line =

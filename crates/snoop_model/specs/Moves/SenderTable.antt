@@ -69,13 +69,13 @@ pub record IsOnLine (protocol : Protocol) (transaction : Open) (memory done : Me
   pub line : SentAs protocol transaction.request before (option_map (λ _. held) transaction.from) transaction.payload memory done
   pub writeback : transaction.request ≡ PutM → transaction.from ≡ Some transaction.core
 
--- the block's open transaction is on a line of the table with memory's state now, and a Respond taken next leaves memory in that line's last state
+-- the block's open transaction is on a line of the table, with memory's state now, and a Respond that is taken next leaves memory in the line's last state
 pub record IsOpenByTable (s : Situation) (block : ℕ) (transaction : Open) : Type 0 where
   pub done : MemState
   pub on_line : IsOnLine s.protocol transaction (picture_of s block).memory.state done
   pub settled : (answer : Reply) (new : Situation) (entry : Option Item) → MoveOn block s (Respond block) answer new entry → (picture_of new block).memory.state ≡ done
 
--- each open transaction, and each move from here, is by the table
+-- each open transaction is on a line of the table, whose last state a Respond leaves memory in, and each move from here is by the table
 pub record GoesByTable (s : Situation) : Type 0 where
   pub opened : (block : ℕ) → IfSome (picture_of s block).transaction (IsOpenByTable s block)
   pub moves : MovesAreByTable s

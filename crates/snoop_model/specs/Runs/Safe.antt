@@ -15,7 +15,7 @@ use Rattle.snoop_model.specs.Pictures.InQueue.{IsInQueue}
 use Rattle.snoop_model.specs.Invariant.WellKept.{IsWellKept}
 
 -- each block has one writer alone or only readers, each load has the last value stored, and so have each copy that may be read, data under way, and memory where no core may write and no data is under way,
--- no step meets an impossible cell, each Order that could be taken has one sender and is a line of the table of senders, each one that is taken is too, as are open transactions and what memory takes at a Respond, and lines, queues and transactions are as the states of the lines say
+-- no step meets an impossible cell, each Order that could be taken has one sender and is a line of the table of senders, each one that is taken is too, each open transaction is on such a line, whose last state a Respond leaves memory in, and lines, queues and transactions are as the states of the lines say
 pub record IsSafe (s : Situation) : Type 0 where
   pub one_writer : (block : ℕ) → OneWriter s.protocol (picture_of s block)
   pub legal : Legal s.log

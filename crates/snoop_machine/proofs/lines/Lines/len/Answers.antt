@@ -1,4 +1,5 @@
-use Rattle.std.proofs.Common.{sym, ◌∙◌}
+use Rattle.std.proofs.Common.{sym, ◌∙◌, arith}
+use Rattle.std.proofs.lemmas.Grind.{common_steps}
 use Rattle.snoop_machine.proofs.LineMaps.{among_seen, held_placed}
 use Rattle.snoop_machine.proofs.lines.Lines.len.Goals as goal
 
@@ -9,3 +10,12 @@ returns-clause-held c block held =
 pub returns-in_err-cache-clause-held : goal.returns-in_err-cache-clause-held
 returns-in_err-cache-clause-held c block held =
     sym (among_seen c.self.inside c.args.self.now c.self.view_is c.args.core block) ∙ held_placed c.self.inside c.args.self.now c.self.view_is c.args.core block held
+
+pub returns-clause-inside : goal.returns-clause-inside
+returns-clause-inside c = grind (arith, common_steps)
+
+pub returns-clause-outside : goal.returns-clause-outside
+returns-clause-outside c = grind (arith, common_steps)
+
+pub returns-in_err-cache-clause-inside : goal.returns-in_err-cache-clause-inside
+returns-in_err-cache-clause-inside c = grind (arith, common_steps)

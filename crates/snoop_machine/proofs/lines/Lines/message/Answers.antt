@@ -11,7 +11,7 @@ use Rattle.snoop_rules.specs.Takers.{seen_by, carries_value}
 use Rattle.snoop_model.specs.declared.line.Line.{Line}
 use Rattle.snoop_model.specs.Pictures.Picture.{held_at}
 use Rattle.snoop_model.specs.Pictures.Message.{free_picture}
-use Rattle.snoop_model.proofs.Lines.TheSender.{Silent-more, Silent-past, Silent-all, IsMessage-sent, IsMessage-memory}
+use Rattle.snoop_model.proofs.Lines.TheSender.{Silent-none, Silent-more, Silent-past, Silent-all, IsMessage-sent, IsMessage-memory}
 use Rattle.snoop_model.proofs.Lines.EachRow.{row_of}
 use Rattle.snoop_machine.proofs.ConcernedCores.{concerned_within, waits_within, Cell-passed}
 use Rattle.snoop_machine.proofs.lines.Lines.message.Goals as goal
@@ -59,6 +59,15 @@ returns-in-Send c =
     (within_row (goal.at.returns-in-Send c).In-Some-next, (c.in-Send.field-1, (c.in-Some-cache_cell.cell.next, subst P c.in-Send.is (row d))))
     (c.value_for.ensures ∙ ap (λ (line : Line). if carries_value c.in-Send.payload then unwrap_or line.kept 0 else 0) c.get-line.ensures.line)
 
+pub loop-core-init : goal.loop-core-init
+loop-core-init c =
+    let before = free_picture (row_of c.args.self.now.rows c.args.block) c.args.memory in
+    let P : MemEvent → Type 0 = λ event. MemoryCell c.args.protocol c.args.memory.state event c.in-Some.cell.action c.in-Some.cell.next in (
+      Silent-none c.args.protocol before c.args.requestor c.args.request c.in-Some.cell.action c.in-Some.cell.next
+          (subst P c.event_at_memory.ensures c.in-Some.ensures.row) (sym c.message_of_memory.ensures ∙ c.in_default-message_of_memory.is),
+      omega arith,
+    )
+
 pub loop-core-preserved : goal.loop-core-preserved
 loop-core-preserved c =
     let d = (goal.at.loop-core-preserved c).In-Some-cache_cell in
@@ -85,3 +94,9 @@ unreachable-requires-2 c =
 
 pub concerned-concerned-requires-clause-requestor : goal.concerned-concerned-requires-clause-requestor
 concerned-concerned-requires-clause-requestor c = waits_within (row_of c.args.self.now.rows c.args.block) c.args.requestor c.args.request c.requires.waits
+
+pub loop-core-smaller : goal.loop-core-smaller
+loop-core-smaller c =
+    let within = within_row (goal.at.loop-core-smaller c).In-Some-next in
+    let up = c.in-Some-next.ensures.some.0 in
+    omega arith

@@ -1,5 +1,7 @@
 use Rattle.std.proofs.Common.{◌≡◌, ℕ, List, [], length, replicate, sym, ◌∙◌, ap, subst, arith}
 use Rattle.std.specs.Prelude.{slice_index_or}
+use Rattle.std.proofs.lemmas.Grind.{common_steps}
+use Rattle.std.proofs.lemmas.Result.{err_from_is_err_and}
 use Rattle.std.proofs.lemmas.List.{length-replicate, get_or-replicate}
 use Rattle.snoop_model.specs.declared.line.Line.{Line}
 use Rattle.snoop_model.specs.Pictures.Picture.{nothing_held}
@@ -21,6 +23,15 @@ counted c =
 
 holders_are : (c : In_ok-holders) → c.in_ok-holders.holders ≡ replicate c.args.shape.blocks c.empty.result
 holders_are c = c.in_ok-holders.ensures ∙ ap (λ (n : ℕ). replicate n c.empty.result) c.blocks-2.ensures.value
+
+pub loop-preserved : goal.loop-preserved
+loop-preserved c = grind (arith, common_steps)
+
+pub returns-in_err-holders-clause-rows : goal.returns-in_err-holders-clause-rows
+returns-in_err-holders-clause-rows c = rw (err_from_is_err_and c.from_residual-in_err-holders.result c.from_residual-in_err-holders.ensures.1).1 tt
+
+pub returns-in_err-holders-clause-lines : goal.returns-in_err-holders-clause-lines
+returns-in_err-holders-clause-lines c = rw (err_from_is_err_and c.from_residual-in_err-holders.result c.from_residual-in_err-holders.ensures.1).1 tt
 
 pub invariant_of-result : goal.invariant_of-result
 unfolding is_owner

@@ -1,6 +1,7 @@
 use Rattle.std.proofs.Common.{◌≡◌, ◌≢◌, ℕ, ◌+◌, ◌<◌, false, List, [], is_some, length, sym, ◌∙◌, ap, subst, arith, inl, inr}
 use Rattle.std.specs.Prelude.{slice_index_or, slice_set, nat_eq, map}
 use Rattle.std.specs.Map.{lookup}
+use Rattle.std.proofs.lemmas.Grind.{common_steps}
 use Rattle.std.proofs.lemmas.List.{get_or_read, get_or_default, length-set, get_or-set_same, get_or-set_other}
 use Rattle.snoop_rules.specs.declared.names.CacheState.TheVariants.{I}
 use Rattle.snoop_model.specs.Pictures.Sound.{line_at}
@@ -125,3 +126,9 @@ returns-clause-lines c = lines_gone (goal.at.returns-clause-lines c).After-set-b
 
 pub returns-clause-others : goal.returns-clause-others
 returns-clause-others c = others_kept (goal.at.returns-clause-others c).After-set-before
+
+pub returns-clause-many : goal.returns-clause-many
+returns-clause-many c = grind (arith, common_steps)
+
+pub returns-then-are_alike-clause-many : goal.returns-then-are_alike-clause-many
+returns-then-are_alike-clause-many c = grind (arith, common_steps)

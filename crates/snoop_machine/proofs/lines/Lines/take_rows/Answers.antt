@@ -1,5 +1,6 @@
 use Rattle.std.proofs.Common.{◌≡◌, ◌<◌, List, [], length, arith, ◌+◌, true≢false, sym, ap, ◌∙◌, subst, inl}
 use Rattle.std.specs.Prelude.{slice_set, slice_index_or}
+use Rattle.std.proofs.lemmas.Grind.{common_steps}
 use Rattle.std.proofs.lemmas.List.{set-get_or, set-set, length-set}
 use Rattle.snoop_rules.specs.declared.names.CacheEvent.{CacheEvent}
 use Rattle.snoop_rules.specs.declared.names.CacheState.{CacheState}
@@ -156,3 +157,12 @@ loop-core-smaller c =
     let within = within_row d in
     let up = c.in-Some.ensures.some.0 in
     omega arith
+
+pub loop-core-init : goal.loop-core-init
+loop-core-init c = grind (arith, common_steps)
+
+pub set-requires-clause-core : goal.set-requires-clause-core
+set-requires-clause-core c = in_row (goal.at.set-requires-clause-core c).In-Some
+
+pub set-requires-clause-block : goal.set-requires-clause-block
+set-requires-clause-block c = in_blocks (goal.at.set-requires-clause-block c).In-Some

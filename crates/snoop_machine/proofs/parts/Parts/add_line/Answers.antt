@@ -1,5 +1,6 @@
 use Rattle.std.proofs.Common.{◌≡◌, ◌<◌, ◌≤◌, ◌++◌, ◌∷◌, [], ◌∙◌, ℕ, List, sym, ap, subst, length, arith}
 use Rattle.std.specs.Prelude.{slice_set, slice_index, slice_index_or}
+use Rattle.std.proofs.lemmas.Grind.{common_steps}
 use Rattle.std.proofs.lemmas.Result.{err_from_is_err_and}
 use Rattle.std.proofs.lemmas.List.{length-set}
 use Rattle.snoop_bus.specs.Traffic.{Traffic, Waiting, waiting_of}
@@ -62,6 +63,12 @@ returns-in_err-reserve-2-clause-refused c =
     let places : places_of m.bus.queues after.spares ≡ places_of m.bus.queues m.lines.spares =
     ap (λ (spares : List ℕ). places_of m.bus.queues spares) c.reserve.ensures.spares ∙ places-full m.bus.queues m.lines.spares c.args.core _ c.in_err-reserve-2.ensures.full in
     rw (p.1, c.in_err-reserve-2.ensures.refused, c.reserve.ensures.rows, c.reserve.ensures.lines, places) c.self.view_is
+
+pub returns-clause-ok : goal.returns-clause-ok
+returns-clause-ok c = grind (arith, common_steps)
+
+pub returns-clause-more : goal.returns-clause-more
+returns-clause-more c = grind (arith, common_steps)
 
 pub returns-clause-unchanged : goal.returns-clause-unchanged
 returns-clause-unchanged c =
