@@ -1,69 +1,44 @@
-//! Rows that wait for one another: two threads ran at once.
+//! Rows that wait for one another: each seat has a thread of its own.
 
-use crate::cores::scene::{Scene, counts, row};
+use crate::cores::scene::{Scene, row};
 use snoop_cores::{Gate, Late, Stop, run_seats};
 use snoop_trace::Op;
 use std::sync::atomic::{AtomicU64, Ordering};
 use std::test::Fail;
 
-// Holds this core's first row until the other core has reached its own.
+// Holds each core's first row until so many cores have come, and expects each core's rows by their numbers, each once.
 #[derive(Drop)]
-struct Meet {
-    held: u32,
+struct Together {
+    cores: u64,
     came: AtomicU64,
+    next: [AtomicU64; 8],
 }
 
-impl Gate for Meet {
-    fn before(&self, core: u32, number: u64) -> Result<(), Late> {
-        if number != 0 {
-            return Ok(());
-        }
-        if core != self.held {
-            self.came.store(1, Ordering::SeqCst);
-            return Ok(());
-        }
+impl Together {
+    // Waits until all cores have come, but not for ever.
+    fn all_came(&self) -> bool {
         for _ in 0..100_000_000u64 {
-            if self.came.load(Ordering::SeqCst) == 1 {
-                return Ok(());
+            if self.came.load(Ordering::SeqCst) >= self.cores {
+                return true;
             }
         }
-        Err(Late)
+        false
     }
 }
 
-#[test]
-fn each_core_waits_for_the_other(rt: HostRuntime) -> Result<(), Fail> {
-    let rows = [
-        row(0, Op::Store(5), 0),
-        row(0, Op::Load, 0),
-        row(1, Op::Store(6), 64),
-        row(1, Op::Load, 64),
-    ];
-    for held in 0..2 {
-        let mut scene = Scene::new(&rt, rt.alloc(), 2)?;
-        let gate = Meet {
-            held,
-            came: AtomicU64::new(0),
+impl Gate for Together {
+    fn before(&self, core: u32, number: u64) -> Result<(), Late> {
+        let Some(next) = self.next.get(core as usize) else {
+            return Err(Late);
         };
-        let stops = run_seats(
-            &rt,
-            rt.alloc(),
-            scene.seats.as_mut_slice(),
-            rows.as_slice(),
-            &gate,
-        );
-        let gathered = scene.gathered(&rt, rt.alloc()).map(|gathered| (
-            gathered.log.flat(0),
-            gathered.log.flat(1),
-            counts(gathered.log.totals()),
-            gathered.steps.len(),
-        ));
-        scene.end(&rt);
-        let ran = stops.is_ok_and(|stops| stops.iter().all(|stop| stop.is_none()));
-        let expected = Some((Some(5), Some(6), [2, 2, 2, 0, 0, 2, 0, 2, 0, 0, 0, 0], 8));
-        assert_eq!(rt; (ran, gathered), (true, expected), "core {held} is held");
+        if next.fetch_add(1, Ordering::SeqCst) != number {
+            return Err(Late);
+        }
+        if number == 0 {
+            self.came.fetch_add(1, Ordering::SeqCst);
+        }
+        if self.all_came() { Ok(()) } else { Err(Late) }
     }
-    Ok(())
 }
 
 // A gate that lets each core's first row pass alone.
