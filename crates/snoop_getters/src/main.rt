@@ -107,7 +107,8 @@ fn main(rt: HostRuntime) -> Result<()> {
     let words: Vec<String> = std::env::args(&rt)?.collect(alloc)?;
     let mut machine = machine_of(alloc, &words)?;
     let mut out = String::new(alloc);
-    for step in &read_steps(alloc, AnyReader(rt.stdin()), machine.shape())? {
+    let mut reader = AnyReader::new(rt.stdin());
+    for step in &read_steps(alloc, &mut reader, machine.shape())? {
         // A refused step changes nothing, and the line shows it.
         let _ = machine.step(*step);
         push_machine(&mut out, &machine)?;

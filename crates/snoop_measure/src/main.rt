@@ -61,7 +61,7 @@ fn measure_steps<R: Clock + Print + Eprint>(
     write_steps(alloc, &mut text, shape, &storm)?;
 
     let start = Instant::now(rt)?;
-    let steps = read_steps(alloc, text.as_slice(), shape)?;
+    let steps = read_steps(alloc, &mut text.as_slice(), shape)?;
     let read = start.elapsed(rt)?;
 
     let start = Instant::now(rt)?;

@@ -22,7 +22,7 @@ fn readers_that_fail(rt: HostRuntime) -> Result<(), Fail> {
         let text = engine.text();
         for most in [1, AMPLE] {
             for left in 0..text.len() + 1 {
-                let reader = AnyReader(FailingReader { text, left, most });
+                let reader = AnyReader::new(FailingReader { text, left, most });
                 let mut written = Vec::new(alloc);
                 let ended = engine.simulate(&rt, alloc, reader, &mut written, Protocol::Msi)?;
                 assert_eq!(rt;
@@ -32,7 +32,7 @@ fn readers_that_fail(rt: HostRuntime) -> Result<(), Fail> {
                 );
             }
             let left = AMPLE;
-            let reader = AnyReader(FailingReader { text, left, most });
+            let reader = AnyReader::new(FailingReader { text, left, most });
             let mut written = Vec::new(alloc);
             let ended = engine.simulate(&rt, alloc, reader, &mut written, Protocol::Msi)?;
             assert_eq!(rt;
@@ -41,7 +41,7 @@ fn readers_that_fail(rt: HostRuntime) -> Result<(), Fail> {
                 "{engine:?}"
             );
         }
-        let reader = AnyReader(FailingReader {
+        let reader = AnyReader::new(FailingReader {
             text: b"L,0,0\nX,0\nL,0,0\n",
             left: 12,
             most: 1,
@@ -208,7 +208,7 @@ fn commands(rt: HostRuntime) -> Result<(), Fail> {
         for word in line.split(' ') {
             words.push(String::from_str(alloc, word)?)?;
         }
-        let reader = AnyReader(FailingReader {
+        let reader = AnyReader::new(FailingReader {
             text: engine.text(),
             left,
             most: AMPLE,

@@ -1,11 +1,9 @@
 -- How the records that were read so far stand in the whole text.
-use Rattle.std.proofs.Common.{◌≡◌, ◌≤◌, ◌<◌, ℕ, ◌+◌, ◌-◌, List, [], ◌∷◌, ◌++◌, length, length-append, Option, Some, None, true, refl, sym, ◌∙◌, arith, ap, inl, inr}
-use Rattle.std.specs.Prelude.{Result, Ok, Err, IfSome, IsSomeAnd}
-use Rattle.std.specs.Option.{option_map}
-use Rattle.std.proofs.lemmas.Bool.{cases_Bool}
+use Rattle.std.proofs.Common.{◌≡◌, ℕ, ◌+◌, ◌-◌, List, [], ◌∷◌, ◌++◌, length, length-append, Option, Some, None, true, refl, sym, ◌∙◌, arith, ap}
+use Rattle.std.specs.Prelude.{Result, Ok, Err, IfSome}
 use Rattle.std.proofs.lemmas.List.{append-nil}
 use Rattle.csv.specs.Machine.{Read, next_record}
-use Rattle.csv.specs.Reading.{Reached, ReadRecord, default_config, is_bom, reader_config, reader_state, records, records_from, source_of, strip_bom}
+use Rattle.csv.specs.Reading.{Reached, ReadRecord, default_config, reader_config, reader_state, records, records_from, source_of}
 use Rattle.csv.specs.declared.parser.State.{State}
 use Rattle.csv.specs.declared.parser.State.TheVariants as st
 use Rattle.csv.specs.declared.reader.Reader.{Reader}
@@ -187,26 +185,3 @@ faulty says xs s s2 left left2 entries n (fault.NoCore m) view far h = the_fault
 faulty says xs s s2 left left2 entries n (fault.NoBlock m) view far h = the_fault says xs s left entries n (fault.NoBlock m) far (rw far.known at h)
 faulty says xs s s2 left left2 entries n fault.Read view far h = tt
 faulty says xs s s2 left left2 entries n fault.NoMemory view far h = tt
-
--- a text has no more records than bytes
-pub bounded : {A : Type 0} (says : Says A) (xs : List ℕ) (s : State) (left : Option (List ℕ)) (entries : List A) (n : ℕ) → SoFar says xs s left entries n → n ≤ length xs
-bounded says xs s left entries n far =
-    let count = far.count in
-    let short = reached-shorter default_config st.StartRecord xs far.rows s far.rest refl far.reached in
-    omega arith
-
-pub within : (o : Option (List ℕ)) (m n : ℕ) (P : List ℕ → Type 0) → ((xs : List ℕ) → P xs → n ≤ length xs) → IfSome o P → IsSomeAnd o (λ xs. length xs < m) → n < m
-within None m n P f h small = absurd small
-within (Some xs) m n P f h small = let most = f xs h in omega arith
-
--- a mark taken off makes no text longer
-strip_shorter : (xs : List ℕ) → length (strip_bom xs) ≤ length xs
-unfolding strip_bom
-strip_shorter [] = omega arith
-strip_shorter (a ∷ []) = omega arith
-strip_shorter (a ∷ b ∷ []) = omega arith
-strip_shorter (a ∷ b ∷ c ∷ rest) = elim (cases_Bool (is_bom a b c)) [ inl e ↦ rw e (omega arith) | inr e ↦ rw e (omega arith) ]
-
-pub stripped_small : (o : Option (List ℕ)) (m : ℕ) → IsSomeAnd o (λ xs. length xs < m) → IsSomeAnd (option_map strip_bom o) (λ xs. length xs < m)
-stripped_small None m h = absurd h
-stripped_small (Some xs) m h = let less = strip_shorter xs in omega arith

@@ -1,6 +1,6 @@
 -- How a whole text is read.
 -- Source: this project's profile, over the records of the crate csv.
-use Rattle.std.specs.Prelude.{◌≡◌, ℕ, ◌+◌, List, [], ◌∷◌, Result, Ok, Err}
+use Rattle.std.specs.Prelude.{◌≡◌, ℕ, ◌+◌, Bool, true, false, List, [], ◌∷◌, Option, Some, Result, Ok, Err}
 use Rattle.csv.specs.Reading.{default_config, records, strip_bom}
 use Rattle.snoop_trace.specs.Extent.{Extent}
 use Rattle.snoop_trace.specs.Grammar.{◌>>=◌, row_in, step_in}
@@ -36,3 +36,7 @@ Gives view (Ok x) said = said ≡ Ok (view x)
 Gives view (Err Read) said = Unit {0}
 Gives view (Err NoMemory) said = Unit {0}
 Gives view (Err fault) said = said ≡ Err fault
+
+-- where it is known that no read of the reader had failed: one has failed since exactly where the reader is blamed
+abbrev pub BlamesReader : Option Bool → Option Bool → Type 0 → Type 0
+BlamesReader old new blamed = old ≡ Some false → (blamed → new ≡ Some true) × (¬ blamed → new ≡ Some false)

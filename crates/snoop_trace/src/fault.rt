@@ -37,10 +37,11 @@ pub enum TextFault {
     /// The address lies in no block of the shape.
     #[error("record {0}: NoBlock")]
     NoBlock(u64),
-    /// The reader failed, or the text has 2^64 - 1 records or more.
+    /// A read failed.
     #[error("Read")]
     Read,
-    /// Memory for a growth was refused, or the text went on without end and without a record.
+    /// Memory for a growth was refused, or the text has 2^64 - 1 records or more, or goes on
+    /// without end and without a record.
     #[error("NoMemory")]
     NoMemory,
 }

@@ -41,7 +41,7 @@ fn play<R: Threads + Wait + Print + Sync>(
 fn main(rt: HostRuntime) -> Result<()> {
     let alloc = rt.alloc();
     let shape = Shape::new(2, 4, 64)?;
-    let rows = read_rows(alloc, ROWS.as_bytes(), shape)?;
+    let rows = read_rows(alloc, &mut ROWS.as_bytes(), shape)?;
     let (shared, mut seats, mut watches) = Shared::new(&rt, alloc, Protocol::Mesi, shape, 1)?;
     let played = play(&rt, alloc, &shared, &mut seats, &mut watches, &rows);
     end_seats(&rt, seats);

@@ -13,7 +13,7 @@ fn main(rt: HostRuntime) -> Result<()> {
     let alloc = rt.alloc();
     let shape = Shape::new(2, 1, 64)?;
     let mut machine = Machine::reset(alloc, Protocol::Msi, shape)?;
-    for step in &read_steps(alloc, STEPS.as_bytes(), shape)? {
+    for step in &read_steps(alloc, &mut STEPS.as_bytes(), shape)? {
         match machine.step(*step) {
             Ok(reply) => print!(rt; "{reply}")?,
             Err(cause) => print!(rt; "refused {cause}")?,

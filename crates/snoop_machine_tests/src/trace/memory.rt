@@ -9,8 +9,9 @@ static TEXT: &[u8] = b"S,0,64,7\nO,0\nR,64\n";
 fn a_text_is_read_and_written_again(rt: HostRuntime) -> Result<(), Fail> {
     let alloc = rt.alloc();
     let shape = Shape::new(2, 4, 64)?;
-    let steps = match read_steps(alloc, TEXT, shape) {
-        Err(TextFault::NoMemory) => read_steps(alloc, TEXT, shape)?,
+    let (mut first, mut again) = (TEXT, TEXT);
+    let steps = match read_steps(alloc, &mut first, shape) {
+        Err(TextFault::NoMemory) => read_steps(alloc, &mut again, shape)?,
         read => read?,
     };
     assert_eq!(rt; steps.len(), 3);

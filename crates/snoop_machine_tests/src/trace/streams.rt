@@ -45,12 +45,13 @@ fn a_reader_that_fails(rt: HostRuntime) -> Result<(), Fail> {
     let text = TEXT;
     for a_call in [1, 5, 100] {
         for left in 0..text.len() {
-            let reader = AnyReader(Failing { text, a_call, left });
-            let found = read_steps(rt.alloc(), reader, shape).err();
+            let mut reader = AnyReader::new(Failing { text, a_call, left });
+            let found = read_steps(rt.alloc(), &mut reader, shape).err();
             assert_eq!(rt; found, Some(TextFault::Read), "after {left} bytes");
         }
         let left = 100;
-        let steps = read_steps(rt.alloc(), AnyReader(Failing { text, a_call, left }), shape)?;
+        let mut reader = AnyReader::new(Failing { text, a_call, left });
+        let steps = read_steps(rt.alloc(), &mut reader, shape)?;
         assert_eq!(rt; steps.as_slice(), STEPS.as_slice());
     }
     Ok(())
@@ -62,8 +63,8 @@ fn an_earlier_faulty_record_decides(rt: HostRuntime) -> Result<(), Fail> {
     let text = b"L,0,0\nO,0\nL,1,64\n".as_slice();
     for a_call in [1, 100] {
         for left in 0..text.len() {
-            let reader = AnyReader(Failing { text, a_call, left });
-            let found = read_rows(rt.alloc(), reader, shape).err();
+            let mut reader = AnyReader::new(Failing { text, a_call, left });
+            let found = read_rows(rt.alloc(), &mut reader, shape).err();
             let wanted = if left < 10 {
                 TextFault::Read
             } else {

@@ -41,7 +41,7 @@ fn steps_are_written_and_read_again(rt: HostRuntime) -> Result<(), Fail> {
         (TEXT.as_bytes(), STEPS.as_slice())
     );
     let none: Vec<Step> = Vec::new(alloc);
-    let gathered = gather_steps(alloc, text.as_slice(), shape, none)?;
+    let gathered = gather_steps(alloc, &mut text.as_slice(), shape, none)?;
     assert_eq!(rt; gathered.as_slice(), STEPS.as_slice());
     Ok(())
 }
@@ -67,8 +67,8 @@ static ROWS: [Row; 3] = [
 #[test]
 fn rows_keep_their_addresses(rt: HostRuntime) -> Result<(), Fail> {
     let shape = Shape::new(2, 4, 64)?;
-    let text = b"S,1,0x7f,2\n\"L\",0,65\r\nE,1,255".as_slice();
-    let rows = read_rows(rt.alloc(), text, shape)?;
+    let mut text = b"S,1,0x7f,2\n\"L\",0,65\r\nE,1,255".as_slice();
+    let rows = read_rows(rt.alloc(), &mut text, shape)?;
     assert_eq!(rt; rows.as_slice(), ROWS.as_slice());
     Ok(())
 }
@@ -87,7 +87,7 @@ fn a_long_text_is_written_in_chunks(rt: HostRuntime) -> Result<(), Fail> {
     }
     let mut text = Vec::new(alloc);
     write_steps(alloc, &mut text, shape, &steps)?;
-    let again = read_steps(alloc, text.as_slice(), shape)?;
+    let again = read_steps(alloc, &mut text.as_slice(), shape)?;
     // A line has eight bytes, its value and its end.
     let length = 9 * 20_000 + 10 + 180 + 2_700 + 36_000 + 50_000;
     assert_eq!(rt; (text.len(), again.as_slice()), (length, steps.as_slice()));
