@@ -71,7 +71,7 @@ fn measure_steps<R: Clock + Print + Eprint>(
 
     let mut output = AnyWriter::new(Counter::default());
     let start = Instant::now(rt)?;
-    simulate_steps(alloc, text.as_slice(), &mut output, Protocol::Msi, shape)?;
+    simulate_steps(alloc, &mut text.as_slice(), &mut output, Protocol::Msi, shape)?;
     let simulated = start.elapsed(rt)?;
 
     println!(rt; "steps {} taken {taken}", steps.len())?;

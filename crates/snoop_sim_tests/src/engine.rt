@@ -2,8 +2,8 @@
 
 use snoop_rules::Protocol;
 use snoop_sim::{SimFault, ThreadsFault, simulate_run, simulate_steps, simulate_threads};
-use snoop_trace::Shape;
 use snoop_trace::streams::{Sink, Source};
+use snoop_trace::{Shape, TextFault, WriteFault};
 use std::alloc::Global;
 use std::sync::Wait;
 use std::test::Fail;
@@ -81,31 +81,51 @@ impl Engine {
         }
     }
 
-    /// What the simulation answers with 2 cores and 4 blocks.
-    pub fn simulate<T: Threads + Wait + Sync, R: Source + Drop, W: Sink>(
+    /// How the simulation ends, with 2 cores and 4 blocks.
+    pub fn simulate<T: Threads + Wait + Sync, R: Source, W: Sink>(
         self,
         rt: &T,
         alloc: Global,
-        reader: R,
+        reader: &mut R,
         writer: &mut W,
         protocol: Protocol,
-    ) -> Result<Result<(), ThreadsFault>, Fail> {
+    ) -> Result<Ended, Fail> {
         let shape = Shape::new(2, 4, 64)?;
-        let ended = match self {
-            Engine::Steps => simulate_steps(alloc, reader, writer, protocol, shape),
-            Engine::Run => simulate_run(alloc, reader, writer, protocol, shape),
-            Engine::Threads => return Ok(simulate_threads(
+        Ok(match self {
+            Engine::Steps => ended(simulate_steps(alloc, reader, writer, protocol, shape)),
+            Engine::Run => ended(simulate_run(alloc, reader, writer, protocol, shape)),
+            Engine::Threads => threads_ended(simulate_threads(
                 rt, alloc, reader, writer, protocol, shape,
             )),
-        };
-        Ok(ended.map_err(fault_of))
+        })
     }
 }
 
-fn fault_of(fault: SimFault) -> ThreadsFault {
-    match fault {
-        SimFault::Text(fault) => ThreadsFault::Text(fault),
-        SimFault::NoMemory => ThreadsFault::NoMemory,
-        SimFault::Write => ThreadsFault::Write,
+/// How a simulation ends.
+#[derive(Clone, Copy, Debug, PartialEq, Eq)]
+pub enum Ended {
+    Done,
+    Read,
+    Memory,
+    Write,
+    Otherwise,
+}
+
+fn ended(answer: Result<(), SimFault>) -> Ended {
+    match answer {
+        Ok(()) => Ended::Done,
+        Err(SimFault::Text(TextFault::Read)) => Ended::Read,
+        Err(SimFault::Text(TextFault::NoMemory) | SimFault::NoMemory) => Ended::Memory,
+        Err(SimFault::Write) => Ended::Write,
+        Err(_) => Ended::Otherwise,
+    }
+}
+
+fn threads_ended(answer: Result<(), ThreadsFault>) -> Ended {
+    match answer {
+        Ok(()) => Ended::Done,
+        Err(ThreadsFault::Text(TextFault::Read)) => Ended::Read,
+        Err(ThreadsFault::Write(WriteFault::Write)) => Ended::Write,
+        Err(_) => Ended::Otherwise,
     }
 }

@@ -10,6 +10,4 @@ mod memory;
 #[cfg(test)]
 mod streams;
 #[cfg(test)]
-mod threads;
-#[cfg(test)]
 mod words;

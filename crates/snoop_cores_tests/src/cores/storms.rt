@@ -97,7 +97,7 @@ fn ends_with_report(
     let mut text = Vec::new(alloc);
     write_steps(alloc, &mut text, shape, gathered.steps.as_slice())?;
     let mut output = Vec::new(alloc);
-    simulate_steps(alloc, text.as_slice(), &mut output, protocol, shape)?;
+    simulate_steps(alloc, &mut text.as_slice(), &mut output, protocol, shape)?;
     let mut report = Vec::new(alloc);
     write_report(alloc, &mut report, &gathered.log)?;
     Ok(output.as_slice().ends_with(report.as_slice()))

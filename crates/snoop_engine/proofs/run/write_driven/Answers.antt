@@ -27,3 +27,9 @@ returns-clause-ok g c =
     let done = rw c.in_default.is at c.in_ok-step.ensures.done in
     let p = rw c.deref.ensures.value at c.in_ok-write_whole.ensures.ok in
     driving_done _ _ _ _ _ _ c.loop-chunk.invariant.0 _ _ done p
+
+pub returns-in_err-step-clause-front : goal.returns-in_err-step-clause-front
+returns-in_err-step-clause-front g c = ?
+
+pub returns-in_err-push_line-clause-front : goal.returns-in_err-push_line-clause-front
+returns-in_err-push_line-clause-front g c = ?
