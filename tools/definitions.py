@@ -1,5 +1,5 @@
 #!/usr/bin/env python3
-"""Prints docs/DEFINITIONS.md, or writes it: the words that public contracts speak of.
+"""Prints docs/DEFINITIONS.md, or writes it: the words that public contracts speak of, beside those of the coherence theorem.
 
     tools/definitions.py --write
     tools/definitions.py IsJoined Serves
@@ -24,15 +24,16 @@ THEOREM = TOP / "crates" / "snoop_model" / "src" / "laws.rt"
 
 HEAD = """# Definitions
 
-The words that the contracts of public functions speak of, by crate: what is proved is proved of
-these. A ● marks those that the coherence theorem `laws::coherent` stands on.
+The words that the contracts of public functions speak of, by crate, beside those of the coherence
+theorem, which docs/THEOREM.md has with their texts and with how to read them: what is proved is
+proved of these.
 
 `tools/definitions.py WORD..` shows the text of any word of any crate, after the words that it is
-made of, and `tools/definitions.py --headline` all that the theorem stands on. Both read
-`crates/*/specs`, where each definition has a comment above it, and each file says what it is about
-and where its rules come from: *the Primer* is *A Primer on Memory Consistency and Cache Coherence*,
-second edition, and *this project's profile* is what docs/PROTOCOL.md and docs/TEXTS.md lay down
-themselves. This page is made of these comments by `tools/definitions.py --write`.
+made of. It reads `crates/*/specs`, where each definition has a comment above it, and each file says
+what it is about and where its rules come from: *the Primer* is *A Primer on Memory Consistency and
+Cache Coherence*, second edition, and *this project's profile* is what docs/PROTOCOL.md and
+docs/TEXTS.md lay down themselves. This page is made of these comments by
+`tools/definitions.py --write`.
 
 Most words say a thing in another way than the code does it. Which request waits is read from a
 core's state, where the code has queues; flat values and counts are computed from the whole history,
@@ -41,16 +42,7 @@ where it has running numbers. Some follow the code closely: the controllers' tab
 (`Grammar.antt`); and how counts grow by one item (`tallied` in `Journal.antt`), where it is proved
 that what grows so is the count of the whole list.
 
-Three conventions:
-
-- A fact is spelled like a type (`OneWriter`, `IsReader`), a function like a function (`flat`,
-  `picture_of`). `A × B` is "A and B", `A ⊎ B` is "A or B", and `(x : T) × P` is "there is an x with
-  P".
-- Look-ups in lists have a default: outside a machine's shape a core holds nothing (state I), no
-  transaction is open and memory's value is 0. So statements about all cores and blocks need no
-  bounds, and mean nothing more outside the shape. (The clause `memory` has a bound all the same:
-  the invariant doesn't say that a history has no store outside the shape.)
-- A core's list of waiting blocks is its *queue*; a *line* is a cache line.
+A core's list of waiting blocks is its *queue*; a *line* is a cache line.
 
 """
 
@@ -199,10 +191,10 @@ def missing_in(page):
         f"{page.path}: {definition.name} has no comment" for definition in page.definitions if not definition.meaning]
 
 
-def section_of(crate, pages, shown, marked):
+def section_of(crate, pages, shown):
     """A crate's words that are shown, in the order of its files."""
     rows = "".join(
-        f"| {'● ' if key_of(page, name) in marked else ''}`{name}` | {meaning.replace('|', chr(92) + '|')} | {page.path.relative_to(pathlib.Path('crates', crate, 'specs'))} |\n"
+        f"| `{name}` | {meaning.replace('|', chr(92) + '|')} | {page.path.relative_to(pathlib.Path('crates', crate, 'specs'))} |\n"
         for page in pages for name, meaning, _ in page.definitions if key_of(page, name) in shown)
     return rows and f"## {crate}\n\n| Word | Meaning | File |\n|---|---|---|\n{rows}\n"
 
@@ -234,12 +226,11 @@ def main():
     if options.words:
         sys.stdout.write(listed(with_parts(known, [key for key in known if key[2] in options.words])))
         return
-    marked = headline(known)
     if options.headline:
-        sys.stdout.write(listed(marked))
+        sys.stdout.write(listed(headline(known)))
         return
-    shown = cited(known)
-    text = HEAD + "".join(section_of(crate, found, shown, marked) for crate, found in pages.items())
+    shown = cited(known) - headline(known).keys()
+    text = HEAD + "".join(section_of(crate, found, shown) for crate, found in pages.items())
     text = text.rstrip() + "\n"
     if options.write:
         (TOP / "docs" / "DEFINITIONS.md").write_text(text)

@@ -2,6 +2,7 @@
 """Runs random texts, many of them faulty, through the program and through tools/reference.py, and compares what they answer.
 
     tools/hostile.py --seed 1 --count 2000
+    tools/hostile.py --seed 1 --count 2000 --headings
 
 compares standard output, standard error and status for each text, prints each text that they answer differently, and ends with 1 if
 there is one. The program is $SNOOP, or else the one that was built last (crates/snoop/out/snoop).
@@ -19,7 +20,8 @@ from types import SimpleNamespace
 import reference
 
 PROGRAM = os.environ.get("SNOOP", pathlib.Path(__file__).resolve().parent.parent / "crates" / "snoop" / "out" / "snoop")
-SHAPES = [(1, 1, 1), (2, 4, 64), (2, 4, 64), (2, 4, 64), (3, 2, 4096), (4, 16, 1), (256, 4, 64), (1, 300, 2)]
+SHAPES = [(1, 1, 1, 1), (2, 4, 64, 1), (2, 4, 64, 1), (2, 4, 64, 1), (3, 2, 4096, 1), (4, 16, 1, 1), (256, 4, 64, 1), (1, 300, 2, 1),
+          (2, 4, 64, 8), (2, 4, 64, 2), (3, 2, 4096, 64), (4, 16, 16, 2), (2, 4, 512, 64)]
 LINE_ENDS = [b"\n", b"\n", b"\n", b"\r\n", b"\r", b"\n\n", b"\r\n\r\n"]
 HOSTILE = [b"", b" ", b"-1", b"+1", b"0x", b"0X1", b"0xg", b"1.0", b"1e3", b"\xff", b"\xc3\xa9", b"\x00", b"18446744073709551615",
            b"18446744073709551616", b"0xffffffffffffffff", b"0x10000000000000000", b"0" * 40 + b"1", b"99999999999999999999999999", b"4294967296"]
@@ -66,10 +68,45 @@ def spoilt(chance, parts, options):
     return parts or [b""]
 
 
+def heading(chance, options):
+    """What a text of steps is for: mostly these options, or others, or with one thing wrong."""
+    others = {"protocol": chance.choice(["msi", "mesi"]), **dict(zip(("cores", "blocks", "block_bytes", "words"), chance.choice(SHAPES)))}
+    wanted = dict(vars(options))
+    match chance.randrange(4):
+        case 0:
+            name = chance.choice(list(others))
+            wanted[name] = others[name]
+        case 1:
+            wanted.update(others)
+    parts = [b"V", spelled(chance, chance.choice([2] * 20 + [0, 1, 3, 20])), wanted["protocol"].encode()]
+    parts += [spelled(chance, wanted[name]) for name in ("cores", "blocks", "block_bytes", "words")]
+    for _ in range(chance.choice([0, 0, 1, 2])):
+        place = chance.randrange(len(parts))
+        match chance.randrange(6):
+            case 0:
+                parts = parts[:place]
+            case 1:
+                parts.insert(place, chance.choice([b"2", b"", b"V", b"msi"]))
+            case 2:
+                parts[place] = chance.choice(HOSTILE)
+            case 3:
+                parts[place] = chance.choice([b"V", b"v", b"2", b"1", b"3", b"0x2", b"msi", b"mesi", b"MSI", b"Mesi", b"msi ", b"mes"])
+            case 4:
+                parts[place] = b'"' + parts[place]
+            case 5:
+                parts[place] += chance.choice([b'"', b" ", b"\x00", b"0"])
+        parts = parts or [b"V"]
+    return [quoted(chance, part) for part in parts]
+
+
 def text(chance, options):
-    """A text of a few records, and of one kind of damage or none."""
+    """A text of a few records, and of one kind of damage or none; many texts of steps begin with a heading, and a few have one elsewhere."""
     kinds = "LSEOR" if options.command == "steps" else "LSE"
     found = [record(chance, options, kinds) for _ in range(chance.randrange(12))]
+    if options.headings or chance.random() < (0.3 if options.command == "steps" else 0.05):
+        found.insert(0, heading(chance, options))
+    if chance.random() < 0.03:
+        found.insert(chance.randrange(len(found) + 1), heading(chance, options))
     if found and chance.random() < 0.5:
         place = chance.randrange(len(found))
         found[place] = spoilt(chance, found[place], options)
@@ -106,7 +143,7 @@ def by_reference(options, given):
 def by_program(options, given):
     """What the program answers."""
     words = [PROGRAM, options.command, "--protocol", options.protocol, "--cores", str(options.cores), "--blocks", str(options.blocks),
-             "--block-bytes", str(options.block_bytes)]
+             "--block-bytes", str(options.block_bytes), "--words", str(options.words)]
     done = subprocess.run(words, input=given, capture_output=True, check=False)
     return done.returncode, done.stdout, done.stderr
 
@@ -115,17 +152,22 @@ def main():
     parser = argparse.ArgumentParser(description=__doc__, formatter_class=argparse.RawDescriptionHelpFormatter)
     parser.add_argument("--seed", type=int, default=1, help="the same seed makes the same texts (default 1)")
     parser.add_argument("--count", type=int, default=2000, help="how many texts (default 2000)")
+    parser.add_argument("--headings", action="store_true", help="each text begins with a heading")
     asked = parser.parse_args()
     chance = random.Random(asked.seed)
     refused = different = 0
     for _ in range(asked.count):
-        cores, blocks, block_bytes = chance.choice(SHAPES)
-        options = SimpleNamespace(command=chance.choice(["steps", "run"]), protocol=chance.choice(["msi", "mesi"]),
-                                  cores=cores, blocks=blocks, block_bytes=block_bytes)
+        cores, blocks, block_bytes, words = chance.choice(SHAPES)
+        options = SimpleNamespace(command=chance.choice(["steps", "steps", "steps", "run"] if asked.headings else ["steps", "run"]), protocol=chance.choice(["msi", "mesi"]),
+                                  cores=cores, blocks=blocks, block_bytes=block_bytes, words=words, headings=asked.headings)
         given = text(chance, options)
         expected = by_reference(options, given)
         refused += expected[0] == 1
         found = by_program(options, given)
+        if found == expected and found[0] == 1 and options.command == "run":
+            # Threads refuse the same rows.
+            options.command = "threads"
+            found = by_program(options, given)
         if found != expected:
             different += 1
             print(f"{vars(options)}\n  text {given!r}\n  expected {expected}\n  found {found}")

@@ -8,7 +8,7 @@ text is reported as the program reports it (a line on standard error, status 1, 
   steps    the line of each step of a text of steps, then the report, as `snoop steps`
   run      the same for a text of rows, as `snoop run`
   states   a Markdown table with a row for each step: its line, the state of one block (--block) in each core that ever holds it,
-           memory's state and memory's value
+           memory's state and memory's value (its values, where the block has several words)
   getters  all that a machine's getters answer after each step, as crates/snoop_getters prints it
   storm    makes a text of random steps
   crowd    the output of a long text, or a text of many rows, as a rule writes it, without the machine below
@@ -57,9 +57,9 @@ def sent(action):
 
 
 class Line(NamedTuple):
-    """What a core holds of a block: its state, the value that it keeps and the operation that waits, if any."""
+    """What a core holds of a block: its state, the values of the words that it keeps and the operation that waits, if any."""
     state: str
-    kept: Optional[int]
+    kept: Optional[tuple]
     waiting: Optional[tuple]
 
 
@@ -68,14 +68,15 @@ class Open(NamedTuple):
     core: int
     request: str
     payload: str
-    value: Optional[int]
+    values: Optional[tuple]
     sender: Optional[int]
 
 
 class Did(NamedTuple):
-    """A load or store that was performed, and the value that it loaded or stored."""
+    """A load or store of a word that was performed, and the value that it loaded or stored."""
     core: int
     block: int
+    word: int
     load: bool
     value: int
     hit: bool
@@ -98,13 +99,18 @@ class Came(NamedTuple):
     did: Optional[Did]
 
 
+def stored(values, word, value):
+    """The values of a block's words after a store in one of them: the others stay."""
+    return values[:word] + (value,) + values[word + 1:]
+
+
 class Machine:
-    def __init__(self, protocol, cores, blocks):
+    def __init__(self, protocol, cores, blocks, words):
         self.cache, self.memory_table = tables()[protocol]
         self.cores, self.blocks = cores, blocks
         first = "IorS" if protocol == "msi" else "I"
         self.line = {(c, b): Line("I", None, None) for c in range(cores) for b in range(blocks)}
-        self.memory = {b: (first, 0) for b in range(blocks)}
+        self.memory = {b: (first, (0,) * words) for b in range(blocks)}
         self.open = {}
         self.queues = {c: [] for c in range(cores)}
         self.items = []
@@ -112,7 +118,7 @@ class Machine:
     def put(self, core, block, state, kept, waiting):
         self.line[core, block] = Line(state, kept if state in READABLE else None, waiting)
 
-    def ask(self, core, block, op):
+    def ask(self, core, block, word, op):
         state, kept, waiting = self.line[core, block]
         event, value = op
         if state == "I" and event == "Evict":
@@ -121,15 +127,15 @@ class Machine:
         if action == "stall":
             return "refused Stalled " + state
         if action == "hit":
-            value = kept if event == "Load" else value
-            self.put(core, block, after, value, waiting)
-            self.items.append(Did(core, block, event == "Load", value, hit=True))
+            value = kept[word] if event == "Load" else value
+            self.put(core, block, after, kept if event == "Load" else stored(kept, word, value), waiting)
+            self.items.append(Did(core, block, word, event == "Load", value, hit=True))
             return f"hit {value}" if event == "Load" else "store hit"
         if action == "drop":
             self.put(core, block, after, kept, None)
             return "gone"
         request = action.split()[1]
-        self.put(core, block, after, kept, None if event == "Evict" else op)
+        self.put(core, block, after, kept, None if event == "Evict" else (word, op))
         self.queues[core].append(block)
         return "issued " + request
 
@@ -146,15 +152,15 @@ class Machine:
             action, afters[other] = self.cache[state, ("Own" if other == core else "Other") + request]
             if sent(action):
                 senders.append((other, sent(action), kept))
-        state, value = self.memory[block]
+        state, values = self.memory[block]
         action, after = self.memory_table[state, request]
         if sent(action):
-            senders.append((None, sent(action), value))
+            senders.append((None, sent(action), values))
         [(sender, payload, carried)] = senders
         for other, state in afters.items():
             _, kept, waiting = self.line[other, block]
             self.put(other, block, state, kept, waiting)
-        self.memory[block] = (after, value)
+        self.memory[block] = (after, values)
         self.queues[core].remove(block)
         self.open[block] = Open(core, request, payload, carried, sender)
         self.items.append(Sent(core, block, request))
@@ -165,24 +171,31 @@ class Machine:
             return "refused NoTransaction"
         core, request, payload, carried, sender = self.open.pop(block)
         text = payload + (" from memory" if sender is None else f" from core {sender}")
-        state, value = self.memory[block]
+        state, values = self.memory[block]
         if request == "PutM" or state.endswith("_D"):
             action, after = self.memory_table[state, payload]
-            self.memory[block] = (after, carried if action == "write" else value)
+            self.memory[block] = (after, carried if action == "write" else values)
         did = None
         if request != "PutM":
-            state, _, (event, value) = self.line[core, block]
+            state, _, (word, (event, value)) = self.line[core, block]
             action, after = self.cache[state, payload]
-            value = carried if action == "fill load" else value
-            self.put(core, block, after, value, None)
-            did = Did(core, block, event == "Load", value, hit=False)
+            loads = action == "fill load"
+            value = carried[word] if loads else value
+            self.put(core, block, after, carried if loads else stored(carried, word, value), None)
+            did = Did(core, block, word, event == "Load", value, hit=False)
             text += f", {'load' if event == 'Load' else 'store'} {value}"
         self.items.append(Came(core, block, request, sender, payload, did))
         return text
 
 
-def report(items):
-    """The counts and the blocks' values, from the whole history."""
+def flat(items):
+    """The value that was stored last in each word, by block and word."""
+    dids = [item if isinstance(item, Did) else item.did for item in items if not isinstance(item, Sent)]
+    return {(did.block, did.word): did.value for did in dids if did and not did.load}
+
+
+def report(items, words):
+    """The counts and the values of the blocks' words, from the whole history."""
     responses = [item for item in items if isinstance(item, Came)]
     dids = [item if isinstance(item, Did) else item.did for item in items if not isinstance(item, Sent)]
     loads = [did for did in dids if did and did.load]
@@ -198,9 +211,14 @@ def report(items):
                                              sum(came.request == "PutM" and came.payload == "NoDataE" for came in responses),
                                              sum(came.request == "PutM" and came.payload == "NoData" for came in responses)),
     ]
-    values = dict.fromkeys((item.block for item in items), 0)
-    values.update((did.block, did.value) for did in stores)
-    return lines + [f"block {block} value {value}" for block, value in values.items()]
+    last = flat(items)
+    mentioned = dict.fromkeys(item.block for item in items)
+    return lines + [f"block {block} value {shown_values(last.get((block, word), 0) for word in range(words))}" for block in mentioned]
+
+
+def shown_values(values, between=" "):
+    """The values of a block's words."""
+    return between.join(map(str, values))
 
 
 FIELDS = {"L": ("core", "address"), "S": ("core", "address", "value"), "E": ("core", "address"), "O": ("core",), "R": ("address",)}
@@ -279,14 +297,36 @@ def fault_in(record, kinds, options):
     return None
 
 
+def heading_fault(record, options):
+    """The fault of a heading, if it has one: the first that its fields call for, from left to right."""
+    if len(record) < 2:
+        return "BadFields"
+    version = number(record[1])
+    if version != 2:
+        return "BadNumber" if version is None else "BadVersion"
+    if len(record) != 7:
+        return "BadFields"
+    if record[2] not in (b"msi", b"mesi"):
+        return "BadKind"
+    numbers = list(map(number, record[3:]))
+    if None in numbers:
+        return "BadNumber"
+    asked = [options.cores, options.blocks, options.block_bytes, options.words]
+    return None if record[2].decode() == options.protocol and numbers == asked else "OtherShape"
+
+
 def records(options, text):
-    """The letter and the numbers of each record; a text with a fault is refused whole."""
+    """The letter and the numbers of each record; a text with a fault is refused whole. The first record of a text of steps may be a
+    heading, which is none of these."""
     read = []
-    for record in fields_of(text):
-        fault = fault_in(record, "LSE" if options.command == "run" else "LSEOR", options)
+    of_rows = options.command == "run"
+    for place, record in enumerate(fields_of(text), 1):
+        is_heading = place == 1 and record[0] == b"V" and not of_rows
+        fault = heading_fault(record, options) if is_heading else fault_in(record, "LSE" if of_rows else "LSEOR", options)
         if fault:
-            raise Faulty(f"record {len(read) + 1}: {fault}")
-        read.append((record[0].decode(), [number(field) for field in record[1:]]))
+            raise Faulty(f"record {place}: {fault}")
+        if not is_heading:
+            read.append((record[0].decode(), [number(field) for field in record[1:]]))
     return read
 
 
@@ -299,14 +339,20 @@ class Lines:
     """Takes steps, and writes the line of each."""
 
     def __init__(self, options, write=print):
-        self.machine = Machine(options.protocol, options.cores, options.blocks)
+        self.machine = Machine(options.protocol, options.cores, options.blocks, options.words)
         self.block_bytes = options.block_bytes
+        self.words = options.words
         self.write = write
 
-    def ask(self, core, block, op):
-        reply = self.machine.ask(core, block, op)
+    def place(self, address):
+        """The block and the word of an address."""
+        return address // self.block_bytes, address % self.block_bytes // (self.block_bytes // self.words)
+
+    def ask(self, core, block, word, op):
+        reply = self.machine.ask(core, block, word, op)
         value = f",{op[1]}" if op[0] == "Store" else ""
-        self.write(f"{op[0][0]},{core},{block * self.block_bytes}{value}: {reply}")
+        address = block * self.block_bytes + (0 if op[0] == "Evict" else word * (self.block_bytes // self.words))
+        self.write(f"{op[0][0]},{core},{address}{value}: {reply}")
         return reply
 
     def order(self, core):
@@ -316,8 +362,7 @@ class Lines:
         self.write(f"R,{block * self.block_bytes}: {self.machine.respond(block)}")
 
     def report(self):
-        self.write("\n".join(report(self.machine.items)))
-
+        self.write("\n".join(report(self.machine.items, self.words)))
 
     def take(self, kind, numbers):
         if kind == "O":
@@ -325,7 +370,7 @@ class Lines:
         elif kind == "R":
             self.respond(numbers[0] // self.block_bytes)
         else:
-            self.ask(numbers[0], numbers[1] // self.block_bytes, operation(kind, numbers))
+            self.ask(numbers[0], *self.place(numbers[1]), operation(kind, numbers))
 
 
 def steps(options, text):
@@ -338,19 +383,20 @@ def steps(options, text):
 
 def states(options, text):
     """A Markdown table with a row for each step: its line, the states of one block in the cores that ever hold it and in memory, and
-    memory's value; what a step changes is bold."""
+    memory's value (its values, where the block has several words); what a step changes is bold."""
     block = options.block
     if not 0 <= block < options.blocks:
         raise NoSuchBlock(f"no block {block}: the machine has blocks 0 to {options.blocks - 1} (--blocks {options.blocks})")
     written = ["at reset"]
     lines = Lines(options, written.append)
-    held = lambda: [lines.machine.line[core, block].state for core in range(options.cores)] + [str(part) for part in lines.machine.memory[block]]
+    of_memory = lambda state, values: [state, shown_values(values)]
+    held = lambda: [lines.machine.line[core, block].state for core in range(options.cores)] + of_memory(*lines.machine.memory[block])
     rows = [held()]
     for kind, numbers in records(options, text):
         lines.take(kind, numbers)
         rows.append(held())
     shown = [place for place in range(options.cores + 2) if place >= options.cores or any(row[place] != "I" for row in rows)]
-    names = [f"Core {core}" for core in range(options.cores)] + ["Memory", "Its value"]
+    names = [f"Core {core}" for core in range(options.cores)] + ["Memory", "Its value" if options.words == 1 else "Its values"]
     print("| " + " | ".join(["Line"] + [names[place] for place in shown]) + " |")
     print("|---" * (len(shown) + 1) + "|")
     for name, row, before in zip(written, rows, rows[:1] + rows):
@@ -359,20 +405,21 @@ def states(options, text):
 
 
 def held(machine, core, block):
-    """What a core holds of a block: its state, the value that it keeps, and a mark where its request waits to be ordered."""
+    """What a core holds of a block: its state, the values that it keeps, and a mark where its request waits to be ordered."""
     state, kept, _ = machine.line[core, block]
-    value = "" if kept is None else f"={kept}"
-    return state + value + "!" * (block in machine.queues[core])
+    values = "" if kept is None else "=" + shown_values(kept, "/")
+    return state + values + "!" * (block in machine.queues[core])
 
 
 def shown(machine, block):
-    """All that is seen of a block: what each core holds, memory's state and value, and the open transaction."""
-    cells = [held(machine, core, block) for core in range(machine.cores)] + ["%s=%d" % machine.memory[block]]
+    """All that is seen of a block: what each core holds, memory's state and values, and the open transaction."""
+    state, values = machine.memory[block]
+    cells = [held(machine, core, block) for core in range(machine.cores)] + [f"{state}={shown_values(values, '/')}"]
     transaction = ""
     if block in machine.open:
-        core, request, payload, value, sender = machine.open[block]
-        carried = value if payload in ("Data", "DataE") else 0
-        transaction = f"{core}:{request}:{payload}:{carried}:{'memory' if sender is None else sender}"
+        core, request, payload, carried, sender = machine.open[block]
+        sends = carried if payload in ("Data", "DataE") else (0,) * len(values)
+        transaction = f"{core}:{request}:{payload}:{shown_values(sends, '/')}:{'memory' if sender is None else sender}"
     return ",".join(cells + [transaction]) + "|"
 
 
@@ -387,8 +434,9 @@ def getters(options, text):
         print("".join([shown(machine, block) for block in blocks] + counts))
     dids = [item if isinstance(item, Did) else item.did for item in machine.items if not isinstance(item, Sent)]
     performed = [sum(did is not None and did.core == core for did in dids) for core in cores]
-    values = {did.block: did.value for did in dids if did is not None and not did.load}
-    print(f"{len(machine.items)}|" + "".join(f"{count}," for count in performed) + "|" + "".join(f"{values.get(block, 0)}," for block in blocks))
+    last = flat(machine.items)
+    values = [shown_values((last.get((block, word), 0) for word in range(options.words)), "/") for block in blocks]
+    print(f"{len(machine.items)}|" + "".join(f"{count}," for count in performed) + "|" + "".join(f"{value}," for value in values))
 
 
 def run(options, text):
@@ -397,7 +445,7 @@ def run(options, text):
     lines = Lines(options)
     left = {core: [] for core in range(options.cores)}
     for kind, numbers in records(options, text):
-        left[numbers[0]].append((numbers[1] // options.block_bytes, operation(kind, numbers)))
+        left[numbers[0]].append((*lines.place(numbers[1]), operation(kind, numbers)))
     asked_for = {}  # by core, the block of the row that was asked for and is not over
 
     def turn(core):
@@ -414,8 +462,8 @@ def run(options, text):
                 return lines.respond(block)
             # another core's turn has brought the answer: the next row comes at once
         if left[core]:
-            block, op = left[core].pop(0)
-            if lines.ask(core, block, op).startswith("issued"):
+            block, word, op = left[core].pop(0)
+            if lines.ask(core, block, word, op).startswith("issued"):
                 asked_for[core] = block
 
     while asked_for or any(left.values()):
@@ -425,13 +473,14 @@ def run(options, text):
 
 
 def storm(options):
-    """Random steps of every kind, core and block, from a linear congruential generator."""
+    """Random steps of every kind, core, block and word, from a linear congruential generator."""
     x = options.seed
     for n in range(1, options.count + 1):
         x = (x * 6364136223846793005 + 1442695040888963407) % 2**64
         k = x >> 33
         core, block = k // 5 % options.cores, k // (5 * options.cores) % options.blocks
-        address = block * options.block_bytes
+        word = k // (5 * options.cores * options.blocks) % options.words
+        address = block * options.block_bytes + word * (options.block_bytes // options.words)
         print((f"L,{core},{address}", f"S,{core},{address},{n}", f"E,{core},{address}", f"O,{core}", f"R,{address}")[k % 5])
 
 
@@ -460,8 +509,9 @@ def stale_writebacks_of_all_cores(_):
     yield "writebacks 1 clean 0 stale 255\nblock 0 value 256"
 
 
-def loads_and_drops(count):
+def loads_and_drops(options):
     """The output under MSI where a core loads so many blocks, and then drops each."""
+    count = options.count
     for block in range(count):
         yield f"L,0,{64 * block}: issued GetS\nO,0: ordered GetS\nR,{64 * block}: Data from memory, load 0"
     for block in range(count):
@@ -472,10 +522,10 @@ def loads_and_drops(count):
         yield f"block {block} value 0"
 
 
-def many_rows(count):
+def many_rows(options):
     """A text of so many rows, of 8 cores on 6 blocks."""
-    for n in range(count):
-        core, address = (n * 5 + n // 7) % 8, (n * 7 + n // 11) % 6 * 64 + n % 64
+    for n in range(options.count):
+        core, address = (n * 5 + n // 7) % 8, (n * 7 + n // 11) % 6 * options.block_bytes + n % options.block_bytes
         kind = "E" if n % 10 == 9 else "S" if n % 3 == 0 else "L"
         yield f"{kind},{core},{address}" + (f",{n}" if kind == "S" else "")
 
@@ -485,7 +535,7 @@ CROWDS = {crowd.__name__: crowd for crowd in (all_cores_store, stale_writebacks_
 
 def crowd(options):
     """The lines of a crowd."""
-    for lines in CROWDS[options.name](options.count):
+    for lines in CROWDS[options.name](options):
         print(lines)
 
 
@@ -503,6 +553,7 @@ def main():
     parser.add_argument("--cores", type=int, default=2, help="how many cores, 1 to 256 (default 2)")
     parser.add_argument("--blocks", type=int, default=4, help="how many blocks of memory, 1 to 65536 (default 4)")
     parser.add_argument("--block-bytes", type=int, default=64, help="bytes of a block, a power of two up to 4096 (default 64)")
+    parser.add_argument("--words", type=int, default=1, help="words of a block, a power of two up to 64; several have 8 bytes or more each (default 1)")
     parser.add_argument("--block", type=int, default=0, metavar="N", help="states: the number of the block (default 0)")
     parser.add_argument("--which", choices=("cache", "memory"), default="cache", help="table: whose table (default cache)")
     parser.add_argument("--count", type=int, default=1000, help="storm: how many steps; crowd: how many blocks or rows, where that is open (default 1000)")
@@ -510,6 +561,8 @@ def main():
     options = parser.parse_args()
     if not (1 <= options.cores <= 256 and 1 <= options.blocks <= 65536 and options.block_bytes in [2**k for k in range(13)]):
         parser.error("no such shape: 1 to 256 cores, 1 to 65536 blocks, block bytes a power of two up to 4096")
+    if options.words not in [2**k for k in range(7)] or (options.words > 1 and options.block_bytes < 8 * options.words):
+        parser.error("no such words: a power of two up to 64, and 8 bytes or more for each of several")
     if (options.command == "crowd") != (options.name is not None):
         parser.error("`crowd` takes a name, and no other command does")
     try:

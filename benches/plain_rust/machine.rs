@@ -20,7 +20,7 @@ pub enum Op {
 
 #[derive(Clone, Copy)]
 pub enum Step {
-    Ask { core: u32, block: u32, op: Op },
+    Ask { core: u32, block: u32, word: u32, op: Op },
     Order { core: u32 },
     Respond { block: u32 },
 }
@@ -158,22 +158,28 @@ struct Transaction {
     sender: Sender,
     request: Request,
     payload: Payload,
-    /// What a store that waits for the data stores.
+    waiting: Waiting,
+}
+
+/// The word that an operation is of, and what it stores if it is a store.
+#[derive(Clone, Copy, Default)]
+struct Waiting {
+    word: u32,
     storing: u64,
 }
 
 /// A bit for each core.
 type Cores = [u64; 4];
 
-struct Block {
+struct Block<const W: usize> {
     memory: Memory,
     open: Option<Transaction>,
     /// The core in E, M, EI_A or MI_A.
     owner: Option<u32>,
     /// The cores in S or SM_AD.
     sharers: Cores,
-    /// The last value stored, which every reader and every payload with data holds.
-    value: u64,
+    /// The last value stored in each word, which every reader and every payload with data holds.
+    values: [u64; W],
     mentioned: bool,
 }
 
@@ -201,38 +207,40 @@ pub struct Report {
     clean: u64,
     stale: u64,
     mentioned: Vec<u32>,
+    /// Of these blocks, as many of each as it has words.
     values: Vec<u64>,
 }
 
 impl Report {
-    pub fn write(&self, out: &mut Output<impl Write>) -> io::Result<()> {
+    pub fn write(&self, words: usize, out: &mut Output<impl Write>) -> io::Result<()> {
         out.counts(&[("loads ", self.loads), (" hits ", self.load_hits)])?;
         out.counts(&[("stores ", self.stores), (" hits ", self.store_hits)])?;
         out.counts(&[("GetS ", self.get_s), (" GetM ", self.get_m), (" PutM ", self.put_m)])?;
         out.counts(&[("from memory ", self.from_memory), (" from caches ", self.from_caches)])?;
         out.counts(&[("writebacks ", self.writebacks), (" clean ", self.clean), (" stale ", self.stale)])?;
-        for (&block, &value) in self.mentioned.iter().zip(&self.values) {
-            out.counts(&[("block ", u64::from(block)), (" value ", value)])?;
+        for (&block, values) in self.mentioned.iter().zip(self.values.chunks(words)) {
+            out.values(block, values)?;
         }
         Ok(())
     }
 }
 
-pub struct Machine {
+/// A machine whose blocks have `W` words.
+pub struct Machine<const W: usize> {
     cores: usize,
     first: Memory,
     /// By block, one more than its place among the blocks asked for; 0 before its first Ask.
     places: Vec<u32>,
-    blocks: Vec<Block>,
+    blocks: Vec<Block<W>>,
     /// By place and core.
     states: Vec<Cache>,
-    /// By core, the blocks whose requests wait and what their stores store, the oldest first.
-    queues: Vec<VecDeque<(u32, u64)>>,
+    /// By core, the blocks whose requests wait and for what, the oldest first.
+    queues: Vec<VecDeque<(u32, Waiting)>>,
     pub report: Report,
 }
 
-impl Machine {
-    pub fn reset(shape: Shape) -> Machine {
+impl<const W: usize> Machine<W> {
+    pub fn reset(shape: Shape) -> Machine<W> {
         Machine {
             cores: shape.cores as usize,
             first: match shape.protocol {
@@ -249,7 +257,7 @@ impl Machine {
 
     pub fn step(&mut self, step: Step) -> Reply {
         match step {
-            Step::Ask { core, block, op } => self.ask(core, block, op),
+            Step::Ask { core, block, word, op } => self.ask(core, block, word, op),
             Step::Order { core } => self.order(core),
             Step::Respond { block } => self.respond(block),
         }
@@ -267,7 +275,7 @@ impl Machine {
                 open: None,
                 owner: None,
                 sharers: [0; 4],
-                value: 0,
+                values: [0; W],
                 mentioned: false,
             });
             self.states.resize(self.states.len() + self.cores, Cache::I);
@@ -281,7 +289,6 @@ impl Machine {
         if !at.mentioned {
             at.mentioned = true;
             self.report.mentioned.push(block);
-            self.report.values.push(0);
         }
     }
 
@@ -293,12 +300,12 @@ impl Machine {
         })
     }
 
-    fn issue(&mut self, core: u32, block: u32, storing: u64, request: Request) -> Reply {
-        self.queues[core as usize].push_back((block, storing));
+    fn issue(&mut self, core: u32, block: u32, waiting: Waiting, request: Request) -> Reply {
+        self.queues[core as usize].push_back((block, waiting));
         Reply::Issued(request)
     }
 
-    fn ask(&mut self, core: u32, block: u32, op: Op) -> Reply {
+    fn ask(&mut self, core: u32, block: u32, word: u32, op: Op) -> Reply {
         use Cache::*;
         let place = self.place_made(block);
         let at = place * self.cores + core as usize;
@@ -309,13 +316,13 @@ impl Machine {
                 self.mention(block, place);
                 self.report.loads += 1;
                 self.report.load_hits += 1;
-                return Reply::Hit(self.blocks[place].value);
+                return Reply::Hit(self.blocks[place].values[word as usize]);
             }
             (Op::Store(value), I) => (ImAd, value, Request::GetM),
             (Op::Store(value), S) => (SmAd, value, Request::GetM),
             (Op::Store(value), E | M | EiA | MiA) => {
                 self.states[at] = if matches!(state, E | M) { M } else { MiA };
-                self.blocks[place].value = value;
+                self.blocks[place].values[word as usize] = value;
                 self.mention(block, place);
                 self.report.stores += 1;
                 self.report.store_hits += 1;
@@ -332,7 +339,7 @@ impl Machine {
             _ => return Reply::Stalled(state),
         };
         self.states[at] = next;
-        self.issue(core, block, storing, request)
+        self.issue(core, block, Waiting { word, storing }, request)
     }
 
     /// The owner gives the block up to a GetS or a GetM, and sends its data.
@@ -364,7 +371,7 @@ impl Machine {
     }
 
     fn order(&mut self, core: u32) -> Reply {
-        let Some(&(block, storing)) = self.queues[core as usize].front() else {
+        let Some(&(block, waiting)) = self.queues[core as usize].front() else {
             return Reply::NothingWaiting;
         };
         let place = self.places[block as usize] as usize - 1;
@@ -407,7 +414,7 @@ impl Machine {
             sender,
             request,
             payload,
-            storing,
+            waiting,
         });
         self.mention(block, place);
         match request {
@@ -439,23 +446,25 @@ impl Machine {
         };
         entry.memory = entry.memory.at_response(open.payload);
         let at = place * self.cores + open.core as usize;
+        let Waiting { word, storing } = open.waiting;
+        let value = &mut entry.values[word as usize];
         let performed = match (open.request, open.payload) {
             (Request::PutM, _) => None,
             (Request::GetS, Payload::DataE) => {
                 entry.owner = Some(open.core);
                 self.states[at] = Cache::E;
-                Some(Performed::Load(entry.value))
+                Some(Performed::Load(*value))
             }
             (Request::GetS, _) => {
                 set(&mut entry.sharers, open.core);
                 self.states[at] = Cache::S;
-                Some(Performed::Load(entry.value))
+                Some(Performed::Load(*value))
             }
             (Request::GetM, _) => {
                 entry.owner = Some(open.core);
-                entry.value = open.storing;
+                *value = storing;
                 self.states[at] = Cache::M;
-                Some(Performed::Store(open.storing))
+                Some(Performed::Store(storing))
             }
         };
         match performed {
@@ -469,9 +478,9 @@ impl Machine {
 
     /// Hands the report the last values of the blocks that it mentions.
     pub fn close(&mut self) {
-        for (block, value) in self.report.mentioned.iter().zip(&mut self.report.values) {
+        for block in &self.report.mentioned {
             let place = self.places[*block as usize] as usize - 1;
-            *value = self.blocks[place].value;
+            self.report.values.extend_from_slice(&self.blocks[place].values);
         }
     }
 }

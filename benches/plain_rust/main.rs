@@ -1,12 +1,12 @@
 //! The program that Snoop's speed is compared with: `snoop steps` and `snoop run` in plain Rust, without contracts, written to be fast.
 //!
-//! It takes the same options, `plain steps|run --protocol msi|mesi --cores C --blocks B --block-bytes N`, and for a valid text
-//! writes the same output; of quotes it knows those around a whole field. A fault of the options, the shape or the text ends it
+//! It takes the same options, `plain steps|run --protocol msi|mesi --cores C --blocks B --block-bytes N --words W`, and for a
+//! valid text writes the same output; of quotes it knows those around a whole field. A fault of the options, the shape or the text ends it
 //! with status 2, a line on standard error and nothing on standard output; a failed read or write with status 2 too. The rules are
 //! in docs/PROTOCOL.md, the texts in docs/TEXTS.md.
 //!
-//! It keeps what its answers need and no more: of a block the owner, a bit for each sharer and the last value stored, since every
-//! reader holds that value; of the history the counts alone.
+//! It keeps what its answers need and no more: of a block the owner, a bit for each sharer and the last value stored in each
+//! word, since every reader holds those values; of the history the counts alone.
 
 mod machine;
 mod run;
@@ -17,7 +17,7 @@ use std::env;
 use std::fmt::{self, Display};
 use std::io::{self, Read};
 use std::process::ExitCode;
-use text::{Output, Texts};
+use text::{Output, Records, Texts};
 
 #[derive(Clone, Copy)]
 pub struct Shape {
@@ -25,6 +25,7 @@ pub struct Shape {
     pub cores: u32,
     pub blocks: u32,
     pub block_bytes: u64,
+    pub words: u64,
 }
 
 #[derive(Clone, Copy)]
@@ -50,9 +51,9 @@ impl Display for Fault {
     fn fmt(&self, f: &mut fmt::Formatter) -> fmt::Result {
         match self {
             Fault::CommandLine => f.write_str(
-                "use: plain steps|run [--protocol msi|mesi] [--cores C] [--blocks B] [--block-bytes N]",
+                "use: plain steps|run [--protocol msi|mesi] [--cores C] [--blocks B] [--block-bytes N] [--words W]",
             ),
-            Fault::Shape => f.write_str("at most 256 cores, 65536 blocks, 2^k <= 4096 bytes each"),
+            Fault::Shape => f.write_str("at most 256 cores, 65536 blocks, 2^k <= 4096 bytes and 2^k <= 64 words of 8 bytes each"),
             Fault::Record(number) => write!(f, "record {number} is none of this command and machine"),
             Fault::Io(error) => error.fmt(f),
         }
@@ -70,6 +71,7 @@ fn parse_options(mut words: impl Iterator<Item = String>) -> Result<(Command, Sh
         cores: 2,
         blocks: 4,
         block_bytes: 64,
+        words: 1,
     };
     while let Some(option) = words.next() {
         let value = words.next().ok_or(Fault::CommandLine)?;
@@ -80,11 +82,13 @@ fn parse_options(mut words: impl Iterator<Item = String>) -> Result<(Command, Sh
             "--cores" => shape.cores = number?,
             "--blocks" => shape.blocks = number?,
             "--block-bytes" => shape.block_bytes = u64::from(number?),
+            "--words" => shape.words = u64::from(number?),
             _ => return Err(Fault::CommandLine),
         }
     }
     let bytes_fit = shape.block_bytes.is_power_of_two() && shape.block_bytes <= 4096;
-    if !(1..=256).contains(&shape.cores) || !(1..=65536).contains(&shape.blocks) || !bytes_fit {
+    let words_fit = shape.words.is_power_of_two() && shape.words <= 64.min(shape.block_bytes / 8).max(1);
+    if !(1..=256).contains(&shape.cores) || !(1..=65536).contains(&shape.blocks) || !bytes_fit || !words_fit {
         return Err(Fault::Shape);
     }
     Ok((command, shape))
@@ -103,8 +107,22 @@ fn simulate() -> Result<(), Fault> {
         }
     }
     let records = texts.end()?;
-    let mut machine = Machine::reset(shape);
-    let mut out = Output::new(io::stdout().lock(), shape.block_bytes);
+    match shape.words {
+        1 => take::<1>(command, shape, records)?,
+        2 => take::<2>(command, shape, records)?,
+        4 => take::<4>(command, shape, records)?,
+        8 => take::<8>(command, shape, records)?,
+        16 => take::<16>(command, shape, records)?,
+        32 => take::<32>(command, shape, records)?,
+        _ => take::<64>(command, shape, records)?,
+    }
+    Ok(())
+}
+
+/// Takes the records on a machine whose blocks have `W` words, and writes its output.
+fn take<const W: usize>(command: Command, shape: Shape, records: Records) -> io::Result<()> {
+    let mut machine: Machine<W> = Machine::reset(shape);
+    let mut out = Output::new(io::stdout().lock(), shape);
     match command {
         Command::Steps => {
             for step in records.iter() {
@@ -115,9 +133,8 @@ fn simulate() -> Result<(), Fault> {
         Command::Run => run::run(&mut machine, shape, records, &mut out)?,
     }
     machine.close();
-    machine.report.write(&mut out)?;
-    out.flush()?;
-    Ok(())
+    machine.report.write(W, &mut out)?;
+    out.flush()
 }
 
 fn main() -> ExitCode {

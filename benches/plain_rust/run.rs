@@ -5,16 +5,16 @@ use crate::text::{Output, Records};
 use crate::Shape;
 use std::io::{self, Write};
 
-/// A core's rows that are not asked for yet, the last one first, and the block of the one under way.
+/// A core's rows that are not asked for yet, block, word and operation, the last one first, and the block of the one under way.
 struct Lane {
     core: u32,
-    left: Vec<(u32, Op)>,
+    left: Vec<(u32, u32, Op)>,
     asked: Option<u32>,
 }
 
 impl Lane {
     /// The step of the core's next turn, if it has anything left to do.
-    fn turn(&mut self, machine: &Machine) -> Option<Step> {
+    fn turn<const W: usize>(&mut self, machine: &Machine<W>) -> Option<Step> {
         if let Some(block) = self.asked {
             match machine.stands(self.core, block) {
                 (true, None) => return Some(Step::Order { core: self.core }),
@@ -27,16 +27,22 @@ impl Lane {
                 }
             }
         }
-        let (block, op) = self.left.pop()?;
+        let (block, word, op) = self.left.pop()?;
         Some(Step::Ask {
             core: self.core,
             block,
+            word,
             op,
         })
     }
 }
 
-pub fn run(machine: &mut Machine, shape: Shape, rows: Records, out: &mut Output<impl Write>) -> io::Result<()> {
+pub fn run<const W: usize>(
+    machine: &mut Machine<W>,
+    shape: Shape,
+    rows: Records,
+    out: &mut Output<impl Write>,
+) -> io::Result<()> {
     let mut lanes: Vec<Lane> = (0..shape.cores)
         .map(|core| Lane {
             core,
@@ -45,8 +51,8 @@ pub fn run(machine: &mut Machine, shape: Shape, rows: Records, out: &mut Output<
         })
         .collect();
     for row in rows.iter() {
-        if let Step::Ask { core, block, op } = row {
-            lanes[core as usize].left.push((block, op));
+        if let Step::Ask { core, block, word, op } = row {
+            lanes[core as usize].left.push((block, word, op));
         }
     }
     drop(rows);

@@ -11,11 +11,12 @@ pub struct Records {
     values: Vec<u64>,
 }
 
+// A load and a store add their word, below 64.
 const LOAD: u32 = 0;
-const STORE: u32 = 1;
-const EVICT: u32 = 2;
-const ORDER: u32 = 3;
-const RESPOND: u32 = 4;
+const STORE: u32 = 64;
+const EVICT: u32 = 128;
+const ORDER: u32 = 129;
+const RESPOND: u32 = 130;
 
 impl Records {
     fn push(&mut self, kind: u32, core: u32, block: u32) {
@@ -27,14 +28,14 @@ impl Records {
         self.packed.iter().map(move |&packed| {
             let core = packed >> 16 & 255;
             let block = packed & 65535;
-            let op = match packed >> 24 {
-                LOAD => Op::Load,
-                STORE => Op::Store(values.next().copied().unwrap_or(0)),
-                EVICT => Op::Evict,
+            let (word, op) = match packed >> 24 {
+                kind @ LOAD..STORE => (kind - LOAD, Op::Load),
+                kind @ STORE..EVICT => (kind - STORE, Op::Store(values.next().copied().unwrap_or(0))),
+                EVICT => (0, Op::Evict),
                 ORDER => return Step::Order { core },
                 _ => return Step::Respond { block },
             };
-            Step::Ask { core, block, op }
+            Step::Ask { core, block, word, op }
         })
     }
 }
@@ -43,6 +44,7 @@ impl Records {
 pub struct Texts {
     shape: Shape,
     shift: u32,
+    word_shift: u32,
     of_rows: bool,
     records: Records,
     /// The end of what was read so far, without a line end.
@@ -55,6 +57,7 @@ impl Texts {
         Texts {
             shape,
             shift: shape.block_bytes.trailing_zeros(),
+            word_shift: (shape.block_bytes / shape.words).trailing_zeros(),
             of_rows,
             records: Records::default(),
             rest: Vec::new(),
@@ -130,13 +133,14 @@ impl Texts {
                 (end == b',').then_some(())?;
                 let (value, end, after) = bare_number_from(after)?;
                 is_line_end(end).then_some(())?;
-                self.records.push(STORE, core, block);
+                self.records.push(STORE + self.word(address), core, block);
                 self.records.values.push(value);
                 Some(after)
             }
             b'L' | b'E' => {
                 is_line_end(end).then_some(())?;
-                self.records.push(if kind == b'L' { LOAD } else { EVICT }, core, block);
+                let kind = if kind == b'L' { LOAD + self.word(address) } else { EVICT };
+                self.records.push(kind, core, block);
                 Some(after)
             }
             _ => None,
@@ -151,13 +155,15 @@ impl Texts {
         match kind {
             b'L' | b'S' | b'E' => {
                 let core = self.core(number()?)?;
-                let block = self.block(number()?)?;
+                let address = number()?;
+                let block = self.block(address)?;
                 if kind == b'S' {
                     let value = number()?;
                     self.records.values.push(value);
-                    self.records.push(STORE, core, block);
+                    self.records.push(STORE + self.word(address), core, block);
                 } else {
-                    self.records.push(if kind == b'L' { LOAD } else { EVICT }, core, block);
+                    let kind = if kind == b'L' { LOAD + self.word(address) } else { EVICT };
+                    self.records.push(kind, core, block);
                 }
             }
             b'O' | b'R' => self.bus_step(kind, number()?)?,
@@ -187,6 +193,10 @@ impl Texts {
     fn block(&self, address: u64) -> Option<u32> {
         let block = address >> self.shift;
         (block < u64::from(self.shape.blocks)).then_some(block as u32)
+    }
+
+    fn word(&self, address: u64) -> u32 {
+        ((address >> self.word_shift) & (self.shape.words - 1)) as u32
     }
 }
 
@@ -255,16 +265,18 @@ fn unquoted(field: &[u8]) -> &[u8] {
 pub struct Output<W> {
     writer: W,
     block_bytes: u64,
+    word_bytes: u64,
     held: Vec<u8>,
 }
 
 const PIECE: usize = 1 << 16;
 
 impl<W: Write> Output<W> {
-    pub fn new(writer: W, block_bytes: u64) -> Output<W> {
+    pub fn new(writer: W, shape: Shape) -> Output<W> {
         Output {
             writer,
-            block_bytes,
+            block_bytes: shape.block_bytes,
+            word_bytes: shape.block_bytes / shape.words,
             held: Vec::with_capacity(PIECE + 256),
         }
     }
@@ -311,10 +323,22 @@ impl<W: Write> Output<W> {
         self.end_line()
     }
 
+    /// The line of a block's last values.
+    pub fn values(&mut self, block: u32, values: &[u64]) -> io::Result<()> {
+        self.text("block ");
+        self.number(u64::from(block));
+        self.text(" value");
+        for value in values {
+            self.text(" ");
+            self.number(*value);
+        }
+        self.end_line()
+    }
+
     /// The line of a step.
     pub fn line(&mut self, step: Step, reply: Reply) -> io::Result<()> {
         match step {
-            Step::Ask { core, block, op } => {
+            Step::Ask { core, block, word, op } => {
                 self.text(match op {
                     Op::Load => "L,",
                     Op::Store(_) => "S,",
@@ -322,7 +346,7 @@ impl<W: Write> Output<W> {
                 });
                 self.number(u64::from(core));
                 self.text(",");
-                self.number(u64::from(block) * self.block_bytes);
+                self.number(u64::from(block) * self.block_bytes + u64::from(word) * self.word_bytes);
                 if let Op::Store(value) = op {
                     self.text(",");
                     self.number(value);

@@ -12,11 +12,18 @@ fn words(rt: &HostRuntime) -> io::Result<Vec<String>> {
 }
 
 fn main(rt: HostRuntime) -> ExitCode {
-    let reader = AnyReader(rt.stdin());
+    let mut reader = AnyReader::new(rt.stdin());
     let mut writer = AnyWriter::new(rt.stdout());
     let mut errors = AnyWriter::new(rt.stderr());
     let status = match words(&rt) {
-        Ok(words) => command(&rt, rt.alloc(), &words, reader, &mut writer, &mut errors),
+        Ok(words) => command(
+            &rt,
+            rt.alloc(),
+            &words,
+            &mut reader,
+            &mut writer,
+            &mut errors,
+        ),
         Err(cause) => refuse_words(cause, &mut errors),
     };
     ExitCode::from(status)

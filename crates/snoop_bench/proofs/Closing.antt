@@ -6,14 +6,14 @@ use Rattle.std.proofs.lemmas.List.{get_or-set_same}
 use Rattle.snoop_trace.specs.declared.step.Op.{Op}
 use Rattle.snoop_trace.specs.declared.step.Step.{Step}
 use Rattle.snoop_trace.specs.declared.step.Step.TheVariants.{Respond}
-use Rattle.snoop_rules.specs.declared.names.Protocol.{Protocol}
+use Rattle.snoop_trace.specs.declared.protocol.Protocol.{Protocol}
 use Rattle.snoop_rules.specs.declared.names.Request.{Request}
 use Rattle.snoop_rules.specs.declared.names.Request.TheVariants.{GetS, GetM, PutM}
 use Rattle.snoop_rules.specs.Waits.{waiting_request}
-use Rattle.snoop_bus.specs.declared.transactions.Open.{Open}
+use Rattle.snoop_bus.specs.Traffic.{Open}
 use Rattle.snoop_history.specs.declared.items.Did.{Did}
 use Rattle.snoop_history.specs.declared.items.Item.{Item}
-use Rattle.snoop_model.specs.declared.line.Line.{Line}
+use Rattle.snoop_model.specs.Pictures.Lines.{Line}
 use Rattle.snoop_model.specs.declared.replies.Reply.{Reply}
 use Rattle.snoop_model.specs.Pictures.Picture.{held_at, nothing_held}
 use Rattle.snoop_model.specs.Pictures.Situation.{Situation, picture_of, state_of}
@@ -56,15 +56,15 @@ arrives PutM closing protocol log old new did within a = ap (λ (l : List Line).
 arrives GetS closing protocol log old new did within f =
     ap (λ (l : List Line). waiting_request (held_at l closing.core).state) f.held
     ∙ (ap (λ (l : Line). waiting_request l.state) (get_or-set_same old closing.core f.line nothing_held within ∙ f.fills.held)
-    ∙ fill-waits protocol (held_at old closing.core).state f.fills.event f.fills.act f.fills.next f.asking f.fills.fill f.fills.row)
+    ∙ fill-waits protocol (held_at old closing.core).state f.fills.event f.fills.act f.fills.next f.asking.op f.fills.fill f.fills.row)
 arrives GetM closing protocol log old new did within f =
     ap (λ (l : List Line). waiting_request (held_at l closing.core).state) f.held
     ∙ (ap (λ (l : Line). waiting_request l.state) (get_or-set_same old closing.core f.line nothing_held within ∙ f.fills.held)
-    ∙ fill-waits protocol (held_at old closing.core).state f.fills.event f.fills.act f.fills.next f.asking f.fills.fill f.fills.row)
+    ∙ fill-waits protocol (held_at old closing.core).state f.fills.event f.fills.act f.fills.next f.asking.op f.fills.fill f.fills.row)
 
-closed_at : (s t : Situation) (core block : ℕ) (asking : Op) (transaction closing : Open) (did : Option Did) → IsWellKept s → core < s.shape.cores → block < s.shape.blocks
-    → waiting_request (state_of s core block) ≡ None → (picture_of s block).transaction ≡ Some transaction → transaction.core ≡ core → Responds s block closing did t → turn_of t core block asking true ≡ None
-closed_at s t core block asking transaction closing did kept inside within none there its r = no_step core block (waiting_request (state_of t core block)) (picture_of t block).transaction waits free
+closed_at : (s t : Situation) (core block word : ℕ) (asking : Op) (transaction closing : Open) (did : Option Did) → IsWellKept s → core < s.shape.cores → block < s.shape.blocks
+    → waiting_request (state_of s core block) ≡ None → (picture_of s block).transaction ≡ Some transaction → transaction.core ≡ core → Responds s block closing did t → turn_of t core block word asking true ≡ None
+closed_at s t core block word asking transaction closing did kept inside within none there its r = no_step core block (waiting_request (state_of t core block)) (picture_of t block).transaction waits free
   where
     same : closing.core ≡ core
     same = ap (λ (o : Open). o.core) (same_some (picture_of s block).transaction closing transaction r.opened there) ∙ its
@@ -84,10 +84,10 @@ closed_at s t core block asking transaction closing did kept inside within none 
         ∙ (subst (λ (k : ℕ). waiting_request (held_at r.next.caches k).state ≡ waiting_request (held_at (picture_of s block).caches k).state) same held ∙ none)
 
 -- after the response to its own transaction a core has no step left for its work
-pub closed_after : (s t : Situation) (core block : ℕ) (asking : Op) (answer : Reply) (entry : Option Item) (transaction : Open) → IsWellKept s → core < s.shape.cores
-    → waiting_request (state_of s core block) ≡ None → (picture_of s block).transaction ≡ Some transaction → transaction.core ≡ core → FirstMove s (Respond block) answer t entry → turn_of t core block asking true ≡ None
-closed_after s t core block asking answer entry transaction kept inside none there its move =
+pub closed_after : (s t : Situation) (core block word : ℕ) (asking : Op) (answer : Reply) (entry : Option Item) (transaction : Open) → IsWellKept s → core < s.shape.cores
+    → waiting_request (state_of s core block) ≡ None → (picture_of s block).transaction ≡ Some transaction → transaction.core ≡ core → FirstMove s (Respond block) answer t entry → turn_of t core block word asking true ≡ None
+closed_after s t core block word asking answer entry transaction kept inside none there its move =
     let m = move.1.1 in
     let here : block < s.shape.blocks = subst (λ (b : ℕ). b < s.shape.blocks) (sym m.1.1.0) m.1.1.1 in
     let r : Responds s block m.0 m.1.0 t = subst (λ (b : ℕ). Responds s b m.0 m.1.0 t) (sym m.1.1.0) m.1.1.4 in
-    closed_at s t core block asking transaction m.0 m.1.0 kept inside here none there its r
+    closed_at s t core block word asking transaction m.0 m.1.0 kept inside here none there its r

@@ -1,4 +1,5 @@
 pub mod Recorded
+pub mod Within
 pub mod Places
 pub mod Waiting
 pub mod Turning

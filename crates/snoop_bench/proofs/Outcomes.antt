@@ -9,7 +9,7 @@ use Rattle.snoop_trace.specs.declared.step.Step.{Step}
 use Rattle.snoop_trace.specs.declared.step.Step.TheVariants.{Ask, Order, Respond}
 use Rattle.snoop_rules.specs.declared.names.Request.{Request}
 use Rattle.snoop_rules.specs.Waits.{waiting_request}
-use Rattle.snoop_bus.specs.declared.transactions.Open.{Open}
+use Rattle.snoop_bus.specs.Traffic.{Open}
 use Rattle.snoop_history.specs.declared.items.Did.{Did}
 use Rattle.snoop_history.specs.declared.items.Item.{Item}
 use Rattle.snoop_history.specs.declared.items.Item.TheVariants as item
@@ -20,14 +20,14 @@ use Rattle.snoop_model.specs.declared.replies.Reply.TheVariants as reply
 use Rattle.snoop_model.specs.Moves.Replies.{IsReplyTo, IsLoadHit}
 use Rattle.snoop_model.specs.Pictures.Situation.{Situation, picture_of, state_of}
 use Rattle.snoop_model.specs.Moves.Move.{next_did}
-use Rattle.snoop_model.specs.Runs.Once.{did_it, did_op, op_of, same_op}
+use Rattle.snoop_model.specs.Runs.Once.{did_it, did_op, did_access, op_of, same_op, same_access}
 use Rattle.snoop_model.specs.Runs.Owed.{IsLast, IsOwed}
 use Rattle.snoop_model.specs.Turns.Turn.{turn_of, step_under_way}
 use Rattle.snoop_model.specs.Turns.TurnRule.{TurnRule}
-use Rattle.snoop_bench.specs.declared.work.Work.{Work}
+use Rattle.snoop_trace.specs.declared.step.Work.{Work}
 use Rattle.snoop_bench.specs.declared.work.Turn.{Turn}
 use Rattle.snoop_bench.specs.declared.work.Turn.TheVariants as turn
-use Rattle.snoop_bench.specs.Works.{work_at, IsOp, Does}
+use Rattle.snoop_bench.specs.Works.{access_of, work_at, IsOp, Does}
 use Rattle.snoop_bench.specs.Recording.{Recording, Takes}
 use Rattle.snoop_bench.specs.Locked.{Locked, IsClosed, EndsWith, record_of}
 use Rattle.snoop_bench.specs.Turns.{Finishes, Asked, TurnsIn, Turns, case_under_way}
@@ -47,12 +47,13 @@ is_op op.Evict did true e h = absurd (true≢false (sym h))
 is_op op.Evict did false e h = absurd (true≢false (sym h))
 
 -- the test that the operation is that of the work
-pub does : (did : Did) (work : Work) → did_it work.block work.op did ≡ true → Does did work
+pub does : (did : Did) (work : Work) → did_it work.block (access_of work) did ≡ true → Does did work
 does did work e =
-    let parts = and_parts (did.block == work.block) (same_op work.op (did_op did)) e in
-    (number_is did.block work.block parts.0, is_op work.op did did.load refl parts.1)
+    let parts = and_parts (did.block == work.block) (same_access (access_of work) (did_access did)) e in
+    let rest = and_parts (work.word == did.word) (same_op work.op (did_op did)) parts.1 in
+    (number_is did.block work.block parts.0, sym (number_is work.word did.word rest.0), is_op work.op did did.load refl rest.1)
 
-pub ends_with : (s : Situation) (core : ℕ) (work : Work) → IsLast s core work.block work.op → (did : Did) × EndsWith s core work did
+pub ends_with : (s : Situation) (core : ℕ) (work : Work) → IsLast s core work.block (access_of work) → (did : Did) × EndsWith s core work did
 ends_with s core work last = (last.0, record { last = last.1; does = does last.0 work last.2 })
 
 -- the log's last operation of a core, as the log reports it
@@ -62,7 +63,7 @@ last_is cores core items o e h =
     e ∙ rw t refl
 
 -- a work that is over is answered by its operation
-pub finishes : (s : Situation) (core : ℕ) (work : Work) (last : Option Did) → last ≡ last_of s.log core → (work.op ≢ op.Evict → IsLast s core work.block work.op) → Finishes s core work work.op (turn_over work.op last)
+pub finishes : (s : Situation) (core : ℕ) (work : Work) (last : Option Did) → last ≡ last_of s.log core → (work.op ≢ op.Evict → IsLast s core work.block (access_of work)) → Finishes s core work work.op (turn_over work.op last)
 finishes s core work last is done = by_op work.op refl
   where
     by_last : (d : Did) → last_of s.log core ≡ Some d → last ≡ Some d
@@ -78,10 +79,10 @@ finishes s core work last is done = by_op work.op refl
     by_op op.Evict e = refl
 
 -- a hit of a load is the core's last operation
-hit_ends : (s t : Situation) (core : ℕ) (work : Work) (value : ℕ) → IsLoadHit (Ask core work.block work.op) value s.log t.log → (did : Did) × EndsWith t core work did × (did.value ≡ value)
+hit_ends : (s t : Situation) (core : ℕ) (work : Work) (value : ℕ) → IsLoadHit (Ask core work.block work.word work.op) value s.log t.log → (did : Did) × EndsWith t core work did × (did.value ≡ value)
 hit_ends s t core work value h = (
-  next_did s.log h.core h.block op.Load value true,
-  record { last = ap (λ (l : List Item). last_of l core) h.logged ∙ (last_of-push s.log (item.Did (next_did s.log h.core h.block op.Load value true)) core ∙ rw (eq-eqb h.core core (sym cores)) refl); does = (sym blocks, subst (λ (x : Op). IsOp x (next_did s.log h.core h.block op.Load value true)) (sym ops) refl) },
+  next_did s.log h.core h.block h.word op.Load value true,
+  record { last = ap (λ (l : List Item). last_of l core) h.logged ∙ (last_of-push s.log (item.Did (next_did s.log h.core h.block h.word op.Load value true)) core ∙ rw (eq-eqb h.core core (sym cores)) refl); does = (sym blocks, sym words, subst (λ (x : Op). IsOp x (next_did s.log h.core h.block h.word op.Load value true)) (sym ops) refl) },
   refl,
 )
   where
@@ -91,15 +92,18 @@ hit_ends s t core work value h = (
     blocks : work.block ≡ h.block
     blocks = let e = h.asked in cc
 
+    words : work.word ≡ h.word
+    words = let e = h.asked in cc
+
     ops : work.op ≡ op.Load
     ops = let e = h.asked in cc
 
-no_evict : (core block : ℕ) (asking : Op) → IsReplyTo (Ask core block asking) reply.StoreHit → asking ≢ op.Evict
-no_evict core block asking fits same = subst (λ (x : Op). IsReplyTo (Ask core block x) reply.StoreHit) same fits
+no_evict : (core block word : ℕ) (asking : Op) → IsReplyTo (Ask core block word asking) reply.StoreHit → asking ≢ op.Evict
+no_evict core block word asking fits same = subst (λ (x : Op). IsReplyTo (Ask core block word x) reply.StoreHit) same fits
 
 -- what an Ask answers, and the works after it
 pub asked_so : TurnRule → (s t : Situation) (core : ℕ) (work : Work) (answer : Reply) (given : Turn) (p q : Locked) → AreUnderWay p.works s → work_at p.works core ≡ None → core < s.shape.cores
-    → Stepped s t (Ask core work.block work.op) answer → IsReplyTo (Ask core work.block work.op) answer → ((value : ℕ) → answer ≡ reply.Hit value → IsLoadHit (Ask core work.block work.op) value s.log t.log)
+    → Stepped s t (Ask core work.block work.word work.op) answer → IsReplyTo (Ask core work.block work.word work.op) answer → ((value : ℕ) → answer ≡ reply.Hit value → IsLoadHit (Ask core work.block work.word work.op) value s.log t.log)
     → q.situation ≡ t → given ≡ turn_asked answer → q.works ≡ works_asked answer p.works core work → Asked answer core work given p q
 asked_so rule s t core work (reply.Issued request) given p q u idle inside m fits hit is e w = (e, w)
 asked_so rule s t core work reply.Gone given p q u idle inside m fits hit is e w = (e, w)
@@ -107,20 +111,20 @@ asked_so rule s t core work reply.Absent given p q u idle inside m fits hit is e
 asked_so rule s t core work (reply.Hit value) given p q u idle inside m fits hit is e w =
     (e, subst (λ (x : Situation). (did : Did) × EndsWith x core work did × (did.value ≡ value)) (sym is) (hit_ends s t core work value (hit value refl)), w)
 asked_so rule s t core work reply.StoreHit given p q u idle inside m fits hit is e w =
-    let isnt = no_evict core work.block work.op fits in
+    let isnt = no_evict core work.block work.word work.op fits in
     let ended = ended_keeps rule s t p.works core work reply.StoreHit u idle inside m (λ request x. cc) in
-    let owed = rule.owes s t (Ask core work.block work.op) reply.StoreHit m.entry m.move m.once core work.block work.op (inr (asks_its core work isnt)) in
-    let last = rule.closed_is_last t core work.block work.op work.op m.kept owed ended.0 in
+    let owed = rule.owes s t (Ask core work.block work.word work.op) reply.StoreHit m.entry m.move m.once core work.block (access_of work) (inr (asks_its core work isnt)) in
+    let last = rule.closed_is_last t core work.block work.word work.op (access_of work) m.kept owed ended.0 in
     (e, subst (λ (x : Situation). (did : Did) × EndsWith x core work did) (sym is) (ends_with t core work last), w)
 asked_so rule s t core work (reply.Ordered request) given p q u idle inside m fits hit is e w = absurd (not_ordered work.op fits)
   where
-    not_ordered : (asking : Op) → IsReplyTo (Ask core work.block asking) (reply.Ordered request) → ⊥
+    not_ordered : (asking : Op) → IsReplyTo (Ask core work.block work.word asking) (reply.Ordered request) → ⊥
     not_ordered op.Load f = f
     not_ordered (op.Store v) f = f
     not_ordered op.Evict f = f
 asked_so rule s t core work (reply.Came payload from did) given p q u idle inside m fits hit is e w = absurd (not_came work.op fits)
   where
-    not_came : (asking : Op) → IsReplyTo (Ask core work.block asking) (reply.Came payload from did) → ⊥
+    not_came : (asking : Op) → IsReplyTo (Ask core work.block work.word asking) (reply.Came payload from did) → ⊥
     not_came op.Load f = f
     not_came (op.Store v) f = f
     not_came op.Evict f = f
@@ -166,8 +170,8 @@ over_turn None (Some x) core work given p q is t = by_core (x.core == core) refl
     by_core true e = let n : ◌≡◌ {A = Option Step} (Some (Respond work.block)) None = rw e at is in cc
 
 -- a core that neither waits nor has its transaction open has no step left
-pub closed_turn : (s : Situation) (core block : ℕ) (asking : Op) → IsClosed s core block → turn_of s core block asking true ≡ None
-closed_turn s core block asking closed = by_case (waiting_request (state_of s core block)) (picture_of s block).transaction closed.waits closed.opened_by_other
+pub closed_turn : (s : Situation) (core block word : ℕ) (asking : Op) → IsClosed s core block → turn_of s core block word asking true ≡ None
+closed_turn s core block word asking closed = by_case (waiting_request (state_of s core block)) (picture_of s block).transaction closed.waits closed.opened_by_other
   where
     not_core : (n : ℕ) → n ≢ core → (n == core) ≡ false
     not_core n h = grind (arith, nat_tests)

@@ -1,9 +1,11 @@
 -- A recorded run after one more step.
-use Rattle.std.proofs.Common.{◌≡◌, ℕ, List, [], ◌∷◌, ◌++◌, Option, refl, sym, ap, ◌∙◌, subst}
+use Rattle.std.proofs.Common.{◌≡◌, ℕ, List, [], ◌∷◌, ◌++◌, Option, refl, sym, ap, ◌∙◌, subst, All}
 use Rattle.std.specs.Prelude.{option_to_list}
+use Rattle.std.proofs.lemmas.List.Elements.{All-push}
 use Rattle.snoop_trace.specs.Extent.{Extent}
+use Rattle.snoop_trace.specs.Output.{IsWithin}
 use Rattle.snoop_trace.specs.declared.step.Step.{Step}
-use Rattle.snoop_rules.specs.declared.names.Protocol.{Protocol}
+use Rattle.snoop_trace.specs.declared.protocol.Protocol.{Protocol}
 use Rattle.snoop_history.specs.declared.items.Item.{Item}
 use Rattle.snoop_model.specs.declared.replies.Reply.{Reply}
 use Rattle.snoop_model.specs.Pictures.Situation.{Situation}
@@ -23,3 +25,8 @@ run_on s t steps after step answer entry run move protocol shape is =
     let one : AllTaken s.protocol s.shape after t = subst (λ (l : List Step). AllTaken s.protocol s.shape l t) (sym is) on in
     let two : AllTaken s.protocol t.shape after t = subst (λ (e : Extent). AllTaken s.protocol e after t) (sym shape) one in
     subst (λ (p : Protocol). AllTaken p t.shape after t) (sym protocol) two
+
+-- the steps stay such as are read again when one more is
+pub readable_on : (before now : Extent) (steps after : List Step) (step : Step) → All (IsWithin before) steps → IsWithin before step → now ≡ before → after ≡ steps ++ step ∷ [] → All (IsWithin now) after
+readable_on before now steps after step all fits shape is =
+    subst (λ (e : Extent). All (IsWithin e) after) (sym shape) (subst (λ (l : List Step). All (IsWithin before) l) (sym is) (All-push (IsWithin before) steps step all fits))

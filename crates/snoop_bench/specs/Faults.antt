@@ -1,15 +1,16 @@
 -- Why a turn is refused.
 -- Source: this project's profile.
-use Rattle.std.specs.Prelude.{◌≡◌, ◌≢◌, ℕ, ◌<◌, ◌≤◌, Some}
-use Rattle.snoop_bench.specs.declared.work.Work.{Work}
+use Rattle.std.specs.Prelude.{◌⊎◌, ◌≡◌, ◌≢◌, ℕ, ◌<◌, ◌≤◌, Some}
+use Rattle.snoop_trace.specs.Words.{HasWord}
+use Rattle.snoop_trace.specs.declared.step.Work.{Work}
 use Rattle.snoop_bench.specs.declared.work.AdvanceFault.{AdvanceFault}
 use Rattle.snoop_bench.specs.declared.work.AdvanceFault.TheVariants.{NoCore, NoBlock, Other, NoMemory}
 use Rattle.snoop_bench.specs.Works.{work_at}
 use Rattle.snoop_bench.specs.Locked.{Locked}
 
--- the core and the block are within the shape
+-- the core and the block are within the shape, and so is the word that is loaded or stored
 abbrev pub IsInside : ℕ → Work → Locked → Type 0
-IsInside core work b = (core < b.situation.shape.cores) × (work.block < b.situation.shape.blocks)
+IsInside core work b = (core < b.situation.shape.cores) × (work.block < b.situation.shape.blocks) × HasWord b.situation.shape work.word work.op
 
 -- the core has another work under way
 abbrev pub HasOther : ℕ → Work → Work → Locked → Type 0
@@ -18,7 +19,7 @@ HasOther core work other b = (work_at b.works core ≡ Some other) × (other ≢
 -- when each fault is answered; out of memory only where no other fault holds
 abbrev pub RefusesTurn : AdvanceFault → ℕ → Work → Locked → Type 0
 RefusesTurn NoCore core work b = b.situation.shape.cores ≤ core
-RefusesTurn NoBlock core work b = (core < b.situation.shape.cores) × (b.situation.shape.blocks ≤ work.block)
+RefusesTurn NoBlock core work b = (core < b.situation.shape.cores) × ((b.situation.shape.blocks ≤ work.block) ⊎ (¬ HasWord b.situation.shape work.word work.op))
 RefusesTurn (Other other) core work b = IsInside core work b × HasOther core work other b
 RefusesTurn NoMemory core work b = IsInside core work b × ((other : Work) → ¬ HasOther core work other b)
 

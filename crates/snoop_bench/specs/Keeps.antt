@@ -3,13 +3,14 @@
 use Rattle.std.specs.Prelude.{◌≡◌, ◌≢◌, ℕ, List, length, Option, Some}
 use Rattle.snoop_trace.specs.declared.step.Op.{Op}
 use Rattle.snoop_trace.specs.declared.step.Op.TheVariants as op
+use Rattle.snoop_model.specs.declared.line.Access.{Access}
 use Rattle.snoop_model.specs.Pictures.Situation.{Situation}
 use Rattle.snoop_model.specs.Runs.Once.{waits_for}
 use Rattle.snoop_model.specs.Turns.Serving.{IsServing}
 use Rattle.snoop_model.specs.Runs.Owed.{IsOwed}
-use Rattle.snoop_bench.specs.declared.work.Work.{Work}
+use Rattle.snoop_trace.specs.declared.step.Work.{Work}
 use Rattle.snoop_bench.specs.declared.bench.Bench.TheInside.{Inside}
-use Rattle.snoop_bench.specs.Works.{work_at, under_way}
+use Rattle.snoop_bench.specs.Works.{access_of, work_at, under_way}
 use Rattle.snoop_bench.specs.Locked.{Locked}
 
 -- a bench as callers see it
@@ -22,9 +23,9 @@ pub record AreUnderWay (works : List (Option Work)) (s : Situation) : Type 0 whe
   -- a core waits, and has a transaction open, on no block but that of its work under way
   pub serving : IsServing (under_way works) s
   -- an operation that waits is that of the core's work under way
-  pub waiting : (core block : ℕ) (wanted : Op) → waits_for s core block wanted ≡ 1 → work_at works core ≡ Some (record { block = block; op = wanted })
+  pub waiting : (core block : ℕ) (wanted : Access) → waits_for s core block wanted ≡ 1 → work_at works core ≡ Some (record { block = block; word = wanted.word; op = wanted.op })
   -- the load or store of a work under way waits, or is the core's last operation
-  pub owed : (core : ℕ) (work : Work) → work_at works core ≡ Some work → work.op ≢ op.Evict → IsOwed s core work.block work.op
+  pub owed : (core : ℕ) (work : Work) → work_at works core ≡ Some work → work.op ≢ op.Evict → IsOwed s core work.block (access_of work)
 
 -- what every bench keeps
 abbrev pub Keeps : Inside → Type 0

@@ -1,19 +1,20 @@
 -- What lies under the lock, and what always holds of it.
 -- Source: this project's profile.
-use Rattle.std.specs.Prelude.{◌≡◌, ◌≢◌, ℕ, List, [], length, replicate, Option, Some, None}
+use Rattle.std.specs.Prelude.{◌≡◌, ◌≢◌, ℕ, List, [], length, replicate, All, Option, Some, None}
 use Rattle.snoop_trace.specs.Extent.{Extent}
+use Rattle.snoop_trace.specs.Output.{IsWithin}
 use Rattle.snoop_trace.specs.declared.step.Op.TheVariants as op
 use Rattle.snoop_trace.specs.declared.step.Step.{Step}
-use Rattle.snoop_rules.specs.declared.names.Protocol.{Protocol}
+use Rattle.snoop_trace.specs.declared.protocol.Protocol.{Protocol}
 use Rattle.snoop_rules.specs.declared.names.Request.{Request}
-use Rattle.snoop_bus.specs.declared.transactions.Open.{Open}
+use Rattle.snoop_bus.specs.Traffic.{Open}
 use Rattle.snoop_history.specs.declared.items.Did.{Did}
 use Rattle.snoop_history.specs.declared.items.Item.{Item}
 use Rattle.snoop_history.specs.History.{last_of}
 use Rattle.snoop_model.specs.Pictures.Situation.{Situation, reset, picture_of, Waits}
 use Rattle.snoop_model.specs.Runs.Run.{AllTaken}
 use Rattle.snoop_model.specs.Turns.Serving.{IsServing}
-use Rattle.snoop_bench.specs.declared.work.Work.{Work}
+use Rattle.snoop_trace.specs.declared.step.Work.{Work}
 use Rattle.snoop_bench.specs.Recording.{Recording}
 use Rattle.snoop_bench.specs.Works.{work_at, under_way, Does}
 
@@ -46,6 +47,8 @@ record_of b = record { situation = b.situation; steps = b.steps; published = b.p
 pub record IsKept (b : Locked) : Type 0 where
   -- the situation, with its log, is that of the run of the stored steps from reset, all taken
   pub run : AllTaken b.situation.protocol b.situation.shape b.steps b.situation
+  -- each step is one that is read again from its text
+  pub readable : All (IsWithin b.situation.shape) b.steps
   -- each core has a place for its work
   pub places : length b.works ≡ b.situation.shape.cores
   -- a core waits, and has a transaction open, on no block but that of its work under way

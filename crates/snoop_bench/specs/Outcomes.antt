@@ -6,7 +6,7 @@ use Rattle.snoop_trace.specs.declared.step.Op.TheVariants as op
 use Rattle.snoop_history.specs.declared.items.Did.{Did}
 use Rattle.snoop_model.specs.declared.replies.Reply.{Reply}
 use Rattle.snoop_model.specs.declared.replies.Reply.TheVariants as reply
-use Rattle.snoop_bench.specs.declared.work.Work.{Work}
+use Rattle.snoop_trace.specs.declared.step.Work.{Work}
 use Rattle.snoop_bench.specs.declared.work.Evicted.TheVariants as evicted
 use Rattle.snoop_bench.specs.declared.work.Turn.{Turn}
 use Rattle.snoop_bench.specs.declared.work.Turn.TheVariants as turn

@@ -1,6 +1,7 @@
 -- A machine whose steps are recorded, and whose items are published as they come.
 -- Source: this project's profile.
-use Rattle.std.specs.Prelude.{◌≡◌, List, [], ◌∷◌, ◌++◌, Option, option_to_list}
+use Rattle.std.specs.Prelude.{◌≡◌, List, [], ◌∷◌, ◌++◌, All, Option, option_to_list}
+use Rattle.snoop_trace.specs.Output.{IsWithin}
 use Rattle.snoop_trace.specs.declared.step.Step.{Step}
 use Rattle.snoop_history.specs.declared.items.Item.{Item}
 use Rattle.snoop_model.specs.declared.replies.Reply.{Reply}
@@ -22,6 +23,8 @@ recording r = record { situation = r.machine.situation; steps = r.steps.items; p
 -- the situation is that of the run of the recorded steps from reset, all taken, and its log is published
 pub record IsRecorded (r : Recording) : Type 0 where
   pub run : AllTaken r.situation.protocol r.situation.shape r.steps r.situation
+  -- each step is one that is read again from its text
+  pub readable : All (IsWithin r.situation.shape) r.steps
   pub published : r.published ≡ r.situation.log
 
 -- what every recorder keeps: nothing is left to publish, and the versions are of the machine's shape
@@ -30,6 +33,7 @@ pub record Records (r : Inside) : Type 0 where
   pub ready : r.writer.ready ≡ []
   pub cores : r.writer.cores ≡ r.machine.situation.shape.cores
   pub blocks : r.writer.blocks ≡ r.machine.situation.shape.blocks
+  pub words : r.writer.words ≡ r.machine.situation.shape.words
 
 -- one step is taken: it is a move, stands last among the steps, and its item is published
 pub record Takes (step : Step) (answer : Reply) (p q : Recording) : Type 0 where

@@ -7,12 +7,12 @@ use Rattle.snoop_trace.specs.declared.step.Step.{Step}
 use Rattle.snoop_trace.specs.declared.step.Step.TheVariants.{Ask, Order, Respond}
 use Rattle.snoop_rules.specs.declared.names.Request.{Request}
 use Rattle.snoop_rules.specs.Waits.{waiting_request}
-use Rattle.snoop_bus.specs.declared.transactions.Open.{Open}
+use Rattle.snoop_bus.specs.Traffic.{Open}
 use Rattle.snoop_history.specs.declared.items.Did.{Did}
 use Rattle.snoop_model.specs.declared.replies.Reply.{Reply}
 use Rattle.snoop_model.specs.declared.replies.Reply.TheVariants as reply
 use Rattle.snoop_model.specs.Pictures.Situation.{Situation, picture_of, state_of}
-use Rattle.snoop_bench.specs.declared.work.Work.{Work}
+use Rattle.snoop_trace.specs.declared.step.Work.{Work}
 use Rattle.snoop_bench.specs.declared.work.Evicted.{Evicted}
 use Rattle.snoop_bench.specs.declared.work.Evicted.TheVariants as evicted
 use Rattle.snoop_bench.specs.declared.work.Turn.{Turn}
@@ -69,7 +69,7 @@ Asked _ core work given p q = ⊥
 
 -- a turn in its case
 abbrev pub TurnsIn : Case → ℕ → Work → Turn → Locked → Locked → Type 0
-TurnsIn asks core work given p q = (answer : Reply) × (Takes (Ask core work.block work.op) answer (record_of p) (record_of q) × Asked answer core work given p q)
+TurnsIn asks core work given p q = (answer : Reply) × (Takes (Ask core work.block work.word work.op) answer (record_of p) (record_of q) × Asked answer core work given p q)
 TurnsIn orders core work given p q = (answer : Reply) × (Takes (Order core) answer (record_of p) (record_of q) × ((given ≡ turn.Going) × (q.works ≡ p.works)))
 TurnsIn helps core work given p q = (answer : Reply) × (Takes (Respond work.block) answer (record_of p) (record_of q) × ((given ≡ turn.Going) × (q.works ≡ p.works)))
 TurnsIn ends core work given p q = (answer : Reply) × (Takes (Respond work.block) answer (record_of p) (record_of q) × (Finishes q.situation core work work.op given × (q.works ≡ slice_set p.works core None)))

@@ -1,12 +1,15 @@
 //! The value under the lock.
-ghost use Rattle.std.specs.Prelude.{◌≡◌, ◌≢◌, ◌<◌, ◌^◌, true, false, is_some, length, IsOk, IfOk, IfErr, OnOk, OnErr, Err, Some, None, slice_set};
+ghost use Rattle.std.specs.Prelude.{◌≡◌, ◌≢◌, ◌<◌, ◌^◌, ◌↔◌, IsTrue, true, false, is_some, length, IsOk, IfOk, IfErr, OnOk, OnErr, Err, Some, None, slice_set};
+ghost use Rattle.snoop_trace.specs.Words.{HasWord};
+ghost use Rattle.snoop_trace.specs.Output.{IsWithin};
+ghost use Rattle.snoop_trace.specs.declared.step.Step.TheVariants.{Ask};
 ghost use Rattle.snoop_rules.specs.Waits.{waiting_request};
 ghost use Rattle.snoop_model.specs.declared.replies.Reply.{Reply};
 ghost use Rattle.snoop_model.specs.Pictures.Situation.{state_of};
 ghost use Rattle.snoop_model.specs.Runs.Safe.{IsSafe};
 ghost use Rattle.snoop_model.specs.Turns.Turn.{turn_of};
 ghost use Rattle.snoop_bench.specs.declared.work.AdvanceFault.{AdvanceFault};
-ghost use Rattle.snoop_bench.specs.Works.{work_at};
+ghost use Rattle.snoop_bench.specs.Works.{as_asked, work_at};
 ghost use Rattle.snoop_bench.specs.Locked.{opened, record_of, IsKept};
 ghost use Rattle.snoop_bench.specs.Turns.{Turns, TurnsIn};
 ghost use Rattle.snoop_bench.specs.Turns.Case.{asks, ends, over};
@@ -15,11 +18,11 @@ ghost use Rattle.snoop_bench.specs.Faults.{IsInside, RefusesTurn, MustRefuse};
 
 use crate::outcome::{asked, note, over, set_work};
 use crate::recorder::Recorder;
-use crate::work::{AdvanceFault, Turn, Work};
+use crate::work::{AdvanceFault, Turn, as_asked};
 use snoop_history::Log;
 use snoop_machine::turns_are_served;
 use snoop_rules::Protocol;
-use snoop_trace::{NoMemory, Shape, Step};
+use snoop_trace::{NoMemory, Op, Shape, Step, Work};
 use snoop_versions::Readers;
 use std::alloc::Global;
 use std::marker::Model;
@@ -98,7 +101,7 @@ impl Bench {
     /// The history of all that was performed, ordered and answered.
     pub fn log(&self) -> &Log
         ensures items { result.now.items ≡ self.now.situation.log }
-        ensures shape { (result.now.cores ≡ self.now.situation.shape.cores) × (result.now.blocks ≡ self.now.situation.shape.blocks) }
+        ensures shape { (result.now.cores ≡ self.now.situation.shape.cores) × (result.now.blocks ≡ self.now.situation.shape.blocks) × (result.now.words ≡ self.now.situation.shape.words) }
     {
         self.recorder.machine().log()
     }
@@ -119,23 +122,24 @@ impl Bench {
 
     /// One turn of the core with a work: at most one step, whose item is published before this returns.
     ///
-    /// With no work under way the core asks for it. If its request waits, the request is ordered where the block is free; otherwise
+    /// An eviction's word is not looked at: it is asked, and is under way, as 0. With no work under way the core asks for it. If its request waits, the request is ordered where the block is free; otherwise
     /// the block's open transaction gets its response. If the open transaction is its own, or another core's turn closed it, the
     /// work is over. A fault changes nothing. `Other` where the core has another work under way; `NoMemory` where a growth was
     /// refused.
     pub fn advance<R: Wait>(&mut self, rt: &R, core: u32, work: Work) -> Result<Turn, AdvanceFault>
-        ensures ok { IfOk result (λ given. Turns core work given self.old self.new) }
-        ensures err { IfErr result (λ fault. RefusesTurn fault core work self.old × (self.new ≡ self.old)) }
-        ensures exactly { (fault : AdvanceFault) → MustRefuse fault core work self.old → result ≡ Err fault }
+        ensures ok { IfOk result (λ given. Turns core (as_asked work) given self.old self.new) }
+        ensures err { IfErr result (λ fault. RefusesTurn fault core (as_asked work) self.old × (self.new ≡ self.old)) }
+        ensures exactly { (fault : AdvanceFault) → MustRefuse fault core (as_asked work) self.old → result ≡ Err fault }
 
         // A turn that takes no step takes no memory.
-        ensures closed { IsInside core work self.old → work_at self.old.works core ≡ Some work → turn_of self.old.situation core work.block work.op true ≡ None → IsOk result }
+        ensures closed { IsInside core work self.old → work_at self.old.works core ≡ Some (as_asked work) → turn_of self.old.situation core work.block work.word work.op true ≡ None → IsOk result }
     {
+        let work = as_asked(work);
         let shape = self.shape();
         if core >= shape.cores() {
             return Err(AdvanceFault::NoCore);
         }
-        if work.block >= shape.blocks() {
+        if work.block >= shape.blocks() || !shape.has_word(work.word, work.op) {
             return Err(AdvanceFault::NoBlock);
         }
         let Some(under_way) = self.work(core) else {
@@ -156,6 +160,7 @@ impl Bench {
     // The core, which has no work under way, asks.
     fn begin<R: Wait>(&mut self, rt: &R, core: u32, work: Work) -> Result<Turn, NoMemory>
         requires inside { IsInside core work self.old }
+        requires within { IsWithin self.old.situation.shape (Ask core work.block work.word work.op) }
         requires idle { work_at self.old.works core ≡ None }
         ensures ok { IfOk result (λ given. TurnsIn asks core work given self.old self.new) }
         ensures err { OnErr result (self.new ≡ self.old) }
@@ -165,6 +170,7 @@ impl Bench {
         let step = Step::Ask {
             core,
             block: work.block,
+            word: work.word,
             op: work.op,
         };
         let reply = self.recorder.take(rt, step)?;
@@ -179,10 +185,10 @@ impl Bench {
         requires its { work_at self.old.works core ≡ Some work }
         ensures ok { IfOk result (λ given. Turns core work given self.old self.new) }
         ensures err { OnErr result (self.new ≡ self.old) }
-        ensures closed { turn_of self.old.situation core work.block work.op true ≡ None → IsOk result }
+        ensures closed { turn_of self.old.situation core work.block work.word work.op true ≡ None → IsOk result }
     {
         let machine = self.recorder.machine();
-        let Some(step) = machine.turn_step(core, work.block, work.op, true) else {
+        let Some(step) = machine.turn_step(core, work.block, work.word, work.op, true) else {
             return Ok(self.close(core, work));
         };
         if machine.waits_on(core, work.block) {
@@ -197,7 +203,7 @@ impl Bench {
     fn serve<R: Wait>(&mut self, rt: &R, core: u32, work: Work, step: Step) -> Result<(), NoMemory>
         requires inside { IsInside core work self.old }
         requires its { work_at self.old.works core ≡ Some work }
-        requires step { turn_of self.old.situation core work.block work.op true ≡ Some step }
+        requires step { turn_of self.old.situation core work.block work.word work.op true ≡ Some step }
         requires waits { is_some (waiting_request (state_of self.old.situation core work.block)) ≡ true }
         ensures ok { OnOk result ((answer : Reply) × (Takes step answer (record_of self.old) (record_of self.new) × (self.new.works ≡ self.old.works))) }
         ensures err { OnErr result (self.new ≡ self.old) }
@@ -219,7 +225,7 @@ impl Bench {
     ) -> Result<Turn, NoMemory>
         requires inside { IsInside core work self.old }
         requires its { work_at self.old.works core ≡ Some work }
-        requires step { turn_of self.old.situation core work.block work.op true ≡ Some step }
+        requires step { turn_of self.old.situation core work.block work.word work.op true ≡ Some step }
         requires waits { is_some (waiting_request (state_of self.old.situation core work.block)) ≡ false }
         ensures ok { IfOk result (λ given. TurnsIn ends core work given self.old self.new) }
         ensures err { OnErr result (self.new ≡ self.old) }
@@ -237,7 +243,7 @@ impl Bench {
     fn close(&mut self, core: u32, work: Work) -> Turn
         requires inside { IsInside core work self.old }
         requires its { work_at self.old.works core ≡ Some work }
-        requires closed { turn_of self.old.situation core work.block work.op true ≡ None }
+        requires closed { turn_of self.old.situation core work.block work.word work.op true ≡ None }
         ensures { TurnsIn over core work result self.old self.new }
     {
         turns_are_served();

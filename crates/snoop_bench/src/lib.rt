@@ -7,4 +7,5 @@ mod recorder;
 mod work;
 
 pub use bench::Bench;
-pub use work::{AdvanceFault, Evicted, Turn, Work};
+pub use snoop_trace::Work;
+pub use work::{AdvanceFault, Evicted, Turn};

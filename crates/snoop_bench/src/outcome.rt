@@ -2,10 +2,10 @@
 ghost use Rattle.std.specs.Prelude.{◌≡◌, slice_set};
 ghost use Rattle.snoop_bench.specs.Outcomes.{works_asked, turn_asked, turn_over};
 
-use crate::work::{Evicted, Turn, Work};
+use crate::work::{Evicted, Turn};
 use snoop_history::Did;
 use snoop_machine::Reply;
-use snoop_trace::Op;
+use snoop_trace::{Op, Work};
 
 /// Puts the core's work in its place, or empties the place.
 pub(crate) fn set_work(works: &mut Vec<Option<Work>>, core: u32, work: Option<Work>)

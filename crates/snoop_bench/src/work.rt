@@ -1,13 +1,9 @@
 //! A core's work, and how a turn of it ends.
-use snoop_trace::Op;
-use thiserror::Error;
+ghost use Rattle.std.specs.Prelude.{◌≡◌};
+ghost use Rattle.snoop_bench.specs.Works.{as_asked, StoresNumber};
 
-/// What a core is to do: a load, a store or an eviction of a block.
-#[derive(Clone, Copy, Debug, PartialEq, Eq)]
-pub struct Work {
-    pub block: u32,
-    pub op: Op,
-}
+use snoop_trace::{Op, Work};
+use thiserror::Error;
 
 /// How an eviction ended.
 #[derive(Clone, Copy, Debug, PartialEq, Eq)]
@@ -39,7 +35,7 @@ pub enum AdvanceFault {
     /// The core is outside the shape.
     #[error("NoCore")]
     NoCore,
-    /// The block is outside the shape.
+    /// The block is outside the shape, or the word of a load or a store is.
     #[error("NoBlock")]
     NoBlock,
     /// The core has this other work under way.
@@ -48,4 +44,16 @@ pub enum AdvanceFault {
     /// Out of memory.
     #[error("NoMemory")]
     NoMemory,
+}
+
+/// The work as it is asked: an eviction is of no word, and its word is 0.
+pub(crate) fn as_asked(work: Work) -> Work
+    ensures is { result ≡ as_asked work }
+    ensures number { StoresNumber result.op }
+{
+    let word = match work.op {
+        Op::Load | Op::Store(_) => work.word,
+        Op::Evict => 0,
+    };
+    Work { word, ..work }
 }

@@ -1,37 +1,37 @@
 //! The bus of a machine.
 ghost use Rattle.std.specs.Prelude.{◌≡◌, ◌-◌, ◌<◌, ◌≤◌, ◌↔◌, [], ◌∷◌, ◌++◌, length, replicate, All, IsTrue, IsNone, IsSome, IfOk, OnOk, OnErr, IfSome, None, slice_set};
-ghost use Rattle.snoop_bus.specs.Traffic.{Traffic, Waiting, waiting_of, head_of, transaction_on, Starts};
+ghost use Rattle.snoop_bus.specs.Traffic.{Waiting, waiting_of, head_of, transaction_on, Starts};
 
 use crate::queues::Queue;
 use crate::transactions::Open;
 use snoop_blocks::BlockTable;
 use snoop_rules::{Payload, Request};
-use snoop_trace::{NoMemory, Shape};
+use snoop_trace::{NoMemory, Shape, Words};
 use std::alloc::Global;
 use std::marker::Model;
 
-/// The requests that wait, by core in order of issue, and the open transactions, by block.
+/// The requests that wait, by core in order of issue, and the open transactions, by block. `K` is what a message carries of a block.
 ///
 /// Memory is asked for in `new` and `reserve` alone. Outside the shape a core has no request and no
 /// room, and a block no transaction.
 #[derive(Debug, Drop)]
-pub struct Bus {
+pub struct Bus<K = Words> {
     queues: Vec<Queue>,
-    transactions: BlockTable<Option<Open>>,
+    transactions: BlockTable<Option<Open<K>>>,
 }
 
-impl Model for Bus {
+impl<K> Model for Bus<K> {
     ghost use Rattle.std.specs.Prelude.{length};
-    ghost use Rattle.snoop_bus.specs.Traffic.{Traffic, AreBlocksWithin};
+    ghost use Rattle.snoop_bus.specs.Traffic.{TrafficOf, AreBlocksWithin};
 
-    ghost Value = { Traffic };
+    ghost Value = { TrafficOf K };
 
     ghost view = { λ b. record { queues = b.queues.items; transactions = b.transactions } };
 
     ghost invariant = { λ b. AreBlocksWithin b.queues.items (length b.transactions) };
 }
 
-impl Bus {
+impl<K: Copy> Bus<K> {
     /// A bus with no request and no transaction.
     pub fn new(alloc: Global, shape: Shape) -> Result<Self, NoMemory>
         ensures queues { IfOk result (λ bus. (length bus.queues ≡ shape.cores) × All (λ queue. queue.requests ≡ []) bus.queues) }
@@ -96,7 +96,7 @@ impl Bus {
     }
 
     /// The transaction that is open on the block.
-    pub fn open(&self, block: u32) -> Option<Open>
+    pub fn open(&self, block: u32) -> Option<Open<K>>
         ensures { result ≡ transaction_on self.now block }
     {
         self.transactions.get_or(block, None)
@@ -104,7 +104,7 @@ impl Bus {
 
     /// Orders the core's oldest request: it leaves the queue, and its transaction opens with the
     /// message that the core `from`, or memory, sends.
-    pub fn start(&mut self, core: u32, payload: Payload, value: u64, from: Option<u32>)
+    pub fn start(&mut self, core: u32, payload: Payload, value: K, from: Option<u32>)
         requires core { core < length self.old.queues }
         requires head { IsSome (head_of self.old core) }
         requires free { IfSome (head_of self.old core) (λ head. transaction_on self.old head.1 ≡ None) }
@@ -124,7 +124,7 @@ impl Bus {
     }
 
     /// Closes the block's transaction and hands it out; where none is open, nothing changes.
-    pub fn finish(&mut self, block: u32) -> Option<Open>
+    pub fn finish(&mut self, block: u32) -> Option<Open<K>>
         ensures closed { result ≡ transaction_on self.old block }
         ensures after { self.new ≡ record self.old { transactions = slice_set self.old.transactions block None } }
         ensures unchanged { IsNone result → self.new ≡ self.old }

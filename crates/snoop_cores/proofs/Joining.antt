@@ -9,7 +9,7 @@ use Rattle.std.proofs.Math.Seq.{take-append_seam}
 use Rattle.snoop_history.specs.declared.items.Did.{Did}
 use Rattle.snoop_history.specs.declared.items.Item.{Item}
 use Rattle.snoop_history.specs.History.{answers_of}
-use Rattle.snoop_bench.specs.declared.work.Work.{Work}
+use Rattle.snoop_trace.specs.declared.step.Work.{Work}
 use Rattle.snoop_cores.specs.Seats.{Seating}
 use Rattle.snoop_cores.specs.Joined.{IsFirst, IsFirstOutside, IsNotAllSeats, OneForEach}
 use Rattle.snoop_cores.proofs.Beginnings.{answers_of-append}
@@ -109,7 +109,7 @@ apart a b p q = omega (arith, p, q)
 
 -- a seat that stands where none does
 abbrev pub no_seat : Seating
-no_seat = record { core = 0; shape = record { cores = 0; blocks = 0; block_bytes = 0 }; seen = []; answers = []; pending = None; strange = None; stop = None }
+no_seat = record { core = 0; shape = record { cores = 0; blocks = 0; block_bytes = 0; words = 0 }; seen = []; answers = []; pending = None; strange = None; stop = None }
 
 -- two first strange cores are one
 strange_one : (cores : ℕ) (seats : List Seating) (a b : ℕ) → IsFirstOutside cores seats a → IsFirstOutside cores seats b → a ≡ b

@@ -5,20 +5,20 @@ use Rattle.std.specs.Option.{option_map_or}
 use Rattle.std.proofs.lemmas.Bool.{cases_order}
 use Rattle.std.proofs.lemmas.Option.{slice_get_past}
 use Rattle.snoop_trace.specs.Extent.{Extent}
-use Rattle.snoop_trace.specs.declared.step.Op.{Op}
 use Rattle.snoop_trace.specs.declared.step.Step.{Step}
-use Rattle.snoop_rules.specs.declared.names.Protocol.{Protocol}
+use Rattle.snoop_trace.specs.declared.protocol.Protocol.{Protocol}
 use Rattle.snoop_bus.specs.Queues.{queue_of}
 use Rattle.snoop_history.specs.declared.items.Item.{Item}
 use Rattle.snoop_history.specs.History.{answers_of}
+use Rattle.snoop_model.specs.declared.line.Access.{Access}
 use Rattle.snoop_model.specs.Pictures.Situation.{Situation}
 use Rattle.snoop_model.specs.Runs.Safe.{IsSafe}
 use Rattle.snoop_model.specs.Turns.Serving.{IsServing}
 use Rattle.snoop_model.specs.Turns.Quiet.{IsQuiet}
 use Rattle.snoop_model.specs.Turns.TurnRule.{ComesToRest}
-use Rattle.snoop_model.specs.Runs.Once.{asks, did_it, waits_for, same_op, one_if, tally}
+use Rattle.snoop_model.specs.Runs.Once.{asks, did_it, waits_for, same_access, one_if, tally}
 use Rattle.snoop_model.specs.Runs.Run.{AllTaken}
-use Rattle.snoop_bench.specs.declared.work.Work.{Work}
+use Rattle.snoop_trace.specs.declared.step.Work.{Work}
 use Rattle.snoop_bench.specs.Works.{work_at, under_way}
 use Rattle.snoop_bench.specs.Locked.{Locked, IsKept}
 use Rattle.snoop_cores.specs.Seats.{Seating}
@@ -47,14 +47,14 @@ serves_nothing works s none serving = record {
     never core block is = sym (ap (λ (o : Option Work). option_map (λ work. work.block) o) (none core)) ∙ is
 
 -- at rest no operation waits, so those asked are those performed
-asked_once : (s : Situation) (steps : List Step) → IsQuiet s → ((core block : ℕ) (wanted : Op) → tally s core block wanted ≡ count_by (asks core block wanted) steps)
-    → (core block : ℕ) (wanted : Op) → count_by (did_it block wanted) (answers_of s.log core) ≡ count_by (asks core block wanted) steps
+asked_once : (s : Situation) (steps : List Step) → IsQuiet s → ((core block : ℕ) (wanted : Access) → tally s core block wanted ≡ count_by (asks core block wanted) steps)
+    → (core block : ℕ) (wanted : Access) → count_by (did_it block wanted) (answers_of s.log core) ≡ count_by (asks core block wanted) steps
 asked_once s steps quiet tallied core block wanted =
-    let none : waits_for s core block wanted ≡ 0 = ap (λ (o : Option Op). option_map_or (λ asking. one_if (same_op wanted asking)) o 0) (quiet.performed core block) in
+    let none : waits_for s core block wanted ≡ 0 = ap (λ (o : Option Access). option_map_or (λ access. one_if (same_access wanted access)) o 0) (quiet.performed core block) in
     let t = tallied core block wanted in omega (arith, none, t)
 
 pub joins : (b : Locked) (seats : List Seating) (items : List Item) (steps : List Step) → IsKept b → IsSafe b.situation → ComesToRest
-    → ((protocol : Protocol) (shape : Extent) (taken : List Step) (s : Situation) → AllTaken protocol shape taken s → (core block : ℕ) (wanted : Op) → tally s core block wanted ≡ count_by (asks core block wanted) taken)
+    → ((protocol : Protocol) (shape : Extent) (taken : List Step) (s : Situation) → AllTaken protocol shape taken s → (core block : ℕ) (wanted : Access) → tally s core block wanted ≡ count_by (asks core block wanted) taken)
     → OneForEach b.situation.shape.cores seats → ((core : ℕ) → core < b.situation.shape.cores → IsFree b seats core)
     → ((core : ℕ) → core < b.situation.shape.cores → IsAnswered b.situation.log seats core)
     → items ≡ b.situation.log → steps ≡ b.steps → IsJoined b.situation.protocol b.situation.shape seats items steps
@@ -64,9 +64,10 @@ joins b seats items steps kept safe rests tallied one_each free answered items_a
     (record {
       at = b.situation;
       taken = kept.run;
+      readable = kept.readable;
       log_is = refl;
       joins = record {
-        legal = safe.legal;
+        legal = safe.coherent.legal;
         answered = λ k d lt. answered (slice_index_or seats k d).core (one_each.known k d lt) k d lt refl;
       };
       quiet = quiet;

@@ -4,7 +4,7 @@ use Rattle.std.proofs.lemmas.Bool.Decides.{nat_tests}
 use Rattle.snoop_history.specs.declared.items.Did.{Did}
 use Rattle.snoop_history.specs.History.{answers_of, next_number, last_of}
 use Rattle.snoop_history.specs.Totals.{capped}
-use Rattle.snoop_bench.specs.declared.work.Work.{Work}
+use Rattle.snoop_trace.specs.declared.step.Work.{Work}
 use Rattle.snoop_bench.specs.Works.{Does}
 use Rattle.snoop_versions.specs.Readings.{Viewing, Enters}
 use Rattle.snoop_cores.specs.declared.own.Own.{Own}

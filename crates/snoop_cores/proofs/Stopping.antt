@@ -1,8 +1,7 @@
 -- A seat that notes where its rows stopped has done no more.
 use Rattle.std.proofs.Common.{ℕ, List, [], ◌∷◌, take, Option, Some, None, inl, inr, ap}
-use Rattle.snoop_trace.specs.declared.step.Op.{Op}
 use Rattle.snoop_trace.specs.declared.step.Row.{Row}
-use Rattle.snoop_bench.specs.declared.work.Work.{Work}
+use Rattle.snoop_trace.specs.declared.step.Work.{Work}
 use Rattle.snoop_cores.specs.declared.fault.SeatFault.{SeatFault}
 use Rattle.snoop_cores.specs.declared.fault.SeatFault.TheVariants.{NoBlock, NoMemory, Busy, Stranger}
 use Rattle.snoop_cores.specs.declared.stop.Stop.{Stop}
@@ -10,7 +9,7 @@ use Rattle.snoop_cores.specs.declared.stop.Stop.TheVariants.{Late, Fault}
 use Rattle.snoop_cores.specs.Seats.{Seating}
 use Rattle.snoop_cores.specs.Calls.{Stays, Keeps, MayBegin, Fails}
 use Rattle.snoop_cores.proofs.Performed.{settled_noted}
-use Rattle.snoop_cores.specs.Rows.{Leaves, Grows, FailsOn, RanTo, rows_of}
+use Rattle.snoop_cores.specs.Rows.{Leaves, Grows, FailsOn, RanTo, rows_of, work_on}
 
 -- the seat, with another note
 abbrev noted : Option Stop → Seating → Seating
@@ -39,9 +38,9 @@ fails_noted stop (Busy other) work s t h = (h.0, h.1, h.2, ap (noted stop) h.3)
 fails_noted stop (Stranger did) work s t (inl h) = inl (h.0, ap (noted stop) h.1)
 fails_noted stop (Stranger did) work s t (inr h) = inr (begins_noted stop work s h.0, keeps_noted stop s t h.1, h.2, h.3)
 
-fails_on_noted : (stop : Option Stop) (block : Option ℕ) (fault : SeatFault) (wanted : Op) (s t : Seating) → FailsOn block fault wanted s t → FailsOn block fault wanted (noted stop s) (noted stop t)
-fails_on_noted stop None fault wanted s t h = (h.0, ap (noted stop) h.1)
-fails_on_noted stop (Some block) fault wanted s t h = fails_noted stop fault (record { block = block; op = wanted }) s t h
+fails_on_noted : (stop : Option Stop) (block : Option ℕ) (fault : SeatFault) (row : Row) (s t : Seating) → FailsOn block fault row s t → FailsOn block fault row (noted stop s) (noted stop t)
+fails_on_noted stop None fault row s t h = (h.0, ap (noted stop) h.1)
+fails_on_noted stop (Some block) fault row s t h = fails_noted stop fault (work_on s.shape block row) s t h
 
 pub ran_noted : (note stop : Option Stop) (rows : List Row) (s t : Seating) → RanTo stop rows s t → RanTo stop rows s (noted note t)
 ran_noted note None rows s t h = grows_noted note (rows_of s.core rows) s t h
@@ -51,5 +50,5 @@ ran_noted note (Some (Fault number fault)) rows s t h = record {
   there = h.there;
   between = noted note h.between;
   grown = grows_noted note (take number (rows_of s.core rows)) s h.between h.grown;
-  fails = fails_on_noted note (Rattle.snoop_trace.specs.Grammar.block_at h.between.shape h.row.address) fault h.row.op h.between t h.fails;
+  fails = fails_on_noted note (Rattle.snoop_trace.specs.Grammar.block_at h.between.shape h.row.address) fault h.row h.between t h.fails;
 }

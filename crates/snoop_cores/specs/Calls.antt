@@ -1,14 +1,22 @@
 -- What a call of a seat leaves: after it is over, and after each fault.
 -- Source: this project's profile.
-use Rattle.std.specs.Prelude.{◌≡◌, ◌≢◌, ◌⊎◌, ◌<◌, ◌≤◌, List, [], ◌∷◌, ◌++◌, map, Some, None}
+use Rattle.std.specs.Prelude.{◌≡◌, ◌≢◌, ◌⊎◌, ◌<◌, ℕ, ⊤, List, [], ◌∷◌, ◌++◌, map, Some, None}
+use Rattle.snoop_trace.specs.Words.{HasWord}
+use Rattle.snoop_trace.specs.Extent.{Extent}
+use Rattle.snoop_trace.specs.declared.step.Op.{Op}
+use Rattle.snoop_trace.specs.declared.step.Op.TheVariants as op
 use Rattle.snoop_history.specs.declared.items.Did.{Did}
 use Rattle.snoop_history.specs.History.{Legal, answers_of, last_or}
-use Rattle.snoop_bench.specs.declared.work.Work.{Work}
+use Rattle.snoop_trace.specs.declared.step.Work.{Work}
 use Rattle.snoop_bench.specs.Works.{Does}
 use Rattle.snoop_versions.specs.Readings.{StartsWith}
 use Rattle.snoop_cores.specs.declared.fault.SeatFault.{SeatFault}
 use Rattle.snoop_cores.specs.declared.fault.SeatFault.TheVariants.{NoBlock, NoMemory, Busy, Stranger}
 use Rattle.snoop_cores.specs.Seats.{Seating}
+
+-- the shape has the work's block and its word
+abbrev pub IsHere : Extent → Work → Type 0
+IsHere shape work = (work.block < shape.blocks) × HasWord shape work.word work.op
 
 -- it is the same seat, and what it has seen begins with what it had seen
 pub record Stays (s t : Seating) : Type 0 where
@@ -48,13 +56,13 @@ pub record IsStranger (did : Did) (work : Work) (dids answers : List Did) : Type
 
 -- when each fault comes, and what it leaves
 abbrev pub Fails : SeatFault → Work → Seating → Seating → Type 0
-Fails NoBlock work s t = (s.shape.blocks ≤ work.block) × (t ≡ s)
+Fails NoBlock work s t = (¬ IsHere s.shape work) × (t ≡ s)
 Fails (Busy other) work s t = (s.strange ≡ None) × (s.pending ≡ Some other) × (other ≢ work) × (t ≡ s)
 Fails NoMemory work s t = MayBegin work s × Keeps s t × (t.pending ≡ Some work) × (t.strange ≡ None) × (t.seen ≡ s.seen)
 Fails (Stranger did) work s t = ((s.strange ≡ Some did) × (t ≡ s)) ⊎ (MayBegin work s × Keeps s t × (t.strange ≡ Some did) × IsStranger did work (answers_of t.seen s.core) s.answers)
 
 -- the fault that is answered before any turn
 pub record RefusedAtOnce (work : Work) (s : Seating) (answered : SeatFault → Type 0) : Type 0 where
-  pub outside : s.shape.blocks ≤ work.block → answered NoBlock
-  pub stranger : (did : Did) → work.block < s.shape.blocks → s.strange ≡ Some did → answered (Stranger did)
-  pub busy : (other : Work) → work.block < s.shape.blocks → s.strange ≡ None → s.pending ≡ Some other → other ≢ work → answered (Busy other)
+  pub outside : ¬ IsHere s.shape work → answered NoBlock
+  pub stranger : (did : Did) → IsHere s.shape work → s.strange ≡ Some did → answered (Stranger did)
+  pub busy : (other : Work) → IsHere s.shape work → s.strange ≡ None → s.pending ≡ Some other → other ≢ work → answered (Busy other)

@@ -2,12 +2,13 @@
 -- Source: this project's profile.
 use Rattle.std.specs.Prelude.{◌≡◌, ◌≢◌, ◌⊎◌, ℕ, ◌<◌, ◌≤◌, ◌==◌, List, length, take, filter, count_by, All, None, slice_get, slice_index_or}
 use Rattle.snoop_trace.specs.Extent.{Extent}
-use Rattle.snoop_trace.specs.declared.step.Op.{Op}
+use Rattle.snoop_trace.specs.Output.{IsWithin}
 use Rattle.snoop_trace.specs.declared.step.Step.{Step}
-use Rattle.snoop_rules.specs.declared.names.Protocol.{Protocol}
+use Rattle.snoop_trace.specs.declared.protocol.Protocol.{Protocol}
 use Rattle.snoop_history.specs.declared.items.Did.{Did}
 use Rattle.snoop_history.specs.declared.items.Item.{Item}
 use Rattle.snoop_history.specs.History.{Legal, answers_of}
+use Rattle.snoop_model.specs.declared.line.Access.{Access}
 use Rattle.snoop_model.specs.Pictures.Situation.{Situation}
 use Rattle.snoop_model.specs.Runs.Run.{AllTaken}
 use Rattle.snoop_model.specs.Turns.Quiet.{IsQuiet}
@@ -83,6 +84,8 @@ pub record IsJoined (protocol : Protocol) (shape : Extent) (seats : List Seating
   -- the steps were all taken, lead there from reset, and made this log
   pub at : Situation
   pub taken : AllTaken protocol shape steps at
+  -- each step is one that is read again from its text
+  pub readable : All (IsWithin shape) steps
   pub log_is : items ≡ at.log
   pub joins : Joins items seats
   -- no core waits, and no transaction is open
@@ -91,7 +94,7 @@ pub record IsJoined (protocol : Protocol) (shape : Extent) (seats : List Seating
   pub one_each : OneForEach shape.cores seats
   pub idle : All (λ seat. seat.pending ≡ None) seats
   -- the loads and stores that the steps ask are the operations of the log, each as often
-  pub once : (core block : ℕ) (wanted : Op) → count_by (did_it block wanted) (answers_of items core) ≡ count_by (asks core block wanted) steps
+  pub once : (core block : ℕ) (wanted : Access) → count_by (did_it block wanted) (answers_of items core) ≡ count_by (asks core block wanted) steps
 
 -- no core has work under way, and no seat has a pending operation
 abbrev pub IsFreeOfWork : Locked → List Seating → Type 0

@@ -19,7 +19,7 @@ most = 2 ^ 64 - 1
 -- the reader is of the same shape, and what it has seen begins with what it had seen
 pub record GoesOn (before after : Viewing) : Type 0 where
   pub begins : StartsWith after.seen before.seen
-  pub shape : (after.cores ≡ before.cores) × (after.blocks ≡ before.blocks)
+  pub shape : (after.cores ≡ before.cores) × (after.blocks ≡ before.blocks) × (after.words ≡ before.words)
 
 -- the version shows the answers alone; or one operation more, which is this one; or more than one, of which this one is the last
 abbrev pub Shows : Own → ℕ → List Did → List Item → Type 0

@@ -3,11 +3,12 @@
 use Rattle.std.specs.Prelude.{◌≡◌, ℕ, ◌<◌, ◌==◌, List, [], ◌∷◌, ◌++◌, length, take, filter, Option, Some, None, Bool, true, false, All, IsSome, ⊤, slice_get, slice_index_or}
 use Rattle.std.specs.List.{AllZip}
 use Rattle.snoop_trace.specs.Extent.{Extent}
-use Rattle.snoop_trace.specs.Grammar.{block_at}
+use Rattle.snoop_trace.specs.Grammar.{block_at, word_asked}
 use Rattle.snoop_trace.specs.declared.step.Op.{Op}
 use Rattle.snoop_trace.specs.declared.step.Op.TheVariants as op
 use Rattle.snoop_trace.specs.declared.step.Row.{Row}
 use Rattle.snoop_history.specs.declared.items.Did.{Did}
+use Rattle.snoop_trace.specs.declared.step.Work.{Work}
 use Rattle.snoop_bench.specs.Works.{Does}
 use Rattle.snoop_cores.specs.declared.fault.SeatFault.{SeatFault}
 use Rattle.snoop_cores.specs.declared.fault.SeatFault.TheVariants.{NoBlock}
@@ -24,9 +25,13 @@ is_answered op.Load = true
 is_answered (op.Store value) = true
 is_answered op.Evict = false
 
--- the operation does the row, at the block of its address
+-- the work of a row on this block: a load or a store is of the word of the row's address
+abbrev pub work_on : Extent → ℕ → Row → Work
+work_on shape block row = record { block = block; word = word_asked shape row.address row.op; op = row.op }
+
+-- the operation does the row, at the block and the word of its address
 abbrev pub DoesRow : Extent → Row → Did → Type 0
-DoesRow shape row did = (block : ℕ) × (block_at shape row.address ≡ Some block) × Does did (record { block = block; op = row.op })
+DoesRow shape row did = (block : ℕ) × (block_at shape row.address ≡ Some block) × Does did (work_on shape block row)
 
 -- the core's rows, in order
 abbrev pub rows_of : ℕ → List Row → List Row
@@ -36,9 +41,9 @@ rows_of core rows = filter (λ (row : Row). row.core == core) rows
 abbrev pub Answers : Extent → List Row → List Did → Type 0
 Answers shape rows dids = AllZip (DoesRow shape) (filter (λ (row : Row). is_answered row.op) rows) dids
 
--- the row's operation, on the block of its address, may begin
+-- the row's operation, on the block and the word of its address, may begin
 abbrev pub MayDo : Row → Seating → Type 0
-MayDo row s = (block : ℕ) × (block_at s.shape row.address ≡ Some block) × MayBegin (record { block = block; op = row.op }) s
+MayDo row s = (block : ℕ) × (block_at s.shape row.address ≡ Some block) × MayBegin (work_on s.shape block row) s
 
 -- the first of the rows may begin
 abbrev pub MayDoFirst : List Row → Seating → Type 0
@@ -58,13 +63,13 @@ pub record Grows (rows : List Row) (s t : Seating) : Type 0 where
   pub leaves : Leaves rows s t
 
 -- the row was refused: as its operation on its block is, or as outside the shape
-abbrev pub FailsOn : Option ℕ → SeatFault → Op → Seating → Seating → Type 0
-FailsOn (Some block) fault wanted s t = Fails fault (record { block = block; op = wanted }) s t
-FailsOn None fault wanted s t = (fault ≡ NoBlock) × (t ≡ s)
+abbrev pub FailsOn : Option ℕ → SeatFault → Row → Seating → Seating → Type 0
+FailsOn (Some block) fault row s t = Fails fault (work_on s.shape block row) s t
+FailsOn None fault row s t = (fault ≡ NoBlock) × (t ≡ s)
 
 -- the seat refused the row
 abbrev pub FailsRow : SeatFault → Row → Seating → Seating → Type 0
-FailsRow fault row s t = FailsOn (block_at s.shape row.address) fault row.op s t
+FailsRow fault row s t = FailsOn (block_at s.shape row.address) fault row s t
 
 -- the gate stopped the seat before its row of this number
 abbrev pub IsLate : ℕ → List Row → Seating → Seating → Type 0

@@ -18,7 +18,7 @@ pub enum MakeFault {
 /// Why a seat's operation was refused.
 #[derive(Clone, Copy, Debug, PartialEq, Eq, Error)]
 pub enum SeatFault {
-    /// The block is outside the shape. Nothing has changed.
+    /// The block, or the word of a load or store, is outside the shape. Nothing has changed.
     #[error("NoBlock")]
     NoBlock,
     /// Out of memory. The operation is pending: the same call, made again, goes on with it and does it once.
@@ -36,7 +36,7 @@ pub enum SeatFault {
 /// Why a version was not read. Nothing has changed.
 #[derive(Clone, Copy, Debug, PartialEq, Eq, Error)]
 pub enum ViewFault {
-    /// The block is outside the shape.
+    /// The block or the word is outside the shape.
     #[error("NoBlock")]
     NoBlock,
     /// There is no version to enter.

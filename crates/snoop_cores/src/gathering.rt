@@ -13,13 +13,16 @@ use snoop_bench::Bench;
 use snoop_history::{Did, Item, Log};
 use snoop_machine::laws::asked_are_tallied;
 use snoop_machine::turns_are_served;
-use snoop_trace::{NoMemory, Step};
+use snoop_trace::{NoMemory, Protocol, Shape, Step};
 use std::alloc::Global;
 use std::sync::Wait;
 
-/// A log that joins what the seats were answered, and the steps that made it from reset.
+/// A log that joins what the seats were answered, and the steps that made it from reset, with the protocol and the shape that they
+/// are for.
 #[derive(Debug, Drop)]
 pub struct Gathered {
+    pub protocol: Protocol,
+    pub shape: Shape,
     pub log: Log,
     pub steps: Vec<Step>,
 }
@@ -35,7 +38,8 @@ pub fn gather<R: Wait>(
     seats: &[Seat],
 ) -> Result<Gathered, GatherFault>
     ensures ok { IfOk result (λ gathered. IsJoined shared.now.protocol shared.now.shape seats.now gathered.log.items gathered.steps.items) }
-    ensures shape { IfOk result (λ gathered. (gathered.log.cores ≡ shared.now.shape.cores) × (gathered.log.blocks ≡ shared.now.shape.blocks)) }
+    ensures machine { IfOk result (λ gathered. (gathered.protocol ≡ shared.now.protocol) × (gathered.shape ≡ shared.now.shape)) }
+    ensures shape { IfOk result (λ gathered. (gathered.log.cores ≡ shared.now.shape.cores) × (gathered.log.blocks ≡ shared.now.shape.blocks) × (gathered.log.words ≡ shared.now.shape.words)) }
     ensures err { IfErr result (λ fault. RefusesGather shared.now.protocol shared.now.shape seats.now fault) }
     ensures not_all { (core : ℕ) → IsNotAllSeats shared.now.shape.cores seats.now core → result ≡ Err (NotAllSeats core) }
 {
@@ -51,7 +55,8 @@ pub fn gather<R: Wait>(
 fn join(alloc: Global, bench: &Bench, seats: &[Seat]) -> Result<Gathered, GatherFault>
     requires { OneForEach bench.now.situation.shape.cores seats.now }
     ensures ok { IfOk result (λ gathered. IsJoined bench.now.situation.protocol bench.now.situation.shape seats.now gathered.log.items gathered.steps.items) }
-    ensures shape { IfOk result (λ gathered. (gathered.log.cores ≡ bench.now.situation.shape.cores) × (gathered.log.blocks ≡ bench.now.situation.shape.blocks)) }
+    ensures machine { IfOk result (λ gathered. (gathered.protocol ≡ bench.now.situation.protocol) × (gathered.shape ≡ bench.now.situation.shape)) }
+    ensures shape { IfOk result (λ gathered. (gathered.log.cores ≡ bench.now.situation.shape.cores) × (gathered.log.blocks ≡ bench.now.situation.shape.blocks) × (gathered.log.words ≡ bench.now.situation.shape.words)) }
     ensures free { OnOk result (IsFreeOfWork bench.now seats.now) }
     ensures err { IfErr result (λ fault. RefusesJoin bench.now seats.now fault) }
 {
@@ -73,11 +78,17 @@ fn join(alloc: Global, bench: &Bench, seats: &[Seat]) -> Result<Gathered, Gather
 fn copy(alloc: Global, bench: &Bench) -> Result<Gathered, NoMemory>
     ensures log { IfOk result (λ gathered. gathered.log.items ≡ bench.now.situation.log) }
     ensures steps { IfOk result (λ gathered. gathered.steps.items ≡ bench.now.steps) }
-    ensures shape { IfOk result (λ gathered. (gathered.log.cores ≡ bench.now.situation.shape.cores) × (gathered.log.blocks ≡ bench.now.situation.shape.blocks)) }
+    ensures machine { IfOk result (λ gathered. (gathered.protocol ≡ bench.now.situation.protocol) × (gathered.shape ≡ bench.now.situation.shape)) }
+    ensures shape { IfOk result (λ gathered. (gathered.log.cores ≡ bench.now.situation.shape.cores) × (gathered.log.blocks ≡ bench.now.situation.shape.blocks) × (gathered.log.words ≡ bench.now.situation.shape.words)) }
 {
     let log = bench.log().copy()?;
     let steps = Vec::from_slice(alloc, bench.steps())?;
-    Ok(Gathered { log, steps })
+    Ok(Gathered {
+        protocol: bench.protocol(),
+        shape: bench.shape(),
+        log,
+        steps,
+    })
 }
 
 // The least core with no seat or several, or else the first strange one.

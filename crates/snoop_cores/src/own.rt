@@ -64,6 +64,7 @@ fn does(did: Did, work: Work) -> bool
     ensures whole { Does did work → IsTrue result }
 {
     did.block == work.block
+        && did.word == work.word
         && match work.op {
             Op::Load => did.load,
             Op::Store(value) => !did.load && did.value == value,

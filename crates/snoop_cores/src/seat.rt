@@ -1,5 +1,6 @@
 //! The right to a core's operations.
-ghost use Rattle.std.specs.Prelude.{◌≡◌, ◌<◌, ◌≤◌, ◌↔◌, ◌∷◌, [], true, Err, Some, None, IfOk, IfErr, OnOk, OnErr};
+ghost use Rattle.std.specs.Prelude.{◌≡◌, ◌<◌, ◌≤◌, ◌⊎◌, ◌↔◌, ◌∷◌, [], true, Err, Some, None, IfOk, IfErr, IsTrue, OnOk, OnErr};
+ghost use Rattle.snoop_trace.specs.Words.{HasWord};
 ghost use Rattle.snoop_trace.specs.declared.step.Op.TheVariants.{Load, Store, Evict};
 ghost use Rattle.snoop_history.specs.declared.items.Did.{Did};
 ghost use Rattle.snoop_history.specs.History.{answers_of, flat};
@@ -49,7 +50,7 @@ impl Model for Seat {
 
     ghost view = { λ s. record { core = s.core; shape = s.share.shape; seen = s.reader.seen; answers = s.answers.items; pending = s.pending; strange = s.strange; stop = s.stop } };
 
-    ghost invariant = { λ s. ((s.reader.cores ≡ s.share.shape.cores) × (s.reader.blocks ≡ s.share.shape.blocks))
+    ghost invariant = { λ s. ((s.reader.cores ≡ s.share.shape.cores) × (s.reader.blocks ≡ s.share.shape.blocks) × (s.reader.words ≡ s.share.shape.words))
         × (s.core < s.share.shape.cores) × StartsWith (answers_of s.reader.seen s.core) s.answers.items };
 }
 
@@ -57,7 +58,7 @@ impl Seat {
     // A seat that has done nothing.
     pub(crate) fn new(alloc: Global, share: Share, reader: VersionReader, core: u32) -> Seat
         requires core { core < share.shape.cores }
-        requires reader { (reader.cores ≡ share.shape.cores) × (reader.blocks ≡ share.shape.blocks) }
+        requires reader { (reader.cores ≡ share.shape.cores) × (reader.blocks ≡ share.shape.blocks) × (reader.words ≡ share.shape.words) }
         ensures { IsNew core share.shape result }
     {
         Seat {
@@ -106,36 +107,46 @@ impl Seat {
         self.stop
     }
 
-    /// Loads the block, and reports its value.
+    /// Loads a word of the block, and reports its value.
     ///
-    /// `NoBlock` outside the shape. `Stranger` where the published versions show an operation of this core that the seat did not
-    /// make; from then on `load`, `store` and `evict` answer the same wherever `NoBlock` does not come. `Busy` where another
-    /// operation is pending. `NoMemory` leaves this one pending: the same call, made again, goes on with it and does it once.
-    pub fn load<R: Wait>(&mut self, rt: &R, block: u32) -> Result<u64, SeatFault>
-        ensures ok { IfOk result (λ value. (did : Did) × Completes (record { block = block; op = Load }) (did ∷ []) self.old self.new × Does did (record { block = block; op = Load }) × (did.value ≡ value)) }
-        ensures err { IfErr result (λ fault. Fails fault (record { block = block; op = Load }) self.old self.new) }
-        ensures at_once { RefusedAtOnce (record { block = block; op = Load }) self.old (λ fault. result ≡ Err fault) }
+    /// `NoBlock` where the block or the word is outside the shape. `Stranger` where the published versions show an operation of this
+    /// core that the seat did not make; from then on `load`, `store` and `evict` answer the same wherever `NoBlock` does not come.
+    /// `Busy` where another operation is pending. `NoMemory` leaves this one pending: the same call, made again, goes on with it and
+    /// does it once.
+    pub fn load<R: Wait>(&mut self, rt: &R, block: u32, word: u32) -> Result<u64, SeatFault>
+        ensures ok { IfOk result (λ value. (did : Did) × Completes (record { block = block; word = word; op = Load }) (did ∷ []) self.old self.new × Does did (record { block = block; word = word; op = Load }) × (did.value ≡ value)) }
+        ensures err { IfErr result (λ fault. Fails fault (record { block = block; word = word; op = Load }) self.old self.new) }
+        ensures at_once { RefusedAtOnce (record { block = block; word = word; op = Load }) self.old (λ fault. result ≡ Err fault) }
     {
         let work = Work {
             block,
+            word,
             op: Op::Load,
         };
         let did = self.perform(rt, work)?;
         Ok(did.value)
     }
 
-    /// Stores a value in the block.
+    /// Stores a value in a word of the block.
     ///
-    /// `NoBlock` outside the shape. `Stranger` where the published versions show an operation of this core that the seat did not
-    /// make; from then on `load`, `store` and `evict` answer the same wherever `NoBlock` does not come. `Busy` where another
-    /// operation is pending. `NoMemory` leaves this one pending: the same call, made again, goes on with it and does it once.
-    pub fn store<R: Wait>(&mut self, rt: &R, block: u32, value: u64) -> Result<(), SeatFault>
-        ensures ok { OnOk result ((did : Did) × Completes (record { block = block; op = Store value }) (did ∷ []) self.old self.new × Does did (record { block = block; op = Store value })) }
-        ensures err { IfErr result (λ fault. Fails fault (record { block = block; op = Store value }) self.old self.new) }
-        ensures at_once { RefusedAtOnce (record { block = block; op = Store value }) self.old (λ fault. result ≡ Err fault) }
+    /// `NoBlock` where the block or the word is outside the shape. `Stranger` where the published versions show an operation of this
+    /// core that the seat did not make; from then on `load`, `store` and `evict` answer the same wherever `NoBlock` does not come.
+    /// `Busy` where another operation is pending. `NoMemory` leaves this one pending: the same call, made again, goes on with it and
+    /// does it once.
+    pub fn store<R: Wait>(
+        &mut self,
+        rt: &R,
+        block: u32,
+        word: u32,
+        value: u64,
+    ) -> Result<(), SeatFault>
+        ensures ok { OnOk result ((did : Did) × Completes (record { block = block; word = word; op = Store value }) (did ∷ []) self.old self.new × Does did (record { block = block; word = word; op = Store value })) }
+        ensures err { IfErr result (λ fault. Fails fault (record { block = block; word = word; op = Store value }) self.old self.new) }
+        ensures at_once { RefusedAtOnce (record { block = block; word = word; op = Store value }) self.old (λ fault. result ≡ Err fault) }
     {
         let work = Work {
             block,
+            word,
             op: Op::Store(value),
         };
         self.perform(rt, work)?;
@@ -148,12 +159,13 @@ impl Seat {
     /// make; from then on `load`, `store` and `evict` answer the same wherever `NoBlock` does not come. `Busy` where another
     /// operation is pending. `NoMemory` leaves this one pending: the same call, made again, goes on with it and does it once.
     pub fn evict<R: Wait>(&mut self, rt: &R, block: u32) -> Result<Evicted, SeatFault>
-        ensures ok { OnOk result (Completes (record { block = block; op = Evict }) [] self.old self.new) }
-        ensures err { IfErr result (λ fault. Fails fault (record { block = block; op = Evict }) self.old self.new) }
-        ensures at_once { RefusedAtOnce (record { block = block; op = Evict }) self.old (λ fault. result ≡ Err fault) }
+        ensures ok { OnOk result (Completes (record { block = block; word = 0; op = Evict }) [] self.old self.new) }
+        ensures err { IfErr result (λ fault. Fails fault (record { block = block; word = 0; op = Evict }) self.old self.new) }
+        ensures at_once { RefusedAtOnce (record { block = block; word = 0; op = Evict }) self.old (λ fault. result ≡ Err fault) }
     {
         let work = Work {
             block,
+            word: 0,
             op: Op::Evict,
         };
         self.begin(work)?;
@@ -172,18 +184,18 @@ impl Seat {
         Ok(evicted)
     }
 
-    /// The block's value in one published version, which has all of the seat's operations. It does not wait.
+    /// The value of a word of the block in one published version, which has all of the seat's operations. It does not wait.
     ///
-    /// `NoBlock` outside the shape; `NoVersion` where there is none to enter.
-    pub fn value(&mut self, block: u32) -> Result<u64, ViewFault>
-        ensures value { IfOk result (λ value. value ≡ flat self.new.seen block) }
+    /// `NoBlock` where the block or the word is outside the shape; `NoVersion` where there is none to enter.
+    pub fn value(&mut self, block: u32, word: u32) -> Result<u64, ViewFault>
+        ensures value { IfOk result (λ value. value ≡ flat self.new.seen block word) }
         ensures sees { OnOk result (Sees self.old.seen self.new.seen) }
-        ensures outside { (result ≡ Err NoBlock) ↔ (self.old.shape.blocks ≤ block) }
+        ensures outside { (result ≡ Err NoBlock) ↔ ((self.old.shape.blocks ≤ block) ⊎ (self.old.shape.words ≤ word)) }
         ensures own { StartsWith (answers_of self.new.seen self.new.core) self.new.answers }
         ensures same { self.new ≡ record self.old { seen = self.new.seen } }
         ensures err { OnErr result (self.new ≡ self.old) }
     {
-        read_value(&mut self.reader, self.share.shape().blocks(), block)
+        read_value(&mut self.reader, self.share.shape(), block, word)
     }
 
     /// The counts of one published version, which has all of the seat's operations. It does not wait.
@@ -220,7 +232,8 @@ impl Seat {
         ensures err { IfErr result (λ fault. Fails fault work self.old self.new) }
         ensures at_once { RefusedAtOnce work self.old (λ fault. result ≡ Err fault) }
     {
-        if work.block >= self.share.shape().blocks() {
+        let shape = self.share.shape();
+        if work.block >= shape.blocks() || !shape.has_word(work.word, work.op) {
             return Err(SeatFault::NoBlock);
         }
         if let Some(did) = self.strange {
@@ -295,14 +308,16 @@ impl Seat {
         ensures ok { OnOk result (Grows (row.now ∷ []) self.old self.new) }
         ensures err { IfErr result (λ fault. FailsRow fault row.now self.old self.new) }
     {
-        let Some(block) = self.share.shape().block_of(row.address) else {
+        let shape = self.share.shape();
+        let Some(block) = shape.block_of(row.address) else {
             return Err(SeatFault::NoBlock);
         };
+        let word = shape.word_of(row.address);
         match row.op {
             Op::Load => {
-                self.load(rt, block)?;
+                self.load(rt, block, word)?;
             }
-            Op::Store(value) => self.store(rt, block, value)?,
+            Op::Store(value) => self.store(rt, block, word, value)?,
             Op::Evict => {
                 self.evict(rt, block)?;
             }

@@ -141,7 +141,7 @@ impl Shared {
     // A share of the lock and a reader of versions, for a seat or a watch.
     fn entrance(&self, readers: &Readers) -> Result<(Share, VersionReader), MakeFault>
         ensures share { IfOk result (λ entrance. entrance.0.shape ≡ self.now.shape) }
-        ensures reader { IfOk result (λ entrance. (entrance.1.cores ≡ self.now.shape.cores) × (entrance.1.blocks ≡ self.now.shape.blocks)) }
+        ensures reader { IfOk result (λ entrance. (entrance.1.cores ≡ self.now.shape.cores) × (entrance.1.blocks ≡ self.now.shape.blocks) × (entrance.1.words ≡ self.now.shape.words)) }
     {
         let Some(reader) = readers.reader(self.share.shape()) else {
             return Err(MakeFault::NoPlace);

@@ -13,15 +13,16 @@ fn readings_while_the_lock_is_held(rt: HostRuntime) -> Result<(), Fail> {
     };
     let store = Work {
         block: 0,
+        word: 0,
         op: Op::Store(7),
     };
     let mut held = shared.lock(&rt);
     let watched = watches
         .get_mut(0)
-        .map(|watch| (watch.totals().is_ok(), watch.value(0)));
+        .map(|watch| (watch.totals().is_ok(), watch.value(0, 0)));
     let seated = seats
         .get_mut(0)
-        .map(|seat| (seat.totals().is_ok(), seat.value(0)));
+        .map(|seat| (seat.totals().is_ok(), seat.value(0, 0)));
     let asked = held.advance(&rt, 0, store);
     drop(held);
     let pending = gather(&rt, rt.alloc(), &shared, seats.as_slice()).err();
@@ -34,9 +35,9 @@ fn readings_while_the_lock_is_held(rt: HostRuntime) -> Result<(), Fail> {
     drop(held);
     // The seat did not make that store. Its own load is core 0's second operation.
     let strange = seats.get_mut(0).map(|seat| (
-        seat.load(&rt, 0),
-        seat.store(&rt, 1, 2),
-        seat.load(&rt, 4),
+        seat.load(&rt, 0, 0),
+        seat.store(&rt, 1, 0, 2),
+        seat.load(&rt, 4, 0),
     ));
     end_seats(&rt, seats);
     end_watches(&rt, watches);

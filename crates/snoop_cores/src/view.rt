@@ -1,5 +1,5 @@
 //! What a call without the lock reads of one published version.
-ghost use Rattle.std.specs.Prelude.{◌≡◌, ◌≤◌, ◌↔◌, Err, IfOk, IfErr, OnOk, OnErr};
+ghost use Rattle.std.specs.Prelude.{◌≡◌, ◌≤◌, ◌⊎◌, ◌↔◌, Err, IfOk, IfErr, OnOk, OnErr};
 ghost use Rattle.snoop_history.specs.History.{flat};
 ghost use Rattle.snoop_history.specs.Totals.{capped_totals, totals_of};
 ghost use Rattle.snoop_versions.specs.Readings.{Enters};
@@ -8,25 +8,27 @@ ghost use Rattle.snoop_cores.specs.declared.fault.ViewFault.TheVariants.{NoBlock
 
 use crate::fault::ViewFault;
 use snoop_history::Totals;
+use snoop_trace::Shape;
 use snoop_versions::VersionReader;
 
-/// The block's value in one published version, among so many blocks.
+/// The value of a word of the block in one published version of this shape.
 pub(crate) fn read_value(
     reader: &mut VersionReader,
-    blocks: u32,
+    shape: Shape,
     block: u32,
+    word: u32,
 ) -> Result<u64, ViewFault>
-    requires { blocks ≡ reader.old.blocks }
-    ensures value { IfOk result (λ value. value ≡ flat reader.new.seen block) }
+    requires { (shape.blocks ≡ reader.old.blocks) × (shape.words ≡ reader.old.words) }
+    ensures value { IfOk result (λ value. value ≡ flat reader.new.seen block word) }
     ensures enters { OnOk result (Enters reader.old reader.new) }
     ensures goes_on { GoesOn reader.old reader.new }
-    ensures outside { (result ≡ Err NoBlock) ↔ (blocks ≤ block) }
+    ensures outside { (result ≡ Err NoBlock) ↔ ((shape.blocks ≤ block) ⊎ (shape.words ≤ word)) }
     ensures err { OnErr result (reader.new ≡ reader.old) }
 {
-    if block >= blocks {
+    if block >= shape.blocks() || word >= shape.words() {
         return Err(ViewFault::NoBlock);
     }
-    let Some(read) = reader.value(block) else {
+    let Some(read) = reader.value(block, word) else {
         return Err(ViewFault::NoVersion);
     };
     let Some(value) = read else { unreachable!() };

@@ -1,5 +1,5 @@
 //! Readers of the published versions.
-ghost use Rattle.std.specs.Prelude.{◌≡◌, ◌≤◌, ◌↔◌, Err, IfOk, IfErr, OnOk, OnErr};
+ghost use Rattle.std.specs.Prelude.{◌≡◌, ◌≤◌, ◌⊎◌, ◌↔◌, Err, IfOk, IfErr, OnOk, OnErr};
 ghost use Rattle.snoop_history.specs.History.{flat};
 ghost use Rattle.snoop_history.specs.Totals.{capped_totals, totals_of};
 ghost use Rattle.snoop_cores.specs.Seats.{Sees};
@@ -29,27 +29,28 @@ impl Model for Watch {
 
     ghost view = { λ w. record { shape = w.share.shape; seen = w.reader.seen } };
 
-    ghost invariant = { λ w. w.reader.blocks ≡ w.share.shape.blocks };
+    ghost invariant = { λ w. (w.reader.blocks ≡ w.share.shape.blocks) × (w.reader.words ≡ w.share.shape.words) };
 }
 
 impl Watch {
     // A watch with its share of the lock.
     pub(crate) fn new(share: Share, reader: VersionReader) -> Watch
-        requires { reader.blocks ≡ share.shape.blocks }
+        requires { (reader.blocks ≡ share.shape.blocks) × (reader.words ≡ share.shape.words) }
         ensures { result.shape ≡ share.shape }
     {
         Watch { share, reader }
     }
 
-    /// The block's value in one published version. `NoBlock` outside the shape; `NoVersion` where there is none to enter.
-    pub fn value(&mut self, block: u32) -> Result<u64, ViewFault>
-        ensures value { IfOk result (λ value. value ≡ flat self.new.seen block) }
+    /// The value of a word of the block in one published version. `NoBlock` where the block or the word is outside the shape;
+    /// `NoVersion` where there is none to enter.
+    pub fn value(&mut self, block: u32, word: u32) -> Result<u64, ViewFault>
+        ensures value { IfOk result (λ value. value ≡ flat self.new.seen block word) }
         ensures sees { OnOk result (Sees self.old.seen self.new.seen) }
-        ensures outside { (result ≡ Err NoBlock) ↔ (self.old.shape.blocks ≤ block) }
+        ensures outside { (result ≡ Err NoBlock) ↔ ((self.old.shape.blocks ≤ block) ⊎ (self.old.shape.words ≤ word)) }
         ensures same { self.new ≡ record self.old { seen = self.new.seen } }
         ensures err { OnErr result (self.new ≡ self.old) }
     {
-        read_value(&mut self.reader, self.share.shape().blocks(), block)
+        read_value(&mut self.reader, self.share.shape(), block, word)
     }
 
     /// The counts of one published version. `NoVersion` where there is none to enter.

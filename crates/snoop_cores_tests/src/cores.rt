@@ -1,7 +1,11 @@
 mod gates;
+mod getters;
+mod grain;
 mod memory;
 mod readings;
 mod refusals;
 mod scene;
 mod seats;
 mod storms;
+mod together;
+mod words;

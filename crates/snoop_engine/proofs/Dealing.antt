@@ -6,15 +6,19 @@ use Rattle.std.proofs.lemmas.Option.{same_Some}
 use Rattle.std.proofs.lemmas.List.{length-set, length_push, get_or-set_same, get_or-set_other, map-append, get_or_past}
 use Rattle.std.proofs.lemmas.List.Elements.{All-map, All-filter, All-push, All-weaker, Contains-push, Contains-append_left, filter_more}
 use Rattle.std.proofs.lemmas.List.Sums.{sum_by-set, sum_by-cons}
-use Rattle.snoop_trace.specs.Extent.{Extent}
-use Rattle.snoop_trace.specs.Grammar.{block_at}
+use Rattle.snoop_trace.specs.Words.{HasWord}
+use Rattle.snoop_trace.specs.Extent.{Extent, IsWithinLimits}
+use Rattle.snoop_trace.specs.Grammar.{block_at, word_asked}
+use Rattle.snoop_trace.specs.declared.step.Op.{Op}
+use Rattle.snoop_trace.specs.declared.step.Op.TheVariants as op
+use Rattle.snoop_trace.proofs.WordPlaces.{asked_within}
 use Rattle.snoop_trace.specs.declared.step.Row.{Row}
 use Rattle.snoop_trace.specs.Grammar.{IsRowWithin}
-use Rattle.snoop_engine.specs.declared.work.Work.{Work}
-use Rattle.snoop_rules.specs.declared.names.Protocol.{Protocol}
+use Rattle.snoop_trace.specs.declared.step.Work.{Work}
+use Rattle.snoop_trace.specs.declared.protocol.Protocol.{Protocol}
 use Rattle.snoop_model.specs.Pictures.Situation.{reset}
 use Rattle.snoop_model.specs.Turns.TurnRule.{TurnRule}
-use Rattle.snoop_engine.specs.Round.{IsFit}
+use Rattle.snoop_engine.specs.Round.{IsFit, IsWorkWithin}
 use Rattle.snoop_engine.specs.Todo.{Todo, todo_of, nothing_to_do, under_way, left_in, work_of, works_of}
 
 -- the first n rows have been dealt
@@ -98,12 +102,21 @@ block_is shape row within r block at is =
     let some : block_at shape row.address ≡ Some (row.address / shape.block_bytes) = rw yes refl in
     same_Some _ _ (sym is ∙ (at ∙ some))
 
--- each work is of a block that there is
-pub works_within : (shape : Extent) (rows : List Row) (core : ℕ) → All (IsRowWithin shape) rows → All (λ (w : Work). w.block < shape.blocks) (works_of shape rows core)
-works_within shape rows core within =
+-- the word that an operation at an address is of is there
+word_there : (protocol : Protocol) (shape : Extent) (address : ℕ) (asking : Op) → IsWithinLimits shape → HasWord shape (word_asked shape address asking) asking
+word_there protocol shape address op.Load limits = let few = asked_within shape address op.Load limits in let most = limits.words.1 in (few, omega (arith, few, most))
+word_there protocol shape address (op.Store stored) limits = let few = asked_within shape address (op.Store stored) limits in let most = limits.words.1 in (few, omega (arith, few, most))
+word_there protocol shape address op.Evict limits = tt
+
+-- each work is of a block and a word that there are
+pub works_within : (protocol : Protocol) (shape : Extent) (rows : List Row) (core : ℕ) → IsWithinLimits shape → All (IsRowWithin shape) rows
+    → All (IsWorkWithin (reset protocol shape)) (works_of shape rows core)
+works_within protocol shape rows core limits within =
     let p : Row → Bool = λ r. r.core == core in
-    All-map (λ (w : Work). w.block < shape.blocks) (work_of shape) (filter p rows)
-    (All-filter p (λ r. (work_of shape r).block < shape.blocks) rows (All-weaker (IsRowWithin shape) (λ r. (work_of shape r).block < shape.blocks) (λ r h. h.1) rows within))
+    let W : Work → Type 0 = IsWorkWithin (reset protocol shape) in
+    All-map W (work_of shape) (filter p rows)
+    (All-filter p (λ r. W (work_of shape r)) rows
+    (All-weaker (IsRowWithin shape) (λ r. W (work_of shape r)) (λ r h. (h.1, word_there protocol shape r.address r.op limits)) rows within))
 
 -- the cores below n, each once
 pub record Counted (cores : List ℕ) (n : ℕ) : Type 0 where
@@ -123,17 +136,17 @@ counted_more cores n counted = record {
 }
 
 -- a driver is fit at its start
-pub fit_new : TurnRule → (protocol : Protocol) (shape : Extent) (rows : List Row) (lanes : List Todo) (turns : List ℕ) → All (IsRowWithin shape) rows
+pub fit_new : TurnRule → (protocol : Protocol) (shape : Extent) (rows : List Row) (lanes : List Todo) (turns : List ℕ) → IsWithinLimits shape → All (IsRowWithin shape) rows
     → length lanes ≡ shape.cores → ((core : ℕ) → (todo_of lanes core).left ≡ works_of shape rows core) → ((core : ℕ) → (todo_of lanes core).work ≡ None)
     → All (λ core. core < shape.cores) turns → ((core : ℕ) → core < shape.cores → Contains turns core) → IsFit (reset protocol shape) lanes turns
-fit_new rule protocol shape rows lanes turns within cores left idle few all =
+fit_new rule protocol shape rows lanes turns limits within cores left idle few all =
     let start = rule.starts_well protocol shape (under_way lanes) in
     record {
       cores = cores;
       within = λ core.
-          (let L : List Work → Type 0 = λ l. All (λ (w : Work). w.block < shape.blocks) l in
-          let W : Option Work → Type 0 = λ o. IfSome o (λ (w : Work). w.block < shape.blocks) in
-          record { left = subst L (sym (left core)) (works_within shape rows core within); work = subst W (sym (idle core)) tt });
+          (let L : List Work → Type 0 = λ l. All (IsWorkWithin (reset protocol shape)) l in
+          let W : Option Work → Type 0 = λ o. IfSome o (IsWorkWithin (reset protocol shape)) in
+          record { left = subst L (sym (left core)) (works_within protocol shape rows core limits within); work = subst W (sym (idle core)) tt });
       serving = start.1;
       kept = start.0;
       few = few;

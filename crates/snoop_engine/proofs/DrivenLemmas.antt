@@ -9,13 +9,13 @@ use Rattle.snoop_trace.specs.declared.step.Row.{Row}
 use Rattle.snoop_trace.specs.declared.step.Step.{Step}
 use Rattle.snoop_trace.proofs.GathersLemmas.{gathers_cut, gathers_done, gathers_more, gathers_none, gathers_spilled}
 use Rattle.snoop_trace.proofs.OutputLemmas.{appends_more, appends_none}
-use Rattle.snoop_rules.specs.declared.names.Protocol.{Protocol}
+use Rattle.snoop_trace.specs.declared.protocol.Protocol.{Protocol}
 use Rattle.snoop_history.specs.declared.items.Item.{Item}
 use Rattle.snoop_history.specs.Report.{report_of}
 use Rattle.snoop_model.specs.declared.replies.Reply.{Reply}
 use Rattle.snoop_model.specs.declared.replies.Refused.{Refused}
 use Rattle.snoop_model.specs.Pictures.Situation.{Situation, reset}
-use Rattle.snoop_model.specs.Runs.Run.{FirstRunFrom}
+use Rattle.snoop_model.specs.Runs.Run.{FirstRunFrom, TheRun}
 use Rattle.snoop_engine.specs.Line.{line_text, line_texts}
 use Rattle.snoop_engine.specs.Todo.{todo_of, left_in, works_of}
 use Rattle.snoop_engine.specs.Round.{Progress, Follows, IsDone}
@@ -23,7 +23,7 @@ use Rattle.snoop_engine.specs.Journey.{IsOnTheWay}
 use Rattle.snoop_engine.specs.Driven.{WritesDriven, WritesDrivenFront}
 use Rattle.snoop_engine.specs.SimulatedRun.{BeginsRun, ReportsRun}
 use Rattle.snoop_engine.proofs.Journeys.{end_serves, way_begins, way_ends, way_on}
-use Rattle.snoop_engine.proofs.TakenLemmas.{line_texts_more}
+use Rattle.snoop_engine.proofs.TakenLemmas.{line_texts_more, report_words}
 use Rattle.snoop_engine.proofs.SimulatedLemmas.{front_after}
 
 -- the driver took steps, and their lines were written or stand in the chunk
@@ -77,30 +77,35 @@ module _ (shape : Extent) (start here : Progress) (a b : Option (List ℕ)) (chu
 module _ (protocol : Protocol) (shape : Extent) (rows : List Row) (start : Progress) (at : start.situation ≡ reset protocol shape)
     (left : (core : ℕ) → (todo_of start.lanes core).left ≡ works_of shape rows core) (all : left_in start.lanes ≡ length rows) where
   -- all was written
-  pub reports_run : (end : Progress) (items : List Item) (a b c : Option (List ℕ)) → items ≡ end.situation.log → WritesDriven shape start end a b → Appends b c (report_of items)
-      → ReportsRun protocol shape rows a c
-  reports_run end items a b c last far p = record {
-    steps = far.steps;
-    outcomes = far.outcomes;
-    final = end.situation;
-    run = subst (λ (s : Situation). FirstRunFrom s far.steps far.outcomes end.situation) at far.way.run;
-    serves = end_serves protocol shape rows start far.steps far.outcomes end.situation at left all far.way;
-    output = appends_more a b c (line_texts shape far.steps far.outcomes) (report_of end.situation.log) far.lines (subst (λ (l : List Item). Appends b c (report_of l)) last p);
-  }
+  pub reports_run : (end : Progress) (words : ℕ) (items : List Item) (a b c : Option (List ℕ)) → words ≡ end.situation.shape.words → items ≡ end.situation.log
+      → WritesDriven shape start end a b → Appends b c (report_of words items) → ReportsRun protocol shape rows a c
+  reports_run end words items a b c these last far p =
+      let run : TheRun protocol shape far.steps far.outcomes end.situation = subst (λ (s : Situation). FirstRunFrom s far.steps far.outcomes end.situation) at far.way.run in
+      let report = report_words (λ (n : ℕ) (l : List Item). Appends b c (report_of n l)) protocol shape far.steps far.outcomes end.situation words items run these p in
+      record {
+        steps = far.steps;
+        outcomes = far.outcomes;
+        final = end.situation;
+        run = run;
+        serves = end_serves protocol shape rows start far.steps far.outcomes end.situation at left all far.way;
+        output = appends_more a b c (line_texts shape far.steps far.outcomes) (report_of shape.words end.situation.log) far.lines (subst (λ (l : List Item). Appends b c (report_of shape.words l)) last report);
+      }
 
   -- the report was cut
-  pub begins_run_report : (end : Progress) (items : List Item) (a b c : Option (List ℕ)) → items ≡ end.situation.log → WritesDriven shape start end a b
-      → AppendsFront b c (report_of items) → BeginsRun protocol shape rows a c
-  begins_run_report end items a b c last far cut =
+  pub begins_run_report : (end : Progress) (words : ℕ) (items : List Item) (a b c : Option (List ℕ)) → words ≡ end.situation.shape.words → items ≡ end.situation.log
+      → WritesDriven shape start end a b → AppendsFront b c (report_of words items) → BeginsRun protocol shape rows a c
+  begins_run_report end words items a b c these last far cut =
       let serves = end_serves protocol shape rows start far.steps far.outcomes end.situation at left all far.way in
+      let run : TheRun protocol shape far.steps far.outcomes end.situation = subst (λ (s : Situation). FirstRunFrom s far.steps far.outcomes end.situation) at far.way.run in
+      let report = report_words (λ (n : ℕ) (l : List Item). AppendsFront b c (report_of n l)) protocol shape far.steps far.outcomes end.situation words items run these cut in
       record {
         steps = far.steps;
         outcomes = far.outcomes;
         reached = end.situation;
-        run = subst (λ (s : Situation). FirstRunFrom s far.steps far.outcomes end.situation) at far.way.run;
+        run = run;
         taken = far.way.taken;
         asked = λ core. ([], sym (serves.asked core) ∙ sym (append-nil _));
-        output = inr (serves, front_after a b c (line_texts shape far.steps far.outcomes) (report_of end.situation.log) far.lines (subst (λ (l : List Item). AppendsFront b c (report_of l)) last cut));
+        output = inr (serves, front_after a b c (line_texts shape far.steps far.outcomes) (report_of shape.words end.situation.log) far.lines (subst (λ (l : List Item). AppendsFront b c (report_of shape.words l)) last report));
       }
 
   -- the lines were cut

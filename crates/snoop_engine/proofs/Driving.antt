@@ -4,10 +4,13 @@ use Rattle.std.specs.Prelude.{Contains, All, IfSome, IfNone, option_to_list, sli
 use Rattle.std.proofs.lemmas.Bool.{cases_eq, eq-eqb, ne_eqb}
 use Rattle.std.proofs.lemmas.Option.{same_Some}
 use Rattle.std.proofs.lemmas.List.{length-set, get_or-set_same, get_or-set_other}
-use Rattle.std.proofs.lemmas.List.Elements.{All-head, All-tail, All-same}
+use Rattle.std.proofs.lemmas.List.Elements.{All-head, All-tail, All-same, All-weaker}
 use Rattle.snoop_trace.specs.Extent.{Extent}
+use Rattle.snoop_trace.specs.Words.{HasWord, IsWord}
+use Rattle.snoop_trace.specs.declared.step.Op.{Op}
+use Rattle.snoop_trace.specs.declared.step.Op.TheVariants as op
 use Rattle.snoop_trace.specs.declared.step.Step.{Step}
-use Rattle.snoop_trace.specs.declared.step.Step.TheVariants.{Ask, Order, Respond}
+use Rattle.snoop_trace.specs.declared.step.Step.TheVariants.{Ask}
 use Rattle.snoop_history.specs.declared.items.Item.{Item}
 use Rattle.snoop_model.specs.declared.replies.Reply.{Reply}
 use Rattle.snoop_model.specs.declared.replies.Refused.{Refused}
@@ -15,29 +18,50 @@ use Rattle.snoop_model.specs.declared.replies.Refused.TheVariants as refused
 use Rattle.snoop_model.specs.Moves.Move.{FirstMove}
 use Rattle.snoop_model.specs.Moves.StepMove.{RefusedFor}
 use Rattle.snoop_model.specs.Pictures.Situation.{Situation}
-use Rattle.snoop_engine.specs.declared.work.Work.{Work}
+use Rattle.snoop_trace.specs.declared.step.Work.{Work}
 use Rattle.snoop_model.specs.Turns.Turn.{turn_of}
 use Rattle.snoop_model.specs.Turns.Serving.{IsUnderWay}
 use Rattle.snoop_model.specs.Turns.TurnRule.{TurnRule}
 use Rattle.snoop_engine.specs.Todo.{Todo, todo_of, nothing_to_do, under_way, block_of}
-use Rattle.snoop_engine.specs.Round.{IsOver, IsEnabled, IsFit, IsIdle, IsTodoWithin, TakesUp}
+use Rattle.snoop_engine.specs.Round.{IsOver, IsEnabled, IsFit, IsIdle, IsTodoWithin, IsWorkWithin, TakesUp}
 use Rattle.snoop_engine.specs.Served.{ask_of}
+use Rattle.snoop_engine.proofs.TakenLemmas.{same_shape}
 
-within_of : (o : Option Work) (w : Work) (blocks : ℕ) → o ≡ Some w → IfSome o (λ (x : Work). x.block < blocks) → w.block < blocks
-within_of None w blocks e h = cc
-within_of (Some x) w blocks e h = let P : Option Work → Type 0 = λ o. IfSome o (λ (y : Work). y.block < blocks) in subst P e h
+within_of : (o : Option Work) (w : Work) (s : Situation) → o ≡ Some w → IfSome o (IsWorkWithin s) → IsWorkWithin s w
+within_of None w s e h = cc
+within_of (Some x) w s e h = let P : Option Work → Type 0 = λ o. IfSome o (IsWorkWithin s) in subst P e h
+
+-- what lies within a shape lies within the same shape
+word_along : (s t : Situation) (word : ℕ) (asking : Op) → t.shape ≡ s.shape → HasWord s.shape word asking → HasWord t.shape word asking
+word_along s t word op.Load e h = let P : Extent → Type 0 = λ x. IsWord x word in subst P (sym e) h
+word_along s t word (op.Store stored) e h = let P : Extent → Type 0 = λ x. IsWord x word in subst P (sym e) h
+word_along s t word op.Evict e h = tt
+
+work_along : (s t : Situation) (w : Work) → t.shape ≡ s.shape → IsWorkWithin s w → IsWorkWithin t w
+work_along s t w e h = let P : Extent → Type 0 = λ x. w.block < x.blocks in (subst P (sym e) h.0, word_along s t w.word w.op e h.1)
+
+todo_along : (s t : Situation) (todo : Todo) → t.shape ≡ s.shape → IsTodoWithin s todo → IsTodoWithin t todo
+todo_along s t todo e h = record {
+  left = All-weaker (IsWorkWithin s) (IsWorkWithin t) (λ w within. work_along s t w e within) todo.left h.left;
+  work = of_work todo.work h.work;
+}
+  where
+    of_work : (o : Option Work) → IfSome o (IsWorkWithin s) → IfSome o (IsWorkWithin t)
+    of_work None within = tt
+    of_work (Some w) within = work_along s t w e within
 
 module _ (rule : TurnRule) (s : Situation) (lanes : List Todo) (turns : List ℕ) (fit : IsFit s lanes turns) (core : ℕ) (has_core : core < s.shape.cores) where
   module _ (work : Work) (works : (todo_of lanes core).work ≡ Some work) where
-    pub goes_on : (r : Option Step) → r ≡ turn_of s core work.block work.op true → IfSome r (IsEnabled s)
+    pub goes_on : (r : Option Step) → r ≡ turn_of s core work.block work.word work.op true → IfSome r (IsEnabled s)
     goes_on None is = tt
     goes_on (Some step) is =
-        rule.never_refused s (under_way lanes) core work.block work.op true step fit.serving fit.kept has_core
-        (within_of (todo_of lanes core).work work s.shape.blocks works (fit.within core).work) (ap block_of works) (sym is)
+        let within : IsWorkWithin s work = within_of (todo_of lanes core).work work s works (fit.within core).work in
+        rule.never_refused s (under_way lanes) core work.block work.word work.op true step fit.serving fit.kept has_core
+        within.0 within.1 (ap block_of works) (sym is)
 
-    pub over_now : (r : Option Step) → r ≡ turn_of s core work.block work.op true → IfNone r (IsOver lanes s core)
+    pub over_now : (r : Option Step) → r ≡ turn_of s core work.block work.word work.op true → IfNone r (IsOver lanes s core)
     over_now (Some step) is = tt
-    over_now None is = λ after others. rule.ends s (under_way lanes) after core work.block work.op fit.serving fit.kept (ap block_of works) (sym is) others
+    over_now None is = λ after others. rule.ends s (under_way lanes) after core work.block work.word work.op fit.serving fit.kept (ap block_of works) (sym is) others
 
   -- a core with nothing under way may have anything else
   pub over_idle : (todo_of lanes core).work ≡ None → IsOver lanes s core
@@ -54,20 +78,20 @@ module _ (rule : TurnRule) (s : Situation) (lanes : List Todo) (turns : List ℕ
         opened = λ block o is. extends o.core block (fit.serving.opened block o is);
       }
 
-  pub first_in : (w : Work) (rest : List Work) → (todo_of lanes core).left ≡ w ∷ rest → w.block < s.shape.blocks
+  pub first_in : (w : Work) (rest : List Work) → (todo_of lanes core).left ≡ w ∷ rest → IsWorkWithin s w
   first_in w rest e =
-      let P : Work → Type 0 = λ x. x.block < s.shape.blocks in
+      let P : Work → Type 0 = IsWorkWithin s in
       All-head P w rest (All-same P (w ∷ rest) (todo_of lanes core).left (sym e) (fit.within core).left)
 
   -- a core with a turn may have any other lane, once its work is over
-  pub fit_lane : IsOver lanes s core → Contains turns core → (next : Todo) → IsTodoWithin s.shape.blocks next → IsFit s (slice_set lanes core next) turns
+  pub fit_lane : IsOver lanes s core → Contains turns core → (next : Todo) → IsTodoWithin s next → IsFit s (slice_set lanes core next) turns
   fit_lane over turn next within =
-      let T : Todo → Type 0 = λ t. IsTodoWithin s.shape.blocks t in
+      let T : Todo → Type 0 = λ t. IsTodoWithin s t in
       record {
         cores = length-set lanes core next ∙ fit.cores;
         within = λ k. elim (cases_eq k core) [
           | inl e ↦
-              (let P : ℕ → Type 0 = λ j. IsTodoWithin s.shape.blocks (todo_of (slice_set lanes core next) j) in
+              (let P : ℕ → Type 0 = λ j. IsTodoWithin s (todo_of (slice_set lanes core next) j) in
               let here : todo_of (slice_set lanes core next) core ≡ next = get_or-set_same lanes core next nothing_to_do (let cores = fit.cores in omega arith) in
               subst P (sym e) (subst T (sym here) within))
           | inr ne ↦ subst T (sym (get_or-set_other lanes core k next nothing_to_do ne)) (fit.within k)
@@ -86,8 +110,8 @@ module _ (rule : TurnRule) (s : Situation) (lanes : List Todo) (turns : List ℕ
 
   pub fit_begins : IsOver lanes s core → Contains turns core → (next : Todo) (w : Work) → (todo_of lanes core).left ≡ w ∷ next.left → next.work ≡ Some w → IsFit s (slice_set lanes core next) turns
   fit_begins over turn next w e its =
-      let P : Work → Type 0 = λ x. x.block < s.shape.blocks in
-      let W : Option Work → Type 0 = λ o. IfSome o (λ (x : Work). x.block < s.shape.blocks) in
+      let P : Work → Type 0 = IsWorkWithin s in
+      let W : Option Work → Type 0 = λ o. IfSome o (IsWorkWithin s) in
       fit_lane over turn next (record {
         left = All-tail P w next.left (All-same P (w ∷ next.left) (todo_of lanes core).left (sym e) (fit.within core).left);
         work = subst W (sym its) (first_in w next.left e);
@@ -95,25 +119,24 @@ module _ (rule : TurnRule) (s : Situation) (lanes : List Todo) (turns : List ℕ
 
   pub fit_idles : IsOver lanes s core → Contains turns core → (next : Todo) → next.left ≡ [] → next.work ≡ None → IsFit s (slice_set lanes core next) turns
   fit_idles over turn next none idle =
-      let P : Work → Type 0 = λ x. x.block < s.shape.blocks in
-      let L : List Work → Type 0 = λ l. All P l in
-      let W : Option Work → Type 0 = λ o. IfSome o (λ (x : Work). x.block < s.shape.blocks) in
+      let L : List Work → Type 0 = λ l. All (IsWorkWithin s) l in
+      let W : Option Work → Type 0 = λ o. IfSome o (IsWorkWithin s) in
       fit_lane over turn next (record {
         left = subst L (sym none) (λ i d lt. absurd (omega arith));
         work = subst W (sym idle) tt;
       })
 
-  pub goes_begun : IsOver lanes s core → (w : Work) → w.block < s.shape.blocks → (r : Option Step) → r ≡ Some (Ask core w.block w.op) → IfSome r (IsEnabled s)
-  goes_begun over w has_block None is = tt
-  goes_begun over w has_block (Some step) is =
+  pub goes_begun : IsOver lanes s core → (w : Work) → IsWorkWithin s w → (r : Option Step) → r ≡ Some (Ask core w.block w.word w.op) → IfSome r (IsEnabled s)
+  goes_begun over w within None is = tt
+  goes_begun over w within (Some step) is =
       let bare : ℕ → Option ℕ = λ k. cond {A = Option ℕ} (eqb k core) None (under_way lanes k) in
       let away : (other : ℕ) → other ≢ core → bare other ≡ under_way lanes other = λ other ne. ap (λ (b : Bool). cond {A = Option ℕ} b None (under_way lanes other)) (ne_eqb other core ne) in
       let here : bare core ≡ None = ap (λ (b : Bool). cond {A = Option ℕ} b None (under_way lanes core)) (eq-eqb core core refl) in
-      rule.never_refused s bare core w.block w.op false step (over bare away) fit.kept has_core has_block here (sym is)
+      rule.never_refused s bare core w.block w.word w.op false step (over bare away) fit.kept has_core within.0 within.1 here (sym is)
 
 -- the step asks the first of what the core had left
 pub takes_first : (lanes : List Todo) (core : ℕ) (next : Todo) (w : Work) → core < length lanes → (todo_of lanes core).left ≡ w ∷ next.left
-    → (r : Option Step) → r ≡ Some (Ask core w.block w.op) → IfSome r (λ step. TakesUp lanes step (slice_set lanes core next))
+    → (r : Option Step) → r ≡ Some (Ask core w.block w.word w.op) → IfSome r (λ step. TakesUp lanes step (slice_set lanes core next))
 takes_first lanes core next w has_lane first None is = tt
 takes_first lanes core next w has_lane first (Some step) is = λ k.
     (let P : Step → Type 0 = λ x. (todo_of lanes k).left ≡ option_to_list (ask_of k x) ++ (todo_of (slice_set lanes core next) k).left in
@@ -126,11 +149,6 @@ takes_first lanes core next w has_lane first (Some step) is = λ k.
           rw (ne_eqb core k (λ e. ne (sym e)), same) refl)
     ]))
 
-pub same_shape : (s t : Situation) (step : Step) (answer : Reply) (entry : Option Item) → FirstMove s step answer t entry → t.shape ≡ s.shape
-same_shape s t (Ask core on asking) answer entry m = elim m.1.1.2 [ inl absent ↦ ap (λ (x : Situation). x.shape) absent.3 | inr asks ↦ ap (λ (x : Situation). x.shape) asks.after ]
-same_shape s t (Order core) answer entry m = ap (λ (x : Situation). x.shape) m.1.1.1.3.after
-same_shape s t (Respond on) answer entry m = ap (λ (x : Situation). x.shape) m.1.1.1.1.4.after
-
 -- a move keeps what holds between turns
 pub fit_moves : TurnRule → (s t : Situation) (lanes : List Todo) (turns : List ℕ) (step : Step) (answer : Reply) (entry : Option Item)
     → IsFit s lanes turns → IsUnderWay (under_way lanes) step → FirstMove s step answer t entry → IsFit t lanes turns
@@ -138,7 +156,7 @@ fit_moves rule s t lanes turns step answer entry fit its move =
     let e = same_shape s t step answer entry move in
     record {
       cores = fit.cores ∙ ap (λ (x : Extent). x.cores) (sym e);
-      within = λ core. (let P : Extent → Type 0 = λ x. IsTodoWithin x.blocks (todo_of lanes core) in subst P (sym e) (fit.within core));
+      within = λ core. todo_along s t (todo_of lanes core) e (fit.within core);
       serving = rule.serves_on s t (under_way lanes) (under_way lanes) step answer entry fit.serving move (λ k b h. h) its;
       kept = rule.keeps_well s t step answer entry fit.kept move;
       few = (let P : Extent → Type 0 = λ x. All (λ core. core < x.cores) turns in subst P (sym e) fit.few);

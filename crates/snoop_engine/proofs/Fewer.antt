@@ -10,7 +10,7 @@ use Rattle.snoop_model.specs.declared.replies.Reply.{Reply}
 use Rattle.snoop_model.specs.Moves.Move.{FirstMove}
 use Rattle.snoop_model.specs.Turns.Serving.{paid}
 use Rattle.snoop_model.proofs.Turns.Laws.{turn_rule}
-use Rattle.snoop_engine.specs.declared.work.Work.{Work}
+use Rattle.snoop_trace.specs.declared.step.Work.{Work}
 use Rattle.snoop_engine.specs.Todo.{Todo, todo_of, left_in}
 use Rattle.snoop_engine.specs.Round.{Progress, TakesUp, remaining}
 
@@ -58,8 +58,8 @@ left_fewer (x ∷ xs) (y ∷ ys) (suc core) one same =
 
 -- what a step takes up is what it pays for
 left_paid : (old new : List Todo) (step : Step) → TakesUp old step new → 3 * left_in old ≡ paid step + 3 * left_in new
-left_paid old new (Ask core block asking) takes =
-    let L : Bool → List Work = λ b. option_to_list (cond b (Some (record { block = block; op = asking })) None) in
+left_paid old new (Ask core block word asking) takes =
+    let L : Bool → List Work = λ b. option_to_list (cond b (Some (record { block = block; word = word; op = asking })) None) in
     let first : length (todo_of old core).left ≡ suc (length (todo_of new core).left) =
     ap length (takes core) ∙ ap (λ b. length (L b ++ (todo_of new core).left)) (eq-eqb core core refl) in
     let own : length (todo_of old core).left ≡ 1 + length (todo_of new core).left = omega (arith, first) in

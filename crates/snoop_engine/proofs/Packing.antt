@@ -1,48 +1,106 @@
 -- Packed steps, and one more.
-use Rattle.std.proofs.Common.{◌≡◌, ℕ, ◌+◌, false, List, [], ◌∷◌, ◌++◌, length, length-append, slice_index_or, refl, ap, ◌∙◌, arith, inl, inr}
-use Rattle.std.proofs.lemmas.Bool.{cases_Bool}
+use Rattle.std.proofs.Common.{◌≡◌, ℕ, zero, suc, ◌+◌, ◌≤◌, List, [], ◌∷◌, ◌++◌, length, length-append, drop, slice_index_or, refl, ap, ◌∙◌, arith}
+use Rattle.std.proofs.lemmas.List.{length-drop}
+use Rattle.snoop_trace.specs.declared.step.Op.TheVariants as op
 use Rattle.snoop_trace.specs.declared.step.Step.{Step}
-use Rattle.snoop_model.specs.Runs.Once.{one_if}
+use Rattle.snoop_trace.specs.declared.step.Step.TheVariants.{Ask}
 use Rattle.snoop_engine.specs.declared.packed.Kind.{Kind}
 use Rattle.snoop_engine.specs.declared.packed.Kind.TheVariants as kind
 use Rattle.snoop_engine.specs.declared.packed.Head.{Head}
-use Rattle.snoop_engine.specs.Packed.{is_store, step_by, step_of, steps_in, stores_in}
+use Rattle.snoop_engine.specs.Packed.{step_by, step_of, steps_in, stored_by, stored_in, worded_by, worded_in}
 
--- a step that stores nothing is the same with any value
-any_value : (k : Kind) (h : Head) (a b : ℕ) → is_store k ≡ false → step_by k h a ≡ step_by k h b
-any_value kind.Load h a b e = refl
-any_value kind.Store h a b e = cc
-any_value kind.Evict h a b e = refl
-any_value kind.Order h a b e = refl
-any_value kind.Respond h a b e = refl
+-- a longer list begins as the list does
+first_on : (xs more : List ℕ) → 1 ≤ length xs → slice_index_or (xs ++ more) 0 0 ≡ slice_index_or xs 0 0
+first_on [] more few = absurd (omega arith)
+first_on (x ∷ xs) more few = refl
 
-pub stores_more : (hs : List Head) (h : Head) → stores_in (hs ++ h ∷ []) ≡ stores_in hs + one_if (is_store h.kind)
-stores_more [] h = omega arith
-stores_more (k ∷ ks) h = let more = stores_more ks h in omega arith
+-- no more than one of a list's elements, dropped from a longer list
+dropped_on : (n : ℕ) (xs more : List ℕ) → n ≤ 1 → n ≤ length xs → drop n (xs ++ more) ≡ drop n xs ++ more
+dropped_on zero xs more one few = refl
+dropped_on (suc zero) [] more one few = absurd (omega arith)
+dropped_on (suc zero) (x ∷ xs) more one few = refl
+dropped_on (suc (suc n)) xs more one few = absurd (omega arith)
 
--- a head at the end, with what it stores
-pub steps_more : (hs : List Head) (vs : List ℕ) (h : Head) (more : List ℕ) → stores_in hs ≡ length vs
-    → steps_in (hs ++ h ∷ []) (vs ++ more) ≡ steps_in hs vs ++ step_of h (slice_index_or more 0 0) ∷ []
-steps_more [] [] h more e = refl
-steps_more [] (v ∷ vs) h more e = absurd (omega arith)
-steps_more (k ∷ ks) [] h more e =
-    elim (cases_Bool (is_store k.kind)) [
-      | inl s ↦ absurd (let n = rw s at e in omega arith)
-      | inr s ↦ let n = rw s at e in let m : stores_in ks ≡ 0 = omega arith in rw (s, any_value k.kind k (slice_index_or more 0 0) 0 s) (ap (λ (t : List Step). step_of k 0 ∷ t) (steps_more ks [] h more m))
-    ]
-steps_more (k ∷ ks) (v ∷ vs) h more e =
-    elim (cases_Bool (is_store k.kind)) [
-      | inl s ↦ let n = rw s at e in let m : stores_in ks ≡ length vs = omega arith in rw s (ap (λ (t : List Step). step_of k v ∷ t) (steps_more ks vs h more m))
-      | inr s ↦ let n = rw s at e in let m : stores_in ks ≡ length (v ∷ vs) = omega arith in rw (s, any_value k.kind k (slice_index_or ((v ∷ vs) ++ more) 0 0) v s) (ap (λ (t : List Step). step_of k v ∷ t) (steps_more ks (v ∷ vs) h more m))
-    ]
+few_words : (k : Kind) → worded_by k ≤ 1
+few_words kind.Load = omega arith
+few_words kind.Store = omega arith
+few_words kind.Evict = omega arith
+few_words kind.LoadOfWord = omega arith
+few_words kind.StoreOfWord = omega arith
+few_words kind.EvictOfWord = omega arith
+few_words kind.Order = omega arith
+few_words kind.Respond = omega arith
+
+few_values : (k : Kind) → stored_by k ≤ 1
+few_values kind.Load = omega arith
+few_values kind.Store = omega arith
+few_values kind.Evict = omega arith
+few_values kind.LoadOfWord = omega arith
+few_values kind.StoreOfWord = omega arith
+few_values kind.EvictOfWord = omega arith
+few_values kind.Order = omega arith
+few_values kind.Respond = omega arith
+
+-- a head's step is the same with more words and values after its own
+step_on : (k : Kind) (h : Head) (ws mw vs mv : List ℕ) → worded_by k ≤ length ws → stored_by k ≤ length vs
+    → step_by k h (slice_index_or (ws ++ mw) 0 0) (slice_index_or (vs ++ mv) 0 0) ≡ step_by k h (slice_index_or ws 0 0) (slice_index_or vs 0 0)
+step_on kind.Load h ws mw vs mv w v = refl
+step_on kind.Store h ws mw vs mv w v = ap (λ (x : ℕ). Ask h.core h.block 0 (op.Store x)) (first_on vs mv v)
+step_on kind.Evict h ws mw vs mv w v = refl
+step_on kind.LoadOfWord h ws mw vs mv w v = ap (λ (x : ℕ). Ask h.core h.block x op.Load) (first_on ws mw w)
+step_on kind.StoreOfWord h ws mw vs mv w v =
+    ap (λ (x : ℕ). Ask h.core h.block x (op.Store (slice_index_or (vs ++ mv) 0 0))) (first_on ws mw w)
+    ∙ ap (λ (x : ℕ). Ask h.core h.block (slice_index_or ws 0 0) (op.Store x)) (first_on vs mv v)
+step_on kind.EvictOfWord h ws mw vs mv w v = ap (λ (x : ℕ). Ask h.core h.block x op.Evict) (first_on ws mw w)
+step_on kind.Order h ws mw vs mv w v = refl
+step_on kind.Respond h ws mw vs mv w v = refl
+
+worded_more : (hs : List Head) (h : Head) → worded_in (hs ++ h ∷ []) ≡ worded_in hs + worded_by h.kind
+worded_more [] h = omega arith
+worded_more (k ∷ ks) h = let more = worded_more ks h in omega arith
+
+stored_more : (hs : List Head) (h : Head) → stored_in (hs ++ h ∷ []) ≡ stored_in hs + stored_by h.kind
+stored_more [] h = omega arith
+stored_more (k ∷ ks) h = let more = stored_more ks h in omega arith
+
+-- a head at the end, with its word and what it stores
+steps_more : (hs : List Head) (ws vs : List ℕ) (h : Head) (mw mv : List ℕ) → worded_in hs ≡ length ws → stored_in hs ≡ length vs
+    → steps_in (hs ++ h ∷ []) (ws ++ mw) (vs ++ mv) ≡ steps_in hs ws vs ++ step_of h (slice_index_or mw 0 0) (slice_index_or mv 0 0) ∷ []
+steps_more [] [] [] h mw mv e f = refl
+steps_more [] (w ∷ ws) vs h mw mv e f = absurd (omega arith)
+steps_more [] [] (v ∷ vs) h mw mv e f = absurd (omega arith)
+steps_more (k ∷ ks) ws vs h mw mv e f =
+    let n : ℕ = worded_by k.kind in
+    let m : ℕ = stored_by k.kind in
+    let w : worded_by k.kind ≤ length ws = omega (arith, e) in
+    let v : stored_by k.kind ≤ length vs = omega (arith, f) in
+    let rest_w : worded_in ks ≡ length (drop (worded_by k.kind) ws) = omega (arith, e, w, length-drop (worded_by k.kind) ws) in
+    let rest_v : stored_in ks ≡ length (drop (stored_by k.kind) vs) = omega (arith, f, v, length-drop (stored_by k.kind) vs) in
+    let here : Step = step_of k (slice_index_or ws 0 0) (slice_index_or vs 0 0) in
+    ap (λ (s : Step). s ∷ steps_in (ks ++ h ∷ []) (drop n (ws ++ mw)) (drop m (vs ++ mv))) (step_on k.kind k ws mw vs mv w v)
+    ∙ ap (λ (l : List ℕ). here ∷ steps_in (ks ++ h ∷ []) l (drop m (vs ++ mv))) (dropped_on (worded_by k.kind) ws mw (few_words k.kind) w)
+    ∙ ap (λ (l : List ℕ). here ∷ steps_in (ks ++ h ∷ []) (drop n ws ++ mw) l) (dropped_on (stored_by k.kind) vs mv (few_values k.kind) v)
+    ∙ ap (λ (t : List Step). here ∷ t) (steps_more ks (drop n ws) (drop m vs) h mw mv rest_w rest_v)
 
 -- the same of a queue's parts, before and after
-pub count_after : (hs hs2 hs3 : List Head) (vs vs2 more : List ℕ) (h : Head) → hs2 ≡ hs → hs3 ≡ hs2 ++ h ∷ [] → vs2 ≡ vs ++ more
-    → one_if (is_store h.kind) ≡ length more → stores_in hs ≡ length vs → stores_in hs3 ≡ length vs2
-count_after hs hs2 hs3 vs vs2 more h same heads values one e =
-    rw (heads, same, values) (let a = stores_more hs h in let b = length-append vs more in omega arith)
+pub words_after : (hs hs2 hs3 : List Head) (ws ws2 more : List ℕ) (h : Head) → hs2 ≡ hs → hs3 ≡ hs2 ++ h ∷ [] → ws2 ≡ ws ++ more
+    → worded_by h.kind ≡ length more → worded_in hs ≡ length ws → worded_in hs3 ≡ length ws2
+words_after hs hs2 hs3 ws ws2 more h same heads words one e =
+    rw (heads, same, words) (let a = worded_more hs h in let b = length-append ws more in omega arith)
 
-pub steps_after : (hs hs2 hs3 : List Head) (vs vs2 more : List ℕ) (h : Head) (step : Step) (old : List Step) → hs2 ≡ hs → hs3 ≡ hs2 ++ h ∷ [] → vs2 ≡ vs ++ more
-    → step_of h (slice_index_or more 0 0) ≡ step → stores_in hs ≡ length vs → steps_in hs vs ≡ old → steps_in hs3 vs2 ≡ old ++ step ∷ []
-steps_after hs hs2 hs3 vs vs2 more h step old same heads values is e view =
-    rw (heads, same, values) (steps_more hs vs h more e ∙ ap (λ (s : Step). steps_in hs vs ++ s ∷ []) is ∙ ap (λ (steps : List Step). steps ++ step ∷ []) view)
+pub values_after : (hs hs2 hs3 : List Head) (vs vs2 more : List ℕ) (h : Head) → hs2 ≡ hs → hs3 ≡ hs2 ++ h ∷ [] → vs2 ≡ vs ++ more
+    → stored_by h.kind ≡ length more → stored_in hs ≡ length vs → stored_in hs3 ≡ length vs2
+values_after hs hs2 hs3 vs vs2 more h same heads values one e =
+    rw (heads, same, values) (let a = stored_more hs h in let b = length-append vs more in omega arith)
+
+pub steps_after : (hs hs2 hs3 : List Head) (ws ws2 mw vs vs2 mv : List ℕ) (h : Head) (step : Step) (old : List Step) → hs2 ≡ hs → hs3 ≡ hs2 ++ h ∷ []
+    → ws2 ≡ ws ++ mw → vs2 ≡ vs ++ mv → step_of h (slice_index_or mw 0 0) (slice_index_or mv 0 0) ≡ step
+    → worded_in hs ≡ length ws → stored_in hs ≡ length vs → steps_in hs ws vs ≡ old → steps_in hs3 ws2 vs2 ≡ old ++ step ∷ []
+steps_after hs hs2 hs3 ws ws2 mw vs vs2 mv h step old same heads words values is e f view =
+    rw (heads, same, words, values)
+    (steps_more hs ws vs h mw mv e f ∙ ap (λ (s : Step). steps_in hs ws vs ++ s ∷ []) is ∙ ap (λ (steps : List Step). steps ++ step ∷ []) view)
+
+-- there is a step for each head
+pub steps_counted : (hs : List Head) (ws vs : List ℕ) → length (steps_in hs ws vs) ≡ length hs
+steps_counted [] ws vs = refl
+steps_counted (h ∷ hs) ws vs = let more = steps_counted hs (drop (worded_by h.kind) ws) (drop (stored_by h.kind) vs) in omega arith

@@ -6,7 +6,7 @@ use Rattle.snoop_trace.specs.Extent.{Extent}
 use Rattle.snoop_trace.specs.Output.{AppendsFront}
 use Rattle.snoop_trace.specs.declared.step.Step.{Step}
 use Rattle.snoop_trace.proofs.OutputLemmas.{appends_more, appends_none}
-use Rattle.snoop_rules.specs.declared.names.Protocol.{Protocol}
+use Rattle.snoop_trace.specs.declared.protocol.Protocol.{Protocol}
 use Rattle.snoop_history.specs.declared.items.Item.{Item}
 use Rattle.snoop_history.specs.Report.{report_of}
 use Rattle.snoop_model.specs.Pictures.Situation.{Situation, reset}
@@ -16,6 +16,7 @@ use Rattle.snoop_model.specs.declared.replies.Reply.{Reply}
 use Rattle.snoop_model.specs.declared.replies.Refused.{Refused}
 use Rattle.snoop_engine.specs.Written.{WritesFront, WritesLines}
 use Rattle.snoop_engine.specs.Simulated.{Begins, Reads, Reports, Simulates}
+use Rattle.snoop_engine.proofs.TakenLemmas.{report_words}
 use Rattle.snoop_engine.specs.Fault.{written}
 use Rattle.snoop_engine.specs.declared.fault.SimFault.{SimFault}
 use Rattle.snoop_trace.specs.declared.fault.WriteFault.{WriteFault}
@@ -42,25 +43,29 @@ front_after a b c text more p cut =
     }
 
 -- all was written
-pub reports : (protocol : Protocol) (shape : Extent) (steps : List Step) (from to : Situation) (items : List Item) (a b c : Option (List ℕ))
-    → from ≡ reset protocol shape → items ≡ to.log → WritesLines shape from steps to a b → Appends b c (report_of items) → Reports protocol shape steps a c
-reports protocol shape steps from to items a b c start last far p =
+pub reports : (protocol : Protocol) (shape : Extent) (steps : List Step) (from to : Situation) (words : ℕ) (items : List Item) (a b c : Option (List ℕ))
+    → from ≡ reset protocol shape → words ≡ to.shape.words → items ≡ to.log → WritesLines shape from steps to a b → Appends b c (report_of words items) → Reports protocol shape steps a c
+reports protocol shape steps from to words items a b c start these last far p =
+    let run : TheRun protocol shape steps far.outcomes to = subst (λ (s : Situation). FirstRunFrom s steps far.outcomes to) start far.run in
+    let report = report_words (λ (n : ℕ) (l : List Item). Appends b c (report_of n l)) protocol shape steps far.outcomes to words items run these p in
     record {
       outcomes = far.outcomes;
       final = to;
-      run = subst (λ (s : Situation). FirstRunFrom s steps far.outcomes to) start far.run;
-      output = appends_more a b c (line_texts shape steps far.outcomes) (report_of to.log) far.lines (subst (λ (l : List Item). Appends b c (report_of l)) last p);
+      run = run;
+      output = appends_more a b c (line_texts shape steps far.outcomes) (report_of shape.words to.log) far.lines (subst (λ (l : List Item). Appends b c (report_of shape.words l)) last report);
     }
 
 -- the report was cut
-pub begins_report : (protocol : Protocol) (shape : Extent) (steps : List Step) (from to : Situation) (items : List Item) (a b c : Option (List ℕ))
-    → from ≡ reset protocol shape → items ≡ to.log → WritesLines shape from steps to a b → AppendsFront b c (report_of items) → Begins protocol shape steps a c
-begins_report protocol shape steps from to items a b c start last far cut =
+pub begins_report : (protocol : Protocol) (shape : Extent) (steps : List Step) (from to : Situation) (words : ℕ) (items : List Item) (a b c : Option (List ℕ))
+    → from ≡ reset protocol shape → words ≡ to.shape.words → items ≡ to.log → WritesLines shape from steps to a b → AppendsFront b c (report_of words items) → Begins protocol shape steps a c
+begins_report protocol shape steps from to words items a b c start these last far cut =
+    let run : TheRun protocol shape steps far.outcomes to = subst (λ (s : Situation). FirstRunFrom s steps far.outcomes to) start far.run in
+    let report = report_words (λ (n : ℕ) (l : List Item). AppendsFront b c (report_of n l)) protocol shape steps far.outcomes to words items run these cut in
     record {
       outcomes = far.outcomes;
       final = to;
-      run = subst (λ (s : Situation). FirstRunFrom s steps far.outcomes to) start far.run;
-      output = front_after a b c (line_texts shape steps far.outcomes) (report_of to.log) far.lines (subst (λ (l : List Item). AppendsFront b c (report_of l)) last cut);
+      run = run;
+      output = front_after a b c (line_texts shape steps far.outcomes) (report_of shape.words to.log) far.lines (subst (λ (l : List Item). AppendsFront b c (report_of shape.words l)) last report);
     }
 
 -- the lines of a run that goes on
@@ -90,15 +95,15 @@ begins_lines go_on protocol shape steps from a b start far =
     let final = further.1.0 in
     let lines : List ℕ = line_texts shape far.first far.outcomes in
     let later : List ℕ = line_texts shape far.rest more in
-    let text : line_texts shape steps (far.outcomes ++ more) ++ report_of final.log ≡ lines ++ (later ++ report_of final.log) =
-    ap (λ (l : List Step). line_texts shape l (far.outcomes ++ more) ++ report_of final.log) far.whole
-    ∙ (ap (λ (t : List ℕ). t ++ report_of final.log) (line_texts_on shape far.first far.rest far.outcomes more (reset protocol shape) far.to run)
-    ∙ append_assoc lines later (report_of final.log)) in
+    let text : line_texts shape steps (far.outcomes ++ more) ++ report_of shape.words final.log ≡ lines ++ (later ++ report_of shape.words final.log) =
+    ap (λ (l : List Step). line_texts shape l (far.outcomes ++ more) ++ report_of shape.words final.log) far.whole
+    ∙ (ap (λ (t : List ℕ). t ++ report_of shape.words final.log) (line_texts_on shape far.first far.rest far.outcomes more (reset protocol shape) far.to run)
+    ∙ append_assoc lines later (report_of shape.words final.log)) in
     record {
       outcomes = far.outcomes ++ more;
       final = final;
       run = subst (λ (l : List Step). TheRun protocol shape l (far.outcomes ++ more) final) (sym far.whole) (runs_on far.first far.rest far.outcomes more (reset protocol shape) far.to final run further.1.1);
-      output = subst (λ (t : List ℕ). AppendsFront a b t) (sym text) (front_of_longer a b lines (later ++ report_of final.log) far.lines);
+      output = subst (λ (t : List ℕ). AppendsFront a b t) (sym text) (front_of_longer a b lines (later ++ report_of shape.words final.log) far.lines);
     }
 
 -- nothing was written
@@ -109,11 +114,11 @@ begins_nothing go_on protocol shape steps a =
       outcomes = all.0;
       final = all.1.0;
       run = all.1.1;
-      output = record { front = []; rest = line_texts shape steps all.0 ++ report_of all.1.0.log; whole = refl; appends = appends_none a };
+      output = record { front = []; rest = line_texts shape steps all.0 ++ report_of shape.words all.1.0.log; whole = refl; appends = appends_none a };
     }
 
 -- a failed write, or out of memory, after the whole text was read
 pub simulates_front : (protocol : Protocol) (shape : Extent) (input : Option (List ℕ)) (steps : List Step) (fault : WriteFault) (result : Result (Unit {0}) SimFault) (old new : Option (List ℕ))
-    → result ≡ Err (written fault) → Reads shape input (Ok steps) → Begins protocol shape steps old new → Simulates protocol shape input result old new
+    → result ≡ Err (written fault) → Reads protocol shape input (Ok steps) → Begins protocol shape steps old new → Simulates protocol shape input result old new
 simulates_front protocol shape input steps write.Write result old new e reads begins = rw e (steps, (reads, begins))
 simulates_front protocol shape input steps write.NoMemory result old new e reads begins = rw e (steps, (reads, begins))

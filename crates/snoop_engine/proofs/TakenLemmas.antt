@@ -1,18 +1,42 @@
 -- The lines of the steps so far: written, or in the chunk.
-use Rattle.std.proofs.Common.{◌≡◌, ℕ, List, [], ◌∷◌, ◌++◌, Option, refl, sym, ap, subst, ◌∙◌, append_assoc}
-use Rattle.std.specs.Prelude.{Result}
+use Rattle.std.proofs.Common.{◌≡◌, ℕ, List, [], ◌∷◌, ◌++◌, Option, refl, sym, ap, subst, ◌∙◌, append_assoc, inl, inr}
+use Rattle.std.specs.Prelude.{Result, Ok, Err}
 use Rattle.std.specs.Io.KnownBytes.{Appends}
 use Rattle.std.proofs.lemmas.List.{append-nil}
 use Rattle.snoop_trace.specs.Extent.{Extent}
 use Rattle.snoop_trace.specs.Output.{AppendsFront, Gathers, Spills}
 use Rattle.snoop_trace.specs.declared.step.Step.{Step}
+use Rattle.snoop_trace.specs.declared.step.Step.TheVariants.{Ask, Order, Respond}
 use Rattle.snoop_trace.proofs.GathersLemmas.{gathers_cut, gathers_done, gathers_more, gathers_none, gathers_spilled, gathers_stop}
 use Rattle.snoop_model.specs.declared.replies.Reply.{Reply}
 use Rattle.snoop_model.specs.declared.replies.Refused.{Refused}
-use Rattle.snoop_model.specs.Pictures.Situation.{Situation}
+use Rattle.snoop_trace.specs.declared.protocol.Protocol.{Protocol}
+use Rattle.snoop_history.specs.declared.items.Item.{Item}
+use Rattle.snoop_model.specs.Pictures.Situation.{Situation, reset}
+use Rattle.snoop_model.specs.Moves.Move.{FirstMove}
 use Rattle.snoop_engine.specs.Line.{line_text, line_texts}
-use Rattle.snoop_model.specs.Runs.Run.{FirstRunFrom, GoesFirst}
+use Rattle.snoop_model.specs.Runs.Run.{FirstRunFrom, GoesFirst, TheRun}
 use Rattle.snoop_engine.specs.Written.{WritesFront, WritesLines}
+
+-- a step keeps the shape
+pub same_shape : (s t : Situation) (step : Step) (answer : Reply) (entry : Option Item) → FirstMove s step answer t entry → t.shape ≡ s.shape
+same_shape s t (Ask core on word asking) answer entry m = elim m.1.1.2 [ inl absent ↦ ap (λ (x : Situation). x.shape) absent.3 | inr asks ↦ ap (λ (x : Situation). x.shape) asks.after ]
+same_shape s t (Order core) answer entry m = ap (λ (x : Situation). x.shape) m.1.1.1.3.after
+same_shape s t (Respond on) answer entry m = ap (λ (x : Situation). x.shape) m.1.1.1.1.4.after
+
+-- and so does a run
+pub run_shape : (steps : List Step) (outcomes : List (Result Reply Refused)) (old new : Situation) → FirstRunFrom old steps outcomes new → new.shape ≡ old.shape
+run_shape [] [] old new run = ap (λ (s : Situation). s.shape) run
+run_shape [] (o ∷ os) old new run = absurd run
+run_shape (s ∷ ss) [] old new run = absurd run
+run_shape (s ∷ ss) (Ok answer ∷ os) old new run = run_shape ss os run.0 new run.1.1 ∙ same_shape old run.0 s answer run.1.0.0 run.1.0.1
+run_shape (s ∷ ss) (Err cause ∷ os) old new run = run_shape ss os run.0 new run.1.1 ∙ ap (λ (x : Situation). x.shape) run.1.0.1
+
+-- the number of words of a log at the end of a run from reset, in its report
+pub report_words : {A : Type 0} (P : ℕ → A → Type 0) (protocol : Protocol) (shape : Extent) (steps : List Step) (outcomes : List (Result Reply Refused)) (to : Situation) (words : ℕ) (x : A)
+    → TheRun protocol shape steps outcomes to → words ≡ to.shape.words → P words x → P shape.words x
+report_words {A} P protocol shape steps outcomes to words x run is h =
+    subst (λ (n : ℕ). P n x) (is ∙ ap (λ (e : Extent). e.words) (run_shape steps outcomes (reset protocol shape) to run)) h
 
 -- one more step of a run
 pub run_more : (steps : List Step) (outcomes : List (Result Reply Refused)) (old middle new : Situation) (step : Step) (outcome : Result Reply Refused)

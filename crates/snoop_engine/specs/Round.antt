@@ -1,6 +1,7 @@
 -- What a turn takes up, and what holds of a driver between turns.
 -- Source: this project's profile.
 use Rattle.std.specs.Prelude.{◌≡◌, ◌≢◌, ℕ, ◌+◌, ◌*◌, ◌<◌, List, [], ◌++◌, length, All, Contains, Option, None, IfSome, ◌⊎◌, option_to_list}
+use Rattle.snoop_trace.specs.Words.{HasWord}
 use Rattle.snoop_trace.specs.declared.step.Step.{Step}
 use Rattle.snoop_history.specs.declared.items.Item.{Item}
 use Rattle.snoop_model.specs.declared.replies.Reply.{Reply}
@@ -11,7 +12,7 @@ use Rattle.snoop_model.specs.Moves.Refuses.{Refuses}
 use Rattle.snoop_model.specs.Turns.Quiet.{IsQuiet}
 use Rattle.snoop_model.specs.Turns.Serving.{IsServing, owed}
 use Rattle.snoop_model.specs.Invariant.WellKept.{IsWellKept}
-use Rattle.snoop_engine.specs.declared.work.Work.{Work}
+use Rattle.snoop_trace.specs.declared.step.Work.{Work}
 use Rattle.snoop_engine.specs.Todo.{Todo, todo_of, left_in, under_way}
 use Rattle.snoop_engine.specs.Served.{ask_of}
 
@@ -37,15 +38,19 @@ IsOver lanes s core = (after : ℕ → Option ℕ) → ((other : ℕ) → other 
 abbrev pub IsEnabled : Situation → Step → Type 0
 IsEnabled s step = (cause : Refused) → ¬ Refuses s step cause
 
--- the core's blocks are there
-pub record IsTodoWithin (blocks : ℕ) (todo : Todo) : Type 0 where
-  pub left : All (λ (work : Work). work.block < blocks) todo.left
-  pub work : IfSome todo.work (λ work. work.block < blocks)
+-- the work's block is there, and its word
+abbrev pub IsWorkWithin : Situation → Work → Type 0
+IsWorkWithin s work = (work.block < s.shape.blocks) × HasWord s.shape work.word work.op
+
+-- the blocks and words of the core's works are there
+pub record IsTodoWithin (s : Situation) (todo : Todo) : Type 0 where
+  pub left : All (IsWorkWithin s) todo.left
+  pub work : IfSome todo.work (IsWorkWithin s)
 
 -- each core has its lane and waits only for its work under way, and a core without a turn has nothing to do
 pub record IsFit (s : Situation) (lanes : List Todo) (turns : List ℕ) : Type 0 where
   pub cores : length lanes ≡ s.shape.cores
-  pub within : (core : ℕ) → IsTodoWithin s.shape.blocks (todo_of lanes core)
+  pub within : (core : ℕ) → IsTodoWithin s (todo_of lanes core)
   pub serving : IsServing (under_way lanes) s
   pub kept : IsWellKept s
   pub few : All (λ core. core < s.shape.cores) turns

@@ -9,12 +9,12 @@ use Rattle.snoop_model.specs.declared.replies.Reply.{Reply}
 use Rattle.snoop_model.specs.declared.replies.Refused.{Refused}
 use Rattle.snoop_model.specs.Pictures.Situation.{Situation}
 use Rattle.snoop_model.specs.Turns.Quiet.{IsQuiet}
-use Rattle.snoop_engine.specs.declared.work.Work.{Work}
+use Rattle.snoop_trace.specs.declared.step.Work.{Work}
 use Rattle.snoop_engine.specs.Todo.{works_of}
 
 -- the work that a step asks of the core, if it is that core's Ask
 abbrev pub ask_of : ℕ → Step → Option Work
-ask_of core (Ask c block asking) = if c == core then Some (record { block = block; op = asking }) else None
+ask_of core (Ask c block word asking) = if c == core then Some (record { block = block; word = word; op = asking }) else None
 ask_of core (Order c) = None
 ask_of core (Respond block) = None
 

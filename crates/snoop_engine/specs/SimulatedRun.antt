@@ -8,7 +8,7 @@ use Rattle.snoop_trace.specs.Text.{Gives, rows_of}
 use Rattle.snoop_trace.specs.declared.fault.TextFault.{TextFault}
 use Rattle.snoop_trace.specs.declared.step.Row.{Row}
 use Rattle.snoop_trace.specs.declared.step.Step.{Step}
-use Rattle.snoop_rules.specs.declared.names.Protocol.{Protocol}
+use Rattle.snoop_trace.specs.declared.protocol.Protocol.{Protocol}
 use Rattle.snoop_history.specs.Report.{report_of}
 use Rattle.snoop_model.specs.declared.replies.Reply.{Reply}
 use Rattle.snoop_model.specs.declared.replies.Refused.{Refused}
@@ -17,7 +17,7 @@ use Rattle.snoop_model.specs.Runs.Run.{TheRun}
 use Rattle.snoop_engine.specs.Line.{line_texts}
 use Rattle.snoop_engine.specs.Served.{Serves, asks_of}
 use Rattle.snoop_engine.specs.Todo.{works_of}
-use Rattle.snoop_engine.specs.declared.work.Work.{Work}
+use Rattle.snoop_trace.specs.declared.step.Work.{Work}
 use Rattle.snoop_engine.specs.declared.fault.SimFault.{SimFault}
 use Rattle.snoop_engine.specs.declared.fault.SimFault.TheVariants.{Text, NoMemory, Write}
 
@@ -32,7 +32,7 @@ pub record ReportsRun (protocol : Protocol) (shape : Extent) (rows : List Row) (
   pub final : Situation
   pub run : TheRun protocol shape steps outcomes final
   pub serves : Serves shape rows steps outcomes final
-  pub output : Appends old new (line_texts shape steps outcomes ++ report_of final.log)
+  pub output : Appends old new (line_texts shape steps outcomes ++ report_of shape.words final.log)
 
 -- a core's first rows: the others are left
 abbrev pub IsBeginningOf : List Work → List Work → Type 0
@@ -48,7 +48,7 @@ pub record BeginsRun (protocol : Protocol) (shape : Extent) (rows : List Row) (o
   pub asked : (core : ℕ) → IsBeginningOf (asks_of steps core) (works_of shape rows core)
   pub output :
       AppendsFront old new (line_texts shape steps outcomes)
-      ⊎ (Serves shape rows steps outcomes reached × AppendsFront old new (line_texts shape steps outcomes ++ report_of reached.log))
+      ⊎ (Serves shape rows steps outcomes reached × AppendsFront old new (line_texts shape steps outcomes ++ report_of shape.words reached.log))
 
 -- the whole text was read, and its rows served and all of it written, or a beginning of it; or the text was refused
 abbrev pub SimulatesRun : Protocol → Extent → Option (List ℕ) → Result (Unit {0}) SimFault → Option (List ℕ) → Option (List ℕ) → Type 0

@@ -2,8 +2,9 @@
 -- Source: this project's profile.
 use Rattle.std.specs.Prelude.{ℕ, ◌/◌, ◌==◌, List, [], length, map, filter, sum_by, Option, Some, None, slice_index_or}
 use Rattle.snoop_trace.specs.Extent.{Extent}
+use Rattle.snoop_trace.specs.Grammar.{word_asked}
 use Rattle.snoop_trace.specs.declared.step.Row.{Row}
-use Rattle.snoop_engine.specs.declared.work.Work.{Work}
+use Rattle.snoop_trace.specs.declared.step.Work.{Work}
 
 -- a core's rows that are left, and its work under way, which may be over
 pub record Todo : Type 0 where
@@ -33,7 +34,7 @@ left_in lanes = sum_by (λ (todo : Todo). length todo.left) lanes
 
 -- the work that a row asks for
 abbrev pub work_of : Extent → Row → Work
-work_of shape row = record { block = row.address / shape.block_bytes; op = row.op }
+work_of shape row = record { block = row.address / shape.block_bytes; word = word_asked shape row.address row.op; op = row.op }
 
 -- the work that a core's rows ask for, in order
 abbrev pub works_of : Extent → List Row → ℕ → List Work

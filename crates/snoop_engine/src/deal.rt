@@ -4,8 +4,7 @@ ghost use Rattle.snoop_engine.specs.Todo.{todo_of, nothing_to_do, left_in, works
 ghost use Rattle.snoop_trace.specs.Grammar.{IsRowWithin};
 
 use crate::lane::Lane;
-use crate::work::Work;
-use snoop_trace::{NoMemory, Row, Shape};
+use snoop_trace::{NoMemory, Row, Shape, Work};
 use std::alloc::Global;
 use std::collections::VecDeque;
 
@@ -20,7 +19,12 @@ pub(crate) fn deal(alloc: Global, shape: Shape, rows: &[Row]) -> Result<Vec<Lane
     let mut lanes = empty_lanes(alloc, shape)?;
     for row in rows {
         let block = shape.block_of(row.address).unwrap();
-        lanes[row.core as usize].push(Work { block, op: row.op })?;
+        let work = Work {
+            block,
+            word: shape.word_asked(row.address, row.op),
+            op: row.op,
+        };
+        lanes[row.core as usize].push(work)?;
     }
     Ok(lanes)
 }

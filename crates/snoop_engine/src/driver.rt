@@ -51,6 +51,7 @@ impl Driver {
         ensures left { IfOk result (λ driver. (core : ℕ) → (todo_of driver.lanes core).left ≡ works_of shape rows.items core) }
         ensures all { IfOk result (λ driver. left_in driver.lanes ≡ length rows.items) }
     {
+        shape.within_limits();
         let machine = Machine::reset(alloc, protocol, shape)?;
         let lanes = deal(alloc, shape, &rows)?;
         let turns = all_cores(alloc, shape)?;
@@ -63,7 +64,8 @@ impl Driver {
 
     /// The history of the steps so far.
     pub(crate) fn log(&self) -> &Log
-        ensures { result.now.items ≡ self.now.situation.log }
+        ensures items { result.now.items ≡ self.now.situation.log }
+        ensures words { result.now.words ≡ self.now.situation.shape.words }
     {
         self.machine.log()
     }
@@ -106,7 +108,8 @@ impl Driver {
         ensures over { IfNone result (IsOver self.now.lanes self.now.situation core) }
     {
         let work = self.lanes[core as usize].work()?;
-        self.machine.turn_step(core, work.block, work.op, true)
+        self.machine
+            .turn_step(core, work.block, work.word, work.op, true)
     }
 
     /// The first step of the core's next row.
@@ -123,7 +126,8 @@ impl Driver {
         ensures idle { IfNone result (((todo_of self.old.lanes core).left ≡ []) × IsIdle (todo_of self.new.lanes core)) }
     {
         let work = self.lanes[core as usize].take_up()?;
-        self.machine.turn_step(core, work.block, work.op, false)
+        self.machine
+            .turn_step(core, work.block, work.word, work.op, false)
     }
 
     /// The step of the core's turn. A row that it takes up is under way from here on.

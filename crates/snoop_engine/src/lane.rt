@@ -2,8 +2,7 @@
 ghost use Rattle.std.specs.Prelude.{◌≡◌, ◌∷◌, ◌++◌, [], IfNone, OnOk, option_to_list};
 ghost use Rattle.snoop_engine.specs.Todo.{nothing_to_do};
 
-use crate::work::Work;
-use snoop_trace::NoMemory;
+use snoop_trace::{NoMemory, Work};
 use std::alloc::Global;
 use std::collections::VecDeque;
 use std::marker::Model;

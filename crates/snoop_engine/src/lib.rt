@@ -9,7 +9,6 @@ mod line;
 mod packed;
 mod run;
 mod steps;
-mod work;
 
 pub use fault::SimFault;
 pub use run::simulate_run;

@@ -1,8 +1,9 @@
 //! The steps of a text, packed until they are taken.
 ghost use Rattle.std.specs.Prelude.{◌≡◌, ◌++◌, [], length, IfNone, OnOk, OnErr, option_to_list, slice_index_or};
 ghost use Rattle.snoop_trace.specs.Grammar.{IsStepWithin};
-ghost use Rattle.snoop_model.specs.Runs.Once.{one_if};
-ghost use Rattle.snoop_engine.specs.Packed.{largest, is_store, step_of, values_of};
+ghost use Rattle.snoop_trace.specs.declared.step.Step.TheVariants.{Ask};
+ghost use Rattle.snoop_engine.specs.declared.packed.Head.{Head};
+ghost use Rattle.snoop_engine.specs.Packed.{largest, step_by, step_of, stored_by, values_of, worded_by, words_of};
 
 use snoop_trace::streams::Entries;
 use snoop_trace::{NoMemory, Op, Step};
@@ -10,18 +11,40 @@ use std::alloc::Global;
 use std::collections::VecDeque;
 use std::marker::Model;
 
-/// What a step is, without its data.
+/// What a step is, without its data. What a core asks is of its block's first word, or of another one.
 #[derive(Clone, Copy, Debug)]
 pub(crate) enum Kind {
     Load,
     Store,
     Evict,
+    LoadOfWord,
+    StoreOfWord,
+    EvictOfWord,
     Order,
     Respond,
 }
 
-/// A step of the largest shape or a smaller one, without the value that it stores: 4 bytes where `Step` has 24. A field
-/// that its kind does not need is arbitrary.
+impl Kind {
+    /// The kind of an operation on a word.
+    fn of(op: Op, word: u32) -> Self
+        ensures words { worded_by result ≡ length (words_of (Ask 0 0 word op)) }
+        ensures values { stored_by result ≡ length (values_of (Ask 0 0 word op)) }
+        ensures step { (head : Head) → step_by result head (slice_index_or (words_of (Ask 0 0 word op)) 0 0) (slice_index_or (values_of (Ask 0 0 word op)) 0 0)
+            ≡ Ask head.core head.block word op }
+    {
+        match op {
+            Op::Load if word == 0 => Kind::Load,
+            Op::Load => Kind::LoadOfWord,
+            Op::Store(_) if word == 0 => Kind::Store,
+            Op::Store(_) => Kind::StoreOfWord,
+            Op::Evict if word == 0 => Kind::Evict,
+            Op::Evict => Kind::EvictOfWord,
+        }
+    }
+}
+
+/// A step of the largest shape or a smaller one, without its word and the value that it stores, in fewer bytes than a
+/// `Step`. A field that its kind does not need is arbitrary.
 #[derive(Clone, Copy, Debug)]
 pub(crate) struct Head {
     block: u16,
@@ -33,18 +56,20 @@ impl Head {
     /// The head of a step.
     fn new(step: Step) -> Self
         requires { IsStepWithin largest step }
-        ensures step { step_of result (slice_index_or (values_of step) 0 0) ≡ step }
-        ensures stores { one_if (is_store result.kind) ≡ length (values_of step) }
+        ensures step { step_of result (slice_index_or (words_of step) 0 0) (slice_index_or (values_of step) 0 0) ≡ step }
+        ensures words { worded_by result.kind ≡ length (words_of step) }
+        ensures values { stored_by result.kind ≡ length (values_of step) }
     {
         match step {
-            Step::Ask { core, block, op } => Head {
+            Step::Ask {
+                core,
+                block,
+                word,
+                op,
+            } => Head {
                 block: block as u16,
                 core: core as u8,
-                kind: match op {
-                    Op::Load => Kind::Load,
-                    Op::Store(_) => Kind::Store,
-                    Op::Evict => Kind::Evict,
-                },
+                kind: Kind::of(op, word),
             },
             Step::Order { core } => Head {
                 block: 0,
@@ -59,28 +84,25 @@ impl Head {
         }
     }
 
-    /// The step, with the value that it stores, if it does.
-    fn step(self, value: u64) -> Step
-        ensures { result ≡ step_of self value }
+    /// The step, with the word that it is of and the value that it stores, where its kind has them.
+    fn step(self, word: u32, value: u64) -> Step
+        ensures { result ≡ step_of self word value }
     {
         let core = self.core as u32;
         let block = self.block as u32;
+        let ask = |word, op| Step::Ask {
+            core,
+            block,
+            word,
+            op,
+        };
         match self.kind {
-            Kind::Load => Step::Ask {
-                core,
-                block,
-                op: Op::Load,
-            },
-            Kind::Store => Step::Ask {
-                core,
-                block,
-                op: Op::Store(value),
-            },
-            Kind::Evict => Step::Ask {
-                core,
-                block,
-                op: Op::Evict,
-            },
+            Kind::Load => ask(0, Op::Load),
+            Kind::Store => ask(0, Op::Store(value)),
+            Kind::Evict => ask(0, Op::Evict),
+            Kind::LoadOfWord => ask(word, Op::Load),
+            Kind::StoreOfWord => ask(word, Op::Store(value)),
+            Kind::EvictOfWord => ask(word, Op::Evict),
             Kind::Order => Step::Order { core },
             Kind::Respond => Step::Respond { block },
         }
@@ -91,6 +113,8 @@ impl Head {
 #[derive(Debug, Drop)]
 pub(crate) struct StepQueue {
     heads: VecDeque<Head>,
+    // The words of those among them that are not of a first word.
+    words: VecDeque<u8>,
     // What the stores among them store.
     values: VecDeque<u64>,
 }
@@ -98,13 +122,13 @@ pub(crate) struct StepQueue {
 impl Model for StepQueue {
     ghost use Rattle.std.specs.Prelude.{◌≡◌, List, length};
     ghost use Rattle.snoop_trace.specs.declared.step.Step.{Step};
-    ghost use Rattle.snoop_engine.specs.Packed.{steps_in, stores_in};
+    ghost use Rattle.snoop_engine.specs.Packed.{steps_in, stored_in, worded_in};
 
     ghost Value = { List Step };
 
-    ghost view = { λ q. steps_in q.heads.items q.values.items };
+    ghost view = { λ q. steps_in q.heads.items q.words.items q.values.items };
 
-    ghost invariant = { λ q. stores_in q.heads.items ≡ length q.values.items };
+    ghost invariant = { λ q. (worded_in q.heads.items ≡ length q.words.items) × (stored_in q.heads.items ≡ length q.values.items) };
 }
 
 impl StepQueue {
@@ -114,6 +138,7 @@ impl StepQueue {
     {
         StepQueue {
             heads: VecDeque::new(alloc),
+            words: VecDeque::new(alloc),
             values: VecDeque::new(alloc),
         }
     }
@@ -124,24 +149,47 @@ impl StepQueue {
         ensures none { IfNone result (self.old ≡ []) }
     {
         let head = self.heads.pop_front()?;
-        let value = match head.kind {
-            Kind::Store => self.values.pop_front().unwrap(),
+        let word = match head.kind {
+            Kind::LoadOfWord | Kind::StoreOfWord | Kind::EvictOfWord => {
+                self.words.pop_front().unwrap()
+            }
             _ => 0,
         };
-        Some(head.step(value))
+        let value = match head.kind {
+            Kind::Store | Kind::StoreOfWord => self.values.pop_front().unwrap(),
+            _ => 0,
+        };
+        Some(head.step(word as u32, value))
     }
 }
 
-// Appends what the step stores, if it does.
-fn append_value(values: &mut VecDeque<u64>, step: Step) -> Result<(), NoMemory>
-    ensures ok { OnOk result (values.new.items ≡ values.old.items ++ values_of step) }
-    ensures err { OnErr result (values.new.items ≡ values.old.items) }
+// Appends the step's word, if it is not of a first word, and what it stores, if it does.
+fn append_data(
+    words: &mut VecDeque<u8>,
+    values: &mut VecDeque<u64>,
+    step: Step,
+) -> Result<(), NoMemory>
+    requires { IsStepWithin largest step }
+    ensures words { OnOk result (words.new.items ≡ words.old.items ++ words_of step) }
+    ensures values { OnOk result (values.new.items ≡ values.old.items ++ values_of step) }
+    ensures err { OnErr result ((words.new.items ≡ words.old.items) × (values.new.items ≡ values.old.items)) }
 {
     match step {
+        Step::Ask {
+            word,
+            op: Op::Store(value),
+            ..
+        } if word != 0 => {
+            words.reserve(1)?;
+            values.push_back(value).map_err(|_| NoMemory)?;
+            words.push_back_reserved(word as u8);
+            Ok(())
+        }
         Step::Ask {
             op: Op::Store(value),
             ..
         } => values.push_back(value).map_err(|_| NoMemory),
+        Step::Ask { word, .. } if word != 0 => words.push_back(word as u8).map_err(|_| NoMemory),
         _ => Ok(()),
     }
 }
@@ -153,7 +201,7 @@ impl Entries<Step> for StepQueue {
 
     fn append(&mut self, step: Step) -> Result<(), NoMemory> {
         self.heads.reserve(1)?;
-        append_value(&mut self.values, step)?;
+        append_data(&mut self.words, &mut self.values, step)?;
         self.heads.push_back_reserved(Head::new(step));
         Ok(())
     }

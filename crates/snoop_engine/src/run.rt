@@ -1,7 +1,8 @@
 //! The command `run`: the rows of a text, one at a time on each core.
-ghost use Rattle.std.specs.Prelude.{◌≡◌, ◌≢◌, ◌<◌, ◌-◌, ◌^◌, true, length, All, Err, OnOk, OnErr, IsSomeAnd};
+ghost use Rattle.std.specs.Prelude.{◌≡◌, ◌≢◌, true, All, Err, OnOk, OnErr};
 ghost use Rattle.snoop_trace.specs.Grammar.{IsRowWithin};
 ghost use Rattle.snoop_trace.specs.Output.{BlamesWriter};
+ghost use Rattle.snoop_trace.specs.Text.{BlamesReader};
 ghost use Rattle.snoop_trace.specs.declared.fault.TextFault.{TextFault};
 ghost use Rattle.snoop_trace.specs.declared.fault.TextFault.TheVariants as text_fault;
 ghost use Rattle.snoop_engine.specs.Driven.{WritesDriven, WritesDrivenFront};
@@ -19,21 +20,22 @@ use std::alloc::Global;
 /// Reads a text of rows to its end, and lets each core do its rows in the order of the text, one at a time, on a
 /// machine at reset: in each round the cores take one step each by rising number, where they have one. Writes the line of
 /// each step and then the report.
-pub fn simulate_run<R: Source + Drop, W: Sink>(
+pub fn simulate_run<R: Source, W: Sink>(
     alloc: Global,
-    reader: R,
+    reader: &mut R,
     writer: &mut W,
     protocol: Protocol,
     shape: Shape,
 ) -> Result<(), SimFault>
-    ensures does { SimulatesRun protocol shape (R.remaining reader) result (W.contents writer.old) (W.contents writer.new) }
+    ensures does { SimulatesRun protocol shape (R.remaining reader.old) result (W.contents writer.old) (W.contents writer.new) }
     // A refused text leaves the writer as it was.
     ensures unwritten { (fault : TextFault) → result ≡ Err (SimFault.Text fault) → writer.new ≡ writer.old }
 
     // A reader or a writer whose contract rules failure out is never blamed.
-    ensures reads { R.never_fails ≡ true → IsSomeAnd (R.remaining reader) (λ bytes. length bytes < 2 ^ 64 - 1) → result ≢ Err (SimFault.Text text_fault.Read) }
+    ensures reads { R.never_fails ≡ true → result ≢ Err (SimFault.Text text_fault.Read) }
     ensures writes { W.never_fails ≡ true → result ≢ Err SimFault.Write }
-    // Where it is known that no write to the writer had failed, it is blamed exactly where one fails, and none is tried again.
+    // Where it is known that none of its reads or writes had failed, it is blamed exactly where one fails, and none is tried again.
+    ensures read_blamed { BlamesReader (R.failed reader.old) (R.failed reader.new) (result ≡ Err (SimFault.Text text_fault.Read)) }
     ensures blamed { BlamesWriter (W.failed writer.old) (W.failed writer.new) (result ≡ Err SimFault.Write) }
 {
     let rows = read_rows(alloc, reader, shape).map_err(SimFault::Text)?;

@@ -1,5 +1,5 @@
 //! Shows a machine after each step of a text: all that its getters answer, a line for each step, taken or refused.
-//! The words are the protocol, how many cores and how many blocks; the text comes on standard input.
+//! The words are the protocol, how many cores, blocks and words of a block; the text comes on standard input.
 #![tactic(auto)]
 
 use anyhow::{Context, Result, bail};
@@ -13,24 +13,43 @@ use std::alloc::Global;
 
 /// What the command line asks for: a protocol and a shape, with blocks of 64 bytes.
 fn machine_of(alloc: Global, words: &[String]) -> Result<Machine> {
-    let [_, protocol, cores, blocks] = words else {
-        bail!("a protocol, cores and blocks are wanted");
+    let [_, protocol, cores, blocks, words] = words else {
+        bail!("a protocol, cores, blocks and words are wanted");
     };
     let protocol = match protocol.as_str() {
         "msi" => Protocol::Msi,
         "mesi" => Protocol::Mesi,
         _ => bail!("there are msi and mesi"),
     };
-    let shape = Shape::new(cores.as_str().parse()?, blocks.as_str().parse()?, 64)?;
+    let shape = Shape::with_words(
+        cores.as_str().parse()?,
+        blocks.as_str().parse()?,
+        64,
+        words.as_str().parse()?,
+    )?;
     Ok(Machine::reset(alloc, protocol, shape)?)
 }
 
-/// Appends what the core holds of the block: its state, the value that it keeps, and a mark where its request waits.
+/// Appends the value of a word, with a stroke before it but for a block's first.
+fn push_value(out: &mut String, word: u32, value: Option<u64>) -> Result<()> {
+    if word > 0 {
+        out.push('/')?;
+    }
+    let value = value.context("no such word")?;
+    write!(out, "{value}")?;
+    Ok(())
+}
+
+/// Appends what the core holds of the block: its state, the values that it keeps, and a mark where its request waits.
 fn push_held(out: &mut String, machine: &Machine, core: u32, block: u32) -> Result<()> {
     let state = machine.state(core, block).context("no such line")?;
     write!(out, "{state}")?;
-    if let Some(value) = machine.kept(core, block) {
-        write!(out, "={value}")?;
+    let words = machine.shape().words();
+    if machine.kept(core, block, 0).is_some() {
+        out.push('=')?;
+        for word in 0..words {
+            push_value(out, word, machine.kept(core, block, word))?;
+        }
     }
     if machine.waits_on(core, block) {
         out.push('!')?;
@@ -38,8 +57,8 @@ fn push_held(out: &mut String, machine: &Machine, core: u32, block: u32) -> Resu
     Ok(())
 }
 
-/// Appends the open transaction: requestor, request, payload, value, and the core that sends it or memory.
-fn push_open(out: &mut String, open: &Open) -> Result<()> {
+/// Appends the open transaction: requestor, request, payload, values, and the core that sends it or memory.
+fn push_open(out: &mut String, open: &Open, words: u32) -> Result<()> {
     let Open {
         core,
         request,
@@ -48,7 +67,11 @@ fn push_open(out: &mut String, open: &Open) -> Result<()> {
         from,
         ..
     } = open;
-    write!(out, "{core}:{request}:{payload}:{value}:")?;
+    write!(out, "{core}:{request}:{payload}:")?;
+    for word in 0..words {
+        push_value(out, word, value.get(word))?;
+    }
+    out.push(':')?;
     match from {
         Some(sender) => write!(out, "{sender}")?,
         None => out.push_str("memory")?,
@@ -56,17 +79,21 @@ fn push_open(out: &mut String, open: &Open) -> Result<()> {
     Ok(())
 }
 
-/// Appends all that is seen of the block: what each core holds, memory's state and value, and the open transaction.
+/// Appends all that is seen of the block: what each core holds, memory's state and values, and the open transaction.
 fn push_block(out: &mut String, machine: &Machine, block: u32) -> Result<()> {
     for core in 0..machine.shape().cores() {
         push_held(out, machine, core, block)?;
         out.push(',')?;
     }
     let memory = machine.mem_state(block).context("no such block")?;
-    let value = machine.mem_value(block).context("no such block")?;
-    write!(out, "{memory}={value},")?;
+    let words = machine.shape().words();
+    write!(out, "{memory}=")?;
+    for word in 0..words {
+        push_value(out, word, machine.mem_value(block, word))?;
+    }
+    out.push(',')?;
     if let Some(open) = machine.open(block) {
-        push_open(out, &open)?;
+        push_open(out, &open, words)?;
     }
     out.push('|')?;
     Ok(())
@@ -86,7 +113,7 @@ fn push_machine(out: &mut String, machine: &Machine) -> Result<()> {
     Ok(())
 }
 
-/// Appends the log's line: how many items there are, each core's operations, and each block's value in flat memory.
+/// Appends the log's line: how many items there are, each core's operations, and each block's values in flat memory.
 fn push_log(out: &mut String, log: &Log, shape: Shape) -> Result<()> {
     write!(out, "{}|", log.len())?;
     for core in 0..shape.cores() {
@@ -95,8 +122,10 @@ fn push_log(out: &mut String, log: &Log, shape: Shape) -> Result<()> {
     }
     out.push('|')?;
     for block in 0..shape.blocks() {
-        let value = log.flat(block).context("no such block")?;
-        write!(out, "{value},")?;
+        for word in 0..shape.words() {
+            push_value(out, word, log.flat(block, word))?;
+        }
+        out.push(',')?;
     }
     out.push('\n')?;
     Ok(())
@@ -107,7 +136,8 @@ fn main(rt: HostRuntime) -> Result<()> {
     let words: Vec<String> = std::env::args(&rt)?.collect(alloc)?;
     let mut machine = machine_of(alloc, &words)?;
     let mut out = String::new(alloc);
-    for step in &read_steps(alloc, AnyReader(rt.stdin()), machine.shape())? {
+    let mut reader = AnyReader::new(rt.stdin());
+    for step in &read_steps(alloc, &mut reader, machine.protocol(), machine.shape())? {
         // A refused step changes nothing, and the line shows it.
         let _ = machine.step(*step);
         push_machine(&mut out, &machine)?;

@@ -1,6 +1,6 @@
 -- What a log's board says of its items.
 use Rattle.std.proofs.Common.{◌≡◌, ℕ, suc, ◌^◌, ◌<◌, ◌≤◌, List, [], ◌∷◌, ◌++◌, length, Option, Some, None, arith, refl, sym, ap, ◌∙◌, map, get_or}
-use Rattle.std.specs.Prelude.{All, IfSome, slice_get, nat_lt, is_some, if◌then◌else◌}
+use Rattle.std.specs.Prelude.{All, IfSome, slice_get, nat_lt, is_some, ◌&&◌, if◌then◌else◌}
 use Rattle.std.specs.Option.{option_map}
 use Rattle.std.proofs.lemmas.Bool.{ltb-true}
 use Rattle.std.proofs.lemmas.Option.{slice_get_read, slice_get-map}
@@ -46,85 +46,89 @@ pub filter_map-map : {X Y Z : Type 0} (f : X → Y) (g : Y → Option Z) (xs : L
 filter_map-map f g [] = refl
 filter_map-map f g (x ∷ xs) = rw (filter_map-map f g xs)
 
-module _ {cores blocks : ℕ} {items : List Item} {board : Tables} {order : List ℕ} (kept : IsKept cores blocks items board order) where
-  pub within_all : All (IsWithin cores blocks) items
-  within_all = all_places (IsWithin cores blocks) items kept.listed.within
+module _ {cores blocks words : ℕ} {items : List Item} {board : Tables} {order : List ℕ} (kept : IsKept cores blocks words items board order) where
+  pub within_all : All (IsWithin cores blocks words) items
+  within_all = all_places (IsWithin cores blocks words) items kept.listed.within
 
-  whole : inside cores blocks items ≡ items
-  whole = inside_all cores blocks items within_all
+  whole : inside cores blocks words items ≡ items
+  whole = inside_all cores blocks words items within_all
 
-  pub kept-count : (core : ℕ) (answer : Option ℕ) → length items < 2 ^ 64 → answer ≡ (if nat_lt core cores then Some (capped (next_number (inside cores blocks items) core)) else None) →
+  pub kept-count : (core : ℕ) (answer : Option ℕ) → length items < 2 ^ 64 → answer ≡ (if nat_lt core cores then Some (capped (next_number (inside cores blocks words items) core)) else None) →
       answer ≡ (if nat_lt core cores then Some (next_number items core) else None)
   kept-count core answer few is =
       is
       ∙ (ap (λ (l : List Item). if nat_lt core cores then Some (capped (next_number l core)) else None) whole
       ∙ ap (λ (n : ℕ). if nat_lt core cores then Some n else None) (next_number-few items core few))
 
-  pub kept-last : (core : ℕ) (answer : Option Did) → answer ≡ (if nat_lt core cores then last_of (inside cores blocks items) core else None) → answer ≡ (if nat_lt core cores then last_of items core else None)
+  pub kept-last : (core : ℕ) (answer : Option Did) → answer ≡ (if nat_lt core cores then last_of (inside cores blocks words items) core else None) → answer ≡ (if nat_lt core cores then last_of items core else None)
   kept-last core answer is = is ∙ ap (λ (l : List Item). if nat_lt core cores then last_of l core else None) whole
 
-  pub kept-flat : (block : ℕ) (answer : Option ℕ) → answer ≡ (if nat_lt block blocks then Some (flat (inside cores blocks items) block) else None) → answer ≡ (if nat_lt block blocks then Some (flat items block) else None)
-  kept-flat block answer is = is ∙ ap (λ (l : List Item). if nat_lt block blocks then Some (flat l block) else None) whole
+  pub kept-flat : (block word : ℕ) (answer : Option ℕ) → answer ≡ (if nat_lt block blocks && nat_lt word words then Some (flat (inside cores blocks words items) block word) else None) → answer ≡ (if nat_lt block blocks && nat_lt word words then Some (flat items block word) else None)
+  kept-flat block word answer is = is ∙ ap (λ (l : List Item). if nat_lt block blocks && nat_lt word words then Some (flat l block word) else None) whole
 
   pub kept-totals : (answer : Totals) → length items < 2 ^ 64 → answer ≡ capped_totals (totals_of items) → answer ≡ totals_of items
   kept-totals answer few is = is ∙ totals-few items few
 
   pub kept-touched : (answer : List ℕ) → answer ≡ order → All (λ block. block < blocks) answer
-  kept-touched answer is = rw (is ∙ kept.mentioned) (touched_within cores blocks items within_all)
+  kept-touched answer is = rw (is ∙ kept.mentioned) (touched_within cores blocks words items within_all)
 
   -- an item of the shape is one of the largest shape
-  pub fits : (entry : Item) → IsWithin cores blocks entry → IsWithin 256 65536 entry
+  pub fits : (entry : Item) → IsWithin cores blocks words entry → IsWithin 256 65536 64 entry
   fits entry lies =
       let few_cores = kept.few_cores in
       let few_blocks = kept.few_blocks in
+      let few_words = kept.few_words in
       let core = lies.core in
       let block = lies.block in
       record {
         core = omega arith;
         block = omega arith;
-        operation = λ did is. let p = lies.operation did is in (omega (arith, p.0), omega (arith, p.1));
+        operation = λ did is. let p = lies.operation did is in (omega (arith, p.0), omega (arith, p.1), omega (arith, p.2));
       }
 
   -- a log with one item more
-  pub kept-push : (entry : Item) (items' : List Item) (board' : Tables) (order' : List ℕ) → IsWithin cores blocks entry → IsNumbered items entry →
-      items' ≡ items ++ entry ∷ [] → board' ≡ board_of cores blocks (items ++ entry ∷ []) → order' ≡ touched (items ++ entry ∷ []) → IsKept cores blocks items' board' order'
+  pub kept-push : (entry : Item) (items' : List Item) (board' : Tables) (order' : List ℕ) → IsWithin cores blocks words entry → IsNumbered items entry →
+      items' ≡ items ++ entry ∷ [] → board' ≡ board_of cores blocks words (items ++ entry ∷ []) → order' ≡ touched (items ++ entry ∷ []) → IsKept cores blocks words items' board' order'
   kept-push entry items' board' order' lies numbered more tallied mentioned =
       rw more (record {
         few_cores = kept.few_cores;
         few_blocks = kept.few_blocks;
-        listed = listed-push cores blocks items entry kept.listed lies numbered;
+        few_words = kept.few_words;
+        listed = listed-push cores blocks words items entry kept.listed lies numbered;
         tallied = tallied;
         mentioned = mentioned;
       })
 
 -- the shape of a log is that of its board
-pub board-shape : {cores blocks : ℕ} (items : List Item) {board : Tables} → board ≡ board_of cores blocks items → (length board.counts ≡ cores) × (length board.values ≡ blocks)
-board-shape {cores} {blocks} items {board} is =
-    let lengths = board_lengths cores blocks items in
-    (ap (λ (t : Tables). length t.counts) is ∙ lengths.0, ap (λ (t : Tables). length t.values) is ∙ lengths.1)
+pub board-shape : {cores blocks words : ℕ} (items : List Item) {board : Tables} → board ≡ board_of cores blocks words items → (length board.counts ≡ cores) × (board.blocks ≡ blocks) × (board.words ≡ words)
+board-shape {cores} {blocks} {words} items {board} is =
+    let lengths = board_lengths cores blocks words items in
+    (ap (λ (t : Tables). length t.counts) is ∙ lengths.0, ap (λ (t : Tables). t.blocks) is, ap (λ (t : Tables). t.words) is)
 
 -- the same log under other names of its sizes
-pub kept-as : {cores blocks : ℕ} (cores' blocks' : ℕ) {items : List Item} {board : Tables} {order : List ℕ} → cores' ≡ cores → blocks' ≡ blocks → IsKept cores blocks items board order → IsKept cores' blocks' items board order
-kept-as cores' blocks' c b kept = rw (c, b) kept
+pub kept-as : {cores blocks words : ℕ} (cores' blocks' words' : ℕ) {items : List Item} {board : Tables} {order : List ℕ} → cores' ≡ cores → blocks' ≡ blocks → words' ≡ words → IsKept cores blocks words items board order → IsKept cores' blocks' words' items board order
+kept-as cores' blocks' words' c b w kept = rw (c, b, w) kept
 
 -- an empty log
-pub kept-at_first : (cores blocks : ℕ) (board : Tables) (order : List ℕ) → cores ≤ 256 → blocks ≤ 65536 → board ≡ board_of cores blocks [] → order ≡ [] → IsKept cores blocks [] board order
-kept-at_first cores blocks board order few_cores few_blocks tallied mentioned =
+pub kept-at_first : (cores blocks words : ℕ) (board : Tables) (order : List ℕ) → cores ≤ 256 → blocks ≤ 65536 → words ≤ 64 → board ≡ board_of cores blocks words [] → order ≡ [] → IsKept cores blocks words [] board order
+kept-at_first cores blocks words board order few_cores few_blocks few_words tallied mentioned =
     record {
       few_cores = few_cores;
       few_blocks = few_blocks;
+      few_words = few_words;
       listed = record { within = λ k entry at. cc; in_order = λ k entry at. cc };
       tallied = tallied;
       mentioned = mentioned;
     }
 
-pub kept-empty : {cores blocks : ℕ} {items : List Item} {board : Tables} {order : List ℕ} → items ≡ [] → IsKept cores blocks [] board order → IsKept cores blocks items board order
+pub kept-empty : {cores blocks words : ℕ} {items : List Item} {board : Tables} {order : List ℕ} → items ≡ [] → IsKept cores blocks words [] board order → IsKept cores blocks words items board order
 kept-empty none kept = rw none kept
 
 -- two journals of equal parts
-pub same-journal : (j k : Journal) → j.cores ≡ k.cores → j.blocks ≡ k.blocks → j.items ≡ k.items → j.room ≡ k.room → j ≡ k
-same-journal j k c b i r =
+pub same-journal : (j k : Journal) → j.cores ≡ k.cores → j.blocks ≡ k.blocks → j.words ≡ k.words → j.items ≡ k.items → j.room ≡ k.room → j ≡ k
+same-journal j k c b w i r =
     ap (λ (n : ℕ). let s : Journal = record j { cores = n } in s) c
-    ∙ (ap (λ (n : ℕ). let s : Journal = record k { blocks = n; items = j.items; room = j.room } in s) b
+    ∙ (ap (λ (n : ℕ). let s : Journal = record k { blocks = n; words = j.words; items = j.items; room = j.room } in s) b
+    ∙ (ap (λ (n : ℕ). let s : Journal = record k { words = n; items = j.items; room = j.room } in s) w
     ∙ (ap (λ (l : List Item). let s : Journal = record k { items = l; room = j.room } in s) i
-    ∙ ap (λ (n : ℕ). let s : Journal = record k { room = n } in s) r))
+    ∙ ap (λ (n : ℕ). let s : Journal = record k { room = n } in s) r)))

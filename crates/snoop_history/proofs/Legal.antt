@@ -32,10 +32,10 @@ module _ (P : List Item → Item → Type 0) where
       ]
 
 -- a log's list with one item more
-pub listed-push : (cores blocks : ℕ) (items : List Item) (entry : Item) → IsKeptList cores blocks items → IsWithin cores blocks entry → IsNumbered items entry → IsKeptList cores blocks (items ++ entry ∷ [])
-listed-push cores blocks items entry kept within numbered =
+pub listed-push : (cores blocks words : ℕ) (items : List Item) (entry : Item) → IsKeptList cores blocks words items → IsWithin cores blocks words entry → IsNumbered items entry → IsKeptList cores blocks words (items ++ entry ∷ [])
+listed-push cores blocks words items entry kept within numbered =
     record {
-      within = each-grows (λ past x. IsWithin cores blocks x) items entry kept.within within;
+      within = each-grows (λ past x. IsWithin cores blocks words x) items entry kept.within within;
       in_order = each-grows IsNumbered items entry kept.in_order numbered;
     }
 
@@ -55,18 +55,18 @@ legal-begins items rest legal k x at =
     let p = slice_get-front items rest k x at in rw (← p.1) (legal k x p.0)
 
 -- the last value stored by one item, after another
-flat-one : (before : ℕ) (block : ℕ) (did : Option Did) →
-    last_or before (map (λ d. d.value) (filter (is_store_to block) (cons_option did []))) ≡ option_map_or (λ d. if is_store_to block d then d.value else before) did before
-flat-one before block None = refl
-flat-one before block (Some d) =
-    elim (is_store_to block d) as (λ b. last_or before (map (λ d. d.value) (cond b (d ∷ []) [])) ≡ (if b then d.value else before)) [ true ↦ refl | false ↦ refl ]
+flat-one : (before : ℕ) (block word : ℕ) (did : Option Did) →
+    last_or before (map (λ d. d.value) (filter (is_store_to block word) (cons_option did []))) ≡ option_map_or (λ d. if is_store_to block word d then d.value else before) did before
+flat-one before block word None = refl
+flat-one before block word (Some d) =
+    elim (is_store_to block word d) as (λ b. last_or before (map (λ d. d.value) (cond b (d ∷ []) [])) ≡ (if b then d.value else before)) [ true ↦ refl | false ↦ refl ]
 
-pub flat-grows : (items : List Item) (entry : Item) (block : ℕ) → flat (items ++ entry ∷ []) block ≡ stores entry block (flat items block)
-flat-grows items entry block =
+pub flat-grows : (items : List Item) (entry : Item) (block word : ℕ) → flat (items ++ entry ∷ []) block word ≡ stores entry block word (flat items block word)
+flat-grows items entry block word =
     rw (
       filter_map-append operation_of items (entry ∷ []),
-      filter-append (is_store_to block) (operations items) (cons_option (operation_of entry) []),
-      map-append (λ d. d.value) (filter (is_store_to block) (operations items)) (filter (is_store_to block) (cons_option (operation_of entry) [])),
-      last_or-append 0 (stored_values items block) (map (λ d. d.value) (filter (is_store_to block) (cons_option (operation_of entry) []))),
+      filter-append (is_store_to block word) (operations items) (cons_option (operation_of entry) []),
+      map-append (λ d. d.value) (filter (is_store_to block word) (operations items)) (filter (is_store_to block word) (cons_option (operation_of entry) [])),
+      last_or-append 0 (stored_values items block word) (map (λ d. d.value) (filter (is_store_to block word) (cons_option (operation_of entry) []))),
     )
-    (flat-one (flat items block) block (operation_of entry))
+    (flat-one (flat items block word) block word (operation_of entry))

@@ -40,16 +40,16 @@ last_of-push items entry core =
     ∙ (ap (last_or None) (map-append Some (answers_of items core) (of_core core (operation_of entry)))
     ∙ last_or-append None (map Some (answers_of items core)) (map Some (of_core core (operation_of entry))))
 
--- the value that an operation stores in the block, if it does
-abbrev pub stored_in : ℕ → Option Did → List ℕ
-stored_in block op = map (λ did. did.value) (filter (is_store_to block) (option_to_list op))
+-- the value that an operation stores in the word of the block, if it does
+abbrev pub stored_in : ℕ → ℕ → Option Did → List ℕ
+stored_in block word op = map (λ did. did.value) (filter (is_store_to block word) (option_to_list op))
 
-pub flat-push : (items : List Item) (entry : Item) (block : ℕ) → flat (items ++ entry ∷ []) block ≡ last_or (flat items block) (stored_in block (operation_of entry))
-flat-push items entry block =
-    ap (λ l. last_or 0 (map (λ did. did.value) (filter (is_store_to block) l))) (operations-push items entry)
-    ∙ (ap (λ l. last_or 0 (map (λ did. did.value) l)) (filter-append (is_store_to block) (operations items) (option_to_list (operation_of entry)))
-    ∙ (ap (last_or 0) (map-append (λ did. did.value) (filter (is_store_to block) (operations items)) (filter (is_store_to block) (option_to_list (operation_of entry))))
-    ∙ last_or-append 0 (stored_values items block) (stored_in block (operation_of entry))))
+pub flat-push : (items : List Item) (entry : Item) (block word : ℕ) → flat (items ++ entry ∷ []) block word ≡ last_or (flat items block word) (stored_in block word (operation_of entry))
+flat-push items entry block word =
+    ap (λ l. last_or 0 (map (λ did. did.value) (filter (is_store_to block word) l))) (operations-push items entry)
+    ∙ (ap (λ l. last_or 0 (map (λ did. did.value) l)) (filter-append (is_store_to block word) (operations items) (option_to_list (operation_of entry)))
+    ∙ (ap (last_or 0) (map-append (λ did. did.value) (filter (is_store_to block word) (operations items)) (filter (is_store_to block word) (option_to_list (operation_of entry))))
+    ∙ last_or-append 0 (stored_values items block word) (stored_in block word (operation_of entry))))
 
 -- one where something holds
 abbrev one_if : Bool → ℕ

@@ -1,13 +1,14 @@
 -- The blocks that a list mentions, with one item more.
-use Rattle.std.proofs.Common.{◌≡◌, ℕ, Bool, true, false, not, List, [], ◌∷◌, ◌++◌, refl, sym, ◌∙◌, ap, map, filter, take, length, ◌<◌, ◌+◌, get_or, eqb, inl, inr, append-nil, append_assoc}
+use Rattle.std.proofs.Common.{◌≡◌, ℕ, Bool, true, false, not, zero, arith, codes, ◌&&◌, List, [], ◌∷◌, ◌++◌, refl, sym, ◌∙◌, ap, map, filter, take, length, ◌<◌, ◌+◌, get_or, eqb, inl, inr, append-nil, append_assoc}
 use Rattle.std.specs.Prelude.{Option, Some, None, option_to_list, slice_get, suc, nat_lt, ◌==◌, nat_eq, All, if◌then◌else◌}
-use Rattle.std.specs.List.{list_any, flat_map}
+use Rattle.std.specs.List.{list_any, flat_map, range_with_len}
 use Rattle.std.specs.Option.{ForSome}
 use Rattle.std.proofs.lemmas.Grind.{flat_map-append}
 use Rattle.snoop_history.specs.History.{flat, operation_of}
-use Rattle.snoop_history.specs.Report.{block_text, blocks_text, totals_text, report_of}
+use Rattle.snoop_history.specs.Report.{values_text, block_text, blocks_text, totals_text, report_of}
 use Rattle.std.proofs.lemmas.Bool.{cases_eq, eq-eqb, ne_eqb, eqb-true, lt-ltb}
-use Rattle.std.proofs.lemmas.List.{take_more}
+use Rattle.std.specs.Fmt.{decimal}
+use Rattle.std.proofs.lemmas.List.{take_more, map-append}
 use Rattle.std.proofs.lemmas.List.Elements.{filter-append, All-filter, All-nil, All-cons, All-head, All-tail, All-append}
 use Rattle.std.proofs.lemmas.Map.Views.{any-filter_same}
 use Rattle.indexmap.specs.IndexSet.{insert_key}
@@ -89,33 +90,55 @@ each_once-all P [] all = All-nil P
 each_once-all P (x ∷ xs) all = All-cons P x (but x (each_once xs)) (All-head P x xs all) (All-filter (λ z. not (z == x)) P (each_once xs) (each_once-all P xs (All-tail P x xs all)))
 
 -- the blocks that an item within a shape mentions are within it
-blocks_within : (cores blocks block : ℕ) (op : Option Did) → block < blocks → ForSome op (λ did. (did.core < cores) × (did.block < blocks)) → All (λ b. b < blocks) (block ∷ map (λ did. did.block) (option_to_list op))
-blocks_within cores blocks block None within lies = All-cons (λ b. b < blocks) block [] within (All-nil (λ b. b < blocks))
-blocks_within cores blocks block (Some did) within lies =
+blocks_within : (cores blocks words block : ℕ) (op : Option Did) → block < blocks → ForSome op (λ did. (did.core < cores) × (did.block < blocks) × (did.word < words)) → All (λ b. b < blocks) (block ∷ map (λ did. did.block) (option_to_list op))
+blocks_within cores blocks words block None within lies = All-cons (λ b. b < blocks) block [] within (All-nil (λ b. b < blocks))
+blocks_within cores blocks words block (Some did) within lies =
     All-cons (λ b. b < blocks) block (did.block ∷ []) within (All-cons (λ b. b < blocks) did.block [] (lies did refl).1 (All-nil (λ b. b < blocks)))
 
-mentioned_within : (cores blocks : ℕ) (items : List Item) → All (IsWithin cores blocks) items → All (λ block. block < blocks) (flat_map mentioned items)
-mentioned_within cores blocks [] all = All-nil (λ block. block < blocks)
-mentioned_within cores blocks (x ∷ xs) all =
-    let first = All-head (IsWithin cores blocks) x xs all in
+mentioned_within : (cores blocks words : ℕ) (items : List Item) → All (IsWithin cores blocks words) items → All (λ block. block < blocks) (flat_map mentioned items)
+mentioned_within cores blocks words [] all = All-nil (λ block. block < blocks)
+mentioned_within cores blocks words (x ∷ xs) all =
+    let first = All-head (IsWithin cores blocks words) x xs all in
     All-append (λ block. block < blocks) (mentioned x) (flat_map mentioned xs)
-    (blocks_within cores blocks (block_of x) (operation_of x) first.block first.operation)
-    (mentioned_within cores blocks xs (All-tail (IsWithin cores blocks) x xs all))
+    (blocks_within cores blocks words (block_of x) (operation_of x) first.block first.operation)
+    (mentioned_within cores blocks words xs (All-tail (IsWithin cores blocks words) x xs all))
 
 -- the touched blocks of a list within a shape are within it
-pub touched_within : (cores blocks : ℕ) (items : List Item) → All (IsWithin cores blocks) items → All (λ block. block < blocks) (touched items)
-touched_within cores blocks items all =
-    each_once-all (λ block. block < blocks) (flat_map mentioned items) (mentioned_within cores blocks items all)
+pub touched_within : (cores blocks words : ℕ) (items : List Item) → All (IsWithin cores blocks words) items → All (λ block. block < blocks) (touched items)
+touched_within cores blocks words items all =
+    each_once-all (λ block. block < blocks) (flat_map mentioned items) (mentioned_within cores blocks words items all)
 
 -- a step of the loop over the blocks
-pub blocks_step : (items : List Item) (blocks : List ℕ) (i : ℕ) (old before after : List ℕ) (value : ℕ) → i < length blocks → before ≡ old ++ blocks_text items (take i blocks) →
-    value ≡ flat items (get_or blocks i 0) → after ≡ before ++ block_text (get_or blocks i 0) value → after ≡ old ++ blocks_text items (take (i + 1) blocks)
-blocks_step items blocks i old before after value within so_far is put =
+pub blocks_step : (words : ℕ) (items : List Item) (blocks : List ℕ) (i : ℕ) (old before after : List ℕ) → i < length blocks → before ≡ old ++ blocks_text words items (take i blocks) →
+    after ≡ before ++ block_text (get_or blocks i 0) (map (flat items (get_or blocks i 0)) (range_with_len 0 words)) → after ≡ old ++ blocks_text words items (take (i + 1) blocks)
+blocks_step words items blocks i old before after within so_far put =
     let block = get_or blocks i 0 in
-    let line : ℕ → List ℕ = λ b. block_text b (flat items b) in
+    let line : ℕ → List ℕ = λ b. block_text b (map (flat items b) (range_with_len 0 words)) in
     let more : flat_map line (take (i + 1) blocks) ≡ flat_map line (take i blocks) ++ (line block ++ []) = ap (flat_map line) (take_more blocks i 0 within) ∙ flat_map-append line (take i blocks) (block ∷ []) in
-    put ∙ (ap (λ (l : List ℕ). l ++ block_text block value) so_far ∙ (ap (λ (v : ℕ). (old ++ flat_map line (take i blocks)) ++ block_text block v) is
-    ∙ (append_assoc old (flat_map line (take i blocks)) (line block) ∙ ap (λ (l : List ℕ). old ++ l) (ap (λ (l : List ℕ). flat_map line (take i blocks) ++ l) (sym (append-nil (line block))) ∙ sym more))))
+    put ∙ (ap (λ (l : List ℕ). l ++ line block) so_far
+    ∙ (append_assoc old (flat_map line (take i blocks)) (line block) ∙ ap (λ (l : List ℕ). old ++ l) (ap (λ (l : List ℕ). flat_map line (take i blocks) ++ l) (sym (append-nil (line block))) ∙ sym more)))
+
+-- one number more of a range
+range-more : (a n : ℕ) → range_with_len a (suc n) ≡ range_with_len a n ++ (a + n) ∷ []
+range-more a zero = let same : a + 0 ≡ a = omega arith in rw same refl
+range-more a (suc n) =
+    let next : a + 1 + n ≡ a + suc n = omega arith in
+    ap (λ (l : List ℕ). a ∷ l) (range-more (a + 1) n ∙ ap (λ (k : ℕ). range_with_len (a + 1) n ++ k ∷ []) next)
+
+-- a step of the loop over the words
+pub values_step : (items : List Item) (block word : ℕ) (old before after : List ℕ) (value : ℕ) → before ≡ old ++ values_text (map (flat items block) (range_with_len 0 word)) →
+    value ≡ flat items block word → after ≡ before ++ (codes " " ++ decimal value) → after ≡ old ++ values_text (map (flat items block) (range_with_len 0 (word + 1)))
+values_step items block word old before after value so_far is put =
+    let f = flat items block in
+    let one : ℕ → List ℕ = λ v. codes " " ++ decimal v in
+    let zero_more : 0 + word ≡ word = omega arith in
+    let next : word + 1 ≡ suc word = omega arith in
+    let more : values_text (map f (range_with_len 0 (word + 1))) ≡ values_text (map f (range_with_len 0 word)) ++ (one (f word) ++ []) =
+    ap (λ (l : List ℕ). values_text (map f l)) (ap (range_with_len 0) next ∙ range-more 0 word ∙ ap (λ (k : ℕ). range_with_len 0 word ++ k ∷ []) zero_more)
+    ∙ (ap values_text (map-append f (range_with_len 0 word) (word ∷ [])) ∙ flat_map-append one (map f (range_with_len 0 word)) (f word ∷ [])) in
+    put ∙ (ap (λ (l : List ℕ). l ++ one value) so_far ∙ (ap (λ (v : ℕ). (old ++ values_text (map f (range_with_len 0 word))) ++ one v) is
+    ∙ (append_assoc old (values_text (map f (range_with_len 0 word))) (one (f word))
+    ∙ ap (λ (l : List ℕ). old ++ l) (ap (λ (l : List ℕ). values_text (map f (range_with_len 0 word)) ++ l) (sym (append-nil (one (f word)))) ∙ sym more))))
 
 -- what holds of the element at each place holds of all
 pub all_places : (P : Item → Type 0) (items : List Item) → ((k : ℕ) (entry : Item) → slice_get items k ≡ Some entry → P entry) → All P items
@@ -123,17 +146,18 @@ all_places P [] each = All-nil P
 all_places P (x ∷ xs) each = All-cons P x xs (each 0 x refl) (all_places P xs (λ k entry at. each (suc k) entry at))
 
 -- a flat value that was found
-pub flat_found : (cores blocks : ℕ) (items : List Item) (block value : ℕ) (answer : Option ℕ) → block < blocks → answer ≡ (if nat_lt block blocks then Some (flat items block) else None) → answer ≡ Some value → value ≡ flat items block
-flat_found cores blocks items block value answer within told found =
+pub flat_found : (blocks words : ℕ) (items : List Item) (block word value : ℕ) (answer : Option ℕ) → block < blocks → word < words → answer ≡ (if nat_lt block blocks && nat_lt word words then Some (flat items block word) else None) → answer ≡ Some value → value ≡ flat items block word
+flat_found blocks words items block word value answer within in_words told found =
     let inside : nat_lt block blocks ≡ true = lt-ltb block blocks within in
-    let some : answer ≡ Some (flat items block) = rw inside at told in
+    let there : nat_lt word words ≡ true = lt-ltb word words in_words in
+    let some : answer ≡ Some (flat items block word) = rw (inside, there) at told in
     cc
 
 -- the totals and then the blocks are the report
-pub report_joined : (items : List Item) (blocks old mid new : List ℕ) (totals : Totals) → totals ≡ totals_of items → blocks ≡ touched items → mid ≡ old ++ totals_text totals →
-    new ≡ mid ++ blocks_text items blocks → new ≡ old ++ report_of items
-report_joined items blocks old mid new totals counts mentioned put_totals put_blocks =
+pub report_joined : (words : ℕ) (items : List Item) (blocks old mid new : List ℕ) (totals : Totals) → totals ≡ totals_of items → blocks ≡ touched items → mid ≡ old ++ totals_text totals →
+    new ≡ mid ++ blocks_text words items blocks → new ≡ old ++ report_of words items
+report_joined words items blocks old mid new totals counts mentioned put_totals put_blocks =
     put_blocks
-    ∙ (ap (λ (l : List ℕ). l ++ blocks_text items blocks) (put_totals ∙ ap (λ (t : Totals). old ++ totals_text t) counts)
-    ∙ (append_assoc old (totals_text (totals_of items)) (blocks_text items blocks)
-    ∙ ap (λ (l : List ℕ). old ++ (totals_text (totals_of items) ++ blocks_text items l)) mentioned))
+    ∙ (ap (λ (l : List ℕ). l ++ blocks_text words items blocks) (put_totals ∙ ap (λ (t : Totals). old ++ totals_text t) counts)
+    ∙ (append_assoc old (totals_text (totals_of items)) (blocks_text words items blocks)
+    ∙ ap (λ (l : List ℕ). old ++ (totals_text (totals_of items) ++ blocks_text words items l)) mentioned))

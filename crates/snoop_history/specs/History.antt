@@ -1,7 +1,9 @@
 -- What a list of items says: its operations, flat memory, and when it is legal.
 -- Source: the data value invariant of "A Primer on Memory Consistency and Cache Coherence", 2nd edition, put as flat memory; numbers and items are this project's profile.
 use Rattle.std.specs.Prelude.{◌≡◌, ℕ, Bool, not, ◌&&◌, ◌==◌, List, [], ◌∷◌, map, length, filter, filter_map, take, Option, Some, None, slice_get, MatchOption, ⊤, IsTrue, if◌then◌else◌}
+use Rattle.std.specs.List.{range_with_len}
 use Rattle.std.specs.Option.{option_map_or, ForSome}
+use Rattle.snoop_trace.specs.Words.{Data, word_places}
 use Rattle.snoop_history.specs.declared.items.Did.{Did}
 use Rattle.snoop_history.specs.declared.items.Item.{Item}
 use Rattle.snoop_history.specs.declared.items.Item.TheVariants as item
@@ -24,26 +26,30 @@ answers_of items core = filter (λ did. did.core == core) (operations items)
 abbrev pub next_number : List Item → ℕ → ℕ
 next_number items core = length (answers_of items core)
 
--- the operation stores to the block
-abbrev pub is_store_to : ℕ → Did → Bool
-is_store_to block did = not did.load && did.block == block
+-- the operation stores to the word of the block
+abbrev pub is_store_to : ℕ → ℕ → Did → Bool
+is_store_to block word did = not did.load && (did.block == block && did.word == word)
 
--- the values that were stored to the block, in order
-abbrev pub stored_values : List Item → ℕ → List ℕ
-stored_values items block = map (λ did. did.value) (filter (is_store_to block) (operations items))
+-- the values that were stored to the word of the block, in order
+abbrev pub stored_values : List Item → ℕ → ℕ → List ℕ
+stored_values items block word = map (λ did. did.value) (filter (is_store_to block word) (operations items))
 
 -- the last element of a list, or the one given where there is none
 abbrev pub last_or : {A : Type 0} → A → List A → A
 last_or value [] = value
 last_or value (x ∷ xs) = last_or x xs
 
--- flat memory: the value of the last store to the block, 0 if there is none
-abbrev pub flat : List Item → ℕ → ℕ
-flat items block = last_or 0 (stored_values items block)
+-- flat memory: the value of the last store to the word of the block, 0 if there is none
+abbrev pub flat : List Item → ℕ → ℕ → ℕ
+flat items block word = last_or 0 (stored_values items block word)
 
--- a block's value in flat memory after an item, from its value before
-abbrev pub stores : Item → ℕ → ℕ → ℕ
-stores entry block before = option_map_or (λ did. if is_store_to block did then did.value else before) (operation_of entry) before
+-- the words of the block in flat memory
+abbrev pub flat_words : List Item → ℕ → Data
+flat_words items block = map (flat items block) (range_with_len 0 word_places)
+
+-- a word's value in flat memory after an item, from its value before
+abbrev pub stores : Item → ℕ → ℕ → ℕ → ℕ
+stores entry block word before = option_map_or (λ did. if is_store_to block word did then did.value else before) (operation_of entry) before
 
 -- the core's last operation, if any
 abbrev pub last_of : List Item → ℕ → Option Did
@@ -52,7 +58,7 @@ last_of items core = last_or None (map Some (answers_of items core))
 -- an operation may come next after these items: it has its core's next number, and a load has flat memory's value
 pub record IsNext (past : List Item) (did : Did) : Type 0 where
   pub numbered : did.number ≡ next_number past did.core
-  pub loaded : IsTrue did.load → did.value ≡ flat past did.block
+  pub loaded : IsTrue did.load → did.value ≡ flat past did.block did.word
 
 -- an item may come next: its operation may, if it has one
 abbrev pub Follows : List Item → Item → Type 0

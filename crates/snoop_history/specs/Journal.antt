@@ -9,6 +9,7 @@ use Rattle.snoop_history.specs.Totals.{capped, performed, ordered, responded, is
 pub record Journal : Type 0 where
   pub cores : ℕ
   pub blocks : ℕ
+  pub words : ℕ
   pub items : List Item
   pub room : ℕ
 

@@ -15,25 +15,27 @@ abbrev pub journal : Inside → Journal
 journal l =
     record {
       cores = length l.board.counts;
-      blocks = length l.board.values;
+      blocks = l.board.blocks;
+      words = l.board.words;
       items = map unpacked l.items.items;
       room = vec_capacity l.items - vec_len l.items;
     }
 
 -- each item lies within the shape, and its operation carries its core's next number
-pub record IsKeptList (cores blocks : ℕ) (items : List Item) : Type 0 where
-  pub within : (k : ℕ) (entry : Item) → slice_get items k ≡ Some entry → IsWithin cores blocks entry
+pub record IsKeptList (cores blocks words : ℕ) (items : List Item) : Type 0 where
+  pub within : (k : ℕ) (entry : Item) → slice_get items k ≡ Some entry → IsWithin cores blocks words entry
   pub in_order : (k : ℕ) (entry : Item) → slice_get items k ≡ Some entry → IsNumbered (take k items) entry
 
 -- the shape is within the limits, the board is that of the items, and the blocks are those that they touch
-pub record IsKept (cores blocks : ℕ) (items : List Item) (board : Tables) (order : List ℕ) : Type 0 where
+pub record IsKept (cores blocks words : ℕ) (items : List Item) (board : Tables) (order : List ℕ) : Type 0 where
   pub few_cores : cores ≤ 256
   pub few_blocks : blocks ≤ 65536
-  pub listed : IsKeptList cores blocks items
-  pub tallied : board ≡ board_of cores blocks items
+  pub few_words : words ≤ 64
+  pub listed : IsKeptList cores blocks words items
+  pub tallied : board ≡ board_of cores blocks words items
   pub mentioned : order ≡ touched items
 
 -- what holds of every log
 pub record IsWellKept (l : Inside) : Type 0 where
-  pub kept : IsKept (length l.board.counts) (length l.board.values) (map unpacked l.items.items) l.board l.touched.order
-  pub as_many : l.touched.blocks ≡ length l.board.values
+  pub kept : IsKept (length l.board.counts) l.board.blocks l.board.words (map unpacked l.items.items) l.board l.touched.order
+  pub as_many : l.touched.blocks ≡ l.board.blocks

@@ -1,6 +1,6 @@
 -- The items that a log's packed items stand for.
 -- Source: this project's profile.
-use Rattle.std.specs.Prelude.{Some, None, if◌then◌else◌}
+use Rattle.std.specs.Prelude.{Bool, true, false, Some, None, if◌then◌else◌}
 use Rattle.snoop_history.specs.declared.items.Did.{Did}
 use Rattle.snoop_history.specs.declared.items.Sent.{Sent}
 use Rattle.snoop_history.specs.declared.items.Came.{Came}
@@ -9,10 +9,26 @@ use Rattle.snoop_history.specs.declared.items.Item.TheVariants as item
 use Rattle.snoop_history.specs.declared.packed.Kind.{Kind}
 use Rattle.snoop_history.specs.declared.packed.Kind.TheVariants as kind
 use Rattle.snoop_history.specs.declared.packed.Packed.{Packed}
+use Rattle.snoop_history.specs.declared.packed.Way.{Way}
+use Rattle.snoop_history.specs.declared.packed.Way.TheVariants as way
+
+-- the operation was a load
+abbrev pub is_load : Way → Bool
+is_load way.LoadHit = true
+is_load way.LoadMiss = true
+is_load way.StoreHit = false
+is_load way.StoreMiss = false
+
+-- the operation was a hit
+abbrev pub is_hit : Way → Bool
+is_hit way.LoadHit = true
+is_hit way.StoreHit = true
+is_hit way.LoadMiss = false
+is_hit way.StoreMiss = false
 
 -- the operation of a packed item
 abbrev pub operation_in : Packed → Did
-operation_in p = record { core = p.did_core; number = p.number; block = p.did_block; load = p.load; value = p.value; hit = p.hit }
+operation_in p = record { core = p.did_core; number = p.number; block = p.did_block; word = p.word; load = is_load p.way; value = p.value; hit = is_hit p.way }
 
 -- its request
 abbrev pub request_in : Packed → Sent

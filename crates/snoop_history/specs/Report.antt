@@ -1,8 +1,8 @@
 -- The report of a list of items.
 -- Source: this project's profile.
-use Rattle.std.specs.Prelude.{ℕ, List, ◌++◌, codes}
+use Rattle.std.specs.Prelude.{ℕ, map, List, ◌++◌, codes}
 use Rattle.std.specs.Fmt.{decimal}
-use Rattle.std.specs.List.{flat_map}
+use Rattle.std.specs.List.{flat_map, range_with_len}
 use Rattle.snoop_history.specs.declared.items.Item.{Item}
 use Rattle.snoop_history.specs.declared.items.Totals.{Totals}
 use Rattle.snoop_history.specs.History.{flat}
@@ -32,14 +32,18 @@ writebacks_text t = codes "writebacks " ++ decimal t.writebacks ++ codes " clean
 abbrev pub totals_text : Totals → List ℕ
 totals_text t = loads_text t ++ stores_text t ++ requests_text t ++ sources_text t ++ writebacks_text t
 
--- a block and its value
-abbrev pub block_text : ℕ → ℕ → List ℕ
-block_text block value = codes "block " ++ decimal block ++ codes " value " ++ decimal value ++ codes "\n"
+-- values, a space before each
+abbrev pub values_text : List ℕ → List ℕ
+values_text values = flat_map (λ value. codes " " ++ decimal value) values
 
--- each of the blocks with its value in flat memory
-abbrev pub blocks_text : List Item → List ℕ → List ℕ
-blocks_text items blocks = flat_map (λ block. block_text block (flat items block)) blocks
+-- a block and the values of its words
+abbrev pub block_text : ℕ → List ℕ → List ℕ
+block_text block values = codes "block " ++ decimal block ++ codes " value" ++ values_text values ++ codes "\n"
+
+-- each of the blocks, of so many words, with its values in flat memory
+abbrev pub blocks_text : ℕ → List Item → List ℕ → List ℕ
+blocks_text words items blocks = flat_map (λ block. block_text block (map (flat items block) (range_with_len 0 words))) blocks
 
 -- the totals, then each block that an item mentions, in order of first mention
-abbrev pub report_of : List Item → List ℕ
-report_of items = totals_text (totals_of items) ++ blocks_text items (touched items)
+abbrev pub report_of : ℕ → List Item → List ℕ
+report_of words items = totals_text (totals_of items) ++ blocks_text words items (touched items)

@@ -18,18 +18,18 @@ block_of (item.Did did) = did.block
 block_of (item.Sent sent) = sent.block
 block_of (item.Came came did) = came.block
 
--- the item's core and block are within the shape, and so are those of its operation
-pub record IsWithin (cores blocks : ℕ) (entry : Item) : Type 0 where
+-- the item's core and block are within the shape, and so are the core, block and word of its operation
+pub record IsWithin (cores blocks words : ℕ) (entry : Item) : Type 0 where
   pub core : core_of entry < cores
   pub block : block_of entry < blocks
-  pub operation : ForSome (operation_of entry) (λ did. (did.core < cores) × (did.block < blocks))
+  pub operation : ForSome (operation_of entry) (λ did. (did.core < cores) × (did.block < blocks) × (did.word < words))
 
 -- the same as a test
-abbrev pub is_within : ℕ → ℕ → Item → Bool
-is_within cores blocks entry =
+abbrev pub is_within : ℕ → ℕ → ℕ → Item → Bool
+is_within cores blocks words entry =
     nat_lt (core_of entry) cores && nat_lt (block_of entry) blocks
-    && option_map_or (λ did. nat_lt did.core cores && nat_lt did.block blocks) (operation_of entry) true
+    && option_map_or (λ did. nat_lt did.core cores && nat_lt did.block blocks && nat_lt did.word words) (operation_of entry) true
 
 -- the items of a list that lie within the shape
-abbrev pub inside : ℕ → ℕ → List Item → List Item
-inside cores blocks items = filter (is_within cores blocks) items
+abbrev pub inside : ℕ → ℕ → ℕ → List Item → List Item
+inside cores blocks words items = filter (is_within cores blocks words) items

@@ -15,6 +15,8 @@ pub struct Did {
     pub number: u64,
     /// The block that was read or written.
     pub block: u32,
+    /// The word of it.
+    pub word: u32,
     /// Whether it was a load; a store otherwise.
     pub load: bool,
     /// The value that was loaded or stored.
@@ -89,19 +91,22 @@ impl Item {
         }
     }
 
-    /// Whether the item's core and block lie within the shape, and those of its operation.
-    pub(crate) fn is_within(self, cores: usize, blocks: usize) -> bool
-        ensures { result ≡ is_within cores blocks self }
+    /// Whether the item's core and block lie within the shape, and the core, block and word of its operation.
+    pub(crate) fn is_within(self, cores: usize, blocks: u32, words: u32) -> bool
+        ensures { result ≡ is_within cores blocks words self }
     {
-        let lies = |core: u32, block: u32| (core as usize) < cores && (block as usize) < blocks;
-        lies(self.core(), self.block()) && self.did().is_none_or(|did| lies(did.core, did.block))
+        let lies = |core: u32, block: u32| (core as usize) < cores && block < blocks;
+        lies(self.core(), self.block())
+            && self
+                .did()
+                .is_none_or(|did| lies(did.core, did.block) && did.word < words)
     }
 
     /// The operation of an item within the shape.
-    pub(crate) fn operation_within(self, cores: usize, blocks: usize) -> Option<Did>
-        ensures { result ≡ operation_within cores blocks self }
+    pub(crate) fn operation_within(self, cores: usize, blocks: u32, words: u32) -> Option<Did>
+        ensures { result ≡ operation_within cores blocks words self }
     {
-        if self.is_within(cores, blocks) {
+        if self.is_within(cores, blocks, words) {
             self.did()
         } else {
             None

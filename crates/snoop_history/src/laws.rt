@@ -15,22 +15,22 @@ pub fn legal_begins()
     ensures { (items rest : List Item) → Legal (items ++ rest) → Legal items }
 {}
 
-/// Flat memory after one more item: the value that it stores to the block, or the value from before.
+/// Flat memory after one more item: the value that it stores to the word of the block, or the value from before.
 pub fn flat_grows()
-    ensures { (items : List Item) (entry : Item) (block : ℕ) → flat (items ++ entry ∷ []) block ≡ stores entry block (flat items block) }
+    ensures { (items : List Item) (entry : Item) (block word : ℕ) → flat (items ++ entry ∷ []) block word ≡ stores entry block word (flat items block word) }
 {}
 
 /// A board counts the whole of a history that lies within its shape.
 pub fn inside_whole()
-    ensures { (cores blocks : ℕ) (items : List Item) → All (IsWithin cores blocks) items → inside cores blocks items ≡ items }
+    ensures { (cores blocks words : ℕ) (items : List Item) → All (IsWithin cores blocks words) items → inside cores blocks words items ≡ items }
 {}
 
 /// The board of a list with one item more.
 pub fn board_grows()
-    ensures { (cores blocks : ℕ) (items : List Item) (entry : Item) → board_of cores blocks (items ++ entry ∷ []) ≡ absorbed (board_of cores blocks items) entry }
+    ensures { (cores blocks words : ℕ) (items : List Item) (entry : Item) → board_of cores blocks words (items ++ entry ∷ []) ≡ absorbed (board_of cores blocks words items) entry }
 {}
 
 /// Items that are absorbed one by one, from the board of no items on, give the board of their list. So boards that absorb the same list are equal.
 pub fn boards_are_one()
-    ensures { (cores blocks : ℕ) (items : List Item) → fold absorbed (board_of cores blocks []) items ≡ board_of cores blocks items }
+    ensures { (cores blocks words : ℕ) (items : List Item) → fold absorbed (board_of cores blocks words []) items ≡ board_of cores blocks words items }
 {}

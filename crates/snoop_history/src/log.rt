@@ -36,9 +36,10 @@ impl Model for Log {
 impl Log {
     /// The empty history of a machine of this shape. `NoMemory` where a table was refused.
     pub fn new(alloc: Global, shape: Shape) -> Result<Self, NoMemory>
-        ensures { IfOk result (λ log. log ≡ record { cores = shape.cores; blocks = shape.blocks; items = []; room = 0 }) }
+        ensures { IfOk result (λ log. log ≡ record { cores = shape.cores; blocks = shape.blocks; words = shape.words; items = []; room = 0 }) }
     {
         prove!(shape.cores() <= 256);
+        prove!(shape.words() <= 64);
         Ok(Log {
             items: Vec::new(alloc),
             board: Board::new(alloc, shape)?,
@@ -82,7 +83,7 @@ impl Log {
     /// The item at this place, from 0.
     pub fn item(&self, place: usize) -> Option<Item>
         ensures value { result ≡ slice_get self.now.items place }
-        ensures within { IfSome result (λ entry. IsWithin self.now.cores self.now.blocks entry) }
+        ensures within { IfSome result (λ entry. IsWithin self.now.cores self.now.blocks self.now.words entry) }
 
         // The k-th operation of a core, from 0, carries number k.
         ensures numbered { IfSome result (λ entry. IsNumbered (take place self.now.items) entry) }
@@ -93,7 +94,7 @@ impl Log {
 
     /// Does nothing: every item lies within the shape.
     pub fn kept(&self)
-        ensures { All (IsWithin self.now.cores self.now.blocks) self.now.items }
+        ensures { All (IsWithin self.now.cores self.now.blocks self.now.words) self.now.items }
     {
         let _ = &self.items;
     }
@@ -112,11 +113,18 @@ impl Log {
         self.board.last(core)
     }
 
-    /// The block's value in flat memory: the last one stored, 0 if there is none; `None` outside the shape.
-    pub fn flat(&self, block: u32) -> Option<u64>
-        ensures { result ≡ (if nat_lt block self.now.blocks then Some (flat self.now.items block) else None) }
+    /// The word's value in flat memory: the last one stored, 0 if there is none; `None` outside the shape.
+    pub fn flat(&self, block: u32, word: u32) -> Option<u64>
+        ensures { result ≡ (if nat_lt block self.now.blocks && nat_lt word self.now.words then Some (flat self.now.items block word) else None) }
     {
-        self.board.value(block)
+        self.board.value(block, word)
+    }
+
+    /// How many words a block has.
+    pub fn words(&self) -> u32
+        ensures { result ≡ self.now.words }
+    {
+        self.board.words()
     }
 
     /// The counts of the items.
@@ -162,10 +170,11 @@ impl Log {
 
     /// Whether the logs are equal: of one shape, and with the same items in order, whatever room they have.
     pub fn equals(&self, other: &Log) -> bool
-        ensures { IsTrue result ↔ ((self.now.cores ≡ other.now.cores) × (self.now.blocks ≡ other.now.blocks) × (self.now.items ≡ other.now.items)) }
+        ensures { IsTrue result ↔ ((self.now.cores ≡ other.now.cores) × (self.now.blocks ≡ other.now.blocks) × (self.now.words ≡ other.now.words) × (self.now.items ≡ other.now.items)) }
     {
         self.board.cores() == other.board.cores()
             && self.board.blocks() == other.board.blocks()
+            && self.board.words() == other.board.words()
             && self.has_items_of(other)
     }
 
@@ -189,14 +198,14 @@ impl Log {
     /// Whether `push` may take the item, room aside: it lies within the shape, and an operation carries its
     /// core's `count` as its number.
     pub fn takes(&self, item: Item) -> bool
-        ensures sound { IsTrue result → IsWithin self.now.cores self.now.blocks item × IsNumbered self.now.items item }
-        ensures whole { IsWithin self.now.cores self.now.blocks item → IsNumbered self.now.items item → IsTrue result }
+        ensures sound { IsTrue result → IsWithin self.now.cores self.now.blocks self.now.words item × IsNumbered self.now.items item }
+        ensures whole { IsWithin self.now.cores self.now.blocks self.now.words item → IsNumbered self.now.items item → IsTrue result }
     {
         let numbered = match item.did() {
             Some(did) => self.is_next(did),
             None => true,
         };
-        numbered && item.is_within(self.board.cores(), self.board.blocks())
+        numbered && item.is_within(self.board.cores(), self.board.blocks(), self.board.words())
     }
 
     // Whether the operation carries its core's next number.
@@ -213,7 +222,7 @@ impl Log {
     #[inline(always)]
     pub fn push(&mut self, item: Item)
         requires room { 0 < self.old.room }
-        requires within { IsWithin self.old.cores self.old.blocks item }
+        requires within { IsWithin self.old.cores self.old.blocks self.old.words item }
         requires numbered { IsNumbered self.old.items item }
         ensures { self.new ≡ record self.old { items = self.old.items ++ item ∷ []; room = self.old.room - 1 } }
     {

@@ -2,7 +2,7 @@
 ghost use Rattle.std.specs.Prelude.{◌≡◌, ◌<◌};
 ghost use Rattle.snoop_history.specs.History.{operation_of};
 ghost use Rattle.snoop_history.specs.Within.{IsWithin};
-ghost use Rattle.snoop_history.specs.Packed.{unpacked, operation_in, request_in, response_in};
+ghost use Rattle.snoop_history.specs.Packed.{unpacked, operation_in, request_in, response_in, is_load, is_hit};
 
 use crate::items::{Came, Did, Item, Sent};
 use snoop_rules::{Payload, Request};
@@ -20,7 +20,16 @@ pub(crate) enum Kind {
     Performed,
 }
 
-/// An item of a machine's shape, in 32 bytes where `Item` has 80. A field that its kind does not need is arbitrary.
+/// How an operation was performed.
+#[derive(Clone, Copy, Debug)]
+pub(crate) enum Way {
+    LoadHit,
+    LoadMiss,
+    StoreHit,
+    StoreMiss,
+}
+
+/// An item of a machine's shape, in fewer bytes than an `Item`. A field that its kind does not need is arbitrary.
 #[derive(Clone, Copy, Debug)]
 pub(crate) struct Packed {
     // The operation's number and value.
@@ -32,12 +41,12 @@ pub(crate) struct Packed {
     did_block: u16,
     core: u8,
     did_core: u8,
+    word: u8,
+    way: Way,
     kind: Kind,
     request: Request,
     payload: Payload,
     has_sender: bool,
-    load: bool,
-    hit: bool,
 }
 
 /// The fields of no item.
@@ -49,19 +58,19 @@ const EMPTY: Packed = Packed {
     did_block: 0,
     core: 0,
     did_core: 0,
+    word: 0,
+    way: Way::LoadHit,
     kind: Kind::Did,
     request: Request::GetS,
     payload: Payload::Data,
     has_sender: false,
-    load: false,
-    hit: false,
 };
 
 impl Packed {
     /// Packs an item of the largest shape or a smaller one.
     #[inline(always)]
     pub(crate) fn new(item: Item) -> Self
-        requires { IsWithin 256 65536 item }
+        requires { IsWithin 256 65536 64 item }
         ensures { unpacked result ≡ item }
     {
         match item {
@@ -77,6 +86,7 @@ impl Packed {
     fn of_operation(did: Did) -> Self
         requires core { did.core < 256 }
         requires block { did.block < 65536 }
+        requires word { did.word < 64 }
         ensures kind { result.kind ≡ Kind.Did }
         ensures operation { operation_in result ≡ did }
     {
@@ -85,9 +95,9 @@ impl Packed {
             value: did.value,
             did_block: did.block as u16,
             did_core: did.core as u8,
+            word: did.word as u8,
+            way: way_of(did.load, did.hit),
             kind: Kind::Did,
-            load: did.load,
-            hit: did.hit,
             ..EMPTY
         }
     }
@@ -153,9 +163,10 @@ impl Packed {
             core: self.did_core as u32,
             number: self.number,
             block: self.did_block as u32,
-            load: self.load,
+            word: self.word as u32,
+            load: is_load(self.way),
             value: self.value,
-            hit: self.hit,
+            hit: is_hit(self.way),
         }
     }
 
@@ -184,4 +195,28 @@ impl Packed {
             payload: self.payload,
         }
     }
+}
+
+fn way_of(load: bool, hit: bool) -> Way
+    ensures load { is_load result ≡ load }
+    ensures hit { is_hit result ≡ hit }
+{
+    match (load, hit) {
+        (true, true) => Way::LoadHit,
+        (true, false) => Way::LoadMiss,
+        (false, true) => Way::StoreHit,
+        (false, false) => Way::StoreMiss,
+    }
+}
+
+fn is_load(way: Way) -> bool
+    ensures { result ≡ is_load way }
+{
+    matches!(&way, Way::LoadHit | Way::LoadMiss)
+}
+
+fn is_hit(way: Way) -> bool
+    ensures { result ≡ is_hit way }
+{
+    matches!(&way, Way::LoadHit | Way::StoreHit)
 }

@@ -5,13 +5,14 @@ use Rattle.std.proofs.lemmas.Bool.{cases_eq, ne_eqb, eq-eqb, cases_lt}
 use Rattle.std.proofs.lemmas.Option.{same_Some}
 use Rattle.std.proofs.lemmas.List.{length-set, get_or-set_same, get_or-set_other, get_or_past}
 use Rattle.snoop_trace.specs.Extent.{Extent}
-use Rattle.snoop_rules.specs.declared.names.Protocol.{Protocol}
+use Rattle.snoop_trace.specs.declared.words.Words.{Words}
+use Rattle.snoop_trace.specs.declared.protocol.Protocol.{Protocol}
 use Rattle.snoop_rules.specs.declared.names.Request.{Request}
 use Rattle.snoop_rules.specs.declared.names.Payload.{Payload}
 use Rattle.snoop_rules.specs.Waits.{waiting_request}
-use Rattle.snoop_bus.specs.declared.transactions.Open.{Open}
+use Rattle.snoop_bus.specs.Traffic.{Open}
 use Rattle.snoop_bus.specs.Traffic.{Traffic, Waiting, no_queue, waiting_of, head_of, transaction_on}
-use Rattle.snoop_model.specs.declared.line.Line.{Line}
+use Rattle.snoop_model.specs.Pictures.Lines.{Line}
 use Rattle.snoop_model.specs.Pictures.Picture.{held_at, nothing_held}
 use Rattle.snoop_model.specs.Pictures.Sound.{IsSound, IsProper, IsEachOnce, line_at}
 use Rattle.snoop_model.specs.Pictures.Message.{TakesRows}
@@ -64,7 +65,7 @@ blocks_of-rest rs q b h once =
     let first : filter (λ x. not (x == b)) (b ∷ blocks_of (drop 1 rs)) ≡ filter (λ x. not (x == b)) (blocks_of (drop 1 rs)) = rw t refl in
     sym keeps ∙ (sym first ∙ ap (filter (λ x. not (x == b))) (sym all))
 
-module _ (shape : Extent) (caches after : List (List Line)) (bus : Traffic) (p : Protocol) (core block : ℕ) (request : Request) (payload : Payload) (value : ℕ) (from : Option ℕ)
+module _ (shape : Extent) (caches after : List (List Line)) (bus : Traffic) (p : Protocol) (core block : ℕ) (request : Request) (payload : Payload) (value : Words) (from : Option ℕ)
     (sound : IsSound shape caches bus) (in_cores : core < shape.cores) (in_blocks : block < shape.blocks)
     (head : head_of bus core ≡ Some (request, block))
     (wrote : after ≡ slice_set caches block (row_of after block)) (takes : TakesRows p core request (row_of caches block) (row_of after block)) where

@@ -5,14 +5,13 @@ use Rattle.std.proofs.lemmas.Bool.{cases_eq}
 use Rattle.std.proofs.lemmas.List.{get_or-set_other}
 use Rattle.snoop_rules.specs.declared.names.CacheState.{CacheState}
 use Rattle.snoop_rules.specs.declared.names.CacheState.TheVariants.{I}
-use Rattle.snoop_model.specs.declared.line.Line.{Line}
+use Rattle.snoop_model.specs.Pictures.Lines.{Line}
 use Rattle.snoop_model.specs.Pictures.Picture.{held_at}
 use Rattle.snoop_model.specs.Pictures.Situation.{state_of}
 use Rattle.snoop_model.specs.Pictures.Sound.{line_at}
 use Rattle.snoop_model.specs.Moves.Standing.{Standing, lines_of}
 use Rattle.snoop_model.proofs.Lines.EachRow.{row_of}
-use Rattle.snoop_machine.specs.declared.parts.Parts.TheInside.{Inside}
-use Rattle.snoop_machine.specs.PartsView.{standing, IsWhole}
+use Rattle.snoop_machine.specs.PartsView.{Fields, standing, IsWhole}
 use Rattle.snoop_machine.specs.Lines.{Held, LinesGo, gone, is_invalid}
 use Rattle.snoop_machine.specs.Following.{LosesLines}
 use Rattle.snoop_machine.proofs.LineMaps.{gone-none, gone-one, is_I}
@@ -50,7 +49,7 @@ module _ (old new : Standing) (block : ℕ) (others : (b : ℕ) → b ≢ block 
         ];
       }
 
-module _ (m : Inside) (old : Standing) (view : standing m ≡ old) (new : Standing) (block : ℕ) (held : Held) (rows : new.situation.caches ≡ held.rows) (lines : new.lines ≡ held.lines) where
+module _ (m : Fields) (old : Standing) (view : standing m ≡ old) (new : Standing) (block : ℕ) (held : Held) (rows : new.situation.caches ≡ held.rows) (lines : new.lines ≡ held.lines) where
   -- the lines of one block have moved
   pub follows-rows : held.rows ≡ slice_set m.lines.rows block (row_of held.rows block) → LinesGo block m.lines held → (k : ℕ) → LosesLines old new k
   follows-rows wrote go k =
@@ -65,7 +64,7 @@ module _ (m : Inside) (old : Standing) (view : standing m ≡ old) (new : Standi
       k)
 
   -- one line has moved
-  pub follows-set : IsWhole m → (core : ℕ) (line : Line) → core < old.situation.shape.cores → block < old.situation.shape.blocks
+  pub follows-set : {count : ℕ} → IsWhole count m → (core : ℕ) (line : Line) → core < old.situation.shape.cores → block < old.situation.shape.blocks
       → held.rows ≡ slice_set m.lines.rows block (slice_set (row_of m.lines.rows block) core line)
       → length (slice_index_or held.lines core []) + gone (line_at m.lines.rows core block).state line.state ≡ length (slice_index_or m.lines.lines core [])
       → ((k : ℕ) → k ≢ core → slice_index_or held.lines k [] ≡ slice_index_or m.lines.lines k [])

@@ -8,24 +8,24 @@ use Rattle.snoop_trace.specs.declared.step.Step.TheVariants as step
 use Rattle.snoop_rules.specs.declared.names.CacheState.TheVariants.{I}
 use Rattle.snoop_rules.specs.declared.names.CacheAction.TheVariants as action
 use Rattle.snoop_history.specs.declared.items.Item.{Item}
-use Rattle.snoop_model.specs.declared.line.Line.{Line}
+use Rattle.snoop_model.specs.Pictures.Lines.{Line}
 use Rattle.snoop_model.specs.declared.replies.Reply.{Reply}
 use Rattle.snoop_model.specs.Pictures.Picture.{held_at}
 use Rattle.snoop_model.specs.Pictures.Situation.{Situation, state_of}
 use Rattle.snoop_model.specs.Moves.Move.{FirstMove}
-use Rattle.snoop_model.specs.Moves.Standing.{Standing, lines_of, has_line}
+use Rattle.snoop_model.specs.Moves.Standing.{Standing, lines_of}
 use Rattle.snoop_model.specs.Moves.Holding.{NeedsLine, MovesToI, HoldsOn}
 use Rattle.snoop_model.proofs.Lines.EachRow.{row_of}
 use Rattle.snoop_model.proofs.Tables.EvictInI.{no_row}
 use Rattle.snoop_machine.specs.declared.ask.Asked.TheVariants.{Absent, Hit, Issue, Drop}
-use Rattle.snoop_machine.specs.declared.plan.Plan.{Plan}
+use Rattle.snoop_machine.specs.Plan.{Plan}
 use Rattle.snoop_machine.specs.declared.plan.Plan.TheVariants as plan
 use Rattle.snoop_machine.specs.Plan.{IsPlan, IsPlanFor, step_of}
 use Rattle.snoop_machine.specs.Following.{LosesLines, AddsLines}
 
 -- a core that leaves I on a block moves to I on none
 stays_out : (before : Standing) (new : Situation) (taking : Step) (core : ℕ) (answer : Reply) (entry : Option Item) → FirstMove before.situation taking answer new entry → NeedsLine before taking core → ¬ MovesToI before.situation new core
-stays_out before new (step.Ask asker block asking) core answer entry m leaves moved = let old = before.situation in elim m.1.1.2 [
+stays_out before new (step.Ask asker block word asking) core answer entry m leaves moved = let old = before.situation in elim m.1.1.2 [
   | inl absent ↦ moved.1.0 (subst (λ (s : Situation). state_of s core moved.0 ≡ I) absent.3 moved.1.1)
   | inr asks ↦ elim (cases_eq moved.0 m.0) [
     | inl e ↦
@@ -43,13 +43,13 @@ stays_out before new (step.Respond block) core answer entry m leaves moved = lea
 
 -- the room for a step adds a line where the step needs one
 adds_plan : (old new : Standing) (x : Plan) (core : ℕ) → IsPlan old.situation x → AddsLines x old new core → (lines_of new core ≡ lines_of old core) ⊎ (NeedsLine old (step_of x) core × (lines_of new core ≡ lines_of old core + 1))
-adds_plan old new (plan.Ask asker block asking (Issue request line)) core h (inl same) = inl same
-adds_plan old new (plan.Ask asker block asking (Issue request line)) core h (inr more) =
+adds_plan old new (plan.Ask asker block word asking (Issue request line)) core h (inl same) = inl same
+adds_plan old new (plan.Ask asker block word asking (Issue request line)) core h (inr more) =
     let s = old.situation in
-    inr ((more.0, h.0, (λ e. no_row s.protocol (state_of s asker block) asking (action.Issue request) h.1.0 e more.1 h.1.1.0), more.1, more.2), more.3)
-adds_plan old new (plan.Ask asker block asking Absent) core h same = inl same
-adds_plan old new (plan.Ask asker block asking (Hit line value)) core h same = inl same
-adds_plan old new (plan.Ask asker block asking (Drop line)) core h same = inl same
+    inr ((more.0, h.0, (λ e. no_row s.protocol (state_of s asker block) asking (action.Issue request) h.1.0 e more.1 h.1.1.0), more.1, more.2, h.3), more.3)
+adds_plan old new (plan.Ask asker block word asking Absent) core h same = inl same
+adds_plan old new (plan.Ask asker block word asking (Hit line value)) core h same = inl same
+adds_plan old new (plan.Ask asker block word asking (Drop line)) core h same = inl same
 adds_plan old new (plan.Order orderer request block message memory) core h same = inl same
 adds_plan old new (plan.Writeback block closing memory) core h same = inl same
 adds_plan old new (plan.Fill block closing memory filled) core h same = inl same

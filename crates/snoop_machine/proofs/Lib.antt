@@ -16,3 +16,5 @@ pub mod LinesGoing
 pub mod Following
 pub mod Holding
 pub mod CoreSets
+pub mod WordsHeld
+pub mod WordCounts

@@ -5,63 +5,63 @@ use Rattle.std.specs.Map.{lookup}
 use Rattle.std.proofs.lemmas.List.{length-map}
 use Rattle.snoop_rules.specs.declared.names.CacheState.{CacheState}
 use Rattle.snoop_rules.specs.declared.names.CacheState.TheVariants.{I, IsAd, IsD, ImAd, ImD, S, SmAd, SmD, E, M, EiA, MiA, IiA}
-use Rattle.snoop_model.specs.declared.line.Line.{Line}
+use Rattle.snoop_model.specs.Pictures.Lines.{Line}
 use Rattle.snoop_model.specs.Pictures.Sound.{line_at}
 use Rattle.snoop_model.proofs.Lines.EachRow.{row_of}
-use Rattle.snoop_machine.specs.declared.lines.Lines.TheInside.{Inside}
-use Rattle.snoop_machine.specs.Cache.{no_cache, line_in, blocks_of, row_in}
+use Rattle.snoop_machine.specs.declared.holders.Holders.{Holders}
+use Rattle.snoop_machine.specs.Cache.{Contents, no_cache, line_in, blocks_of, row_in}
 use Rattle.snoop_machine.specs.Lines.{Held, held, IsWritable, is_among, is_invalid, gone}
 use Rattle.snoop_machine.proofs.MapRows.{within-rows, line-rows, line-none, row-rows, blocks-at, spare-at, among-lookup, found-lookup}
 
-module _ (l : Inside) (now : Held) (view : held l ≡ now) where
+module _ (caches : List Contents) (holders : List Holders) (now : Held) (view : held caches holders ≡ now) where
   -- a core with a map
-  pub in_maps : (core : ℕ) → core < length now.lines → core < length l.caches.items
+  pub in_maps : (core : ℕ) → core < length now.lines → core < length caches
   in_maps core within =
-      let long : length now.lines ≡ length (map blocks_of l.caches.items) = sym (ap (λ (h : Held). length h.lines) view) in
-      let maps : length (map blocks_of l.caches.items) ≡ length l.caches.items = length-map l.caches.items blocks_of in
+      let long : length now.lines ≡ length (map blocks_of caches) = sym (ap (λ (h : Held). length h.lines) view) in
+      let maps : length (map blocks_of caches) ≡ length caches = length-map caches blocks_of in
       omega arith
 
-  pub maps-long : length now.lines ≡ length l.caches.items
-  maps-long = sym (ap (λ (h : Held). length h.lines) view) ∙ length-map l.caches.items blocks_of
+  pub maps-long : length now.lines ≡ length caches
+  maps-long = sym (ap (λ (h : Held). length h.lines) view) ∙ length-map caches blocks_of
 
   -- a block and a core with a place in the rows
-  pub in_rows : (core block : ℕ) → block < length now.rows → core < length (row_of now.rows block) → (block < length l.holders) × (core < length l.caches.items)
+  pub in_rows : (core block : ℕ) → block < length now.rows → core < length (row_of now.rows block) → (block < length holders) × (core < length caches)
   in_rows core block in_blocks in_cores =
       let P : Held → Type 0 = λ h. block < length h.rows in
       let Q : Held → Type 0 = λ h. core < length (row_of h.rows block) in
-      within-rows (length l.holders) l.caches.items core block (subst P (sym view) in_blocks) (subst Q (sym view) in_cores)
+      within-rows (length holders) caches core block (subst P (sym view) in_blocks) (subst Q (sym view) in_cores)
 
-  pub row_seen : (block : ℕ) → block < length l.holders → row_in l.caches.items block ≡ row_of now.rows block
-  row_seen block within = sym (row-rows (length l.holders) l.caches.items block within) ∙ ap (λ (h : Held). row_of h.rows block) view
+  pub row_seen : (block : ℕ) → block < length holders → row_in caches block ≡ row_of now.rows block
+  row_seen block within = sym (row-rows (length holders) caches block within) ∙ ap (λ (h : Held). row_of h.rows block) view
 
-  pub line_seen : (core block : ℕ) → block < length l.holders → line_in (slice_index_or l.caches.items core no_cache) block ≡ line_at now.rows core block
-  line_seen core block within = sym (line-rows (length l.holders) l.caches.items core block within) ∙ ap (λ (h : Held). line_at h.rows core block) view
+  pub line_seen : (core block : ℕ) → block < length holders → line_in (slice_index_or caches core no_cache) block ≡ line_at now.rows core block
+  line_seen core block within = sym (line-rows (length holders) caches core block within) ∙ ap (λ (h : Held). line_at h.rows core block) view
 
-  pub blocks_seen : (core : ℕ) → blocks_of (slice_index_or l.caches.items core no_cache) ≡ slice_index_or now.lines core []
-  blocks_seen core = sym (blocks-at l.caches.items core) ∙ ap (λ (h : Held). slice_index_or h.lines core []) view
+  pub blocks_seen : (core : ℕ) → blocks_of (slice_index_or caches core no_cache) ≡ slice_index_or now.lines core []
+  blocks_seen core = sym (blocks-at caches core) ∙ ap (λ (h : Held). slice_index_or h.lines core []) view
 
-  pub spare_seen : (core : ℕ) → (slice_index_or l.caches.items core no_cache).spare ≡ slice_index_or now.spares core 0
-  spare_seen core = sym (spare-at l.caches.items core) ∙ ap (λ (h : Held). slice_index_or h.spares core 0) view
+  pub spare_seen : (core : ℕ) → (slice_index_or caches core no_cache).spare ≡ slice_index_or now.spares core 0
+  spare_seen core = sym (spare-at caches core) ∙ ap (λ (h : Held). slice_index_or h.spares core 0) view
 
-  pub among_seen : (core block : ℕ) → is_some (lookup (nat_eq block) (slice_index_or l.caches.items core no_cache).entries) ≡ is_among (slice_index_or now.lines core []) block
-  among_seen core block = sym (among-lookup (slice_index_or l.caches.items core no_cache).entries block) ∙ ap (λ (blocks : List ℕ). is_among blocks block) (blocks_seen core)
+  pub among_seen : (core block : ℕ) → is_some (lookup (nat_eq block) (slice_index_or caches core no_cache).entries) ≡ is_among (slice_index_or now.lines core []) block
+  among_seen core block = sym (among-lookup (slice_index_or caches core no_cache).entries block) ∙ ap (λ (blocks : List ℕ). is_among blocks block) (blocks_seen core)
 
   -- where the map has no line the core is in I
-  pub none_held : (core block : ℕ) → is_some (lookup (nat_eq block) (slice_index_or l.caches.items core no_cache).entries) ≡ false → (line_at now.rows core block).state ≡ I
+  pub none_held : (core block : ℕ) → is_some (lookup (nat_eq block) (slice_index_or caches core no_cache).entries) ≡ false → (line_at now.rows core block).state ≡ I
   none_held core block none =
-      let nothing = found-lookup (slice_index_or l.caches.items core no_cache).entries block none in
-      ap (λ (x : Line). x.state) (sym (ap (λ (h : Held). line_at h.rows core block) view) ∙ line-none (length l.holders) l.caches.items core block nothing)
+      let nothing = found-lookup (slice_index_or caches core no_cache).entries block none in
+      ap (λ (x : Line). x.state) (sym (ap (λ (h : Held). line_at h.rows core block) view) ∙ line-none (length holders) caches core block nothing)
 
   -- where the core holds the block the map has a line
-  pub held_placed : (core block : ℕ) → (line_at now.rows core block).state ≢ I → is_some (lookup (nat_eq block) (slice_index_or l.caches.items core no_cache).entries) ≡ true
-  held_placed core block held = go (is_some (lookup (nat_eq block) (slice_index_or l.caches.items core no_cache).entries)) (none_held core block)
+  pub held_placed : (core block : ℕ) → (line_at now.rows core block).state ≢ I → is_some (lookup (nat_eq block) (slice_index_or caches core no_cache).entries) ≡ true
+  held_placed core block held = go (is_some (lookup (nat_eq block) (slice_index_or caches core no_cache).entries)) (none_held core block)
     where
       go : (b : Bool) → (b ≡ false → (line_at now.rows core block).state ≡ I) → b ≡ true
       go true h = refl
       go false h = absurd (held (h refl))
 
   -- a line that may be written has a place
-  pub writable_placed : (core block : ℕ) (line : Line) → IsWritable now core block line → is_some (lookup (nat_eq block) (slice_index_or l.caches.items core no_cache).entries) ≡ true
+  pub writable_placed : (core block : ℕ) (line : Line) → IsWritable now core block line → is_some (lookup (nat_eq block) (slice_index_or caches core no_cache).entries) ≡ true
   writable_placed core block line (inl held) = held_placed core block held
   writable_placed core block line (inr new) = among_seen core block ∙ new.0
 

@@ -9,7 +9,7 @@ use Rattle.snoop_trace.specs.Extent.{Extent}
 use Rattle.snoop_rules.specs.declared.names.Request.{Request}
 use Rattle.snoop_rules.specs.Waits.{waiting_request}
 use Rattle.snoop_bus.specs.Traffic.{Traffic, no_queue, waiting_of}
-use Rattle.snoop_model.specs.declared.line.Line.{Line}
+use Rattle.snoop_model.specs.Pictures.Lines.{Line}
 use Rattle.snoop_model.specs.Pictures.Sound.{IsSound, IsProper, IsEachOnce, line_at}
 use Rattle.snoop_model.proofs.Lines.EachRow.{row_of}
 use Rattle.snoop_model.proofs.Lines.OneLine.{placed, line_at-placed, line_at-placed_core, line_at-placed_block, length-placed, length-row-placed}

@@ -1,11 +1,11 @@
 -- The lines of maps as rows, and what one write does to them.
-use Rattle.std.proofs.Common.{◌≡◌, ◌≢◌, ℕ, zero, suc, ◌<◌, Bool, true, false, ◌||◌, cond, List, [], ◌∷◌, length, replicate, Option, None, Some, is_some, refl, sym, ◌∙◌, ap, subst, inl, inr, arith}
+use Rattle.std.proofs.Common.{◌≡◌, ◌≢◌, ℕ, zero, suc, ◌<◌, Bool, true, false, ◌||◌, cond, List, [], ◌∷◌, ◌++◌, length, replicate, Option, None, Some, is_some, refl, sym, ◌∙◌, ap, subst, inl, inr, arith}
 use Rattle.std.specs.Prelude.{slice_index_or, slice_set, map, nat_eq, unwrap_or}
 use Rattle.std.specs.Map.{lookup, keys_of}
 use Rattle.std.proofs.lemmas.Bool.{cases_eq, cases_lt, ne_eqb}
 use Rattle.std.proofs.lemmas.List.{ext_get_or, get_or-map, map-set, length-map, length-set, set-get_or, get_or_past, get_or-replicate, length-replicate, get_or-set_same, get_or-set_other}
 use Rattle.std.proofs.lemmas.List.FromFn.{length-map-range_with_len, get_or-map-range_with_len}
-use Rattle.snoop_model.specs.declared.line.Line.{Line}
+use Rattle.snoop_model.specs.Pictures.Lines.{Line}
 use Rattle.snoop_model.specs.Pictures.Picture.{held_at, nothing_held}
 use Rattle.snoop_model.specs.Pictures.Sound.{keeps, line_at}
 use Rattle.snoop_model.specs.Invariant.Fits.{is_owner}
@@ -113,6 +113,14 @@ AreHolders-moved row core line old new within fits moved =
         | inr ne ↦ moved.other_readers k ne ∙ (fits.readers k ∙ sym (ap (λ (l : Line). keeps l.state) (there k ne)))
       ];
     }
+
+-- one more map without entries
+pub empty-push : (caches : List Contents) (cache : Contents) → ((core : ℕ) → (slice_index_or caches core no_cache).entries ≡ []) → cache.entries ≡ []
+    → (core : ℕ) → (slice_index_or (caches ++ cache ∷ []) core no_cache).entries ≡ []
+empty-push [] cache empty own zero = own
+empty-push [] cache empty own (suc core) = refl
+empty-push (first ∷ caches) cache empty own zero = empty zero
+empty-push (first ∷ caches) cache empty own (suc core) = empty-push caches cache (λ k. empty (suc k)) own core
 
 -- maps without entries hold nothing anywhere
 module _ (caches : List Contents) (empty : (core : ℕ) → (slice_index_or caches core no_cache).entries ≡ []) where

@@ -2,11 +2,12 @@
 use Rattle.std.proofs.Common.{◌≡◌, ◌≢◌, ℕ, ◌<◌, List, Option, Some, None, true, false, refl, sym, ◌∙◌, ap, subst, arith, ◌⊎◌, inl, inr}
 use Rattle.std.proofs.lemmas.Option.{same_Some}
 use Rattle.std.specs.Prelude.{IsSome, is_some}
+use Rattle.snoop_trace.specs.Words.{HasWord, word_at}
 use Rattle.snoop_trace.specs.declared.step.Op.{Op}
 use Rattle.snoop_trace.specs.declared.step.Op.TheVariants as op
 use Rattle.snoop_trace.specs.declared.step.Step.TheVariants as step
 use Rattle.snoop_trace.specs.declared.step.Step.{Step}
-use Rattle.snoop_rules.specs.declared.names.Protocol.{Protocol}
+use Rattle.snoop_trace.specs.declared.protocol.Protocol.{Protocol}
 use Rattle.snoop_rules.specs.declared.names.CacheState.{CacheState}
 use Rattle.snoop_rules.specs.declared.names.CacheState.TheVariants.{I}
 use Rattle.snoop_rules.specs.declared.names.CacheAction.{CacheAction}
@@ -19,12 +20,13 @@ use Rattle.snoop_rules.proofs.Rows.{Cell-one}
 use Rattle.snoop_history.specs.declared.items.Did.{Did}
 use Rattle.snoop_history.specs.declared.items.Item.{Item}
 use Rattle.snoop_history.specs.declared.items.Item.TheVariants as item
-use Rattle.snoop_bus.specs.declared.transactions.Open.{Open}
-use Rattle.snoop_model.specs.declared.line.Line.{Line}
-use Rattle.snoop_machine.specs.declared.ask.Asked.{Asked}
+use Rattle.snoop_bus.specs.Traffic.{Open}
+use Rattle.snoop_model.specs.declared.line.Access.{Access}
+use Rattle.snoop_model.specs.Pictures.Lines.{Line}
+use Rattle.snoop_machine.specs.Asked.{Asked}
 use Rattle.snoop_machine.specs.declared.ask.Asked.TheVariants.{Absent, Hit, Issue, Drop}
-use Rattle.snoop_machine.specs.declared.respond.Filled.{Filled}
-use Rattle.snoop_machine.specs.declared.plan.Plan.{Plan}
+use Rattle.snoop_machine.specs.Plan.{Filled}
+use Rattle.snoop_machine.specs.Plan.{Plan}
 use Rattle.snoop_machine.specs.declared.plan.Plan.TheVariants as plan
 use Rattle.snoop_model.specs.declared.replies.Reply.{Reply}
 use Rattle.snoop_model.specs.declared.replies.Refused.{Refused}
@@ -50,31 +52,31 @@ act_of (Issue request line) = action.Issue request
 act_of (Drop line) = action.Drop
 
 -- an Ask finds an Evict in I, or its row, which is no stall
-row_found : (p : Protocol) (line : Line) (asking : Op) (way : Asked) → TakesAsk p line asking way
+row_found : (p : Protocol) (line : Line) (word : ℕ) (asking : Op) (way : Asked) → TakesAsk p line word asking way
     → ((asking ≡ op.Evict) × (line.state ≡ I) × (way ≡ Absent)) ⊎ ((next : CacheState) × (Cell p line.state (asked asking) (act_of way) next × (act_of way ≢ action.Stall)))
-row_found p line asking Absent t = inl (t.0, t.1, refl)
-row_found p line asking (Hit new value) t = inr (t.0, (t.1.0, λ e. cc))
-row_found p line asking (Issue request new) t = inr (t.0, (t.1.0, λ e. cc))
-row_found p line asking (Drop new) t = inr (t.0, (t.1.0, λ e. cc))
+row_found p line word asking Absent t = inl (t.0, t.1, refl)
+row_found p line word asking (Hit new value) t = inr (t.0, (t.1.0, λ e. cc))
+row_found p line word asking (Issue request new) t = inr (t.0, (t.1.0, λ e. cc))
+row_found p line word asking (Drop new) t = inr (t.0, (t.1.0, λ e. cc))
 
 -- an Ask that is refused on its line
-pub IsDenied-ask : (s : Situation) (core block : ℕ) (asking : Op) (cause : Refused) → core < s.shape.cores → block < s.shape.blocks
-    → RefusesAsk s.protocol (line_at s.caches core block) asking cause → IsDenied s (step.Ask core block asking) cause
-IsDenied-ask s core block asking (Stalled state) in_cores in_blocks h = ((in_cores, in_blocks), h.0, h.1)
-IsDenied-ask s core block asking NoCore in_cores in_blocks h = absurd h
-IsDenied-ask s core block asking NoBlock in_cores in_blocks h = absurd h
-IsDenied-ask s core block asking NothingWaiting in_cores in_blocks h = absurd h
-IsDenied-ask s core block asking (BusTaken b) in_cores in_blocks h = absurd h
-IsDenied-ask s core block asking NoTransaction in_cores in_blocks h = absurd h
-IsDenied-ask s core block asking NoMemory in_cores in_blocks h = absurd h
+pub IsDenied-ask : (s : Situation) (core block word : ℕ) (asking : Op) (cause : Refused) → core < s.shape.cores → block < s.shape.blocks → HasWord s.shape word asking
+    → RefusesAsk s.protocol (line_at s.caches core block) asking cause → IsDenied s (step.Ask core block word asking) cause
+IsDenied-ask s core block word asking (Stalled state) in_cores in_blocks in_words h = ((in_cores, in_blocks), h.0, h.1, in_words)
+IsDenied-ask s core block word asking NoCore in_cores in_blocks in_words h = absurd h
+IsDenied-ask s core block word asking NoBlock in_cores in_blocks in_words h = absurd h
+IsDenied-ask s core block word asking NothingWaiting in_cores in_blocks in_words h = absurd h
+IsDenied-ask s core block word asking (BusTaken b) in_cores in_blocks in_words h = absurd h
+IsDenied-ask s core block word asking NoTransaction in_cores in_blocks in_words h = absurd h
+IsDenied-ask s core block word asking NoMemory in_cores in_blocks in_words h = absurd h
 
 -- an Ask that was found is not refused
-module _ (s : Situation) (core block : ℕ) (asking : Op) (way : Asked) (in_cores : core < s.shape.cores) (in_blocks : block < s.shape.blocks)
-    (takes : TakesAsk s.protocol (line_at s.caches core block) asking way) where
-  ask-allowed : (cause : Refused) → ¬ Refuses s (step.Ask core block asking) cause
+module _ (s : Situation) (core block word : ℕ) (asking : Op) (way : Asked) (in_cores : core < s.shape.cores) (in_blocks : block < s.shape.blocks) (in_words : HasWord s.shape word asking)
+    (takes : TakesAsk s.protocol (line_at s.caches core block) word asking way) where
+  ask-allowed : (cause : Refused) → ¬ Refuses s (step.Ask core block word asking) cause
   ask-allowed NoCore g = absurd (omega arith)
-  ask-allowed NoBlock g = let k = g.1 in absurd (omega arith)
-  ask-allowed (Stalled state) g = elim (row_found s.protocol (line_at s.caches core block) asking way takes) [
+  ask-allowed NoBlock g = elim g.1 [ inl past ↦ absurd (omega arith) | inr none ↦ none in_words ]
+  ask-allowed (Stalled state) g = elim (row_found s.protocol (line_at s.caches core block) word asking way takes) [
     | inl absent ↦ no_row s.protocol (state_of s core block) asking action.Stall g.2.0 absent.0 absent.1 g.2.1
     | inr row ↦ row.1.1 (Cell-one s.protocol (state_of s core block) (asked asking) (act_of way) action.Stall row.0 g.2.0 row.1.0 g.2.1).0
   ]
@@ -112,38 +114,38 @@ respond-allowed s block closing in_blocks opened NoTransaction h = let clash : �
 respond-allowed s block closing in_blocks opened NoMemory h = h
 
 pub plan-allowed : (s : Situation) (x : Plan) → IsPlan s x → (cause : Refused) → ¬ Refuses s (step_of x) cause
-plan-allowed s (plan.Ask core block asking way) h = ask-allowed s core block asking way h.0.0 h.0.1 h.1
+plan-allowed s (plan.Ask core block word asking way) h = ask-allowed s core block word asking way h.0.0 h.0.1 h.3 h.1
 plan-allowed s (plan.Order core request block message memory) h = order-allowed s core block request h.0 h.1.head h.1.free
 plan-allowed s (plan.Writeback block closing memory) h = respond-allowed s block closing h.0 h.1.opened
 plan-allowed s (plan.Fill block closing memory filled) h = respond-allowed s block closing h.0 h.1.opened
 
 -- an operation on one value loads or stores one value
-performs-one : (asking : Op) (a b v w m n : ℕ) → a ≡ b → Performs asking a v m → Performs asking b w n → v ≡ w
-performs-one op.Load a b v w m n e p q = p.0 ∙ (e ∙ sym q.0)
-performs-one (op.Store stored) a b v w m n e p q = p.0 ∙ sym q.0
-performs-one op.Evict a b v w m n e p q = absurd p
+performs-one : (word : ℕ) (asking : Op) (a b : List ℕ) (v w : ℕ) (m n : List ℕ) → a ≡ b → Performs word asking a v m → Performs word asking b w n → v ≡ w
+performs-one word op.Load a b v w m n e p q = p.0 ∙ (ap (λ (ws : List ℕ). word_at ws word) e ∙ sym q.0)
+performs-one word (op.Store stored) a b v w m n e p q = p.0 ∙ sym q.0
+performs-one word op.Evict a b v w m n e p q = absurd p
 
 -- an Ask adds the item that was found
-module _ (s : Situation) (core block : ℕ) (asking : Op) (answer : Reply) (new : Situation) (added : Option Item) where
-  ask-adds : (way : Asked) → TakesAsk s.protocol (line_at s.caches core block) asking way → MovesAsk s core block asking answer new added → added ≡ entry_of_ask s.log core block asking way
+module _ (s : Situation) (core block word : ℕ) (asking : Op) (answer : Reply) (new : Situation) (added : Option Item) where
+  ask-adds : (way : Asked) → TakesAsk s.protocol (line_at s.caches core block) word asking way → MovesAsk s core block word asking answer new added → added ≡ entry_of_ask s.log core block word asking way
   ask-adds Absent t (inl absent) = absent.4
   ask-adds Absent t (inr asks) = absurd (no_row s.protocol (state_of s core block) asking asks.act asks.next t.0 t.1 asks.row)
   ask-adds (Hit line value) t (inl absent) = absurd (no_row s.protocol (state_of s core block) asking action.Hit t.0 absent.0 absent.1 t.1.0)
   ask-adds (Hit line value) t (inr asks) =
       let same = (Cell-one s.protocol (state_of s core block) (asked asking) asks.act action.Hit asks.next t.0 asks.row t.1.0).0 in
-      let P : CacheAction → Type 0 = λ a. Takes a asks.next s.log core block asking (line_at s.caches core block) asks.held answer added in
-      let h : Takes action.Hit asks.next s.log core block asking (line_at s.caches core block) asks.held answer added = subst P same asks.taken in
-      let its = performs-one asking h.1.0.before t.1.1.before h.0 value h.1.0.after t.1.1.after (same_Some _ _ (sym h.1.0.kept ∙ t.1.1.kept)) h.1.0.performed t.1.1.performed in
-      h.1.2 ∙ ap (λ (x : ℕ). let r : Option Item = Some (item.Did (next_did s.log core block asking x true)) in r) its
+      let P : CacheAction → Type 0 = λ a. Takes a asks.next s.log core block word asking (line_at s.caches core block) asks.held answer added in
+      let h : Takes action.Hit asks.next s.log core block word asking (line_at s.caches core block) asks.held answer added = subst P same asks.taken in
+      let its = performs-one word asking h.1.0.before t.1.1.before h.0 value h.1.0.after t.1.1.after (same_Some _ _ (sym h.1.0.kept ∙ t.1.1.kept)) h.1.0.performed t.1.1.performed in
+      h.1.2 ∙ ap (λ (x : ℕ). let r : Option Item = Some (item.Did (next_did s.log core block word asking x true)) in r) its
   ask-adds (Issue request line) t (inl absent) = absurd (no_row s.protocol (state_of s core block) asking (action.Issue request) t.0 absent.0 absent.1 t.1.0)
   ask-adds (Issue request line) t (inr asks) =
       let same = (Cell-one s.protocol (state_of s core block) (asked asking) asks.act (action.Issue request) asks.next t.0 asks.row t.1.0).0 in
-      let P : CacheAction → Type 0 = λ a. Takes a asks.next s.log core block asking (line_at s.caches core block) asks.held answer added in
+      let P : CacheAction → Type 0 = λ a. Takes a asks.next s.log core block word asking (line_at s.caches core block) asks.held answer added in
       (subst P same asks.taken).2
   ask-adds (Drop line) t (inl absent) = absurd (no_row s.protocol (state_of s core block) asking action.Drop t.0 absent.0 absent.1 t.1.0)
   ask-adds (Drop line) t (inr asks) =
       let same = (Cell-one s.protocol (state_of s core block) (asked asking) asks.act action.Drop asks.next t.0 asks.row t.1.0).0 in
-      let P : CacheAction → Type 0 = λ a. Takes a asks.next s.log core block asking (line_at s.caches core block) asks.held answer added in
+      let P : CacheAction → Type 0 = λ a. Takes a asks.next s.log core block word asking (line_at s.caches core block) asks.held answer added in
       (subst P same asks.taken).2
 
 fills_of : (q : Request) (closing : Open) (p : Protocol) (log : List Item) (old new : List Line) (did : Option Did) → q ≢ PutM → ArrivesFor q closing p log old new did → FillsRequestor closing p log old new did
@@ -156,20 +158,20 @@ none_of q closing p log old new did e arrives = let P : Request → Type 0 = λ 
 
 -- the requestor performs the operation that waits
 fills-adds : (closing : Open) (p : Protocol) (log : List Item) (old new : List Line) (did : Option Did) (filled : Filled)
-    → FillsRequestor closing p log old new did → Fills closing p (held_at old closing.core) filled.line filled.op filled.value
-    → did ≡ Some (next_did log closing.core closing.block filled.op filled.value false)
+    → FillsRequestor closing p log old new did → Fills closing p (held_at old closing.core) filled.line filled.access filled.value
+    → did ≡ Some (next_did log closing.core closing.block filled.access.word filled.access.op filled.value false)
 fills-adds closing p log old new did filled f t =
-    let same : f.asking ≡ filled.op = same_Some _ _ (sym f.fills.waited ∙ t.waited) in
-    let P : Op → Type 0 = λ o. Performs o closing.value f.value f.fills.after in
-    let its = performs-one filled.op closing.value closing.value f.value filled.value f.fills.after t.after refl (subst P same f.fills.performed) t.performed in
-    f.logged ∙ (ap (λ (o : Op). let r : Option Did = Some (next_did log closing.core closing.block o f.value false) in r) same
-    ∙ ap (λ (v : ℕ). let r : Option Did = Some (next_did log closing.core closing.block filled.op v false) in r) its)
+    let same : f.asking ≡ filled.access = same_Some _ _ (sym f.fills.waited ∙ t.waited) in
+    let P : Access → Type 0 = λ o. Performs o.word o.op closing.value f.value f.fills.after in
+    let its = performs-one filled.access.word filled.access.op closing.value closing.value f.value filled.value f.fills.after t.after refl (subst P same f.fills.performed) t.performed in
+    f.logged ∙ (ap (λ (o : Access). let r : Option Did = Some (next_did log closing.core closing.block o.word o.op f.value false) in r) same
+    ∙ ap (λ (v : ℕ). let r : Option Did = Some (next_did log closing.core closing.block filled.access.word filled.access.op v false) in r) its)
 
 -- a planned step adds the plan's item, whatever move it is
 pub plan-adds : (s : Situation) (x : Plan) → IsPlan s x → (answer : Reply) (new : Situation) (added : Option Item) → FirstMove s (step_of x) answer new added → added ≡ entry_of s.log x
-plan-adds s (plan.Ask core block asking way) h answer new added m =
-    let P : ℕ → Type 0 = λ x. MovesAsk s core x asking answer new added in
-    ask-adds s core block asking answer new added way h.1 (subst P (sym m.1.1.0) m.1.1.2)
+plan-adds s (plan.Ask core block word asking way) h answer new added m =
+    let P : ℕ → Type 0 = λ x. MovesAsk s core x word asking answer new added in
+    ask-adds s core block word asking answer new added way h.1 (subst P (sym m.1.1.0) m.1.1.2)
 plan-adds s (plan.Order core request block message memory) h answer new added m =
     let same : m.0 ≡ block = same_Some _ _ (sym m.1.0 ∙ h.1.head.first) in
     let orders = m.1.1.1.3 in
@@ -199,9 +201,9 @@ plan-adds s (plan.Fill block closing memory filled) h answer new added m =
 
 -- where the plan has room the step has it
 pub plan-room : (before : Standing) (x : Plan) → IsPlan before.situation x → 0 < room_for before x → ¬ IsFull before (step_of x)
-plan-room before (plan.Ask core block asking way) h some full =
+plan-room before (plan.Ask core block word asking way) h some full =
     let s = before.situation in
-    elim (row_found s.protocol (line_at s.caches core block) asking way h.1) [
+    elim (row_found s.protocol (line_at s.caches core block) word asking way h.1) [
       | inl absent ↦ no_row s.protocol (state_of s core block) asking full.0 full.1.0 absent.0 absent.1 full.1.1.0
       | inr row ↦
           let same = (Cell-one s.protocol (state_of s core block) (asked asking) full.0 (act_of way) full.1.0 row.0 full.1.1.0 row.1.0).0 in
@@ -227,7 +229,7 @@ ask-room before core block (Drop line) h = omega arith
 
 -- where the room for a plan was made there is room for one such step at least
 some-room : (before : Standing) (x : Plan) → HasRoom before x → 0 < room_for before x
-some-room before (plan.Ask core block asking way) h = ask-room before core block way h
+some-room before (plan.Ask core block word asking way) h = ask-room before core block way h
 some-room before (plan.Order core request block message memory) h = h
 some-room before (plan.Writeback block closing memory) h = h
 some-room before (plan.Fill block closing memory filled) h = h

@@ -1,24 +1,22 @@
 -- What is so of a proper line.
-use Rattle.std.proofs.Common.{◌≡◌, ℕ, Option, None, Some, false, refl, sym, ◌∙◌, ap}
+use Rattle.std.proofs.Common.{◌≡◌, Option, None, Some, false, refl, sym, ◌∙◌, ap}
 use Rattle.std.specs.Prelude.{is_some, option_map}
-use Rattle.snoop_trace.specs.declared.step.Op.{Op}
-use Rattle.snoop_trace.specs.declared.step.Op.TheVariants as op
+use Rattle.snoop_trace.specs.declared.words.Words.{Words}
 use Rattle.snoop_rules.specs.declared.names.CacheState.{CacheState}
 use Rattle.snoop_rules.specs.declared.names.CacheState.TheVariants as state
-use Rattle.snoop_model.specs.declared.line.Line.{Line}
+use Rattle.snoop_model.specs.declared.line.Access.{Access}
+use Rattle.snoop_model.specs.Pictures.Lines.{Line}
 use Rattle.snoop_model.specs.Pictures.Picture.{kept_on, nothing_held}
 use Rattle.snoop_model.specs.Pictures.Sound.{IsProper, keeps, request_for, missed_request}
 use Rattle.snoop_model.specs.Moves.Move.{moves_to}
 
-nothing_kept : (kept : Option ℕ) → is_some kept ≡ false → kept ≡ None
+nothing_kept : (kept : Option Words) → is_some kept ≡ false → kept ≡ None
 nothing_kept None e = refl
 nothing_kept (Some v) e = cc
 
-nothing_waits : (waiting : Option Op) → option_map request_for waiting ≡ None → waiting ≡ None
+nothing_waits : (waiting : Option Access) → option_map (λ access. request_for access.op) waiting ≡ None → waiting ≡ None
 nothing_waits None e = refl
-nothing_waits (Some op.Load) e = cc
-nothing_waits (Some (op.Store value)) e = cc
-nothing_waits (Some op.Evict) e = cc
+nothing_waits (Some access) e = cc
 
 -- a proper line in I holds nothing
 pub settled : (line : Line) → IsProper line → line.state ≡ state.I → line ≡ nothing_held
@@ -31,7 +29,7 @@ settled line proper e =
 pub moves_to_same : (line : Line) → IsProper line → moves_to line.state line ≡ line
 moves_to_same line proper = let kept : kept_on line.state line.kept ≡ line.kept = go line.state line.kept proper.kept in rw kept refl
   where
-    go : (s : CacheState) (kept : Option ℕ) → is_some kept ≡ keeps s → kept_on s kept ≡ kept
+    go : (s : CacheState) (kept : Option Words) → is_some kept ≡ keeps s → kept_on s kept ≡ kept
     go state.I kept e = sym (nothing_kept kept e)
     go state.ImAd kept e = sym (nothing_kept kept e)
     go state.IiA kept e = sym (nothing_kept kept e)

@@ -13,13 +13,12 @@ use Rattle.snoop_rules.specs.declared.names.Request.{Request}
 use Rattle.snoop_rules.specs.Waits.{waiting_request}
 use Rattle.snoop_bus.specs.Traffic.{Traffic, waiting_of, head_of}
 use Rattle.snoop_bus.specs.Queues.{queue_of}
-use Rattle.snoop_model.specs.declared.line.Line.{Line}
+use Rattle.snoop_model.specs.Pictures.Lines.{Line, MemLine}
 use Rattle.snoop_model.specs.Pictures.Sound.{IsSound, line_at}
 use Rattle.snoop_machine.specs.PartsView.{queues_of}
-use Rattle.snoop_rules.specs.declared.names.Protocol.{Protocol}
-use Rattle.snoop_bus.specs.declared.transactions.Open.{Open}
+use Rattle.snoop_trace.specs.declared.protocol.Protocol.{Protocol}
+use Rattle.snoop_bus.specs.Traffic.{Open}
 use Rattle.snoop_history.specs.declared.items.Item.{Item}
-use Rattle.snoop_model.specs.declared.memory.MemLine.{MemLine}
 use Rattle.snoop_model.specs.Pictures.Situation.{Situation}
 use Rattle.snoop_machine.proofs.QueueViews.{blocks_of, queue_of-queues_of}
 

@@ -6,9 +6,8 @@ use Rattle.std.proofs.lemmas.List.{length-map, get_or-set_same, get_or-set_other
 use Rattle.snoop_rules.specs.declared.names.Request.{Request}
 use Rattle.snoop_bus.specs.Traffic.{Waiting, no_queue}
 use Rattle.snoop_bus.specs.Queues.{queue_of}
-use Rattle.snoop_machine.specs.declared.parts.Parts.TheInside.{Inside}
 use Rattle.snoop_model.specs.Moves.Standing.{Standing, KeepsRoom}
-use Rattle.snoop_machine.specs.PartsView.{queues_of, places_of, standing}
+use Rattle.snoop_machine.specs.PartsView.{Fields, queues_of, places_of, standing}
 use Rattle.snoop_machine.proofs.QueueViews.{queue_of-queues_of}
 
 -- how many requests of the core find room in all
@@ -71,7 +70,7 @@ places-map (q ∷ qs) (s ∷ ss) zero none = none-min q.room s none
 places-map (q ∷ qs) (s ∷ ss) (suc core) none = places-map qs ss core none
 
 -- as long as neither the log's capacity nor a queue's falls, no room is lost
-pub keeps_room : (old new : Inside) (view : Standing) → standing old ≡ view → length old.log.items + old.log.room ≤ length new.log.items + new.log.room → ((core : ℕ) → held_in old.bus.queues core ≤ held_in new.bus.queues core) → KeepsRoom view (standing new)
+pub keeps_room : (old new : Fields) (view : Standing) → standing old ≡ view → length old.log.items + old.log.room ≤ length new.log.items + new.log.room → ((core : ℕ) → held_in old.bus.queues core ≤ held_in new.bus.queues core) → KeepsRoom view (standing new)
 keeps_room old new view is items queues =
     let P : Standing → Type 0 = λ s. KeepsRoom s (standing new) in
     subst P is (record {

@@ -15,7 +15,7 @@ use Rattle.snoop_model.specs.Moves.Holding.{HoldsOn}
 use Rattle.snoop_model.specs.Moves.Move.{FirstMove}
 use Rattle.snoop_model.specs.Moves.StepMove.{RefusedFor}
 use Rattle.snoop_model.specs.Runs.Run.{IsRefusal, RunFrom}
-use Rattle.snoop_model.specs.Invariant.Coherent.{IsCoherent}
+use Rattle.snoop_model.specs.Invariant.Invariant.{Invariant}
 use Rattle.snoop_model.specs.Invariant.MachineKeeps.{MachineKeeps}
 use Rattle.snoop_model.specs.Runs.Safe.{IsSafe}
 use Rattle.snoop_model.proofs.Invariant.Safety.{is_safe, step_keeps}
@@ -70,7 +70,7 @@ runs_on_run (step ∷ steps) (Err cause ∷ outcomes) old new r = (r.0.situation
 runs_on_run [] (outcome ∷ outcomes) old new r = r
 runs_on_run (step ∷ steps) [] old new r = r
 
-pub has_run : (old new : Standing) (steps : List Step) (taken : ℕ) → IsCoherent old.situation → Going old steps taken new → HasRun old steps taken new
+pub has_run : (old new : Standing) (steps : List Step) (taken : ℕ) → Invariant old.situation → Going old steps taken new → HasRun old steps taken new
 has_run old new steps taken g r = record { outcomes = r.outcomes; run = r.run; many = r.many; once = run_once steps r.outcomes old.situation new.situation g (runs_on_run steps r.outcomes old new r.run) }
 
 -- one step more of a list

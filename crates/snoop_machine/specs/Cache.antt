@@ -2,7 +2,7 @@
 -- Source: this project's profile.
 use Rattle.std.specs.Prelude.{ℕ, List, [], unwrap_or, nat_eq, map}
 use Rattle.std.specs.Map.{lookup, keys_of}
-use Rattle.snoop_model.specs.declared.line.Line.{Line}
+use Rattle.snoop_model.specs.Pictures.Lines.{Line}
 use Rattle.snoop_model.specs.Pictures.Picture.{nothing_held}
 
 -- the entries of a core's map, by block, and for how many more there is room

@@ -1,9 +1,9 @@
 -- What a step does to how many lines each core's map has.
 -- Source: this project's profile.
 use Rattle.std.specs.Prelude.{◌≡◌, ℕ, ◌+◌, ◌⊎◌, false}
-use Rattle.snoop_machine.specs.declared.ask.Asked.{Asked}
+use Rattle.snoop_machine.specs.Asked.{Asked}
 use Rattle.snoop_machine.specs.declared.ask.Asked.TheVariants as asked
-use Rattle.snoop_machine.specs.declared.plan.Plan.{Plan}
+use Rattle.snoop_machine.specs.Plan.{Plan}
 use Rattle.snoop_machine.specs.declared.plan.Plan.TheVariants.{Ask}
 use Rattle.snoop_rules.specs.declared.names.CacheState.TheVariants.{I}
 use Rattle.snoop_model.specs.Pictures.Situation.{state_of}
@@ -27,5 +27,5 @@ AddsLinesToAsk _ asker block old new core = lines_of new core ≡ lines_of old c
 
 -- the room for a step adds one line at most, and only where it is an Ask that issues a request that has no line yet
 abbrev pub AddsLines : Plan → Standing → Standing → ℕ → Type 0
-AddsLines (Ask asker block asking way) old new core = AddsLinesToAsk way asker block old new core
+AddsLines (Ask asker block word asking way) old new core = AddsLinesToAsk way asker block old new core
 AddsLines _ old new core = lines_of new core ≡ lines_of old core

@@ -1,6 +1,7 @@
 pub mod Asked
 pub mod Plan
 pub mod PartsView
+pub mod AnyParts
 pub mod MachineView
 pub mod Cache
 pub mod Lines

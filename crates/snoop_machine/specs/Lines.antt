@@ -4,9 +4,8 @@ use Rattle.std.specs.Prelude.{◌≡◌, ◌≢◌, ℕ, ◌+◌, ◌<◌, Bool,
 use Rattle.std.specs.List.{range_with_len, list_any}
 use Rattle.snoop_rules.specs.declared.names.CacheState.{CacheState}
 use Rattle.snoop_rules.specs.declared.names.CacheState.TheVariants.{I}
-use Rattle.snoop_model.specs.declared.line.Line.{Line}
+use Rattle.snoop_model.specs.Pictures.Lines.{Line}
 use Rattle.snoop_model.specs.Pictures.Sound.{IsProper, line_at}
-use Rattle.snoop_machine.specs.declared.lines.Lines.TheInside.{Inside}
 use Rattle.snoop_machine.specs.declared.holders.Holders.{Holders}
 use Rattle.snoop_machine.specs.Holders.{AreHolders}
 use Rattle.snoop_machine.specs.Cache.{Contents, no_cache, line_in, blocks_of, row_in}
@@ -22,12 +21,12 @@ abbrev pub rows_of : ℕ → List Contents → List (List Line)
 rows_of blocks caches = map (row_in caches) (range_with_len 0 blocks)
 
 -- the view of the lines
-abbrev pub held : Inside → Held
-held l =
+abbrev pub held : List Contents → List Holders → Held
+held caches holders =
     record {
-      rows = rows_of (length l.holders) l.caches.items;
-      lines = map blocks_of l.caches.items;
-      spares = map (λ cache. cache.spare) l.caches.items;
+      rows = rows_of (length holders) caches;
+      lines = map blocks_of caches;
+      spares = map (λ cache. cache.spare) caches;
     }
 
 -- what stands for the holders of a block that there isn't

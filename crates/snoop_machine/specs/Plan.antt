@@ -1,6 +1,7 @@
 -- What a step will do, found before anything changes: a plan, the room that it needs, and the item that it adds.
 -- Source: this project's profile.
 use Rattle.std.specs.Prelude.{◌≡◌, ◌≢◌, ℕ, ◌<◌, true, false, List, Option, Some, None, slice_index, ⊤}
+use Rattle.snoop_trace.specs.Words.{Data, HasWord, IsWord}
 use Rattle.snoop_trace.specs.declared.step.Op.{Op}
 use Rattle.snoop_trace.specs.declared.step.Step.{Step}
 use Rattle.snoop_trace.specs.declared.step.Step.TheVariants as step
@@ -8,27 +9,34 @@ use Rattle.snoop_rules.specs.declared.names.MemState.{MemState}
 use Rattle.snoop_rules.specs.declared.names.Request.{Request}
 use Rattle.snoop_rules.specs.declared.names.Request.TheVariants.{PutM}
 use Rattle.snoop_rules.specs.Takers.{at_memory}
-use Rattle.snoop_bus.specs.declared.transactions.Open.{Open}
+use Rattle.snoop_bus.specs.Traffic.{Open}
 use Rattle.snoop_history.specs.declared.items.Item.{Item}
 use Rattle.snoop_history.specs.declared.items.Item.TheVariants as item
-use Rattle.snoop_machine.specs.declared.ask.Asked.{Asked}
 use Rattle.snoop_machine.specs.declared.ask.Asked.TheVariants as asked
-use Rattle.snoop_model.specs.declared.memory.MemLine.{MemLine}
-use Rattle.snoop_model.specs.declared.message.Message.{Message}
-use Rattle.snoop_machine.specs.declared.plan.Plan.{Plan}
+use Rattle.snoop_model.specs.Pictures.Lines.{MemLine, Message}
+use Rattle.snoop_machine.specs.declared.plan.Plan as declared
+use Rattle.snoop_machine.specs.declared.respond.Filled as filling
 use Rattle.snoop_machine.specs.declared.plan.Plan.TheVariants.{Ask, Order, Writeback, Fill}
 use Rattle.snoop_model.specs.Moves.Standing.{Standing, has_line}
 use Rattle.snoop_model.specs.Moves.Prepared.{room_to_issue}
 use Rattle.snoop_model.specs.Pictures.Situation.{Situation, picture_of}
 use Rattle.snoop_model.specs.Pictures.Sound.{IsProper, line_at}
 use Rattle.snoop_model.specs.Moves.Move.{Fills, ArrivesAtMemory, IsWithin, TakesMemRow, came_of, next_did}
-use Rattle.snoop_machine.specs.Asked.{TakesAsk}
+use Rattle.snoop_machine.specs.Asked.{Asked, TakesAsk}
 use Rattle.snoop_model.specs.Pictures.Message.{IsMessage}
 use Rattle.snoop_model.specs.Moves.OrderMove.{IsHead}
 
+-- what a response brings to its requestor's line
+abbrev pub Filled : Type 0
+Filled = filling.Filled Data
+
+-- what a step will do
+abbrev pub Plan : Type 0
+Plan = declared.Plan Data
+
 -- the step that a plan is for
 abbrev pub step_of : Plan → Step
-step_of (Ask core block asking way) = step.Ask core block asking
+step_of (Ask core block word asking way) = step.Ask core block word asking
 step_of (Order core request block message memory) = step.Order core
 step_of (Writeback block closing memory) = step.Respond block
 step_of (Fill block closing memory filled) = step.Respond block
@@ -49,12 +57,13 @@ pub record IsClosing (s : Situation) (block : ℕ) (closing : Open) (memory : Me
 
 -- the rows were found for what the plan says
 abbrev pub IsPlan : Situation → Plan → Type 0
-IsPlan s (Ask core block asking way) = IsWithin s core block × TakesAsk s.protocol (line_at s.caches core block) asking way × IsProper (line_at s.caches core block)
+IsPlan s (Ask core block word asking way) = IsWithin s core block × TakesAsk s.protocol (line_at s.caches core block) word asking way × IsProper (line_at s.caches core block) × HasWord s.shape word asking
 IsPlan s (Order core request block message memory) = (core < s.shape.cores) × CanBeOrdered s core request block message memory
 IsPlan s (Writeback block closing memory) = (block < s.shape.blocks) × IsClosing s block closing memory × (closing.request ≡ PutM)
 IsPlan s (Fill block closing memory filled) =
     (block < s.shape.blocks) × IsClosing s block closing memory × (closing.request ≢ PutM)
-    × Fills closing s.protocol (line_at s.caches closing.core block) filled.line filled.op filled.value
+    × Fills closing s.protocol (line_at s.caches closing.core block) filled.line filled.access filled.value
+    × IsWord s.shape filled.access.word
 
 -- a plan for this step
 abbrev pub IsPlanFor : Situation → Step → Plan → Type 0
@@ -76,29 +85,29 @@ HasRoomToAsk before core block (asked.Drop line) = ⊤
 
 -- for how many more such steps there is room
 abbrev pub room_for : Standing → Plan → ℕ
-room_for before (Ask core block asking way) = room_for_ask before core block way
+room_for before (Ask core block word asking way) = room_for_ask before core block way
 room_for before (Order core request block message memory) = before.room
 room_for before (Writeback block closing memory) = before.room
 room_for before (Fill block closing memory filled) = before.room
 
 -- there is room for what the planned step adds
 abbrev pub HasRoom : Standing → Plan → Type 0
-HasRoom before (Ask core block asking way) = HasRoomToAsk before core block way
+HasRoom before (Ask core block word asking way) = HasRoomToAsk before core block way
 HasRoom before (Order core request block message memory) = 0 < before.room
 HasRoom before (Writeback block closing memory) = 0 < before.room
 HasRoom before (Fill block closing memory filled) = 0 < before.room
 
 -- the item that an Ask adds: a hit is performed at once
-abbrev pub entry_of_ask : List Item → ℕ → ℕ → Op → Asked → Option Item
-entry_of_ask log core block asking asked.Absent = None
-entry_of_ask log core block asking (asked.Hit line value) = Some (item.Did (next_did log core block asking value true))
-entry_of_ask log core block asking (asked.Issue request line) = None
-entry_of_ask log core block asking (asked.Drop line) = None
+abbrev pub entry_of_ask : List Item → ℕ → ℕ → ℕ → Op → Asked → Option Item
+entry_of_ask log core block word asking asked.Absent = None
+entry_of_ask log core block word asking (asked.Hit line value) = Some (item.Did (next_did log core block word asking value true))
+entry_of_ask log core block word asking (asked.Issue request line) = None
+entry_of_ask log core block word asking (asked.Drop line) = None
 
 -- the item that a planned step adds, if any
 abbrev pub entry_of : List Item → Plan → Option Item
-entry_of log (Ask core block asking way) = entry_of_ask log core block asking way
+entry_of log (Ask core block word asking way) = entry_of_ask log core block word asking way
 entry_of log (Order core request block message memory) = Some (item.Sent (record { core = core; request = request; block = block }))
 entry_of log (Writeback block closing memory) = Some (item.Came (came_of closing) None)
 entry_of log (Fill block closing memory filled) =
-    Some (item.Came (came_of closing) (Some (next_did log closing.core closing.block filled.op filled.value false)))
+    Some (item.Came (came_of closing) (Some (next_did log closing.core closing.block filled.access.word filled.access.op filled.value false)))

@@ -6,27 +6,92 @@ ghost use Rattle.snoop_model.specs.Pictures.Picture.{nothing_held};
 ghost use Rattle.snoop_machine.specs.Cache.{line_in, blocks_of};
 
 use indexmap::IndexMap;
-use snoop_model::Line;
+use snoop_model::{Access, Line};
 use snoop_rules::CacheState;
-use snoop_trace::NoMemory;
+use snoop_trace::{Block, Kept, NoMemory, Op};
 use std::alloc::Global;
 use std::marker::Model;
 use std::mem::replace;
 
 /// The line of a block of which a cache holds nothing.
-const NOTHING: Line = Line {
-    state: CacheState::I,
-    kept: None,
-    waiting: None,
-};
-
-/// The lines of one core, by block. A block without one is in I.
-#[derive(Debug, Drop)]
-pub(crate) struct Cache {
-    lines: IndexMap<u32, Line>,
+fn nothing<B: Block>() -> Line<Kept<B>>
+    ensures { result ≡ nothing_held }
+{
+    Line {
+        state: CacheState::I,
+        kept: None,
+        waiting: None,
+    }
 }
 
-impl Model for Cache {
+/// A line as a map holds it: the word of the operation that waits lies beside the state, where it takes no memory of its own.
+#[derive(Drop)]
+struct Entry<B: Block> {
+    state: CacheState,
+    word: u32,
+    kept: Option<Kept<B>>,
+    waiting: Option<Op>,
+}
+
+impl<B: Block> Model for Entry<B> {
+    ghost use Rattle.std.specs.Prelude.{option_map};
+    ghost use Rattle.snoop_model.specs.Pictures.Lines.{Line};
+
+    ghost Value = { Line };
+
+    ghost view = { λ e. record { state = e.state; kept = e.kept; waiting = option_map (λ op. record { word = e.word; op = op }) e.waiting } };
+}
+
+impl<B: Block> Entry<B> {
+    fn new(line: Line<Kept<B>>) -> Entry<B>
+        ensures { result ≡ line }
+    {
+        match line.waiting {
+            Some(Access { word, op }) => Entry {
+                state: line.state,
+                word,
+                kept: line.kept,
+                waiting: Some(op),
+            },
+            None => Entry {
+                state: line.state,
+                word: 0,
+                kept: line.kept,
+                waiting: None,
+            },
+        }
+    }
+
+    fn line(&self) -> Line<Kept<B>>
+        ensures { result ≡ self.now }
+    {
+        Line {
+            state: self.state,
+            kept: self.kept,
+            waiting: match self.waiting {
+                Some(op) => Some(Access {
+                    word: self.word,
+                    op,
+                }),
+                None => None,
+            },
+        }
+    }
+
+    fn state(&self) -> CacheState
+        ensures { result ≡ self.now.state }
+    {
+        self.state
+    }
+}
+
+/// The lines of one core, by block. A block without one is in I.
+#[derive(Drop)]
+pub(crate) struct Cache<B: Block> {
+    lines: IndexMap<u32, Entry<B>>,
+}
+
+impl<B: Block> Model for Cache<B> {
     ghost use Rattle.indexmap.specs.IndexMap.{spare};
     ghost use Rattle.snoop_machine.specs.Cache.{Contents};
 
@@ -35,8 +100,8 @@ impl Model for Cache {
     ghost view = { λ c. record { entries = c.lines.entries; spare = spare c.lines } };
 }
 
-impl Cache {
-    pub(crate) fn new(alloc: Global) -> Cache
+impl<B: Block> Cache<B> {
+    pub(crate) fn new(alloc: Global) -> Cache<B>
         ensures { result.entries ≡ [] }
     {
         Cache {
@@ -59,10 +124,13 @@ impl Cache {
     }
 
     /// What the core holds of the block.
-    pub(crate) fn get(&self, block: u32) -> Line
+    pub(crate) fn get(&self, block: u32) -> Line<Kept<B>>
         ensures { result ≡ line_in self.now block }
     {
-        self.lines.get(&block).copied().unwrap_or(NOTHING)
+        match self.lines.get(&block) {
+            Some(entry) => entry.line(),
+            None => nothing(),
+        }
     }
 
     /// Whether there is room for one more line.
@@ -94,11 +162,11 @@ impl Cache {
         ensures same { (b : ℕ) → line_in self.new b ≡ line_in self.old b }
         ensures blocks { blocks_of self.new ≡ blocks_of self.old ++ block ∷ [] }
     {
-        self.lines.insert(block, NOTHING).unwrap();
+        self.lines.insert(block, Entry::new(nothing())).unwrap();
     }
 
     /// Writes the block's line, and answers the state that it was in. A line in I is taken out.
-    pub(crate) fn set(&mut self, block: u32, line: Line) -> CacheState
+    pub(crate) fn set(&mut self, block: u32, line: Line<Kept<B>>) -> CacheState
         requires place { IsSome (lookup (nat_eq block) self.old.entries) }
         requires settled { line.state ≡ I → line ≡ nothing_held }
         ensures before { result ≡ (line_in self.old block).state }
@@ -108,9 +176,12 @@ impl Cache {
         ensures stays { ¬ (line.state ≡ I) → length self.new.entries ≡ length self.old.entries }
     {
         if matches!(&line.state, CacheState::I) {
-            self.lines.swap_remove(&block).unwrap_or(NOTHING).state
+            match self.lines.swap_remove(&block) {
+                Some(entry) => entry.state(),
+                None => CacheState::I,
+            }
         } else if let Some(place) = self.lines.get_mut(&block) {
-            replace(place, line).state
+            replace(place, Entry::new(line)).state()
         } else {
             CacheState::I
         }

@@ -5,7 +5,7 @@ ghost use Rattle.snoop_machine.specs.CoreSet.{has, LacksUpTo};
 use std::marker::Model;
 
 /// A set of cores: a bit for each of the 256 that there are at most.
-#[derive(Clone, Copy, Debug)]
+#[derive(Clone, Copy)]
 pub(crate) struct CoreSet {
     words: [u64; 4],
 }

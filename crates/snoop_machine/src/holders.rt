@@ -9,7 +9,7 @@ use crate::core_set::CoreSet;
 use snoop_rules::{CacheState, Request};
 
 /// The cores that keep a block's value, by what another's request asks of them.
-#[derive(Clone, Copy, Debug)]
+#[derive(Clone, Copy)]
 pub(crate) struct Holders {
     /// The cores that may write.
     owners: CoreSet,

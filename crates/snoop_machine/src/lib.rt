@@ -1,6 +1,7 @@
 //! The machine: caches, memory and bus, and its steps.
 #![tactic(auto)]
 
+mod any_parts;
 mod ask;
 mod cache;
 mod core_set;

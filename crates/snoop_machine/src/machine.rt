@@ -1,5 +1,6 @@
 //! The machine, as its users have it.
-ghost use Rattle.std.specs.Prelude.{◌≡◌, ◌<◌, ◌↔◌, ◌++◌, ℕ, [], ◌∷◌, length, Option, true, is_some, IsTrue, IsOk, IfOk, IfErr, IfSome, Ok, Err, Some, option_to_list};
+ghost use Rattle.std.specs.Prelude.{◌≡◌, ◌<◌, ◌↔◌, ◌++◌, ℕ, [], ◌∷◌, length, option_map, Option, true, is_some, IsTrue, IsOk, IfOk, IfErr, IfSome, Ok, Err, Some, option_to_list};
+ghost use Rattle.snoop_trace.specs.Words.{AreZeroFrom, word_at};
 ghost use Rattle.snoop_trace.specs.declared.step.Step.{Step};
 ghost use Rattle.snoop_rules.specs.Waits.{waiting_request};
 ghost use Rattle.snoop_bus.specs.Queues.{queue_of};
@@ -22,21 +23,21 @@ ghost use Rattle.snoop_model.specs.Runs.Safe.{IsSafe};
 ghost use Rattle.snoop_model.specs.Runs.Once.{OnceMore};
 ghost use Rattle.snoop_model.specs.Runs.Runs.{HasRun};
 
-use crate::parts::Parts;
+use crate::any_parts::AnyParts;
 use snoop_bus::Open;
 use snoop_history::{Item, Log};
 use snoop_model::{Refused, Reply};
 use snoop_rules::{CacheState, MemState, Protocol};
 use snoop_trace::{NoMemory, Shape, Step};
 use std::alloc::Global;
+use std::fmt;
 use std::marker::Model;
 
 /// Caches, memory, the bus that joins them, and the history of what they did.
 ///
 /// Every machine is coherent: each block has one writer alone, or only readers, and each load read the last value stored.
-#[derive(Debug, Drop)]
 pub struct Machine {
-    parts: Parts,
+    parts: AnyParts,
 }
 
 impl Model for Machine {
@@ -51,6 +52,19 @@ impl Model for Machine {
     ghost invariant = { ArePartsCoherent };
 }
 
+// Not derived: a derived drop is proved anew, field by field, at each end of each function that owns a machine.
+impl Drop for Machine {
+    fn drop(self) {
+        let Machine { parts: _ } = self;
+    }
+}
+
+impl fmt::Debug for Machine {
+    fn fmt<W: fmt::Write>(&self, f: &mut fmt::Formatter<W>) -> fmt::Result {
+        f.write_str("Machine { .. }")
+    }
+}
+
 impl Machine {
     /// A machine at reset: every cache in I, memory with 0, nothing waiting or open, an empty history.
     ///
@@ -60,7 +74,7 @@ impl Machine {
         ensures safe { IfOk result (λ machine. IsSafe machine.situation) }
         ensures empty { IfOk result (λ machine. (core : ℕ) → lines_of machine core ≡ 0) }
     {
-        let parts = Parts::reset(alloc, protocol, shape)?;
+        let parts = AnyParts::reset(alloc, protocol, shape)?;
         Ok(Machine { parts })
     }
 
@@ -114,7 +128,7 @@ impl Machine {
         self.parts.protocol()
     }
 
-    /// How many cores and blocks there are, and the bytes of a block.
+    /// How many cores and blocks there are, and how many bytes and words a block.
     pub fn shape(&self) -> Shape
         ensures { result ≡ self.now.situation.shape }
     {
@@ -129,15 +143,16 @@ impl Machine {
         self.parts.state(core, block)
     }
 
-    /// The value that the core keeps of the block, which is that of the last store to it, or `None` outside the shape and in a
+    /// The value of a word that the core keeps, which is that of the last store to it, or `None` outside the shape and in a
     /// state that may not read.
-    pub fn kept(&self, core: u32, block: u32) -> Option<u64>
-        ensures inside { core < self.now.situation.shape.cores → block < self.now.situation.shape.blocks → result ≡ (held_by (picture_of self.now.situation block) core).kept }
-        ensures readable { core < self.now.situation.shape.cores → block < self.now.situation.shape.blocks → is_some result ≡ keeps (state_of self.now.situation core block) }
-        ensures current { IfSome result (λ value. value ≡ flat self.now.situation.log block) }
-        ensures outside { IfSome result (λ _. (core < self.now.situation.shape.cores) × (block < self.now.situation.shape.blocks)) }
+    pub fn kept(&self, core: u32, block: u32, word: u32) -> Option<u64>
+        ensures inside { core < self.now.situation.shape.cores → block < self.now.situation.shape.blocks → word < self.now.situation.shape.words → result ≡ option_map (λ ws. word_at ws word) (held_by (picture_of self.now.situation block) core).kept }
+        ensures readable { core < self.now.situation.shape.cores → block < self.now.situation.shape.blocks → word < self.now.situation.shape.words → is_some result ≡ keeps (state_of self.now.situation core block) }
+        ensures current { IfSome result (λ value. value ≡ flat self.now.situation.log block word) }
+        ensures outside { IfSome result (λ _. (core < self.now.situation.shape.cores) × (block < self.now.situation.shape.blocks) × (word < self.now.situation.shape.words)) }
     {
-        self.parts.kept(core, block)
+        self.shape().within_limits();
+        self.parts.kept(core, block, word)
     }
 
     /// Memory's state of the block, or `None` outside the shape.
@@ -148,19 +163,29 @@ impl Machine {
         self.parts.mem_state(block)
     }
 
-    /// Memory's value of the block, or `None` outside the shape.
-    pub fn mem_value(&self, block: u32) -> Option<u64>
-        ensures inside { block < self.now.situation.shape.blocks → result ≡ Some (picture_of self.now.situation block).memory.value }
-        ensures outside { IfSome result (λ _. block < self.now.situation.shape.blocks) }
+    /// Memory's value of a word, or `None` outside the shape.
+    pub fn mem_value(&self, block: u32, word: u32) -> Option<u64>
+        ensures inside { block < self.now.situation.shape.blocks → word < self.now.situation.shape.words → result ≡ Some (word_at (picture_of self.now.situation block).memory.value word) }
+        ensures outside { IfSome result (λ _. (block < self.now.situation.shape.blocks) × (word < self.now.situation.shape.words)) }
     {
-        self.parts.mem_value(block)
+        self.parts.mem_value(block, word)
     }
 
     /// The block's open transaction, if there is one; `None` outside the shape.
     pub fn open(&self, block: u32) -> Option<Open>
-        ensures { result ≡ (picture_of self.now.situation block).transaction }
+        ensures value { result ≡ (picture_of self.now.situation block).transaction }
+
+        // The words that a block doesn't have are 0.
+        ensures padded { IfSome result (λ opened. AreZeroFrom self.now.situation.shape.words opened.value) }
     {
         self.parts.open(block)
+    }
+
+    /// The core whose transaction is open on the block, or `None` where none is, and outside the shape.
+    pub fn requestor(&self, block: u32) -> Option<u32>
+        ensures { result ≡ option_map (λ opened. opened.core) (picture_of self.now.situation block).transaction }
+    {
+        self.parts.requestor(block)
     }
 
     /// Whether a request of the core waits to be ordered; false outside the shape.
@@ -192,7 +217,7 @@ impl Machine {
     /// The history of all that was performed, ordered and answered.
     pub fn log(&self) -> &Log
         ensures items { result.now.items ≡ self.now.situation.log }
-        ensures shape { (result.now.cores ≡ self.now.situation.shape.cores) × (result.now.blocks ≡ self.now.situation.shape.blocks) }
+        ensures shape { (result.now.cores ≡ self.now.situation.shape.cores) × (result.now.blocks ≡ self.now.situation.shape.blocks) × (result.now.words ≡ self.now.situation.shape.words) }
     {
         self.parts.log()
     }

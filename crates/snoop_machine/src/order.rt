@@ -1,5 +1,6 @@
 //! What an Order does to the lines of its block, and who sends.
-ghost use Rattle.std.specs.Prelude.{◌≡◌, ◌↔◌, IsTrue, ℕ, ◌<◌, List, [], length, Some, slice_index_or, slice_set, unwrap_or, if◌then◌else◌};
+ghost use Rattle.std.specs.Prelude.{◌≡◌, ◌↔◌, IsTrue, ℕ, ◌<◌, ◌≤◌, List, [], length, Some, slice_index_or, slice_set, unwrap_or, if◌then◌else◌};
+ghost use Rattle.snoop_trace.specs.Words.{zero_words};
 ghost use Rattle.snoop_rules.specs.Waits.{waiting_request};
 ghost use Rattle.snoop_rules.specs.Takers.{seen_by, at_memory, carries_value};
 ghost use Rattle.snoop_model.specs.Pictures.Picture.{held_at};
@@ -16,6 +17,7 @@ use snoop_rules::{
     CacheAction, CacheEvent, CacheState, MemAction, MemCell, MemEvent, Payload, Protocol, Request,
     cache_cell, mem_cell,
 };
+use snoop_trace::{Block, Kept};
 
 /// What a core sees of a request, its own or another's.
 pub(crate) fn event_seen(core: u32, requestor: u32, request: Request) -> CacheEvent
@@ -61,7 +63,7 @@ fn is_same(one: CacheState, other: CacheState) -> bool
     one == other
 }
 
-impl Lines {
+impl<B: Block> Lines<B> {
     /// Each core takes its row for a request on the block. The row of a core that the request does not concern changes nothing, and is not looked up.
     pub(crate) fn take_rows(
         &mut self,
@@ -94,41 +96,48 @@ impl Lines {
     }
 }
 
-/// The value that the line's cache puts into a message.
-fn value_for(line: Line, payload: Payload) -> u64
-    ensures { result ≡ (if carries_value payload then unwrap_or line.kept 0 else 0) }
+/// The words that the line's cache puts into a message.
+fn words_for<B: Block>(line: Line<Kept<B>>, payload: Payload) -> Kept<B>
+    requires { B.count ≤ 64 }
+    ensures { result ≡ (if carries_value payload then unwrap_or line.kept zero_words else zero_words) }
 {
     if carries(payload) {
-        line.kept.unwrap_or(0)
+        line.kept.unwrap_or(Kept::zero())
     } else {
-        0
+        Kept::zero()
     }
 }
 
 /// Memory's message for the request, if it sends one.
-fn message_of_memory(memory: MemLine, cell: MemCell) -> Option<Message>
+fn message_of_memory<B: Block>(memory: MemLine<Kept<B>>, cell: MemCell) -> Option<Message<Kept<B>>>
+    requires { B.count ≤ 64 }
     ensures { result ≡ memory_message cell.action memory.value }
 {
     match cell.action {
         MemAction::Send(payload) => Some(Message {
             payload,
-            value: if carries(payload) { memory.value } else { 0 },
+            value: if carries(payload) {
+                memory.value
+            } else {
+                Kept::zero()
+            },
             from: None,
         }),
         MemAction::None | MemAction::Write => None,
     }
 }
 
-impl Lines {
+impl<B: Block> Lines<B> {
     /// The message of the one controller that sends, for a request on the block.
     pub(crate) fn message(
         &self,
         protocol: Protocol,
-        memory: MemLine,
+        memory: MemLine<Kept<B>>,
         requestor: u32,
         request: Request,
         block: u32,
-    ) -> Message
+    ) -> Message<Kept<B>>
+        requires few { B.count ≤ 64 }
         requires block { block < length self.now.rows }
         requires waits { waiting_request (held_at (slice_index_or self.now.rows block []) requestor).state ≡ Some request }
         requires rows { (k : ℕ) → k < length (slice_index_or self.now.rows block []) → HasRow protocol (held_at (slice_index_or self.now.rows block []) k).state (seen_by k requestor request) }
@@ -152,7 +161,7 @@ impl Lines {
             if let CacheAction::Send(payload, _) = cell.action {
                 return Message {
                     payload,
-                    value: value_for(line, payload),
+                    value: words_for(line, payload),
                     from: Some(core),
                 };
             }

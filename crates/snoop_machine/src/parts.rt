@@ -1,9 +1,10 @@
 //! The parts of a machine, which its steps change one after another.
-ghost use Rattle.std.specs.Prelude.{◌≡◌, ◌<◌, ◌↔◌, ℕ, length, is_some, IsTrue, IfOk, IfSome, Some};
+ghost use Rattle.std.specs.Prelude.{◌≡◌, ◌<◌, ◌≤◌, ◌↔◌, ℕ, length, option_map, is_some, IsTrue, IfOk, IfSome, Some};
+ghost use Rattle.snoop_trace.specs.Words.{AreZeroFrom, word_at};
 ghost use Rattle.snoop_bus.specs.Queues.{queue_of};
 ghost use Rattle.snoop_rules.specs.Waits.{waiting_request};
 ghost use Rattle.snoop_model.specs.Pictures.Picture.{first_memory, held_by};
-ghost use Rattle.snoop_model.specs.Pictures.Situation.{picture_of, reset, state_of};
+ghost use Rattle.snoop_model.specs.Pictures.Situation.{no_memory, picture_of, reset, state_of};
 ghost use Rattle.snoop_model.specs.Pictures.Sound.{IsProper, keeps, line_at};
 ghost use Rattle.snoop_model.specs.Moves.Move.{next_did};
 ghost use Rattle.snoop_model.specs.Moves.Standing.{lines_of};
@@ -18,56 +19,69 @@ use crate::lines::Lines;
 use snoop_blocks::BlockTable;
 use snoop_bus::{Bus, Open};
 use snoop_history::{Did, Log};
-use snoop_model::{Line, MemLine};
+use snoop_model::{Access, Line, MemLine};
 use snoop_rules::{CacheState, MemState, Protocol};
-use snoop_trace::{NoMemory, Op, Shape};
+use snoop_trace::{Block, Kept, NoMemory, Op, Shape};
 use std::alloc::Global;
 use std::marker::Model;
 
 /// What stands for memory's line of a block that there isn't.
-const NO_MEMORY: MemLine = MemLine {
-    state: MemState::IorS,
-    value: 0,
-};
+fn no_memory<B: Block>() -> MemLine<Kept<B>>
+    requires { B.count ≤ 64 }
+    ensures { result ≡ no_memory }
+{
+    MemLine {
+        state: MemState::IorS,
+        value: Kept::zero(),
+    }
+}
 
 /// The caches, memory, the bus that joins them, and the history of what they did.
-#[derive(Debug, Drop)]
-pub(crate) struct Parts {
+pub(crate) struct Parts<B: Block> {
     protocol: Protocol,
     shape: Shape,
-    lines: Lines,
-    memory: BlockTable<MemLine>,
-    bus: Bus,
+    lines: Lines<B>,
+    memory: BlockTable<MemLine<Kept<B>>>,
+    bus: Bus<Kept<B>>,
     log: Log,
 }
 
-impl Model for Parts {
+// Not derived: each end of each function that owns one would prove the drop of its fields anew.
+impl<B: Block> Drop for Parts<B> {
+    fn drop(self) {
+        let Parts { protocol: _, shape: _, lines: _, memory: _, bus: _, log: _ } = self;
+    }
+}
+
+impl<B: Block> Model for Parts<B> {
     ghost use Rattle.snoop_model.specs.Moves.Standing.{Standing};
 
     ghost Value = { Standing };
 
-    ghost use Rattle.snoop_machine.specs.PartsView.{standing, IsWhole};
+    ghost use Rattle.snoop_machine.specs.PartsView.{fields, standing, IsWhole};
 
-    ghost view = { standing };
+    ghost view = { λ m. standing (fields m.protocol m.shape m.lines m.memory m.bus m.log) };
 
-    ghost invariant = { IsWhole };
+    ghost invariant = { λ m. IsWhole B.count (fields m.protocol m.shape m.lines m.memory m.bus m.log) };
 }
 
-impl Parts {
+impl<B: Block> Parts<B> {
     /// The parts of a machine at reset.
     pub(crate) fn reset(alloc: Global, protocol: Protocol, shape: Shape) -> Result<Self, NoMemory>
+        requires words { shape.words ≡ B.count }
         ensures situation { IfOk result (λ parts. parts.situation ≡ reset protocol shape) }
         ensures empty { IfOk result (λ parts. (core : ℕ) → lines_of parts core ≡ 0) }
     {
         prove!(shape.cores() <= 256);
+        prove!(shape.words() <= 64);
+        let first = MemLine {
+            state: first_state(protocol),
+            value: Kept::zero(),
+        };
+        let memory = BlockTable::new(alloc, shape.blocks(), first)?;
         let lines = Lines::new(alloc, shape)?;
         let bus = Bus::new(alloc, shape)?;
         let log = Log::new(alloc, shape)?;
-        let first = MemLine {
-            state: first_state(protocol),
-            value: 0,
-        };
-        let memory = BlockTable::new(alloc, shape.blocks(), first)?;
         Ok(Parts {
             protocol,
             shape,
@@ -85,7 +99,7 @@ impl Parts {
         self.protocol
     }
 
-    /// How many cores and blocks there are, and the bytes of a block.
+    /// How many cores and blocks there are, and how many bytes and words a block.
     pub(crate) fn shape(&self) -> Shape
         ensures { result ≡ self.now.situation.shape }
     {
@@ -104,14 +118,14 @@ impl Parts {
         }
     }
 
-    /// The value that the core keeps of the block, or `None` outside the shape and in a state that may not read.
-    pub(crate) fn kept(&self, core: u32, block: u32) -> Option<u64>
-        ensures inside { core < self.now.situation.shape.cores → block < self.now.situation.shape.blocks → result ≡ (held_by (picture_of self.now.situation block) core).kept }
-        ensures readable { core < self.now.situation.shape.cores → block < self.now.situation.shape.blocks → is_some result ≡ keeps (state_of self.now.situation core block) }
-        ensures outside { IfSome result (λ _. (core < self.now.situation.shape.cores) × (block < self.now.situation.shape.blocks)) }
+    /// The value of a word that the core keeps, or `None` outside the shape and in a state that may not read.
+    pub(crate) fn kept(&self, core: u32, block: u32, word: u32) -> Option<u64>
+        ensures inside { core < self.now.situation.shape.cores → block < self.now.situation.shape.blocks → word < self.now.situation.shape.words → result ≡ option_map (λ ws. word_at ws word) (held_by (picture_of self.now.situation block) core).kept }
+        ensures readable { core < self.now.situation.shape.cores → block < self.now.situation.shape.blocks → word < self.now.situation.shape.words → is_some result ≡ keeps (state_of self.now.situation core block) }
+        ensures outside { IfSome result (λ _. (core < self.now.situation.shape.cores) × (block < self.now.situation.shape.blocks) × (word < self.now.situation.shape.words)) }
     {
-        if core < self.shape.cores() && block < self.shape.blocks() {
-            self.line(core, block).kept
+        if core < self.shape.cores() && block < self.shape.blocks() && word < self.shape.words() {
+            word_kept(self.line(core, block), word)
         } else {
             None
         }
@@ -122,24 +136,47 @@ impl Parts {
         ensures inside { block < self.now.situation.shape.blocks → result ≡ Some (picture_of self.now.situation block).memory.state }
         ensures outside { IfSome result (λ _. block < self.now.situation.shape.blocks) }
     {
-        let line = self.memory.get(block)?;
-        Some(line.state)
+        if block < self.shape.blocks() {
+            Some(self.memory.get_or(block, no_memory()).state)
+        } else {
+            None
+        }
     }
 
-    /// Memory's value of the block, or `None` outside the shape.
-    pub(crate) fn mem_value(&self, block: u32) -> Option<u64>
-        ensures inside { block < self.now.situation.shape.blocks → result ≡ Some (picture_of self.now.situation block).memory.value }
-        ensures outside { IfSome result (λ _. block < self.now.situation.shape.blocks) }
+    /// Memory's value of a word, or `None` outside the shape.
+    pub(crate) fn mem_value(&self, block: u32, word: u32) -> Option<u64>
+        ensures inside { block < self.now.situation.shape.blocks → word < self.now.situation.shape.words → result ≡ Some (word_at (picture_of self.now.situation block).memory.value word) }
+        ensures outside { IfSome result (λ _. (block < self.now.situation.shape.blocks) × (word < self.now.situation.shape.words)) }
     {
-        let line = self.memory.get(block)?;
-        Some(line.value)
+        if block < self.shape.blocks() && word < self.shape.words() {
+            Some(self.memory.get_or(block, no_memory()).value.at(word))
+        } else {
+            None
+        }
     }
 
     /// The block's open transaction, if there is one.
     pub(crate) fn open(&self, block: u32) -> Option<Open>
-        ensures { result ≡ (picture_of self.now.situation block).transaction }
+        ensures value { result ≡ (picture_of self.now.situation block).transaction }
+        ensures padded { IfSome result (λ opened. AreZeroFrom self.now.situation.shape.words opened.value) }
     {
-        self.bus.open(block)
+        let opened = self.bus.open(block)?;
+        Some(Open {
+            core: opened.core,
+            request: opened.request,
+            block: opened.block,
+            payload: opened.payload,
+            value: opened.value.to_words(),
+            from: opened.from,
+        })
+    }
+
+    /// The core whose transaction is open on the block, if one is.
+    pub(crate) fn requestor(&self, block: u32) -> Option<u32>
+        ensures { result ≡ option_map (λ opened. opened.core) (picture_of self.now.situation block).transaction }
+    {
+        let opened = self.bus.open(block)?;
+        Some(opened.core)
     }
 
     /// Whether a request of the core waits to be ordered.
@@ -175,13 +212,13 @@ impl Parts {
     /// The history of all that was performed, ordered and answered.
     pub(crate) fn log(&self) -> &Log
         ensures items { result.now.items ≡ self.now.situation.log }
-        ensures shape { (result.now.cores ≡ self.now.situation.shape.cores) × (result.now.blocks ≡ self.now.situation.shape.blocks) }
+        ensures shape { (result.now.cores ≡ self.now.situation.shape.cores) × (result.now.blocks ≡ self.now.situation.shape.blocks) × (result.now.words ≡ self.now.situation.shape.words) }
     {
         &self.log
     }
 
     /// What the core holds of the block.
-    fn line(&self, core: u32, block: u32) -> Line
+    fn line(&self, core: u32, block: u32) -> Line<Kept<B>>
         requires core { core < self.now.situation.shape.cores }
         requires block { block < self.now.situation.shape.blocks }
         ensures line { result ≡ line_at self.now.situation.caches core block }
@@ -191,18 +228,31 @@ impl Parts {
     }
 
     /// The core's next operation, as the history will have it.
-    fn next_did(&self, core: u32, block: u32, op: Op, value: u64, hit: bool) -> Did
+    fn next_did(&self, core: u32, block: u32, access: Access, value: u64, hit: bool) -> Did
         requires { core < self.now.situation.shape.cores }
-        ensures { result ≡ next_did self.now.situation.log core block op value hit }
+        ensures { result ≡ next_did self.now.situation.log core block access.word access.op value hit }
     {
         Did {
             core,
             number: self.log.count(core).unwrap(),
             block,
-            load: matches!(&op, Op::Load),
+            word: access.word,
+            load: matches!(&access.op, Op::Load),
             value,
             hit,
         }
+    }
+}
+
+/// The value of a word that a line keeps, if it keeps any.
+fn word_kept<B: Block>(line: Line<Kept<B>>, word: u32) -> Option<u64>
+    requires { word < B.count }
+    ensures value { result ≡ option_map (λ ws. word_at ws word) line.kept }
+    ensures some { is_some result ≡ is_some line.kept }
+{
+    match line.kept {
+        Some(words) => Some(words.at(word)),
+        None => None,
     }
 }
 

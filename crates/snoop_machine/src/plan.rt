@@ -5,34 +5,42 @@ use snoop_bus::Open;
 use snoop_model::{MemLine, Message};
 use snoop_rules::{MemState, Request};
 use snoop_trace::Op;
+use std::alloc::AllocError;
 
 /// What a step will do, found before anything changes.
-#[derive(Clone, Copy, Debug)]
-pub enum Plan {
+#[derive(Copy)]
+pub enum Plan<K> {
     Ask {
         core: u32,
         block: u32,
+        word: u32,
         op: Op,
-        asked: Asked,
+        asked: Asked<K>,
     },
     Order {
         core: u32,
         request: Request,
         block: u32,
-        message: Message,
+        message: Message<K>,
         memory: MemState,
     },
     /// Memory takes the message of a PutM.
     Writeback {
         block: u32,
-        closing: Open,
-        memory: MemLine,
+        closing: Open<K>,
+        memory: MemLine<K>,
     },
     /// The requestor takes the data that it waits for, and so does memory where it waits too.
     Fill {
         block: u32,
-        closing: Open,
-        memory: MemLine,
-        filled: Filled,
+        closing: Open<K>,
+        memory: MemLine<K>,
+        filled: Filled<K>,
     },
+}
+
+impl<K: Copy> Clone for Plan<K> {
+    fn clone(&self) -> Result<Self, AllocError> {
+        Ok(*self)
+    }
 }

@@ -1,31 +1,43 @@
 //! What a response does to one line, and to memory.
-ghost use Rattle.std.specs.Prelude.{IsSomeAnd, IsTrue};
+ghost use Rattle.std.specs.Prelude.{◌≡◌, ◌<◌, IfSome, IsSomeAnd, IsTrue};
 ghost use Rattle.snoop_rules.specs.Takers.{arrival, arrival_at_memory, takes_payload};
 ghost use Rattle.snoop_model.specs.Pictures.Sound.{IsProper};
 ghost use Rattle.snoop_model.specs.Moves.LookUps.{HasRow, HasMemRow};
-ghost use Rattle.snoop_model.specs.Moves.Move.{Fills, ArrivesAtMemory};
+ghost use Rattle.snoop_model.specs.Moves.Move.{Fills, ArrivesAtMemory, written};
 
 use snoop_bus::Open;
-use snoop_model::{Line, MemLine};
+use snoop_model::{Access, Line, MemLine};
 use snoop_rules::{
     CacheAction, CacheEvent, MemAction, MemEvent, MemState, Payload, Protocol, Request, cache_cell,
     mem_cell,
 };
-use snoop_trace::Op;
+use snoop_trace::{Block, Kept, Op};
+use std::alloc::AllocError;
 
 /// The requestor's line after its data has come, and what it performed with it.
-#[derive(Clone, Copy, Debug)]
-pub struct Filled {
-    pub line: Line,
-    pub op: Op,
+#[derive(Copy)]
+pub struct Filled<K> {
+    pub line: Line<K>,
+    pub access: Access,
     pub value: u64,
 }
 
+impl<K: Copy> Clone for Filled<K> {
+    fn clone(&self) -> Result<Self, AllocError> {
+        Ok(*self)
+    }
+}
+
 /// What the response brings to its requestor's line.
-pub(crate) fn fill(protocol: Protocol, line: Line, closing: Open) -> Filled
+pub(crate) fn fill<B: Block>(
+    protocol: Protocol,
+    line: Line<Kept<B>>,
+    closing: &Open<Kept<B>>,
+) -> Filled<Kept<B>>
     requires proper { IsProper line }
-    requires possible { IsSomeAnd (arrival closing.payload) (HasRow protocol line.state) }
-    ensures { Fills closing protocol line result.line result.op result.value }
+    requires word { IfSome line.waiting (λ access. access.word < B.count) }
+    requires possible { IsSomeAnd (arrival closing.now.payload) (HasRow protocol line.state) }
+    ensures { Fills closing.now protocol line result.line result.access result.value }
 {
     let event = match closing.payload {
         Payload::Data => CacheEvent::Data,
@@ -36,22 +48,33 @@ pub(crate) fn fill(protocol: Protocol, line: Line, closing: Open) -> Filled
         unreachable!();
     };
     match (cell.action, line.waiting) {
-        (CacheAction::FillLoad, Some(Op::Load)) => Filled {
+        (CacheAction::FillLoad, Some(Access { word, op: Op::Load })) => Filled {
+            value: closing.value.at(word),
             line: Line {
                 state: cell.next,
                 kept: Some(closing.value),
                 waiting: None,
             },
-            op: Op::Load,
-            value: closing.value,
+            access: Access { word, op: Op::Load },
         },
-        (CacheAction::FillStore, Some(Op::Store(value))) => Filled {
+        (
+            CacheAction::FillStore,
+            Some(
+                Access {
+                    word,
+                    op: Op::Store(value),
+                },
+            ),
+        ) => Filled {
             line: Line {
                 state: cell.next,
-                kept: Some(value),
+                kept: Some(closing.value.with(word, value)),
                 waiting: None,
             },
-            op: Op::Store(value),
+            access: Access {
+                word,
+                op: Op::Store(value),
+            },
             value,
         },
         _ => unreachable!(),
@@ -59,9 +82,13 @@ pub(crate) fn fill(protocol: Protocol, line: Line, closing: Open) -> Filled
 }
 
 /// What memory holds once the message of a transaction has come: it takes that of a PutM, and another where it waits for one.
-pub(crate) fn arrive(protocol: Protocol, memory: MemLine, closing: Open) -> MemLine
-    requires { IsTrue (takes_payload closing.request memory.state) → IsSomeAnd (arrival_at_memory closing.payload) (HasMemRow protocol memory.state) }
-    ensures { ArrivesAtMemory closing protocol memory result }
+pub(crate) fn arrive<B: Block>(
+    protocol: Protocol,
+    memory: MemLine<Kept<B>>,
+    closing: &Open<Kept<B>>,
+) -> MemLine<Kept<B>>
+    requires { IsTrue (takes_payload closing.now.request memory.state) → IsSomeAnd (arrival_at_memory closing.now.payload) (HasMemRow protocol memory.state) }
+    ensures { ArrivesAtMemory closing.now protocol memory result }
 {
     match (closing.request, memory.state) {
         (Request::PutM, _)
@@ -79,9 +106,16 @@ pub(crate) fn arrive(protocol: Protocol, memory: MemLine, closing: Open) -> MemL
     };
     MemLine {
         state: cell.next,
-        value: match cell.action {
-            MemAction::Write => closing.value,
-            MemAction::None | MemAction::Send(_) => memory.value,
-        },
+        value: written(cell.action, closing.value, memory.value),
+    }
+}
+
+/// Memory's words after an action, of those that came and those that it held.
+fn written<B: Block>(action: MemAction, came: Kept<B>, held: Kept<B>) -> Kept<B>
+    ensures { result ≡ written action came held }
+{
+    match action {
+        MemAction::Write => came,
+        MemAction::None | MemAction::Send(_) => held,
     }
 }

@@ -4,7 +4,7 @@ mod memory;
 
 use snoop_bus::{Bus, Open};
 use snoop_rules::{Payload, Request};
-use snoop_trace::{NoMemory, Shape};
+use snoop_trace::{NoMemory, Shape, Words};
 use std::alloc::Global;
 use std::test::Fail;
 
@@ -43,8 +43,20 @@ fn start(bus: &mut Bus, core: u32, payload: Payload, value: u64, from: Option<u3
     if bus.open(block).is_some() {
         return false;
     }
-    bus.start(core, payload, value, from);
+    bus.start(core, payload, Words::zero().with(0, value), from);
     true
+}
+
+// The transaction of core 1's writeback of block 3, which is stale.
+fn opened() -> Open {
+    Open {
+        core: 1,
+        request: Request::PutM,
+        block: 3,
+        payload: Payload::NoData,
+        value: Words::zero(),
+        from: Some(1),
+    }
 }
 
 #[test]
@@ -53,14 +65,6 @@ fn requests_from_issue_to_response(rt: HostRuntime) -> Result<(), Fail> {
     issue(&mut bus, 0, Request::GetM, 3)?;
     issue(&mut bus, 1, Request::PutM, 3)?;
     issue(&mut bus, 1, Request::GetS, 2)?;
-    let opened = Open {
-        core: 1,
-        request: Request::PutM,
-        block: 3,
-        payload: Payload::NoData,
-        value: 0,
-        from: Some(1),
-    };
 
     // A block that is taken waits; the core's next request, for another block, does not.
     let started = [
@@ -68,20 +72,24 @@ fn requests_from_issue_to_response(rt: HostRuntime) -> Result<(), Fail> {
         start(&mut bus, 0, Payload::Data, 7, None),
         start(&mut bus, 1, Payload::Data, 8, Some(0)),
     ];
-    assert_eq!(rt;
-        (started, bus.head(0), bus.head(1), bus.open(3)),
-        (
-            [true, false, true],
-            Some((Request::GetM, 3)),
-            None,
-            Some(opened)
-        )
-    );
-    let finished = [bus.finish(3), bus.finish(3), bus.finish(0)];
-    let again = start(&mut bus, 0, Payload::Data, 7, None);
-    assert_eq!(rt; (finished, again), ([Some(opened), None, None], true));
-
+    if started != [true, false, true]
+        || bus.head(0) != Some((Request::GetM, 3))
+        || bus.head(1).is_some()
+    {
+        Err(started)?
+    }
+    if bus.open(3) != Some(opened()) {
+        Err("what is open")?
+    }
+    if bus.finish(3) != Some(opened()) || bus.finish(3).is_some() || bus.finish(0).is_some() {
+        Err("what was open")?
+    }
+    if !start(&mut bus, 0, Payload::Data, 7, None) {
+        Err("the block is free")?
+    }
     bus.reserve(1)?;
-    assert_eq!(rt; (bus.has_room(1), bus.has_room(2)), (true, false));
+    if !bus.has_room(1) || bus.has_room(2) {
+        Err("room")?
+    }
     Ok(())
 }

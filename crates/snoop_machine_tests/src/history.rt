@@ -14,6 +14,7 @@ fn did(core: u32, number: u64, block: u32, load: bool, value: u64) -> Did {
         core,
         number,
         block,
+        word: 0,
         load,
         value,
         hit: false,
@@ -45,9 +46,9 @@ fn came(request: Request, from: Option<u32>, did: Did) -> Item {
 fn block_boundary() -> [Item; 4] {
     [
         sent(0, Request::GetM, 1),
-        came(Request::GetM, None, did(0, 0, 1, false, 7)),
+        came(Request::GetM, None, STORED),
         sent(1, Request::GetS, 1),
-        came(Request::GetS, Some(0), did(1, 0, 1, true, 7)),
+        came(Request::GetS, Some(0), LOADED),
     ]
 }
 
@@ -91,6 +92,22 @@ fn board_of(alloc: Global, shape: Shape, items: &[Item]) -> Result<Board, NoMemo
     Ok(board)
 }
 
+const STORED: Did = Did {
+    core: 0,
+    number: 0,
+    block: 1,
+    word: 0,
+    load: false,
+    value: 7,
+    hit: false,
+};
+
+const LOADED: Did = Did {
+    core: 1,
+    load: true,
+    ..STORED
+};
+
 // What core 0's store and core 1's load of block 1 count.
 const BOUNDARY_TOTALS: Totals = Totals {
     loads: 1,
@@ -107,40 +124,36 @@ const BOUNDARY_TOTALS: Totals = Totals {
     stale: 0,
 };
 
+// Whether the log has the items of the block boundary.
+fn has_boundary_items(log: &Log) -> bool {
+    let [.., last] = block_boundary();
+    has_items(log, &block_boundary())
+        && log.len() == 4
+        && !log.is_empty()
+        && log.item(3) == Some(last)
+}
+
+// Whether it answers what follows from them, inside the shape and outside.
+fn has_boundary_answers(log: &Log) -> bool {
+    [log.flat(0, 0), log.flat(1, 0), log.flat(4, 0)] == [Some(0), Some(7), None]
+        && [log.count(0), log.count(1), log.count(2)] == [Some(1), Some(1), None]
+        && [log.last(0), log.last(1), log.last(2)] == [Some(STORED), Some(LOADED), None]
+        && log.totals() == BOUNDARY_TOTALS
+}
+
 #[test]
 fn a_log_and_its_copy(rt: HostRuntime) -> Result<(), Fail> {
     let shape = Shape::new(2, 4, 64)?;
     let whole = log_of(rt.alloc(), shape, block_boundary().as_slice())?;
     let copy = whole.copy()?;
-    let [.., last] = block_boundary();
-    let performed = [did(0, 0, 1, false, 7), did(1, 0, 1, true, 7)];
     for log in [&whole, &copy] {
-        let answers = [log.answers(0)?, log.answers(1)?];
-        assert_eq!(rt;
-            (
-                has_items(log, &block_boundary()),
-                log.len(),
-                log.is_empty(),
-                log.item(3)
-            ),
-            (true, 4, false, Some(last))
-        );
-        assert_eq!(rt;
-            (
-                [log.flat(0), log.flat(1), log.flat(4)],
-                [log.count(0), log.count(1), log.count(2)],
-                [log.last(0), log.last(1), log.last(2)],
-                answers.each_ref().map(|dids| dids.as_slice()),
-                log.totals(),
-            ),
-            (
-                [Some(0), Some(7), None],
-                [Some(1), Some(1), None],
-                [Some(performed[0]), Some(performed[1]), None],
-                [&performed[..1], &performed[1..]],
-                BOUNDARY_TOTALS,
-            )
-        );
+        if !has_boundary_items(log) || !has_boundary_answers(log) {
+            Err("the log's items")?
+        }
+        let (first, second) = (log.answers(0)?, log.answers(1)?);
+        if first.as_slice() != [STORED].as_slice() || second.as_slice() != [LOADED].as_slice() {
+            Err("the cores' operations")?
+        }
     }
     Ok(())
 }
@@ -149,42 +162,32 @@ fn a_log_and_its_copy(rt: HostRuntime) -> Result<(), Fail> {
 fn a_board_of_the_block_boundary(rt: HostRuntime) -> Result<(), Fail> {
     let shape = Shape::new(2, 4, 64)?;
     let board = board_of(rt.alloc(), shape, block_boundary().as_slice())?;
-    assert_eq!(rt;
-        (
-            [
-                board.has_shape(shape),
-                board.has_shape(Shape::new(3, 4, 64)?)
-            ],
-            [board.value(0), board.value(1), board.value(4)],
-            [board.count(0), board.count(1), board.count(2)],
-            [board.last(0), board.last(1), board.last(2)],
-            board.totals(),
-        ),
-        (
-            [true, false],
-            [Some(0), Some(7), None],
-            [Some(1), Some(1), None],
-            [
-                Some(did(0, 0, 1, false, 7)),
-                Some(did(1, 0, 1, true, 7)),
-                None
-            ],
-            BOUNDARY_TOTALS,
-        )
-    );
+    if !board.has_shape(shape) || board.has_shape(Shape::new(3, 4, 64)?) {
+        Err("its shape")?
+    }
+    if [board.value(0, 0), board.value(1, 0), board.value(4, 0)] != [Some(0), Some(7), None]
+        || [board.count(0), board.count(1), board.count(2)] != [Some(1), Some(1), None]
+        || [board.last(0), board.last(1), board.last(2)] != [Some(STORED), Some(LOADED), None]
+        || board.totals() != BOUNDARY_TOTALS
+    {
+        Err("its answers")?
+    }
     Ok(())
 }
 
 #[test]
-fn what_an_item_is_of(rt: HostRuntime) {
+fn what_an_item_is_of() -> Result<(), Fail> {
     let loaded = did(1, 0, 3, true, 7);
     for (item, performed) in [
         (Item::Did(loaded), Some(loaded)),
         (sent(1, Request::GetS, 3), None),
         (came(Request::GetS, Some(0), loaded), Some(loaded)),
     ] {
-        assert_eq!(rt; (item.core(), item.block(), item.did()), (1, 3, performed));
+        if item.core() != 1 || item.block() != 3 || item.did() != performed {
+            Err(item)?
+        }
     }
+    Ok(())
 }
 
 const EMPTY: &str = "\
@@ -234,6 +237,13 @@ block 0 value 0
 block 1 value 7
 ";
 
+fn report_of(alloc: Global, shape: Shape, items: &[Item]) -> Result<Vec<u8>, Fail> {
+    let log = log_of(alloc, shape, items)?;
+    let mut report = Vec::new(alloc);
+    write_report(alloc, &mut report, &log)?;
+    Ok(report)
+}
+
 #[test]
 fn reports(rt: HostRuntime) -> Result<(), Fail> {
     let shape = Shape::new(2, 4, 64)?;
@@ -242,6 +252,7 @@ fn reports(rt: HostRuntime) -> Result<(), Fail> {
             core,
             number: 0,
             block,
+            word: 0,
             load,
             value,
             hit: true,
@@ -265,10 +276,9 @@ fn reports(rt: HostRuntime) -> Result<(), Fail> {
         (hits.as_slice(), LATER_BLOCK_FIRST),
         (operation_of_another_block.as_slice(), OF_ANOTHER_BLOCK),
     ] {
-        let log = log_of(rt.alloc(), shape, items)?;
-        let mut out = Vec::new(rt.alloc());
-        write_report(rt.alloc(), &mut out, &log)?;
-        assert_eq!(rt; out.as_slice(), text.as_bytes());
+        if report_of(rt.alloc(), shape, items)?.as_slice() != text.as_bytes() {
+            Err(text)?
+        }
     }
     Ok(())
 }
@@ -305,9 +315,87 @@ fn failing_writer(rt: HostRuntime) -> Result<(), Fail> {
         left: 12,
     });
     let written = write_report(rt.alloc(), &mut writer, &log);
-    assert_eq!(rt;
-        (written, writer.inner.held.as_slice()),
-        (Err(WriteFault::Write), b"loads 1 hits".as_slice())
-    );
+    if written != Err(WriteFault::Write)
+        || writer.inner.held.as_slice() != b"loads 1 hits".as_slice()
+    {
+        Err("a beginning")?
+    }
+    Ok(())
+}
+
+// Core 0's store in word 0 of block 1, and core 1's store in word 1.
+fn two_words() -> [Item; 2] {
+    let first = Did {
+        hit: true,
+        ..did(0, 0, 1, false, 7)
+    };
+    let second = Did {
+        word: 1,
+        hit: true,
+        ..did(1, 0, 1, false, 9)
+    };
+    [Item::Did(first), Item::Did(second)]
+}
+
+const TWO_WORDS: &str = "\
+loads 0 hits 0
+stores 2 hits 2
+GetS 0 GetM 0 PutM 0
+from memory 0 from caches 0
+writebacks 0 clean 0 stale 0
+block 1 value 7 9
+";
+
+// The values of both words of block 1 and of one that there is not, and of words of block 0 and of one that there is not.
+const VALUES: [Option<u64>; 5] = [Some(7), Some(9), None, Some(0), None];
+
+#[test]
+fn words_of_a_block_have_values_of_their_own(rt: HostRuntime) -> Result<(), Fail> {
+    let shape = Shape::with_words(2, 4, 64, 2)?;
+    let log = log_of(rt.alloc(), shape, two_words().as_slice())?;
+    let board = board_of(rt.alloc(), shape, two_words().as_slice())?;
+    let of_log = [
+        log.flat(1, 0),
+        log.flat(1, 1),
+        log.flat(1, 2),
+        log.flat(0, 1),
+        log.flat(4, 0),
+    ];
+    let of_board = [
+        board.value(1, 0),
+        board.value(1, 1),
+        board.value(1, 2),
+        board.value(0, 1),
+        board.value(4, 0),
+    ];
+    if log.len() != 2 || of_log != VALUES || of_board != VALUES {
+        Err(of_board)?
+    }
+    if board.has_shape(Shape::new(2, 4, 64)?) {
+        Err("its shape")?
+    }
+    Ok(())
+}
+
+#[test]
+fn a_report_has_the_values_of_all_words(rt: HostRuntime) -> Result<(), Fail> {
+    let report = report_of(
+        rt.alloc(),
+        Shape::with_words(2, 4, 64, 2)?,
+        two_words().as_slice(),
+    )?;
+    if report.as_slice() != TWO_WORDS.as_bytes() {
+        Err(report)?
+    }
+    Ok(())
+}
+
+// Word 1 is one that blocks of one word do not have.
+#[test]
+fn a_word_that_there_is_not_is_left_out(rt: HostRuntime) -> Result<(), Fail> {
+    let log = log_of(rt.alloc(), Shape::new(2, 4, 64)?, two_words().as_slice())?;
+    if log.len() != 1 {
+        Err(log.len())?
+    }
     Ok(())
 }

@@ -4,3 +4,4 @@ mod runs;
 mod steps;
 mod storm;
 mod support;
+mod words;

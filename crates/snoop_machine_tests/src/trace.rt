@@ -1,3 +1,4 @@
+mod headings;
 mod memory;
 mod streams;
 mod texts;

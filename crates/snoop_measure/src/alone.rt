@@ -9,6 +9,7 @@ use snoop_machine::{Machine, run_steps};
 use snoop_rules::Protocol;
 use snoop_trace::{Op, Row, Shape, Step};
 use std::alloc::Global;
+use std::io;
 use std::rt::Clock;
 use std::sync::Wait;
 use std::time::{Duration, Instant};
@@ -29,9 +30,9 @@ fn perform<R: Wait>(rt: &R, seats: &mut [Seat], shape: Shape, row: &Row) -> Resu
         .context("a row has no seat")?;
     match row.op {
         Op::Load => {
-            seat.load(rt, block)?;
+            seat.load(rt, block, 0)?;
         }
-        Op::Store(value) => seat.store(rt, block, value)?,
+        Op::Store(value) => seat.store(rt, block, 0, value)?,
         Op::Evict => {
             seat.evict(rt, block)?;
         }
@@ -43,6 +44,7 @@ fn perform<R: Wait>(rt: &R, seats: &mut [Seat], shape: Shape, row: &Row) -> Resu
 fn advance<R: Wait>(rt: &R, bench: &mut Bench, row: &Row) -> Result<()> {
     let work = Work {
         block: block_of(bench.shape(), row)?,
+        word: 0,
         op: row.op,
     };
     for _ in 0..TURNS {
@@ -118,6 +120,53 @@ fn time_machine<R: Clock>(rt: &R, alloc: Global, shape: Shape, steps: &[Step]) -
     Ok(start.elapsed(rt)?)
 }
 
+/// The least times of each way to do the rows.
+#[derive(Clone, Copy)]
+struct Times {
+    seats: Duration,
+    bench: Duration,
+    machine: Duration,
+}
+
+/// The least times of some rounds, and how many steps the seats take.
+fn time_all<R: Wait + Clock>(
+    rt: &R,
+    alloc: Global,
+    shape: Shape,
+    rows: &[Row],
+) -> Result<(Times, u64)> {
+    let mut least = Times {
+        seats: Duration::MAX,
+        bench: Duration::MAX,
+        machine: Duration::MAX,
+    };
+    let mut number = 0;
+    for _ in 0..ROUNDS {
+        let (seats, steps) = time_seats(rt, alloc, shape, rows)?;
+        number = steps.len() as u64;
+        least = Times {
+            seats: least.seats.min(seats),
+            bench: least.bench.min(time_bench(rt, alloc, shape, rows)?),
+            machine: least.machine.min(time_machine(rt, alloc, shape, &steps)?),
+        };
+    }
+    Ok((least, number))
+}
+
+fn print_counts<R: Print>(rt: &R, cores: u32, rows: u64, steps: u64) -> io::Result<()> {
+    print!(rt; "cores {cores} in one thread: ")?;
+    println!(rt; "rows {rows} steps {steps}")
+}
+
+fn print_times<R: Eprint>(rt: &R, cores: u32, number: u64, times: Times) -> io::Result<()> {
+    eprint!(rt; "cores {cores} in one thread, nanoseconds a step: ")?;
+    eprint!(rt; "seats {}, ", nanos_each(number, times.seats))?;
+    eprint!(rt; "bench {}, ", nanos_each(number, times.bench))?;
+    eprint!(rt; "machine {}; ", nanos_each(number, times.machine))?;
+    eprint!(rt; "ratios {:.2} ", ratio(times.seats, times.machine))?;
+    eprintln!(rt; "and {:.2}", ratio(times.bench, times.machine))
+}
+
 /// Prints how many steps one thread takes for so many rows of this shape, and how long: by seats, on a bench that no lock guards,
 /// and on a machine alone.
 pub fn report<R: Wait + Clock + Print + Eprint>(
@@ -127,29 +176,8 @@ pub fn report<R: Wait + Clock + Print + Eprint>(
     count: u64,
 ) -> Result<()> {
     let rows = rows(alloc, count, shape)?;
-    let mut seats = Duration::MAX;
-    let mut bench = Duration::MAX;
-    let mut machine = Duration::MAX;
-    let mut number = 0;
-    for _ in 0..ROUNDS {
-        let (time, steps) = time_seats(rt, alloc, shape, &rows)?;
-        number = steps.len() as u64;
-        seats = seats.min(time);
-        bench = bench.min(time_bench(rt, alloc, shape, &rows)?);
-        machine = machine.min(time_machine(rt, alloc, shape, &steps)?);
-    }
-    println!(rt;
-        "cores {} in one thread: rows {count} steps {number}",
-        shape.cores()
-    )?;
-    eprintln!(rt;
-        "cores {} in one thread, nanoseconds a step: seats {}, bench {}, machine {}; ratios {:.2} and {:.2}",
-        shape.cores(),
-        nanos_each(number, seats),
-        nanos_each(number, bench),
-        nanos_each(number, machine),
-        ratio(seats, machine),
-        ratio(bench, machine)
-    )?;
+    let (times, number) = time_all(rt, alloc, shape, &rows)?;
+    print_counts(rt, shape.cores(), count, number)?;
+    print_times(rt, shape.cores(), number, times)?;
     Ok(())
 }

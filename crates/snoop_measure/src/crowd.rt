@@ -8,6 +8,7 @@ use snoop_cores::{Free, gather, run_seats};
 use snoop_history::Totals;
 use snoop_trace::{Row, Shape};
 use std::alloc::Global;
+use std::io;
 use std::rt::Clock;
 use std::sync::Wait;
 use std::thread::Threads;
@@ -40,6 +41,32 @@ fn time_crowd<R: Threads + Wait + Clock + Sync>(
     timed
 }
 
+/// The least time of some rounds, and what the log counted in the last one.
+fn time_all<R: Threads + Wait + Clock + Sync>(
+    rt: &R,
+    alloc: Global,
+    shape: Shape,
+    rows: &[Row],
+) -> Result<(Duration, Totals)> {
+    let mut least = Duration::MAX;
+    let mut counted = Totals::default();
+    for _ in 0..ROUNDS {
+        let (time, totals) = time_crowd(rt, alloc, shape, rows)?;
+        least = least.min(time);
+        counted = totals;
+    }
+    Ok((least, counted))
+}
+
+fn print_counts<R: Print>(rt: &R, cores: u32, totals: Totals) -> io::Result<()> {
+    print!(rt; "cores {cores} at once: ")?;
+    println!(rt; "loads {} stores {}", totals.loads, totals.stores)
+}
+
+fn print_pace<R: Eprint>(rt: &R, cores: u32, pace: u128) -> io::Result<()> {
+    eprintln!(rt; "cores {cores} at once: {pace} rows a second")
+}
+
 /// Prints how many loads and stores the seats of this shape do at once for so many rows, and how many rows a second.
 pub fn report<R: Threads + Wait + Clock + Print + Eprint + Sync>(
     rt: &R,
@@ -48,23 +75,8 @@ pub fn report<R: Threads + Wait + Clock + Print + Eprint + Sync>(
     count: u64,
 ) -> Result<()> {
     let rows = rows(alloc, count, shape)?;
-    let mut least = Duration::MAX;
-    let mut loads = 0;
-    let mut stores = 0;
-    for _ in 0..ROUNDS {
-        let (time, totals) = time_crowd(rt, alloc, shape, &rows)?;
-        least = least.min(time);
-        loads = totals.loads;
-        stores = totals.stores;
-    }
-    println!(rt;
-        "cores {} at once: loads {loads} stores {stores}",
-        shape.cores()
-    )?;
-    eprintln!(rt;
-        "cores {} at once: {} rows a second",
-        shape.cores(),
-        a_second(count, least)
-    )?;
+    let (least, totals) = time_all(rt, alloc, shape, &rows)?;
+    print_counts(rt, shape.cores(), totals)?;
+    print_pace(rt, shape.cores(), a_second(count, least))?;
     Ok(())
 }

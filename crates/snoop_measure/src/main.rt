@@ -18,12 +18,13 @@ use snoop_engine::simulate_steps;
 use snoop_machine::{Machine, run_steps};
 use snoop_rules::Protocol;
 use snoop_trace::streams::AnyWriter;
-use snoop_trace::{Shape, read_steps, write_steps};
+use snoop_trace::{Shape, Step, read_steps, write_steps};
 use std::alloc::Global;
+use std::io;
 use std::rt::Clock;
 use std::sync::Wait;
 use std::thread::Threads;
-use std::time::Instant;
+use std::time::{Duration, Instant};
 
 /// Measures threads over so many rows and blocks.
 fn measure_threads<R: Threads + Wait + Clock + Print + Eprint + Sync>(
@@ -49,6 +50,46 @@ fn number(words: &[String], place: usize) -> Result<u32> {
     Ok(word.as_str().parse::<u32>()?)
 }
 
+/// How long a text takes to read, and its steps.
+fn time_reading<R: Clock>(
+    rt: &R,
+    alloc: Global,
+    shape: Shape,
+    text: &[u8],
+) -> Result<(Duration, Vec<Step>)> {
+    let mut reader = text;
+    let start = Instant::now(rt)?;
+    let steps = read_steps(alloc, &mut reader, Protocol::Msi, shape)?;
+    Ok((start.elapsed(rt)?, steps))
+}
+
+/// How long a machine takes for the steps, and how many of them it takes.
+fn time_steps<R: Clock>(
+    rt: &R,
+    alloc: Global,
+    shape: Shape,
+    steps: &[Step],
+) -> Result<(Duration, usize)> {
+    let start = Instant::now(rt)?;
+    let mut machine = Machine::reset(alloc, Protocol::Msi, shape)?;
+    let taken = run_steps(&mut machine, steps);
+    Ok((start.elapsed(rt)?, taken))
+}
+
+/// How long a whole simulation of the text takes, and how many bytes it writes.
+fn time_simulation<R: Clock>(
+    rt: &R,
+    alloc: Global,
+    shape: Shape,
+    text: &[u8],
+) -> Result<(Duration, u64)> {
+    let mut reader = text;
+    let mut output = AnyWriter::new(Counter::default());
+    let start = Instant::now(rt)?;
+    simulate_steps(alloc, &mut reader, &mut output, Protocol::Msi, shape)?;
+    Ok((start.elapsed(rt)?, output.inner.bytes))
+}
+
 /// Measures a simulation of so many steps.
 fn measure_steps<R: Clock + Print + Eprint>(
     rt: &R,
@@ -58,26 +99,33 @@ fn measure_steps<R: Clock + Print + Eprint>(
 ) -> Result<()> {
     let mut text = Vec::new(alloc);
     let storm = storm::storm(alloc, count, shape)?;
-    write_steps(alloc, &mut text, shape, &storm)?;
-
-    let start = Instant::now(rt)?;
-    let steps = read_steps(alloc, text.as_slice(), shape)?;
-    let read = start.elapsed(rt)?;
-
-    let start = Instant::now(rt)?;
-    let mut machine = Machine::reset(alloc, Protocol::Msi, shape)?;
-    let taken = run_steps(&mut machine, &steps);
-    let stepped = start.elapsed(rt)?;
-
-    let mut output = AnyWriter::new(Counter::default());
-    let start = Instant::now(rt)?;
-    simulate_steps(alloc, text.as_slice(), &mut output, Protocol::Msi, shape)?;
-    let simulated = start.elapsed(rt)?;
-
-    println!(rt; "steps {} taken {taken}", steps.len())?;
-    println!(rt; "text {} output {}", text.len(), output.inner.bytes)?;
-    eprintln!(rt; "read {read:?}, taken {stepped:?}, simulated {simulated:?}")?;
+    write_steps(alloc, &mut text, Protocol::Msi, shape, &storm)?;
+    let (read, steps) = time_reading(rt, alloc, shape, &text)?;
+    let (stepped, taken) = time_steps(rt, alloc, shape, &steps)?;
+    let (simulated, bytes) = time_simulation(rt, alloc, shape, &text)?;
+    print_counts(rt, steps.len(), taken)?;
+    print_bytes(rt, text.len(), bytes)?;
+    print_times(rt, read, stepped, simulated)?;
     Ok(())
+}
+
+fn print_counts<R: Print>(rt: &R, steps: usize, taken: usize) -> io::Result<()> {
+    println!(rt; "steps {steps} taken {taken}")
+}
+
+fn print_bytes<R: Print>(rt: &R, text: usize, output: u64) -> io::Result<()> {
+    println!(rt; "text {text} output {output}")
+}
+
+fn print_times<R: Eprint>(
+    rt: &R,
+    read: Duration,
+    stepped: Duration,
+    simulated: Duration,
+) -> io::Result<()> {
+    eprint!(rt; "read {read:?}, ")?;
+    eprint!(rt; "taken {stepped:?}, ")?;
+    eprintln!(rt; "simulated {simulated:?}")
 }
 
 fn main(rt: HostRuntime) -> Result<()> {

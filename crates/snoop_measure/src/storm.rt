@@ -29,16 +29,19 @@ fn step_of(number: u64, place: u64, shape: Shape) -> Step {
         0 => Step::Ask {
             core,
             block,
+            word: 0,
             op: Op::Load,
         },
         1 => Step::Ask {
             core,
             block,
+            word: 0,
             op: Op::Store(place),
         },
         2 => Step::Ask {
             core,
             block,
+            word: 0,
             op: Op::Evict,
         },
         3 => Step::Order { core },

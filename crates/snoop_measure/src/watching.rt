@@ -9,9 +9,9 @@ use std::alloc::Global;
 use std::rt::Clock;
 use std::sync::Wait;
 use std::sync::atomic::{AtomicBool, AtomicU64, Ordering};
-use std::thread;
 use std::thread::Threads;
 use std::time::{Duration, Instant};
+use std::{io, thread};
 
 /// How many watches read beside the seat, one after another.
 const WATCHES: [u32; 4] = [0, 1, 2, 4];
@@ -30,7 +30,7 @@ fn read(watch: &mut Watch, is_done: &AtomicBool, readings: &AtomicU64) {
         if is_done.load(Ordering::SeqCst) {
             break;
         }
-        if watch.value(0).is_ok() {
+        if watch.value(0, 0).is_ok() {
             count = count.saturating_add(1);
         }
     }
@@ -59,7 +59,7 @@ fn time_stores<R: Wait + Clock>(rt: &R, seat: &mut Seat, count: u64) -> Result<D
     let blocks = seat.shape().blocks() as u64;
     let start = Instant::now(rt)?;
     for number in 0..count {
-        seat.store(rt, (number % blocks) as u32, number)?;
+        seat.store(rt, (number % blocks) as u32, 0, number)?;
     }
     Ok(start.elapsed(rt)?)
 }
@@ -113,6 +113,33 @@ fn time_watches<R: Threads + Wait + Clock + Sync>(
     run
 }
 
+/// The run of some rounds whose stores took the least time.
+fn best_run<R: Threads + Wait + Clock + Sync>(
+    rt: &R,
+    alloc: Global,
+    shape: Shape,
+    watches: u32,
+    count: u64,
+) -> Result<Run> {
+    let mut best = time_watches(rt, alloc, shape, watches, count)?;
+    for _ in 1..ROUNDS {
+        let run = time_watches(rt, alloc, shape, watches, count)?;
+        if run.stores < best.stores {
+            best = run;
+        }
+    }
+    Ok(best)
+}
+
+fn print_count<R: Print>(rt: &R, watches: u32, count: u64) -> io::Result<()> {
+    println!(rt; "watches {watches}: stores {count}")
+}
+
+fn print_paces<R: Eprint>(rt: &R, watches: u32, stores: u128, readings: u128) -> io::Result<()> {
+    eprint!(rt; "watches {watches}: {stores} stores ")?;
+    eprintln!(rt; "and {readings} readings a second")
+}
+
 /// Prints how many stores a seat of this shape does a second beside watches, and how many readings these do meanwhile.
 pub fn report<R: Threads + Wait + Clock + Print + Eprint + Sync>(
     rt: &R,
@@ -120,25 +147,14 @@ pub fn report<R: Threads + Wait + Clock + Print + Eprint + Sync>(
     shape: Shape,
     count: u64,
 ) -> Result<()> {
-    let mut best = [Run {
-        stores: Duration::MAX,
-        readings: 0,
-    }; 4];
-    for _ in 0..ROUNDS {
-        for (best, watches) in best.iter_mut().zip(WATCHES) {
-            let run = time_watches(rt, alloc, shape, watches, count)?;
-            if run.stores < best.stores {
-                *best = run;
-            }
-        }
-    }
-    for (run, watches) in best.iter().zip(WATCHES) {
-        println!(rt; "watches {watches}: stores {count}")?;
-        eprintln!(rt;
-            "watches {watches}: {} stores and {} readings a second",
+    for watches in WATCHES {
+        let run = best_run(rt, alloc, shape, watches, count)?;
+        print_count(rt, watches, count)?;
+        let (stores, readings) = (
             a_second(count, run.stores),
-            a_second(run.readings, run.stores)
-        )?;
+            a_second(run.readings, run.stores),
+        );
+        print_paces(rt, watches, stores, readings)?;
     }
     Ok(())
 }

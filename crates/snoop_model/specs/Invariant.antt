@@ -1,6 +1,6 @@
 -- What every run keeps.
-pub mod Good
+pub mod Block
 pub mod Fits
-pub mod Coherent
+pub mod Invariant
 pub mod WellKept
 pub mod MachineKeeps

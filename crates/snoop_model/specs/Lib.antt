@@ -1,3 +1,4 @@
+pub mod Coherent
 pub mod Pictures
 pub mod Moves
 pub mod Runs

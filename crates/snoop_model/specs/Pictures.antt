@@ -1,4 +1,5 @@
 -- What is seen of one block, and of the whole machine.
+pub mod Lines
 pub mod Picture
 pub mod Situation
 pub mod Message

@@ -4,7 +4,6 @@ ghost use Rattle.snoop_model.specs.Texts.{performed_text, refusal_text, reply_te
 
 use crate::replies::{Refused, Reply};
 use snoop_history::Did;
-use std::error::Error;
 use std::fmt;
 
 /// Who sent a response.
@@ -30,11 +29,11 @@ impl fmt::Display for Performed {
     ghost output = { λ performed. Some (performed_text performed.0) };
 
     fn fmt<W: fmt::Write>(&self, f: &mut fmt::Formatter<W>) -> fmt::Result {
-        match self.0 {
-            None => Ok(()),
-            Some(did) if did.load => write!(f, ", load {}", did.value),
-            Some(did) => write!(f, ", store {}", did.value),
-        }
+        let Some(did) = self.0 else {
+            return Ok(());
+        };
+        let kind = if did.load { "load" } else { "store" };
+        write!(f, ", {kind} {}", did.value)
     }
 }
 
@@ -42,17 +41,18 @@ impl fmt::Display for Reply {
     ghost output = { λ reply. Some (reply_text reply) };
 
     fn fmt<W: fmt::Write>(&self, f: &mut fmt::Formatter<W>) -> fmt::Result {
-        match *self {
-            Reply::Hit(value) => write!(f, "hit {value}"),
-            Reply::StoreHit => f.write_str("store hit"),
-            Reply::Issued(request) => write!(f, "issued {request}"),
-            Reply::Gone => f.write_str("gone"),
-            Reply::Absent => f.write_str("absent"),
-            Reply::Ordered(request) => write!(f, "ordered {request}"),
+        let text = match *self {
+            Reply::Hit(value) => return write!(f, "hit {value}"),
+            Reply::StoreHit => "store hit",
+            Reply::Issued(request) => return write!(f, "issued {request}"),
+            Reply::Gone => "gone",
+            Reply::Absent => "absent",
+            Reply::Ordered(request) => return write!(f, "ordered {request}"),
             Reply::Came { payload, from, did } => {
-                write!(f, "{payload}{}{}", Sender(from), Performed(did))
+                return write!(f, "{payload}{}{}", Sender(from), Performed(did));
             }
-        }
+        };
+        f.write_str(text)
     }
 }
 
@@ -60,16 +60,15 @@ impl fmt::Display for Refused {
     ghost output = { λ cause. Some (refusal_text cause) };
 
     fn fmt<W: fmt::Write>(&self, f: &mut fmt::Formatter<W>) -> fmt::Result {
-        match *self {
-            Refused::NoCore => f.write_str("NoCore"),
-            Refused::NoBlock => f.write_str("NoBlock"),
-            Refused::Stalled(state) => write!(f, "Stalled {state}"),
-            Refused::NothingWaiting => f.write_str("NothingWaiting"),
-            Refused::BusTaken(block) => write!(f, "BusTaken {block}"),
-            Refused::NoTransaction => f.write_str("NoTransaction"),
-            Refused::NoMemory => f.write_str("NoMemory"),
-        }
+        let name = match *self {
+            Refused::NoCore => "NoCore",
+            Refused::NoBlock => "NoBlock",
+            Refused::Stalled(state) => return write!(f, "Stalled {state}"),
+            Refused::NothingWaiting => "NothingWaiting",
+            Refused::BusTaken(block) => return write!(f, "BusTaken {block}"),
+            Refused::NoTransaction => "NoTransaction",
+            Refused::NoMemory => "NoMemory",
+        };
+        f.write_str(name)
     }
 }
-
-impl Error for Refused {}

@@ -1,43 +1,14 @@
 //! What holds of every run: calls that do nothing, and ensure it.
-ghost use Rattle.std.specs.Prelude.{◌<◌, ℕ};
-ghost use Rattle.snoop_trace.specs.declared.step.Step.{Step};
-ghost use Rattle.snoop_history.specs.History.{flat, Legal};
-ghost use Rattle.snoop_model.specs.Pictures.Picture.{held_by};
-ghost use Rattle.snoop_model.specs.Pictures.Sound.{IsProper};
-ghost use Rattle.snoop_model.specs.Pictures.Situation.{picture_of};
+ghost use Rattle.snoop_model.specs.Coherent.{IsCoherentRun};
 ghost use Rattle.snoop_model.specs.Runs.Run.{EveryRun, RunsAreOne, RunsGoOn, TakenBegins, TakenGoesOn};
 ghost use Rattle.snoop_model.specs.Runs.Tallied.{AskedAreTallied};
-ghost use Rattle.snoop_model.specs.Pictures.OneWriter.{OneWriter};
-ghost use Rattle.snoop_model.specs.Pictures.Current.{IsCurrent};
-ghost use Rattle.snoop_model.specs.Pictures.MemoryCurrent.{IsMemoryCurrent, NamesItsBlock};
-ghost use Rattle.snoop_model.specs.Runs.Once.{Once};
-ghost use Rattle.snoop_model.specs.Moves.LookUps.{FindsRows};
-ghost use Rattle.snoop_model.specs.Moves.SenderTable.{OrdersFollowSenderTable, GoesByTable};
-ghost use Rattle.snoop_model.specs.Pictures.InQueue.{IsInQueue};
 
-/// Coherence of every run from reset, for every number of cores and blocks, under MSI and MESI.
+/// Every run from reset is coherent, for every number of cores and blocks, under MSI and MESI.
 ///
-/// Each block has one writer alone, or only readers; the log is legal, and each copy that may be read has the value of the
-/// last store in it; so has data under way, and so has memory where no core may write the block and no data is under way; an
-/// open transaction is of its block, by a core of the machine; each load and store that was asked stands once in the log, or
-/// waits; no step meets an impossible cell, nor would an Order of a waiting request of any free block; such an Order would have
-/// exactly one sender, and be a line of the table of senders; each Order that is taken next, of whatever block, is a line of
-/// that table, and at a response memory takes its own row; a core keeps a value of a block exactly where its state may read,
-/// and an operation waits exactly where one has missed; and each core's queue has the blocks on which it waits, each once.
-///
-/// Source: chapters 2 and 7 of "A Primer on Memory Consistency and Cache Coherence", 2nd edition.
+/// `IsCoherentRun` has what that says: each block has one writer alone, or only readers; each load has the value of the last store
+/// before it; no step meets an impossible cell; and no load or store is lost or doubled.
 pub fn coherent()
-    ensures one_writer { EveryRun (λ protocol steps outcomes s. (block : ℕ) → OneWriter protocol (picture_of s block)) }
-    ensures legal { EveryRun (λ protocol steps outcomes s. Legal s.log) }
-    ensures current { EveryRun (λ protocol steps outcomes s. (block : ℕ) → IsCurrent protocol (picture_of s block) (flat s.log block)) }
-    ensures memory { EveryRun (λ protocol steps outcomes s. (block : ℕ) → block < s.shape.blocks → IsMemoryCurrent protocol (picture_of s block) (flat s.log block)) }
-    ensures opened { EveryRun (λ protocol steps outcomes s. (block : ℕ) → NamesItsBlock s block) }
-    ensures once { EveryRun (λ protocol steps outcomes s. Once steps outcomes s) }
-    ensures possible { EveryRun (λ protocol steps outcomes s. (step : Step) → FindsRows s step) }
-    ensures lines { EveryRun (λ protocol steps outcomes s. OrdersFollowSenderTable protocol s) }
-    ensures by_table { EveryRun (λ protocol steps outcomes s. GoesByTable s) }
-    ensures proper { EveryRun (λ protocol steps outcomes s. (core block : ℕ) → IsProper (held_by (picture_of s block) core)) }
-    ensures queued { EveryRun (λ protocol steps outcomes s. (core block : ℕ) → IsInQueue s core block) }
+    ensures { EveryRun IsCoherentRun }
 {}
 
 /// Every run goes on: from where some steps have led, any further steps have a run too.

@@ -10,7 +10,7 @@ mod message;
 mod replies;
 mod turn_rule;
 
-pub use line::Line;
+pub use line::{Access, Line};
 pub use memory::MemLine;
 pub use message::Message;
 pub use replies::{Refused, Reply};

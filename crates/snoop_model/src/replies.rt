@@ -2,6 +2,7 @@
 use snoop_history::Did;
 use snoop_rules::{CacheState, Payload, Request};
 use snoop_trace::NoMemory as NoRoom;
+use thiserror::Error;
 
 /// What a taken step answers.
 #[derive(Clone, Copy, Debug, PartialEq, Eq)]
@@ -27,11 +28,11 @@ pub enum Reply {
 }
 
 /// Why a step was refused: the first cause that holds. Nothing has changed.
-#[derive(Clone, Copy, Debug, PartialEq, Eq)]
+#[derive(Clone, Copy, Debug, Error, PartialEq, Eq)]
 pub enum Refused {
     /// The core is outside the shape.
     NoCore,
-    /// The block is outside the shape.
+    /// The block is outside the shape, or the word of a load or store.
     NoBlock,
     /// The core's controller takes no such operation while it is in this state.
     Stalled(CacheState),

@@ -1,7 +1,7 @@
 -- A pair's line in the text of a table.
 use Rattle.std.proofs.Common.{◌≡◌, Option, [], ap}
 use Rattle.std.specs.Option.{option_map_or}
-use Rattle.snoop_rules.specs.declared.names.Protocol.{Protocol}
+use Rattle.snoop_trace.specs.declared.protocol.Protocol.{Protocol}
 use Rattle.snoop_rules.specs.declared.names.CacheState.{CacheState}
 use Rattle.snoop_rules.specs.declared.names.CacheEvent.{CacheEvent}
 use Rattle.snoop_rules.specs.declared.names.CacheCell.{CacheCell}

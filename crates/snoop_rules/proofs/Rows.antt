@@ -2,7 +2,7 @@
 use Rattle.std.proofs.Common.{◌≡◌, Bool, true, Option, Some, None, IsSomeAnd, refl, sym, ◌∙◌, ap, subst}
 use Rattle.std.specs.Option.{option_map_or}
 use Rattle.std.proofs.lemmas.Option.{same_Some}
-use Rattle.snoop_rules.specs.declared.names.Protocol.{Protocol}
+use Rattle.snoop_trace.specs.declared.protocol.Protocol.{Protocol}
 use Rattle.snoop_rules.specs.declared.names.CacheState.{CacheState}
 use Rattle.snoop_rules.specs.declared.names.CacheEvent.{CacheEvent}
 use Rattle.snoop_rules.specs.declared.names.CacheAction.{CacheAction}

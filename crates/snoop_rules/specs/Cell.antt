@@ -2,8 +2,8 @@
 -- Source: "A Primer on Memory Consistency and Cache Coherence", 2nd edition, chapter 7 (MSI and MESI over an atomic bus).
 -- The eviction from E, with EI_A and NoDataE, is this project's profile.
 use Rattle.std.specs.Prelude.{◌≡◌, Option, Some, None, IsSomeAnd}
-use Rattle.snoop_rules.specs.declared.names.Protocol.{Protocol}
-use Rattle.snoop_rules.specs.declared.names.Protocol.TheVariants.{Mesi}
+use Rattle.snoop_trace.specs.declared.protocol.Protocol.{Protocol}
+use Rattle.snoop_trace.specs.declared.protocol.Protocol.TheVariants.{Mesi}
 use Rattle.snoop_rules.specs.declared.names.CacheState.{CacheState}
 use Rattle.snoop_rules.specs.declared.names.CacheState.TheVariants.{I, IsAd, IsD, ImAd, ImD, S, SmAd, SmD, E, M, EiA, MiA, IiA}
 use Rattle.snoop_rules.specs.declared.names.CacheEvent.{CacheEvent}

@@ -2,8 +2,8 @@
 -- Source: MSI's of "A Primer on Memory Consistency and Cache Coherence", 2nd edition, chapter 7;
 -- MESI's states and rows are this project's profile.
 use Rattle.std.specs.Prelude.{◌≡◌, Option, Some, None, IsSomeAnd}
-use Rattle.snoop_rules.specs.declared.names.Protocol.{Protocol}
-use Rattle.snoop_rules.specs.declared.names.Protocol.TheVariants.{Msi, Mesi}
+use Rattle.snoop_trace.specs.declared.protocol.Protocol.{Protocol}
+use Rattle.snoop_trace.specs.declared.protocol.Protocol.TheVariants.{Msi, Mesi}
 use Rattle.snoop_rules.specs.declared.names.MemState.{MemState}
 use Rattle.snoop_rules.specs.declared.names.MemState.TheVariants.{IorS, M, IorSD, MD, I, S, EorM, ID, SD, EorMD}
 use Rattle.snoop_rules.specs.declared.names.MemEvent.{MemEvent}

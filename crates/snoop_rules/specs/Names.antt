@@ -1,7 +1,6 @@
--- What the protocols, states, events, requests, payloads and actions are called where they are printed.
+-- What the states, events, requests, payloads and actions are called where they are printed.
 -- Source: "A Primer on Memory Consistency and Cache Coherence", 2nd edition, chapter 7; EI_A, NoDataE and MESI's memory states are this project's profile.
 use Rattle.std.specs.Prelude.{ℕ, List, ◌++◌, codes}
-use Rattle.snoop_rules.specs.declared.names.Protocol.{Protocol}
 use Rattle.snoop_rules.specs.declared.names.CacheState.{CacheState}
 use Rattle.snoop_rules.specs.declared.names.CacheEvent.{CacheEvent}
 use Rattle.snoop_rules.specs.declared.names.MemState.{MemState}
@@ -11,7 +10,6 @@ use Rattle.snoop_rules.specs.declared.names.Payload.{Payload}
 use Rattle.snoop_rules.specs.declared.names.Target.{Target}
 use Rattle.snoop_rules.specs.declared.names.CacheAction.{CacheAction}
 use Rattle.snoop_rules.specs.declared.names.MemAction.{MemAction}
-use Rattle.snoop_rules.specs.declared.names.Protocol.TheVariants as protocol
 use Rattle.snoop_rules.specs.declared.names.CacheState.TheVariants as state
 use Rattle.snoop_rules.specs.declared.names.CacheEvent.TheVariants as event
 use Rattle.snoop_rules.specs.declared.names.MemState.TheVariants as mem_state
@@ -21,11 +19,6 @@ use Rattle.snoop_rules.specs.declared.names.Payload.TheVariants as payload
 use Rattle.snoop_rules.specs.declared.names.Target.TheVariants as target
 use Rattle.snoop_rules.specs.declared.names.CacheAction.TheVariants as action
 use Rattle.snoop_rules.specs.declared.names.MemAction.TheVariants as mem_action
-
--- a protocol
-abbrev pub protocol_name : Protocol → List ℕ
-protocol_name protocol.Msi = codes "msi"
-protocol_name protocol.Mesi = codes "mesi"
 
 -- a state of a cache line
 abbrev pub state_name : CacheState → List ℕ

@@ -1,23 +1,11 @@
 //! How the words of the protocols are printed: names with underscores, as in the tables.
 ghost use Rattle.std.specs.Prelude.{◌≡◌, Some};
-ghost use Rattle.snoop_rules.specs.Names.{protocol_name, state_name, event_name, memory_state_name, memory_event_name, request_name, payload_name, target_name, action_text, memory_action_text};
+ghost use Rattle.snoop_rules.specs.Names.{state_name, event_name, memory_state_name, memory_event_name, request_name, payload_name, target_name, action_text, memory_action_text};
 
 use crate::names::{
-    CacheAction, CacheEvent, CacheState, MemAction, MemEvent, MemState, Payload, Protocol, Request,
-    Target,
+    CacheAction, CacheEvent, CacheState, MemAction, MemEvent, MemState, Payload, Request, Target,
 };
 use std::fmt;
-
-impl fmt::Display for Protocol {
-    ghost output = { λ protocol. Some (protocol_name protocol) };
-
-    fn fmt<W: fmt::Write>(&self, f: &mut fmt::Formatter<W>) -> fmt::Result {
-        f.write_str(match self {
-            Protocol::Msi => "msi",
-            Protocol::Mesi => "mesi",
-        })
-    }
-}
 
 impl CacheState {
     /// The state's name in the tables.

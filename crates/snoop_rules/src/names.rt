@@ -4,13 +4,6 @@
 //! Consistency and Cache Coherence", 2nd edition, chapter 7. `EiA`, `NoDataE` and MESI's memory
 //! states are this project's profile.
 
-/// A coherence protocol.
-#[derive(Clone, Copy, Debug, PartialEq, Eq)]
-pub enum Protocol {
-    Msi,
-    Mesi,
-}
-
 /// The state of a cache line, in the order of the tables; `E` and `EiA` are MESI's alone.
 ///
 /// In a transient state `XyAd` a cache waits for its own request to be ordered and then for data,

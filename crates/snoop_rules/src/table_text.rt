@@ -6,10 +6,10 @@ ghost use Rattle.snoop_trace.specs.Output.{AppendsFront, BlamesWriter};
 ghost use Rattle.snoop_rules.specs.TableOrder.{cache_events, memory_events};
 ghost use Rattle.snoop_rules.specs.TableText.{cache_line_at, cache_text, memory_line_at, memory_text, row_line, table_text};
 
-use crate::names::{CacheEvent, CacheState, MemEvent, MemState, Protocol};
+use crate::names::{CacheEvent, CacheState, MemEvent, MemState};
 use crate::table::{EVENTS, MEM_EVENTS, MEM_STATES, STATES, cache_cell, mem_cell};
 use snoop_trace::streams::{Sink, write_whole};
-use snoop_trace::{NoMemory, WriteFault};
+use snoop_trace::{NoMemory, Protocol, WriteFault};
 use std::alloc::Global;
 use std::fmt::Display;
 use std::io::Write;

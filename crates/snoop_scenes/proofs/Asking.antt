@@ -1,6 +1,7 @@
 -- An Ask played.
-use Rattle.std.proofs.Common.{◌≡◌, ℕ, true, ◌++◌, Option, Some, None, Ok, Err, inl, inr, ◌⊎◌, refl}
+use Rattle.std.proofs.Common.{◌≡◌, ℕ, List, true, ◌++◌, Option, Some, None, Ok, Err, inl, inr, ◌⊎◌, refl}
 use Rattle.std.specs.Prelude.{slice_set, option_to_list}
+use Rattle.snoop_trace.specs.Words.{HasWord}
 use Rattle.snoop_trace.specs.declared.step.Op.{Op}
 use Rattle.snoop_trace.specs.declared.step.Op.TheVariants as op
 use Rattle.snoop_trace.specs.declared.step.Step.TheVariants.{Ask}
@@ -12,7 +13,7 @@ use Rattle.snoop_rules.specs.Cell.{Cell}
 use Rattle.snoop_rules.specs.Takers.{asked}
 use Rattle.snoop_history.specs.declared.items.Item.{Item}
 use Rattle.snoop_history.specs.declared.items.Item.TheVariants as item
-use Rattle.snoop_model.specs.declared.line.Line.{Line}
+use Rattle.snoop_model.specs.Pictures.Lines.{Line}
 use Rattle.snoop_model.specs.declared.replies.Reply.{Reply}
 use Rattle.snoop_model.specs.declared.replies.Reply.TheVariants as reply
 use Rattle.snoop_model.specs.declared.replies.Refused.TheVariants.{Stalled}
@@ -38,22 +39,22 @@ leads old core block act held entry =
       log = old.log ++ option_to_list entry;
     }
 
-module _ (old : Situation) (core block : ℕ) (asking : Op) (within : IsWithin old core block) where
+module _ (old : Situation) (core block word : ℕ) (asking : Op) (within : IsWithin old core block) (has_word : HasWord old.shape word asking) where
   abbrev pub line : Line
   line = held_by (picture_of old block) core
 
-  pub goes_on : (answer : Reply) (new : Situation) (entry : Option Item) → IsAbsent old core block asking answer new entry ⊎ Asks old core block asking answer new entry
-      → GoesFirst old (Ask core block asking) (Ok answer) new
-  goes_on answer new entry move = (entry, (block, (tt, (refl, within, move))))
+  pub goes_on : (answer : Reply) (new : Situation) (entry : Option Item) → IsAbsent old core block asking answer new entry ⊎ Asks old core block word asking answer new entry
+      → GoesFirst old (Ask core block word asking) (Ok answer) new
+  goes_on answer new entry move = (entry, (block, (tt, (refl, within, move, has_word))))
 
-  abbrev pub absent : (asking ≡ op.Evict) × (state_of old core block ≡ state.I) → Played old (Ask core block asking)
+  abbrev pub absent : (asking ≡ op.Evict) × (state_of old core block ≡ state.I) → Played old (Ask core block word asking)
   absent is = record { outcome = Ok reply.Absent; new = old; goes = goes_on reply.Absent old None (inl (is.0, is.1, refl, refl, refl)) }
 
   abbrev pub hit : (next : CacheState) (row : Cell old.protocol (state_of old core block) (asked asking) action.Hit next)
-      → (before : ℕ) → line.kept ≡ Some before → Performed asking before → Played old (Ask core block asking)
+      → (before : List ℕ) → line.kept ≡ Some before → Performed word asking before → Played old (Ask core block word asking)
   hit next row before kept done =
       let held : Line = record { state = next; kept = Some done.after; waiting = line.waiting } in
-      let entry : Option Item = Some (item.Did (next_did old.log core block asking done.value true)) in
+      let entry : Option Item = Some (item.Did (next_did old.log core block word asking done.value true)) in
       record {
         outcome = Ok (hit_reply asking done.value);
         new = leads old core block action.Hit held entry;
@@ -67,13 +68,13 @@ module _ (old : Situation) (core block : ℕ) (asking : Op) (within : IsWithin o
         }));
       }
 
-  abbrev pub by_row : (act : CacheAction) (next : CacheState) (row : Cell old.protocol (state_of old core block) (asked asking) act next) → Option (Played old (Ask core block asking))
+  abbrev pub by_row : (act : CacheAction) (next : CacheState) (row : Cell old.protocol (state_of old core block) (asked asking) act next) → Option (Played old (Ask core block word asking))
   by_row action.Hit next row =
       if_some line.kept λ before kept.
-      if_some (performed asking before) λ done is.
+      if_some (performed word asking before) λ done is.
       Some (hit next row before kept done)
   by_row (action.Issue request) next row =
-      let held : Line = record { state = next; kept = kept_on next line.kept; waiting = kept_waiting asking } in
+      let held : Line = record { state = next; kept = kept_on next line.kept; waiting = kept_waiting word asking } in
       Some (record {
         outcome = Ok (reply.Issued request);
         new = leads old core block (action.Issue request) held None;
@@ -88,10 +89,10 @@ module _ (old : Situation) (core block : ℕ) (asking : Op) (within : IsWithin o
         goes = goes_on reply.Gone (leads old core block action.Drop held None) None
             (inr (record { act = action.Drop; next = next; held = held; row = row; taken = (refl, refl, refl); after = refl }));
       })
-  by_row action.Stall next row = Some (record { outcome = Err (Stalled (state_of old core block)); new = old; goes = ((within, refl, (next, row)), refl) })
+  by_row action.Stall next row = Some (record { outcome = Err (Stalled (state_of old core block)); new = old; goes = ((within, refl, (next, row), has_word), refl) })
   by_row _ next row = None
 
-  abbrev pub asks : Option (Played old (Ask core block asking))
+  abbrev pub asks : Option (Played old (Ask core block word asking))
   asks = elim (evicts_nothing asking (state_of old core block)) [
     | Some is ↦ Some (absent is)
     | None ↦ if_some (row_at old.protocol (state_of old core block) (asked asking)) λ found is. by_row found.act found.next found.row

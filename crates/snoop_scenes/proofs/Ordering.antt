@@ -4,7 +4,7 @@ use Rattle.std.specs.Prelude.{slice_get, is_some}
 use Rattle.std.proofs.Math.Dec.{ltb}
 use Rattle.std.proofs.lemmas.Bool.{ltb-true}
 use Rattle.snoop_trace.specs.declared.step.Step.TheVariants.{Order}
-use Rattle.snoop_rules.specs.declared.names.Protocol.{Protocol}
+use Rattle.snoop_trace.specs.declared.protocol.Protocol.{Protocol}
 use Rattle.snoop_rules.specs.declared.names.CacheAction.{CacheAction}
 use Rattle.snoop_rules.specs.declared.names.CacheAction.TheVariants as action
 use Rattle.snoop_rules.specs.declared.names.MemState.{MemState}
@@ -21,9 +21,9 @@ use Rattle.snoop_rules.proofs.Rows.{Cell-one}
 use Rattle.snoop_rules.proofs.MemRows.{MemoryCell-one}
 use Rattle.snoop_history.specs.declared.items.Item.{Item}
 use Rattle.snoop_history.specs.declared.items.Item.TheVariants as item
-use Rattle.snoop_bus.specs.declared.transactions.Open.{Open}
+use Rattle.snoop_bus.specs.Traffic.{Open}
 use Rattle.snoop_bus.specs.Queues.{queue_of, after_order}
-use Rattle.snoop_model.specs.declared.line.Line.{Line}
+use Rattle.snoop_model.specs.Pictures.Lines.{Line}
 use Rattle.snoop_model.specs.declared.replies.Reply.TheVariants as reply
 use Rattle.snoop_model.specs.declared.replies.Refused.TheVariants.{BusTaken}
 use Rattle.snoop_model.specs.Pictures.Picture.{Picture, held_at, held_by}
@@ -77,7 +77,7 @@ pub record Ordered (protocol : Protocol) (before : Picture) (core : ℕ) (reques
   pub sender : Sender protocol before core request
 
 -- An Order seen by two caches and memory, each with its row.
-module _ (protocol : Protocol) (core : ℕ) (request : Request) (memory : MemState) (value : ℕ) (transaction : Option Open) (a b : Line)
+module _ (protocol : Protocol) (core : ℕ) (request : Request) (memory : MemState) (value : List ℕ) (transaction : Option Open) (a b : Line)
     (first : RowAt protocol a.state (seen_by 0 core request)) (second : RowAt protocol b.state (seen_by 1 core request)) (third : MemoryRowAt protocol memory (at_memory request)) where
   abbrev pub before : Picture
   before = record { caches = a ∷ b ∷ []; memory = record { state = memory; value = value }; transaction = transaction }
@@ -169,7 +169,7 @@ module _ (protocol : Protocol) (core : ℕ) (request : Request) (memory : MemSta
   }
 
 -- each controller's row, and the message, found
-abbrev pub ordered : (protocol : Protocol) (core : ℕ) (request : Request) (memory : MemState) (value : ℕ) (transaction : Option Open) (lines : List Line)
+abbrev pub ordered : (protocol : Protocol) (core : ℕ) (request : Request) (memory : MemState) (value : List ℕ) (transaction : Option Open) (lines : List Line)
     → Option (Ordered protocol (record { caches = lines; memory = record { state = memory; value = value }; transaction = transaction }) core request)
 ordered protocol core request memory value transaction (a ∷ b ∷ []) =
     if_some (row_at protocol a.state (seen_by 0 core request)) λ first is.

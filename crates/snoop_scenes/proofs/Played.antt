@@ -1,5 +1,7 @@
 -- A step played: what it is answered and where it leads, with the proof that it goes so.
-use Rattle.std.proofs.Common.{ℕ, Option, Some, None, Result, refl}
+use Rattle.std.proofs.Common.{ℕ, List, Option, Some, None, Result, refl}
+use Rattle.std.specs.Prelude.{slice_set}
+use Rattle.snoop_trace.specs.Words.{word_at}
 use Rattle.snoop_trace.specs.declared.step.Op.{Op}
 use Rattle.snoop_trace.specs.declared.step.Op.TheVariants as op
 use Rattle.snoop_trace.specs.declared.step.Step.{Step}
@@ -14,13 +16,13 @@ pub record Played (old : Situation) (step : Step) : Type 0 where
   pub new : Situation
   pub goes : GoesFirst old step outcome new
 
--- what an operation does to a block's value
-pub record Performed (asking : Op) (before : ℕ) : Type 0 where
+-- what an operation on a word does to a block's words
+pub record Performed (word : ℕ) (asking : Op) (before : List ℕ) : Type 0 where
   pub value : ℕ
-  pub after : ℕ
-  pub performs : Performs asking before value after
+  pub after : List ℕ
+  pub performs : Performs word asking before value after
 
-abbrev pub performed : (asking : Op) (before : ℕ) → Option (Performed asking before)
-performed op.Load before = Some (record { value = before; after = before; performs = (refl, refl) })
-performed (op.Store stored) before = Some (record { value = stored; after = stored; performs = (refl, refl) })
-performed op.Evict before = None
+abbrev pub performed : (word : ℕ) (asking : Op) (before : List ℕ) → Option (Performed word asking before)
+performed word op.Load before = Some (record { value = word_at before word; after = before; performs = (refl, refl) })
+performed word (op.Store stored) before = Some (record { value = stored; after = slice_set before word stored; performs = (refl, refl) })
+performed word op.Evict before = None

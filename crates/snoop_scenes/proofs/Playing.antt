@@ -11,18 +11,20 @@ use Rattle.snoop_bus.specs.Queues.{queue_of}
 use Rattle.snoop_model.specs.Pictures.Situation.{Situation, picture_of, state_of}
 use Rattle.snoop_scenes.proofs.Deciding.{by_test, by_found, if_some}
 use Rattle.snoop_scenes.proofs.Played.{Played}
-use Rattle.snoop_scenes.proofs.Refusing.{asks_no_core, asks_no_block, waits_on_none, orders_no_core, orders_nothing, responds_no_block, responds_nothing}
+use Rattle.snoop_scenes.proofs.Refusing.{by_word, asks_no_core, asks_no_block, asks_no_word, waits_on_none, orders_no_core, orders_nothing, responds_no_block, responds_nothing}
 use Rattle.snoop_scenes.proofs.Asking.{asks}
 use Rattle.snoop_scenes.proofs.Ordering.{on_bus}
 use Rattle.snoop_scenes.proofs.Responding.{arrived, remembered, closes}
 
 abbrev pub played : (old : Situation) (step : Step) → Option (Played old step)
-played old (Ask core block asking) =
+played old (Ask core block word asking) =
     by_test (ltb core old.shape.cores)
     (λ there. by_test (ltb block old.shape.blocks)
-    (λ here. asks old core block asking (ltb-true core old.shape.cores there, ltb-true block old.shape.blocks here))
-    (λ outside. Some (asks_no_block old core block asking (ltb-false block old.shape.blocks outside) (ltb-true core old.shape.cores there))))
-    (λ outside. Some (asks_no_core old core block asking (ltb-false core old.shape.cores outside)))
+    (λ here. by_word old word asking
+    (λ has. asks old core block word asking (ltb-true core old.shape.cores there, ltb-true block old.shape.blocks here) has)
+    (λ none. Some (asks_no_word old core block word asking none (ltb-true core old.shape.cores there))))
+    (λ outside. Some (asks_no_block old core block word asking (ltb-false block old.shape.blocks outside) (ltb-true core old.shape.cores there))))
+    (λ outside. Some (asks_no_core old core block word asking (ltb-false core old.shape.cores outside)))
 played old (Order core) =
     by_test (ltb core old.shape.cores)
     (λ there. by_found (slice_get (queue_of old.queues core) 0)

@@ -1,25 +1,50 @@
 -- Refused steps, played: the refusals that ask no table.
-use Rattle.std.proofs.Common.{◌≡◌, ℕ, zero, suc, ◌<◌, ◌≤◌, List, [], ◌∷◌, Option, Some, None, Err, refl, sym, ◌∙◌}
+use Rattle.std.proofs.Common.{◌≡◌, ℕ, zero, suc, ◌<◌, ◌≤◌, arith, inl, inr, List, [], ◌∷◌, Option, Some, None, Err, refl, sym, ◌∙◌}
 use Rattle.std.specs.Prelude.{slice_index_or}
+use Rattle.std.proofs.Math.Dec.{ltb}
+use Rattle.std.proofs.lemmas.Bool.{ltb-true, ltb-false}
+use Rattle.snoop_trace.specs.Words.{HasWord, IsWord, word_places}
 use Rattle.snoop_trace.specs.declared.step.Op.{Op}
+use Rattle.snoop_trace.specs.declared.step.Op.TheVariants as op
 use Rattle.snoop_trace.specs.declared.step.Step.TheVariants.{Ask, Order, Respond}
 use Rattle.snoop_rules.specs.declared.names.Request.{Request}
 use Rattle.snoop_rules.specs.Waits.{waiting_request}
-use Rattle.snoop_model.specs.declared.line.Line.{Line}
+use Rattle.snoop_model.specs.Pictures.Lines.{Line}
 use Rattle.snoop_model.specs.declared.replies.Refused.TheVariants.{NoCore, NoBlock, NothingWaiting, NoTransaction}
 use Rattle.snoop_model.specs.Pictures.Picture.{held_at}
 use Rattle.snoop_model.specs.Pictures.Situation.{Situation, picture_of}
 use Rattle.snoop_model.specs.Moves.Refuses.{WaitsOnNone}
-use Rattle.snoop_scenes.proofs.Deciding.{by_found}
+use Rattle.snoop_scenes.proofs.Deciding.{by_found, by_test}
 use Rattle.snoop_scenes.proofs.Played.{Played}
 
+pub not_below : (word count : ℕ) → count ≤ word → word < count → ⊥
+not_below word count past below = omega (arith, past, below)
+
+-- goes one way where blocks have the word, and another where they don't
+abbrev pub in_words : {A : Type 0} → (old : Situation) (word : ℕ) → (IsWord old.shape word → A) → (¬ IsWord old.shape word → A) → A
+in_words old word has none =
+    by_test (ltb word old.shape.words)
+    (λ few. by_test (ltb word word_places)
+    (λ place. has (ltb-true word old.shape.words few, ltb-true word word_places place))
+    (λ past. none (λ is. not_below word word_places (ltb-false word word_places past) is.1)))
+    (λ past. none (λ is. not_below word old.shape.words (ltb-false word old.shape.words past) is.0))
+
+-- goes one way where the operation's word is one that blocks have, and another where it isn't
+abbrev pub by_word : {A : Type 0} → (old : Situation) (word : ℕ) (asking : Op) → (HasWord old.shape word asking → A) → (¬ HasWord old.shape word asking → A) → A
+by_word old word op.Evict has none = has tt
+by_word old word op.Load has none = in_words old word has none
+by_word old word (op.Store stored) has none = in_words old word has none
+
 -- An Ask outside the shape.
-module _ (old : Situation) (core block : ℕ) (asking : Op) where
-  abbrev pub asks_no_core : old.shape.cores ≤ core → Played old (Ask core block asking)
+module _ (old : Situation) (core block word : ℕ) (asking : Op) where
+  abbrev pub asks_no_core : old.shape.cores ≤ core → Played old (Ask core block word asking)
   asks_no_core outside = record { outcome = Err NoCore; new = old; goes = (outside, refl) }
 
-  abbrev pub asks_no_block : old.shape.blocks ≤ block → core < old.shape.cores → Played old (Ask core block asking)
-  asks_no_block outside there = record { outcome = Err NoBlock; new = old; goes = ((there, outside), refl) }
+  abbrev pub asks_no_block : old.shape.blocks ≤ block → core < old.shape.cores → Played old (Ask core block word asking)
+  asks_no_block outside there = record { outcome = Err NoBlock; new = old; goes = ((there, inl outside), refl) }
+
+  abbrev pub asks_no_word : ¬ HasWord old.shape word asking → core < old.shape.cores → Played old (Ask core block word asking)
+  asks_no_word none there = record { outcome = Err NoBlock; new = old; goes = ((there, inr none), refl) }
 
 pub none_of : (row : List Line) (rows : List (List Line)) (core : ℕ) → waiting_request (held_at row core).state ≡ None
     → ((block : ℕ) (request : Request) → waiting_request (held_at (slice_index_or rows block []) core).state ≡ Some request → ⊥)

@@ -4,7 +4,7 @@ use Rattle.std.specs.Prelude.{slice_set, MatchBool, IsSomeAnd}
 use Rattle.snoop_trace.specs.declared.step.Op.{Op}
 use Rattle.snoop_trace.specs.declared.step.Op.TheVariants as op
 use Rattle.snoop_trace.specs.declared.step.Step.TheVariants.{Respond}
-use Rattle.snoop_rules.specs.declared.names.Protocol.{Protocol}
+use Rattle.snoop_trace.specs.declared.protocol.Protocol.{Protocol}
 use Rattle.snoop_rules.specs.declared.names.CacheState.{CacheState}
 use Rattle.snoop_rules.specs.declared.names.CacheEvent.{CacheEvent}
 use Rattle.snoop_rules.specs.declared.names.CacheAction.{CacheAction}
@@ -20,8 +20,9 @@ use Rattle.snoop_rules.specs.Takers.{arrival, arrival_at_memory, takes_payload}
 use Rattle.snoop_history.specs.declared.items.Did.{Did}
 use Rattle.snoop_history.specs.declared.items.Item.{Item}
 use Rattle.snoop_history.specs.declared.items.Item.TheVariants as item
-use Rattle.snoop_bus.specs.declared.transactions.Open.{Open}
-use Rattle.snoop_model.specs.declared.line.Line.{Line}
+use Rattle.snoop_bus.specs.Traffic.{Open}
+use Rattle.snoop_model.specs.Pictures.Lines.{Line}
+use Rattle.snoop_model.specs.declared.line.Access.{Access}
 use Rattle.snoop_model.specs.declared.replies.Reply.{Reply}
 use Rattle.snoop_model.specs.declared.replies.Reply.TheVariants as reply
 use Rattle.snoop_model.specs.Pictures.Picture.{Picture, held_at}
@@ -46,16 +47,16 @@ fill_for _ _ = None
 
 -- A fill by its row.
 module _ (closing : Open) (protocol : Protocol) (log : List Item) (lines : List Line) (event : CacheEvent) (arrives : arrival closing.payload ≡ Some event)
-    (found : RowAt protocol (held_at lines closing.core).state event) (asking : Op) (waited : (held_at lines closing.core).waiting ≡ Some asking)
-    (fill : IsFillFor found.act asking) (done : Performed asking closing.value) where
-  abbrev pub filled_line : CacheState → ℕ → Line
+    (found : RowAt protocol (held_at lines closing.core).state event) (asking : Access) (waited : (held_at lines closing.core).waiting ≡ Some asking)
+    (fill : IsFillFor found.act asking.op) (done : Performed asking.word asking.op closing.value) where
+  abbrev pub filled_line : CacheState → List ℕ → Line
   filled_line next after = record { state = next; kept = Some after; waiting = None }
 
-  abbrev pub lines_after : CacheState → ℕ → List Line
+  abbrev pub lines_after : CacheState → List ℕ → List Line
   lines_after next after = slice_set lines closing.core (filled_line next after)
 
-  abbrev pub did_after : Op → ℕ → Option Did
-  did_after o value = Some (next_did log closing.core closing.block o value false)
+  abbrev pub did_after : Access → ℕ → Option Did
+  did_after access value = Some (next_did log closing.core closing.block access.word access.op value false)
 
   pub fills : FillsRequestor closing protocol log lines (lines_after found.next done.after) (did_after asking done.value)
   fills = record {
@@ -89,8 +90,8 @@ filled closing protocol log lines =
     if_some (arrival closing.payload) λ event arrives.
     if_some (row_at protocol (held_at lines closing.core).state event) λ found is.
     if_some (held_at lines closing.core).waiting λ asking waited.
-    if_some (fill_for found.act asking) λ fill is_fill.
-    if_some (performed asking closing.value) λ done is_done.
+    if_some (fill_for found.act asking.op) λ fill is_fill.
+    if_some (performed asking.word asking.op closing.value) λ done is_done.
     Some (record {
       new = lines_after closing protocol log lines event arrives found asking waited fill done found.next done.after;
       did = did_after closing protocol log lines event arrives found asking waited fill done asking done.value;
@@ -108,7 +109,7 @@ SettlesIf takes payload protocol old act new =
     MatchBool takes (IsSomeAnd (arrival_at_memory payload) (λ event. MemoryCell protocol old event act new)) ((act ≡ mem_action.None) × (new ≡ old))
 
 -- a block with no transaction
-abbrev pub closed_picture : List Line → MemState → ℕ → Picture
+abbrev pub closed_picture : List Line → MemState → List ℕ → Picture
 closed_picture caches memory value = record { caches = caches; memory = record { state = memory; value = value }; transaction = None }
 
 -- what a response does to memory's state

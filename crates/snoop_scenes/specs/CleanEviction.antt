@@ -2,7 +2,7 @@
 -- Memory owns the block again, so that core 1's load moves to E.
 -- Source: this project's profile of MESI (memory's states, and the eviction of a block in E), and chapter 7 of the Primer for the rest.
 use Rattle.std.specs.Prelude.{List, [], ◌∷◌}
-use Rattle.snoop_rules.specs.declared.names.Protocol.TheVariants.{Mesi}
+use Rattle.snoop_trace.specs.declared.protocol.Protocol.TheVariants.{Mesi}
 use Rattle.snoop_rules.specs.declared.names.CacheState.TheVariants as state
 use Rattle.snoop_rules.specs.declared.names.MemState.TheVariants as mem
 use Rattle.snoop_rules.specs.declared.names.Request.TheVariants.{GetS, PutM}

@@ -1,7 +1,7 @@
 -- Drop, then absent (MSI). A copy in S is given up silently: no request, no item in the history. Evicting what is not there is answered at once.
 -- Source: the tables of "A Primer on Memory Consistency and Cache Coherence", 2nd edition, chapter 7.
 use Rattle.std.specs.Prelude.{List, [], ◌∷◌}
-use Rattle.snoop_rules.specs.declared.names.Protocol.TheVariants.{Msi}
+use Rattle.snoop_trace.specs.declared.protocol.Protocol.TheVariants.{Msi}
 use Rattle.snoop_rules.specs.declared.names.CacheState.TheVariants as state
 use Rattle.snoop_rules.specs.declared.names.MemState.TheVariants as mem
 use Rattle.snoop_rules.specs.declared.names.Request.TheVariants.{GetS}

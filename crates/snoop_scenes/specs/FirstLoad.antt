@@ -1,7 +1,7 @@
 -- A first load (MSI). No cache has the block: the miss sends a GetS, memory answers it, and the core becomes a sharer.
 -- Source: the tables of "A Primer on Memory Consistency and Cache Coherence", 2nd edition, chapter 7.
 use Rattle.std.specs.Prelude.{List, [], ◌∷◌}
-use Rattle.snoop_rules.specs.declared.names.Protocol.TheVariants.{Msi}
+use Rattle.snoop_trace.specs.declared.protocol.Protocol.TheVariants.{Msi}
 use Rattle.snoop_rules.specs.declared.names.CacheState.TheVariants as state
 use Rattle.snoop_rules.specs.declared.names.MemState.TheVariants as mem
 use Rattle.snoop_rules.specs.declared.names.Request.TheVariants.{GetS}

@@ -16,3 +16,4 @@ pub mod TwoBlocksOpen
 pub mod HeadOfQueueBlocks
 pub mod NothingEnabled
 pub mod OutsideTheShape
+pub mod StoreMissKeepsWords

@@ -2,7 +2,7 @@
 -- Core 1's GetM is ordered first and takes the copy away: in IM_AD a load is stalled.
 -- Source: the tables of "A Primer on Memory Consistency and Cache Coherence", 2nd edition, chapter 7.
 use Rattle.std.specs.Prelude.{List, [], ◌∷◌}
-use Rattle.snoop_rules.specs.declared.names.Protocol.TheVariants.{Msi}
+use Rattle.snoop_trace.specs.declared.protocol.Protocol.TheVariants.{Msi}
 use Rattle.snoop_rules.specs.declared.names.CacheState.TheVariants as state
 use Rattle.snoop_rules.specs.declared.names.MemState.TheVariants as mem
 use Rattle.snoop_rules.specs.declared.names.Request.TheVariants.{GetS, GetM}

@@ -1,7 +1,7 @@
 -- Nothing enabled (MSI). At reset no request waits and no transaction is open: there is nothing to order and nothing that could come.
 -- Source: this project's profile of the steps.
 use Rattle.std.specs.Prelude.{List, [], ◌∷◌}
-use Rattle.snoop_rules.specs.declared.names.Protocol.TheVariants.{Msi}
+use Rattle.snoop_trace.specs.declared.protocol.Protocol.TheVariants.{Msi}
 use Rattle.snoop_rules.specs.declared.names.CacheState.TheVariants as state
 use Rattle.snoop_rules.specs.declared.names.MemState.TheVariants as mem
 use Rattle.snoop_model.specs.declared.replies.Refused.TheVariants.{NothingWaiting, NoTransaction}

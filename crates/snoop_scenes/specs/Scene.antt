@@ -1,12 +1,13 @@
 -- The words in which a scene is stated: its frames, each a step with its reply and the states after it, and what holds of them.
 -- Source: the system model of "A Primer on Memory Consistency and Cache Coherence", 2nd edition, chapter 7; the steps, replies and
 -- items are this project's profile.
-use Rattle.std.specs.Prelude.{◌≡◌, ℕ, true, false, List, [], ◌∷◌, map, replicate, Option, Some, None, Result, Ok, Err}
+use Rattle.std.specs.Prelude.{◌≡◌, ℕ, true, false, List, [], ◌∷◌, map, replicate, slice_set, Option, Some, None, Result, Ok, Err}
 use Rattle.snoop_trace.specs.Extent.{Extent}
+use Rattle.snoop_trace.specs.Words.{zero_words}
 use Rattle.snoop_trace.specs.declared.step.Op.TheVariants as op
 use Rattle.snoop_trace.specs.declared.step.Step.{Step}
 use Rattle.snoop_trace.specs.declared.step.Step.TheVariants.{Ask, Order, Respond}
-use Rattle.snoop_rules.specs.declared.names.Protocol.{Protocol}
+use Rattle.snoop_trace.specs.declared.protocol.Protocol.{Protocol}
 use Rattle.snoop_rules.specs.declared.names.CacheState.{CacheState}
 use Rattle.snoop_rules.specs.declared.names.MemState.{MemState}
 use Rattle.snoop_rules.specs.declared.names.Request.{Request}
@@ -17,8 +18,7 @@ use Rattle.snoop_history.specs.declared.items.Item.TheVariants as item
 use Rattle.snoop_history.specs.declared.items.Totals.{Totals}
 use Rattle.snoop_history.specs.History.{flat}
 use Rattle.snoop_history.specs.Totals.{touched}
-use Rattle.snoop_model.specs.declared.line.Line.{Line}
-use Rattle.snoop_model.specs.declared.memory.MemLine.{MemLine}
+use Rattle.snoop_model.specs.Pictures.Lines.{Line, MemLine}
 use Rattle.snoop_model.specs.declared.replies.Reply.{Reply}
 use Rattle.snoop_model.specs.declared.replies.Reply.TheVariants as reply
 use Rattle.snoop_model.specs.declared.replies.Refused.{Refused}
@@ -26,13 +26,17 @@ use Rattle.snoop_model.specs.Pictures.Picture.{held_at}
 use Rattle.snoop_model.specs.Pictures.Situation.{Situation, reset}
 use Rattle.snoop_model.specs.Runs.Run.{GoesFirst}
 
--- two cores, and one block of 64 bytes
+-- two cores, and one block of 64 bytes that is one word
 abbrev pub two_cores : Extent
-two_cores = record { cores = 2; blocks = 1; block_bytes = 64 }
+two_cores = record { cores = 2; blocks = 1; block_bytes = 64; words = 1 }
 
--- two cores, and two blocks of 64 bytes
+-- two cores, and two such blocks
 abbrev pub two_blocks : Extent
-two_blocks = record { cores = 2; blocks = 2; block_bytes = 64 }
+two_blocks = record { cores = 2; blocks = 2; block_bytes = 64; words = 1 }
+
+-- two cores, and one block of 64 bytes that has two words
+abbrev pub two_words : Extent
+two_words = record { cores = 2; blocks = 1; block_bytes = 64; words = 2 }
 
 -- the states for one block: core 0's, core 1's and memory's
 abbrev pub Controllers : Type 0
@@ -59,17 +63,29 @@ steps_of frames = map (λ frame. frame.0.0) frames
 abbrev pub outcomes_of : List Frame → List (Result Reply Refused)
 outcomes_of frames = map (λ frame. frame.0.1) frames
 
--- the core asks to load the block
-abbrev pub load : ℕ → ℕ → Step
-load core block = Ask core block op.Load
+-- the core asks to load the word of the block
+abbrev pub load_word : ℕ → ℕ → ℕ → Step
+load_word core block word = Ask core block word op.Load
 
--- the core asks to store the value in the block
+-- the core asks to store the value in the word of the block
+abbrev pub store_word : ℕ → ℕ → ℕ → ℕ → Step
+store_word core block word value = Ask core block word (op.Store value)
+
+-- the core asks to give the block up; the word is not looked at
+abbrev pub evict_word : ℕ → ℕ → ℕ → Step
+evict_word core block word = Ask core block word op.Evict
+
+-- the core asks to load the block's first word
+abbrev pub load : ℕ → ℕ → Step
+load core block = load_word core block 0
+
+-- the core asks to store the value in the block's first word
 abbrev pub store : ℕ → ℕ → ℕ → Step
-store core block value = Ask core block (op.Store value)
+store core block value = store_word core block 0 value
 
 -- the core asks to give the block up
 abbrev pub evict : ℕ → ℕ → Step
-evict core block = Ask core block op.Evict
+evict core block = evict_word core block 0
 
 -- the core's oldest request is ordered on the bus
 abbrev pub order : ℕ → Step
@@ -119,21 +135,25 @@ memory = None
 abbrev pub core : ℕ → Option ℕ
 core number = Some number
 
--- the core's operation of this number, counted from 0, is a load of the block that missed, and read the value
+-- the core's operation of this number, counted from 0, is a load of the block's first word that missed, and read the value
 abbrev pub missed_load : ℕ → ℕ → ℕ → ℕ → Did
-missed_load core number block value = record { core = core; number = number; block = block; load = true; value = value; hit = false }
+missed_load core number block value = record { core = core; number = number; block = block; word = 0; load = true; value = value; hit = false }
 
--- a store of the value in the block, that missed
+-- a store of the value in the block's first word, that missed
 abbrev pub missed_store : ℕ → ℕ → ℕ → ℕ → Did
-missed_store core number block value = record { core = core; number = number; block = block; load = false; value = value; hit = false }
+missed_store core number block value = record { core = core; number = number; block = block; word = 0; load = false; value = value; hit = false }
 
 -- a load that hit
 abbrev pub hit_load : ℕ → ℕ → ℕ → ℕ → Did
-hit_load core number block value = record { core = core; number = number; block = block; load = true; value = value; hit = true }
+hit_load core number block value = record { core = core; number = number; block = block; word = 0; load = true; value = value; hit = true }
 
 -- a store that hit
 abbrev pub hit_store : ℕ → ℕ → ℕ → ℕ → Did
-hit_store core number block value = record { core = core; number = number; block = block; load = false; value = value; hit = true }
+hit_store core number block value = record { core = core; number = number; block = block; word = 0; load = false; value = value; hit = true }
+
+-- the same operation on another word
+abbrev pub at_word : ℕ → Did → Did
+at_word word did = record did { word = word }
 
 -- a response performs the load that missed: the core, the operation's number, the block, the value
 abbrev pub loads : ℕ → ℕ → ℕ → ℕ → Option Did
@@ -159,13 +179,21 @@ sent core request block = item.Sent (record { core = core; request = request; bl
 abbrev pub answered : ℕ → Request → ℕ → Payload → Option ℕ → Option Did → Item
 answered core request block payload from did = item.Came (record { core = core; request = request; block = block; from = from; payload = payload }) did
 
--- a line in a stable state that keeps a value
-abbrev pub holds : CacheState → ℕ → Line
-holds state value = record { state = state; kept = Some value; waiting = None }
+-- the words of a block whose first word has the value, and whose other words are 0
+abbrev pub one_word : ℕ → List ℕ
+one_word value = slice_set zero_words 0 value
 
--- memory's state and value
+-- a line in a stable state that keeps the words
+abbrev pub holds_words : CacheState → List ℕ → Line
+holds_words state words = record { state = state; kept = Some words; waiting = None }
+
+-- a line in a stable state that keeps a value in its first word
+abbrev pub holds : CacheState → ℕ → Line
+holds state value = holds_words state (one_word value)
+
+-- memory's state, and the value of its first word
 abbrev pub remembers : MemState → ℕ → MemLine
-remembers state value = record { state = state; value = value }
+remembers state value = record { state = state; value = one_word value }
 
 -- a situation in which no request waits and no transaction is open
 abbrev pub at_rest : Protocol → Extent → List (List Line) → List MemLine → List Item → Situation
@@ -198,9 +226,9 @@ no_totals =
       stale = 0;
     }
 
--- the blocks that the items mention, each with flat memory's value
+-- the blocks that the items mention, each with flat memory's value of its first word
 abbrev pub values_of : List Item → List (ℕ × ℕ)
-values_of items = map {B = ℕ × ℕ} (λ block. (block, flat items block)) (touched items)
+values_of items = map {B = ℕ × ℕ} (λ block. (block, flat items block 0)) (touched items)
 
 -- the states of the first two cores and of memory, by block
 abbrev pub controllers : List (List Line) → List MemLine → List Controllers

@@ -12,5 +12,6 @@ pub use scenes::{
     clean_eviction, drop_then_absent, exclusive_shared, exclusive_shared_while_evicting,
     first_load, head_of_queue_blocks, load_hits_while_store_waits, nothing_enabled,
     outside_the_shape, ownership_returns, refused_and_repeated, silent_upgrade, stale_writeback,
-    store_hit_while_evicting, two_blocks_open, upgrade_race, writeback_after_downgrade,
+    store_hit_while_evicting, store_miss_keeps_words, two_blocks_open, upgrade_race,
+    writeback_after_downgrade,
 };

@@ -1,10 +1,11 @@
 //! Scenes of the protocols, each a theorem about the run of its steps from reset.
-ghost use Rattle.std.specs.Prelude.{◌≡◌, [], ◌∷◌};
-ghost use Rattle.snoop_rules.specs.declared.names.Protocol.TheVariants.{Msi, Mesi};
-ghost use Rattle.snoop_history.specs.History.{answers_of};
+ghost use Rattle.std.specs.Prelude.{◌≡◌, [], ◌∷◌, slice_set};
+ghost use Rattle.snoop_trace.specs.Words.{zero_words};
+ghost use Rattle.snoop_trace.specs.declared.protocol.Protocol.TheVariants.{Msi, Mesi};
+ghost use Rattle.snoop_history.specs.History.{answers_of, flat_words};
 ghost use Rattle.snoop_history.specs.Totals.{totals_of};
 ghost use Rattle.snoop_model.specs.Runs.Run.{TheRun};
-ghost use Rattle.snoop_scenes.specs.Scene.{two_cores, two_blocks, steps_of, outcomes_of, no_totals, values_of, missed_load, hit_load, missed_store, PassesThrough};
+ghost use Rattle.snoop_scenes.specs.Scene.{two_cores, two_blocks, two_words, steps_of, outcomes_of, no_totals, values_of, missed_load, hit_load, missed_store, PassesThrough};
 ghost use Rattle.snoop_scenes.specs.FirstLoad;
 ghost use Rattle.snoop_scenes.specs.UpgradeRace;
 ghost use Rattle.snoop_scenes.specs.StaleWriteback;
@@ -22,6 +23,7 @@ ghost use Rattle.snoop_scenes.specs.TwoBlocksOpen;
 ghost use Rattle.snoop_scenes.specs.HeadOfQueueBlocks;
 ghost use Rattle.snoop_scenes.specs.NothingEnabled;
 ghost use Rattle.snoop_scenes.specs.OutsideTheShape;
+ghost use Rattle.snoop_scenes.specs.StoreMissKeepsWords;
 
 /// A first load: the miss is ordered, memory answers, and the load reads 0.
 pub fn first_load()
@@ -154,10 +156,18 @@ pub fn nothing_enabled()
     ensures values { values_of NothingEnabled.end.log ≡ [] }
 {}
 
-/// A step of a core or a block that there is not is refused, the core being looked at first.
+/// A step of a core, a block or a word that there is not is refused, the core being looked at first; an eviction's word is not looked at.
 pub fn outside_the_shape()
     ensures run { TheRun Msi two_cores (steps_of OutsideTheShape.frames) (outcomes_of OutsideTheShape.frames) OutsideTheShape.end }
     ensures states { PassesThrough Msi two_cores OutsideTheShape.frames OutsideTheShape.end }
     ensures totals { totals_of OutsideTheShape.end.log ≡ no_totals }
     ensures values { values_of OutsideTheShape.end.log ≡ [] }
+{}
+
+/// A store miss keeps the other words of its block: two cores store in two words of one block, and neither value is lost.
+pub fn store_miss_keeps_words()
+    ensures run { TheRun Msi two_words (steps_of StoreMissKeepsWords.frames) (outcomes_of StoreMissKeepsWords.frames) StoreMissKeepsWords.end }
+    ensures states { PassesThrough Msi two_words StoreMissKeepsWords.frames StoreMissKeepsWords.end }
+    ensures totals { totals_of StoreMissKeepsWords.end.log ≡ record no_totals { loads = 2; load_hits = 2; stores = 2; get_m = 2; from_memory = 1; from_caches = 1 } }
+    ensures values { flat_words StoreMissKeepsWords.end.log 0 ≡ slice_set (slice_set zero_words 0 7) 1 9 }
 {}

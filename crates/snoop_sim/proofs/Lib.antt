@@ -2,3 +2,4 @@ pub mod Threading
 pub mod OptionLemmas
 pub mod CommandLineLemmas
 pub mod AskedLemmas
+pub mod ReadLemmas

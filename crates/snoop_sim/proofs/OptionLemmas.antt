@@ -8,9 +8,13 @@ use Rattle.std.proofs.lemmas.Slice.Eq.{bytes_eq-Decides}
 use Rattle.clap.specs.Words.{ReadsOne, first_of, first_value, one_of, one_text, rows_of}
 use Rattle.clap.specs.declared.parser.matches.Found.{Found}
 use Rattle.clap.proofs.WalkLemmas.{first_value-rows, one_text-rows}
-use Rattle.snoop_rules.specs.declared.names.Protocol.TheVariants.{Msi, Mesi}
+use Rattle.snoop_trace.specs.declared.protocol.Protocol.TheVariants.{Msi, Mesi}
 use Rattle.snoop_rules.specs.declared.table_text.Which.TheVariants.{Cache, Memory}
-use Rattle.snoop_sim.specs.Options.{IsNumberOf, protocol_named, which_named}
+use Rattle.std.specs.Result.{OkIff}
+use Rattle.snoop_trace.specs.Extent.{Extent, IsBlockCount, IsBlockSize, IsCoreCount, IsWordCount}
+use Rattle.snoop_trace.specs.declared.shape.ShapeFault.{ShapeFault}
+use Rattle.snoop_trace.specs.declared.shape.ShapeFault.TheVariants.{BadCores, BadBlocks, BadBytes, BadWords}
+use Rattle.snoop_sim.specs.Options.{IsNumberOf, IsShape, protocol_named, which_named}
 
 -- a text that is compared with another is found equal where it is equal
 equal : (a b : List ℕ) → a ≡ b → bytes_eq a b ≡ true
@@ -79,3 +83,16 @@ number_named {E} f name gives read none some parses = rw (← one_text-rows f na
     go : (text : Option (List ℕ)) → one_text f name ≡ text → IsNumberOf text (unwrap_or read 0)
     go None e = ap (λ r. unwrap_or r 0) (none e)
     go (Some text) e = parsed text read (some text e)
+
+-- what is made of four numbers is their shape, or the first limit that is broken
+pub shape_named : (cores blocks bytes words : ℕ) (made : Result Extent ShapeFault)
+    → OkIff made (IsCoreCount cores × IsBlockCount blocks × IsBlockSize bytes × IsWordCount words bytes) (record { cores = cores; blocks = blocks; block_bytes = bytes; words = words })
+    → (made ≡ Err BadCores → ¬ IsCoreCount cores) → (made ≡ Err BadBlocks → IsCoreCount cores × ¬ IsBlockCount blocks)
+    → (made ≡ Err BadBytes → IsCoreCount cores × IsBlockCount blocks × ¬ IsBlockSize bytes)
+    → (made ≡ Err BadWords → IsCoreCount cores × IsBlockCount blocks × IsBlockSize bytes × ¬ IsWordCount words bytes)
+    → IsShape cores blocks bytes words made
+shape_named cores blocks bytes words (Ok shape) ok a b c d = ok.1
+shape_named cores blocks bytes words (Err BadCores) ok a b c d = a refl
+shape_named cores blocks bytes words (Err BadBlocks) ok a b c d = b refl
+shape_named cores blocks bytes words (Err BadBytes) ok a b c d = c refl
+shape_named cores blocks bytes words (Err BadWords) ok a b c d = d refl

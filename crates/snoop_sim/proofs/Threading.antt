@@ -6,14 +6,18 @@ use Rattle.std.specs.Result.{IsErrAnd}
 use Rattle.std.proofs.lemmas.Bool.Decides.{nat_tests}
 use Rattle.std.proofs.lemmas.List.Elements.{All-filter, All-from_get_or, All-get_or}
 use Rattle.std.proofs.lemmas.Option.{get_or_from_slice_get, slice_get_within}
-use Rattle.snoop_trace.specs.Extent.{Extent}
-use Rattle.snoop_trace.specs.Grammar.{block_at, IsRowWithin}
+use Rattle.snoop_trace.specs.Words.{HasWord}
+use Rattle.snoop_trace.specs.Extent.{Extent, IsWithinLimits}
+use Rattle.snoop_trace.specs.Grammar.{block_at, word_asked, IsRowWithin}
+use Rattle.snoop_trace.proofs.WordPlaces.{asked_within}
 use Rattle.snoop_trace.specs.declared.step.Op.{Op}
-use Rattle.snoop_trace.specs.Output.{AppendsFront, steps_text}
+use Rattle.snoop_trace.specs.declared.step.Op.TheVariants as op
+use Rattle.snoop_trace.specs.Output.{AppendsFront, IsWithin, text_of}
+use Rattle.snoop_trace.specs.Text.{steps_of}
 use Rattle.snoop_trace.specs.declared.fault.WriteFault.{WriteFault}
 use Rattle.snoop_trace.specs.declared.step.Row.{Row}
 use Rattle.snoop_trace.specs.declared.step.Step.{Step}
-use Rattle.snoop_rules.specs.declared.names.Protocol.{Protocol}
+use Rattle.snoop_trace.specs.declared.protocol.Protocol.{Protocol}
 use Rattle.snoop_history.specs.declared.items.Did.{Did}
 use Rattle.snoop_history.specs.declared.items.Item.{Item}
 use Rattle.snoop_history.specs.History.{answers_of}
@@ -51,6 +55,7 @@ threaded protocol shape rows stops old new log steps fresh each same ran none jo
     record {
       final = joined.at;
       taken = joined.taken;
+      readable = joined.readable;
       quiet = joined.quiet;
       answered = λ core lt.
           let d : Seating = record { core = 0; shape = shape; seen = []; answers = []; pending = None; strange = None; stop = None } in
@@ -109,45 +114,53 @@ idle_after : (rows : List Row) (s t : Seating) → s.pending ≡ None → Leaves
 idle_after [] s t new leaves = ap (λ (x : Seating). x.pending) leaves ∙ new
 idle_after (row ∷ rows) s t new leaves = leaves.pending
 
+-- the word that an operation at an address is of is there
+word_here : (shape : Extent) (address : ℕ) (asking : Op) → IsWithinLimits shape → HasWord shape (word_asked shape address asking) asking
+word_here shape address op.Load limits = let few = asked_within shape address op.Load limits in let most = limits.words.1 in (few, omega (arith, few, most))
+word_here shape address (op.Store value) limits = let few = asked_within shape address (op.Store value) limits in let most = limits.words.1 in (few, omega (arith, few, most))
+word_here shape address op.Evict limits = tt
+
 -- what a row within the shape, of a seat with nothing pending, is refused for
-why_refused : (block blocks : ℕ) (fault : SeatFault) (wanted : Op) (s t : Seating) → block < blocks → s.shape.blocks ≡ blocks → s.pending ≡ None → FailsOn (Some block) fault wanted s t → IsOfThreads (threads.Seat fault)
-why_refused block blocks seat.NoBlock wanted s t lt is idle fails = absurd (let outside = fails.0 in omega (arith, lt, is, outside))
-why_refused block blocks seat.NoMemory wanted s t lt is idle fails = tt
-why_refused block blocks (seat.Busy other) wanted s t lt is idle fails = absurd (let e : None ≡ Some other = sym idle ∙ fails.1 in cc)
-why_refused block blocks (seat.Stranger did) wanted s t lt is idle fails = tt
+why_refused : (block : ℕ) (fault : SeatFault) (row : Row) (s t : Seating) → IsWithinLimits s.shape → block < s.shape.blocks → s.pending ≡ None → FailsOn (Some block) fault row s t → IsOfThreads (threads.Seat fault)
+why_refused block seat.NoBlock row s t limits lt idle fails = absurd (fails.0 (lt, word_here s.shape row.address row.op limits))
+why_refused block seat.NoMemory row s t limits lt idle fails = tt
+why_refused block (seat.Busy other) row s t limits lt idle fails = absurd (let e : None ≡ Some other = sym idle ∙ fails.1 in cc)
+why_refused block (seat.Stranger did) row s t limits lt idle fails = tt
 
 -- what new seats' rows within the shape are refused for
-row_refused : (shape : Extent) (core number : ℕ) (rows : List Row) (s t : Seating) (fault : SeatFault) → IsNew core shape s → All (IsRowWithin shape) rows → IsRefused number fault rows s t → IsOfThreads (threads.Seat fault)
-row_refused shape core number rows s t fault new within refused =
+row_refused : (shape : Extent) (core number : ℕ) (rows : List Row) (s t : Seating) (fault : SeatFault) → IsWithinLimits shape → IsNew core shape s → All (IsRowWithin shape) rows → IsRefused number fault rows s t → IsOfThreads (threads.Seat fault)
+row_refused shape core number rows s t fault limits new within refused =
     let own : List Row = rows_of s.core rows in
     let lt : number < length own = slice_get_within own number refused.row refused.there in
     let all : All (IsRowWithin shape) own = All-filter (λ (row : Row). row.core == s.core) (IsRowWithin shape) rows within in
     let inside : IsRowWithin shape refused.row = subst (IsRowWithin shape) (get_or_from_slice_get own number refused.row refused.row refused.there) (All-get_or (IsRowWithin shape) own number refused.row lt all) in
     let same : refused.between.shape ≡ shape = refused.grown.stays.shape ∙ new.shape_is in
     let at : block_at refused.between.shape refused.row.address ≡ Some (refused.row.address / shape.block_bytes) = ap (λ (e : Extent). block_at e refused.row.address) same ∙ row_block shape refused.row inside in
-    why_refused (refused.row.address / shape.block_bytes) shape.blocks fault refused.row.op refused.between t inside.1 (ap (λ (e : Extent). e.blocks) same)
+    why_refused (refused.row.address / shape.block_bytes) fault refused.row refused.between t (subst IsWithinLimits (sym same) limits)
+    (subst (λ (e : Extent). refused.row.address / shape.block_bytes < e.blocks) (sym same) inside.1)
     (idle_after (take number own) s refused.between new.pending refused.grown.leaves)
-    (subst (λ (o : Option ℕ). FailsOn o fault refused.row.op refused.between t) at refused.fails)
+    (subst (λ (o : Option ℕ). FailsOn o fault refused.row refused.between t) at refused.fails)
 
 -- the fault of the first seat that stopped is one of threads
 pub first_refused : (shape : Extent) (rows : List Row) (stops : List (Option Stop)) (old new : List Seating) (fault : ThreadsFault)
-    → AreSeats shape old → length stops ≡ length old → All (IsRowWithin shape) rows
+    → IsWithinLimits shape → AreSeats shape old → length stops ≡ length old → All (IsRowWithin shape) rows
     → ((i : ℕ) (d : Seating) → i < length old → RanTo (slice_index_or stops i None) rows (slice_index_or old i d) (slice_index_or new i d))
     → IsOfFirstStop stops fault → IsOfThreads fault
-first_refused shape rows stops old new fault fresh each within ran first =
+first_refused shape rows stops old new fault limits fresh each within ran first =
     let d : Seating = record { core = 0; shape = shape; seen = []; answers = []; pending = None; strange = None; stop = None } in
     let inside : first.place < length old = let lt = slice_get_within stops first.place (Some (Fault first.number first.refused)) first.there in omega (arith, lt, each) in
     let stop : slice_index_or stops first.place None ≡ Some (Fault first.number first.refused) = get_or_from_slice_get stops first.place (Some (Fault first.number first.refused)) None first.there in
     let refused : IsRefused first.number first.refused rows (slice_index_or old first.place d) (slice_index_or new first.place d) =
     subst (λ (o : Option Stop). RanTo o rows (slice_index_or old first.place d) (slice_index_or new first.place d)) stop (ran first.place d inside) in
-    subst IsOfThreads (sym first.is) (row_refused shape first.place first.number rows (slice_index_or old first.place d) (slice_index_or new first.place d) first.refused (fresh.1 first.place d (omega (arith, inside, fresh.0))) within refused)
+    subst IsOfThreads (sym first.is) (row_refused shape first.place first.number rows (slice_index_or old first.place d) (slice_index_or new first.place d) first.refused limits (fresh.1 first.place d (omega (arith, inside, fresh.0))) within refused)
 
 -- the steps stand, and were written, or their writing broke off
 pub steps_written : (protocol : Protocol) (shape : Extent) (input : Option (List ℕ)) (rows : List Row) (steps : List Step) (wrote : Result (Unit {0}) WriteFault) (answer : Result (Unit {0}) ThreadsFault) (old new : Option (List ℕ))
     → MatchResult wrote (λ u. answer ≡ Ok u) (λ f. IsErrAnd answer (λ e. e ≡ threads.Write f)) → ReadsRows shape input (Ok rows) → Threaded protocol shape rows steps
-    → OnOk wrote (Appends old new (steps_text shape steps)) → OnErr wrote (AppendsFront old new (steps_text shape steps)) → SimulatesThreads protocol shape input answer old new
-steps_written protocol shape input rows steps (Ok u) answer old new cases read stand all front =
-    subst (λ (x : Result (Unit {0}) ThreadsFault). SimulatesThreads protocol shape input x old new) (sym cases) (rows, (read, record { steps = steps; threaded = stand; output = all }))
-steps_written protocol shape input rows steps (Err f) (Ok u) old new cases read stand all front = absurd cases
-steps_written protocol shape input rows steps (Err f) (Err e) old new cases read stand all front =
-    subst (λ (x : ThreadsFault). SimulatesThreads protocol shape input (Err x) old new) (sym cases) (rows, (read, record { steps = steps; threaded = stand; output = front }))
+    → (All (IsWithin shape) steps → steps_of protocol shape (text_of protocol shape steps) ≡ Ok steps)
+    → OnOk wrote (Appends old new (text_of protocol shape steps)) → OnErr wrote (AppendsFront old new (text_of protocol shape steps)) → SimulatesThreads protocol shape input answer old new
+steps_written protocol shape input rows steps (Ok u) answer old new cases read stand again all front =
+    subst (λ (x : Result (Unit {0}) ThreadsFault). SimulatesThreads protocol shape input x old new) (sym cases) (rows, (read, record { steps = steps; threaded = stand; again = again stand.readable; output = all }))
+steps_written protocol shape input rows steps (Err f) (Ok u) old new cases read stand again all front = absurd cases
+steps_written protocol shape input rows steps (Err f) (Err e) old new cases read stand again all front =
+    subst (λ (x : ThreadsFault). SimulatesThreads protocol shape input (Err x) old new) (sym cases) (rows, (read, record { steps = steps; threaded = stand; again = again stand.readable; output = front }))

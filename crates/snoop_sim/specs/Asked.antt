@@ -5,7 +5,7 @@ use Rattle.clap.specs.Words.{App, IsAmong, Row, Text, fault_of, first_of, kind_o
 use Rattle.clap.specs.declared.error.kind.ErrorKind.{ErrorKind}
 use Rattle.clap.specs.declared.error.kind.ErrorKind.TheVariants.{DisplayHelp, DisplayVersion}
 use Rattle.snoop_trace.specs.Extent.{Extent}
-use Rattle.snoop_rules.specs.declared.names.Protocol.{Protocol}
+use Rattle.snoop_trace.specs.declared.protocol.Protocol.{Protocol}
 use Rattle.snoop_sim.specs.CommandLine.{IsSnoop}
 use Rattle.snoop_sim.specs.Options.{IsShapeOf, protocol_named, which_named}
 use Rattle.snoop_engine.specs.declared.fault.SimFault.TheVariants.{NoMemory}

@@ -35,8 +35,9 @@ protocol_rule protocols = record (option_rule (codes "protocol") (codes "msi") (
 -- a command that simulates
 abbrev pub simulation_app : List ℕ → Names → App
 simulation_app name protocols =
-    with_rule (with_rule (with_rule (with_rule (new_app name) (protocol_rule protocols))
-    (number_rule (codes "cores") (codes "2"))) (number_rule (codes "blocks") (codes "4"))) (number_rule (codes "block-bytes") (codes "64"))
+    with_rule (with_rule (with_rule (with_rule (with_rule (new_app name) (protocol_rule protocols))
+    (number_rule (codes "cores") (codes "2"))) (number_rule (codes "blocks") (codes "4"))) (number_rule (codes "block-bytes") (codes "64")))
+    (number_rule (codes "words") (codes "1"))
 
 -- the command that writes a table
 abbrev pub table_app : Names → Names → App

@@ -3,11 +3,11 @@
 use Rattle.std.specs.Prelude.{◌≡◌, ◌⊎◌, ◌<◌, ◌^◌, ℕ, List, Option, Some, None, Result, Ok, Err, if◌then◌else◌, codes, true, false}
 use Rattle.std.specs.Str.Parse.{IsNumeral, digits_value, without_leading_plus}
 use Rattle.clap.specs.Words.{Row, one_of, same_text}
-use Rattle.snoop_trace.specs.Extent.{Extent, IsBlockCount, IsBlockSize, IsCoreCount}
+use Rattle.snoop_trace.specs.Extent.{Extent, IsBlockCount, IsBlockSize, IsCoreCount, IsWordCount}
 use Rattle.snoop_trace.specs.declared.shape.ShapeFault.{ShapeFault}
-use Rattle.snoop_trace.specs.declared.shape.ShapeFault.TheVariants.{BadCores, BadBlocks, BadBytes}
-use Rattle.snoop_rules.specs.declared.names.Protocol.{Protocol}
-use Rattle.snoop_rules.specs.declared.names.Protocol.TheVariants.{Msi, Mesi}
+use Rattle.snoop_trace.specs.declared.shape.ShapeFault.TheVariants.{BadCores, BadBlocks, BadBytes, BadWords}
+use Rattle.snoop_trace.specs.declared.protocol.Protocol.{Protocol}
+use Rattle.snoop_trace.specs.declared.protocol.Protocol.TheVariants.{Msi, Mesi}
 use Rattle.snoop_rules.specs.declared.table_text.Which.{Which}
 use Rattle.snoop_rules.specs.declared.table_text.Which.TheVariants.{Cache, Memory}
 
@@ -31,16 +31,18 @@ IsNumberOf None number = number ≡ 0
 IsNumberOf (Some text) number = (IsNumber text × (number ≡ digits_value 10 (without_leading_plus text))) ⊎ ((¬ IsNumber text) × (number ≡ 0))
 
 -- the shape of these numbers, or the first of them that is out of its limits
-abbrev pub IsShape : ℕ → ℕ → ℕ → Result Extent ShapeFault → Type 0
-IsShape cores blocks bytes (Ok shape) = shape ≡ record { cores = cores; blocks = blocks; block_bytes = bytes }
-IsShape cores blocks bytes (Err BadCores) = ¬ IsCoreCount cores
-IsShape cores blocks bytes (Err BadBlocks) = IsCoreCount cores × ¬ IsBlockCount blocks
-IsShape cores blocks bytes (Err BadBytes) = IsCoreCount cores × IsBlockCount blocks × ¬ IsBlockSize bytes
+abbrev pub IsShape : ℕ → ℕ → ℕ → ℕ → Result Extent ShapeFault → Type 0
+IsShape cores blocks bytes words (Ok shape) = shape ≡ record { cores = cores; blocks = blocks; block_bytes = bytes; words = words }
+IsShape cores blocks bytes words (Err BadCores) = ¬ IsCoreCount cores
+IsShape cores blocks bytes words (Err BadBlocks) = IsCoreCount cores × ¬ IsBlockCount blocks
+IsShape cores blocks bytes words (Err BadBytes) = IsCoreCount cores × IsBlockCount blocks × ¬ IsBlockSize bytes
+IsShape cores blocks bytes words (Err BadWords) = IsCoreCount cores × IsBlockCount blocks × IsBlockSize bytes × ¬ IsWordCount words bytes
 
--- the shape that `cores`, `blocks` and `block-bytes` name
+-- the shape that `cores`, `blocks`, `block-bytes` and `words` name
 abbrev pub IsShapeOf : List Row → Result Extent ShapeFault → Type 0
-IsShapeOf options made = (cores blocks bytes : ℕ)
+IsShapeOf options made = (cores blocks bytes words : ℕ)
     × IsNumberOf (one_of (codes "cores") options) cores
     × IsNumberOf (one_of (codes "blocks") options) blocks
     × IsNumberOf (one_of (codes "block-bytes") options) bytes
-    × IsShape cores blocks bytes made
+    × IsNumberOf (one_of (codes "words") options) words
+    × IsShape cores blocks bytes words made

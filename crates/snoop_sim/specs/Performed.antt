@@ -1,8 +1,9 @@
 -- What the program leaves for what it was asked, and the status that it ends with.
 -- Source: this project's profile.
-use Rattle.std.specs.Prelude.{◌≡◌, ◌≢◌, ◌⊎◌, ◌<◌, ◌-◌, ◌^◌, ℕ, Bool, true, List, length, Option, IsSomeAnd, Result, Ok, Err}
+use Rattle.std.specs.Prelude.{⊤, ◌≡◌, ◌⊎◌, ℕ, Bool, true, List, Option, Result, Ok, Err}
 use Rattle.std.specs.Io.KnownBytes.{Appends}
 use Rattle.snoop_trace.specs.Output.{AppendsFront}
+use Rattle.snoop_trace.specs.Text.{BlamesReader}
 use Rattle.snoop_rules.specs.TableText.{table_text}
 use Rattle.clap.specs.Words.{Text}
 use Rattle.snoop_sim.specs.Asked.{Asks, Refuses}
@@ -49,15 +50,13 @@ abbrev pub status_of_ending : Result (Unit {0}) Failure → ℕ
 status_of_ending (Ok u) = 0
 status_of_ending (Err failure) = status_of failure
 
--- no failed read is reported
-abbrev pub BlamesNoReader : Result (Unit {0}) Failure → Type 0
-BlamesNoReader ending = (ending ≢ Err (Simulation (TextRefused Read))) × (ending ≢ Err (ThreadsFailure (RowsRefused Read)))
+-- the ending is that of a failed read
+abbrev pub IsFailedRead : Result (Unit {0}) Failure → Type 0
+IsFailedRead (Err (Simulation (TextRefused Read))) = ⊤
+IsFailedRead (Err (ThreadsFailure (RowsRefused Read))) = ⊤
+IsFailedRead ending = ⊥
 
--- a reader that never fails, with a text that it holds, is not blamed
-abbrev pub IsFairToReader : Bool → Option (List ℕ) → Result (Unit {0}) Failure → Type 0
-IsFairToReader never_fails input ending = never_fails ≡ true → IsSomeAnd input (λ bytes. length bytes < 2 ^ 64 - 1) → BlamesNoReader ending
-
--- the program, for these words and this input, ended with this status, and left this; whether its reader never fails
-abbrev pub Ends : List Text → Bool → Option (List ℕ) → ℕ → Option (List ℕ) → Option (List ℕ) → Type 0
-Ends words never_fails input status old new = (ending : Result (Unit {0}) Failure) × (status ≡ status_of_ending ending)
-    × IsFairToReader never_fails input ending × Leaves words input ending old new
+-- the program, for these words and this input, ended with this status, and left this; whether its reader never fails, and whether a read had failed before and after
+abbrev pub Ends : List Text → Bool → Option Bool → Option Bool → Option (List ℕ) → ℕ → Option (List ℕ) → Option (List ℕ) → Type 0
+Ends words never_fails before after input status old new = (ending : Result (Unit {0}) Failure) × (status ≡ status_of_ending ending)
+    × (never_fails ≡ true → ¬ IsFailedRead ending) × BlamesReader before after (IsFailedRead ending) × Leaves words input ending old new

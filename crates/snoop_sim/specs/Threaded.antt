@@ -1,12 +1,13 @@
 -- What a simulation of rows in threads leaves, by what it answers.
 -- Source: this project's profile.
-use Rattle.std.specs.Prelude.{ℕ, ◌<◌, List, Option, Result, Ok, Err}
+use Rattle.std.specs.Prelude.{◌≡◌, ℕ, ◌<◌, List, All, Option, Result, Ok, Err}
 use Rattle.std.specs.Io.KnownBytes.{Appends}
 use Rattle.snoop_trace.specs.Extent.{Extent}
-use Rattle.snoop_trace.specs.Output.{AppendsFront, steps_text}
+use Rattle.snoop_trace.specs.Output.{AppendsFront, IsWithin, text_of}
+use Rattle.snoop_trace.specs.Text.{steps_of}
 use Rattle.snoop_trace.specs.declared.step.Row.{Row}
 use Rattle.snoop_trace.specs.declared.step.Step.{Step}
-use Rattle.snoop_rules.specs.declared.names.Protocol.{Protocol}
+use Rattle.snoop_trace.specs.declared.protocol.Protocol.{Protocol}
 use Rattle.snoop_history.specs.History.{answers_of}
 use Rattle.snoop_model.specs.Pictures.Situation.{Situation}
 use Rattle.snoop_model.specs.Turns.Quiet.{IsQuiet}
@@ -21,20 +22,24 @@ use Rattle.snoop_sim.specs.declared.fault.ThreadsFault.TheVariants.{Text, Write}
 pub record Threaded (protocol : Protocol) (shape : Extent) (rows : List Row) (steps : List Step) : Type 0 where
   pub final : Situation
   pub taken : AllTaken protocol shape steps final
+  -- each step lies within the shape, so that its text can be read again
+  pub readable : All (IsWithin shape) steps
   pub quiet : IsQuiet final
   pub answered : (core : ℕ) → core < shape.cores → Answers shape (rows_of core rows) (answers_of final.log core)
 
--- the writer got the texts of such steps
+-- the writer got the text of such steps, from which the same steps are read
 pub record WritesThreaded (protocol : Protocol) (shape : Extent) (rows : List Row) (old new : Option (List ℕ)) : Type 0 where
   pub steps : List Step
   pub threaded : Threaded protocol shape rows steps
-  pub output : Appends old new (steps_text shape steps)
+  pub again : steps_of protocol shape (text_of protocol shape steps) ≡ Ok steps
+  pub output : Appends old new (text_of protocol shape steps)
 
--- the writer got a beginning of them
+-- the writer got a beginning of such a text
 pub record BeginsThreaded (protocol : Protocol) (shape : Extent) (rows : List Row) (old new : Option (List ℕ)) : Type 0 where
   pub steps : List Step
   pub threaded : Threaded protocol shape rows steps
-  pub output : AppendsFront old new (steps_text shape steps)
+  pub again : steps_of protocol shape (text_of protocol shape steps) ≡ Ok steps
+  pub output : AppendsFront old new (text_of protocol shape steps)
 
 -- what was written for the rows that were read: all the steps, or a beginning of them, or nothing, where the threads were refused
 abbrev pub Outputs : Protocol → Extent → List Row → Result (Unit {0}) ThreadsFault → Option (List ℕ) → Option (List ℕ) → Type 0

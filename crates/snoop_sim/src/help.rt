@@ -13,8 +13,8 @@ macro_rules! help {
     };
     (@ [$($text:literal)*] numbers $($rest:tt)*) => {
         help!(@ [$($text)* "
-Numbers are decimal, or hexadecimal after 0x. An address is in bytes. A block has one
-value: a load from any of its addresses reads what was last stored to any of them."] $($rest)*)
+Numbers are decimal, or hexadecimal after 0x. An address is in bytes. A block has
+--words values, each of an equal part of its bytes (of 8 or more, if there are several)."] $($rest)*)
     };
     (@ [$($text:literal)*] replies $($rest:tt)*) => {
         help!(@ [$($text)* "
@@ -31,14 +31,14 @@ Each step has a line of output: the step, a colon and the reply.
         help!(@ [$($text)* "
 Then the report: loads and stores performed, and the hits among them; requests
 ordered; responses from memory and from caches; writebacks, with the clean and the
-stale ones; and the last value stored in each block."] $($rest)*)
+stale ones; and the last value stored in each word of each block."] $($rest)*)
     };
     (@ [$($text:literal)*] faults $letters:literal $counts:literal $($rest:tt)*) => {
         help!(@ [$($text)* "
 
 One fault refuses the whole text. The message names the first faulty record (blank
 lines are not counted):
-  BadKind    no capital " $letters " at the line's head (no header, no comments)
+  BadKind    no capital " $letters " at the line's head (no column names, no comments)
   BadFields  " $counts "
   BadNumber  not decimal or 0x.., or above 2^64 - 1; blanks, signs and comments are
              not allowed
@@ -67,13 +67,13 @@ handed in by `<`:
 
 `steps` and `run` write a line for each step, which ends with the machine's reply
 (hit, store hit, issued, ordered, Data, NoData, gone, absent, refused), and then a
-report: counts, and the last value of each block. `snoop COMMAND --help` says more.
+report: counts, and the last values of each block. `snoop COMMAND --help` says more.
 
 Exit statuses:
   0  done, even where steps were refused
   1  the text was refused, or could not be read (Read); nothing was written
-  2  the command line was refused, or the shape (BadCores, BadBlocks, BadBytes:
-     outside the limits of its options); nothing was written
+  2  the command line was refused, or the shape (BadCores, BadBlocks, BadBytes,
+     BadWords: outside the limits of its options); nothing was written
   3  out of memory; the output may be cut short
   4  a write failed; the output may be cut short
   5  the threads of `snoop threads` were refused; nothing was written
@@ -98,6 +98,9 @@ Example: printf 'L,0,0\\nO,0\\nR,0\\n' | snoop steps"
     "
 All counts 0? A text without O and R is for `snoop run`."
     faults "L, S, E, O or R" "L and E take 2 numbers, S 3, O and R 1"
+    "
+  OtherShape the heading V,2,protocol,cores,blocks,block-bytes,words has other options
+  BadVersion a first line with V has another number than 2 there"
     more
 );
 
@@ -116,7 +119,7 @@ lets the cores go side by side. To keep the order of the whole text, as of a tra
     report
     faults "L, S or E" "L and E take 2 numbers, S 3"
     "
-A text with O and R is for `snoop steps`."
+A text with V, O or R is for `snoop steps`."
     more
 );
 
@@ -128,13 +131,13 @@ pub(crate) static THREADS: &str = help!(
 Example: printf 'S,0,0,5\\nL,1,0\\n' | snoop threads
 
 Each core's lines are done in a thread of its own, in their order. The output is a
-text of steps, for `snoop steps` with the same options, which writes their replies
-and the report (see `snoop steps --help`):
+text of steps, for `snoop steps` with the same options, which its first line names;
+that writes their replies and the report (see `snoop steps --help`):
   snoop threads --cores 4 < FILE | snoop steps --cores 4
 It is one possible order, which may differ from run to run, and measures nothing."
     faults "L, S or E" "L and E take 2 numbers, S 3"
     "
-A text with O and R is for `snoop steps`."
+A text with V, O or R is for `snoop steps`."
     more
 );
 

@@ -108,6 +108,12 @@ fn simulation<'a>(
             "block-bytes",
             "64",
             "Bytes of a block, a power of two up to 4096",
+        ))?
+        .arg(number(
+            alloc,
+            "words",
+            "1",
+            "Words of a block, a power of two up to 64",
         ))
 }
 
@@ -171,10 +177,11 @@ fn which_in(options: &ArgMatches) -> Which
 fn shape_in(options: &ArgMatches) -> Result<Shape, ShapeFault>
     ensures { IsShapeOf (rows_of (found_of options.now)) result }
 {
-    Shape::new(
+    Shape::with_words(
         number_in(options, "cores"),
         number_in(options, "blocks"),
         number_in(options, "block-bytes"),
+        number_in(options, "words"),
     )
 }
 

@@ -1,9 +1,10 @@
 //! What the program does with its words and streams, and the status that it ends with.
-ghost use Rattle.std.specs.Prelude.{◌≡◌, ◌≢◌, ◌<◌, ℕ, List, map, string_bytes, true, Err, IfErr};
+ghost use Rattle.std.specs.Prelude.{◌≡◌, ◌≢◌, ◌<◌, ℕ, List, map, string_bytes, false, true, Some, Err, IfErr};
 ghost use Rattle.std.specs.IoError.{error_kind};
 ghost use Rattle.snoop_trace.specs.Output.{BlamesWriter};
+ghost use Rattle.snoop_trace.specs.Text.{BlamesReader};
 ghost use Rattle.snoop_sim.specs.Status.{status_of};
-ghost use Rattle.snoop_sim.specs.Performed.{Ends, IsFairToReader, Leaves, Performs, Writes, status_of_ending};
+ghost use Rattle.snoop_sim.specs.Performed.{Ends, IsFailedRead, Leaves, Performs, Writes, status_of_ending};
 
 use crate::failure::Failure;
 use crate::options::{Task, task_in};
@@ -23,21 +24,23 @@ use std::thread::Threads;
 /// to `errors` in one line, a command line that is not understood in `clap`'s text. After 1, 2 and 5 nothing was written, after
 /// 3 and 4 a beginning of the output. `does` has all of this, where `clap` says what the words ask for; what is reported to
 /// `errors`, and the text of a help, are tested.
-pub fn command<T: Threads + Wait + Sync, R: Source + Drop, W: Sink, E: Write>(
+pub fn command<T: Threads + Wait + Sync, R: Source, W: Sink, E: Write>(
     rt: &T,
     alloc: Global,
     words: &[String],
-    reader: R,
+    reader: &mut R,
     writer: &mut W,
     errors: &mut E,
 ) -> u8
-    ensures does { Ends (map string_bytes words.now) R.never_fails (R.remaining reader) result (W.contents writer.old) (W.contents writer.new) }
+    ensures does { Ends (map string_bytes words.now) R.never_fails (R.failed reader.old) (R.failed reader.new) (R.remaining reader.old) result (W.contents writer.old) (W.contents writer.new) }
     ensures known { result < 6 }
     // A text, a command line or a shape is refused, and leaves the writer as it was.
     ensures unwritten { 0 < result → result < 3 → writer.new ≡ writer.old }
     // So do refused threads.
     ensures refused { result ≡ 5 → writer.new ≡ writer.old }
     ensures never_blamed { W.never_fails ≡ true → result ≢ 4 }
+    // Where no read of the reader had failed, and one has failed since, the status is 1.
+    ensures read_blamed { R.failed reader.old ≡ Some false → R.failed reader.new ≡ Some true → result ≡ 1 }
     // Where it is known that no write to the writer had failed, the status is 4 exactly where one fails, and none is tried again.
     ensures blamed { BlamesWriter (W.failed writer.old) (W.failed writer.new) (result ≡ 4) }
 {
@@ -57,15 +60,16 @@ pub fn refuse_words<E: Write>(cause: io::Error, errors: &mut E) -> u8
 }
 
 /// Does what the words ask for.
-fn perform<T: Threads + Wait + Sync, R: Source + Drop, W: Sink>(
+fn perform<T: Threads + Wait + Sync, R: Source, W: Sink>(
     rt: &T,
     alloc: Global,
     words: &[String],
-    reader: R,
+    reader: &mut R,
     writer: &mut W,
 ) -> Result<(), Failure>
-    ensures does { Leaves (map string_bytes words.now) (R.remaining reader) result (W.contents writer.old) (W.contents writer.new) }
-    ensures reads { IsFairToReader R.never_fails (R.remaining reader) result }
+    ensures does { Leaves (map string_bytes words.now) (R.remaining reader.old) result (W.contents writer.old) (W.contents writer.new) }
+    ensures reads { R.never_fails ≡ true → ¬ IsFailedRead result }
+    ensures read_blamed { BlamesReader (R.failed reader.old) (R.failed reader.new) (IsFailedRead result) }
     ensures unwritten { IfErr result (λ failure. status_of failure < 3 → writer.new ≡ writer.old) }
     ensures refused { IfErr result (λ failure. status_of failure ≡ 5 → writer.new ≡ writer.old) }
     ensures never_blamed { IfErr result (λ failure. W.never_fails ≡ true → status_of failure ≢ 4) }
@@ -75,15 +79,16 @@ fn perform<T: Threads + Wait + Sync, R: Source + Drop, W: Sink>(
     perform_task(rt, alloc, task, reader, writer)
 }
 
-fn perform_task<T: Threads + Wait + Sync, R: Source + Drop, W: Sink>(
+fn perform_task<T: Threads + Wait + Sync, R: Source, W: Sink>(
     rt: &T,
     alloc: Global,
     task: Task,
-    reader: R,
+    reader: &mut R,
     writer: &mut W,
 ) -> Result<(), Failure>
-    ensures does { Performs task (R.remaining reader) result (W.contents writer.old) (W.contents writer.new) }
-    ensures reads { IsFairToReader R.never_fails (R.remaining reader) result }
+    ensures does { Performs task (R.remaining reader.old) result (W.contents writer.old) (W.contents writer.new) }
+    ensures reads { R.never_fails ≡ true → ¬ IsFailedRead result }
+    ensures read_blamed { BlamesReader (R.failed reader.old) (R.failed reader.new) (IsFailedRead result) }
     ensures unwritten { IfErr result (λ failure. status_of failure < 3 → writer.new ≡ writer.old) }
     ensures refused { IfErr result (λ failure. status_of failure ≡ 5 → writer.new ≡ writer.old) }
     ensures never_blamed { IfErr result (λ failure. W.never_fails ≡ true → status_of failure ≢ 4) }

@@ -1,8 +1,9 @@
 //! The command `threads`: the rows of a text, each core's in a thread of its own.
-ghost use Rattle.std.specs.Prelude.{◌≡◌, ◌≢◌, ◌<◌, ◌-◌, ◌^◌, true, length, All, Err, None, IfErr, IfOk, OnOk, IsSomeAnd};
+ghost use Rattle.std.specs.Prelude.{◌≡◌, ◌≢◌, true, All, Err, None, IfErr, IfOk, OnOk};
 ghost use Rattle.snoop_cores.specs.Seats.{AreSeats};
 ghost use Rattle.snoop_trace.specs.Grammar.{IsRowWithin};
 ghost use Rattle.snoop_trace.specs.Output.{BlamesWriter};
+ghost use Rattle.snoop_trace.specs.Text.{BlamesReader};
 ghost use Rattle.snoop_trace.specs.declared.fault.TextFault.TheVariants as text_fault;
 ghost use Rattle.snoop_sim.specs.Threaded.{SimulatesThreads, Threaded};
 ghost use Rattle.snoop_cores.specs.Rows.{IsNotLate};
@@ -18,31 +19,33 @@ use std::sync::Wait;
 use std::thread::Threads;
 
 /// Reads a text of rows to its end, and lets each core do its rows in a thread of its own, in the order of the text, on a shared
-/// machine at reset. Writes the steps that were taken as a text, one a line. In which order the threads took them is open.
+/// machine at reset. Writes the steps that were taken as a text: first the protocol and the shape that they are for, then one step a
+/// line. In which order the threads took them is open.
 ///
 /// After `Write` the writer holds a beginning of the steps. After every other fault, where the text or the threads were refused,
 /// it is as it was.
-pub fn simulate_threads<T: Threads + Wait + Sync, R: Source + Drop, W: Sink>(
+pub fn simulate_threads<T: Threads + Wait + Sync, R: Source, W: Sink>(
     rt: &T,
     alloc: Global,
-    reader: R,
+    reader: &mut R,
     writer: &mut W,
     protocol: Protocol,
     shape: Shape,
 ) -> Result<(), ThreadsFault>
-    ensures does { SimulatesThreads protocol shape (R.remaining reader) result (W.contents writer.old) (W.contents writer.new) }
+    ensures does { SimulatesThreads protocol shape (R.remaining reader.old) result (W.contents writer.old) (W.contents writer.new) }
     // A refused text and refused threads leave the writer as it was.
     ensures unwritten { IfErr result (λ fault. IsBeforeWriting fault → writer.new ≡ writer.old) }
 
     // A reader or a writer whose contract rules failure out is never blamed.
-    ensures reads { R.never_fails ≡ true → IsSomeAnd (R.remaining reader) (λ bytes. length bytes < 2 ^ 64 - 1) → result ≢ Err (ThreadsFault.Text text_fault.Read) }
+    ensures reads { R.never_fails ≡ true → result ≢ Err (ThreadsFault.Text text_fault.Read) }
     ensures writes { W.never_fails ≡ true → result ≢ Err (ThreadsFault.Write WriteFault.Write) }
-    // Where it is known that no write to the writer had failed, it is blamed exactly where one fails, and none is tried again.
+    // Where it is known that none of its reads or writes had failed, it is blamed exactly where one fails, and none is tried again.
+    ensures read_blamed { BlamesReader (R.failed reader.old) (R.failed reader.new) (result ≡ Err (ThreadsFault.Text text_fault.Read)) }
     ensures blamed { BlamesWriter (W.failed writer.old) (W.failed writer.new) (result ≡ Err (ThreadsFault.Write WriteFault.Write)) }
 {
     let rows = read_rows(alloc, reader, shape).map_err(ThreadsFault::Text)?;
     let steps = take_rows(rt, alloc, protocol, shape, rows)?;
-    write_steps(alloc, writer, shape, &steps).map_err(ThreadsFault::Write)
+    write_steps(alloc, writer, protocol, shape, &steps).map_err(ThreadsFault::Write)
 }
 
 /// The steps that threads take for the rows.
@@ -80,6 +83,7 @@ fn take_seated<T: Threads + Wait + Sync>(
     ensures ok { IfOk result (λ steps. Threaded shared.now.protocol shared.now.shape rows.now steps.items) }
     ensures err { IfErr result IsOfThreads }
 {
+    shared.shape().within_limits();
     let stops = run_seats(rt, alloc, seats, rows, &Free).map_err(ThreadsFault::Run)?;
     check_stops(&stops)?;
     let gathered = gather(rt, alloc, shared, seats).map_err(ThreadsFault::Gather)?;

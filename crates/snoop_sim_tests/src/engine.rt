@@ -3,7 +3,7 @@
 use snoop_rules::Protocol;
 use snoop_sim::{SimFault, ThreadsFault, simulate_run, simulate_steps, simulate_threads};
 use snoop_trace::streams::{Sink, Source};
-use snoop_trace::{Shape, WriteFault};
+use snoop_trace::{Shape, TextFault, WriteFault};
 use std::alloc::Global;
 use std::sync::Wait;
 use std::test::Fail;
@@ -51,7 +51,7 @@ block 0 value 2
 /// Rows of core 0 alone, so that its thread's steps are known: it stores, evicts and loads in one block.
 const ALONE: &str = "S,0,0,4\nE,0,0\nL,0,0\n";
 
-const ALONE_STEPS: &str = "S,0,0,4\nO,0\nR,0\nE,0,0\nO,0\nR,0\nL,0,0\nO,0\nR,0\n";
+const ALONE_STEPS: &str = "V,2,msi,2,4,64,1\nS,0,0,4\nO,0\nR,0\nE,0,0\nO,0\nR,0\nL,0,0\nO,0\nR,0\n";
 
 /// One of the simulations.
 #[derive(Clone, Copy, Debug, PartialEq, Eq)]
@@ -81,31 +81,50 @@ impl Engine {
         }
     }
 
-    /// What the simulation answers with 2 cores and 4 blocks.
-    pub fn simulate<T: Threads + Wait + Sync, R: Source + Drop, W: Sink>(
+    /// How the simulation ends, with 2 cores and 4 blocks.
+    pub fn simulate<T: Threads + Wait + Sync, R: Source, W: Sink>(
         self,
         rt: &T,
         alloc: Global,
-        reader: R,
+        reader: &mut R,
         writer: &mut W,
         protocol: Protocol,
-    ) -> Result<Result<(), ThreadsFault>, Fail> {
+    ) -> Result<Ended, Fail> {
         let shape = Shape::new(2, 4, 64)?;
-        let ended = match self {
-            Engine::Steps => simulate_steps(alloc, reader, writer, protocol, shape),
-            Engine::Run => simulate_run(alloc, reader, writer, protocol, shape),
-            Engine::Threads => return Ok(simulate_threads(
+        Ok(match self {
+            Engine::Steps => steps_ended(simulate_steps(alloc, reader, writer, protocol, shape)),
+            Engine::Run => steps_ended(simulate_run(alloc, reader, writer, protocol, shape)),
+            Engine::Threads => threads_ended(simulate_threads(
                 rt, alloc, reader, writer, protocol, shape,
             )),
-        };
-        Ok(ended.map_err(fault_of))
+        })
     }
 }
 
-fn fault_of(fault: SimFault) -> ThreadsFault {
-    match fault {
-        SimFault::Text(fault) => ThreadsFault::Text(fault),
-        SimFault::NoMemory => ThreadsFault::Write(WriteFault::NoMemory),
-        SimFault::Write => ThreadsFault::Write(WriteFault::Write),
+/// How a simulation ends.
+#[derive(Clone, Copy, Debug, PartialEq, Eq)]
+pub enum Ended {
+    Done,
+    Text(TextFault),
+    Memory,
+    Write,
+    Otherwise,
+}
+
+fn steps_ended(answer: Result<(), SimFault>) -> Ended {
+    match answer {
+        Ok(()) => Ended::Done,
+        Err(SimFault::Text(fault)) => Ended::Text(fault),
+        Err(SimFault::NoMemory) => Ended::Memory,
+        Err(SimFault::Write) => Ended::Write,
+    }
+}
+
+fn threads_ended(answer: Result<(), ThreadsFault>) -> Ended {
+    match answer {
+        Ok(()) => Ended::Done,
+        Err(ThreadsFault::Text(fault)) => Ended::Text(fault),
+        Err(ThreadsFault::Write(WriteFault::Write)) => Ended::Write,
+        Err(_) => Ended::Otherwise,
     }
 }

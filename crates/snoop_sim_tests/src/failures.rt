@@ -1,13 +1,12 @@
 //! What is answered and left where a reader or a writer fails.
 
-use crate::engine::{ENGINES, Engine};
+use crate::engine::{ENGINES, Ended, Engine};
 use crate::streams::{FailingReader, FailingWriter, Fault};
 use snoop_rules::Protocol;
-use snoop_sim::{ThreadsFault, command};
+use snoop_sim::command;
+use snoop_trace::TextFault;
 use snoop_trace::streams::{AnyReader, AnyWriter};
-use snoop_trace::{TextFault, WriteFault};
 use std::alloc::Global;
-use std::process::Abort;
 use std::sync::Wait;
 use std::test::Fail;
 use std::thread::Threads;
@@ -15,225 +14,187 @@ use std::thread::Threads;
 /// More bytes or calls than any text here needs.
 const AMPLE: usize = 1000;
 
+/// A simulation over a reader that gives so many bytes and a writer that serves so many calls, each of at most some bytes.
+#[derive(Clone, Copy, Debug)]
+struct Trial {
+    engine: Engine,
+    bytes: usize,
+    calls: usize,
+    most: usize,
+    fault: Fault,
+}
+
+impl Trial {
+    /// How it ends. It leaves its output; nothing where the reader fails; a beginning where the writer fails, of a byte or more a
+    /// call, and the writer is not asked again.
+    fn ends<T: Threads + Wait + Sync>(self, rt: &T, alloc: Global) -> Result<Ended, Fail> {
+        let output = self.engine.output();
+        let mut reader = AnyReader::new(FailingReader {
+            text: self.engine.text(),
+            left: self.bytes,
+            most: self.most,
+        });
+        let mut writer = AnyWriter::new(FailingWriter::new(
+            alloc, self.calls, self.most, self.fault,
+        ));
+        let ended = self
+            .engine
+            .simulate(rt, alloc, &mut reader, &mut writer, Protocol::Msi)?;
+        let left = &writer.inner;
+        let is_well = match ended {
+            Ended::Done => left.held.as_slice() == output,
+            Ended::Text(_) => left.held.is_empty(),
+            _ => output.starts_with(&left.held) && left.held.len() >= self.calls && left.failed,
+        };
+        if is_well && left.calls_after == 0 {
+            Ok(ended)
+        } else {
+            Err(self)?
+        }
+    }
+
+    /// How many calls of the writer it needs. With fewer, a write fails.
+    fn calls_needed<T: Threads + Wait + Sync>(self, rt: &T, alloc: Global) -> Result<usize, Fail> {
+        for calls in 0..AMPLE {
+            let trial = Trial { calls, ..self };
+            match trial.ends(rt, alloc)? {
+                Ended::Write => {}
+                Ended::Done => return Ok(calls),
+                _ => Err(trial)?,
+            }
+        }
+        Err(self)?
+    }
+}
+
 #[test]
 fn readers_that_fail(rt: HostRuntime) -> Result<(), Fail> {
-    let alloc = rt.alloc();
     for engine in ENGINES {
-        let text = engine.text();
         for most in [1, AMPLE] {
-            for left in 0..text.len() + 1 {
-                let reader = AnyReader(FailingReader { text, left, most });
-                let mut written = Vec::new(alloc);
-                let ended = engine.simulate(&rt, alloc, reader, &mut written, Protocol::Msi)?;
-                assert_eq!(rt;
-                    (ended, written.len()),
-                    (Err(ThreadsFault::Text(TextFault::Read)), 0),
-                    "{engine:?} after {left}"
-                );
+            for bytes in 0..engine.text().len() + 1 {
+                let trial = Trial {
+                    engine,
+                    bytes,
+                    calls: AMPLE,
+                    most,
+                    fault: Fault::Refuses,
+                };
+                let ended = trial.ends(&rt, rt.alloc())?;
+                assert_eq!(rt; ended, Ended::Text(TextFault::Read), "{trial:?}");
             }
-            let left = AMPLE;
-            let reader = AnyReader(FailingReader { text, left, most });
-            let mut written = Vec::new(alloc);
-            let ended = engine.simulate(&rt, alloc, reader, &mut written, Protocol::Msi)?;
-            assert_eq!(rt;
-                (ended, written.as_slice()),
-                (Ok(()), engine.output()),
-                "{engine:?}"
-            );
         }
-        let reader = AnyReader(FailingReader {
-            text: b"L,0,0\nX,0\nL,0,0\n",
-            left: 12,
-            most: 1,
-        });
-        let mut written = Vec::new(alloc);
-        let ended = engine.simulate(&rt, alloc, reader, &mut written, Protocol::Msi)?;
-        assert_eq!(rt;
-            (ended, written.len()),
-            (Err(ThreadsFault::Text(TextFault::BadKind(2))), 0),
-            "{engine:?}"
-        );
     }
     Ok(())
 }
 
-/// Fails at each call in turn, until a run meets no failure; answers how many calls that run needs.
-fn fails_at_each_call<T: Abort + Threads + Wait + Sync>(
-    rt: &T,
-    alloc: Global,
-    engine: Engine,
-    most: usize,
-    fault: Fault,
-) -> Result<usize, Fail> {
-    let output = engine.output();
-    for calls in 0..AMPLE {
-        let mut writer = AnyWriter::new(FailingWriter::new(alloc, calls, most, fault));
-        let ended = engine.simulate(rt, alloc, engine.text(), &mut writer, Protocol::Msi)?;
-        let writer = writer.inner;
-        let held = writer.held.as_slice();
-        if !writer.failed {
-            assert_eq!(rt; (ended, held), (Ok(()), output), "{engine:?}");
-            return Ok(calls);
-        }
-        assert_eq!(rt;
-            (
-                ended,
-                output.starts_with(held),
-                held.len() >= calls,
-                writer.calls_after
-            ),
-            (Err(ThreadsFault::Write(WriteFault::Write)), true, true, 0),
-            "{engine:?} at call {calls}"
-        );
+/// A reader that gives two records of a text, of which the second is at fault, and then fails.
+#[test]
+fn a_fault_before_a_failing_read_is_named(rt: HostRuntime) -> Result<(), Fail> {
+    for engine in ENGINES {
+        let mut reader = AnyReader::new(FailingReader {
+            text: b"L,0,0\nX,0\nL,0,0\n",
+            left: 12,
+            most: 1,
+        });
+        let mut written = Vec::new(rt.alloc());
+        let ended = engine.simulate(&rt, rt.alloc(), &mut reader, &mut written, Protocol::Msi)?;
+        assert_eq!(rt; ended, Ended::Text(TextFault::BadKind(2)), "{engine:?}");
+        assert!(rt; written.is_empty());
     }
-    Ok(AMPLE)
+    Ok(())
 }
 
 #[test]
 fn writers_that_fail(rt: HostRuntime) -> Result<(), Fail> {
     for engine in ENGINES {
         for fault in [Fault::Refuses, Fault::TakesNothing] {
-            let single = fails_at_each_call(&rt, rt.alloc(), engine, 1, fault)?;
-            let large = fails_at_each_call(&rt, rt.alloc(), engine, AMPLE, fault)?;
-            assert_eq!(rt;
-                (single, large > 0),
-                (engine.output().len(), true),
-                "{engine:?}"
-            );
+            let trial = Trial {
+                engine,
+                bytes: AMPLE,
+                calls: 0,
+                most: 1,
+                fault,
+            };
+            let single = trial.calls_needed(&rt, rt.alloc())?;
+            let large = Trial {
+                most: AMPLE,
+                ..trial
+            }
+            .calls_needed(&rt, rt.alloc())?;
+            assert!(rt; single == engine.output().len() && large > 0, "{trial:?}");
         }
     }
     Ok(())
 }
 
-/// A command line over an engine's text, the bytes that its reader gives, the calls that its output and its errors serve, the status that it
-/// ends with and what it reports. With status 0 the output is whole, and else nothing is written.
-type Case = (&'static str, Engine, usize, usize, usize, u8, &'static str);
+/// The bytes that the reader gives, the calls that the output and the errors serve, the status and what is reported. With status 0
+/// the output is whole, and else nothing is written.
+type Case = (usize, usize, usize, u8, &'static str);
 
-static CASES: [Case; 16] = [
-    ("snoop steps", Engine::Steps, AMPLE, AMPLE, AMPLE, 0, ""),
-    ("snoop run", Engine::Run, AMPLE, AMPLE, AMPLE, 0, ""),
-    ("snoop threads", Engine::Threads, AMPLE, AMPLE, AMPLE, 0, ""),
-    (
-        "snoop steps",
-        Engine::Steps,
-        10,
-        AMPLE,
-        AMPLE,
-        1,
-        "snoop: Read\n",
-    ),
-    (
-        "snoop run",
-        Engine::Run,
-        10,
-        AMPLE,
-        AMPLE,
-        1,
-        "snoop: Read\n",
-    ),
-    (
-        "snoop threads",
-        Engine::Threads,
-        10,
-        AMPLE,
-        AMPLE,
-        1,
-        "snoop: Read\n",
-    ),
-    (
-        "snoop steps",
-        Engine::Steps,
-        AMPLE,
-        0,
-        AMPLE,
-        4,
-        "snoop: Write\n",
-    ),
-    (
-        "snoop run",
-        Engine::Run,
-        AMPLE,
-        0,
-        AMPLE,
-        4,
-        "snoop: Write\n",
-    ),
-    (
-        "snoop threads",
-        Engine::Threads,
-        AMPLE,
-        0,
-        AMPLE,
-        4,
-        "snoop: Write\n",
-    ),
-    (
-        "snoop --help",
-        Engine::Steps,
-        AMPLE,
-        0,
-        AMPLE,
-        4,
-        "snoop: Write\n",
-    ),
-    (
-        "snoop table",
-        Engine::Steps,
-        AMPLE,
-        0,
-        AMPLE,
-        4,
-        "snoop: Write\n",
-    ),
-    ("snoop steps", Engine::Steps, 10, AMPLE, 0, 1, ""),
-    ("snoop run", Engine::Run, 10, AMPLE, 0, 1, ""),
-    ("snoop threads", Engine::Threads, 10, AMPLE, 0, 1, ""),
-    (
-        "snoop steps --cores 0",
-        Engine::Steps,
-        AMPLE,
-        AMPLE,
-        0,
-        2,
-        "",
-    ),
-    ("snoop", Engine::Steps, AMPLE, AMPLE, 0, 2, ""),
+/// What happens to each command that simulates.
+static CASES: [Case; 4] = [
+    (AMPLE, AMPLE, AMPLE, 0, ""),
+    (10, AMPLE, AMPLE, 1, "snoop: Read\n"),
+    (10, AMPLE, 0, 1, ""),
+    (AMPLE, 0, AMPLE, 4, "snoop: Write\n"),
 ];
+
+static REFUSED_WRITE: Case = (AMPLE, 0, AMPLE, 4, "snoop: Write\n");
+
+/// The errors take nothing.
+static REFUSED_WORDS: Case = (AMPLE, AMPLE, 0, 2, "");
+
+/// Runs a command line on an engine's text.
+fn run<T: Threads + Wait + Sync>(
+    rt: &T,
+    alloc: Global,
+    line: &'static str,
+    engine: Engine,
+    case: Case,
+) -> Result<(), Fail> {
+    let (bytes, calls, errors_calls, status, reported) = case;
+    let mut words = Vec::new(alloc);
+    for word in line.split(' ') {
+        words.push(String::from_str(alloc, word)?)?;
+    }
+    let mut reader = AnyReader::new(FailingReader {
+        text: engine.text(),
+        left: bytes,
+        most: AMPLE,
+    });
+    let mut output = AnyWriter::new(FailingWriter::new(alloc, calls, AMPLE, Fault::Refuses));
+    let mut errors = FailingWriter::new(alloc, errors_calls, AMPLE, Fault::Refuses);
+    let ended = command(rt, alloc, &words, &mut reader, &mut output, &mut errors);
+    let written = if status == 0 { engine.output() } else { b"" };
+    let output = &output.inner;
+    if ended == status
+        && errors.held.as_slice() == reported.as_bytes()
+        && output.held.as_slice() == written
+        && output.calls_after == 0
+        && errors.calls_after == 0
+    {
+        Ok(())
+    } else {
+        Err((line, case))?
+    }
+}
 
 #[test]
 fn commands(rt: HostRuntime) -> Result<(), Fail> {
     let alloc = rt.alloc();
-    for (line, engine, left, calls, errors_calls, status, reported) in CASES {
-        let mut words = Vec::new(alloc);
-        for word in line.split(' ') {
-            words.push(String::from_str(alloc, word)?)?;
-        }
-        let reader = AnyReader(FailingReader {
-            text: engine.text(),
-            left,
-            most: AMPLE,
-        });
-        let mut output = AnyWriter::new(FailingWriter::new(alloc, calls, AMPLE, Fault::Refuses));
-        let mut errors = FailingWriter::new(alloc, errors_calls, AMPLE, Fault::Refuses);
-        let ended = command(
-            &rt,
-            alloc,
-            words.as_slice(),
-            reader,
-            &mut output,
-            &mut errors,
-        );
-        let written = if status == 0 { engine.output() } else { b"" };
-        assert_eq!(rt;
-            (ended, errors.held.as_slice(), output.inner.held.as_slice()),
-            (status, reported.as_bytes(), written),
-            "{line}"
-        );
-        assert_eq!(rt;
-            (output.inner.calls_after, errors.calls_after),
-            (0, 0),
-            "{line}"
-        );
+    for case in CASES {
+        run(&rt, alloc, "snoop steps", Engine::Steps, case)?;
+        run(&rt, alloc, "snoop run", Engine::Run, case)?;
+        run(&rt, alloc, "snoop threads", Engine::Threads, case)?;
     }
-    Ok(())
+    run(&rt, alloc, "snoop --help", Engine::Steps, REFUSED_WRITE)?;
+    run(&rt, alloc, "snoop table", Engine::Steps, REFUSED_WRITE)?;
+    run(
+        &rt,
+        alloc,
+        "snoop steps --cores 0",
+        Engine::Steps,
+        REFUSED_WORDS,
+    )?;
+    run(&rt, alloc, "snoop", Engine::Steps, REFUSED_WORDS)
 }

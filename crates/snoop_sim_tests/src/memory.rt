@@ -1,8 +1,7 @@
 //! Whole outputs. With any one growth refused, each is a beginning of itself: tools/refusals.py refuses each in turn.
 
-use crate::engine::Engine;
+use crate::engine::{Ended, Engine};
 use snoop_rules::Protocol;
-use snoop_sim::ThreadsFault;
 use snoop_trace::TextFault;
 use std::alloc::Global;
 use std::process::Abort;
@@ -10,15 +9,28 @@ use std::sync::Wait;
 use std::test::Fail;
 use std::thread::Threads;
 
-/// Whether this is what a simulation may leave in a vector: the whole output, or a beginning of it where a growth was refused. A
-/// refused text leaves nothing. A vector that can't grow is a writer that fails.
-fn is_left(ended: Result<(), ThreadsFault>, written: &[u8], whole: &[u8]) -> bool {
+/// Whether this is what a simulation may leave in a vector: the whole output, or a beginning of it where a growth was refused, and
+/// nothing where reading was out of memory. A vector that can't grow is a writer that fails.
+fn is_left(ended: Ended, written: &[u8], whole: &[u8]) -> bool {
     match ended {
-        Ok(()) => written == whole,
-        Err(ThreadsFault::Text(fault)) => fault == TextFault::NoMemory && written.is_empty(),
-        Err(ThreadsFault::Write(_)) => whole.starts_with(written),
-        Err(_) => false,
+        Ended::Done => written == whole,
+        Ended::Text(TextFault::NoMemory) => written.is_empty(),
+        Ended::Memory | Ended::Write => whole.starts_with(written),
+        _ => false,
     }
+}
+
+/// How a simulation ends, and whether it leaves what it may.
+fn simulate<T: Threads + Wait + Sync>(
+    rt: &T,
+    alloc: Global,
+    engine: Engine,
+    protocol: Protocol,
+) -> Result<(Ended, bool), Fail> {
+    let mut written = Vec::new(alloc);
+    let ended = engine.simulate(rt, alloc, &mut engine.text(), &mut written, protocol)?;
+    let is_left = is_left(ended, &written, engine.output());
+    Ok((ended, is_left))
 }
 
 /// Runs the text twice: of two runs the refused growth meets one.
@@ -28,18 +40,12 @@ fn leaves_a_beginning<T: Abort + Threads + Wait + Sync>(
     engine: Engine,
 ) -> Result<(), Fail> {
     for protocol in [Protocol::Msi, Protocol::Mesi] {
-        let mut written = Vec::new(alloc);
-        let ended = engine.simulate(rt, alloc, engine.text(), &mut written, protocol)?;
-        let mut again = Vec::new(alloc);
-        let second = engine.simulate(rt, alloc, engine.text(), &mut again, protocol)?;
-        assert_eq!(rt;
-            (
-                is_left(ended, written.as_slice(), engine.output()),
-                is_left(second, again.as_slice(), engine.output()),
-                ended.is_ok() || second.is_ok(),
-            ),
-            (true, true, true),
-            "{protocol:?}"
+        let (first, is_first_left) = simulate(rt, alloc, engine, protocol)?;
+        let (second, is_second_left) = simulate(rt, alloc, engine, protocol)?;
+        assert!(rt; is_first_left && is_second_left, "{first:?} {second:?}");
+        assert!(rt;
+            first == Ended::Done || second == Ended::Done,
+            "{first:?} {second:?}"
         );
     }
     Ok(())

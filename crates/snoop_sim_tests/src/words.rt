@@ -2,56 +2,22 @@
 
 use crate::streams::{FailingWriter, Fault};
 use snoop_sim::refuse_words;
-use std::env::{Env, FillError};
 use std::io;
+use std::io::ErrorKind;
 use std::test::Fail;
-
-/// A process with these words, and no variables.
-#[derive(Clone, Copy)]
-struct Process {
-    words: &'static [&'static [u8]],
-}
-
-impl Env for Process {
-    fn arg(&self, i: usize, buf: &mut [u8]) -> Result<usize, FillError> {
-        let word = self.words.get(i).ok_or(FillError::NotPresent)?;
-        let room = buf.get_mut(..word.len()).ok_or(FillError::TooLong)?;
-        room.copy_from_slice(word);
-        Ok(word.len())
-    }
-
-    fn var(&self, _name: &str, _buf: &mut [u8]) -> Result<usize, FillError> {
-        Err(FillError::NotPresent)
-    }
-
-    fn var_at(&self, _i: usize, _buf: &mut [u8]) -> Result<usize, FillError> {
-        Err(FillError::NotPresent)
-    }
-}
-
-static WORDS: [&[u8]; 2] = [b"snoop", b"st\xff"];
 
 /// A word that is not UTF-8 and words without memory are reported, and a standard error that fails is tried once.
 #[test]
 fn refused_words(rt: HostRuntime) -> Result<(), Fail> {
-    let alloc = rt.alloc();
-    let process = Process {
-        words: WORDS.as_slice(),
-    };
-    let not_utf8 = std::env::args(&(process, alloc)).err().ok_or("words")?;
-    let out_of_memory = io::Error::from(io::ErrorKind::OutOfMemory);
-    let other = io::Error::from(io::ErrorKind::InvalidData);
-    for (cause, calls, status, reported) in [
-        (not_utf8, 10, 2, b"snoop: NotUtf8\n".as_slice()),
-        (out_of_memory, 10, 3, b"snoop: NoMemory\n".as_slice()),
-        (other, 0, 2, b"".as_slice()),
+    for (kind, calls, status, reported) in [
+        (ErrorKind::InvalidData, 10, 2, "snoop: NotUtf8\n"),
+        (ErrorKind::OutOfMemory, 10, 3, "snoop: NoMemory\n"),
+        (ErrorKind::InvalidData, 0, 2, ""),
     ] {
-        let mut errors = FailingWriter::new(alloc, calls, 100, Fault::Refuses);
-        let answered = refuse_words(cause, &mut errors);
-        assert_eq!(rt;
-            (answered, errors.held.as_slice(), errors.calls_after),
-            (status, reported, 0)
-        );
+        let mut errors = FailingWriter::new(rt.alloc(), calls, 100, Fault::Refuses);
+        let answered = refuse_words(io::Error::from(kind), &mut errors);
+        let is_reported = errors.held.as_slice() == reported.as_bytes() && errors.calls_after == 0;
+        assert!(rt; answered == status && is_reported, "{reported}");
     }
     Ok(())
 }

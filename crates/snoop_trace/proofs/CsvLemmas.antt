@@ -1,9 +1,9 @@
 -- How the records of a text follow one another.
-use Rattle.std.proofs.Common.{◌≡◌, ◌≤◌, ◌<◌, ℕ, ◌+◌, List, [], ◌∷◌, ◌++◌, length, Some, None, true, false, refl, sym, ◌∙◌, arith, ap, inl, inr}
+use Rattle.std.proofs.Common.{◌≡◌, ◌≤◌, ◌<◌, ℕ, ◌+◌, List, [], ◌∷◌, ◌++◌, length, Option, Some, None, true, false, refl, sym, ◌∙◌, arith, ap, inl, inr}
 use Rattle.std.specs.Prelude.{zero, suc, Bool, if◌then◌else◌, ◌==◌, ◌&&◌}
 use Rattle.std.proofs.lemmas.Bool.{cases_Bool, false≢true}
 use Rattle.csv.specs.Machine.{Read, next_record, step, is_end, ends_at_end, fields_after, field_after, after_end, in_field, start_field, start_record, ends_with, is_byte, line_feed, carriage_return}
-use Rattle.csv.specs.Reading.{Reached, records_from}
+use Rattle.csv.specs.Reading.{Reached, records_from, records_next}
 use Rattle.csv.specs.declared.parser.Action.{Action}
 use Rattle.csv.specs.declared.parser.Action.TheVariants as act
 use Rattle.csv.specs.declared.parser.Config.{Config}
@@ -123,3 +123,43 @@ reached-shorter cfg s xs (r ∷ rows) s2 ys e h =
     let short = record-shorter cfg s [] [] xs p next in
     let rest = reached-shorter cfg p.1 p.2 rows s2 ys short.fresh later in
     omega (arith, short.less e, rest)
+
+-- from any state, no more than one record more than bytes
+pub reached-most : (cfg : Config) (s : State) (xs : List ℕ) (rows : List (List (List ℕ))) (s2 : State) (ys : List ℕ)
+    → Reached cfg s xs rows s2 ys → length rows + length ys ≤ length xs + 1
+unfolding Reached
+reached-most cfg s xs [] s2 ys h = omega (arith, ap length h.1)
+reached-most cfg s xs (r ∷ rows) s2 ys h =
+    let (p, next, is, later) = h in
+    let short = record-shorter cfg s [] [] xs p next in
+    let rest = reached-shorter cfg p.1 p.2 rows s2 ys short.fresh later in
+    omega (arith, short.most, rest)
+
+-- the same after the next record is the same
+same_next : (f g : State → List ℕ → List (List (List ℕ))) (o : Option Read) → ((p : Read) → o ≡ Some p → f p.1 p.2 ≡ g p.1 p.2) → records_next f o ≡ records_next g o
+same_next f g None h = refl
+same_next f g (Some p) h = ap (λ (rest : List (List (List ℕ))). p.0 ∷ rest) (h p refl)
+
+-- where no record is begun, a bound above the bytes that are left gives the same records as any other
+pub records-same : (cfg : Config) (m n : ℕ) (s : State) (xs : List ℕ) → ends_at_end s ≡ false → length xs < m → length xs < n
+    → records_from cfg m s xs ≡ records_from cfg n s xs
+unfolding records_from
+records-same cfg zero n s xs fresh h k = absurd (omega arith)
+records-same cfg (suc m) zero s xs fresh h k = absurd (omega arith)
+records-same cfg (suc m) (suc n) s xs fresh h k =
+    same_next (records_from cfg m) (records_from cfg n) (next_record cfg s [] [] xs) (λ p next.
+    let short = record-shorter cfg s [] [] xs p next in
+    records-same cfg m n p.1 p.2 short.fresh (omega (arith, short.less fresh)) (omega (arith, short.less fresh)))
+
+reached_none : (cfg : Config) (xs : List ℕ) → Reached cfg st.StartRecord xs [] st.StartRecord xs
+unfolding Reached
+reached_none cfg xs = (refl, refl)
+
+-- the first record of a text, and the records that are left
+pub records_second : (cfg : Config) (xs : List ℕ) (f : List (List ℕ)) (s : State) (ys : List ℕ) → next_record cfg st.StartRecord [] [] xs ≡ Some (f, s, ys)
+    → records_from cfg (length xs + 1) st.StartRecord xs ≡ f ∷ records_from cfg (length ys + 1) s ys
+records_second cfg xs f s ys next =
+    let short = record-shorter cfg st.StartRecord [] [] xs (f, s, ys) next in
+    let reached : Reached cfg st.StartRecord xs (f ∷ []) s ys = reached_more cfg st.StartRecord xs [] st.StartRecord xs f s ys (reached_none cfg xs) next in
+    records-reached cfg (length xs) st.StartRecord xs (f ∷ []) s ys reached (length xs + 1) (omega arith)
+    ∙ ap (λ (rest : List (List (List ℕ))). f ∷ rest) (records-same cfg (length xs) (length ys + 1) s ys short.fresh (omega (arith, short.less refl)) (omega arith))

@@ -3,6 +3,7 @@ use Rattle.std.proofs.Common.{◌≡◌, ◌<◌, ℕ, List, [], ◌∷◌, leng
 use Rattle.std.specs.Prelude.{zero, suc}
 use Rattle.csv.specs.Records.{field_at}
 use Rattle.snoop_trace.specs.Grammar.{letter_of, one_of, three_of, two_of}
+use Rattle.snoop_trace.specs.Heading.{five_of, version_of}
 
 pub one_at : (fs : List (List ℕ)) → length fs ≡ 2 → field_at fs 1 ≡ one_of fs
 unfolding field_at
@@ -33,6 +34,27 @@ three_at (k ∷ x ∷ []) a b c h p q r = absurd (omega arith)
 three_at (k ∷ x ∷ y ∷ []) a b c h p q r = absurd (omega arith)
 three_at (k ∷ x ∷ y ∷ z ∷ []) a b c h p q r = let one : a ≡ x = cc in let two : b ≡ y = cc in let three : c ≡ z = cc in rw (one, two, three) refl
 three_at (k ∷ x ∷ y ∷ z ∷ w ∷ fs) a b c h p q r = absurd (omega arith)
+
+pub version_at : (fs : List (List ℕ)) → field_at fs 1 ≡ version_of fs
+unfolding field_at
+version_at [] = refl
+version_at (k ∷ []) = refl
+version_at (k ∷ v ∷ fs) = refl
+
+pub five_at : (fs : List (List ℕ)) (a b c d e : List ℕ) → length fs ≡ 7
+    → Some a ≡ field_at fs 2 → Some b ≡ field_at fs 3 → Some c ≡ field_at fs 4 → Some d ≡ field_at fs 5 → Some e ≡ field_at fs 6 → Some (a, b, c, d, e) ≡ five_of fs
+unfolding field_at
+five_at [] a b c d e h p q r s t = absurd (omega arith)
+five_at (k ∷ []) a b c d e h p q r s t = absurd (omega arith)
+five_at (k ∷ v ∷ []) a b c d e h p q r s t = absurd (omega arith)
+five_at (k ∷ v ∷ u ∷ []) a b c d e h p q r s t = absurd (omega arith)
+five_at (k ∷ v ∷ u ∷ w ∷ []) a b c d e h p q r s t = absurd (omega arith)
+five_at (k ∷ v ∷ u ∷ w ∷ x ∷ []) a b c d e h p q r s t = absurd (omega arith)
+five_at (k ∷ v ∷ u ∷ w ∷ x ∷ y ∷ []) a b c d e h p q r s t = absurd (omega arith)
+five_at (k ∷ v ∷ u ∷ w ∷ x ∷ y ∷ z ∷ []) a b c d e h p q r s t =
+    let one : a ≡ u = cc in let two : b ≡ w = cc in let three : c ≡ x = cc in let four : d ≡ y = cc in let five : e ≡ z = cc in
+    rw (one, two, three, four, five) refl
+five_at (k ∷ v ∷ u ∷ w ∷ x ∷ y ∷ z ∷ f ∷ fs) a b c d e h p q r s t = absurd (omega arith)
 
 pub no_letter : (fs : List (List ℕ)) → field_at fs 0 ≡ None → None ≡ letter_of fs
 unfolding field_at

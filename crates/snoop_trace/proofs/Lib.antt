@@ -1,4 +1,6 @@
 pub mod PowerLemmas
+pub mod WordPlaces
+pub mod Padded
 pub mod NumeralLemmas
 pub mod FieldLemmas
 pub mod RecordLemmas

@@ -3,8 +3,12 @@ use Rattle.std.proofs.Common.{◌≡◌, ℕ, ◌+◌, List, [], ◌∷◌, ◌+
 use Rattle.std.specs.Prelude.{◌-◌, zero, suc}
 use Rattle.std.specs.Io.KnownBytes.{Appends, Keeps}
 use Rattle.std.proofs.lemmas.List.{append-nil, length-drop, take-append-drop, take_all}
-use Rattle.std.specs.Prelude.{Result, Ok, Err, OnErr}
-use Rattle.snoop_trace.specs.Output.{AppendsFront}
+use Rattle.std.specs.Prelude.{codes, Result, Ok, Err, OnOk, OnErr}
+use Rattle.snoop_trace.specs.Extent.{Extent}
+use Rattle.snoop_trace.specs.Heading.{heading_for, heading_text}
+use Rattle.snoop_trace.specs.Output.{AppendsFront, steps_text, text_of}
+use Rattle.snoop_trace.specs.declared.protocol.Protocol.{Protocol}
+use Rattle.snoop_trace.specs.declared.step.Step.{Step}
 
 pub appends_more : (a b c : Option (List ℕ)) (x y : List ℕ) → Appends a b x → Appends b c y → Appends a c (x ++ y)
 appends_more None b c x y p q = tt
@@ -39,6 +43,10 @@ pub appends_none : (a : Option (List ℕ)) → Appends a a []
 appends_none None = tt
 appends_none (Some xs) = sym (append-nil xs)
 
+-- nothing was written of a text
+pub appends_none_of : (a : Option (List ℕ)) (text : List ℕ) → AppendsFront a a text
+appends_none_of a text = record { front = []; rest = text; whole = refl; appends = appends_none a }
+
 pub on_err : {T E : Type 0} (r : Result T E) (P : Type 0) → P → OnErr r P
 on_err (Ok x) P p = tt
 on_err (Err e) P p = p
@@ -46,3 +54,21 @@ on_err (Err e) P p = p
 pub on_err_at : {T E : Type 0} (r : Result T E) (P Q : Type 0) → (P → Q) → OnErr r P → OnErr r Q
 on_err_at (Ok x) P Q f p = tt
 on_err_at (Err e) P Q f p = f p
+
+-- a beginning of a text is one of a longer text
+pub front_cut : (a b : Option (List ℕ)) (x y : List ℕ) → AppendsFront a b x → AppendsFront a b (x ++ y)
+front_cut a b x y f = record { front = f.front; rest = f.rest ++ y; whole = ap (λ (t : List ℕ). t ++ y) f.whole ∙ append_assoc f.front f.rest y; appends = f.appends }
+
+-- a text, and then a beginning of another
+pub front_after : (a b c : Option (List ℕ)) (x y : List ℕ) → Appends a b x → AppendsFront b c y → AppendsFront a c (x ++ y)
+front_after a b c x y p f =
+    record { front = x ++ f.front; rest = f.rest; whole = ap (λ (t : List ℕ). x ++ t) f.whole ∙ sym (append_assoc x f.front f.rest); appends = appends_more a b c x f.front p f.appends }
+
+pub on_ok_at : {T E : Type 0} (r : Result T E) (P Q : Type 0) → (P → Q) → OnOk r P → OnOk r Q
+on_ok_at (Ok x) P Q f p = f p
+on_ok_at (Err e) P Q f p = tt
+
+-- a text of version 2: the line of its heading, and then those of its steps
+pub text_parts : (protocol : Protocol) (shape : Extent) (steps : List Step)
+    → text_of protocol shape steps ≡ (heading_text (heading_for protocol shape) ++ codes "\n") ++ steps_text shape steps
+text_parts protocol shape steps = simp append_assoc refl

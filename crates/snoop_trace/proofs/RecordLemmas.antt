@@ -3,10 +3,12 @@ use Rattle.std.specs.Prelude.{◌≡◌, Result, Ok, Err, IfErr, Bool, true, fal
 use Rattle.std.specs.Option.{ok_or}
 use Rattle.snoop_trace.specs.Extent.{Extent}
 use Rattle.snoop_trace.specs.Grammar.{◌>>=◌, NamesRecord, ask, asked, block_at, block_in, core_in, number, number_in, one_of, order, respond, store, three_of, two_of, without_value}
+use Rattle.snoop_trace.specs.Heading.{five_of, heading_as, heading_in, protocol_in, protocol_named, same_heading, version_in, version_of}
+use Rattle.snoop_trace.specs.declared.heading.Heading.{Heading}
 use Rattle.snoop_trace.specs.declared.step.Op.{Op}
 use Rattle.snoop_trace.specs.declared.step.Op.TheVariants.{Load, Evict}
 use Rattle.snoop_trace.specs.declared.fault.TextFault.{TextFault}
-use Rattle.snoop_trace.specs.declared.fault.TextFault.TheVariants.{BadKind, BadFields, BadNumber, NoCore, NoBlock}
+use Rattle.snoop_trace.specs.declared.fault.TextFault.TheVariants.{BadKind, BadFields, BadNumber, BadVersion, NoCore, NoBlock, OtherShape}
 
 -- a reading whose faults name a record
 names_bind : {A B : Type 0} (r : Result A TextFault) (f : A → Result B TextFault) → IfErr r NamesRecord → ((x : A) → IfErr (f x) NamesRecord) → IfErr (r >>= f) NamesRecord
@@ -77,3 +79,27 @@ names_respond shape n fs =
 -- what is answered as the grammar says names a record where the grammar's fault does
 pub names_as : {A : Type 0} (r said : Result A TextFault) → r ≡ said → IfErr said NamesRecord → IfErr r NamesRecord
 names_as r said e h = rw e h
+
+names_version : (n : ℕ) (fs : List (List ℕ)) → IfErr (version_in n fs) NamesRecord
+unfolding version_in
+names_version n fs =
+    names_bind (ok_or (version_of fs) (BadFields n)) _ (names_or (version_of fs) (BadFields n) tt) (λ f.
+    names_bind (number_in n f) _ (names_number n f) (λ version.
+    names_if (version == 2) (Ok version) (Err (BadVersion n)) tt tt))
+
+names_heading : (n : ℕ) (fs : List (List ℕ)) → IfErr (heading_in n fs) NamesRecord
+unfolding heading_in
+names_heading n fs =
+    names_bind (version_in n fs) _ (names_version n fs) (λ version.
+    names_bind (ok_or (five_of fs) (BadFields n)) _ (names_or (five_of fs) (BadFields n) tt) (λ f.
+    names_bind (protocol_in n f.0) _ (names_or (protocol_named f.0) (BadKind n) tt) (λ protocol.
+    names_bind (number_in n f.1) _ (names_number n f.1) (λ cores.
+    names_bind (number_in n f.2) _ (names_number n f.2) (λ blocks.
+    names_bind (number_in n f.3) _ (names_number n f.3) (λ block_bytes.
+    names_bind (number_in n f.4) _ (names_number n f.4) (λ words. tt)))))))
+
+pub names_heading_as : (asked : Heading) (n : ℕ) (fs : List (List ℕ)) → IfErr (heading_as asked n fs) NamesRecord
+unfolding heading_as
+names_heading_as asked n fs =
+    names_bind (heading_in n fs) _ (names_heading n fs) (λ heading.
+    names_if (same_heading heading asked) (Ok heading) (Err (OtherShape n)) tt tt)

@@ -4,7 +4,8 @@ use Rattle.std.specs.Prelude.{All, Bool, Result, Ok, Err, IfOk, ⊤, ◌==◌, n
 use Rattle.std.specs.Option.{ok_or}
 use Rattle.std.proofs.lemmas.Bool.{cases_Bool, ltb-true}
 use Rattle.std.proofs.lemmas.List.Elements.{All-weaker}
-use Rattle.snoop_trace.specs.Extent.{Extent}
+use Rattle.snoop_trace.specs.Extent.{Extent, IsWithinLimits}
+use Rattle.snoop_trace.proofs.WordPlaces.{asked_within}
 use Rattle.snoop_trace.specs.Grammar.{◌>>=◌, IsRowWithin, IsStepWithin, ask, asked, block_in, core_in, letter_of, number_in, one_of, order, respond, row_in, step_in, store, three_of, two_of, without_value}
 use Rattle.snoop_trace.specs.Progress.{IsSaid}
 use Rattle.snoop_trace.specs.declared.fault.TextFault.{TextFault}
@@ -102,20 +103,20 @@ said_respond shape n fs =
     if_bind (number_in n f) _ _ _ (if_any (number_in n f)) (λ address yes.
     if_bind (block_in shape n address) _ _ _ (has_block shape n address) (λ block has. has)))
 
-said_ask : (shape : Extent) (n letter : ℕ) (fs : List (List ℕ)) → IfOk (ask shape n letter fs) (IsStepWithin shape)
+said_ask : (shape : Extent) (n letter : ℕ) (fs : List (List ℕ)) → IsWithinLimits shape → IfOk (ask shape n letter fs) (IsStepWithin shape)
 unfolding ask
-said_ask shape n letter fs =
+said_ask shape n letter fs limits =
     if_bind (asked shape n letter fs) _ _ _ (core_of_asked shape n letter fs) (λ row has.
-    if_bind (block_in shape n row.address) _ _ _ (has_block shape n row.address) (λ block there. (has, there)))
+    if_bind (block_in shape n row.address) _ _ _ (has_block shape n row.address) (λ block there. (has, there, asked_within shape row.address row.op limits)))
 
-said_step : (shape : Extent) (n : ℕ) (fs : List (List ℕ)) → IfOk (step_in shape n fs) (IsStepWithin shape)
+said_step : (shape : Extent) (n : ℕ) (fs : List (List ℕ)) → IsWithinLimits shape → IfOk (step_in shape n fs) (IsStepWithin shape)
 unfolding step_in
-said_step shape n fs =
+said_step shape n fs limits =
     if_bind (ok_or (letter_of fs) (BadKind n)) _ _ _ (if_any (ok_or (letter_of fs) (BadKind n))) (λ letter yes.
     if_if (letter == 79) (order shape n fs) _ (IsStepWithin shape) (said_order shape n fs)
-    (if_if (letter == 82) (respond shape n fs) (ask shape n letter fs) (IsStepWithin shape) (said_respond shape n fs) (said_ask shape n letter fs)))
+    (if_if (letter == 82) (respond shape n fs) (ask shape n letter fs) (IsStepWithin shape) (said_respond shape n fs) (said_ask shape n letter fs limits)))
 
-pub step_within : (shape : Extent) (step : Step) → IsSaid (step_in shape) step → IsStepWithin shape step
-step_within shape step said =
+pub step_within : (shape : Extent) (step : Step) → IsWithinLimits shape → IsSaid (step_in shape) step → IsStepWithin shape step
+step_within shape step limits said =
     let P : Result Step TextFault → Type 0 = λ r. IfOk r (IsStepWithin shape) in
-    subst P said.1.1 (said_step shape said.0 said.1.0)
+    subst P said.1.1 (said_step shape said.0 said.1.0 limits)

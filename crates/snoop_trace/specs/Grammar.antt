@@ -1,12 +1,12 @@
 -- How one record of a text is read: its numbers, its fields, and the first fault.
 -- Source: this project's profile.
-use Rattle.std.specs.Prelude.{ℕ, ◌<◌, ◌/◌, ◌^◌, ◌&&◌, List, [], ◌∷◌, drop, nat_lt, nat_eq, ◌==◌, codes, Option, Some, None, Result, Ok, Err, if◌then◌else◌}
+use Rattle.std.specs.Prelude.{ℕ, ◌<◌, ◌/◌, ◌%◌, ◌^◌, ◌&&◌, List, [], ◌∷◌, drop, nat_lt, nat_eq, ◌==◌, codes, Option, Some, None, Result, Ok, Err, if◌then◌else◌}
 use Rattle.std.specs.Char.{is_digit}
 use Rattle.std.specs.List.{list_all, starts_with}
 use Rattle.std.specs.Option.{ok_or}
 use Rattle.std.specs.Str.Parse.{digits_value}
 use Rattle.snoop_trace.specs.declared.fault.TextFault.{TextFault}
-use Rattle.snoop_trace.specs.declared.fault.TextFault.TheVariants.{BadKind, BadFields, BadNumber, NoCore, NoBlock, Read, NoMemory}
+use Rattle.snoop_trace.specs.declared.fault.TextFault.TheVariants.{BadKind, BadFields, BadNumber, NoCore, NoBlock, Read, NoMemory, OtherShape, BadVersion}
 use Rattle.snoop_trace.specs.Extent.{Extent}
 use Rattle.snoop_trace.specs.declared.step.Op.{Op}
 use Rattle.snoop_trace.specs.declared.step.Op.TheVariants.{Load, Store, Evict}
@@ -34,6 +34,8 @@ NamesRecord (NoCore n) = Unit {0}
 NamesRecord (NoBlock n) = Unit {0}
 NamesRecord Read = ⊥
 NamesRecord NoMemory = ⊥
+NamesRecord (OtherShape n) = Unit {0}
+NamesRecord (BadVersion n) = Unit {0}
 
 infixl 10 ◌>>=◌
 -- the first fault ends a reading
@@ -52,6 +54,16 @@ core_in shape n core = if nat_lt core shape.cores then Ok core else Err (NoCore 
 -- the block of an address, where there is one
 abbrev pub block_at : Extent → ℕ → Option ℕ
 block_at shape address = if nat_lt (address / shape.block_bytes) shape.blocks then Some (address / shape.block_bytes) else None
+
+-- the word of its block that an address lies in
+abbrev pub word_in_block : Extent → ℕ → ℕ
+word_in_block shape address = (address % shape.block_bytes) / (shape.block_bytes / shape.words)
+
+-- the word that an operation at an address is of; an eviction is of the whole block
+abbrev pub word_asked : Extent → ℕ → Op → ℕ
+word_asked shape address Load = word_in_block shape address
+word_asked shape address (Store value) = word_in_block shape address
+word_asked shape address Evict = 0
 
 -- an address that lies in a block
 abbrev pub block_in : Extent → ℕ → ℕ → Result ℕ TextFault
@@ -128,12 +140,12 @@ row_in shape n fields = do
   block ← block_in shape n row.address
   Ok row
 
--- the asking step of record n: the core asks for the block of the address
+-- the asking step of record n: the core asks for the block and the word of the address
 unfoldable pub ask : Extent → ℕ → ℕ → List (List ℕ) → Result Step TextFault
 ask shape n letter fields = do
   row ← asked shape n letter fields
   block ← block_in shape n row.address
-  Ok (Ask row.core block row.op)
+  Ok (Ask row.core block (word_asked shape row.address row.op) row.op)
 
 -- the step of record n, by its letter: O is 79 and R 82
 unfoldable pub step_in : Extent → ℕ → List (List ℕ) → Result Step TextFault
@@ -147,8 +159,8 @@ step_in shape n fields = do
 abbrev pub IsRowWithin : Extent → Row → Type 0
 IsRowWithin shape row = (row.core < shape.cores) × (row.address / shape.block_bytes < shape.blocks)
 
--- a step of the shape: its core and its block are there
+-- a step of the shape: its core, its block and its word are there
 abbrev pub IsStepWithin : Extent → Step → Type 0
-IsStepWithin shape (Ask core block op) = (core < shape.cores) × (block < shape.blocks)
+IsStepWithin shape (Ask core block word op) = (core < shape.cores) × (block < shape.blocks) × (word < shape.words)
 IsStepWithin shape (Order core) = core < shape.cores
 IsStepWithin shape (Respond block) = block < shape.blocks

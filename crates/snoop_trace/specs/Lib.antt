@@ -1,6 +1,9 @@
+pub mod Protocol
 pub mod Extent
 pub mod Shape
+pub mod Words
 pub mod Grammar
+pub mod Heading
 pub mod Text
 pub mod Progress
 pub mod Output

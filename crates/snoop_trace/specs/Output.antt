@@ -1,10 +1,12 @@
 -- What is written: the text of steps, and what a writer holds after a write.
 -- Source: this project's profile.
-use Rattle.std.specs.Prelude.{◌<◌, ◌≡◌, ℕ, ◌*◌, ◌^◌, Bool, true, false, List, ◌++◌, codes, Option, Some}
+use Rattle.std.specs.Prelude.{◌<◌, ◌≡◌, ℕ, ◌+◌, ◌*◌, ◌/◌, ◌^◌, Bool, true, false, List, ◌++◌, codes, Option, Some}
 use Rattle.std.specs.Fmt.{decimal}
 use Rattle.std.specs.Io.KnownBytes.{Appends}
 use Rattle.std.specs.List.{flat_map}
 use Rattle.snoop_trace.specs.Extent.{Extent}
+use Rattle.snoop_trace.specs.Heading.{heading_for, heading_text}
+use Rattle.snoop_trace.specs.declared.protocol.Protocol.{Protocol}
 use Rattle.snoop_trace.specs.declared.step.Op.TheVariants.{Load, Store, Evict}
 use Rattle.snoop_trace.specs.declared.step.Step.{Step}
 use Rattle.snoop_trace.specs.declared.step.Step.TheVariants.{Ask, Order, Respond}
@@ -13,25 +15,33 @@ use Rattle.snoop_trace.specs.declared.step.Step.TheVariants.{Ask, Order, Respond
 abbrev pub address_of : Extent → ℕ → ℕ
 address_of shape block = block * shape.block_bytes
 
+-- the first address of a word of a block
+abbrev pub word_address : Extent → ℕ → ℕ → ℕ
+word_address shape block word = address_of shape block + word * (shape.block_bytes / shape.words)
+
 -- a step as a record
 abbrev pub step_text : Extent → Step → List ℕ
-step_text shape (Ask core block Load) = codes "L," ++ decimal core ++ codes "," ++ decimal (address_of shape block)
-step_text shape (Ask core block (Store value)) = codes "S," ++ decimal core ++ codes "," ++ decimal (address_of shape block) ++ codes "," ++ decimal value
-step_text shape (Ask core block Evict) = codes "E," ++ decimal core ++ codes "," ++ decimal (address_of shape block)
+step_text shape (Ask core block word Load) = codes "L," ++ decimal core ++ codes "," ++ decimal (word_address shape block word)
+step_text shape (Ask core block word (Store value)) = codes "S," ++ decimal core ++ codes "," ++ decimal (word_address shape block word) ++ codes "," ++ decimal value
+step_text shape (Ask core block word Evict) = codes "E," ++ decimal core ++ codes "," ++ decimal (address_of shape block)
 step_text shape (Order core) = codes "O," ++ decimal core
 step_text shape (Respond block) = codes "R," ++ decimal (address_of shape block)
 
--- a step of the shape: its core and block are within it, and a stored value is a number
+-- a step of the shape as it is read: its core, block and word are within it, a stored value is a number, and an eviction's word is 0
 abbrev pub IsWithin : Extent → Step → Type 0
-IsWithin shape (Ask core block Load) = (core < shape.cores) × (block < shape.blocks)
-IsWithin shape (Ask core block (Store value)) = (core < shape.cores) × (block < shape.blocks) × (value < 2 ^ 64)
-IsWithin shape (Ask core block Evict) = (core < shape.cores) × (block < shape.blocks)
+IsWithin shape (Ask core block word Load) = (core < shape.cores) × (block < shape.blocks) × (word < shape.words)
+IsWithin shape (Ask core block word (Store value)) = (core < shape.cores) × (block < shape.blocks) × (word < shape.words) × (value < 2 ^ 64)
+IsWithin shape (Ask core block word Evict) = (core < shape.cores) × (block < shape.blocks) × (word ≡ 0)
 IsWithin shape (Order core) = core < shape.cores
 IsWithin shape (Respond block) = block < shape.blocks
 
 -- steps, one a line
 abbrev pub steps_text : Extent → List Step → List ℕ
 steps_text shape steps = flat_map (λ step. step_text shape step ++ codes "\n") steps
+
+-- a text of steps of version 2: what the steps are for, and then the steps
+abbrev pub text_of : Protocol → Extent → List Step → List ℕ
+text_of protocol shape steps = heading_text (heading_for protocol shape) ++ codes "\n" ++ steps_text shape steps
 
 -- a writer holds what it held, and then a beginning of the text
 pub record AppendsFront (old new : Option (List ℕ)) (text : List ℕ) : Type 0 where

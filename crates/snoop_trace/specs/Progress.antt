@@ -1,11 +1,13 @@
 -- One record further in a text.
 -- Source: this project's profile, over the records of the crate csv.
-use Rattle.std.specs.Prelude.{◌≡◌, ℕ, List, [], Option, Some, None, Result, Ok, Err, IfSome}
+use Rattle.std.specs.Prelude.{◌≡◌, ℕ, ◌+◌, List, [], ◌++◌, length, Option, Some, None, Result, Ok, Err, IfSome}
 use Rattle.csv.specs.Machine.{Read as Record, next_record}
-use Rattle.csv.specs.Reading.{Ready, default_config, reader_config, reader_state, reader_trim, source_of}
+use Rattle.csv.specs.Reading.{Ready, default_config, records_from, reader_config, reader_state, reader_trim, source_of}
 use Rattle.csv.specs.declared.parser.State.{State}
 use Rattle.csv.specs.declared.reader.Reader.{Reader}
 use Rattle.csv.specs.declared.reader.Trim.TheVariants as trim
+use Rattle.snoop_trace.specs.Grammar.{◌>>=◌}
+use Rattle.snoop_trace.specs.Text.{entries_from}
 use Rattle.snoop_trace.specs.declared.fault.TextFault.{TextFault}
 use Rattle.snoop_trace.specs.declared.fault.TextFault.TheVariants.{Read, NoMemory}
 
@@ -23,6 +25,14 @@ Takes says before xs (Ok (Some entry)) after left = (fields : List (List ℕ)) �
 Takes says before xs (Err Read) after left = Unit {0}
 Takes says before xs (Err NoMemory) after left = Unit {0}
 Takes says before xs (Err fault) after left = (r : Record) × (next_record default_config before [] [] xs ≡ Some r) × (says r.0 ≡ Err fault)
+
+-- the records that are left of a text, from a state
+abbrev pub records_left : State → List ℕ → List (List (List ℕ))
+records_left s xs = records_from default_config (length xs + 1) s xs
+
+-- entries, and then what records say that are numbered from n, or the first fault
+abbrev pub entries_after : {A : Type 0} → (ℕ → List (List ℕ) → Result A TextFault) → List A → ℕ → List (List (List ℕ)) → Result (List A) TextFault
+entries_after says entries n rows = entries_from says n rows >>= λ more. Ok (entries ++ more)
 
 -- what a call does to a reader whose bytes are known
 abbrev pub TakesEntry : {R A : Type 0} → (R → Option (List ℕ)) → (List (List ℕ) → Result A TextFault) → Reader R → Result (Option A) TextFault → Reader R → Type 0

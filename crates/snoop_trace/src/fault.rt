@@ -17,9 +17,10 @@ impl From<AllocError> for NoMemory {
 
 /// Why a text is refused; nothing of it is handed out then.
 ///
-/// The first five name the record, counted from 1: blank lines are no records. The earliest faulty
-/// record decides, and in a record the first of these five, in their order. `Read` and `NoMemory`
-/// can come before a record is read whole.
+/// All but `Read` and `NoMemory` name the record, counted from 1: blank lines are no records. The
+/// earliest faulty record decides, and in a record the first of the first five, in their order; in
+/// a heading the first that its fields, from left to right, call for. `Read` and `NoMemory` can come
+/// before a record is read whole.
 #[derive(Clone, Copy, Debug, PartialEq, Eq, Error)]
 pub enum TextFault {
     /// The first field is none of the letters that are read.
@@ -37,12 +38,18 @@ pub enum TextFault {
     /// The address lies in no block of the shape.
     #[error("record {0}: NoBlock")]
     NoBlock(u64),
-    /// The reader failed, or the text has 2^64 - 1 records or more.
+    /// A read failed.
     #[error("Read")]
     Read,
-    /// Memory for a growth was refused, or the text went on without end and without a record.
+    /// Memory for a growth was refused; or the text goes on and on without a record, past the bound that `csv` has for one.
     #[error("NoMemory")]
     NoMemory,
+    /// The first record says that the steps are for another protocol or shape than was asked for.
+    #[error("record {0}: OtherShape")]
+    OtherShape(u64),
+    /// The first record names another version than 2.
+    #[error("record {0}: BadVersion")]
+    BadVersion(u64),
 }
 
 impl From<NoMemory> for TextFault {

@@ -1,18 +1,23 @@
-//! Shapes of machines, rows and steps, and the texts that they are read from and written to.
+//! Shapes of machines, words, rows and steps, and the texts that they are read from and written to.
 #![tactic(auto)]
 
 mod fault;
 mod fields;
+mod heading;
 mod number;
 mod output;
+mod protocol;
 mod record;
 mod shape;
 mod step;
 pub mod streams;
 mod text;
+mod words;
 
 pub use fault::{NoMemory, TextFault, WriteFault};
 pub use output::write_steps;
+pub use protocol::Protocol;
 pub use shape::{Shape, ShapeFault};
-pub use step::{Op, Row, Step};
+pub use step::{Op, Row, Step, Work};
 pub use text::{read_rows, read_steps};
+pub use words::{Block, Few, Kept, Words};

@@ -1,17 +1,21 @@
 //! Steps as a text of records.
-ghost use Rattle.std.specs.Prelude.{◌≡◌, ◌≢◌, ◌<◌, ◌≤◌, ◌++◌, ◌∷◌, [], All, Ok, Err, IfOk, OnOk, OnErr, codes, false, map, true};
+ghost use Rattle.std.specs.Prelude.{◌≡◌, ◌≢◌, ◌<◌, ◌≤◌, ◌++◌, ◌∷◌, [], All, Some, Ok, Err, IfOk, OnOk, OnErr, codes, false, map, true};
 ghost use Rattle.std.specs.Fmt.{decimal};
 ghost use Rattle.std.specs.Io.KnownBytes.{Appends};
-ghost use Rattle.csv.specs.Writing.{default_writer, needs_byte, row_text};
-ghost use Rattle.snoop_trace.specs.Output.{AppendsFront, BlamesWriter, IsWithin, step_text, steps_text};
+ghost use Rattle.csv.specs.Writing.{default_writer, needs_byte, row_text, text_written};
+ghost use Rattle.snoop_trace.specs.Extent.{Extent};
+ghost use Rattle.snoop_trace.specs.Heading.{heading_for, heading_text};
+ghost use Rattle.snoop_trace.specs.Output.{AppendsFront, BlamesWriter, IsWithin, step_text, steps_text, text_of};
 ghost use Rattle.snoop_trace.specs.Records.{IsReady, Writes, record_writer};
 ghost use Rattle.snoop_trace.specs.Text.{steps_of};
+ghost use Rattle.snoop_trace.specs.declared.fault.TextFault.TheVariants as TextFault;
 ghost use Rattle.snoop_trace.specs.declared.step.Step.TheVariants.{Ask};
 
 use crate::fault::{NoMemory, WriteFault};
-use crate::shape::{MAX_BLOCK_BYTES, MAX_BLOCKS, MAX_CORES, Shape};
+use crate::protocol::Protocol;
+use crate::shape::Shape;
 use crate::step::{Op, Step};
-use crate::streams::step_text::address_of;
+use crate::streams::step_text::{address_of, word_address};
 use crate::streams::{Sink, write_whole};
 use csv::{Writer, WriterBuilder};
 use itoa::Buffer;
@@ -20,13 +24,79 @@ use std::alloc::Global;
 /// How many records are gathered before they are written.
 const BATCH: usize = 1024;
 
-/// Writes steps as a text, one a line, each ended by a line feed.
+/// Writes steps as a text: first what they are for, then one step a line, each line ended by a line
+/// feed.
 ///
-/// Where the steps are within the shape, `read_steps` reads the same steps from the text. After
+/// Where the steps are within the shape and an eviction's word is 0, `read_steps` reads the same steps from the text for this
+/// protocol and shape; for any other it answers `OtherShape`. After
 /// `Write` and `NoMemory` the writer holds a beginning of the text after what it held, the failed
 /// write's own bytes aside.
-#[tactic(auto, using(crate::proofs::BackLemmas::all_read_again))]
 pub fn write_steps<W: Sink>(
+    alloc: Global,
+    writer: &mut W,
+    protocol: Protocol,
+    shape: Shape,
+    steps: &[Step],
+) -> Result<(), WriteFault>
+    ensures ok { OnOk result (Appends (W.contents writer.old) (W.contents writer.new) (text_of protocol shape steps.now)) }
+    ensures front { OnErr result (AppendsFront (W.contents writer.old) (W.contents writer.new) (text_of protocol shape steps.now)) }
+    ensures never_blamed { W.never_fails ≡ true → result ≢ Err WriteFault.Write }
+    ensures blamed { BlamesWriter (W.failed writer.old) (W.failed writer.new) (result ≡ Err WriteFault.Write) }
+    ensures read { All (IsWithin shape) steps.now → steps_of protocol shape (text_of protocol shape steps.now) ≡ Ok steps.now }
+    ensures other { (other : Protocol) (extent : Extent) → ¬ ((other ≡ protocol) × (extent ≡ shape))
+        → steps_of other extent (text_of protocol shape steps.now) ≡ Err (TextFault.OtherShape 1) }
+{
+    // `read` and `other` need a shape within the limits.
+    shape.within_limits();
+    let heading = heading_record(alloc, protocol, shape)?;
+    write_whole(writer, &heading)?;
+    write_records(alloc, writer, shape, steps)
+}
+
+// The record of what steps are for.
+fn heading_record(alloc: Global, protocol: Protocol, shape: Shape) -> Result<Vec<u8>, NoMemory>
+    ensures { IfOk result (λ text. text.items ≡ heading_text (heading_for protocol shape) ++ codes "\n") }
+{
+    let mut records = writer_of_records(alloc);
+    write_heading(&mut records, protocol, shape)?;
+    records.into_inner().map_err(|_| NoMemory)
+}
+
+// Writes the record of what steps are for.
+#[tactic(auto, using(crate::proofs::BackLemmas::heading_written))]
+fn write_heading(
+    records: &mut Writer<Vec<u8>>,
+    protocol: Protocol,
+    shape: Shape,
+) -> Result<(), NoMemory>
+    requires { IsReady records.old }
+    ensures ok { OnOk result (Writes records.old records.new (heading_text (heading_for protocol shape) ++ codes "\n")) }
+    ensures ready { OnOk result (IsReady records.new) }
+{
+    // The numbers are below 2^64.
+    shape.within_limits();
+    let (mut of_cores, mut of_blocks) = (Buffer::new(), Buffer::new());
+    let (mut of_bytes, mut of_words) = (Buffer::new(), Buffer::new());
+    let cores = of_cores.format(shape.cores()).as_bytes();
+    let blocks = of_blocks.format(shape.blocks()).as_bytes();
+    let bytes = of_bytes.format(shape.block_bytes()).as_bytes();
+    let words = of_words.format(shape.words()).as_bytes();
+    let name = protocol.name().as_bytes();
+    write_fields(records, &[b"V", b"2", name, cores, blocks, bytes, words])
+}
+
+// A writer of records, in none.
+fn writer_of_records(alloc: Global) -> Writer<Vec<u8>>
+    ensures ready { IsReady result }
+    ensures empty { text_written (λ v. Some v.items) result ≡ Some [] }
+{
+    WriterBuilder::new()
+        .flexible(true)
+        .from_writer(Vec::new(alloc))
+}
+
+// Writes the records of steps, each ended by a line feed.
+fn write_records<W: Sink>(
     alloc: Global,
     writer: &mut W,
     shape: Shape,
@@ -36,12 +106,7 @@ pub fn write_steps<W: Sink>(
     ensures front { OnErr result (AppendsFront (W.contents writer.old) (W.contents writer.new) (steps_text shape steps.now)) }
     ensures never_blamed { W.never_fails ≡ true → result ≢ Err WriteFault.Write }
     ensures blamed { BlamesWriter (W.failed writer.old) (W.failed writer.new) (result ≡ Err WriteFault.Write) }
-    ensures read { All (IsWithin shape) steps.now → steps_of shape (steps_text shape steps.now) ≡ Ok steps.now }
 {
-    // The getters' clauses `within`: `read` needs a shape within the limits.
-    prove!(shape.cores() <= MAX_CORES);
-    prove!(shape.blocks() <= MAX_BLOCKS);
-    prove!(shape.block_bytes() <= MAX_BLOCK_BYTES);
     let mut at = 0;
     while at < steps.len() {
         let end = batch_end(at, steps.len());
@@ -65,9 +130,7 @@ fn batch_end(at: usize, len: usize) -> usize
 fn records_text(alloc: Global, shape: Shape, steps: &[Step]) -> Result<Vec<u8>, NoMemory>
     ensures { IfOk result (λ text. text.items ≡ steps_text shape steps.now) }
 {
-    let mut records = WriterBuilder::new()
-        .flexible(true)
-        .from_writer(Vec::new(alloc));
+    let mut records = writer_of_records(alloc);
     for step in steps {
         write_record(&mut records, shape, *step)?;
     }
@@ -81,7 +144,12 @@ fn write_record(records: &mut Writer<Vec<u8>>, shape: Shape, step: Step) -> Resu
     ensures ready { OnOk result (IsReady records.new) }
 {
     match step {
-        Step::Ask { core, block, op } => write_ask(records, shape, core, block, op),
+        Step::Ask {
+            core,
+            block,
+            word,
+            op,
+        } => write_ask(records, shape, core, block, word, op),
         Step::Order { core } => write_one(records, b'O', core as u64),
         Step::Respond { block } => write_one(records, b'R', address_of(shape, block)),
     }
@@ -93,17 +161,19 @@ fn write_ask(
     shape: Shape,
     core: u32,
     block: u32,
+    word: u32,
     op: Op,
 ) -> Result<(), NoMemory>
     requires { IsReady records.old }
-    ensures ok { OnOk result (Writes records.old records.new (step_text shape (Ask core block op) ++ codes "\n")) }
+    ensures ok { OnOk result (Writes records.old records.new (step_text shape (Ask core block word op) ++ codes "\n")) }
     ensures ready { OnOk result (IsReady records.new) }
 {
-    let address = address_of(shape, block);
     match op {
-        Op::Load => write_two(records, b'L', core, address),
-        Op::Evict => write_two(records, b'E', core, address),
-        Op::Store(value) => write_three(records, b'S', core, address, value),
+        Op::Load => write_two(records, b'L', core, word_address(shape, block, word)),
+        Op::Evict => write_two(records, b'E', core, address_of(shape, block)),
+        Op::Store(value) => {
+            write_three(records, b'S', core, word_address(shape, block, word), value)
+        }
     }
 }
 

@@ -50,7 +50,7 @@ impl Entry for Row {
     }
 }
 
-fn number_in(n: u64, field: &[u8]) -> Result<u64, TextFault>
+pub(crate) fn number_in(n: u64, field: &[u8]) -> Result<u64, TextFault>
     ensures { result ≡ spec.number_in n field.now }
 {
     number(field).ok_or(TextFault::BadNumber(n))
@@ -124,6 +124,7 @@ fn ask(shape: Shape, n: u64, letter: u8, fields: &ByteRecord) -> Result<Step, Te
     Ok(Step::Ask {
         core: row.core,
         block,
+        word: shape.word_asked(row.address, row.op),
         op: row.op,
     })
 }

@@ -1,8 +1,11 @@
-//! How many cores and blocks there are, and how long a block is.
-ghost use Rattle.std.specs.Prelude.{◌≡◌, ◌↔◌, Err, IsTrue};
+//! How many cores and blocks there are, and how many bytes and words a block.
+ghost use Rattle.std.specs.Prelude.{◌≡◌, ◌≤◌, ◌<◌, ◌↔◌, Err, IsTrue};
 ghost use Rattle.std.specs.Result.{OkIff};
-ghost use Rattle.snoop_trace.specs.Extent.{IsBlockCount, IsBlockSize, IsCoreCount};
+ghost use Rattle.snoop_trace.specs.Extent.{IsBlockCount, IsBlockSize, IsCoreCount, IsWithinLimits, IsWordCount};
+ghost use Rattle.snoop_trace.specs.Words.{HasWord};
 
+use crate::step::Op;
+use crate::words::MAX_WORDS;
 use std::marker::Model;
 use thiserror::Error;
 
@@ -27,9 +30,12 @@ pub enum ShapeFault {
     /// The bytes of a block are no power of two from 1 to 4,096.
     #[error("BadBytes")]
     BadBytes,
+    /// The words of a block are no power of two from 1 to 64, or they are several of less than 8 bytes.
+    #[error("BadWords")]
+    BadWords,
 }
 
-/// How many cores and blocks a machine has, and how many bytes a block.
+/// How many cores and blocks a machine has, and how many bytes and words a block.
 ///
 /// Cores and blocks are numbered from 0; addresses are in bytes, and block n begins at n times the
 /// bytes of a block.
@@ -38,6 +44,7 @@ pub struct Shape {
     cores: u32,
     blocks: u32,
     block_bytes: u32,
+    words: u32,
 }
 
 impl Model for Shape {
@@ -55,15 +62,15 @@ impl Model for Shape {
 }
 
 impl Shape {
-    ghost use Rattle.snoop_trace.specs.Grammar.{block_at};
+    ghost use Rattle.snoop_trace.specs.Grammar.{block_at, word_asked, word_in_block};
 
-    /// The shape of so many cores and blocks, and bytes a block.
+    /// The shape of so many cores and blocks, and bytes a block; a block is one word.
     ///
     /// It is refused where it is not within the limits, by the first of `BadCores`, `BadBlocks` and
     /// `BadBytes` that holds.
     pub fn new(cores: u32, blocks: u32, block_bytes: u32) -> Result<Shape, ShapeFault>
         ensures ok { OkIff result (IsCoreCount cores × IsBlockCount blocks × IsBlockSize block_bytes)
-            (record { cores = cores; blocks = blocks; block_bytes = block_bytes }) }
+            (record { cores = cores; blocks = blocks; block_bytes = block_bytes; words = 1 }) }
         ensures bad_cores { (result ≡ Err ShapeFault.BadCores) ↔ (¬ IsCoreCount cores) }
         ensures bad_blocks { (result ≡ Err ShapeFault.BadBlocks) ↔ (IsCoreCount cores × ¬ IsBlockCount blocks) }
         ensures bad_bytes { (result ≡ Err ShapeFault.BadBytes)
@@ -82,7 +89,53 @@ impl Shape {
             cores,
             blocks,
             block_bytes,
+            words: 1,
         })
+    }
+
+    /// The shape of so many cores and blocks, and bytes and words a block.
+    ///
+    /// It is refused as by `new`, and then by `BadWords` where a block cannot have so many words.
+    pub fn with_words(
+        cores: u32,
+        blocks: u32,
+        block_bytes: u32,
+        words: u32,
+    ) -> Result<Shape, ShapeFault>
+        ensures ok { OkIff result (IsCoreCount cores × IsBlockCount blocks × IsBlockSize block_bytes × IsWordCount words block_bytes)
+            (record { cores = cores; blocks = blocks; block_bytes = block_bytes; words = words }) }
+        ensures bad_cores { (result ≡ Err ShapeFault.BadCores) ↔ (¬ IsCoreCount cores) }
+        ensures bad_blocks { (result ≡ Err ShapeFault.BadBlocks) ↔ (IsCoreCount cores × ¬ IsBlockCount blocks) }
+        ensures bad_bytes { (result ≡ Err ShapeFault.BadBytes)
+            ↔ (IsCoreCount cores × IsBlockCount blocks × ¬ IsBlockSize block_bytes) }
+        ensures bad_words { (result ≡ Err ShapeFault.BadWords)
+            ↔ (IsCoreCount cores × IsBlockCount blocks × IsBlockSize block_bytes × ¬ IsWordCount words block_bytes) }
+    {
+        if !(1..=MAX_CORES).contains(&cores) {
+            return Err(ShapeFault::BadCores);
+        }
+        if !(1..=MAX_BLOCKS).contains(&blocks) {
+            return Err(ShapeFault::BadBlocks);
+        }
+        if !is_block_size(block_bytes) {
+            return Err(ShapeFault::BadBytes);
+        }
+        if !is_word_count(words, block_bytes) {
+            return Err(ShapeFault::BadWords);
+        }
+        Ok(Shape {
+            cores,
+            blocks,
+            block_bytes,
+            words,
+        })
+    }
+
+    /// Every shape is within the limits. This does nothing: a proof calls it for what it ensures.
+    pub fn within_limits(&self)
+        ensures { IsWithinLimits self.now }
+    {
+        let _ = &self.words;
     }
 
     /// How many cores there are, from 1 to 256.
@@ -109,6 +162,49 @@ impl Shape {
         self.block_bytes
     }
 
+    /// How many words a block has, a power of two up to 64.
+    pub fn words(&self) -> u32
+        ensures value { result ≡ self.now.words }
+        ensures within { IsWordCount self.now.words self.now.block_bytes }
+    {
+        self.words
+    }
+
+    /// The word of its block that an address lies in.
+    pub fn word_of(&self, address: u64) -> u32
+        ensures value { result ≡ word_in_block self.now address }
+        ensures within { result < self.now.words }
+    {
+        // The usual case, without a division.
+        if self.words == 1 {
+            return 0;
+        }
+        let bytes = self.block_bytes as u64;
+        let word_bytes = bytes / self.words as u64;
+        (address % bytes / word_bytes) as u32
+    }
+
+    /// The word that an operation at an address is of: an eviction is of the whole block, and has word 0.
+    pub fn word_asked(&self, address: u64, op: Op) -> u32
+        ensures { result ≡ word_asked self.now address op }
+    {
+        match op {
+            Op::Load | Op::Store(_) => self.word_of(address),
+            Op::Evict => 0,
+        }
+    }
+
+    /// Whether an operation may be of the word: a load or a store of one that blocks have. An eviction is of the whole block, and
+    /// its word is not looked at.
+    pub fn has_word(&self, word: u32, op: Op) -> bool
+        ensures { IsTrue result ↔ HasWord self.now word op }
+    {
+        match op {
+            Op::Load | Op::Store(_) => word < self.words(),
+            Op::Evict => true,
+        }
+    }
+
     /// The block that an address lies in: the address divided by the bytes of a block, rounded
     /// down; None where there is no such block.
     pub fn block_of(&self, address: u64) -> Option<u32>
@@ -129,4 +225,13 @@ fn is_block_size(bytes: u32) -> bool
     ensures { IsTrue result ↔ IsBlockSize bytes }
 {
     bytes.is_power_of_two() && bytes <= MAX_BLOCK_BYTES
+}
+
+// Whether a block of so many bytes can have so many words.
+#[tactic(auto, using(crate::proofs::PowerLemmas::is_power, crate::proofs::PowerLemmas::power_is))]
+fn is_word_count(words: u32, block_bytes: u32) -> bool
+    requires { block_bytes ≤ 4096 }
+    ensures { IsTrue result ↔ IsWordCount words block_bytes }
+{
+    words.is_power_of_two() && words <= MAX_WORDS && (words == 1 || 8 * words <= block_bytes)
 }

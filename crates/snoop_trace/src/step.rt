@@ -3,9 +3,9 @@
 /// What a core asks of its cache.
 #[derive(Clone, Copy, Debug, PartialEq, Eq)]
 pub enum Op {
-    /// To read the block's value.
+    /// To read the word's value.
     Load,
-    /// To make this the block's value.
+    /// To make this the word's value.
     Store(u64),
     /// To give the block up.
     Evict,
@@ -27,9 +27,29 @@ pub struct Row {
 #[derive(Clone, Copy, Debug, PartialEq, Eq)]
 pub enum Step {
     /// The core's cache controller takes the operation.
-    Ask { core: u32, block: u32, op: Op },
+    ///
+    /// A load or store is of the block's word of this number. An eviction is of the whole block; its word is not looked at,
+    /// and is 0 in what is read.
+    Ask {
+        core: u32,
+        block: u32,
+        word: u32,
+        op: Op,
+    },
     /// The oldest request of the core is ordered on the bus.
-    Order { core: u32 },
+    Order {
+        core: u32,
+    },
     /// The response of the block's open transaction comes.
-    Respond { block: u32 },
+    Respond {
+        block: u32,
+    },
+}
+
+/// What a core is to do: a load or a store of a word of a block, or an eviction of the block, whose word is not looked at.
+#[derive(Clone, Copy, Debug, PartialEq, Eq)]
+pub struct Work {
+    pub block: u32,
+    pub word: u32,
+    pub op: Op,
 }

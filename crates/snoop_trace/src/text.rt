@@ -1,49 +1,95 @@
 //! Reading a text of steps or of rows.
-ghost use Rattle.std.specs.Prelude.{◌≡◌, ◌≢◌, ◌<◌, ◌+◌, ◌-◌, ◌^◌, [], length, true, false, All, IfSome, IfOk, IsSome, IsSomeAnd, Err};
-ghost use Rattle.csv.specs.Reading.{default_config, reader_state, records, source_of};
+ghost use Rattle.std.specs.Prelude.{◌≡◌, ◌<◌, ◌≢◌, ◌+◌, [], true, All, IfSome, IfOk, IsSome, Err};
+ghost use Rattle.csv.specs.Reading.{ReadRecord, default_config, reader_state, records, source_of};
+ghost use Rattle.csv.specs.Records.{fields_of};
 ghost use Rattle.csv.specs.declared.parser.State.TheVariants as st;
 ghost use Rattle.snoop_trace.specs.Grammar.{IsRowWithin, IsStepWithin};
-ghost use Rattle.snoop_trace.specs.Progress.{IsPlain, IsSaid, TakesEntry};
-ghost use Rattle.snoop_trace.specs.Text.{Gives, entries_from, records_of, rows_of, steps_of};
+ghost use Rattle.snoop_trace.specs.Progress.{IsPlain, IsSaid, TakesEntry, entries_after, records_left};
+ghost use Rattle.snoop_trace.specs.Text.{BlamesReader, Gives, entries_in, records_of, rows_of, steps_of};
 
-use crate::fault::TextFault;
+use crate::fault::{NoMemory, TextFault};
+use crate::heading::Heading;
+use crate::protocol::Protocol;
 use crate::record::Entry;
 use crate::shape::Shape;
 use crate::step::{Row, Step};
 use crate::streams::Source;
 use crate::streams::entries::Entries;
-use crate::streams::source::Watched;
+use crate::streams::source::{Begun, Watched};
+use core::mem::replace_with;
 use csv::{ByteRecord, Reader, ReaderBuilder};
 use std::alloc::Global;
+use std::io::Read;
+use std::marker::Brand;
+
+// Whether there is one more record, and its fields. A failed read is answered as out of memory
+// here: `read_known` tells the two apart.
+fn next_record<R: Read>(text: &mut Reader<R>, fields: &mut ByteRecord) -> Result<bool, NoMemory>
+    requires { IsPlain text.old }
+    ensures plain { IfOk result (λ found. found ≡ true → IsPlain text.new) }
+    ensures reads { IfOk result (λ found. ReadRecord R.remaining text.old text.new found (fields_of fields.new)) }
+{
+    let Ok(found) = text.read_byte_record(fields) else {
+        return Err(NoMemory);
+    };
+    Ok(found)
+}
 
 // The entry of record n, which is the next one; None at the end of the text.
-fn next_entry<E: Entry, R: Source>(
-    text: &mut Reader<Watched<R>>,
+fn next_entry<E: Entry, R: Read>(
+    text: &mut Reader<R>,
     fields: &mut ByteRecord,
     shape: Shape,
     n: u64,
 ) -> Result<Option<E>, TextFault>
     requires { IsPlain text.old }
     ensures plain { IfOk result (λ entry. IsSome entry → IsPlain text.new) }
-    ensures takes { TakesEntry (λ r. R.remaining r.inner) (E.says shape n) text.old result text.new }
+    ensures takes { TakesEntry R.remaining (E.says shape n) text.old result text.new }
     ensures said { IfOk result (λ entry. IfSome entry (IsSaid (E.says shape))) }
-    ensures never_blamed { result ≡ Err TextFault.Read → R.never_fails ≡ false }
+    ensures not_read { result ≢ Err TextFault.Read }
 {
-    match text.read_byte_record(fields) {
-        Ok(true) => match E::from_record(shape, n, fields) {
-            Ok(entry) => Ok(Some(entry)),
-            Err(fault) => Err(fault),
-        },
-        Ok(false) => Ok(None),
-        Err(_) if text.get_ref().has_failed() => Err(TextFault::Read),
-        Err(_) => Err(TextFault::NoMemory),
+    if !next_record(text, fields)? {
+        return Ok(None);
+    }
+    match E::from_record(shape, n, fields) {
+        Ok(entry) => Ok(Some(entry)),
+        Err(fault) => Err(fault),
     }
 }
 
-// All entries of a text, after none.
-fn take_entries<E: Entry, C: Entries<E>, R: Source>(
-    text: &mut Reader<Watched<R>>,
+// The entries of the records that are left of a text, of which so many were read.
+fn take_entries<E: Entry, C: Entries<E>, R: Read>(
+    text: &mut Reader<R>,
     fields: &mut ByteRecord,
+    shape: Shape,
+    read: u64,
+    entries: &mut C,
+) -> Result<(), TextFault>
+    requires plain { IsPlain text.old }
+    requires fits { (entry : E) → IsSaid (E.says shape) entry → C.fits entry }
+    requires said { All (IsSaid (E.says shape)) (C.listed entries.old) }
+    requires few { read < 2 }
+    ensures read { IfSome (source_of R.remaining text.old) (λ xs. Gives (λ _. C.listed entries.new) result
+        (entries_after (E.says shape) (C.listed entries.old) (read + 1) (records_left (reader_state text.old) xs))) }
+    ensures said { IfOk result (λ _. All (IsSaid (E.says shape)) (C.listed entries.new)) }
+    ensures not_read { result ≢ Err TextFault.Read }
+{
+    for i in read..u64::MAX {
+        match next_entry(text, fields, shape, i + 1) {
+            Ok(Some(entry)) => entries.append(entry)?,
+            Ok(None) => return Ok(()),
+            Err(fault) => return Err(fault),
+        }
+    }
+    // No list holds so many.
+    unreachable!()
+}
+
+// All entries of a text, after none. Where a heading is asked for, the first record may be one.
+fn take_text<E: Entry, C: Entries<E>, R: Read>(
+    text: &mut Reader<R>,
+    fields: &mut ByteRecord,
+    heading: Option<Heading>,
     shape: Shape,
     entries: &mut C,
 ) -> Result<(), TextFault>
@@ -51,48 +97,101 @@ fn take_entries<E: Entry, C: Entries<E>, R: Source>(
     requires begins { reader_state text.old ≡ st.StartRecord }
     requires empty { C.listed entries.old ≡ [] }
     requires fits { (entry : E) → IsSaid (E.says shape) entry → C.fits entry }
-    ensures read { IfSome (source_of (λ r. R.remaining r.inner) text.old)
-        (λ xs. Gives (λ _. C.listed entries.new) result (entries_from (E.says shape) 1 (records default_config xs))) }
+    ensures read { IfSome (source_of R.remaining text.old)
+        (λ xs. Gives (λ _. C.listed entries.new) result (entries_in (E.says shape) heading (records default_config xs))) }
     ensures said { IfOk result (λ _. All (IsSaid (E.says shape)) (C.listed entries.new)) }
-    ensures never_blamed { R.never_fails ≡ true
-        → IsSomeAnd (source_of (λ r. R.remaining r.inner) text.old) (λ xs. length xs < 2 ^ 64 - 1)
-        → result ≢ Err TextFault.Read }
+    ensures not_read { result ≢ Err TextFault.Read }
 {
-    for i in 0..u64::MAX {
-        match next_entry(text, fields, shape, i + 1) {
-            Ok(Some(entry)) => entries.append(entry)?,
-            Ok(None) => return Ok(()),
-            Err(fault) => return Err(fault),
-        }
+    let Some(heading) = heading else {
+        return take_entries(text, fields, shape, 0, entries);
+    };
+    if !next_record(text, fields)? {
+        return Ok(());
     }
-    Err(TextFault::Read)
+    if Heading::is_begun(fields) {
+        heading.read(1, fields)?;
+    } else {
+        entries.append(E::from_record(shape, 1, fields)?)?;
+    }
+    take_entries(text, fields, shape, 1, entries)
 }
 
-// The entries that a text gives, after none, or its first fault.
-fn read_entries<E: Entry, C: Entries<E> + Drop, R: Source + Drop>(
-    alloc: Global,
+// The entries that a text gives, after none, or its first fault; and the reader back.
+fn read_known<E: Entry, C: Entries<E> + Drop, R: Source, K: Begun>(
     reader: R,
+    alloc: Global,
+    heading: Option<Heading>,
     shape: Shape,
     mut entries: C,
-) -> Result<C, TextFault>
+) -> (R, Result<C, TextFault>)
+    requires before { R.failed reader ≡ K.before }
     requires empty { C.listed entries ≡ [] }
     requires fits { (entry : E) → IsSaid (E.says shape) entry → C.fits entry }
     ensures read { IfSome (R.remaining reader)
-        (λ bytes. Gives C.listed result (entries_from (E.says shape) 1 (records_of bytes))) }
-    ensures said { IfOk result (λ entries. All (IsSaid (E.says shape)) (C.listed entries)) }
-    ensures never_blamed { R.never_fails ≡ true → IsSomeAnd (R.remaining reader) (λ bytes. length bytes < 2 ^ 64 - 1)
-        → result ≢ Err TextFault.Read }
+        (λ bytes. Gives C.listed result.1 (entries_in (E.says shape) heading (records_of bytes))) }
+    ensures said { IfOk result.1 (λ entries. All (IsSaid (E.says shape)) (C.listed entries)) }
+    ensures never_blamed { R.never_fails ≡ true → result.1 ≢ Err TextFault.Read }
+    ensures blamed { BlamesReader (R.failed reader) (R.failed result.0) (result.1 ≡ Err TextFault.Read) }
 {
+    let watched: Watched<R, K> = Watched::new(reader);
     let mut text = ReaderBuilder::new()
         .has_headers(false)
         .flexible(true)
-        .from_reader(alloc, Watched::new(reader));
+        .from_reader(alloc, watched);
     let mut fields = ByteRecord::new(alloc);
-    take_entries(&mut text, &mut fields, shape, &mut entries)?;
-    Ok(entries)
+    let taken = take_text(&mut text, &mut fields, heading, shape, &mut entries);
+    let (reader, failed) = text.into_inner().into_parts();
+    let read = match taken {
+        _ if failed => Err(TextFault::Read),
+        Ok(()) => Ok(entries),
+        Err(fault) => Err(fault),
+    };
+    (reader, read)
 }
 
-/// The steps that a text gives, or its first fault.
+// The same, with what is known of the reader picked at the call.
+fn read_from<E: Entry, C: Entries<E> + Drop, R: Source>(
+    reader: R,
+    alloc: Global,
+    heading: Option<Heading>,
+    shape: Shape,
+    entries: C,
+) -> (R, Result<C, TextFault>)
+    requires empty { C.listed entries ≡ [] }
+    requires fits { (entry : E) → IsSaid (E.says shape) entry → C.fits entry }
+    ensures read { IfSome (R.remaining reader)
+        (λ bytes. Gives C.listed result.1 (entries_in (E.says shape) heading (records_of bytes))) }
+    ensures said { IfOk result.1 (λ entries. All (IsSaid (E.says shape)) (C.listed entries)) }
+    ensures never_blamed { R.never_fails ≡ true → result.1 ≢ Err TextFault.Read }
+    ensures blamed { BlamesReader (R.failed reader) (R.failed result.0) (result.1 ≡ Err TextFault.Read) }
+{
+    read_known::<E, C, R, Brand>(reader, alloc, heading, shape, entries)
+}
+
+// The entries that a text gives, after none, or its first fault.
+fn read_entries<E: Entry, C: Entries<E> + Drop, R: Source>(
+    alloc: Global,
+    reader: &mut R,
+    heading: Option<Heading>,
+    shape: Shape,
+    entries: C,
+) -> Result<C, TextFault>
+    requires empty { C.listed entries ≡ [] }
+    requires fits { (entry : E) → IsSaid (E.says shape) entry → C.fits entry }
+    ensures read { IfSome (R.remaining reader.old)
+        (λ bytes. Gives C.listed result (entries_in (E.says shape) heading (records_of bytes))) }
+    ensures said { IfOk result (λ entries. All (IsSaid (E.says shape)) (C.listed entries)) }
+    ensures never_blamed { R.never_fails ≡ true → result ≢ Err TextFault.Read }
+    ensures blamed { BlamesReader (R.failed reader.old) (R.failed reader.new) (result ≡ Err TextFault.Read) }
+{
+    replace_with(
+        reader,
+        entries,
+        |reader, entries| read_from::<E, C, R>(reader, alloc, heading, shape, entries),
+    )
+}
+
+/// The steps that a text gives for a protocol and a shape, or its first fault.
 ///
 /// The text is a list of records as `csv` reads them: fields between commas, in double quotes or
 /// not, no header row, no comments, no trimming. Lines end by LF, CRLF or CR, and blank ones are no
@@ -106,53 +205,64 @@ fn read_entries<E: Entry, C: Entries<E> + Drop, R: Source + Drop>(
 /// | `O,core` | the core's oldest request is ordered |
 /// | `R,address` | the block's response comes |
 ///
+/// The first record may say what the steps are for: `V,2,protocol,cores,blocks,block_bytes,words`,
+/// with `msi` or `mesi`. It counts as record 1, is no step, and is refused where it says another
+/// protocol or shape.
+///
 /// A number is decimal digits, or `0x` and hexadecimal digits of either case, of a value below
-/// 2^64. An address stands for the block that it lies in. `TextFault` says what is refused; after
-/// `Read` and `NoMemory` nothing is said of the text.
-pub fn read_steps<R: Source + Drop>(
+/// 2^64. An address stands for the block that it lies in, of a load or a store also for the word. `TextFault` says what is
+/// refused; after
+/// `Read` and `NoMemory` nothing is said of the text. The reader is read in pieces, so after a
+/// fault it may stand well behind the record that is named.
+pub fn read_steps<R: Source>(
     alloc: Global,
-    reader: R,
+    reader: &mut R,
+    protocol: Protocol,
     shape: Shape,
 ) -> Result<Vec<Step>, TextFault>
-    ensures read { IfSome (R.remaining reader)
-        (λ bytes. Gives (λ steps. steps.items) result (steps_of shape bytes)) }
-    ensures never_blamed { R.never_fails ≡ true → IsSomeAnd (R.remaining reader) (λ bytes. length bytes < 2 ^ 64 - 1)
-        → result ≢ Err TextFault.Read }
+    ensures read { IfSome (R.remaining reader.old)
+        (λ bytes. Gives (λ steps. steps.items) result (steps_of protocol shape bytes)) }
+    ensures never_blamed { R.never_fails ≡ true → result ≢ Err TextFault.Read }
+    ensures blamed { BlamesReader (R.failed reader.old) (R.failed reader.new) (result ≡ Err TextFault.Read) }
 {
-    read_entries::<Step, Vec<Step>, R>(alloc, reader, shape, Vec::new(alloc))
+    let heading = Some(Heading::new(protocol, shape));
+    read_entries::<Step, Vec<Step>, R>(alloc, reader, heading, shape, Vec::new(alloc))
 }
 
 /// The same steps, or the same fault, gathered in another list, which is empty at first and fits every step of the shape.
-pub fn gather_steps<C: Entries<Step> + Drop, R: Source + Drop>(
+pub fn gather_steps<C: Entries<Step> + Drop, R: Source>(
     alloc: Global,
-    reader: R,
+    reader: &mut R,
+    protocol: Protocol,
     shape: Shape,
     steps: C,
 ) -> Result<C, TextFault>
     requires empty { C.listed steps ≡ [] }
     requires fits { (step : Step) → IsStepWithin shape step → C.fits step }
-    ensures read { IfSome (R.remaining reader)
-        (λ bytes. Gives C.listed result (steps_of shape bytes)) }
-    ensures never_blamed { R.never_fails ≡ true → IsSomeAnd (R.remaining reader) (λ bytes. length bytes < 2 ^ 64 - 1)
-        → result ≢ Err TextFault.Read }
+    ensures read { IfSome (R.remaining reader.old)
+        (λ bytes. Gives C.listed result (steps_of protocol shape bytes)) }
+    ensures never_blamed { R.never_fails ≡ true → result ≢ Err TextFault.Read }
+    ensures blamed { BlamesReader (R.failed reader.old) (R.failed reader.new) (result ≡ Err TextFault.Read) }
 {
-    read_entries::<Step, C, R>(alloc, reader, shape, steps)
+    shape.within_limits();
+    let heading = Some(Heading::new(protocol, shape));
+    read_entries::<Step, C, R>(alloc, reader, heading, shape, steps)
 }
 
 /// The rows that a text gives, or its first fault.
 ///
-/// The text is as for `read_steps`, with the records `L`, `S` and `E` alone: `O` and `R` are
-/// `BadKind`. A row keeps its address, which lies in a block of the shape.
-pub fn read_rows<R: Source + Drop>(
+/// The text is as for `read_steps`, with the records `L`, `S` and `E` alone: `O`, `R` and `V`
+/// are `BadKind`. A row keeps its address, which lies in a block of the shape.
+pub fn read_rows<R: Source>(
     alloc: Global,
-    reader: R,
+    reader: &mut R,
     shape: Shape,
 ) -> Result<Vec<Row>, TextFault>
-    ensures read { IfSome (R.remaining reader)
+    ensures read { IfSome (R.remaining reader.old)
         (λ bytes. Gives (λ rows. rows.items) result (rows_of shape bytes)) }
     ensures within { IfOk result (λ rows. All (IsRowWithin shape) rows.items) }
-    ensures never_blamed { R.never_fails ≡ true → IsSomeAnd (R.remaining reader) (λ bytes. length bytes < 2 ^ 64 - 1)
-        → result ≢ Err TextFault.Read }
+    ensures never_blamed { R.never_fails ≡ true → result ≢ Err TextFault.Read }
+    ensures blamed { BlamesReader (R.failed reader.old) (R.failed reader.new) (result ≡ Err TextFault.Read) }
 {
-    read_entries::<Row, Vec<Row>, R>(alloc, reader, shape, Vec::new(alloc))
+    read_entries::<Row, Vec<Row>, R>(alloc, reader, None, shape, Vec::new(alloc))
 }

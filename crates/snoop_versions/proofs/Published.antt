@@ -20,11 +20,11 @@ ok_side Q (Ok a) ok after = after
 ok_side Q (Err e) ok after = absurd (true≢false (sym ok))
 
 -- what the writer publishes is one item
-pub one_ready : (cores blocks : ℕ) (v : View) (x : Version) (ready : List Item) → 0 < length ready → Legal (v.seen ++ ready) → IsPublishing cores blocks v x ready → All (IsWithin cores blocks) (v.seen ++ ready)
-    → (c : ℕ) × (b : ℕ) × (entry : Item) × (ready ≡ entry ∷ []) × (x ≡ version_of c b v.seen) × Legal (v.seen ++ entry ∷ []) × All (IsWithin c b) (v.seen ++ entry ∷ [])
-one_ready cores blocks v x [] some legal p within = absurd (omega arith)
-one_ready cores blocks v x (entry ∷ []) some legal p within = (cores, blocks, entry, refl, p.shown, legal, within)
-one_ready cores blocks v x (entry ∷ next ∷ rest) some legal p within = let few = p.few in absurd (omega arith)
+pub one_ready : (cores blocks words : ℕ) (v : View) (x : Version) (ready : List Item) → 0 < length ready → Legal (v.seen ++ ready) → IsPublishing cores blocks words v x ready → All (IsWithin cores blocks words) (v.seen ++ ready)
+    → (c : ℕ) × (b : ℕ) × (w : ℕ) × (entry : Item) × (ready ≡ entry ∷ []) × (x ≡ version_of c b w v.seen) × Legal (v.seen ++ entry ∷ []) × All (IsWithin c b w) (v.seen ++ entry ∷ [])
+one_ready cores blocks words v x [] some legal p within = absurd (omega arith)
+one_ready cores blocks words v x (entry ∷ []) some legal p within = (cores, blocks, words, entry, refl, p.shown, legal, within)
+one_ready cores blocks words v x (entry ∷ next ∷ rest) some legal p within = let few = p.few in absurd (omega arith)
 
 -- the writer's list has grown by what was ready
 pub list_grows : (v w : View) (x y : Version) (ready : List Item) → 0 < length ready → length ready ≤ 1 → w.seen ≡ v.seen ++ option_to_list y.newest → y ≡ fold grown x ready → w.seen ≡ v.seen ++ ready
@@ -33,11 +33,11 @@ list_grows v w x y (entry ∷ []) some few seen is = seen ∙ ap (λ (z : Versio
 list_grows v w x y (entry ∷ next ∷ rest) some few seen is = absurd (omega arith)
 
 -- after the item is published, the version is that of the longer list
-pub publishes_on : (cores blocks : ℕ) (v w : View) (x y : Version) (ready : List Item) → 0 < length ready → w.writes ≡ true → w.seen ≡ v.seen ++ ready → y ≡ fold grown x ready → IsPublishing cores blocks v x ready → IsPublishing cores blocks w y []
-publishes_on cores blocks v w x y [] some writes seen is p = absurd (omega arith)
-publishes_on cores blocks v w x y (entry ∷ []) some writes seen is p = record {
+pub publishes_on : (cores blocks words : ℕ) (v w : View) (x y : Version) (ready : List Item) → 0 < length ready → w.writes ≡ true → w.seen ≡ v.seen ++ ready → y ≡ fold grown x ready → IsPublishing cores blocks words v x ready → IsPublishing cores blocks words w y []
+publishes_on cores blocks words v w x y [] some writes seen is p = absurd (omega arith)
+publishes_on cores blocks words v w x y (entry ∷ []) some writes seen is p = record {
   writing = λ e. absurd (true≢false (sym writes ∙ e));
-  shown = is ∙ (ap (λ (z : Version). grown z entry) p.shown ∙ (sym (version_of-push cores blocks v.seen entry) ∙ ap (version_of cores blocks) (sym seen)));
+  shown = is ∙ (ap (λ (z : Version). grown z entry) p.shown ∙ (sym (version_of-push cores blocks words v.seen entry) ∙ ap (version_of cores blocks words) (sym seen)));
   few = omega arith;
 }
-publishes_on cores blocks v w x y (entry ∷ next ∷ rest) some writes seen is p = let few = p.few in absurd (omega arith)
+publishes_on cores blocks words v w x y (entry ∷ next ∷ rest) some writes seen is p = let few = p.few in absurd (omega arith)

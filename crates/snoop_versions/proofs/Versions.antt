@@ -19,9 +19,9 @@ use Rattle.snoop_versions.specs.Rule.{newest_of, version_of, newcomer, Fits, Kep
 pub newest_push : (list : List Item) (entry : Item) → newest_of (list ++ entry ∷ []) ≡ Some entry
 newest_push list entry = ap (last_or None) (map-append Some list (entry ∷ [])) ∙ last_or-append None (map Some list) (Some entry ∷ [])
 
-pub version_of-push : (cores blocks : ℕ) (list : List Item) (entry : Item) → version_of cores blocks (list ++ entry ∷ []) ≡ grown (version_of cores blocks list) entry
-version_of-push cores blocks list entry = λ i. record {
-  board = sym (absorbed_board cores blocks list entry) i;
+pub version_of-push : (cores blocks words : ℕ) (list : List Item) (entry : Item) → version_of cores blocks words (list ++ entry ∷ []) ≡ grown (version_of cores blocks words list) entry
+version_of-push cores blocks words list entry = λ i. record {
+  board = sym (absorbed_board cores blocks words list entry) i;
   newest = newest_push list entry i;
 }
 
@@ -37,79 +37,82 @@ pub admits : Admits Kept newcomer
 admits x views k = record {
   cores = k.cores;
   blocks = k.blocks;
+  words = k.words;
   list = k.list;
   writer = k.writer;
   version = k.version;
   legal = k.legal;
   within = k.within;
-  each = λ j u e. ⊎_elim (λ was. k.each j u was) (λ (same : newcomer ≡ u). subst (Fits k.cores k.blocks k.list k.writer j) same (fresh_fits k.cores k.blocks k.list k.writer j)) (at_snoc views newcomer u j e);
+  each = λ j u e. ⊎_elim (λ was. k.each j u was) (λ (same : newcomer ≡ u). subst (Fits k.cores k.blocks k.words k.list k.writer j) same (fresh_fits k.cores k.blocks k.words k.list k.writer j)) (at_snoc views newcomer u j e);
 }
   where
-    fresh_fits : (c b : ℕ) (list : List Item) (writer j : ℕ) → Fits c b list writer j newcomer
-    fresh_fits c b list writer j = record { begins = (list, refl); shape = λ e. absurd (true≢false (sym e)); writes = λ e. absurd (true≢false (sym e)) }
+    fresh_fits : (c b d : ℕ) (list : List Item) (writer j : ℕ) → Fits c b d list writer j newcomer
+    fresh_fits c b d list writer j = record { begins = (list, refl); shape = λ e. absurd (true≢false (sym e)); writes = λ e. absurd (true≢false (sym e)) }
 
 pub sees : (handle : ℕ) (v : View) → Turns Kept handle v (λ x. x) Sees
 sees handle v x views k at =
     let mine = k.each handle v at in
-    let w : View = record { used = true; writes = false; cores = k.cores; blocks = k.blocks; seen = k.list } in (
+    let w : View = record { used = true; writes = false; cores = k.cores; blocks = k.blocks; words = k.words; seen = k.list } in (
       w,
       record {
         cores = k.cores;
         blocks = k.blocks;
+        words = k.words;
         list = k.list;
         writer = k.writer;
         version = k.version;
         legal = k.legal;
         within = k.within;
         each = λ j u e. ⊎_elim
-            (λ (t : (j ≡ handle) × (w ≡ u)). subst (Fits k.cores k.blocks k.list k.writer j) t.1 (seen_fits k.cores k.blocks k.list k.writer j))
+            (λ (t : (j ≡ handle) × (w ≡ u)). subst (Fits k.cores k.blocks k.words k.list k.writer j) t.1 (seen_fits k.cores k.blocks k.words k.list k.writer j))
             (λ (t : (j ≢ handle) × (get_elem? views j ≡ some u)). k.each j u t.1)
             (at_set views handle j w u e);
       },
-      record { used = refl; version = k.version; legal = k.legal; within = k.within; begins = mine.begins; shape = λ e. (sym (mine.shape e).0, sym (mine.shape e).1) },
+      record { used = refl; version = k.version; legal = k.legal; within = k.within; begins = mine.begins; shape = λ e. (sym (mine.shape e).0, sym (mine.shape e).1, sym (mine.shape e).2) },
     )
   where
-    seen_fits : (c b : ℕ) (list : List Item) (writer j : ℕ) → Fits c b list writer j (record { used = true; writes = false; cores = c; blocks = b; seen = list })
-    seen_fits c b list writer j = record { begins = ([], sym (append-nil list)); shape = λ e. (refl, refl); writes = λ e. absurd (true≢false (sym e)) }
+    seen_fits : (c b d : ℕ) (list : List Item) (writer j : ℕ) → Fits c b d list writer j (record { used = true; writes = false; cores = c; blocks = b; words = d; seen = list })
+    seen_fits c b d list writer j = record { begins = ([], sym (append-nil list)); shape = λ e. (refl, refl, refl); writes = λ e. absurd (true≢false (sym e)) }
 
 -- the writer's list is the published one
-same_list : (v : View) (x : Version) (c b c' b' writer handle : ℕ) (now : List Item) → IsWriting v → x ≡ version_of c b v.seen → x ≡ version_of c' b' now → Fits c' b' now writer handle v → (t : Bool) → v.writes ≡ t → now ≡ v.seen
-same_list v x c b c' b' writer handle now is shown kept fits true e = sym (fits.writes e).1
-same_list v x c b c' b' writer handle now is shown kept fits false e =
+same_list : (v : View) (x : Version) (c b d c' b' d' writer handle : ℕ) (now : List Item) → IsWriting v → x ≡ version_of c b d v.seen → x ≡ version_of c' b' d' now → Fits c' b' d' now writer handle v → (t : Bool) → v.writes ≡ t → now ≡ v.seen
+same_list v x c b d c' b' d' writer handle now is shown kept fits true e = sym (fits.writes e).1
+same_list v x c b d c' b' d' writer handle now is shown kept fits false e =
     let none : v.seen ≡ [] = is e in
     let newest : newest_of now ≡ newest_of v.seen = sym (ap (λ (y : Version). y.newest) kept) ∙ ap (λ (y : Version). y.newest) shown in
     newest_none now (newest ∙ ap newest_of none) ∙ sym none
 
 -- nobody else writes
-no_other : (v u : View) (c' b' writer handle j : ℕ) (now : List Item) → IsWriting v → now ≡ v.seen → Fits c' b' now writer handle v → Fits c' b' now writer j u → j ≢ handle → u.writes ≡ true → (t : Bool) → v.writes ≡ t → ⊥
-no_other v u c' b' writer handle j now is same fits theirs apart w true e = apart ((theirs.writes w).0 ∙ sym (fits.writes e).0)
-no_other v u c' b' writer handle j now is same fits theirs apart w false e = (theirs.writes w).2 (ap newest_of (same ∙ is e))
+no_other : (v u : View) (c' b' d' writer handle j : ℕ) (now : List Item) → IsWriting v → now ≡ v.seen → Fits c' b' d' now writer handle v → Fits c' b' d' now writer j u → j ≢ handle → u.writes ≡ true → (t : Bool) → v.writes ≡ t → ⊥
+no_other v u c' b' d' writer handle j now is same fits theirs apart w true e = apart ((theirs.writes w).0 ∙ sym (fits.writes e).0)
+no_other v u c' b' d' writer handle j now is same fits theirs apart w false e = (theirs.writes w).2 (ap newest_of (same ∙ is e))
 
-pub adds : (handle : ℕ) (v : View) (x next : Version) (c b : ℕ) (entry : Item) → x ≡ version_of c b v.seen → IsWriting v → Legal (v.seen ++ entry ∷ []) → All (IsWithin c b) (v.seen ++ entry ∷ []) → next ≡ grown x entry → TurnsAt Kept handle v x next Adds
-adds handle v x next c b entry shown is legal within grows views k at =
+pub adds : (handle : ℕ) (v : View) (x next : Version) (c b d : ℕ) (entry : Item) → x ≡ version_of c b d v.seen → IsWriting v → Legal (v.seen ++ entry ∷ []) → All (IsWithin c b d) (v.seen ++ entry ∷ []) → next ≡ grown x entry → TurnsAt Kept handle v x next Adds
+adds handle v x next c b d entry shown is legal within grows views k at =
     let mine = k.each handle v at in
-    let same : k.list ≡ v.seen = same_list v x c b k.cores k.blocks k.writer handle k.list is shown k.version mine v.writes refl in
-    let shape = same_shape c b k.cores k.blocks v.seen k.list (ap (λ (y : Version). y.board) (sym shown ∙ k.version)) in
-    let w : View = record { used = true; writes = true; cores = k.cores; blocks = k.blocks; seen = v.seen ++ entry ∷ [] } in
+    let same : k.list ≡ v.seen = same_list v x c b d k.cores k.blocks k.words k.writer handle k.list is shown k.version mine v.writes refl in
+    let shape = same_shape c b d k.cores k.blocks k.words v.seen k.list (ap (λ (y : Version). y.board) (sym shown ∙ k.version)) in
+    let w : View = record { used = true; writes = true; cores = k.cores; blocks = k.blocks; words = k.words; seen = v.seen ++ entry ∷ [] } in
     let seen : v.seen ++ entry ∷ [] ≡ k.list ++ entry ∷ [] = ap (λ (l : List Item). l ++ entry ∷ []) (sym same) in (
       w,
       record {
         cores = k.cores;
         blocks = k.blocks;
+        words = k.words;
         list = k.list ++ entry ∷ [];
         writer = handle;
-        version = grows ∙ ap (λ (y : Version). grown y entry) k.version ∙ sym (version_of-push k.cores k.blocks k.list entry);
+        version = grows ∙ ap (λ (y : Version). grown y entry) k.version ∙ sym (version_of-push k.cores k.blocks k.words k.list entry);
         legal = subst Legal seen legal;
-        within = subst (All (IsWithin k.cores k.blocks)) seen (subst (λ (n : ℕ). All (IsWithin k.cores n) (v.seen ++ entry ∷ [])) shape.1 (subst (λ (n : ℕ). All (IsWithin n b) (v.seen ++ entry ∷ [])) shape.0 within));
+        within = subst (All (IsWithin k.cores k.blocks k.words)) seen (subst (λ (n : ℕ). All (IsWithin k.cores k.blocks n) (v.seen ++ entry ∷ [])) shape.2 (subst (λ (n : ℕ). All (IsWithin k.cores n d) (v.seen ++ entry ∷ [])) shape.1 (subst (λ (n : ℕ). All (IsWithin n b d) (v.seen ++ entry ∷ [])) shape.0 within)));
         each = λ j u e. ⊎_elim
-            (λ (t : (j ≡ handle) × (w ≡ u)). subst (Fits k.cores k.blocks (k.list ++ entry ∷ []) handle j) t.1
-            (record { begins = ([], sym seen ∙ sym (append-nil (v.seen ++ entry ∷ []))); shape = λ e. (refl, refl); writes = λ e. (t.0, seen, λ none. absurd (some_none (sym (newest_push k.list entry) ∙ none))) }))
+            (λ (t : (j ≡ handle) × (w ≡ u)). subst (Fits k.cores k.blocks k.words (k.list ++ entry ∷ []) handle j) t.1
+            (record { begins = ([], sym seen ∙ sym (append-nil (v.seen ++ entry ∷ []))); shape = λ e. (refl, refl, refl); writes = λ e. (t.0, seen, λ none. absurd (some_none (sym (newest_push k.list entry) ∙ none))) }))
             (λ (t : (j ≢ handle) × (get_elem? views j ≡ some u)).
             let o = k.each j u t.1 in
             record {
               begins = (o.begins.0 ++ entry ∷ [], ap (λ (l : List Item). l ++ entry ∷ []) o.begins.1 ∙ append_assoc u.seen o.begins.0 (entry ∷ []));
               shape = o.shape;
-              writes = λ e. absurd (no_other v u k.cores k.blocks k.writer handle j k.list is same mine o t.0 e v.writes refl);
+              writes = λ e. absurd (no_other v u k.cores k.blocks k.words k.writer handle j k.list is same mine o t.0 e v.writes refl);
             })
             (at_set views handle j w u e);
       },
@@ -120,17 +123,17 @@ adds handle v x next c b entry shown is legal within grows views k at =
     some_none e = cc
 
 -- the rule holds of the version of no items, which only its writer has
-pub opens : (x : Version) (c b : ℕ) → x ≡ version_of c b [] → Kept x (newcomer ∷ [])
-opens x c b is = record { cores = c; blocks = b; list = []; writer = 0; version = is; legal = none_illegal; within = All-nil (IsWithin c b); each = one }
+pub opens : (x : Version) (c b d : ℕ) → x ≡ version_of c b d [] → Kept x (newcomer ∷ [])
+opens x c b d is = record { cores = c; blocks = b; words = d; list = []; writer = 0; version = is; legal = none_illegal; within = All-nil (IsWithin c b d); each = one }
   where
     none_illegal : Legal []
     none_illegal k entry at = cc
 
-    fits : (j : ℕ) → Fits c b [] 0 j newcomer
+    fits : (j : ℕ) → Fits c b d [] 0 j newcomer
     fits j = record { begins = ([], refl); shape = λ e. absurd (true≢false (sym e)); writes = λ e. absurd (true≢false (sym e)) }
 
     at_none : (j : ℕ) (v : View) → get_elem? {A = View} [] j ≡ some v → ⊥
     at_none j v e = cc
 
-    one : (j : ℕ) (v : View) → get_elem? (newcomer ∷ []) j ≡ some v → Fits c b [] 0 j v
-    one j v e = ⊎_elim (λ (t : get_elem? {A = View} [] j ≡ some v). absurd (at_none j v t)) (λ (same : newcomer ≡ v). subst (Fits c b [] 0 j) same (fits j)) (at_snoc [] newcomer v j e)
+    one : (j : ℕ) (v : View) → get_elem? (newcomer ∷ []) j ≡ some v → Fits c b d [] 0 j v
+    one j v e = ⊎_elim (λ (t : get_elem? {A = View} [] j ≡ some v). absurd (at_none j v t)) (λ (same : newcomer ≡ v). subst (Fits c b d [] 0 j) same (fits j)) (at_snoc [] newcomer v j e)

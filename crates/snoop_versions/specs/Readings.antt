@@ -8,6 +8,7 @@ use Rattle.snoop_history.specs.History.{Legal}
 pub record Publishing : Type 0 where
   pub cores : ℕ
   pub blocks : ℕ
+  pub words : ℕ
   pub list : List Item
   pub ready : List Item
 
@@ -15,6 +16,7 @@ pub record Publishing : Type 0 where
 pub record Viewing : Type 0 where
   pub cores : ℕ
   pub blocks : ℕ
+  pub words : ℕ
   pub seen : List Item
 
 -- the list begins with the other
@@ -25,4 +27,4 @@ StartsWith {A} list first = (rest : List A) × (list ≡ first ++ rest)
 pub record Enters (s t : Viewing) : Type 0 where
   pub legal : Legal t.seen
   pub begins : StartsWith t.seen s.seen
-  pub shape : (t.cores ≡ s.cores) × (t.blocks ≡ s.blocks)
+  pub shape : (t.cores ≡ s.cores) × (t.blocks ≡ s.blocks) × (t.words ≡ s.words)

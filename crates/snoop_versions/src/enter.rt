@@ -1,5 +1,5 @@
 //! What a reader takes from one published version.
-ghost use Rattle.std.specs.Prelude.{◌≡◌, Some, None, IfSome, IfNone, IsTrue, true, if◌then◌else◌, nat_lt};
+ghost use Rattle.std.specs.Prelude.{◌≡◌, ◌&&◌, Some, None, IfSome, IfNone, IsTrue, true, if◌then◌else◌, nat_lt};
 ghost use Rattle.snoop_history.specs.History.{Legal, next_number, flat, last_of};
 ghost use Rattle.snoop_history.specs.Totals.{totals_of, capped, capped_totals};
 ghost use Rattle.snoop_versions.specs.Readings.{Enters};
@@ -13,7 +13,7 @@ use snoop_trace::Shape;
 /// Whether the versions are of this shape.
 pub(crate) fn enter_shape(reader: RuledReader, shape: Shape) -> (RuledReader, bool)
     ensures used { IsTrue result.1 → (knows result.0.place).used ≡ true }
-    ensures shape { IsTrue result.1 → ((knows result.0.place).cores ≡ shape.cores) × ((knows result.0.place).blocks ≡ shape.blocks) }
+    ensures shape { IsTrue result.1 → ((knows result.0.place).cores ≡ shape.cores) × ((knows result.0.place).blocks ≡ shape.blocks) × ((knows result.0.place).words ≡ shape.words) }
     ensures legal { IsTrue result.1 → Legal (knows result.0.place).seen }
 {
     match reader.enter_as::<SeesList>() {
@@ -25,17 +25,20 @@ pub(crate) fn enter_shape(reader: RuledReader, shape: Shape) -> (RuledReader, bo
     }
 }
 
-/// The value of a block.
-pub(crate) fn enter_value(reader: RuledReader, block: u32) -> (RuledReader, Option<Option<u64>>)
+/// The value of a word of a block.
+pub(crate) fn enter_value(
+    reader: RuledReader,
+    place: (u32, u32),
+) -> (RuledReader, Option<Option<u64>>)
     requires { (knows reader.place).used ≡ true }
     ensures used { (knows result.0.place).used ≡ true }
     ensures some { IfSome result.1 (λ value. Enters (viewing (knows reader.place)) (viewing (knows result.0.place))
-        × (value ≡ (if nat_lt block (knows result.0.place).blocks then Some (flat (knows result.0.place).seen block) else None))) }
+        × (value ≡ (if nat_lt place.0 (knows result.0.place).blocks && nat_lt place.1 (knows result.0.place).words then Some (flat (knows result.0.place).seen place.0 place.1) else None))) }
     ensures none { IfNone result.1 (knows result.0.place ≡ knows reader.place) }
 {
     match reader.enter_as::<SeesList>() {
         Ok(reading) => {
-            let value = reading.get().board.value(block);
+            let value = reading.get().board.value(place.0, place.1);
             (reading.leave(), Some(value))
         }
         Err(reader) => (reader, None),

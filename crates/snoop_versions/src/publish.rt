@@ -12,13 +12,13 @@ use std::sync::Wait;
 pub(crate) fn publish<R: Wait>(writer: RuledWriter, rt: &R) -> (RuledWriter, ())
     requires one { 0 < length (drop writer.behind writer.log.items) }
     requires legal { Legal ((knows writer.desk.place).seen ++ drop writer.behind writer.log.items) }
-    requires publishing { (cores : ℕ) × (blocks : ℕ)
-        × IsPublishing cores blocks (knows writer.desk.place) writer.desk.shown.value (drop writer.behind writer.log.items)
-        × All (IsWithin cores blocks) ((knows writer.desk.place).seen ++ drop writer.behind writer.log.items) }
+    requires publishing { (cores : ℕ) × (blocks : ℕ) × (words : ℕ)
+        × IsPublishing cores blocks words (knows writer.desk.place) writer.desk.shown.value (drop writer.behind writer.log.items)
+        × All (IsWithin cores blocks words) ((knows writer.desk.place).seen ++ drop writer.behind writer.log.items) }
     ensures list { (knows result.0.desk.place).seen ≡ (knows writer.desk.place).seen ++ drop writer.behind writer.log.items }
     ensures ready { drop result.0.behind result.0.log.items ≡ [] }
-    ensures publishing { (cores blocks : ℕ) → IsPublishing cores blocks (knows writer.desk.place) writer.desk.shown.value (drop writer.behind writer.log.items)
-        → IsPublishing cores blocks (knows result.0.desk.place) result.0.desk.shown.value [] }
+    ensures publishing { (cores blocks words : ℕ) → IsPublishing cores blocks words (knows writer.desk.place) writer.desk.shown.value (drop writer.behind writer.log.items)
+        → IsPublishing cores blocks words (knows result.0.desk.place) result.0.desk.shown.value [] }
 {
     (writer.publish_as::<AddsItem, R>(rt).0, ())
 }

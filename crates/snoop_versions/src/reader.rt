@@ -15,7 +15,7 @@ pub struct Readers {
 }
 
 impl Readers {
-    ghost use Rattle.std.specs.Prelude.{◌≡◌, IfSome};
+    ghost use Rattle.std.specs.Prelude.{◌≡◌, ◌&&◌, IfSome};
     ghost use Rattle.snoop_history.specs.History.{Legal};
 
     pub(crate) fn over(factory: RuledFactory) -> Readers {
@@ -23,9 +23,9 @@ impl Readers {
     }
 
     /// A reader of versions of this shape, which has read the current version. `None` where there is no place left, where the
-    /// writer has ended, and where the versions are of another number of cores or blocks.
+    /// writer has ended, and where the versions are of another number of cores, blocks or words.
     pub fn reader(&self, shape: Shape) -> Option<VersionReader>
-        ensures shape { IfSome result (λ reader. (reader.cores ≡ shape.cores) × (reader.blocks ≡ shape.blocks)) }
+        ensures shape { IfSome result (λ reader. (reader.cores ≡ shape.cores) × (reader.blocks ≡ shape.blocks) × (reader.words ≡ shape.words)) }
         ensures legal { IfSome result (λ reader. Legal reader.seen) }
     {
         let reader = self.factory.reader().ok()?;
@@ -58,19 +58,19 @@ impl Model for VersionReader {
 }
 
 impl VersionReader {
-    ghost use Rattle.std.specs.Prelude.{◌≡◌, Some, None, IfSome, IfNone, if◌then◌else◌, nat_lt};
+    ghost use Rattle.std.specs.Prelude.{◌≡◌, Some, None, IfSome, IfNone, if◌then◌else◌, nat_lt, ◌&&◌};
     ghost use Rattle.snoop_history.specs.History.{next_number, flat, last_of};
     ghost use Rattle.snoop_history.specs.Totals.{totals_of, capped, capped_totals};
     ghost use Rattle.snoop_versions.specs.Readings.{Enters};
 
-    /// The last value stored in the block, 0 if there is none, and `None` for a block outside the shape. No answer where the
+    /// The last value stored in the word of the block, 0 if there is none, and `None` for a block or a word outside the shape. No answer where the
     /// writer has ended. It waits for nobody and takes no memory.
-    pub fn value(&mut self, block: u32) -> Option<Option<u64>>
+    pub fn value(&mut self, block: u32, word: u32) -> Option<Option<u64>>
         ensures some { IfSome result (λ value. Enters self.old self.new
-            × (value ≡ (if nat_lt block self.new.blocks then Some (flat self.new.seen block) else None))) }
+            × (value ≡ (if nat_lt block self.new.blocks && nat_lt word self.new.words then Some (flat self.new.seen block word) else None))) }
         ensures none { IfNone result (self.new ≡ self.old) }
     {
-        replace_with(&mut self.reader, block, enter_value)
+        replace_with(&mut self.reader, (block, word), enter_value)
     }
 
     /// The counts of the items, each up to the largest `u64`. No answer where the writer has ended. It waits for nobody and

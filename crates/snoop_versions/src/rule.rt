@@ -14,6 +14,7 @@ pub(crate) struct View {
     pub(crate) writes: bool,
     pub(crate) cores: u64,
     pub(crate) blocks: u64,
+    pub(crate) words: u64,
     /// The list that was seen. The writer's is the published one.
     pub(crate) seen: LinkedList<Item>,
 }

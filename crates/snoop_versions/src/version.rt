@@ -18,7 +18,7 @@ pub(crate) struct Version {
 impl Version {
     /// The version of no items.
     pub(crate) fn new(alloc: Global, shape: Shape) -> Result<Version, NoMemory>
-        ensures { IfOk result (λ v. v ≡ version_of shape.cores shape.blocks []) }
+        ensures { IfOk result (λ v. v ≡ version_of shape.cores shape.blocks shape.words []) }
     {
         Ok(Version {
             board: Board::new(alloc, shape)?,

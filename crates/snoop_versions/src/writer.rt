@@ -30,9 +30,9 @@ impl Model for VersionWriter {
     ghost use Rattle.snoop_versions.specs.Knows.{knows};
     ghost use Rattle.snoop_versions.specs.Rule.{IsPublishing};
 
-    ghost view = { λ w. record { cores = w.shape.cores; blocks = w.shape.blocks; list = (knows (manually_drop_value w.writer).desk.place).seen; ready = drop (manually_drop_value w.writer).behind (manually_drop_value w.writer).log.items } };
+    ghost view = { λ w. record { cores = w.shape.cores; blocks = w.shape.blocks; words = w.shape.words; list = (knows (manually_drop_value w.writer).desk.place).seen; ready = drop (manually_drop_value w.writer).behind (manually_drop_value w.writer).log.items } };
 
-    ghost invariant = { λ w. IsPublishing w.shape.cores w.shape.blocks (knows (manually_drop_value w.writer).desk.place) (manually_drop_value w.writer).desk.shown.value (drop (manually_drop_value w.writer).behind (manually_drop_value w.writer).log.items) };
+    ghost invariant = { λ w. IsPublishing w.shape.cores w.shape.blocks w.shape.words (knows (manually_drop_value w.writer).desk.place) (manually_drop_value w.writer).desk.shown.value (drop (manually_drop_value w.writer).behind (manually_drop_value w.writer).log.items) };
 }
 
 impl VersionWriter {
@@ -43,7 +43,7 @@ impl VersionWriter {
     /// The writer of the version of no items, for this shape, with `readers` reading places. `NoMemory` where a growth was refused.
     pub fn new(alloc: Global, shape: Shape, readers: usize) -> Result<VersionWriter, NoMemory>
         requires { (0 < readers) × (readers < 2 ^ 32) }
-        ensures { IfOk result (λ writer. writer ≡ record { cores = shape.cores; blocks = shape.blocks; list = []; ready = [] }) }
+        ensures { IfOk result (λ writer. writer ≡ record { cores = shape.cores; blocks = shape.blocks; words = shape.words; list = []; ready = [] }) }
     {
         let first = Version::new(alloc, shape)?;
         let second = Version::new(alloc, shape)?;
@@ -71,7 +71,7 @@ impl VersionWriter {
     /// ready it does nothing. It takes no memory.
     pub fn publish<R: Wait>(&mut self, rt: &R)
         requires legal { Legal (self.old.list ++ self.old.ready) }
-        requires within { All (IsWithin self.old.cores self.old.blocks) (self.old.list ++ self.old.ready) }
+        requires within { All (IsWithin self.old.cores self.old.blocks self.old.words) (self.old.list ++ self.old.ready) }
         ensures { self.new ≡ record self.old { list = self.old.list ++ self.old.ready; ready = [] } }
     {
         if self.writer.has_pending_operations() {

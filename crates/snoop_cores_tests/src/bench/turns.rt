@@ -1,14 +1,15 @@
 //! Turns of two cores on one bench.
 
-use snoop_cores::{AdvanceFault, Bench, Turn, Work};
+use snoop_cores::{AdvanceFault, Bench, Evicted, Turn, Work};
 use snoop_rules::Protocol;
-use snoop_trace::{Op, Shape};
+use snoop_trace::{Op, Shape, Step};
 use std::test::Fail;
 
-/// The store of the value in block 0.
+/// The store of the value in word 0 of block 0.
 pub(super) fn store(value: u64) -> Work {
     Work {
         block: 0,
+        word: 0,
         op: Op::Store(value),
     }
 }
@@ -18,10 +19,12 @@ fn a_turn_closes_the_work_of_another_core(rt: HostRuntime) -> Result<(), Fail> {
     let mut bench = Bench::new(rt.alloc(), Protocol::Msi, Shape::new(2, 4, 64)?, 1)?;
     let load = Work {
         block: 0,
+        word: 0,
         op: Op::Load,
     };
     let outside = Work {
         block: 4,
+        word: 0,
         op: Op::Load,
     };
     let turns = [
@@ -47,5 +50,49 @@ fn a_turn_closes_the_work_of_another_core(rt: HostRuntime) -> Result<(), Fail> {
         Err(AdvanceFault::NoBlock),
     ];
     assert_eq!(rt; (turns, left), (expected, (None, Some(store(2)), 4)));
+    Ok(())
+}
+
+/// An eviction of block 0, with a word that is not looked at.
+fn evict(word: u32) -> Work {
+    Work {
+        block: 0,
+        word,
+        op: Op::Evict,
+    }
+}
+
+#[test]
+fn the_word_of_an_eviction_is_not_looked_at(rt: HostRuntime) -> Result<(), Fail> {
+    let mut bench = Bench::new(rt.alloc(), Protocol::Msi, Shape::new(2, 4, 64)?, 1)?;
+    let stored = [
+        bench.advance(&rt, 0, store(1)),
+        bench.advance(&rt, 0, store(1)),
+        bench.advance(&rt, 0, store(1)),
+    ];
+    let begun = bench.advance(&rt, 0, evict(1));
+    let under_way = bench.work(0);
+    let evicted = [
+        bench.advance(&rt, 0, evict(0)),
+        bench.advance(&rt, 0, evict(70)),
+    ];
+    let asked = bench.steps().get(3).copied();
+    bench.end(&rt);
+    let expected = Step::Ask {
+        core: 0,
+        block: 0,
+        word: 0,
+        op: Op::Evict,
+    };
+    assert_eq!(rt;
+        (stored, begun, under_way, evicted, asked),
+        (
+            [Ok(Turn::Going), Ok(Turn::Going), Ok(Turn::Stored)],
+            Ok(Turn::Going),
+            Some(evict(0)),
+            [Ok(Turn::Going), Ok(Turn::Evicted(Evicted::Put))],
+            Some(expected),
+        )
+    );
     Ok(())
 }

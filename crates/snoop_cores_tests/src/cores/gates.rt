@@ -1,7 +1,7 @@
 //! Rows that wait for one another: two threads ran at once.
 
-use crate::cores::scene::{Scene, counts, row};
-use snoop_cores::{Gate, Late, Stop, run_seats};
+use crate::cores::scene::{Scene, Shown, all_ran, row};
+use snoop_cores::{Gate, Late, Stop};
 use snoop_trace::Op;
 use std::sync::atomic::{AtomicU64, Ordering};
 use std::test::Fail;
@@ -45,23 +45,15 @@ fn each_core_waits_for_the_other(rt: HostRuntime) -> Result<(), Fail> {
             held,
             came: AtomicU64::new(0),
         };
-        let stops = run_seats(
-            &rt,
-            rt.alloc(),
-            scene.seats.as_mut_slice(),
-            rows.as_slice(),
-            &gate,
-        );
-        let gathered = scene.gathered(&rt, rt.alloc()).map(|gathered| (
-            gathered.log.flat(0),
-            gathered.log.flat(1),
-            counts(gathered.log.totals()),
-            gathered.steps.len(),
-        ));
+        let ran = all_ran(&scene.run(&rt, rt.alloc(), rows.as_slice(), &gate));
+        let shown = scene.shown(&rt, rt.alloc());
         scene.end(&rt);
-        let ran = stops.is_ok_and(|stops| stops.iter().all(|stop| stop.is_none()));
-        let expected = Some((Some(5), Some(6), [2, 2, 2, 0, 0, 2, 0, 2, 0, 0, 0, 0], 8));
-        assert_eq!(rt; (ran, gathered), (true, expected), "core {held} is held");
+        let expected = Shown {
+            steps: 8,
+            counts: [2, 2, 2, 0, 0, 2, 0, 2, 0, 0, 0, 0],
+            values: [Some(5), None, Some(6)],
+        };
+        assert_eq!(rt; (ran, shown), (true, Some(expected)), "core {held} is held");
     }
     Ok(())
 }
@@ -86,25 +78,17 @@ fn a_late_gate_stops_cores_at_their_rows(rt: HostRuntime) -> Result<(), Fail> {
         row(2, Op::Load, 64),
         row(1, Op::Evict, 64),
     ];
-    let stops = run_seats(
-        &rt,
-        rt.alloc(),
-        scene.seats.as_mut_slice(),
-        rows.as_slice(),
-        &First,
-    );
-    let loads_and_stores = scene.gathered(&rt, rt.alloc()).map(|gathered| (
-        gathered.log.totals().loads,
-        gathered.log.totals().stores,
-    ));
+    let stops = scene.run(&rt, rt.alloc(), rows.as_slice(), &First);
+    let shown = scene.shown(&rt, rt.alloc());
     scene.end(&rt);
-    let Ok(stops) = stops else {
-        return Err(Fail::from("rows"));
+    let (Ok(stops), Some(shown)) = (stops, shown) else {
+        return Err(Fail::from("rows or a gathering"));
     };
     let late = Some(Stop::Late(1));
+    let [loads, _, stores, ..] = shown.counts;
     assert_eq!(rt;
-        (stops.as_slice(), loads_and_stores),
-        ([late, late, None].as_slice(), Some((2, 1)))
+        (stops.as_slice(), loads, stores),
+        ([late, late, None].as_slice(), 2, 1)
     );
     Ok(())
 }

@@ -1,9 +1,7 @@
 //! Out of memory: each test passes with any one growth refused. tools/refusals.py refuses each in turn.
 
-use crate::cores::scene::{Scene, ask_rows, counts, row, work};
-use snoop_cores::{
-    Free, GatherFault, Gathered, RunFault, SeatFault, Stop, Turn, Work, gather, run_seats,
-};
+use crate::cores::scene::{Scene, ask_rows, row, work};
+use snoop_cores::{Free, GatherFault, Gathered, RunFault, SeatFault, Stop, Turn, Work, gather};
 use snoop_history::{Came, Did, Item, Log, Sent};
 use snoop_rules::{Payload, Request};
 use snoop_trace::{Op, Row, Step};
@@ -14,6 +12,7 @@ use std::thread::Threads;
 
 const STORE_5: Work = Work {
     block: 0,
+    word: 0,
     op: Op::Store(5),
 };
 
@@ -21,18 +20,21 @@ const STORE_5: Work = Work {
 const ASK_0: Step = Step::Ask {
     core: 0,
     block: 0,
+    word: 0,
     op: Op::Store(5),
 };
 
 const ASK_1: Step = Step::Ask {
     core: 1,
     block: 0,
+    word: 0,
     op: Op::Store(6),
 };
 
 const LOAD_1: Step = Step::Ask {
     core: 1,
     block: 0,
+    word: 0,
     op: Op::Load,
 };
 
@@ -64,6 +66,7 @@ const HANDED_OVER: [Item; 4] = [
             core: 0,
             number: 0,
             block: 0,
+            word: 0,
             load: false,
             value: 5,
             hit: false,
@@ -86,6 +89,7 @@ const HANDED_OVER: [Item; 4] = [
             core: 1,
             number: 0,
             block: 0,
+            word: 0,
             load: true,
             value: 5,
             hit: false,
@@ -109,17 +113,12 @@ fn goes_on<R: Threads + Wait + Sync>(
 ) -> Option<Result<Turn, SeatFault>> {
     let loaded = scene.call(rt, 0, work(Op::Load));
     let rows = [row(0, Op::Load, 0)];
-    let stops = run_seats(
-        rt,
-        alloc,
-        scene.seats.as_mut_slice(),
-        rows.as_slice(),
-        &Free,
-    );
-    let stop = stops
-        .ok()
-        .and_then(|stops| stops.first().copied().flatten());
-    let gathered = gather(rt, alloc, &scene.shared, scene.seats.as_slice()).err();
+    let stops = scene.run(rt, alloc, rows.as_slice(), &Free);
+    let stop = match &stops {
+        Ok(stops) => stops.first().copied().flatten(),
+        Err(_) => None,
+    };
+    let gathered = scene.refusal(rt, alloc, scene.seats.as_slice());
     let busy = SeatFault::Busy(STORE_5);
     if (loaded, stop, gathered)
         != (
@@ -155,6 +154,17 @@ fn stores_of(log: &Log, core: u32) -> usize {
     count
 }
 
+/// Whether a gathering has the steps and the items of the handover, and how many stores of core 0.
+fn handed_over<R: Wait>(scene: &Scene, rt: &R, alloc: Global) -> Option<(bool, bool, usize)> {
+    let gathered = gathers(scene, rt, alloc)?;
+    let (steps, log) = (gathered.steps.as_slice(), &gathered.log);
+    Some((
+        steps == HANDOVER.as_slice(),
+        has_items(log, &HANDED_OVER),
+        stores_of(log, 0),
+    ))
+}
+
 #[test]
 fn a_pending_store_is_handed_over_once(rt: HostRuntime) -> Result<(), Fail> {
     let mut scene = Scene::new(&rt, rt.alloc(), 2)?;
@@ -162,49 +172,28 @@ fn a_pending_store_is_handed_over_once(rt: HostRuntime) -> Result<(), Fail> {
     if stored == Some(Err(SeatFault::NoMemory)) {
         stored = goes_on(&mut scene, &rt, rt.alloc());
     }
-    let own = scene.seats.get_mut(0).and_then(|seat| seat.value(0).ok());
-    let before = scene
-        .watches
-        .get_mut(0)
-        .and_then(|watch| watch.totals().ok());
+    let own = scene.seated(0, 0, 0);
+    let before = scene.counted();
     let loaded = scene.call_at_last(&rt, 1, work(Op::Load));
-    let after = scene
-        .watches
-        .get_mut(0)
-        .and_then(|watch| watch.totals().ok());
-    let value = scene
-        .watches
-        .get_mut(0)
-        .and_then(|watch| watch.value(0).ok());
-    let first = gathers(&scene, &rt, rt.alloc());
-    let second = gathers(&scene, &rt, rt.alloc());
+    let after = scene.counted();
+    let value = scene.watched(0, 0);
+    let first = handed_over(&scene, &rt, rt.alloc());
+    let second = handed_over(&scene, &rt, rt.alloc());
     scene.end(&rt);
     assert_eq!(rt;
-        (stored, own, loaded, value),
-        (
-            Some(Ok(Turn::Stored)),
-            Some(5),
-            Some(Ok(Turn::Loaded(5))),
-            Some(5)
-        )
+        (stored, loaded),
+        (Some(Ok(Turn::Stored)), Some(Ok(Turn::Loaded(5))))
     );
+    assert_eq!(rt; (own, value), (Some(Ok(5)), Some(Ok(5))));
     assert_eq!(rt;
-        (before.map(counts), after.map(counts)),
+        (before, after),
         (
             Some([0, 0, 1, 0, 0, 1, 0, 1, 0, 0, 0, 0]),
             Some([1, 0, 1, 0, 1, 1, 0, 1, 1, 0, 0, 0]),
         )
     );
-    let (Some(first), Some(second)) = (first, second) else {
-        return Err(Fail::from("a gathering"));
-    };
-    for gathered in [first, second] {
-        let (steps, log) = (gathered.steps.as_slice(), &gathered.log);
-        assert_eq!(rt;
-            (steps, has_items(log, &HANDED_OVER), stores_of(log, 0)),
-            (HANDOVER.as_slice(), true, 1)
-        );
-    }
+    let handed = Some((true, true, 1));
+    assert_eq!(rt; (first, second), (handed, handed));
     Ok(())
 }
 
@@ -234,10 +223,28 @@ fn is_in_order(
     orders.iter().any(|(order, left)| rest == Some(order.as_slice()) && value == Some(*left))
 }
 
+/// Whether a gathering has one of the orders, after those of so many loads, and how many stores of each core.
+fn ends_in<R: Wait>(
+    scene: &Scene,
+    rt: &R,
+    alloc: Global,
+    loads: usize,
+    orders: &[([Step; 6], u64)],
+) -> Option<(bool, usize, usize)> {
+    let gathered = gathers(scene, rt, alloc)?;
+    let log = &gathered.log;
+    Some((
+        is_in_order(gathered.steps.as_slice(), loads, log.flat(0, 0), orders),
+        stores_of(log, 0),
+        stores_of(log, 1),
+    ))
+}
+
 #[test]
 fn another_store_ends_an_open_transaction(rt: HostRuntime) -> Result<(), Fail> {
     let unrelated = Work {
         block: 1,
+        word: 0,
         op: Op::Load,
     };
     let (whole, stopped) = ORDERS.as_slice().split_at(1);
@@ -255,22 +262,14 @@ fn another_store_ends_an_open_transaction(rt: HostRuntime) -> Result<(), Fail> {
         } else {
             (first, whole)
         };
-        let gathered = gathers(&scene, &rt, rt.alloc());
+        let ended = ends_in(&scene, &rt, rt.alloc(), count, orders);
         scene.end(&rt);
-        let Some(Gathered { log, steps }) = gathered else {
-            return Err(Fail::from("a gathering"));
-        };
-        let ordered = is_in_order(steps.as_slice(), count, log.flat(0), orders);
         assert_eq!(rt;
-            (loaded, stored, other, ordered),
-            (true, Some(Ok(Turn::Stored)), Some(Ok(Turn::Stored)), true),
+            (loaded, stored, other),
+            (true, Some(Ok(Turn::Stored)), Some(Ok(Turn::Stored))),
             "after {count} loads"
         );
-        assert_eq!(rt;
-            (stores_of(&log, 0), stores_of(&log, 1)),
-            (1, 1),
-            "after {count} loads"
-        );
+        assert_eq!(rt; ended, Some((true, 1, 1)), "after {count} loads");
     }
     Ok(())
 }
@@ -278,7 +277,11 @@ fn another_store_ends_an_open_transaction(rt: HostRuntime) -> Result<(), Fail> {
 /// The operation of a row, where it lies in a block.
 fn work_of(row: &Row) -> Option<Work> {
     let block = u32::try_from(row.address / 64).ok()?;
-    Some(Work { block, op: row.op })
+    Some(Work {
+        block,
+        word: 0,
+        op: row.op,
+    })
 }
 
 /// Ends the rows of a core that stopped: out of memory at the row that is pending now, which the same call performs.
@@ -310,11 +313,7 @@ fn end_rows<R: Wait>(scene: &mut Scene, rt: &R, rows: &[Row], core: u32, stop: S
 
 /// Whether no seat has done anything.
 fn is_unused(scene: &mut Scene) -> bool {
-    let totals = scene
-        .watches
-        .get_mut(0)
-        .and_then(|watch| watch.totals().ok());
-    totals.map(counts) == Some([0; 12])
+    scene.counted() == Some([0; 12])
         && scene.seats.iter().all(|seat| seat.pending().is_none() && seat.answers().is_empty())
 }
 
@@ -325,24 +324,36 @@ fn run_rows<R: Threads + Wait + Sync>(
     alloc: Global,
     rows: &[Row],
 ) -> bool {
-    let mut stops = run_seats(rt, alloc, scene.seats.as_mut_slice(), rows, &Free);
+    let mut stops = scene.run(rt, alloc, rows, &Free);
     if let Err(fault) = stops {
         if fault != RunFault::NoMemory || !is_unused(scene) {
             return false;
         }
-        stops = run_seats(rt, alloc, scene.seats.as_mut_slice(), rows, &Free);
+        stops = scene.run(rt, alloc, rows, &Free);
     }
     let Ok(stops) = stops else {
         return false;
     };
-    for (core, stop) in (0..).zip(stops) {
-        if let Some(stop) = stop
+    for (core, stop) in (0..).zip(&stops) {
+        if let Some(stop) = *stop
             && !end_rows(scene, rt, rows, core, stop)
         {
             return false;
         }
     }
     true
+}
+
+/// Whether a gathering asks for the rows of both cores, and how many loads and stores it has.
+fn asked<R: Wait>(scene: &Scene, rt: &R, alloc: Global, rows: &[Row]) -> Option<(bool, u64, u64)> {
+    let gathered = gathers(scene, rt, alloc)?;
+    let steps = gathered.steps.as_slice();
+    let totals = gathered.log.totals();
+    Some((
+        ask_rows(steps, rows, 0) && ask_rows(steps, rows, 1),
+        totals.loads,
+        totals.stores,
+    ))
 }
 
 #[test]
@@ -360,16 +371,8 @@ fn rows_go_on_where_they_stopped(rt: HostRuntime) -> Result<(), Fail> {
     let rows = rows.as_slice();
     let mut scene = Scene::new(&rt, rt.alloc(), 2)?;
     let ran = run_rows(&mut scene, &rt, rt.alloc(), rows);
-    let gathered = gathers(&scene, &rt, rt.alloc());
+    let asked = asked(&scene, &rt, rt.alloc(), rows);
     scene.end(&rt);
-    let Some(Gathered { log, steps }) = gathered else {
-        return Err(Fail::from("a gathering"));
-    };
-    let asked = ask_rows(steps.as_slice(), rows, 0) && ask_rows(steps.as_slice(), rows, 1);
-    let totals = log.totals();
-    assert_eq!(rt;
-        (ran, asked, totals.loads, totals.stores),
-        (true, true, 3, 3)
-    );
+    assert_eq!(rt; (ran, asked), (true, Some((true, 3, 3))));
     Ok(())
 }

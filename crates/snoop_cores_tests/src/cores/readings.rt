@@ -1,6 +1,6 @@
 //! Readings of versions beside cores that store.
 
-use crate::cores::scene::{Scene, counts, row};
+use crate::cores::scene::{Scene, all_ran, counts, row};
 use snoop_cores::{Free, Watch, run_seats};
 use snoop_trace::{Op, Row};
 use std::test::Fail;
@@ -48,11 +48,9 @@ fn counts_never_fall_beside_two_cores_that_store(rt: HostRuntime) -> Result<(), 
             None => false,
         },
     );
-    let stores = scene
-        .gathered(&rt, rt.alloc())
-        .map(|gathered| gathered.log.totals().stores);
+    let shown = scene.shown(&rt, rt.alloc());
     scene.end(&rt);
-    let ran = stops.is_ok_and(|stops| stops.iter().all(|stop| stop.is_none()));
-    assert_eq!(rt; (ran, risen, stores), (true, true, Some(200)));
+    let stores = shown.map(|shown| shown.counts[2]);
+    assert_eq!(rt; (all_ran(&stops), risen, stores), (true, true, Some(200)));
     Ok(())
 }

@@ -3,7 +3,7 @@
 use crate::cores::scene::{Scene, row, work};
 use snoop_cores::{
     AdvanceFault, Free, GatherFault, Late, MakeFault, RunFault, Seat, SeatFault, Shared, Turn,
-    ViewFault, gather, run_seats,
+    ViewFault,
 };
 use snoop_history::Did;
 use snoop_rules::Protocol;
@@ -14,20 +14,11 @@ use std::test::Fail;
 fn a_row_outside_the_shape(rt: HostRuntime) -> Result<(), Fail> {
     let mut scene = Scene::new(&rt, rt.alloc(), 2)?;
     let rows = [row(1, Op::Store(1), 0), row(0, Op::Load, 256)];
-    let fault = run_seats(
-        &rt,
-        rt.alloc(),
-        scene.seats.as_mut_slice(),
-        rows.as_slice(),
-        &Free,
-    )
-    .err();
-    let steps = scene
-        .gathered(&rt, rt.alloc())
-        .map(|gathered| gathered.steps.len());
+    let fault = scene.run(&rt, rt.alloc(), rows.as_slice(), &Free).err();
+    let shown = scene.shown(&rt, rt.alloc());
     scene.end(&rt);
     assert_eq!(rt;
-        (fault, steps),
+        (fault, shown.map(|shown| shown.steps)),
         (Some(RunFault::NoSeat { core: 0 }), Some(0))
     );
     Ok(())
@@ -44,16 +35,14 @@ fn seats_that_do_not_gather(rt: HostRuntime) -> Result<(), Fail> {
         }
     };
     let nobody: [Seat; 0] = [];
-    let none = gather(&rt, rt.alloc(), &scene.shared, nobody.as_slice()).err();
-    let alone = scene.seats.get(0..1).and_then(|seats| gather(
-        &rt,
-        rt.alloc(),
-        &scene.shared,
-        seats,
-    ).err());
+    let none = scene.refusal(&rt, rt.alloc(), nobody.as_slice());
+    let alone = match scene.seats.get(0..1) {
+        Some(seats) => scene.refusal(&rt, rt.alloc(), seats),
+        None => None,
+    };
     let stored = other.call(&rt, 0, work(Op::Store(5)));
-    let others = gather(&rt, rt.alloc(), &scene.shared, other.seats.as_slice()).err();
-    let all = scene.gathered(&rt, rt.alloc()).is_some();
+    let others = scene.refusal(&rt, rt.alloc(), other.seats.as_slice());
+    let all = scene.shown(&rt, rt.alloc()).is_some();
     scene.end(&rt);
     other.end(&rt);
     assert_eq!(rt; (stored, all), (Some(Ok(Turn::Stored)), true));
@@ -96,6 +85,7 @@ fn faults_of_calls_are_shown_by_their_names(rt: HostRuntime) -> Result<(), Fail>
         core: 0,
         number: 0,
         block: 0,
+        word: 0,
         load: true,
         value: 7,
         hit: false,

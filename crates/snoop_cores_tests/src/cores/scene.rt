@@ -1,7 +1,8 @@
 //! A small shared machine for the tests: 4 blocks of 64 bytes, and a watch.
 
 use snoop_cores::{
-    Gathered, Seat, SeatFault, Shared, Turn, Watch, Work, end_seats, end_watches, gather,
+    Gate, GatherFault, Gathered, RunFault, Seat, SeatFault, Shared, Stop, Turn, ViewFault, Watch,
+    Work, end_seats, end_watches, gather, run_seats,
 };
 use snoop_history::Totals;
 use snoop_rules::Protocol;
@@ -9,6 +10,7 @@ use snoop_trace::{Op, Row, Shape, Step};
 use std::alloc::Global;
 use std::sync::Wait;
 use std::test::Fail;
+use std::thread::Threads;
 
 pub(super) struct Scene {
     pub shared: Shared,
@@ -28,7 +30,16 @@ impl Scene {
 
     /// `None` where it is refused.
     pub fn make<R: Wait>(rt: &R, alloc: Global, protocol: Protocol, cores: u32) -> Option<Scene> {
-        let shape = Shape::new(cores, 4, 64).ok()?;
+        Scene::in_shape(rt, alloc, protocol, Shape::new(cores, 4, 64).ok()?)
+    }
+
+    /// A scene of another shape. `None` where it is refused.
+    pub fn in_shape<R: Wait>(
+        rt: &R,
+        alloc: Global,
+        protocol: Protocol,
+        shape: Shape,
+    ) -> Option<Scene> {
         let (shared, seats, watches) = Shared::new(rt, alloc, protocol, shape, 1).ok()?;
         Some(Scene {
             shared,
@@ -46,8 +57,12 @@ impl Scene {
     ) -> Option<Result<Turn, SeatFault>> {
         let seat = self.seats.get_mut(core as usize)?;
         Some(match work.op {
-            Op::Load => seat.load(rt, work.block).map(|value| Turn::Loaded(value)),
-            Op::Store(value) => seat.store(rt, work.block, value).map(|()| Turn::Stored),
+            Op::Load => seat
+                .load(rt, work.block, work.word)
+                .map(|value| Turn::Loaded(value)),
+            Op::Store(value) => seat
+                .store(rt, work.block, work.word, value)
+                .map(|()| Turn::Stored),
             Op::Evict => seat
                 .evict(rt, work.block)
                 .map(|evicted| Turn::Evicted(evicted)),
@@ -67,9 +82,52 @@ impl Scene {
         }
     }
 
+    /// Lets the seats perform the rows.
+    pub fn run<R: Threads + Wait + Sync, G: Gate + Sync>(
+        &mut self,
+        rt: &R,
+        alloc: Global,
+        rows: &[Row],
+        gate: &G,
+    ) -> Result<Vec<Option<Stop>>, RunFault> {
+        run_seats(rt, alloc, self.seats.as_mut_slice(), rows, gate)
+    }
+
+    /// The value that the core's seat reads.
+    pub fn seated(&mut self, core: u32, block: u32, word: u32) -> Option<Result<u64, ViewFault>> {
+        Some(self.seats.get_mut(core as usize)?.value(block, word))
+    }
+
+    /// The value that the watch reads.
+    pub fn watched(&mut self, block: u32, word: u32) -> Option<Result<u64, ViewFault>> {
+        Some(self.watches.get_mut(0)?.value(block, word))
+    }
+
+    /// The counts that the watch reads.
+    pub fn counted(&mut self) -> Option<[u64; 12]> {
+        let totals = self.watches.get_mut(0)?.totals().ok()?;
+        Some(counts(totals))
+    }
+
     /// What gathers; `None` where it is refused.
     pub fn gathered<R: Wait>(&self, rt: &R, alloc: Global) -> Option<Gathered> {
         gather(rt, alloc, &self.shared, self.seats.as_slice()).ok()
+    }
+
+    /// What a gathering shows; `None` where it is refused.
+    pub fn shown<R: Wait>(&self, rt: &R, alloc: Global) -> Option<Shown> {
+        let gathered = self.gathered(rt, alloc)?;
+        let log = &gathered.log;
+        Some(Shown {
+            steps: gathered.steps.len(),
+            counts: counts(log.totals()),
+            values: [log.flat(0, 0), log.flat(0, 1), log.flat(1, 0)],
+        })
+    }
+
+    /// Why nothing gathers; `None` where it does.
+    pub fn refusal<R: Wait>(&self, rt: &R, alloc: Global, seats: &[Seat]) -> Option<GatherFault> {
+        gather(rt, alloc, &self.shared, seats).err()
     }
 
     pub fn end<R: Wait>(self, rt: &R) {
@@ -82,6 +140,27 @@ impl Scene {
         end_watches(rt, watches);
         shared.end(rt);
     }
+}
+
+/// What a gathering shows: how many steps, the counts, and the values of words 0 and 1 of block 0 and of word 0 of block 1.
+#[derive(Clone, Copy, Debug, PartialEq, Eq)]
+pub(super) struct Shown {
+    pub steps: usize,
+    pub counts: [u64; 12],
+    pub values: [Option<u64>; 3],
+}
+
+/// Whether each seat has done all its rows.
+pub(super) fn all_ran(stops: &Result<Vec<Option<Stop>>, RunFault>) -> bool {
+    let Ok(stops) = stops else {
+        return false;
+    };
+    for stop in stops {
+        if stop.is_some() {
+            return false;
+        }
+    }
+    true
 }
 
 /// The counts in their order.
@@ -107,7 +186,11 @@ pub(super) fn row(core: u32, op: Op, address: u64) -> Row {
 }
 
 pub(super) fn work(op: Op) -> Work {
-    Work { block: 0, op }
+    Work {
+        block: 0,
+        word: 0,
+        op,
+    }
 }
 
 /// Whether the core asks for its rows and no more, in their order.
@@ -117,12 +200,13 @@ pub(super) fn ask_rows(steps: &[Step], rows: &[Row], core: u32) -> bool {
         if let Step::Ask {
             core: asking,
             block,
+            word,
             op,
         } = *step
             && asking == core
         {
             match wanted.next() {
-                Some(row) if row.op == op && row.address / 64 == u64::from(block) => {}
+                Some(row) if row.op == op && row.address / 64 == u64::from(block) && word == 0 => {}
                 _ => return false,
             }
         }

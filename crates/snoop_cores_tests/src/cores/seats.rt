@@ -1,6 +1,6 @@
 //! Calls of a seat alone.
 
-use crate::cores::scene::{Scene, counts, work};
+use crate::cores::scene::{Scene, Shown, work};
 use snoop_cores::{Evicted, Turn};
 use snoop_trace::Op;
 use std::test::Fail;
@@ -13,25 +13,22 @@ fn a_seat_alone_gives_blocks_up(rt: HostRuntime) -> Result<(), Fail> {
         scene.call(&rt, 0, work(Op::Load)),
         scene.call(&rt, 0, work(Op::Evict)),
         scene.call(&rt, 0, work(Op::Store(4))),
-        scene.call(&rt, 0, work(Op::Load)),
         scene.call(&rt, 0, work(Op::Evict)),
     ];
-    let gathered = scene.gathered(&rt, rt.alloc()).map(|gathered| (
-        gathered.steps.len(),
-        counts(gathered.log.totals()),
-    ));
+    let shown = scene.shown(&rt, rt.alloc());
     scene.end(&rt);
     let expected = [
         Some(Ok(Turn::Evicted(Evicted::Absent))),
         Some(Ok(Turn::Loaded(0))),
         Some(Ok(Turn::Evicted(Evicted::Gone))),
         Some(Ok(Turn::Stored)),
-        Some(Ok(Turn::Loaded(4))),
         Some(Ok(Turn::Evicted(Evicted::Put))),
     ];
-    assert_eq!(rt;
-        (answers, gathered),
-        (expected, Some((12, [2, 1, 1, 0, 1, 1, 1, 2, 0, 1, 0, 0])))
-    );
+    let gathered = Shown {
+        steps: 11,
+        counts: [1, 0, 1, 0, 1, 1, 1, 2, 0, 1, 0, 0],
+        values: [Some(4), None, Some(0)],
+    };
+    assert_eq!(rt; (answers, shown), (expected, Some(gathered)));
     Ok(())
 }

@@ -1,8 +1,8 @@
 //! Storms: rows of many seats on few blocks. Whatever order their threads take, each core asks for its rows in their order, and the
 //! gathered steps replay to an equal log.
 
-use crate::cores::scene::{Scene, ask_rows, row};
-use snoop_cores::{Gate, Gathered, Late, run_seats};
+use crate::cores::scene::{Scene, all_ran, ask_rows, row};
+use snoop_cores::{Free, Gate, Gathered, Late};
 use snoop_engine::simulate_steps;
 use snoop_history::write_report;
 use snoop_machine::{Machine, run_steps};
@@ -71,20 +71,22 @@ fn perform<R: Threads + Wait + Sync>(
     let Some(mut scene) = Scene::make(rt, alloc, protocol, cores) else {
         return Err(Fail::from("a shared machine"));
     };
-    let gate = InStep {
-        cores: in_step,
-        begun: AtomicU64::new(0),
+    let stops = if in_step == 0 {
+        scene.run(rt, alloc, rows, &Free)
+    } else {
+        let gate = InStep {
+            cores: in_step,
+            begun: AtomicU64::new(0),
+        };
+        scene.run(rt, alloc, rows, &gate)
     };
-    let stops = run_seats(rt, alloc, scene.seats.as_mut_slice(), rows, &gate);
+    let ran = all_ran(&stops);
     let gathered = scene.gathered(rt, alloc);
     scene.end(rt);
-    let (Ok(stops), Some(gathered)) = (stops, gathered) else {
-        return Err(Fail::from("rows or a gathering"));
-    };
-    if stops.iter().any(|stop| stop.is_some()) {
-        return Err(Fail::from("a seat stopped"));
+    match gathered {
+        Some(gathered) if ran => Ok(gathered),
+        _ => Err(Fail::from("a seat stopped, or nothing gathers")),
     }
-    Ok(gathered)
 }
 
 /// Whether the gathered steps, written as a text and simulated, end with the report of the gathered log.
@@ -95,9 +97,15 @@ fn ends_with_report(
     gathered: &Gathered,
 ) -> Result<bool, Fail> {
     let mut text = Vec::new(alloc);
-    write_steps(alloc, &mut text, shape, gathered.steps.as_slice())?;
+    write_steps(
+        alloc,
+        &mut text,
+        gathered.protocol,
+        gathered.shape,
+        gathered.steps.as_slice(),
+    )?;
     let mut output = Vec::new(alloc);
-    simulate_steps(alloc, text.as_slice(), &mut output, protocol, shape)?;
+    simulate_steps(alloc, &mut text.as_slice(), &mut output, protocol, shape)?;
     let mut report = Vec::new(alloc);
     write_report(alloc, &mut report, &gathered.log)?;
     Ok(output.as_slice().ends_with(report.as_slice()))
@@ -115,18 +123,15 @@ fn storm<R: Threads + Wait + Sync + Abort>(
         let shape = Shape::new(cores, 4, 64)?;
         let gathered = perform(rt, alloc, protocol, cores, rows, in_step)?;
         assert!(rt; ends_with_report(alloc, protocol, shape, &gathered)?);
-        let Gathered { log, steps } = gathered;
+        let steps = gathered.steps.as_slice();
         let mut fresh = Machine::reset(alloc, protocol, shape)?;
-        let taken = run_steps(&mut fresh, steps.as_slice());
+        let taken = run_steps(&mut fresh, steps);
         assert!(rt;
-            taken == steps.len() && fresh.log().equals(&log),
+            taken == steps.len() && fresh.log().equals(&gathered.log),
             "of {cores} cores"
         );
         for core in 0..cores {
-            assert!(rt;
-                ask_rows(steps.as_slice(), rows, core),
-                "core {core} of {cores}"
-            );
+            assert!(rt; ask_rows(steps, rows, core), "core {core} of {cores}");
         }
     }
     Ok(())

@@ -23,6 +23,7 @@ const STORED: Did = Did {
     core: 0,
     number: 0,
     block: 1,
+    word: 0,
     load: false,
     value: 7,
     hit: true,
@@ -33,6 +34,7 @@ const LOADED: Did = Did {
     core: 1,
     number: 0,
     block: 1,
+    word: 0,
     load: true,
     value: 7,
     hit: true,
@@ -40,20 +42,20 @@ const LOADED: Did = Did {
 
 // Whether a load has the value of flat memory.
 fn is_current(log: &Log, item: Item) -> bool
-    ensures { IsTrue result → ForSome (operation_of item) (λ did. IsTrue did.load → did.value ≡ flat log.now.items did.block) }
+    ensures { IsTrue result → ForSome (operation_of item) (λ did. IsTrue did.load → did.value ≡ flat log.now.items did.block did.word) }
 {
     match item.did() {
-        Some(did) => !did.load || log.flat(did.block) == Some(did.value),
+        Some(did) => !did.load || log.flat(did.block, did.word) == Some(did.value),
         None => true,
     }
 }
 
 // Adds an item to the history, and publishes it.
 fn add<R: Wait>(rt: &R, log: &mut Log, writer: &mut VersionWriter, item: Item) -> bool
-    requires shape { (writer.old.cores ≡ log.old.cores) × (writer.old.blocks ≡ log.old.blocks) }
+    requires shape { (writer.old.cores ≡ log.old.cores) × (writer.old.blocks ≡ log.old.blocks) × (writer.old.words ≡ log.old.words) }
     requires list { (writer.old.list ≡ log.old.items) × (writer.old.ready ≡ []) }
     requires legal { Legal log.old.items }
-    ensures shape { (writer.new.cores ≡ log.new.cores) × (writer.new.blocks ≡ log.new.blocks) }
+    ensures shape { (writer.new.cores ≡ log.new.cores) × (writer.new.blocks ≡ log.new.blocks) × (writer.new.words ≡ log.new.words) }
     ensures list { (writer.new.list ≡ log.new.items) × (writer.new.ready ≡ []) }
     ensures legal { Legal log.new.items }
 {
@@ -74,10 +76,10 @@ fn add<R: Wait>(rt: &R, log: &mut Log, writer: &mut VersionWriter, item: Item) -
 
 // Publishes the item, again where a growth was refused.
 fn add_at_last<R: Wait>(rt: &R, log: &mut Log, writer: &mut VersionWriter, item: Item) -> bool
-    requires shape { (writer.old.cores ≡ log.old.cores) × (writer.old.blocks ≡ log.old.blocks) }
+    requires shape { (writer.old.cores ≡ log.old.cores) × (writer.old.blocks ≡ log.old.blocks) × (writer.old.words ≡ log.old.words) }
     requires list { (writer.old.list ≡ log.old.items) × (writer.old.ready ≡ []) }
     requires legal { Legal log.old.items }
-    ensures shape { (writer.new.cores ≡ log.new.cores) × (writer.new.blocks ≡ log.new.blocks) }
+    ensures shape { (writer.new.cores ≡ log.new.cores) × (writer.new.blocks ≡ log.new.blocks) × (writer.new.words ≡ log.new.words) }
     ensures list { (writer.new.list ≡ log.new.items) × (writer.new.ready ≡ []) }
     ensures legal { Legal log.new.items }
 {
@@ -88,11 +90,11 @@ fn add_at_last<R: Wait>(rt: &R, log: &mut Log, writer: &mut VersionWriter, item:
 fn readings(
     reader: &mut VersionReader,
 ) -> Option<(Option<u64>, Totals, Option<(Option<u64>, Option<Did>)>)> {
-    Some((reader.value(1)?, reader.totals()?, reader.own(1)))
+    Some((reader.value(1, 0)?, reader.totals()?, reader.own(1)))
 }
 
 fn log_at_last(alloc: Global, shape: Shape) -> Result<Log, NoMemory>
-    ensures { IfOk result (λ log. (log.cores ≡ shape.cores) × (log.blocks ≡ shape.blocks) × (log.items ≡ [])) }
+    ensures { IfOk result (λ log. (log.cores ≡ shape.cores) × (log.blocks ≡ shape.blocks) × (log.words ≡ shape.words) × (log.items ≡ [])) }
 {
     match Log::new(alloc, shape) {
         Ok(log) => Ok(log),
@@ -101,7 +103,7 @@ fn log_at_last(alloc: Global, shape: Shape) -> Result<Log, NoMemory>
 }
 
 fn writer_at_last(alloc: Global, shape: Shape) -> Result<VersionWriter, NoMemory>
-    ensures { IfOk result (λ writer. (writer.cores ≡ shape.cores) × (writer.blocks ≡ shape.blocks) × (writer.list ≡ []) × (writer.ready ≡ [])) }
+    ensures { IfOk result (λ writer. (writer.cores ≡ shape.cores) × (writer.blocks ≡ shape.blocks) × (writer.words ≡ shape.words) × (writer.list ≡ []) × (writer.ready ≡ [])) }
 {
     match VersionWriter::new(alloc, shape, 1) {
         Ok(writer) => Ok(writer),

@@ -1,6 +1,7 @@
 //! An Ask: found, and made.
 ghost use Rattle.std.specs.Prelude.{◌≡◌, ◌≢◌, ◌+◌, ◌<◌, ℕ, [], ◌∷◌, ◌++◌, slice_index, slice_index_or, slice_set, IfOk, IfErr, None, Some, true, Err};
 ghost use Rattle.snoop_trace.specs.declared.step.Step.TheVariants.{Ask};
+ghost use Rattle.snoop_trace.specs.Words.{HasWord, IsWord};
 ghost use Rattle.snoop_rules.specs.Waits.{waiting_request};
 ghost use Rattle.snoop_bus.specs.Queues.{after_issue};
 ghost use Rattle.snoop_history.specs.declared.items.Item.TheVariants.{Did as ItemDid};
@@ -13,33 +14,41 @@ ghost use Rattle.snoop_machine.specs.Asked.{TakesAsk};
 ghost use Rattle.snoop_model.specs.Moves.StepMove.{IsDenied};
 ghost use Rattle.snoop_machine.specs.Plan.{IsPlanFor, HasRoomToAsk, entry_of_ask};
 ghost use Rattle.snoop_model.specs.Moves.Refuses.{Refuses};
-ghost use Rattle.snoop_model.specs.Invariant.Coherent.{IsCoherent};
+ghost use Rattle.snoop_model.specs.Invariant.Invariant.{Invariant};
 ghost use Rattle.snoop_model.specs.declared.replies.Refused.{Refused};
 
 use super::Parts;
 use crate::ask::{Asked, ask};
 use crate::plan::Plan;
 use snoop_history::Item;
-use snoop_model::{Line, Refused, Reply};
+use snoop_model::{Access, Line, Refused, Reply};
 use snoop_rules::Request;
-use snoop_trace::Op;
+use snoop_trace::{Block, Kept, Op};
 
-impl Parts {
+impl<B: Block> Parts<B> {
     /// What an Ask will do, of a core and a block that there are.
     #[inline(always)]
-    pub(super) fn plan_ask(&self, core: u32, block: u32, op: Op) -> Result<Plan, Refused>
+    pub(super) fn plan_ask(
+        &self,
+        core: u32,
+        block: u32,
+        word: u32,
+        op: Op,
+    ) -> Result<Plan<Kept<B>>, Refused>
         requires core { core < self.now.situation.shape.cores }
         requires block { block < self.now.situation.shape.blocks }
-        requires coherent { IsCoherent self.now.situation }
-        ensures found { IfOk result (λ plan. IsPlanFor self.now.situation (Ask core block op) plan) }
-        ensures denied { IfErr result (λ cause. IsDenied self.now.situation (Ask core block op) cause) }
-        ensures exactly { (cause : Refused) → Refuses self.now.situation (Ask core block op) cause → result ≡ Err cause }
+        requires word { HasWord self.now.situation.shape word op }
+        requires inductive { Invariant self.now.situation }
+        ensures found { IfOk result (λ plan. IsPlanFor self.now.situation (Ask core block word op) plan) }
+        ensures denied { IfErr result (λ cause. IsDenied self.now.situation (Ask core block word op) cause) }
+        ensures exactly { (cause : Refused) → Refuses self.now.situation (Ask core block word op) cause → result ≡ Err cause }
     {
         let line = self.line(core, block);
-        let asked = ask(self.protocol, line, op)?;
+        let asked = ask(self.protocol, line, word, op)?;
         Ok(Plan::Ask {
             core,
             block,
+            word,
             op,
             asked,
         })
@@ -47,20 +56,28 @@ impl Parts {
 
     /// Does what was found for an Ask.
     #[inline(always)]
-    pub(super) fn take_ask(&mut self, core: u32, block: u32, op: Op, asked: Asked) -> Reply
+    pub(super) fn take_ask(
+        &mut self,
+        core: u32,
+        block: u32,
+        word: u32,
+        op: Op,
+        asked: Asked<Kept<B>>,
+    ) -> Reply
         requires core { core < self.old.situation.shape.cores }
         requires block { block < self.old.situation.shape.blocks }
-        requires found { TakesAsk self.old.situation.protocol (line_at self.old.situation.caches core block) op asked }
+        requires found { TakesAsk self.old.situation.protocol (line_at self.old.situation.caches core block) word op asked }
+        requires word { HasWord self.old.situation.shape word op }
         requires proper { IsProper (line_at self.old.situation.caches core block) }
         requires room { HasRoomToAsk self.old core block asked }
-        ensures moved { MovesAsk self.old.situation core block op result self.new.situation (entry_of_ask self.old.situation.log core block op asked) }
+        ensures moved { MovesAsk self.old.situation core block word op result self.new.situation (entry_of_ask self.old.situation.log core block word op asked) }
         ensures room { KeepsRoom self.old self.new }
         ensures lines { (k : ℕ) → LosesLines self.old self.new k }
     {
         match asked {
             Asked::Absent => Reply::Absent,
             Asked::Hit(after, value) => {
-                self.hit_line(core, block, op, after, value);
+                self.hit_line(core, block, Access { word, op }, after, value);
                 hit_reply(op, value)
             }
             Asked::Issue(request, after) => {
@@ -76,7 +93,7 @@ impl Parts {
 
     /// Writes the line, and puts the request last in the core's queue.
     #[inline(always)]
-    fn issue_line(&mut self, core: u32, block: u32, line: Line, request: Request)
+    fn issue_line(&mut self, core: u32, block: u32, line: Line<Kept<B>>, request: Request)
         requires core { core < self.old.situation.shape.cores }
         requires block { block < self.old.situation.shape.blocks }
         requires room { (has_line self.old core block ≡ true) × (0 < slice_index self.old.rooms core) }
@@ -93,7 +110,7 @@ impl Parts {
 
     /// Writes the line, which waits as it did.
     #[inline(always)]
-    fn put_line(&mut self, core: u32, block: u32, line: Line)
+    fn put_line(&mut self, core: u32, block: u32, line: Line<Kept<B>>)
         requires core { core < self.old.situation.shape.cores }
         requires block { block < self.old.situation.shape.blocks }
         requires same { waiting_request line.state ≡ waiting_request (line_at self.old.situation.caches core block).state }
@@ -108,18 +125,19 @@ impl Parts {
 
     /// Writes the line after a hit, and logs the operation.
     #[inline(always)]
-    fn hit_line(&mut self, core: u32, block: u32, op: Op, line: Line, value: u64)
+    fn hit_line(&mut self, core: u32, block: u32, access: Access, line: Line<Kept<B>>, value: u64)
         requires core { core < self.old.situation.shape.cores }
         requires block { block < self.old.situation.shape.blocks }
+        requires word { IsWord self.old.situation.shape access.word }
         requires room { 0 < self.old.room }
         requires same { waiting_request line.state ≡ waiting_request (line_at self.old.situation.caches core block).state }
         requires held { (line_at self.old.situation.caches core block).state ≢ I }
         requires proper { IsProper line }
-        ensures written { self.new.situation ≡ record self.old.situation { caches = slice_set self.old.situation.caches block (slice_set (slice_index_or self.old.situation.caches block []) core line); log = self.old.situation.log ++ ItemDid (next_did self.old.situation.log core block op value true) ∷ [] } }
+        ensures written { self.new.situation ≡ record self.old.situation { caches = slice_set self.old.situation.caches block (slice_set (slice_index_or self.old.situation.caches block []) core line); log = self.old.situation.log ++ ItemDid (next_did self.old.situation.log core block access.word access.op value true) ∷ [] } }
         ensures room { KeepsRoom self.old self.new }
         ensures lines { (k : ℕ) → LosesLines self.old self.new k }
     {
-        let did = self.next_did(core, block, op, value, true);
+        let did = self.next_did(core, block, access, value, true);
         self.lines.set(core, block, line);
         self.log.push(Item::Did(did));
     }

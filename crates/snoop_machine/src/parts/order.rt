@@ -13,16 +13,17 @@ ghost use Rattle.snoop_model.specs.Moves.Move.{Orders, TakesMemRow};
 ghost use Rattle.snoop_model.specs.Moves.OrderMove.{IsHead};
 ghost use Rattle.snoop_model.specs.Moves.StepMove.{IsDenied};
 ghost use Rattle.snoop_machine.specs.Plan.{IsPlanFor};
-ghost use Rattle.snoop_model.specs.Invariant.Coherent.{IsCoherent};
+ghost use Rattle.snoop_model.specs.Invariant.Invariant.{Invariant};
 
-use super::{NO_MEMORY, Parts};
+use super::{Parts, no_memory};
 use crate::order::event_at_memory;
 use crate::plan::Plan;
 use snoop_history::{Item, Sent};
 use snoop_model::{MemLine, Message, Refused};
 use snoop_rules::{MemState, Request, mem_cell};
+use snoop_trace::{Block, Kept};
 
-impl Parts {
+impl<B: Block> Parts<B> {
     /// The core's oldest request.
     pub(super) fn head(&self, core: u32) -> Option<(Request, u32)>
         requires { core < self.now.situation.shape.cores }
@@ -35,9 +36,9 @@ impl Parts {
 
     /// What an Order will do, of a core that there is.
     #[inline(always)]
-    pub(super) fn plan_order(&self, core: u32) -> Result<Plan, Refused>
+    pub(super) fn plan_order(&self, core: u32) -> Result<Plan<Kept<B>>, Refused>
         requires core { core < self.now.situation.shape.cores }
-        requires coherent { IsCoherent self.now.situation }
+        requires inductive { Invariant self.now.situation }
         ensures found { IfOk result (λ plan. IsPlanFor self.now.situation (Order core) plan) }
         ensures denied { IfErr result (λ cause. IsDenied self.now.situation (Order core) cause) }
         ensures exactly { (cause : Refused) → Refuses self.now.situation (Order core) cause → result ≡ Err cause }
@@ -48,7 +49,7 @@ impl Parts {
         if self.bus.open(block).is_some() {
             return Err(Refused::BusTaken(block));
         }
-        let memory = self.memory.get_or(block, NO_MEMORY);
+        let memory = self.memory.get_or(block, no_memory());
         let Some(cell) = mem_cell(self.protocol, memory.state, event_at_memory(request)) else {
             unreachable!();
         };
@@ -71,7 +72,7 @@ impl Parts {
         core: u32,
         request: Request,
         block: u32,
-        message: Message,
+        message: Message<Kept<B>>,
         memory: MemState,
     )
         requires core { core < self.old.situation.shape.cores }
@@ -84,7 +85,7 @@ impl Parts {
         ensures room { KeepsRoom self.old self.new }
         ensures lines { (k : ℕ) → LosesLines self.old self.new k }
     {
-        let before = self.memory.get_or(block, NO_MEMORY);
+        let before = self.memory.get_or(block, no_memory());
         self.lines.take_rows(self.protocol, core, request, block);
         let after = MemLine {
             state: memory,

@@ -1,6 +1,7 @@
 //! A Respond: found, and made.
 ghost use Rattle.std.specs.Prelude.{◌≡◌, ◌≢◌, ◌<◌, ℕ, IfOk, IfErr, IfSome, Some, None, Err};
 ghost use Rattle.snoop_trace.specs.declared.step.Step.TheVariants.{Respond};
+ghost use Rattle.snoop_trace.specs.Words.{IsWord};
 ghost use Rattle.snoop_rules.specs.declared.names.Request.TheVariants.{PutM};
 ghost use Rattle.snoop_model.specs.Moves.Standing.{KeepsRoom};
 ghost use Rattle.snoop_machine.specs.Following.{LosesLines};
@@ -9,21 +10,22 @@ ghost use Rattle.snoop_model.specs.Pictures.Sound.{line_at};
 ghost use Rattle.snoop_model.specs.Moves.Move.{Fills, ArrivesAtMemory, Responds, came_of};
 ghost use Rattle.snoop_model.specs.Moves.StepMove.{IsDenied};
 ghost use Rattle.snoop_machine.specs.Plan.{IsPlanFor};
-ghost use Rattle.snoop_model.specs.Invariant.Coherent.{IsCoherent};
+ghost use Rattle.snoop_model.specs.Invariant.Invariant.{Invariant};
 ghost use Rattle.snoop_model.specs.Moves.Refuses.{Refuses};
 ghost use Rattle.snoop_model.specs.declared.replies.Refused.{Refused};
 
-use super::{NO_MEMORY, Parts};
+use super::{Parts, no_memory};
 use crate::plan::Plan;
 use crate::respond::{Filled, arrive, fill};
 use snoop_bus::Open;
 use snoop_history::{Came, Did, Item};
 use snoop_model::{MemLine, Refused};
 use snoop_rules::Request;
+use snoop_trace::{Block, Kept};
 
-impl Parts {
+impl<B: Block> Parts<B> {
     /// The block's open transaction.
-    fn transaction(&self, block: u32) -> Option<Open>
+    fn transaction(&self, block: u32) -> Option<Open<Kept<B>>>
         ensures value { result ≡ (picture_of self.now.situation block).transaction }
         ensures within { IfSome result (λ closing. (closing.block ≡ block) × (closing.core < self.now.situation.shape.cores)) }
     {
@@ -32,9 +34,9 @@ impl Parts {
 
     /// What a Respond will do, of a block that there is.
     #[inline(always)]
-    pub(super) fn plan_respond(&self, block: u32) -> Result<Plan, Refused>
+    pub(super) fn plan_respond(&self, block: u32) -> Result<Plan<Kept<B>>, Refused>
         requires block { block < self.now.situation.shape.blocks }
-        requires coherent { IsCoherent self.now.situation }
+        requires inductive { Invariant self.now.situation }
         ensures found { IfOk result (λ plan. IsPlanFor self.now.situation (Respond block) plan) }
         ensures denied { IfErr result (λ cause. IsDenied self.now.situation (Respond block) cause) }
         ensures exactly { (cause : Refused) → Refuses self.now.situation (Respond block) cause → result ≡ Err cause }
@@ -42,8 +44,8 @@ impl Parts {
         let Some(closing) = self.transaction(block) else {
             return Err(Refused::NoTransaction);
         };
-        let before = self.memory.get_or(block, NO_MEMORY);
-        let memory = arrive(self.protocol, before, closing);
+        let before = self.memory.get_or(block, no_memory());
+        let memory = arrive(self.protocol, before, &closing);
         if matches!(&closing.request, Request::PutM) {
             return Ok(Plan::Writeback {
                 block,
@@ -52,7 +54,7 @@ impl Parts {
             });
         }
         let line = self.line(closing.core, block);
-        let filled = fill(self.protocol, line, closing);
+        let filled = fill(self.protocol, line, &closing);
         Ok(Plan::Fill {
             block,
             closing,
@@ -63,7 +65,12 @@ impl Parts {
 
     /// Memory takes the message of a PutM, and its transaction closes.
     #[inline(always)]
-    pub(super) fn finish_put(&mut self, block: u32, closing: Open, memory: MemLine)
+    pub(super) fn finish_put(
+        &mut self,
+        block: u32,
+        closing: Open<Kept<B>>,
+        memory: MemLine<Kept<B>>,
+    )
         requires block { block < self.old.situation.shape.blocks }
         requires room { 0 < self.old.room }
         requires opened { (picture_of self.old.situation block).transaction ≡ Some closing }
@@ -83,9 +90,9 @@ impl Parts {
     pub(super) fn finish_get(
         &mut self,
         block: u32,
-        closing: Open,
-        filled: Filled,
-        memory: MemLine,
+        closing: Open<Kept<B>>,
+        filled: Filled<Kept<B>>,
+        memory: MemLine<Kept<B>>,
     ) -> Did
         requires core { closing.core < self.old.situation.shape.cores }
         requires block { block < self.old.situation.shape.blocks }
@@ -93,13 +100,20 @@ impl Parts {
         requires room { 0 < self.old.room }
         requires opened { (picture_of self.old.situation block).transaction ≡ Some closing }
         requires get { closing.request ≢ PutM }
-        requires filled { Fills closing self.old.situation.protocol (line_at self.old.situation.caches closing.core block) filled.line filled.op filled.value }
+        requires filled { Fills closing self.old.situation.protocol (line_at self.old.situation.caches closing.core block) filled.line filled.access filled.value }
+        requires word { IsWord self.old.situation.shape filled.access.word }
         requires memory { ArrivesAtMemory closing self.old.situation.protocol (picture_of self.old.situation block).memory memory }
         ensures responded { Responds self.old.situation block closing (Some result) self.new.situation }
         ensures room { KeepsRoom self.old self.new }
         ensures lines { (k : ℕ) → LosesLines self.old self.new k }
     {
-        let did = self.next_did(closing.core, closing.block, filled.op, filled.value, false);
+        let did = self.next_did(
+            closing.core,
+            closing.block,
+            filled.access,
+            filled.value,
+            false,
+        );
         self.lines.set(closing.core, block, filled.line);
         self.memory.set(block, memory);
         let _ = self.bus.finish(block);
@@ -109,7 +123,7 @@ impl Parts {
 }
 
 /// The response, as the history has it.
-pub(super) fn came(closing: Open) -> Came
+pub(super) fn came<B: Block>(closing: Open<Kept<B>>) -> Came
     ensures { result ≡ came_of closing }
 {
     Came {

@@ -1,8 +1,8 @@
 //! A step in its three stages: find, make room, make.
-ghost use Rattle.std.specs.Prelude.{◌≡◌, ◌≢◌, ◌<◌, ◌+◌, ◌++◌, ℕ, true, false, Option, OnOk, OnErr, IfOk, IfErr, IsOk, Err, slice_index, option_to_list};
+ghost use Rattle.std.specs.Prelude.{◌≡◌, ◌≢◌, ◌<◌, ◌+◌, ◌++◌, ℕ, IsTrue, ◌↔◌, true, false, Option, OnOk, OnErr, IfOk, IfErr, IsOk, Err, slice_index, option_to_list};
+ghost use Rattle.snoop_trace.specs.Words.{HasWord};
 ghost use Rattle.snoop_history.specs.declared.items.Item.{Item};
 ghost use Rattle.snoop_model.specs.declared.replies.Refused.TheVariants.{NoMemory as OutOfMemory};
-ghost use Rattle.snoop_model.specs.declared.replies.Reply.TheVariants.{Came as CameReply};
 ghost use Rattle.snoop_model.specs.Moves.Move.{FirstMove};
 ghost use Rattle.snoop_model.specs.Moves.StepMove.{RefusedFor, IsDenied};
 ghost use Rattle.snoop_rules.specs.declared.names.CacheState.TheVariants.{I};
@@ -13,23 +13,22 @@ ghost use Rattle.snoop_model.specs.Moves.Prepared.{IsFull, IsPrepared, room_to_i
 ghost use Rattle.snoop_machine.specs.Following.{LosesLines, AddsLine, AddsLinesToAsk, AddsLines};
 ghost use Rattle.snoop_machine.specs.Plan.{IsPlan, IsPlanFor, HasRoom, HasRoomToAsk, step_of, room_for, room_for_ask, entry_of};
 ghost use Rattle.snoop_model.specs.Moves.Refuses.{Refuses};
-ghost use Rattle.snoop_model.specs.Invariant.Coherent.{IsCoherent};
+ghost use Rattle.snoop_model.specs.Invariant.Invariant.{Invariant};
 ghost use Rattle.snoop_model.specs.declared.replies.Refused.{Refused};
 
 use super::Parts;
 use super::respond::came;
 use crate::ask::Asked;
 use crate::plan::Plan;
-use snoop_bus::Open;
-use snoop_history::{Did, Item, Sent};
-use snoop_model::{Refused, Reply};
-use snoop_trace::{NoMemory, Step};
+use snoop_history::{Item, Sent};
+use snoop_model::{Access, Refused, Reply};
+use snoop_trace::{Block, Kept, NoMemory, Op, Step};
 
-impl Parts {
+impl<B: Block> Parts<B> {
     /// Takes one step: finds all that it will do, makes the room, and does it. A refused step changes nothing.
     #[inline(always)]
     pub(crate) fn step(&mut self, step: Step) -> Result<Reply, Refused>
-        requires { IsCoherent self.old.situation }
+        requires { Invariant self.old.situation }
         ensures taken { IfOk result (λ reply. (entry : Option Item) × FirstMove self.old.situation step reply self.new.situation entry) }
         ensures refused { IfErr result (λ cause. RefusedFor self.old.situation step cause × (self.new ≡ self.old)) }
         ensures exactly { (cause : Refused) → Refuses self.old.situation step cause → result ≡ Err cause }
@@ -40,14 +39,17 @@ impl Parts {
         // What `prepare` reported comes true.
         ensures prepared { (entry : Option Item) → IsPrepared self.old step entry → IsOk result × (self.new.situation.log ≡ self.old.situation.log ++ option_to_list entry) }
     {
-        let plan = self.planned(step)?;
-        self.make_room(plan)?;
+        let plan = match self.planned(step) {
+            Ok(plan) => plan,
+            Err(cause) => return Err(cause),
+        };
+        self.make_room(&plan)?;
         Ok(self.perform(plan))
     }
 
     /// Makes the room for a step, and reports the item that it will add. The same step, taken next, is not refused and takes no memory.
     pub(crate) fn prepare(&mut self, step: Step) -> Result<Option<Item>, Refused>
-        requires { IsCoherent self.old.situation }
+        requires { Invariant self.old.situation }
         ensures prepared { IfOk result (λ entry. IsPrepared self.new step entry) }
         ensures refused { IfErr result (λ cause. RefusedFor self.old.situation step cause × (self.new ≡ self.old)) }
         ensures exactly { (cause : Refused) → Refuses self.old.situation step cause → result ≡ Err cause }
@@ -56,15 +58,18 @@ impl Parts {
         ensures lines { (core : ℕ) → HoldsOn self.old self.new step core }
         ensures unchanged { self.new.situation ≡ self.old.situation }
     {
-        let plan = self.planned(step)?;
-        self.make_room(plan)?;
+        let plan = match self.planned(step) {
+            Ok(plan) => plan,
+            Err(cause) => return Err(cause),
+        };
+        self.make_room(&plan)?;
         Ok(self.item(plan))
     }
 
     /// What the step will do, or why it is refused.
     #[inline(always)]
-    fn planned(&self, step: Step) -> Result<Plan, Refused>
-        requires { IsCoherent self.now.situation }
+    fn planned(&self, step: Step) -> Result<Plan<Kept<B>>, Refused>
+        requires { Invariant self.now.situation }
         ensures found { IfOk result (λ plan. IsPlanFor self.now.situation step plan) }
         ensures denied { IfErr result (λ cause. IsDenied self.now.situation step cause) }
         ensures exactly { (cause : Refused) → Refuses self.now.situation step cause → result ≡ Err cause }
@@ -74,9 +79,19 @@ impl Parts {
         match step {
             Step::Ask { core, .. } if core >= cores => Err(Refused::NoCore),
             Step::Order { core } if core >= cores => Err(Refused::NoCore),
-            Step::Ask { block, .. } if block >= blocks => Err(Refused::NoBlock),
+            Step::Ask {
+                block,
+                word,
+                op,
+                ..
+            } if block >= blocks || !self.shape.has_word(word, op) => Err(Refused::NoBlock),
             Step::Respond { block } if block >= blocks => Err(Refused::NoBlock),
-            Step::Ask { core, block, op } => self.plan_ask(core, block, op),
+            Step::Ask {
+                core,
+                block,
+                word,
+                op,
+            } => self.plan_ask(core, block, word, op),
             Step::Order { core } => self.plan_order(core),
             Step::Respond { block } => self.plan_respond(block),
         }
@@ -84,13 +99,13 @@ impl Parts {
 
     /// Makes room for what the plan adds.
     #[inline(always)]
-    fn make_room(&mut self, plan: Plan) -> Result<(), NoMemory>
-        requires { IsPlan self.old.situation plan }
-        ensures ok { OnOk result (HasRoom self.new plan) }
-        ensures full { OnErr result (room_for self.old plan ≡ 0) }
+    fn make_room(&mut self, plan: &Plan<Kept<B>>) -> Result<(), NoMemory>
+        requires { IsPlan self.old.situation plan.now }
+        ensures ok { OnOk result (HasRoom self.new plan.now) }
+        ensures full { OnErr result (room_for self.old plan.now ≡ 0) }
         ensures refused { OnErr result (self.new ≡ self.old) }
         ensures room { KeepsRoom self.old self.new }
-        ensures lines { (core : ℕ) → AddsLines plan self.old self.new core }
+        ensures lines { (core : ℕ) → AddsLines plan.now self.old self.new core }
         ensures unchanged { self.new.situation ≡ self.old.situation }
     {
         match plan {
@@ -99,20 +114,25 @@ impl Parts {
                 block,
                 asked,
                 ..
-            } => self.make_room_to_ask(core, block, asked),
+            } => self.make_room_to_ask(*core, *block, asked),
             Plan::Order { .. } | Plan::Writeback { .. } | Plan::Fill { .. } => self.reserve_item(),
         }
     }
 
     /// Makes room for what an Ask of the core adds.
     #[inline(always)]
-    fn make_room_to_ask(&mut self, core: u32, block: u32, asked: Asked) -> Result<(), NoMemory>
+    fn make_room_to_ask(
+        &mut self,
+        core: u32,
+        block: u32,
+        asked: &Asked<Kept<B>>,
+    ) -> Result<(), NoMemory>
         requires { core < self.old.situation.shape.cores }
-        ensures ok { OnOk result (HasRoomToAsk self.new core block asked) }
-        ensures full { OnErr result (room_for_ask self.old core block asked ≡ 0) }
+        ensures ok { OnOk result (HasRoomToAsk self.new core block asked.now) }
+        ensures full { OnErr result (room_for_ask self.old core block asked.now ≡ 0) }
         ensures refused { OnErr result (self.new ≡ self.old) }
         ensures room { KeepsRoom self.old self.new }
-        ensures lines { (k : ℕ) → AddsLinesToAsk asked core block self.old self.new k }
+        ensures lines { (k : ℕ) → AddsLinesToAsk asked.now core block self.old self.new k }
         ensures unchanged { self.new.situation ≡ self.old.situation }
     {
         match asked {
@@ -203,7 +223,7 @@ impl Parts {
 
     /// Does what the plan says.
     #[inline(always)]
-    fn perform(&mut self, plan: Plan) -> Reply
+    fn perform(&mut self, plan: Plan<Kept<B>>) -> Reply
         requires found { IsPlan self.old.situation plan }
         requires room { HasRoom self.old plan }
         ensures moved { FirstMove self.old.situation (step_of plan) result self.new.situation (entry_of self.old.situation.log plan) }
@@ -214,9 +234,10 @@ impl Parts {
             Plan::Ask {
                 core,
                 block,
+                word,
                 op,
                 asked,
-            } => self.take_ask(core, block, op, asked),
+            } => self.take_ask(core, block, word, op, asked),
             Plan::Order {
                 core,
                 request,
@@ -232,8 +253,13 @@ impl Parts {
                 closing,
                 memory,
             } => {
+                let (payload, from) = (closing.payload, closing.from);
                 self.finish_put(block, closing, memory);
-                reply_of(closing, None)
+                Reply::Came {
+                    payload,
+                    from,
+                    did: None,
+                }
             }
             Plan::Fill {
                 block,
@@ -241,14 +267,19 @@ impl Parts {
                 memory,
                 filled,
             } => {
+                let (payload, from) = (closing.payload, closing.from);
                 let did = self.finish_get(block, closing, filled, memory);
-                reply_of(closing, Some(did))
+                Reply::Came {
+                    payload,
+                    from,
+                    did: Some(did),
+                }
             }
         }
     }
 
     /// The item that the planned step adds.
-    fn item(&self, plan: Plan) -> Option<Item>
+    fn item(&self, plan: Plan<Kept<B>>) -> Option<Item>
         requires { IsPlan self.now.situation plan }
         ensures { result ≡ entry_of self.now.situation.log plan }
     {
@@ -256,9 +287,10 @@ impl Parts {
             Plan::Ask {
                 core,
                 block,
+                word,
                 op,
                 asked: Asked::Hit(_, value),
-            } => Some(Item::Did(self.next_did(core, block, op, value, true))),
+            } => Some(Item::Did(self.next_did(core, block, Access { word, op }, value, true))),
             Plan::Ask { .. } => None,
             Plan::Order {
                 core,
@@ -279,23 +311,12 @@ impl Parts {
                 let did = self.next_did(
                     closing.core,
                     closing.block,
-                    filled.op,
+                    filled.access,
                     filled.value,
                     false,
                 );
                 Some(Item::Came(came(closing), Some(did)))
             }
         }
-    }
-}
-
-/// The reply to a Respond.
-fn reply_of(closing: Open, did: Option<Did>) -> Reply
-    ensures { result ≡ CameReply closing.payload closing.from did }
-{
-    Reply::Came {
-        payload: closing.payload,
-        from: closing.from,
-        did,
     }
 }

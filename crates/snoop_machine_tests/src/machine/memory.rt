@@ -5,14 +5,13 @@ use snoop_bus::Open;
 use snoop_history::{Item, Totals};
 use snoop_machine::{Machine, Refused};
 use snoop_rules::{CacheState, MemState, Protocol};
-use snoop_trace::Shape;
+use snoop_trace::{Shape, Step};
 use std::alloc::Global;
-use std::process::Abort;
 use std::test::Fail;
 
 /// What a machine shows of block 0: what both caches and memory hold, its waiting requests and its transaction; and of its history how many
 /// items there are, the last one and the counts.
-#[derive(Clone, Copy, Debug, PartialEq, Eq)]
+#[derive(Clone, Copy, PartialEq, Eq)]
 struct BlockSeen {
     caches: [Option<CacheState>; 2],
     kept: [Option<u64>; 2],
@@ -29,21 +28,13 @@ fn lines_of(machine: &Machine) -> [Option<usize>; 2] {
     [machine.lines(0), machine.lines(1)]
 }
 
-/// Counts a step that was taken; of the race, one alone is refused.
-fn count(rt: &impl Abort, taken: &mut u32, outcome: Result<(), Refused>) {
-    match outcome {
-        Ok(()) => *taken = taken.saturating_add(1),
-        Err(cause) => assert_eq!(rt; cause, Refused::BusTaken(0)),
-    }
-}
-
 fn seen_of(machine: &Machine) -> BlockSeen {
     let log = machine.log();
     BlockSeen {
         caches: [machine.state(0, 0), machine.state(1, 0)],
-        kept: [machine.kept(0, 0), machine.kept(1, 0)],
+        kept: [machine.kept(0, 0, 0), machine.kept(1, 0, 0)],
         memory: machine.mem_state(0),
-        value: machine.mem_value(0),
+        value: machine.mem_value(0, 0),
         waiting: [machine.waits_on(0, 0), machine.waits_on(1, 0)],
         open: machine.open(0),
         items: log.len(),
@@ -61,42 +52,73 @@ fn at_reset(alloc: Global) -> Result<Machine, Fail> {
     }
 }
 
+/// Takes the step, again after a refused growth, which changes nothing. Of the race, one step alone is refused. Answers whether the
+/// step was taken.
+fn take(machine: &mut Machine, step: Step) -> Result<bool, Fail> {
+    let (seen, lines) = (seen_of(machine), lines_of(machine));
+    let mut outcome = machine.step(step);
+    if outcome == Err(Refused::NoMemory) {
+        if seen_of(machine) != seen || lines_of(machine) != lines {
+            Err(step)?
+        }
+        outcome = machine.step(step);
+    }
+    match outcome {
+        Ok(_) => Ok(true),
+        Err(Refused::BusTaken(0)) => Ok(false),
+        Err(cause) => Err(cause)?,
+    }
+}
+
 #[test]
 fn a_step_out_of_memory_changes_nothing_and_is_taken_again(rt: HostRuntime) -> Result<(), Fail> {
     let mut machine = at_reset(rt.alloc())?;
-    let mut taken = 0;
+    let mut taken = 0_u32;
     for step in &UPGRADE_RACE {
-        let before = (seen_of(&machine), lines_of(&machine));
-        let mut outcome = machine.step(*step);
-        if outcome == Err(Refused::NoMemory) {
-            assert_eq!(rt; (seen_of(&machine), lines_of(&machine)), before);
-            outcome = machine.step(*step);
-        }
-        count(&rt, &mut taken, outcome.map(|_| ()));
+        taken = taken.saturating_add(u32::from(take(&mut machine, *step)?));
     }
     let log = machine.log();
-    assert_eq!(rt; (taken, log.flat(0), log.len()), (12, Some(5), 8));
+    if taken != 12 || log.flat(0, 0) != Some(5) || log.len() != 8 {
+        Err(taken)?
+    }
     Ok(())
+}
+
+/// Prepares the step, again after a refused growth, which adds no line; preparing changes nothing else. Then the step meets no refusal,
+/// and adds the item that was told. Answers whether the step was taken.
+fn prepare_and_take(machine: &mut Machine, step: Step) -> Result<bool, Fail> {
+    let (seen, lines) = (seen_of(machine), lines_of(machine));
+    let mut prepared = machine.prepare(step);
+    if prepared == Err(Refused::NoMemory) {
+        if lines_of(machine) != lines || seen_of(machine) != seen {
+            Err(step)?
+        }
+        prepared = machine.prepare(step);
+    }
+    if seen_of(machine) != seen {
+        Err(step)?
+    }
+    match prepared {
+        Ok(told) => {
+            if machine.step(step).is_err() || machine.log().item(seen.items) != told {
+                Err(step)?
+            }
+            Ok(true)
+        }
+        Err(Refused::BusTaken(0)) => Ok(false),
+        Err(cause) => Err(cause)?,
+    }
 }
 
 #[test]
 fn a_prepared_step_takes_no_memory(rt: HostRuntime) -> Result<(), Fail> {
     let mut machine = at_reset(rt.alloc())?;
-    let mut taken = 0;
+    let mut taken = 0_u32;
     for step in &UPGRADE_RACE {
-        let before = (seen_of(&machine), lines_of(&machine));
-        let mut prepared = machine.prepare(*step);
-        if prepared == Err(Refused::NoMemory) {
-            assert_eq!(rt; (seen_of(&machine), lines_of(&machine)), before);
-            prepared = machine.prepare(*step);
-        }
-        assert_eq!(rt; seen_of(&machine), before.0);
-        if let Ok(told) = prepared {
-            assert!(rt; machine.step(*step).is_ok());
-            assert_eq!(rt; machine.log().item(before.0.items), told);
-        }
-        count(&rt, &mut taken, prepared.map(|_| ()));
+        taken = taken.saturating_add(u32::from(prepare_and_take(&mut machine, *step)?));
     }
-    assert_eq!(rt; (taken, machine.log().flat(0)), (12, Some(5)));
+    if taken != 12 || machine.log().flat(0, 0) != Some(5) {
+        Err(taken)?
+    }
     Ok(())
 }

@@ -12,24 +12,20 @@ use std::test::Fail;
 fn a_refused_step_is_passed_over_and_not_counted(rt: HostRuntime) -> Result<(), Fail> {
     let mut machine = two_cores(rt.alloc())?;
     let begun = run_steps(&mut machine, &UPGRADE_RACE[..9]);
-    let state = machine.state(1, 0);
-    assert_eq!(rt; (begun, state), (9, Some(CacheState::SmD)));
+    if begun != 9 || machine.state(1, 0) != Some(CacheState::SmD) {
+        Err(begun)?
+    }
     let ended = run_steps(&mut machine, &UPGRADE_RACE[9..]);
-    assert_eq!(rt;
-        (ended, machine.kept(0, 0), machine.log().flat(0)),
-        (3, Some(5), Some(5))
-    );
+    if ended != 3 || machine.kept(0, 0, 0) != Some(5) || machine.log().flat(0, 0) != Some(5) {
+        Err(ended)?
+    }
     Ok(())
 }
 
-/// The last item, the last core's value, and the totals.
-fn end_of(machine: &Machine) -> (Option<Item>, Option<u64>, Totals) {
+/// Whether the history ends with this item, and has these totals.
+fn ends_with(machine: &Machine, item: Item, totals: Totals) -> bool {
     let log = machine.log();
-    (
-        log.item(log.len().saturating_sub(1)),
-        machine.kept(255, 0),
-        log.totals(),
-    )
+    log.item(log.len().saturating_sub(1)) == Some(item) && log.totals() == totals
 }
 
 const LAST_STORE: Item = Item::Came(
@@ -44,6 +40,7 @@ const LAST_STORE: Item = Item::Came(
         core: 255,
         number: 0,
         block: 0,
+        word: 0,
         load: false,
         value: 255,
         hit: false,
@@ -69,10 +66,12 @@ fn every_core_stores_after_the_one_before_it(rt: HostRuntime) -> Result<(), Fail
         from_caches: 255,
         ..Totals::default()
     };
-    assert_eq!(rt;
-        (taken, end_of(&machine)),
-        (768, (Some(LAST_STORE), Some(255), totals))
-    );
+    if taken != 768
+        || machine.kept(255, 0, 0) != Some(255)
+        || !ends_with(&machine, LAST_STORE, totals)
+    {
+        Err(taken)?
+    }
     Ok(())
 }
 
@@ -118,10 +117,15 @@ fn only_the_last_of_all_writebacks_is_not_stale(rt: HostRuntime) -> Result<(), F
     for protocol in [Protocol::Msi, Protocol::Mesi] {
         let mut machine = machine_of(rt.alloc(), protocol, 256)?;
         let taken = run_steps(&mut machine, &steps);
-        assert_eq!(rt;
-            (taken, end_of(&machine), machine.mem_value(0)),
-            (1536, (Some(WRITTEN_BACK), None, totals), Some(255))
-        );
+        if taken != 1536
+            || machine.kept(255, 0, 0).is_some()
+            || machine.mem_value(0, 0) != Some(255)
+        {
+            Err(taken)?
+        }
+        if !ends_with(&machine, WRITTEN_BACK, totals) {
+            Err(protocol)?
+        }
     }
     Ok(())
 }

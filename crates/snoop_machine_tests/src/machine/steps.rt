@@ -118,6 +118,7 @@ const FIRST_LOAD: Did = Did {
     core: 0,
     number: 0,
     block: 0,
+    word: 0,
     load: true,
     value: 0,
     hit: false,
@@ -128,31 +129,35 @@ const STORE_OF_6: Did = Did {
     core: 1,
     number: 1,
     block: 0,
+    word: 0,
     load: false,
     value: 6,
     hit: false,
 };
 
+/// Whether block 0 is in these states, in core 0, in core 1 and in memory.
+fn has_states(machine: &Machine, first: CacheState, second: CacheState, memory: MemState) -> bool {
+    machine.state(0, 0) == Some(first)
+        && machine.state(1, 0) == Some(second)
+        && machine.mem_state(0) == Some(memory)
+}
+
 #[test]
 fn the_loser_of_an_upgrade_race_asks_for_the_whole_block(rt: HostRuntime) -> Result<(), Fail> {
     let mut machine = two_cores(rt.alloc())?;
     for (step, (answer, first, second, memory)) in UPGRADE_RACE.iter().zip(&RACE_ANSWERS) {
-        assert_eq!(rt;
-            (
-                machine.step(*step),
-                [machine.state(0, 0), machine.state(1, 0)],
-                machine.mem_state(0),
-            ),
-            (*answer, [Some(*first), Some(*second)], Some(*memory)),
-            "at {step:?}"
-        );
+        if machine.step(*step) != *answer || !has_states(&machine, *first, *second, *memory) {
+            Err(*step)?
+        }
     }
-    assert_eq!(rt; machine.log().flat(0), Some(5));
+    if machine.log().flat(0, 0) != Some(5) {
+        Err("the last store")?
+    }
     Ok(())
 }
 
 /// All that is seen of a machine of two cores: of block 1 in the caches, in memory and on the bus, and how long the log is.
-#[derive(Clone, Copy, Debug, PartialEq, Eq)]
+#[derive(Clone, Copy, PartialEq, Eq)]
 struct Seen {
     states: [Option<CacheState>; 2],
     kept: [Option<u64>; 2],
@@ -166,10 +171,10 @@ struct Seen {
 fn seen_of(machine: &Machine) -> Seen {
     Seen {
         states: [machine.state(0, 1), machine.state(1, 1)],
-        kept: [machine.kept(0, 1), machine.kept(1, 1)],
+        kept: [machine.kept(0, 1, 0), machine.kept(1, 1, 0)],
         waiting: [machine.waiting(0), machine.waiting(1)],
         memory: machine.mem_state(1),
-        value: machine.mem_value(1),
+        value: machine.mem_value(1, 0),
         open: machine.open(1),
         items: machine.log().len(),
     }
@@ -180,6 +185,7 @@ const STORE_OF_7: Did = Did {
     core: 0,
     number: 0,
     block: 1,
+    word: 0,
     load: false,
     value: 7,
     hit: false,
@@ -200,6 +206,7 @@ static STORED_AND_EVICTED: [(Step, Option<Item>); 8] = [
         Step::Ask {
             core: 0,
             block: 1,
+            word: 0,
             op: Op::Store(7),
         },
         None,
@@ -220,6 +227,7 @@ static STORED_AND_EVICTED: [(Step, Option<Item>); 8] = [
         Step::Ask {
             core: 0,
             block: 1,
+            word: 0,
             op: Op::Load,
         },
         Some(Item::Did(Did {
@@ -233,6 +241,7 @@ static STORED_AND_EVICTED: [(Step, Option<Item>); 8] = [
         Step::Ask {
             core: 0,
             block: 1,
+            word: 0,
             op: Op::Evict,
         },
         None,
@@ -260,31 +269,36 @@ static STORED_AND_EVICTED: [(Step, Option<Item>); 8] = [
         Step::Ask {
             core: 0,
             block: 1,
+            word: 0,
             op: Op::Evict,
         },
         None,
     ),
 ];
 
+/// Whether preparing the step tells this item and changes nothing, and the step is then taken and adds the item.
+fn is_prepared(machine: &mut Machine, step: Step, entry: Option<Item>) -> bool {
+    let before = seen_of(machine);
+    machine.prepare(step) == Ok(entry)
+        && seen_of(machine) == before
+        && machine.step(step).is_ok()
+        && machine.log().item(before.items) == entry
+}
+
 #[test]
 fn preparing_tells_the_item_and_changes_nothing(rt: HostRuntime) -> Result<(), Fail> {
     let mut machine = two_cores(rt.alloc())?;
     for (step, entry) in &STORED_AND_EVICTED {
-        let before = seen_of(&machine);
-        let prepared = machine.prepare(*step);
-        assert_eq!(rt;
-            (prepared, seen_of(&machine)),
-            (Ok(*entry), before),
-            "at {step:?}"
-        );
-        machine.step(*step)?;
-        assert_eq!(rt; machine.log().item(before.items), *entry, "at {step:?}");
+        if !is_prepared(&mut machine, *step, *entry) {
+            Err(*step)?
+        }
     }
-    let refused = machine.prepare(Step::Order { core: 0 });
-    assert_eq!(rt;
-        (refused, machine.mem_value(1)),
-        (Err(Refused::NothingWaiting), Some(7))
-    );
+    if machine.prepare(Step::Order { core: 0 }) != Err(Refused::NothingWaiting) {
+        Err("nothing waits")?
+    }
+    if machine.mem_value(1, 0) != Some(7) {
+        Err("what was written back")?
+    }
     Ok(())
 }
 
@@ -298,6 +312,7 @@ static TURNS: [(u32, Op, bool, Option<Step>); 8] = [
         Some(Step::Ask {
             core: 0,
             block: 0,
+            word: 0,
             op: Op::Load,
         }),
     ),
@@ -308,6 +323,7 @@ static TURNS: [(u32, Op, bool, Option<Step>); 8] = [
         Some(Step::Ask {
             core: 1,
             block: 0,
+            word: 0,
             op: Op::Store(5),
         }),
     ),
@@ -323,16 +339,17 @@ static TURNS: [(u32, Op, bool, Option<Step>); 8] = [
 fn turns_of_two_cores(rt: HostRuntime) -> Result<(), Fail> {
     let mut machine = two_cores(rt.alloc())?;
     for (core, op, under_way, step) in &TURNS {
-        assert!(rt; *core < machine.shape().cores());
-        let found = machine.turn_step(*core, 0, *op, *under_way);
-        assert_eq!(rt; found, *step, "of core {core}");
-        if let Some(step) = found {
+        if *core >= machine.shape().cores()
+            || machine.turn_step(*core, 0, 0, *op, *under_way) != *step
+        {
+            Err(*core)?
+        }
+        if let Some(step) = *step {
             machine.step(step)?;
         }
     }
-    assert_eq!(rt;
-        (machine.kept(1, 0), machine.protocol()),
-        (Some(5), Protocol::Msi)
-    );
+    if machine.kept(1, 0, 0) != Some(5) || machine.protocol() != Protocol::Msi {
+        Err("what was stored")?
+    }
     Ok(())
 }

@@ -11,6 +11,7 @@ pub static UPGRADE_RACE: [Step; 13] = [
     Step::Ask {
         core: 0,
         block: 0,
+        word: 0,
         op: Op::Load,
     },
     Step::Order { core: 0 },
@@ -18,6 +19,7 @@ pub static UPGRADE_RACE: [Step; 13] = [
     Step::Ask {
         core: 1,
         block: 0,
+        word: 0,
         op: Op::Load,
     },
     Step::Order { core: 1 },
@@ -25,11 +27,13 @@ pub static UPGRADE_RACE: [Step; 13] = [
     Step::Ask {
         core: 0,
         block: 0,
+        word: 0,
         op: Op::Store(5),
     },
     Step::Ask {
         core: 1,
         block: 0,
+        word: 0,
         op: Op::Store(6),
     },
     Step::Order { core: 1 },
@@ -51,7 +55,12 @@ pub fn two_cores(alloc: Global) -> Result<Machine, Fail> {
 }
 
 pub fn ask(core: u32, block: u32, op: Op) -> Step {
-    Step::Ask { core, block, op }
+    Step::Ask {
+        core,
+        block,
+        word: 0,
+        op,
+    }
 }
 
 pub fn order(core: u32) -> Step {

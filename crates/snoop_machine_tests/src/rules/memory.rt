@@ -8,16 +8,16 @@ use std::test::Fail;
 fn a_table_is_whole_or_a_beginning(rt: HostRuntime) -> Result<(), Fail> {
     for (protocol, which, table) in &TABLES {
         let mut text = Vec::new(rt.alloc());
+        let mut is_beginning = true;
         // A vector that can't grow is a writer that fails.
         if write_table(rt.alloc(), &mut text, *protocol, *which).is_err() {
-            assert!(rt;
-                table.as_bytes().starts_with(&text),
-                "{protocol}, {which:?}"
-            );
+            is_beginning = table.as_bytes().starts_with(&text);
             text.clear();
             write_table(rt.alloc(), &mut text, *protocol, *which)?;
         }
-        assert_eq!(rt; text.as_slice(), table.as_bytes(), "{protocol}, {which:?}");
+        if !is_beginning || text.as_slice() != table.as_bytes() {
+            Err((*protocol, *which))?
+        }
     }
     Ok(())
 }

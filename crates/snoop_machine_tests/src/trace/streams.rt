@@ -1,7 +1,9 @@
 //! Readers and writers that fail, stop short or take little.
 
 use snoop_trace::streams::{AnyReader, AnyWriter};
-use snoop_trace::{Op, Shape, Step, TextFault, WriteFault, read_rows, read_steps, write_steps};
+use snoop_trace::{
+    Op, Protocol, Shape, Step, TextFault, WriteFault, read_rows, read_steps, write_steps,
+};
 use std::alloc::Global;
 use std::io;
 use std::io::{ErrorKind, Read, Write};
@@ -11,13 +13,14 @@ static STEPS: [Step; 3] = [
     Step::Ask {
         core: 0,
         block: 1,
+        word: 0,
         op: Op::Store(7),
     },
     Step::Order { core: 0 },
     Step::Respond { block: 1 },
 ];
 
-static TEXT: &[u8] = b"S,0,64,7\nO,0\nR,64\n";
+static TEXT: &[u8] = b"V,2,msi,2,4,64,1\nS,0,64,7\nO,0\nR,64\n";
 
 // Gives at most so many bytes a call, and fails once so many are given in all.
 #[derive(Drop)]
@@ -45,13 +48,18 @@ fn a_reader_that_fails(rt: HostRuntime) -> Result<(), Fail> {
     let text = TEXT;
     for a_call in [1, 5, 100] {
         for left in 0..text.len() {
-            let reader = AnyReader(Failing { text, a_call, left });
-            let found = read_steps(rt.alloc(), reader, shape).err();
-            assert_eq!(rt; found, Some(TextFault::Read), "after {left} bytes");
+            let mut reader = AnyReader::new(Failing { text, a_call, left });
+            let found = read_steps(rt.alloc(), &mut reader, Protocol::Msi, shape).err();
+            if found != Some(TextFault::Read) {
+                Err(left)?
+            }
         }
         let left = 100;
-        let steps = read_steps(rt.alloc(), AnyReader(Failing { text, a_call, left }), shape)?;
-        assert_eq!(rt; steps.as_slice(), STEPS.as_slice());
+        let mut reader = AnyReader::new(Failing { text, a_call, left });
+        let steps = read_steps(rt.alloc(), &mut reader, Protocol::Msi, shape)?;
+        if steps.as_slice() != STEPS.as_slice() {
+            Err(steps)?
+        }
     }
     Ok(())
 }
@@ -62,14 +70,16 @@ fn an_earlier_faulty_record_decides(rt: HostRuntime) -> Result<(), Fail> {
     let text = b"L,0,0\nO,0\nL,1,64\n".as_slice();
     for a_call in [1, 100] {
         for left in 0..text.len() {
-            let reader = AnyReader(Failing { text, a_call, left });
-            let found = read_rows(rt.alloc(), reader, shape).err();
+            let mut reader = AnyReader::new(Failing { text, a_call, left });
+            let found = read_rows(rt.alloc(), &mut reader, shape).err();
             let wanted = if left < 10 {
                 TextFault::Read
             } else {
                 TextFault::BadKind(2)
             };
-            assert_eq!(rt; found, Some(wanted), "after {left} bytes");
+            if found != Some(wanted) {
+                Err(left)?
+            }
         }
     }
     Ok(())
@@ -124,33 +134,48 @@ impl Write for Stopping {
     }
 }
 
+/// Whether a writer that serves so few calls is blamed, has a beginning of the text, a byte or more a call, and is not asked again; or
+/// with so many calls as it needs has it all.
+fn is_written(
+    shape: Shape,
+    mut writer: AnyWriter<Stopping>,
+    alloc: Global,
+    call: usize,
+    calls: usize,
+) -> bool {
+    let found = write_steps(alloc, &mut writer, Protocol::Msi, shape, &STEPS);
+    let left = &writer.inner;
+    if call < calls {
+        found == Err(WriteFault::Write)
+            && left.held.len() >= call
+            && left.calls_after == 1
+            && TEXT.starts_with(&left.held)
+    } else {
+        found == Ok(()) && left.held.as_slice() == TEXT && left.calls_after == 0
+    }
+}
+
 #[test]
 fn a_writer_that_fails(rt: HostRuntime) -> Result<(), Fail> {
-    let alloc = rt.alloc();
     let shape = Shape::new(2, 4, 64)?;
+    // The first line and the steps are written by a call each, or byte by byte.
     for failure in [Failure::Refuses, Failure::TakesNothing] {
-        for (a_call, calls) in [(1, TEXT.len()), (100, 1)] {
+        for (a_call, calls) in [(1, TEXT.len()), (100, 2)] {
             for call in 0..=calls {
-                let mut writer = AnyWriter::new(Stopping::new(alloc, a_call, call, failure));
-                let found = write_steps(alloc, &mut writer, shape, &STEPS);
-                let Stopping {
-                    held,
-                    calls_after,
-                    ..
-                } = &writer.inner;
-                let wanted = if call < calls {
-                    (Err(WriteFault::Write), call, 1)
-                } else {
-                    (Ok(()), TEXT.len(), 0)
-                };
-                assert_eq!(rt; (found, held.len(), *calls_after), wanted, "at call {call}");
-                assert!(rt; TEXT.starts_with(held), "at call {call}");
+                let writer = AnyWriter::new(Stopping::new(rt.alloc(), a_call, call, failure));
+                if !is_written(shape, writer, rt.alloc(), call, calls) {
+                    Err(call)?
+                }
             }
         }
     }
-    // No steps are no calls.
-    let mut writer = AnyWriter::new(Stopping::new(alloc, 1, 0, Failure::Refuses));
-    write_steps(alloc, &mut writer, shape, &[])?;
-    assert_eq!(rt; writer.inner.calls_after, 0);
+    // No steps are the first line alone.
+    let mut writer = AnyWriter::new(Stopping::new(rt.alloc(), 100, 1, Failure::Refuses));
+    write_steps(rt.alloc(), &mut writer, Protocol::Msi, shape, &[])?;
+    if writer.inner.held.as_slice() != b"V,2,msi,2,4,64,1\n".as_slice()
+        || writer.inner.calls_after != 0
+    {
+        Err("no steps")?
+    }
     Ok(())
 }

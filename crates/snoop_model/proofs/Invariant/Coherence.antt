@@ -7,8 +7,8 @@ use Rattle.snoop_trace.specs.declared.step.Op.{Op}
 use Rattle.snoop_trace.specs.declared.step.Op.TheVariants as op
 use Rattle.snoop_trace.specs.declared.step.Step.{Step}
 use Rattle.snoop_trace.specs.declared.step.Step.TheVariants.{Ask, Order, Respond}
-use Rattle.snoop_rules.specs.declared.names.Protocol.{Protocol}
-use Rattle.snoop_rules.specs.declared.names.Protocol.TheVariants.{Msi, Mesi}
+use Rattle.snoop_trace.specs.declared.protocol.Protocol.{Protocol}
+use Rattle.snoop_trace.specs.declared.protocol.Protocol.TheVariants.{Msi, Mesi}
 use Rattle.snoop_rules.specs.declared.names.CacheState.{CacheState}
 use Rattle.snoop_rules.specs.declared.names.CacheState.TheVariants as state
 use Rattle.snoop_rules.specs.declared.names.CacheEvent.{CacheEvent}
@@ -25,10 +25,10 @@ use Rattle.snoop_rules.specs.Waits.{waiting_request}
 use Rattle.snoop_rules.specs.Cell.{cell_of}
 use Rattle.snoop_rules.proofs.Rows.{cell_of-Cell, Cell-found}
 use Rattle.snoop_rules.proofs.MemRows.{MemoryCell-found}
-use Rattle.snoop_history.specs.History.{flat}
+use Rattle.snoop_history.specs.History.{flat_words}
 use Rattle.snoop_history.specs.Totals.{is_put_m}
-use Rattle.snoop_bus.specs.declared.transactions.Open.{Open}
-use Rattle.snoop_model.specs.declared.line.Line.{Line}
+use Rattle.snoop_bus.specs.Traffic.{Open}
+use Rattle.snoop_model.specs.Pictures.Lines.{Line}
 use Rattle.snoop_model.specs.Pictures.Picture.{Picture, held_at, held_by, nothing_held}
 use Rattle.snoop_model.specs.Pictures.Situation.{Situation, picture_of, state_of, Waits, CanOrder}
 use Rattle.snoop_model.specs.Moves.Move.{IsWithin}
@@ -38,8 +38,8 @@ use Rattle.snoop_model.specs.Pictures.Current.{IsCurrent}
 use Rattle.snoop_model.specs.Pictures.MemoryCurrent.{IsMemoryCurrent, NamesItsBlock, data_under_way}
 use Rattle.snoop_model.specs.Moves.SenderTable.{OrdersFollowSenderTable}
 use Rattle.snoop_model.specs.Invariant.Fits.{in_protocol, is_clean, is_owner, fits}
-use Rattle.snoop_model.specs.Invariant.Good.{Good, awaited, owns, talk_of}
-use Rattle.snoop_model.specs.Invariant.Coherent.{IsCoherent}
+use Rattle.snoop_model.specs.Invariant.Block.{BlockInvariant, awaited, owns, talk_of}
+use Rattle.snoop_model.specs.Invariant.Invariant.{Invariant}
 use Rattle.snoop_model.proofs.Tables.Every.{given, given_at}
 use Rattle.snoop_model.proofs.OneBlock.Steps.{is_idle_evict, row_of, mem_row_of, Answerable}
 use Rattle.snoop_model.proofs.OneBlock.OrderStep.{seen_other}
@@ -51,7 +51,7 @@ use Rattle.snoop_model.proofs.Tables.StateTests.{is_hit, hit_rule, owner_reads, 
 use Rattle.snoop_model.specs.Pictures.Sound.{keeps}
 
 -- a core and a block within the shape, or a core that holds nothing of it
-pub place : (s : Situation) → IsCoherent s → (core block : ℕ) → IsWithin s core block ⊎ (held_by (picture_of s block) core ≡ nothing_held)
+pub place : (s : Situation) → Invariant s → (core block : ℕ) → IsWithin s core block ⊎ (held_by (picture_of s block) core ≡ nothing_held)
 place s g core block = elim (cases_lt block s.shape.blocks) [
   | inl in_blocks ↦ elim (cases_lt core s.shape.cores) [
     | inl in_cores ↦ inl (in_cores, in_blocks)
@@ -83,7 +83,7 @@ may_store_owns p s may =
     given_at (cell_of p s event.Store) (λ r. not (is_hit r.action) || is_owner s) (record { action = action.Hit; next = may.0 }) (cell_of-Cell p s event.Store action.Hit may.0 may.1) t.1
 
 -- beside a writer no other core is a reader or a writer
-pub has_one_writer : (s : Situation) → IsCoherent s → (block : ℕ) → OneWriter s.protocol (picture_of s block)
+pub has_one_writer : (s : Situation) → Invariant s → (block : ℕ) → OneWriter s.protocol (picture_of s block)
 has_one_writer s g block core other writes apart =
     let p = s.protocol in
     let picture : Picture = picture_of s block in
@@ -94,16 +94,16 @@ has_one_writer s g block core other writes apart =
       | inl within ↦ elim (place s g other block) [
         | inr nothing ↦ (λ h. not_reader p (subst P nothing h), λ h. not_writer p (subst Q nothing h))
         | inl within_too ↦
-            let blind = one_writer p s.shape.cores (flat s.log block) picture (g.good block within.1) core other within.0 within_too.0 (may_store_owns p (held_by picture core).state writes) apart in
+            let blind = one_writer p s.shape.cores (flat_words s.log block) picture (g.blocks block within.1) core other within.0 within_too.0 (may_store_owns p (held_by picture core).state writes) apart in
             let t = (held_by picture other).state in
             (λ h. clash (keeps t) (may_load_reads p t h) blind, λ h. clash (keeps t) (owner_reads t (may_store_owns p t h)) blind)
       ]
     ]
 
 -- each reader keeps flat memory's value
-pub readers_current : (s : Situation) → IsCoherent s → (block : ℕ) → IsCurrent s.protocol (picture_of s block) (flat s.log block)
+pub readers_current : (s : Situation) → Invariant s → (block : ℕ) → IsCurrent s.protocol (picture_of s block) (flat_words s.log block)
 readers_current s g block core reads = elim (place s g core block) [
-  | inl within ↦ (g.good block within.1).kept core within.0 (may_load_reads s.protocol (held_by (picture_of s block) core).state reads)
+  | inl within ↦ (g.blocks block within.1).kept core within.0 (may_load_reads s.protocol (held_by (picture_of s block) core).state reads)
   | inr nothing ↦ let P : Line → Type 0 = λ x. MayLoad s.protocol x.state in absurd (not_reader s.protocol (subst P nothing reads))
 ]
 
@@ -119,7 +119,7 @@ owner_stores Msi state.EiA known owns = cc
 owner_stores _ _ known owns = cc
 
 -- where no core may write the block, none owns it
-nobody_owns : (p : Protocol) (n value : ℕ) (picture : Picture) (g : Good p n value picture) → ((core : ℕ) → ¬ IsWriter p picture core) → (owner : Option ℕ) → g.owner ≡ owner → g.claims.owned ≡ false
+nobody_owns : (p : Protocol) (n : ℕ) (value : List ℕ) (picture : Picture) (g : BlockInvariant p n value picture) → ((core : ℕ) → ¬ IsWriter p picture core) → (owner : Option ℕ) → g.owner ≡ owner → g.claims.owned ≡ false
 unfolding fits
 nobody_owns p n value picture g idle None is = sym g.is_owned ∙ rw is refl
 nobody_owns p n value picture g idle (Some o) is =
@@ -131,11 +131,11 @@ nobody_owns p n value picture g idle (Some o) is =
 no_data : (found : Option Open) → data_under_way found ≡ None → brings_data (talk_of found) ≡ false
 no_data None none = refl
 no_data (Some o) none = elim (or_not (carries_value o.payload)) as (λ _. carries_value o.payload ≡ false) [
-  | inl e ↦ let h : ◌≡◌ {A = Option ℕ} (Some o.value) None = rw e at none in cc
+  | inl e ↦ let h : ◌≡◌ {A = Option (List ℕ)} (Some o.value) None = rw e at none in cc
   | inr e ↦ e
 ]
 
-data_is : (found : Option Open) (value : ℕ) → ((o : Open) → found ≡ Some o → carries_value o.payload ≡ true → o.value ≡ value) → IfSome (data_under_way found) (λ sent. sent ≡ value)
+data_is : (found : Option Open) (value : List ℕ) → ((o : Open) → found ≡ Some o → carries_value o.payload ≡ true → o.value ≡ value) → IfSome (data_under_way found) (λ sent. sent ≡ value)
 data_is None value carried = tt
 data_is (Some o) value carried = elim (or_not (carries_value o.payload)) as (λ _. IfSome (data_under_way (Some o)) (λ sent. sent ≡ value)) [
   | inl e ↦ rw e (carried o refl e)
@@ -143,19 +143,19 @@ data_is (Some o) value carried = elim (or_not (carries_value o.payload)) as (λ 
 ]
 
 -- data under way has flat memory's value, and so has memory where nobody may write and no data is under way
-pub memory_current : (s : Situation) → IsCoherent s → (block : ℕ) → block < s.shape.blocks → IsMemoryCurrent s.protocol (picture_of s block) (flat s.log block)
+pub memory_current : (s : Situation) → Invariant s → (block : ℕ) → block < s.shape.blocks → IsMemoryCurrent s.protocol (picture_of s block) (flat_words s.log block)
 memory_current s g block within =
     let p = s.protocol in
     let picture : Picture = picture_of s block in
-    let it = g.good block within in
+    let it = g.blocks block within in
     record {
-      carried = data_is picture.transaction (flat s.log block) it.carried;
+      carried = data_is picture.transaction (flat_words s.log block) it.carried;
       held = λ idle none.
-          it.fresh (resting_rule p picture.memory.state (talk_of picture.transaction) it.claims it.is_claims (nobody_owns p s.shape.cores (flat s.log block) picture it idle it.owner refl) (no_data picture.transaction none));
+          it.fresh (resting_rule p picture.memory.state (talk_of picture.transaction) it.claims it.is_claims (nobody_owns p s.shape.cores (flat_words s.log block) picture it idle it.owner refl) (no_data picture.transaction none));
     }
 
 -- an open transaction is of a block within the shape
-opened_within : (s : Situation) → IsCoherent s → (block : ℕ) (o : Open) → (picture_of s block).transaction ≡ Some o → block < s.shape.blocks
+opened_within : (s : Situation) → Invariant s → (block : ℕ) (o : Open) → (picture_of s block).transaction ≡ Some o → block < s.shape.blocks
 opened_within s g block o is = elim (cases_lt block s.shape.blocks) [
   | inl within ↦ within
   | inr past ↦
@@ -165,15 +165,15 @@ opened_within s g block o is = elim (cases_lt block s.shape.blocks) [
 ]
 
 -- it is of its block, by a core of the machine
-pub names_its_block : (s : Situation) → IsCoherent s → (block : ℕ) → NamesItsBlock s block
+pub names_its_block : (s : Situation) → Invariant s → (block : ℕ) → NamesItsBlock s block
 names_its_block s g block = go (picture_of s block).transaction refl
   where
     go : (found : Option Open) → (picture_of s block).transaction ≡ found → IfSome found (λ o. (o.block ≡ block) × (o.core < s.shape.cores))
     go None is = tt
-    go (Some o) is = (g.opened block o is, (g.good block (opened_within s g block o is)).requestor_in o is)
+    go (Some o) is = (g.opened block o is, (g.blocks block (opened_within s g block o is)).requestor_in o is)
 
 -- a core that waits is within the shape, and so is its block
-pub waits_within : (s : Situation) → IsCoherent s → (core block : ℕ) (q : Request) → Waits s core block q → IsWithin s core block
+pub waits_within : (s : Situation) → Invariant s → (core block : ℕ) (q : Request) → Waits s core block q → IsWithin s core block
 waits_within s g core block q waits = elim (place s g core block) [
   | inl within ↦ within
   | inr nothing ↦
@@ -181,17 +181,17 @@ waits_within s g core block q waits = elim (place s g core block) [
       let h : ◌≡◌ {A = Option Request} None (Some q) = subst P nothing waits in cc
 ]
 
-possible_order : (s : Situation) → IsCoherent s → (core block : ℕ) (q : Request) → CanOrder s core block q → Possible s.protocol (length (picture_of s block).caches) (picture_of s block) core q
+possible_order : (s : Situation) → Invariant s → (core block : ℕ) (q : Request) → CanOrder s core block q → Possible s.protocol (length (picture_of s block).caches) (picture_of s block) core q
 possible_order s g core block q ready =
     let within = waits_within s g core block q ready.0 in
-    let x = order_possible s.protocol s.shape.cores (flat s.log block) (picture_of s block) core q (g.good block within.1) within.0 ready.0 ready.1 in
+    let x = order_possible s.protocol s.shape.cores (flat_words s.log block) (picture_of s block) core q (g.blocks block within.1) within.0 ready.0 ready.1 in
     subst (λ (n : ℕ). Possible s.protocol n (picture_of s block) core q) (sym (g.shaped.row block within.1)) x
 
 put_is : (q : Request) → q ≡ request.PutM → is_put_m q ≡ true
 put_is q e = ap is_put_m e
 
 -- an Order of any request that waits on a free block has exactly one sender, and is a line of the table
-pub orders_follow_sender_table : (s : Situation) → IsCoherent s → OrdersFollowSenderTable s.protocol s
+pub orders_follow_sender_table : (s : Situation) → Invariant s → OrdersFollowSenderTable s.protocol s
 orders_follow_sender_table s g core block q ready =
     let p = s.protocol in
     let before : Picture = picture_of s block in
@@ -242,8 +242,8 @@ has_mem_row p m None row = let h = row.1 in cc
 has_mem_row p m (Some e) row = (row.0.action, (row.0.next, MemoryCell-found p m e row.0 row.1))
 
 -- a core has a row for what it is asked
-asked_row : (s : Situation) → IsCoherent s → (core block : ℕ) (asking : Op) → (¬ ((asking ≡ op.Evict) × (state_of s core block ≡ state.I))) → HasRow s.protocol (state_of s core block) (asked asking)
-asked_row s g core block asking busy = elim (place s g core block) [
+asked_row : (s : Situation) → Invariant s → (core block word : ℕ) (asking : Op) → (¬ ((asking ≡ op.Evict) × (state_of s core block ≡ state.I))) → HasRow s.protocol (state_of s core block) (asked asking)
+asked_row s g core block word asking busy = elim (place s g core block) [
   | inr nothing ↦
       let P : Line → Type 0 = λ x. (¬ ((asking ≡ op.Evict) × (x.state ≡ state.I))) → HasRow s.protocol x.state (asked asking) in
       subst P (sym nothing) (nothing_asked s.protocol asking) busy
@@ -253,11 +253,11 @@ asked_row s g core block asking busy = elim (place s g core block) [
         | inl idle ↦ absurd (busy (idle_evict held asking idle))
         | inr e ↦ e
       ] in
-      has_row s.protocol held (Some (asked asking)) (ask_possible s.protocol s.shape.cores (flat s.log block) (picture_of s block) core asking (g.good block within.1) within.0 not_idle)
+      has_row s.protocol held (Some (asked asking)) (ask_possible s.protocol s.shape.cores (flat_words s.log block) (picture_of s block) core asking (g.blocks block within.1) within.0 not_idle)
 ]
 
 -- and for a request that is ordered
-seen_row : (s : Situation) → IsCoherent s → (core block : ℕ) (q : Request) → CanOrder s core block q → (k : ℕ) → HasRow s.protocol (state_of s k block) (seen_by k core q)
+seen_row : (s : Situation) → Invariant s → (core block : ℕ) (q : Request) → CanOrder s core block q → (k : ℕ) → HasRow s.protocol (state_of s k block) (seen_by k core q)
 seen_row s g core block q ready k = elim (place s g k block) [
   | inl within ↦
       let long : length (picture_of s block).caches ≡ s.shape.cores = g.shaped.row block within.1 in
@@ -276,19 +276,19 @@ not_put request.GetS get = refl
 not_put request.GetM get = refl
 not_put request.PutM get = absurd (get refl)
 
-response_possible : (s : Situation) → IsCoherent s → (block : ℕ) (closing : Open) → (picture_of s block).transaction ≡ Some closing → Answerable s.protocol (picture_of s block) closing
-response_possible s g block closing opened = respond_possible s.protocol s.shape.cores (flat s.log block) (picture_of s block) closing (g.good block (opened_within s g block closing opened)) opened
+response_possible : (s : Situation) → Invariant s → (block : ℕ) (closing : Open) → (picture_of s block).transaction ≡ Some closing → Answerable s.protocol (picture_of s block) closing
+response_possible s g block closing opened = respond_possible s.protocol s.shape.cores (flat_words s.log block) (picture_of s block) closing (g.blocks block (opened_within s g block closing opened)) opened
 
-finds_cache : (s : Situation) → IsCoherent s → (step : Step) (core block : ℕ) (event : Option CacheEvent) → ConsultsCache s step core block event → IsSomeAnd event (HasRow s.protocol (state_of s core block))
-finds_cache s g (Ask asker on asking) core block event looks = rw looks.3 (asked_row s g core block asking looks.2)
+finds_cache : (s : Situation) → Invariant s → (step : Step) (core block : ℕ) (event : Option CacheEvent) → ConsultsCache s step core block event → IsSomeAnd event (HasRow s.protocol (state_of s core block))
+finds_cache s g (Ask asker on word asking) core block event looks = rw looks.3 (asked_row s g core block word asking looks.2)
 finds_cache s g (Order requestor) core block event looks = rw looks.1.1 (seen_row s g requestor block looks.0 looks.1.0 core)
 finds_cache s g (Respond on) core block event looks =
     let closing = looks.0 in
     let row = (response_possible s g block closing looks.1.1).requestor (not_put closing.request looks.1.3) in
     rw (looks.1.4, looks.1.2) (has_row s.protocol (state_of s closing.core block) (arrival closing.payload) row)
 
-finds_memory : (s : Situation) → IsCoherent s → (step : Step) (block : ℕ) (event : Option MemEvent) → ConsultsMemory s step block event → IsSomeAnd event (HasMemRow s.protocol (picture_of s block).memory.state)
-finds_memory s g (Ask asker on asking) block event looks = absurd looks
+finds_memory : (s : Situation) → Invariant s → (step : Step) (block : ℕ) (event : Option MemEvent) → ConsultsMemory s step block event → IsSomeAnd event (HasMemRow s.protocol (picture_of s block).memory.state)
+finds_memory s g (Ask asker on word asking) block event looks = absurd looks
 finds_memory s g (Order requestor) block event looks =
     let x = possible_order s g requestor block looks.0 looks.1.0 in
     rw looks.1.1 (has_mem_row s.protocol (picture_of s block).memory.state (Some (at_memory looks.0)) (x.cell_of_memory, x.memory_row))
@@ -298,5 +298,5 @@ finds_memory s g (Respond on) block event looks =
     rw looks.1.3 (has_mem_row s.protocol (picture_of s block).memory.state (arrival_at_memory closing.payload) row)
 
 -- no step meets an impossible cell
-pub finds_rows : (s : Situation) → IsCoherent s → (step : Step) → FindsRows s step
+pub finds_rows : (s : Situation) → Invariant s → (step : Step) → FindsRows s step
 finds_rows s g step = record { cache = finds_cache s g step; memory = finds_memory s g step }

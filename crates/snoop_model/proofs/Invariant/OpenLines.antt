@@ -5,14 +5,14 @@ use Rattle.std.proofs.lemmas.Bool.Decides.{eqb_tells}
 use Rattle.snoop_trace.specs.Extent.{Extent}
 use Rattle.snoop_trace.specs.declared.step.Step.{Step}
 use Rattle.snoop_trace.specs.declared.step.Step.TheVariants.{Ask, Order, Respond}
-use Rattle.snoop_rules.specs.declared.names.Protocol.{Protocol}
+use Rattle.snoop_trace.specs.declared.protocol.Protocol.{Protocol}
 use Rattle.snoop_rules.specs.declared.names.CacheState.TheVariants.{I}
 use Rattle.snoop_rules.specs.declared.names.MemState.{MemState}
 use Rattle.snoop_rules.specs.declared.names.Request.{Request}
 use Rattle.snoop_rules.specs.declared.names.Payload.{Payload}
 use Rattle.snoop_history.specs.declared.items.Did.{Did}
 use Rattle.snoop_history.specs.declared.items.Item.{Item}
-use Rattle.snoop_bus.specs.declared.transactions.Open.{Open}
+use Rattle.snoop_bus.specs.Traffic.{Open}
 use Rattle.snoop_model.specs.declared.replies.Reply.{Reply}
 use Rattle.snoop_model.specs.declared.replies.Refused.{Refused}
 use Rattle.snoop_model.specs.Pictures.Picture.{Picture, held_by}
@@ -20,7 +20,7 @@ use Rattle.snoop_model.specs.Pictures.Situation.{Situation, picture_of, reset}
 use Rattle.snoop_model.specs.Moves.Move.{Orders, Responds, IsWithin, MoveOn}
 use Rattle.snoop_model.specs.Moves.SenderTable.{IsLine, IsOnLine}
 use Rattle.snoop_model.specs.Runs.Run.{Goes, RunFrom}
-use Rattle.snoop_model.specs.Invariant.Coherent.{IsCoherent}
+use Rattle.snoop_model.specs.Invariant.Invariant.{Invariant}
 use Rattle.snoop_model.specs.Invariant.MachineKeeps.{AreOnLines}
 use Rattle.snoop_model.proofs.OneBlock.AfterMoves.{order_other_block, respond_other_block}
 use Rattle.snoop_model.proofs.Lists.Facts.{replicated}
@@ -31,12 +31,12 @@ abbrev OnLine : Protocol → Picture → Type 0
 OnLine p picture = IfSome picture.transaction (λ o. (done : MemState) × IsOnLine p o picture.memory.state done)
 
 -- the line of an Order is that of the transaction which it opens
-ordered_on_line : (p : Protocol) (before : Picture) (core block value : ℕ) (q : Request) (from : Option ℕ) (payload : Payload) (next : MemState) → IsLine p before core q from payload next
+ordered_on_line : (p : Protocol) (before : Picture) (core block : ℕ) (value : List ℕ) (q : Request) (from : Option ℕ) (payload : Payload) (next : MemState) → IsLine p before core q from payload next
     → (done : MemState) × IsOnLine p (record { core = core; request = q; block = block; payload = payload; value = value; from = from }) next done
 ordered_on_line p before core block value q None payload next l = (l.done, record { before = before.memory.state; held = I; line = l.line; writeback = l.writeback })
 ordered_on_line p before core block value q (Some k) payload next l = (l.done, record { before = before.memory.state; held = (held_by before k).state; line = l.line; writeback = l.writeback })
 
-order_on_lines : (old : Situation) (core block : ℕ) (q : Request) (new : Situation) → IsCoherent old → AreOnLines old → IsWithin old core block → Orders old core block q new → AreOnLines new
+order_on_lines : (old : Situation) (core block : ℕ) (q : Request) (new : Situation) → Invariant old → AreOnLines old → IsWithin old core block → Orders old core block q new → AreOnLines new
 order_on_lines old core block q new g lines within o b =
     let p : new.protocol ≡ old.protocol = ap (λ (s : Situation). s.protocol) o.after in
     subst (λ (x : Protocol). OnLine x (picture_of new b)) (sym p) (elim (eqb_tells b block) as (λ _. OnLine old.protocol (picture_of new b)) [
@@ -46,7 +46,7 @@ order_on_lines old core block q new g lines within o b =
       | inr h ↦ subst (OnLine old.protocol) (sym (order_other_block old core block q new g within o b h.1)) (lines b)
     ])
 
-respond_on_lines : (old : Situation) (block : ℕ) (closing : Open) (did : Option Did) (new : Situation) → IsCoherent old → AreOnLines old → block < old.shape.blocks → Responds old block closing did new → AreOnLines new
+respond_on_lines : (old : Situation) (block : ℕ) (closing : Open) (did : Option Did) (new : Situation) → Invariant old → AreOnLines old → block < old.shape.blocks → Responds old block closing did new → AreOnLines new
 respond_on_lines old block closing did new g lines within r b =
     let p : new.protocol ≡ old.protocol = ap (λ (s : Situation). s.protocol) r.after in
     subst (λ (x : Protocol). OnLine x (picture_of new b)) (sym p) (elim (eqb_tells b block) as (λ _. OnLine old.protocol (picture_of new b)) [
@@ -55,19 +55,19 @@ respond_on_lines old block closing did new g lines within r b =
     ])
 
 -- a move keeps the lines: an Ask changes neither memory nor a transaction
-pub move_on_lines : (block : ℕ) (old : Situation) (step : Step) (answer : Reply) (new : Situation) (entry : Option Item) → IsCoherent old → AreOnLines old → MoveOn block old step answer new entry → AreOnLines new
-move_on_lines block old (Ask core on asking) answer new entry g lines m = elim m.2 as (λ _. AreOnLines new) [
+pub move_on_lines : (block : ℕ) (old : Situation) (step : Step) (answer : Reply) (new : Situation) (entry : Option Item) → Invariant old → AreOnLines old → MoveOn block old step answer new entry → AreOnLines new
+move_on_lines block old (Ask core on word asking) answer new entry g lines m = elim m.2 as (λ _. AreOnLines new) [
   | inl idle ↦ subst AreOnLines (sym idle.3) lines
   | inr a ↦ subst AreOnLines (sym a.after) lines
 ]
 move_on_lines block old (Order core) answer new entry g lines m = order_on_lines old core block m.0 new g lines m.1.0 m.1.3
 move_on_lines block old (Respond on) answer new entry g lines m = respond_on_lines old block m.0 m.1.0 new g lines m.1.1.1 m.1.1.4
 
-goes_on_lines : (old : Situation) (step : Step) (outcome : Result Reply Refused) (new : Situation) → IsCoherent old → AreOnLines old → Goes old step outcome new → AreOnLines new
+goes_on_lines : (old : Situation) (step : Step) (outcome : Result Reply Refused) (new : Situation) → Invariant old → AreOnLines old → Goes old step outcome new → AreOnLines new
 goes_on_lines old step (Ok answer) new g lines m = move_on_lines m.1.0 old step answer new m.0 g lines m.1.1
 goes_on_lines old step (Err cause) new g lines r = subst AreOnLines (sym (refusal_same old step cause new r)) lines
 
-pub run_on_lines : (steps : List Step) (outcomes : List (Result Reply Refused)) (old new : Situation) → IsCoherent old → AreOnLines old → RunFrom old steps outcomes new → AreOnLines new
+pub run_on_lines : (steps : List Step) (outcomes : List (Result Reply Refused)) (old new : Situation) → Invariant old → AreOnLines old → RunFrom old steps outcomes new → AreOnLines new
 run_on_lines [] [] old new g lines r = subst AreOnLines (sym r) lines
 run_on_lines (step ∷ steps) (outcome ∷ outcomes) old new g lines r = run_on_lines steps outcomes r.0 new (goes_keeps old step outcome r.0 g r.1.0) (goes_on_lines old step outcome r.0 g lines r.1.0) r.1.1
 run_on_lines [] (outcome ∷ outcomes) old new g lines r = absurd r

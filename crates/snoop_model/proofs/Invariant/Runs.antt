@@ -1,40 +1,43 @@
 -- The invariant holds at reset, and after each step of a run.
-use Rattle.std.proofs.Common.{◌≡◌, ℕ, ◌<◌, List, [], ◌∷◌, length, replicate, true, false, Option, None, refl, inl, inr, ap, sym, ◌∙◌, subst, arith, get_or}
+use Rattle.std.proofs.Common.{Some, ◌≡◌, ℕ, zero, suc, map, ◌+◌, ◌<◌, List, [], ◌∷◌, length, replicate, true, false, Option, None, refl, inl, inr, ap, sym, ◌∙◌, subst, arith, get_or}
 use Rattle.std.specs.Prelude.{Result, Ok, Err}
 use Rattle.std.proofs.lemmas.Bool.{cases_lt}
 use Rattle.std.proofs.lemmas.List.{length-replicate, get_or-replicate, get_or_past}
+use Rattle.std.proofs.lemmas.List.Elements.{All-nil}
+use Rattle.std.specs.List.{range_with_len}
 use Rattle.snoop_trace.specs.Extent.{Extent}
+use Rattle.snoop_trace.specs.Words.{IsWord, zero_words}
+use Rattle.snoop_history.specs.History.{flat, flat_words}
 use Rattle.snoop_trace.specs.declared.step.Step.{Step}
-use Rattle.snoop_trace.specs.declared.step.Step.TheVariants.{Ask, Order, Respond}
-use Rattle.snoop_rules.specs.declared.names.Protocol.{Protocol}
-use Rattle.snoop_rules.specs.declared.names.Protocol.TheVariants as protocol
-use Rattle.snoop_history.specs.declared.items.Item.{Item}
-use Rattle.snoop_bus.specs.declared.transactions.Open.{Open}
-use Rattle.snoop_model.specs.declared.line.Line.{Line}
+use Rattle.snoop_trace.specs.declared.protocol.Protocol.{Protocol}
+use Rattle.snoop_trace.specs.declared.protocol.Protocol.TheVariants as protocol
+use Rattle.snoop_bus.specs.Traffic.{Open}
+use Rattle.snoop_model.specs.declared.line.Access.{Access}
+use Rattle.snoop_model.specs.Pictures.Lines.{Line}
 use Rattle.snoop_model.specs.declared.replies.Reply.{Reply}
 use Rattle.snoop_model.specs.declared.replies.Refused.{Refused}
 use Rattle.snoop_model.specs.declared.replies.Refused.TheVariants.{NoMemory}
 use Rattle.snoop_model.specs.Pictures.Picture.{Picture, held_at, held_by, nothing_held, first_memory}
 use Rattle.snoop_model.specs.Pictures.Situation.{Situation, picture_of, reset, no_memory}
 use Rattle.snoop_model.specs.Pictures.Sound.{keeps, IsProper}
-use Rattle.snoop_model.specs.Moves.Move.{MoveOn}
+use Rattle.snoop_model.specs.Moves.Move.{IsWithin}
 use Rattle.snoop_model.specs.Runs.Run.{IsRefusal, Goes, RunFrom}
 use Rattle.snoop_model.specs.Invariant.Fits.{claims_of, is_owner, is_sharer, is_clean, wait_fits, in_protocol, same, fits}
-use Rattle.snoop_model.specs.Invariant.Good.{Good}
-use Rattle.snoop_model.specs.Invariant.Coherent.{IsCoherent}
+use Rattle.snoop_model.specs.Invariant.Block.{BlockInvariant}
+use Rattle.snoop_model.specs.Invariant.Invariant.{Invariant}
 use Rattle.snoop_model.proofs.Lists.Facts.{replicated}
 use Rattle.snoop_model.proofs.Invariant.Moves.{move_keeps}
 
 -- a block at reset
 abbrev untouched : Protocol → ℕ → Picture
-untouched p n = record { caches = replicate n nothing_held; memory = record { state = first_memory p; value = 0 }; transaction = None }
+untouched p n = record { caches = replicate n nothing_held; memory = record { state = first_memory p; value = zero_words }; transaction = None }
 
 pub nothing_proper : IsProper nothing_held
 nothing_proper = record { kept = refl; waiting = refl }
 
-untouched_good : (p : Protocol) (n : ℕ) → Good p n 0 (untouched p n)
+untouched_block : (p : Protocol) (n : ℕ) → BlockInvariant p n zero_words (untouched p n)
 unfolding claims_of fits is_owner is_sharer is_clean wait_fits in_protocol same
-untouched_good protocol.Msi n = record {
+untouched_block protocol.Msi n = record {
   claims = record { owned = false; shared = true; fresh = true };
   is_claims = refl;
   owner = None;
@@ -48,7 +51,7 @@ untouched_good protocol.Msi n = record {
   requestor_in = λ o e. cc;
   proper = λ d d_in. subst IsProper (sym (replicated n d nothing_held)) nothing_proper;
 }
-untouched_good protocol.Mesi n = record {
+untouched_block protocol.Mesi n = record {
   claims = record { owned = false; shared = false; fresh = true };
   is_claims = refl;
   owner = None;
@@ -66,7 +69,7 @@ untouched_good protocol.Mesi n = record {
 reset_picture : (p : Protocol) (shape : Extent) (block : ℕ) → block < shape.blocks → picture_of (reset p shape) block ≡ untouched p shape.cores
 reset_picture p shape block within =
     let caches : get_or (replicate shape.blocks (replicate shape.cores nothing_held)) block [] ≡ replicate shape.cores nothing_held = get_or-replicate shape.blocks block (replicate shape.cores nothing_held) [] within in
-    let memory = get_or-replicate shape.blocks block (record { state = first_memory p; value = 0 }) no_memory within in
+    let memory = get_or-replicate shape.blocks block (record { state = first_memory p; value = zero_words }) no_memory within in
     let transaction : ◌≡◌ {A = Option Open} (get_or (replicate shape.blocks None) block None) None = replicated shape.blocks block None in
     rw (caches, memory, transaction) refl
 
@@ -82,49 +85,40 @@ reset_line p shape core block = elim (cases_lt block shape.blocks) [
       ap (λ (l : List Line). held_at l core) (get_or_past (replicate shape.blocks (replicate shape.cores nothing_held)) block [] (omega arith)) ∙ get_or_past [] core nothing_held (omega arith)
 ]
 
-pub reset_coherent : (p : Protocol) (shape : Extent) → IsCoherent (reset p shape)
-reset_coherent p shape = record {
+-- flat memory at reset
+flat_reset : (block : ℕ) → flat_words [] block ≡ zero_words
+flat_reset block = sym (replicate-map 64 0)
+  where
+    replicate-map : (n a : ℕ) → replicate n 0 ≡ map (flat [] block) (range_with_len a n)
+    replicate-map zero a = refl
+    replicate-map (suc n) a = ap (λ (l : List ℕ). 0 ∷ l) (replicate-map n (a + 1))
+
+pub reset_invariant : (p : Protocol) (shape : Extent) → Invariant (reset p shape)
+reset_invariant p shape = record {
   shaped = record {
     rows = length-replicate shape.blocks (replicate shape.cores nothing_held);
     row = λ b b_in. ap (λ (x : Picture). length x.caches) (reset_picture p shape b b_in) ∙ length-replicate shape.cores nothing_held;
-    memory = length-replicate shape.blocks (record { state = first_memory p; value = 0 });
+    memory = length-replicate shape.blocks (record { state = first_memory p; value = zero_words });
     queues = length-replicate shape.cores [];
     transactions = length-replicate shape.blocks None;
   };
   opened = λ b o is_open. (let none = reset_open p shape b in cc);
-  good = λ b b_in. subst (Good p shape.cores 0) (sym (reset_picture p shape b b_in)) (untouched_good p shape.cores);
+  blocks = λ b b_in. subst (BlockInvariant p shape.cores (flat_words [] b)) (sym (reset_picture p shape b b_in)) (subst (λ (ws : List ℕ). BlockInvariant p shape.cores ws (untouched p shape.cores)) (sym (flat_reset b)) (untouched_block p shape.cores));
+  accesses = λ core b access waits. (let none = reset_line p shape core b in let e : ◌≡◌ {A = Option Access} None (Some access) = ap (λ (x : Line). x.waiting) (sym none) ∙ waits in cc);
   legal = λ k entry h. cc;
+  logged = All-nil (λ did. IsWithin (reset p shape) did.core did.block × IsWord shape did.word);
 }
 
 pub refusal_same : (old : Situation) (step : Step) (cause : Refused) (new : Situation) → IsRefusal old step cause new → new ≡ old
 refusal_same old step NoMemory new r = r
 refusal_same old step cause new r = r.1
 
-pub goes_keeps : (old : Situation) (step : Step) (outcome : Result Reply Refused) (new : Situation) → IsCoherent old → Goes old step outcome new → IsCoherent new
+pub goes_keeps : (old : Situation) (step : Step) (outcome : Result Reply Refused) (new : Situation) → Invariant old → Goes old step outcome new → Invariant new
 goes_keeps old step (Ok answer) new g m = move_keeps m.1.0 old step answer new m.0 g m.1.1
-goes_keeps old step (Err cause) new g r = subst IsCoherent (sym (refusal_same old step cause new r)) g
+goes_keeps old step (Err cause) new g r = subst Invariant (sym (refusal_same old step cause new r)) g
 
-pub run_keeps : (steps : List Step) (outcomes : List (Result Reply Refused)) (old new : Situation) → IsCoherent old → RunFrom old steps outcomes new → IsCoherent new
-run_keeps [] [] old new g r = subst IsCoherent (sym r) g
+pub run_keeps : (steps : List Step) (outcomes : List (Result Reply Refused)) (old new : Situation) → Invariant old → RunFrom old steps outcomes new → Invariant new
+run_keeps [] [] old new g r = subst Invariant (sym r) g
 run_keeps (step ∷ steps) (outcome ∷ outcomes) old new g r = run_keeps steps outcomes r.0 new (goes_keeps old step outcome r.0 g r.1.0) r.1.1
 run_keeps [] (outcome ∷ outcomes) old new g r = absurd r
 run_keeps (step ∷ steps) [] old new g r = absurd r
-
--- a run keeps its protocol
-move_protocol : (block : ℕ) (old : Situation) (step : Step) (answer : Reply) (new : Situation) (entry : Option Item) → MoveOn block old step answer new entry → new.protocol ≡ old.protocol
-move_protocol block old (Ask core on asking) answer new entry m = elim m.2 as (λ _. new.protocol ≡ old.protocol) [
-  | inl idle ↦ ap (λ (s : Situation). s.protocol) idle.3
-  | inr a ↦ ap (λ (s : Situation). s.protocol) a.after
-]
-move_protocol block old (Order core) answer new entry m = ap (λ (s : Situation). s.protocol) (m.1.3).after
-move_protocol block old (Respond on) answer new entry m = ap (λ (s : Situation). s.protocol) (m.1.1.4).after
-
-goes_protocol : (old : Situation) (step : Step) (outcome : Result Reply Refused) (new : Situation) → Goes old step outcome new → new.protocol ≡ old.protocol
-goes_protocol old step (Ok answer) new m = move_protocol m.1.0 old step answer new m.0 m.1.1
-goes_protocol old step (Err cause) new r = ap (λ (s : Situation). s.protocol) (refusal_same old step cause new r)
-
-pub run_protocol : (steps : List Step) (outcomes : List (Result Reply Refused)) (old new : Situation) → RunFrom old steps outcomes new → new.protocol ≡ old.protocol
-run_protocol [] [] old new r = ap (λ (s : Situation). s.protocol) r
-run_protocol (step ∷ steps) (outcome ∷ outcomes) old new r = run_protocol steps outcomes r.0 new r.1.1 ∙ goes_protocol old step outcome r.0 r.1.0
-run_protocol [] (outcome ∷ outcomes) old new r = absurd r
-run_protocol (step ∷ steps) [] old new r = absurd r

@@ -1,10 +1,10 @@
 -- What every machine keeps makes it safe, and its steps keep it.
-use Rattle.std.proofs.Common.{ℕ, ◌<◌, Option, inl, inr, sym, ◌∙◌, subst, Some, None}
-use Rattle.std.specs.Prelude.{◌≡◌, Result, Ok, Err, IfOk, IfErr, IfSome, is_some}
+use Rattle.std.proofs.Common.{ℕ, List, ◌<◌, ◌≤◌, arith, ap, Option, inl, inr, sym, ◌∙◌, subst, Some, None}
+use Rattle.std.specs.Prelude.{◌≡◌, option_map, Result, Ok, Err, IfOk, IfErr, IfSome, is_some}
 use Rattle.std.proofs.lemmas.Option.{same_Some}
 use Rattle.snoop_trace.specs.Extent.{Extent}
 use Rattle.snoop_trace.specs.declared.step.Step.{Step}
-use Rattle.snoop_rules.specs.declared.names.Protocol.{Protocol}
+use Rattle.snoop_trace.specs.declared.protocol.Protocol.{Protocol}
 use Rattle.snoop_history.specs.declared.items.Item.{Item}
 use Rattle.snoop_history.specs.History.{flat}
 use Rattle.snoop_model.specs.declared.replies.Reply.{Reply}
@@ -13,52 +13,61 @@ use Rattle.snoop_model.specs.Pictures.Picture.{held_by}
 use Rattle.snoop_model.specs.Moves.Standing.{Standing}
 use Rattle.snoop_model.specs.Pictures.Situation.{Situation, picture_of, state_of, reset}
 use Rattle.snoop_model.specs.Pictures.Sound.{IsProper, keeps}
+use Rattle.snoop_model.specs.Pictures.InQueue.{IsInQueue}
+use Rattle.snoop_model.specs.Coherent.{IsCoherent}
 use Rattle.snoop_model.specs.Moves.Move.{FirstMove}
 use Rattle.snoop_model.specs.Moves.StepMove.{RefusedFor}
-use Rattle.snoop_model.specs.Invariant.Coherent.{IsCoherent}
-use Rattle.snoop_model.specs.Invariant.MachineKeeps.{MachineKeeps}
+use Rattle.snoop_model.specs.Invariant.Invariant.{Invariant}
+use Rattle.snoop_model.specs.Invariant.MachineKeeps.{AreOnLines, MachineKeeps}
 use Rattle.snoop_model.specs.Runs.Safe.{IsSafe}
 use Rattle.snoop_model.proofs.Invariant.TableLines.{goes_by_table}
 use Rattle.snoop_model.proofs.Invariant.OpenLines.{reset_on_lines, move_on_lines}
 use Rattle.snoop_model.proofs.Invariant.Coherence.{has_one_writer, readers_current, memory_current, names_its_block, finds_rows, orders_follow_sender_table, place}
-use Rattle.snoop_model.proofs.Invariant.Runs.{reset_coherent, nothing_proper}
+use Rattle.snoop_model.proofs.Invariant.Runs.{reset_invariant, nothing_proper}
 use Rattle.snoop_model.proofs.Queues.Runs.{reset_queued, move_queued}
 use Rattle.snoop_model.proofs.Queues.Moves.{starts_well, keeps_well}
 use Rattle.snoop_model.proofs.Invariant.Steps.{first_keeps}
+use Rattle.snoop_model.proofs.Invariant.FlatMemory.{word_flat}
+use Rattle.snoop_trace.specs.Words.{word_at}
 
 -- each line keeps and awaits what its state says
-pub all_proper : (s : Situation) → IsCoherent s → (core block : ℕ) → IsProper (held_by (picture_of s block) core)
+pub all_proper : (s : Situation) → Invariant s → (core block : ℕ) → IsProper (held_by (picture_of s block) core)
 all_proper s g core block = elim (place s g core block) [
-  | inl within ↦ (g.good block within.1).proper core within.0
+  | inl within ↦ (g.blocks block within.1).proper core within.0
   | inr nothing ↦ subst IsProper (sym nothing) nothing_proper
 ]
 
--- what a core keeps is the block's flat value
-pub kept_is_flat : (s : Situation) → IsCoherent s → (core block : ℕ) → (found : Option ℕ) → IfSome found (λ _. (core < s.shape.cores) × (block < s.shape.blocks))
-    → (core < s.shape.cores → block < s.shape.blocks → found ≡ (held_by (picture_of s block) core).kept)
-    → (core < s.shape.cores → block < s.shape.blocks → is_some found ≡ keeps (state_of s core block)) → IfSome found (λ value. value ≡ flat s.log block)
-kept_is_flat s g core block None within inside readable = tt
-kept_is_flat s g core block (Some value) within inside readable =
-    same_Some _ _ (inside within.0 within.1 ∙ (g.good block within.1).kept core within.0 (sym (readable within.0 within.1)))
+-- a word that a core keeps has its value in flat memory
+pub kept_is_flat : (s : Situation) → Invariant s → s.shape.words ≤ 64 → (core block word : ℕ) → (found : Option ℕ) → IfSome found (λ _. (core < s.shape.cores) × (block < s.shape.blocks) × (word < s.shape.words))
+    → (core < s.shape.cores → block < s.shape.blocks → word < s.shape.words → found ≡ option_map (λ ws. word_at ws word) (held_by (picture_of s block) core).kept)
+    → (core < s.shape.cores → block < s.shape.blocks → word < s.shape.words → is_some found ≡ keeps (state_of s core block)) → IfSome found (λ value. value ≡ flat s.log block word)
+kept_is_flat s g few core block word None within inside readable = tt
+kept_is_flat s g few core block word (Some value) within inside readable =
+    let kept = (g.blocks block within.1).kept core within.0 (sym (readable within.0 within.1 within.2)) in
+    same_Some _ _ (inside within.0 within.1 within.2 ∙ ap (λ o. option_map (λ (ws : List ℕ). word_at ws word) o) kept) ∙ word_flat s.log block word (omega (arith, few, within.2))
+
+-- the invariant, open transactions on lines of the table, and the queues make a situation coherent
+pub is_coherent : (s : Situation) → Invariant s → AreOnLines s → ((core block : ℕ) → IsInQueue s core block) → IsCoherent s
+is_coherent s g on_lines queued = record {
+  one_writer = has_one_writer s g;
+  legal = g.legal;
+  logged = g.logged;
+  current = readers_current s g;
+  memory = memory_current s g;
+  opened = names_its_block s g;
+  possible = finds_rows s g;
+  lines = orders_follow_sender_table s g;
+  by_table = goes_by_table s g on_lines;
+  proper = all_proper s g;
+  queued = queued;
+}
 
 pub is_safe : (s : Situation) → MachineKeeps s → IsSafe s
-is_safe s keeps = record {
-  one_writer = has_one_writer s keeps.coherent;
-  legal = keeps.coherent.legal;
-  current = readers_current s keeps.coherent;
-  memory = memory_current s keeps.coherent;
-  opened = names_its_block s keeps.coherent;
-  possible = finds_rows s keeps.coherent;
-  lines = orders_follow_sender_table s keeps.coherent;
-  by_table = goes_by_table s keeps.coherent keeps.on_lines;
-  proper = all_proper s keeps.coherent;
-  queued = keeps.queued;
-  well_kept = keeps.well_kept;
-}
+is_safe s keeps = record { coherent = is_coherent s keeps.inductive keeps.on_lines keeps.queued; well_kept = keeps.well_kept }
 
 pub reset_keeps : (protocol : Protocol) (shape : Extent) → MachineKeeps (reset protocol shape)
 reset_keeps protocol shape = record {
-  coherent = reset_coherent protocol shape;
+  inductive = reset_invariant protocol shape;
   on_lines = reset_on_lines protocol shape;
   queued = reset_queued protocol shape;
   well_kept = (starts_well protocol shape (λ core. None)).0;
@@ -66,9 +75,9 @@ reset_keeps protocol shape = record {
 
 move_keeps_all : (old new : Situation) (step : Step) (answer : Reply) (entry : Option Item) → MachineKeeps old → FirstMove old step answer new entry → MachineKeeps new
 move_keeps_all old new step answer entry keeps move = record {
-  coherent = first_keeps old step answer new entry keeps.coherent move;
-  on_lines = move_on_lines move.0 old step answer new entry keeps.coherent keeps.on_lines move.1.1;
-  queued = move_queued move.0 old step answer new entry keeps.coherent keeps.queued move.1.1;
+  inductive = first_keeps old step answer new entry keeps.inductive move;
+  on_lines = move_on_lines move.0 old step answer new entry keeps.inductive keeps.on_lines move.1.1;
+  queued = move_queued move.0 old step answer new entry keeps.inductive keeps.queued move.1.1;
   well_kept = keeps_well old new step answer entry keeps.well_kept move;
 }
 

@@ -2,8 +2,8 @@
 use Rattle.std.proofs.Common.{◌≡◌, ℕ, ◌<◌, ◌++◌, ◌∷◌, [], length, Option, Some, None, refl, inl, inr, sym, ◌∙◌, ap, subst}
 use Rattle.std.specs.Prelude.{IfSome}
 use Rattle.snoop_trace.specs.declared.step.Step.TheVariants.{Ask, Order, Respond}
-use Rattle.snoop_rules.specs.declared.names.Protocol.{Protocol}
-use Rattle.snoop_rules.specs.declared.names.Protocol.TheVariants as protocol
+use Rattle.snoop_trace.specs.declared.protocol.Protocol.{Protocol}
+use Rattle.snoop_trace.specs.declared.protocol.Protocol.TheVariants as protocol
 use Rattle.snoop_rules.specs.declared.names.CacheState.{CacheState}
 use Rattle.snoop_rules.specs.declared.names.MemState.{MemState}
 use Rattle.snoop_rules.specs.declared.names.MemState.TheVariants as mem
@@ -17,26 +17,26 @@ use Rattle.snoop_rules.specs.Takers.{at_memory}
 use Rattle.snoop_rules.proofs.MemRows.{MemoryCell-one}
 use Rattle.snoop_history.specs.declared.items.Did.{Did}
 use Rattle.snoop_history.specs.declared.items.Item.TheVariants as item
-use Rattle.snoop_bus.specs.declared.transactions.Open.{Open}
+use Rattle.snoop_bus.specs.Traffic.{Open}
 use Rattle.snoop_bus.specs.Queues.{after_order}
 use Rattle.snoop_model.specs.Pictures.Picture.{Picture}
 use Rattle.snoop_model.specs.Pictures.Situation.{Situation, picture_of}
 use Rattle.snoop_model.specs.Pictures.Sends.{Sends, value_sent}
 use Rattle.snoop_model.specs.Moves.Move.{IsWithin, Settles, Orders, Responds, ArrivesAtMemory, came_of}
 use Rattle.snoop_model.specs.Moves.SenderTable.{IsLine, IsOnLine, IsOrderedByTable, IsSettledByTable, IsOpenByTable, MovesAreByTable, GoesByTable}
-use Rattle.snoop_model.specs.Invariant.Coherent.{IsCoherent}
+use Rattle.snoop_model.specs.Invariant.Invariant.{Invariant}
 use Rattle.snoop_model.specs.Invariant.MachineKeeps.{AreOnLines}
 use Rattle.snoop_model.proofs.Invariant.Coherence.{orders_follow_sender_table}
 use Rattle.snoop_model.proofs.OneBlock.OfBlocks.{next_picture}
 use Rattle.snoop_model.proofs.Runs.AreOne.{sends_one}
 
 -- a block that there is has its place in each list
-in_lists : (s : Situation) → IsCoherent s → (block : ℕ) → block < s.shape.blocks → (block < length s.caches) × (block < length s.memory) × (block < length s.transactions)
+in_lists : (s : Situation) → Invariant s → (block : ℕ) → block < s.shape.blocks → (block < length s.caches) × (block < length s.memory) × (block < length s.transactions)
 in_lists s g block within =
     let at : (n : ℕ) → n ≡ s.shape.blocks → block < n = λ n e. subst (λ (x : ℕ). block < x) (sym e) within in
     (at (length s.caches) g.shaped.rows, at (length s.memory) g.shaped.memory, at (length s.transactions) g.shaped.transactions)
 
-pub order_is_by_table : (s : Situation) → IsCoherent s → (core block : ℕ) (q : Request) (new : Situation) → IsWithin s core block → Orders s core block q new → IsOrderedByTable s core block q new
+pub order_is_by_table : (s : Situation) → Invariant s → (core block : ℕ) (q : Request) (new : Situation) → IsWithin s core block → Orders s core block q new → IsOrderedByTable s core block q new
 order_is_by_table s g core block q new within o =
     let p = s.protocol in
     let before : Picture = picture_of s block in
@@ -58,7 +58,7 @@ order_is_by_table s g core block q new within o =
           (subst (λ (x : Option ℕ). IsLine p before core q x f.payload f.next) from f.is_line));
     }
 
-pub respond_is_by_table : (s : Situation) → IsCoherent s → (block : ℕ) (closing : Open) (did : Option Did) (new : Situation) → block < s.shape.blocks → Responds s block closing did new → IsSettledByTable s block new
+pub respond_is_by_table : (s : Situation) → Invariant s → (block : ℕ) (closing : Open) (did : Option Did) (new : Situation) → block < s.shape.blocks → Responds s block closing did new → IsSettledByTable s block new
 respond_is_by_table s g block closing did new within r =
     let lists = in_lists s g block within in
     let there : picture_of new block ≡ r.next =
@@ -71,10 +71,10 @@ respond_is_by_table s g block closing did new within r =
     }
 
 -- each move from a coherent situation is by the table
-moves_are_by_table : (s : Situation) → IsCoherent s → MovesAreByTable s
+moves_are_by_table : (s : Situation) → Invariant s → MovesAreByTable s
 moves_are_by_table s g block (Order core) answer new entry m = (m.0, (m.1.3.ready, order_is_by_table s g core block m.0 new m.1.0 m.1.3))
 moves_are_by_table s g block (Respond on) answer new entry m = respond_is_by_table s g block m.0 m.1.0 new m.1.1.1 m.1.1.4
-moves_are_by_table s g block (Ask core on asking) answer new entry m = tt
+moves_are_by_table s g block (Ask core on word asking) answer new entry m = tt
 
 -- memory's row for the response leads to the line's last column
 module _ (sent : Payload) (next done new : MemState) (act : MemAction) where
@@ -109,7 +109,7 @@ module _ (sent : Payload) (next done new : MemState) (act : MemAction) where
   line_settles _ _ _ sender l = absurd l
 
 -- a Respond taken next leaves memory in the last state of its transaction's line
-open_is_by_table : (s : Situation) → IsCoherent s → AreOnLines s → (block : ℕ) → IfSome (picture_of s block).transaction (IsOpenByTable s block)
+open_is_by_table : (s : Situation) → Invariant s → AreOnLines s → (block : ℕ) → IfSome (picture_of s block).transaction (IsOpenByTable s block)
 open_is_by_table s g lines block = go (picture_of s block).transaction refl (lines block)
   where
     OnLine : Open → Type 0
@@ -129,5 +129,5 @@ open_is_by_table s g lines block = go (picture_of s block).transaction refl (lin
         }
 
 -- from a coherent situation whose open transactions are on lines of the table all goes by the table
-pub goes_by_table : (s : Situation) → IsCoherent s → AreOnLines s → GoesByTable s
+pub goes_by_table : (s : Situation) → Invariant s → AreOnLines s → GoesByTable s
 goes_by_table s g lines = record { opened = open_is_by_table s g lines; moves = moves_are_by_table s g }

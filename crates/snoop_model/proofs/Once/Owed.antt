@@ -3,15 +3,15 @@ use Rattle.std.proofs.Common.{◌≡◌, ℕ, ◌+◌, ◌≤◌, ◌⊎◌, inl
 use Rattle.std.specs.Prelude.{option_to_list, count_by}
 use Rattle.std.specs.Option.{option_map_or}
 use Rattle.std.proofs.lemmas.List.Sums.{sum_by-append}
-use Rattle.snoop_trace.specs.declared.step.Op.{Op}
 use Rattle.snoop_trace.specs.declared.step.Step.{Step}
 use Rattle.snoop_history.specs.declared.items.Did.{Did}
 use Rattle.snoop_history.specs.declared.items.Item.{Item}
 use Rattle.snoop_history.specs.History.{operation_of, answers_of, last_or}
 use Rattle.snoop_history.proofs.Pushed.{answers_of-push, of_core}
+use Rattle.snoop_model.specs.declared.line.Access.{Access}
 use Rattle.snoop_model.specs.Pictures.Picture.{held_by}
 use Rattle.snoop_model.specs.Pictures.Situation.{Situation, picture_of}
-use Rattle.snoop_model.specs.Runs.Once.{did_it, tally, waits_for, asks, one_if, same_op}
+use Rattle.snoop_model.specs.Runs.Once.{did_it, tally, waits_for, asks, one_if, same_access}
 use Rattle.snoop_model.specs.Runs.Owed.{IsOwed, Owes}
 use Rattle.snoop_model.proofs.Runs.Prepared.{move-log}
 
@@ -37,19 +37,19 @@ last_push : (o : Option Did) (xs : List Did) (d : Did) → last_or o (map (λ x.
 last_push o [] d = refl
 last_push o (x ∷ xs) d = last_push (Some x) xs d
 
-pub one_waits : (s : Situation) (core block : ℕ) (wanted : Op) → waits_for s core block wanted ≤ 1
+pub one_waits : (s : Situation) (core block : ℕ) (wanted : Access) → waits_for s core block wanted ≤ 1
 one_waits s core block wanted = by_op (held_by (picture_of s block) core).waiting
   where
     one : (b : Bool) → one_if b ≤ 1
     one true = omega arith
     one false = omega arith
 
-    by_op : (o : Option Op) → option_map_or (λ asking. one_if (same_op wanted asking)) o 0 ≤ 1
+    by_op : (o : Option Access) → option_map_or (λ access. one_if (same_access wanted access)) o 0 ≤ 1
     by_op None = omega arith
-    by_op (Some asking) = one (same_op wanted asking)
+    by_op (Some access) = one (same_access wanted access)
 
 -- more stand in the log or wait than the log had: it waits, or is the core's last operation
-waits_or_last : (s t : Situation) (core block : ℕ) (wanted : Op) (entry : Option Item) → count_by (did_it block wanted) (answers_of s.log core) + 1 ≤ tally t core block wanted → t.log ≡ s.log ++ option_to_list entry → IsOwed t core block wanted
+waits_or_last : (s t : Situation) (core block : ℕ) (wanted : Access) (entry : Option Item) → count_by (did_it block wanted) (answers_of s.log core) + 1 ≤ tally t core block wanted → t.log ≡ s.log ++ option_to_list entry → IsOwed t core block wanted
 waits_or_last s t core block wanted entry more log = by_own (one_or_none core (entry_op entry))
   where
     now : answers_of t.log core ≡ answers_of s.log core ++ of_core core (entry_op entry)
@@ -73,7 +73,7 @@ waits_or_last s t core block wanted entry more log = by_own (one_or_none core (e
         let counts = ap (λ (l : List Did). count_by (did_it block wanted) l) answers ∙ sum_by-append (λ (x : Did). cond (did_it block wanted x) 1 0) (answers_of s.log core) (d ∷ []) in
         by_test d answers counts (did_it block wanted d) refl
 
-owed_after : (s t : Situation) (core block : ℕ) (wanted : Op) (entry : Option Item) (step : Step) → tally t core block wanted ≡ tally s core block wanted + count_by (asks core block wanted) (step ∷ []) → t.log ≡ s.log ++ option_to_list entry
+owed_after : (s t : Situation) (core block : ℕ) (wanted : Access) (entry : Option Item) (step : Step) → tally t core block wanted ≡ tally s core block wanted + count_by (asks core block wanted) (step ∷ []) → t.log ≡ s.log ++ option_to_list entry
     → (waits_for s core block wanted ≡ 1) ⊎ (asks core block wanted step ≡ true) → IsOwed t core block wanted
 owed_after s t core block wanted entry step same log (inl waits) = waits_or_last s t core block wanted entry (omega (arith, same, waits)) log
 owed_after s t core block wanted entry step same log (inr asked) =

@@ -8,19 +8,19 @@ use Rattle.snoop_history.specs.declared.items.Did.{Did}
 use Rattle.snoop_history.specs.declared.items.Item.{Item}
 use Rattle.snoop_history.specs.declared.items.Item.TheVariants as item
 use Rattle.snoop_bus.specs.Queues.{after_order}
-use Rattle.snoop_bus.specs.declared.transactions.Open.{Open}
+use Rattle.snoop_bus.specs.Traffic.{Open}
 use Rattle.snoop_model.specs.declared.replies.Reply.{Reply}
 use Rattle.snoop_model.specs.Pictures.Picture.{Picture, held_by, nothing_held}
 use Rattle.snoop_model.specs.Pictures.Situation.{Situation, picture_of}
 use Rattle.snoop_model.specs.Moves.Move.{Asks, Orders, Responds, IsWithin, queues_after, came_of}
-use Rattle.snoop_model.specs.Invariant.Coherent.{IsCoherent}
+use Rattle.snoop_model.specs.Invariant.Invariant.{Invariant}
 use Rattle.snoop_model.proofs.OneBlock.OfBlocks.{asked_picture, asked_other, next_picture, next_other}
 
 -- a block of the shape is a place of each list
 in_list : (blocks b n : ℕ) → n ≡ blocks → b < blocks → b < n
 in_list blocks b n e within = subst (λ (x : ℕ). b < x) (sym e) within
 
-module _ (old : Situation) (c b : ℕ) (asking : Op) (answer : Reply) (new : Situation) (entry : Option Item) (g : IsCoherent old) (within : IsWithin old c b) (a : Asks old c b asking answer new entry) where
+module _ (old : Situation) (c b word : ℕ) (asking : Op) (answer : Reply) (new : Situation) (entry : Option Item) (g : Invariant old) (within : IsWithin old c b) (a : Asks old c b word asking answer new entry) where
   pub ask_here : picture_of new b ≡ record (picture_of old b) { caches = slice_set (picture_of old b).caches c a.held }
   ask_here = ap (λ (s : Situation). picture_of s b) a.after ∙ asked_picture old b (slice_set (picture_of old b).caches c a.held) (queues_after a.act old.queues c b) (old.log ++ option_to_list entry) (in_list old.shape.blocks b (length old.caches) g.shaped.rows within.1)
 
@@ -33,7 +33,7 @@ module _ (old : Situation) (c b : ℕ) (asking : Op) (answer : Reply) (new : Sit
   pub ask_other_block : (k : ℕ) → k ≢ b → picture_of new k ≡ picture_of old k
   ask_other_block k apart = ap (λ (s : Situation). picture_of s k) a.after ∙ asked_other old b k (slice_set (picture_of old b).caches c a.held) (queues_after a.act old.queues c b) (old.log ++ option_to_list entry) apart
 
-module _ (old : Situation) (c b : ℕ) (q : Request) (new : Situation) (g : IsCoherent old) (within : IsWithin old c b) (o : Orders old c b q new) where
+module _ (old : Situation) (c b : ℕ) (q : Request) (new : Situation) (g : Invariant old) (within : IsWithin old c b) (o : Orders old c b q new) where
   sent : List Item
   sent = old.log ++ option_to_list (Some (item.Sent (record { core = c; request = q; block = b })))
 
@@ -45,7 +45,7 @@ module _ (old : Situation) (c b : ℕ) (q : Request) (new : Situation) (g : IsCo
   pub order_other_block : (k : ℕ) → k ≢ b → picture_of new k ≡ picture_of old k
   order_other_block k apart = ap (λ (s : Situation). picture_of s k) o.after ∙ next_other old b k o.next (after_order old.queues c b) sent apart
 
-module _ (old : Situation) (b : ℕ) (closing : Open) (did : Option Did) (new : Situation) (g : IsCoherent old) (within : b < old.shape.blocks) (r : Responds old b closing did new) where
+module _ (old : Situation) (b : ℕ) (closing : Open) (did : Option Did) (new : Situation) (g : Invariant old) (within : b < old.shape.blocks) (r : Responds old b closing did new) where
   came : List Item
   came = old.log ++ option_to_list (Some (item.Came (came_of closing) did))
 

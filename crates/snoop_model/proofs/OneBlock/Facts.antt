@@ -1,18 +1,18 @@
 -- What follows from the invariant of one block.
-use Rattle.std.proofs.Common.{◌≡◌, ◌≢◌, ◌<◌, ◌&&◌, ◌||◌, ◌⊎◌, ◌∙◌, ℕ, Bool, true, false, not, cond, eqb, Option, Some, None, refl, inl, inr, ap, sym}
+use Rattle.std.proofs.Common.{◌≡◌, ◌≢◌, ◌<◌, ◌&&◌, ◌||◌, ◌⊎◌, ◌∙◌, ℕ, List, Bool, true, false, not, cond, eqb, Option, Some, None, refl, inl, inr, ap, sym}
 use Rattle.std.specs.Prelude.{is_some}
 use Rattle.std.proofs.lemmas.Bool.Decides.{eqb_tells}
 use Rattle.std.proofs.lemmas.Bool.{eqb-true, and_parts}
-use Rattle.snoop_rules.specs.declared.names.Protocol.{Protocol}
+use Rattle.snoop_trace.specs.declared.protocol.Protocol.{Protocol}
 use Rattle.snoop_rules.specs.declared.names.CacheState.{CacheState}
 use Rattle.snoop_rules.specs.declared.names.Request.{Request}
 use Rattle.snoop_rules.specs.Takers.{carries_value}
 use Rattle.snoop_history.specs.Totals.{is_put_m}
-use Rattle.snoop_bus.specs.declared.transactions.Open.{Open}
-use Rattle.snoop_model.specs.declared.line.Line.{Line}
+use Rattle.snoop_bus.specs.Traffic.{Open}
+use Rattle.snoop_model.specs.Pictures.Lines.{Line}
 use Rattle.snoop_model.specs.Pictures.Picture.{Picture, held_by}
 use Rattle.snoop_model.specs.Invariant.Fits.{is_owner, is_clean, fits}
-use Rattle.snoop_model.specs.Invariant.Good.{Good, talk_of, awaited, owns}
+use Rattle.snoop_model.specs.Invariant.Block.{BlockInvariant, talk_of, awaited, owns}
 use Rattle.snoop_model.proofs.Tables.Every.{same_is}
 use Rattle.snoop_model.proofs.Tables.RespondTests.{writes}
 use Rattle.snoop_model.proofs.Tables.StateTests.{alone_rule, calm_talk, is_calm, owned_rule}
@@ -71,7 +71,7 @@ pub record Carried (old new : Line) : Type 0 where
   pub reads : keeps new.state ≡ true → (keeps old.state ≡ true) × (new.kept ≡ old.kept)
   pub cleans : is_clean new.state ≡ true → is_clean old.state ≡ true
 
-pub carried_kept : (old new : Line) (flat : ℕ) → Carried old new → (keeps old.state ≡ true → old.kept ≡ Some flat) → keeps new.state ≡ true → new.kept ≡ Some flat
+pub carried_kept : (old new : Line) (flat : List ℕ) → Carried old new → (keeps old.state ≡ true → old.kept ≡ Some flat) → keeps new.state ≡ true → new.kept ≡ Some flat
 carried_kept old new flat k was h = (k.reads h).1 ∙ was (k.reads h).0
 
 pub carried_same : (old new : Line) → new ≡ old → Carried old new
@@ -85,12 +85,12 @@ pub clash : (b : Bool) → b ≡ true → b ≡ false → ⊥
 clash b e f = cc
 
 -- while a core owns the block, memory's value and data under way are claimed of nobody
-pub record Alone (p : Protocol) (n : ℕ) (flat : ℕ) (picture : Picture) (g : Good p n flat picture) : Type 0 where
+pub record Alone (p : Protocol) (n : ℕ) (flat : List ℕ) (picture : Picture) (g : BlockInvariant p n flat picture) : Type 0 where
   pub unshared : g.claims.shared ≡ false
   pub unfresh : g.claims.fresh ≡ false
   pub calm : calm_talk (talk_of picture.transaction) ≡ true
 
-pub owned_alone : (p : Protocol) (n : ℕ) (flat : ℕ) (picture : Picture) (g : Good p n flat picture) → g.claims.owned ≡ true → Alone p n flat picture g
+pub owned_alone : (p : Protocol) (n : ℕ) (flat : List ℕ) (picture : Picture) (g : BlockInvariant p n flat picture) → g.claims.owned ≡ true → Alone p n flat picture g
 owned_alone p n flat picture g is_owned =
     let h = owned_rule p picture.memory.state (talk_of picture.transaction) g.claims g.is_claims is_owned in
     let a = and_parts (not g.claims.shared) (not g.claims.fresh && calm_talk (talk_of picture.transaction)) h in
@@ -105,7 +105,7 @@ calm_wait (Some o) d h = elim (or_not (eqb d o.core)) as (λ _. is_calm (cond (e
 ]
 
 -- where a core owns the block, each core that doesn't may not read it
-pub others_blind : (p : Protocol) (n : ℕ) (flat : ℕ) (picture : Picture) (g : Good p n flat picture) → g.claims.owned ≡ true → (d : ℕ) → d < n → owns g.owner d ≡ false → keeps (held_by picture d).state ≡ false
+pub others_blind : (p : Protocol) (n : ℕ) (flat : List ℕ) (picture : Picture) (g : BlockInvariant p n flat picture) → g.claims.owned ≡ true → (d : ℕ) → d < n → owns g.owner d ≡ false → keeps (held_by picture d).state ≡ false
 others_blind p n flat picture g is_owned d d_in not_owner =
     let a = owned_alone p n flat picture g is_owned in
     let fit : fits p false false (awaited picture.transaction d) (held_by picture d).state ≡ true = rw (a.unshared, not_owner) at (g.states d d_in) in
@@ -115,14 +115,14 @@ pub owner_is : (owner : Option ℕ) (d : ℕ) → owns owner d ≡ true → owne
 owner_is None d h = cc
 owner_is (Some o) d h = ap (λ (x : ℕ). Some x) (sym (eqb-true d o h))
 
-pub owner_owned : (p : Protocol) (n : ℕ) (flat : ℕ) (picture : Picture) (g : Good p n flat picture) (d : ℕ) → owns g.owner d ≡ true → g.claims.owned ≡ true
+pub owner_owned : (p : Protocol) (n : ℕ) (flat : List ℕ) (picture : Picture) (g : BlockInvariant p n flat picture) (d : ℕ) → owns g.owner d ≡ true → g.claims.owned ≡ true
 owner_owned p n flat picture g d h = sym g.is_owned ∙ rw (owner_is g.owner d h) refl
 
 pub owns_one : (owner : Option ℕ) (c d : ℕ) → owns owner c ≡ true → d ≢ c → owns owner d ≡ false
 owns_one owner c d h apart = not_true (owns owner d) (rw (owner_is owner c h) (not_eqb_true d c apart))
 
 -- one writer alone, or only readers
-pub one_writer : (p : Protocol) (n : ℕ) (flat : ℕ) (picture : Picture) → Good p n flat picture → (c d : ℕ) → c < n → d < n → is_owner (held_by picture c).state ≡ true → d ≢ c → keeps (held_by picture d).state ≡ false
+pub one_writer : (p : Protocol) (n : ℕ) (flat : List ℕ) (picture : Picture) → BlockInvariant p n flat picture → (c d : ℕ) → c < n → d < n → is_owner (held_by picture c).state ≡ true → d ≢ c → keeps (held_by picture d).state ≡ false
 one_writer p n flat picture g c d c_in d_in writes apart =
     let fit = g.states c c_in in
     let owning : owns g.owner c ≡ true = sym (fits_is_owner p g.claims.shared (owns g.owner c) (awaited picture.transaction c) (held_by picture c).state fit) ∙ writes in

@@ -4,7 +4,7 @@ use Rattle.std.specs.Prelude.{slice_set, MatchBool, IsSomeAnd}
 use Rattle.std.proofs.lemmas.List.{get_or-set_same, get_or-set_other}
 use Rattle.snoop_trace.specs.declared.step.Op.{Op}
 use Rattle.snoop_trace.specs.declared.step.Op.TheVariants as op
-use Rattle.snoop_rules.specs.declared.names.Protocol.{Protocol}
+use Rattle.snoop_trace.specs.declared.protocol.Protocol.{Protocol}
 use Rattle.snoop_rules.specs.declared.names.CacheState.{CacheState}
 use Rattle.snoop_rules.specs.declared.names.CacheEvent.{CacheEvent}
 use Rattle.snoop_rules.specs.declared.names.CacheAction.{CacheAction}
@@ -28,9 +28,9 @@ use Rattle.snoop_history.specs.declared.items.Did.{Did}
 use Rattle.snoop_history.specs.declared.items.Item.{Item}
 use Rattle.snoop_history.specs.History.{operation_of}
 use Rattle.snoop_history.specs.Totals.{is_put_m}
-use Rattle.snoop_bus.specs.declared.transactions.Open.{Open}
+use Rattle.snoop_bus.specs.Traffic.{Open}
 use Rattle.snoop_model.specs.declared.replies.Reply.{Reply}
-use Rattle.snoop_model.specs.declared.line.Line.{Line}
+use Rattle.snoop_model.specs.Pictures.Lines.{Line}
 use Rattle.snoop_model.specs.Pictures.Picture.{Picture, held_at, held_by, nothing_held}
 use Rattle.snoop_model.specs.Pictures.Sends.{Sends}
 use Rattle.snoop_model.specs.Moves.Move.{Takes, TakesRow, FillsRequestor, IsFillFor, Performs, ArrivesFor, Orders, Responds, is_load, written}
@@ -75,7 +75,7 @@ sends_by_cell p before c q (Some d) sent h = (h.0, row_sends p (held_by before d
 
 -- what an operation did to the block
 abbrev pub done_of : Did → Done
-done_of did = cond did.load (Loaded did.value) (Stored did.value)
+done_of did = cond did.load (Loaded did.word did.value) (Stored did.word did.value)
 
 abbrev pub made_of : Option Did → Option Done
 made_of None = None
@@ -89,19 +89,19 @@ made_nothing : (entry : Option Item) → entry ≡ None → made_of (did_in entr
 made_nothing entry e = ap (λ (x : Option Item). made_of (did_in x)) e
 
 -- an Ask's row does what it does to one line
-pub takes_performs : (a : CacheAction) (next : CacheState) (log : List Item) (core block : ℕ) (asking : Op) (old new : Line) (answer : Reply) (entry : Option Item) → Takes a next log core block asking old new answer entry → one.Performs a asking next old new (made_of (did_in entry))
-takes_performs action.Hit next log core block op.Load old new answer entry t =
-    (t.1.0.before, t.1.0.kept, t.1.0.held ∙ ap (λ (v : ℕ). record { state = next; kept = Some v; waiting = old.waiting }) t.1.0.performed.1, ap (λ (x : Option Item). made_of (did_in x)) t.1.2 ∙ ap (λ (v : ℕ). Some (Loaded v)) t.1.0.performed.0)
-takes_performs action.Hit next log core block (op.Store stored) old new answer entry t =
-    (t.1.0.held ∙ ap (λ (v : ℕ). record { state = next; kept = Some v; waiting = old.waiting }) t.1.0.performed.1, ap (λ (x : Option Item). made_of (did_in x)) t.1.2 ∙ ap (λ (v : ℕ). Some (Stored v)) t.1.0.performed.0)
-takes_performs action.Hit next log core block op.Evict old new answer entry t = absurd t.1.0.performed
-takes_performs (action.Issue request) next log core block asking old new answer entry t = (t.0, made_nothing entry t.2)
-takes_performs action.Drop next log core block asking old new answer entry t = (t.0, made_nothing entry t.2)
-takes_performs action.None next log core block asking old new answer entry t = absurd t
-takes_performs action.Stall next log core block asking old new answer entry t = absurd t
-takes_performs action.FillLoad next log core block asking old new answer entry t = absurd t
-takes_performs action.FillStore next log core block asking old new answer entry t = absurd t
-takes_performs (action.Send sent target) next log core block asking old new answer entry t = absurd t
+pub takes_performs : (a : CacheAction) (next : CacheState) (log : List Item) (core block word : ℕ) (asking : Op) (old new : Line) (answer : Reply) (entry : Option Item) → Takes a next log core block word asking old new answer entry → one.Performs a word asking next old new (made_of (did_in entry))
+takes_performs action.Hit next log core block word op.Load old new answer entry t =
+    (t.1.0.before, t.1.0.kept, t.1.0.held ∙ ap (λ (ws : List ℕ). record { state = next; kept = Some ws; waiting = old.waiting }) t.1.0.performed.1, ap (λ (x : Option Item). made_of (did_in x)) t.1.2 ∙ ap (λ (v : ℕ). Some (Loaded word v)) t.1.0.performed.0)
+takes_performs action.Hit next log core block word (op.Store stored) old new answer entry t =
+    (t.1.0.before, t.1.0.kept, t.1.0.held ∙ ap (λ (ws : List ℕ). record { state = next; kept = Some ws; waiting = old.waiting }) t.1.0.performed.1, ap (λ (x : Option Item). made_of (did_in x)) t.1.2 ∙ ap (λ (v : ℕ). Some (Stored word v)) t.1.0.performed.0)
+takes_performs action.Hit next log core block word op.Evict old new answer entry t = absurd t.1.0.performed
+takes_performs (action.Issue request) next log core block word asking old new answer entry t = (t.0, made_nothing entry t.2)
+takes_performs action.Drop next log core block word asking old new answer entry t = (t.0, made_nothing entry t.2)
+takes_performs action.None next log core block word asking old new answer entry t = absurd t
+takes_performs action.Stall next log core block word asking old new answer entry t = absurd t
+takes_performs action.FillLoad next log core block word asking old new answer entry t = absurd t
+takes_performs action.FillStore next log core block word asking old new answer entry t = absurd t
+takes_performs (action.Send sent target) next log core block word asking old new answer entry t = absurd t
 
 -- a core that takes its row takes it by the rows
 pub takes_by_row : (p : Protocol) (e : CacheEvent) (old new : Line) → TakesRow p e old new → one.Takes p e old new
@@ -121,14 +121,14 @@ memory_takes true p closing old new act row value = (record { action = act; next
 memory_takes false p closing old new act idle value = (idle.1, value ∙ ap (λ (a : MemAction). written a closing.value old.memory.value) idle.0)
 
 -- an Ask of one core is a step of the block
-pub asks_one : (p : Protocol) (before : Picture) (c : ℕ) (asking : Op) (a : CacheAction) (next : CacheState) (held : Line) (log : List Item) (block : ℕ) (answer : Reply) (entry : Option Item) → c < length before.caches
-    → Cell p (held_by before c).state (asked asking) a next → Takes a next log c block asking (held_by before c) held answer entry
-    → one.Asks p (length before.caches) before c asking (record before { caches = slice_set before.caches c held }) (made_of (did_in entry))
-asks_one p before c asking a next held log block answer entry within row taken = record {
+pub asks_one : (p : Protocol) (before : Picture) (c word : ℕ) (asking : Op) (a : CacheAction) (next : CacheState) (held : Line) (log : List Item) (block : ℕ) (answer : Reply) (entry : Option Item) → c < length before.caches
+    → Cell p (held_by before c).state (asked asking) a next → Takes a next log c block word asking (held_by before c) held answer entry
+    → one.Asks p (length before.caches) before c word asking (record before { caches = slice_set before.caches c held }) (made_of (did_in entry))
+asks_one p before c word asking a next held log block answer entry within row taken = record {
   asker_in = within;
   row = record { action = a; next = next };
   is_row = cell_of-Cell p (held_by before c).state (asked asking) a next row;
-  performs = subst (λ (x : Line). one.Performs a asking next (held_by before c) x (made_of (did_in entry))) (sym (get_or-set_same before.caches c held nothing_held within)) (takes_performs a next log c block asking (held_by before c) held answer entry taken);
+  performs = subst (λ (x : Line). one.Performs a word asking next (held_by before c) x (made_of (did_in entry))) (sym (get_or-set_same before.caches c held nothing_held within)) (takes_performs a next log c block word asking (held_by before c) held answer entry taken);
   others = λ d d_in apart. get_or-set_other before.caches c d held nothing_held apart;
   memory = refl;
   value = refl;
@@ -155,13 +155,13 @@ orders_one old core block q new o within = record {
 }
 
 -- the fill of the operation that waits
-fills_one : (a : CacheAction) (asking : Op) (next : CacheState) (v value after : ℕ) (old new : Line) (made : Option Done) → IsFillFor a asking → Performs asking v value after → old.waiting ≡ Some asking
-    → new ≡ record { state = next; kept = Some after; waiting = None } → made ≡ Some (cond (is_load asking) (Loaded value) (Stored value)) → one.Fills a next v old new made
-fills_one action.FillLoad op.Load next v value after old new made fill did waits held is_made =
-    (held ∙ ap (λ (x : ℕ). record { state = next; kept = Some x; waiting = None }) did.1, is_made ∙ ap (λ (x : ℕ). Some (Loaded x)) did.0)
-fills_one action.FillStore (op.Store stored) next v value after old new made fill did waits held is_made =
-    (stored, waits, held ∙ ap (λ (x : ℕ). record { state = next; kept = Some x; waiting = None }) did.1, is_made ∙ ap (λ (x : ℕ). Some (Stored x)) did.0)
-fills_one _ _ next v value after old new made fill did waits held is_made = absurd fill
+fills_one : (a : CacheAction) (w : ℕ) (asking : Op) (next : CacheState) (v : List ℕ) (value : ℕ) (after : List ℕ) (old new : Line) (made : Option Done) → IsFillFor a asking → Performs w asking v value after → old.waiting ≡ Some (record { word = w; op = asking })
+    → new ≡ record { state = next; kept = Some after; waiting = None } → made ≡ Some (cond (is_load asking) (Loaded w value) (Stored w value)) → one.Fills a next v old new made
+fills_one action.FillLoad w op.Load next v value after old new made fill did waits held is_made =
+    (w, held ∙ ap (λ (x : List ℕ). record { state = next; kept = Some x; waiting = None }) did.1, is_made ∙ ap (λ (x : ℕ). Some (Loaded w x)) did.0)
+fills_one action.FillStore w (op.Store stored) next v value after old new made fill did waits held is_made =
+    (w, stored, waits, held ∙ ap (λ (x : List ℕ). record { state = next; kept = Some x; waiting = None }) did.1, is_made ∙ ap (λ (x : ℕ). Some (Stored w x)) did.0)
+fills_one _ w _ next v value after old new made fill did waits held is_made = absurd fill
 
 filled_one : (p : Protocol) (closing : Open) (log : List Item) (before next : Picture) (did : Option Did) → closing.core < length before.caches → FillsRequestor closing p log before.caches next.caches did
     → one.RequestorTakes false p (length before.caches) before closing next (made_of did)
@@ -171,7 +171,7 @@ filled_one p closing log before next did within f =
     ap (λ (x : List Line). held_at x closing.core) f.held ∙ (get_or-set_same before.caches closing.core f.line nothing_held within ∙ g.held) in (
       record { action = g.act; next = g.next },
       arrives_row p (held_by before closing.core).state (arrival closing.payload) g.event g.act g.next g.arrives g.row,
-      fills_one g.act f.asking g.next closing.value f.value g.after (held_by before closing.core) (held_by next closing.core) (made_of did) g.fill g.performed g.waited here (ap made_of f.logged),
+      fills_one g.act f.asking.word f.asking.op g.next closing.value f.value g.after (held_by before closing.core) (held_by next closing.core) (made_of did) g.fill g.performed g.waited here (ap made_of f.logged),
       λ d d_in apart. ap (λ (x : List Line). held_at x d) f.held ∙ get_or-set_other before.caches closing.core d f.line nothing_held apart,
     )
 

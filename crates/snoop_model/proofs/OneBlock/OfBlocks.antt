@@ -3,10 +3,9 @@ use Rattle.std.proofs.Common.{◌≡◌, ◌≢◌, ℕ, ◌<◌, List, [], leng
 use Rattle.std.specs.Prelude.{slice_index_or, slice_set}
 use Rattle.std.proofs.lemmas.List.{get_or-set_same, get_or-set_other}
 use Rattle.snoop_rules.specs.declared.names.MemState.{MemState}
-use Rattle.snoop_bus.specs.declared.transactions.Open.{Open}
+use Rattle.snoop_bus.specs.Traffic.{Open}
 use Rattle.snoop_history.specs.declared.items.Item.{Item}
-use Rattle.snoop_model.specs.declared.line.Line.{Line}
-use Rattle.snoop_model.specs.declared.memory.MemLine.{MemLine}
+use Rattle.snoop_model.specs.Pictures.Lines.{Line, MemLine}
 use Rattle.snoop_model.specs.Pictures.Picture.{Picture}
 use Rattle.snoop_model.specs.Pictures.Situation.{Situation, picture_of, with_picture, no_memory}
 
@@ -18,8 +17,8 @@ same_picture caches caches' memory memory' transaction transaction' e f h =
     ∙ (ap (λ (x : MemLine). record { caches = caches'; memory = x; transaction = transaction }) f
     ∙ ap (λ (x : Option Open). record { caches = caches'; memory = memory'; transaction = x }) h)
 
-pub same_memory : (state state' : MemState) (value value' : ℕ) → state ≡ state' → value ≡ value' → ◌≡◌ {A = MemLine} (record { state = state; value = value }) (record { state = state'; value = value' })
-same_memory state state' value value' e f = ap (λ (x : MemState). record { state = x; value = value }) e ∙ ap (λ (x : ℕ). record { state = state'; value = x }) f
+pub same_memory : (state state' : MemState) (value value' : List ℕ) → state ≡ state' → value ≡ value' → ◌≡◌ {A = MemLine} (record { state = state; value = value }) (record { state = state'; value = value' })
+same_memory state state' value value' e f = ap (λ (x : MemState). record { state = x; value = value }) e ∙ ap (λ (x : List ℕ). record { state = state'; value = x }) f
 
 -- the block that an Ask changes
 pub asked_picture : (s : Situation) (block : ℕ) (row : List Line) (queues : List (List ℕ)) (log : List Item) → block < length s.caches

@@ -1,10 +1,11 @@
 -- An Order keeps the invariant.
-use Rattle.std.proofs.Common.{◌≡◌, ◌≢◌, ◌<◌, ◌&&◌, ◌||◌, ◌∙◌, ℕ, Bool, true, false, not, cond, eqb, Option, Some, None, refl, inl, inr, ap, sym, subst}
+use Rattle.std.proofs.Common.{◌≡◌, ◌≢◌, ◌<◌, ◌&&◌, ◌||◌, ◌∙◌, ℕ, List, Bool, true, false, not, cond, eqb, Option, Some, None, refl, inl, inr, ap, sym, subst}
 use Rattle.std.specs.Prelude.{is_some, unwrap_or}
 use Rattle.std.proofs.lemmas.Bool.Decides.{eqb_tells}
 use Rattle.std.proofs.Math.Bool.{and-true, and-false}
 use Rattle.std.proofs.lemmas.Bool.{eq-eqb, and_parts}
-use Rattle.snoop_rules.specs.declared.names.Protocol.{Protocol}
+use Rattle.snoop_trace.specs.Words.{zero_words}
+use Rattle.snoop_trace.specs.declared.protocol.Protocol.{Protocol}
 use Rattle.snoop_rules.specs.declared.names.CacheState.{CacheState}
 use Rattle.snoop_rules.specs.declared.names.CacheEvent.{CacheEvent}
 use Rattle.snoop_rules.specs.declared.names.Request.{Request}
@@ -18,14 +19,14 @@ use Rattle.snoop_rules.specs.Cell.{cell_of}
 use Rattle.snoop_rules.specs.MemoryCell.{memory_cell_of}
 use Rattle.snoop_rules.proofs.Rows.{Cell-found}
 use Rattle.snoop_history.specs.Totals.{is_put_m, is_data}
-use Rattle.snoop_bus.specs.declared.transactions.Open.{Open}
-use Rattle.snoop_model.specs.declared.line.Line.{Line}
+use Rattle.snoop_bus.specs.Traffic.{Open}
+use Rattle.snoop_model.specs.Pictures.Lines.{Line}
 use Rattle.snoop_model.specs.Pictures.Picture.{Picture, held_by}
 use Rattle.snoop_model.specs.Pictures.Sends.{value_at, value_sent}
 use Rattle.snoop_model.specs.Moves.Move.{moves_to}
 use Rattle.snoop_model.specs.Pictures.Sound.{keeps, IsProper}
 use Rattle.snoop_model.specs.Invariant.Fits.{Claims, claims_of, is_clean, same, fits}
-use Rattle.snoop_model.specs.Invariant.Good.{Good, talk_of, awaited, owns}
+use Rattle.snoop_model.specs.Invariant.Block.{BlockInvariant, talk_of, awaited, owns}
 use Rattle.snoop_model.proofs.Tables.Every.{given_at, same_is, some_of}
 use Rattle.snoop_model.proofs.OneBlock.Steps.{sent_by, sent_by_memory, Sends, Takes, message, Orders}
 use Rattle.snoop_model.proofs.OneBlock.Facts.{some_is, not_eqb, or_not, either_of, some_true, owns_owned, owns_apart, fits_is_owner, implied, Carried, carried_kept}
@@ -34,9 +35,9 @@ use Rattle.snoop_model.proofs.Tables.OrderTests.{end_rule, or_else, order_rule, 
 use Rattle.snoop_model.proofs.Tables.StateTests.{carries, kept_reader, owner_reads}
 use Rattle.snoop_model.proofs.Tables.OrderTests
 
--- all that an Order of a good picture looks up
-pub record Looked (p : Protocol) (n : ℕ) (flat : ℕ) (before : Picture) (c : ℕ) (q : Request) : Type 0 where
-  pub good : Good p n flat before
+-- all that an Order looks up of a picture that keeps its invariant
+pub record Looked (p : Protocol) (n : ℕ) (flat : List ℕ) (before : Picture) (c : ℕ) (q : Request) : Type 0 where
+  pub good : BlockInvariant p n flat before
   pub requestor_in : c < n
   pub waits : waiting_request (held_by before c).state ≡ Some q
   pub calm : before.transaction ≡ None
@@ -52,7 +53,7 @@ pub record Looked (p : Protocol) (n : ℕ) (flat : ℕ) (before : Picture) (c : 
   pub next : Claims
   pub is_next : claims_of p mc.next (Some (q, pl)) ≡ Some next
 
-pub look : (p : Protocol) (n : ℕ) (flat : ℕ) (before : Picture) (c : ℕ) (q : Request) → Good p n flat before → c < n → waiting_request (held_by before c).state ≡ Some q → before.transaction ≡ None → Looked p n flat before c q
+pub look : (p : Protocol) (n : ℕ) (flat : List ℕ) (before : Picture) (c : ℕ) (q : Request) → BlockInvariant p n flat before → c < n → waiting_request (held_by before c).state ≡ Some q → before.transaction ≡ None → Looked p n flat before c q
 look p n flat before c q good c_in waits calm =
     let st = good.claims in
     let ow = owns good.owner c in
@@ -91,18 +92,18 @@ look p n flat before c q good c_in waits calm =
     }
 
 -- a test of an Order's end holds there
-pub end_of : (p : Protocol) (n : ℕ) (flat : ℕ) (before : Picture) (c : ℕ) (q : Request) (l : Looked p n flat before c q) (k : OrderTests.EndTest) → OrderTests.orders (OrderTests.end_case k) ≡ true → k p before.memory.state l.good.claims (held_by before c).state (owns l.good.owner c) q l.mc l.oc l.pl l.next ≡ true
+pub end_of : (p : Protocol) (n : ℕ) (flat : List ℕ) (before : Picture) (c : ℕ) (q : Request) (l : Looked p n flat before c q) (k : OrderTests.EndTest) → OrderTests.orders (OrderTests.end_case k) ≡ true → k p before.memory.state l.good.claims (held_by before c).state (owns l.good.owner c) q l.mc l.oc l.pl l.next ≡ true
 end_of p n flat before c q l k h = end_rule k h p before.memory.state l.good.claims (held_by before c).state (owns l.good.owner c) q l.mc l.oc l.pl l.next l.quiet l.requestor_fits l.owned l.waits l.is_mc l.is_oc l.is_pl l.is_next
 
 -- a test of another core holds there
-pub other_of : (p : Protocol) (n : ℕ) (flat : ℕ) (before : Picture) (c : ℕ) (q : Request) (l : Looked p n flat before c q) (k : OrderTests.OtherTest) → OrderTests.orders (OrderTests.end_case (OrderTests.other_case k)) ≡ true → (d : ℕ) → d < n → d ≢ c → (xc : CacheCell) → cell_of p (held_by before d).state (other q) ≡ Some xc → k p before.memory.state l.good.claims (held_by before c).state (owns l.good.owner c) q l.mc l.oc l.pl l.next (held_by before d).state (owns l.good.owner d) xc ≡ true
+pub other_of : (p : Protocol) (n : ℕ) (flat : List ℕ) (before : Picture) (c : ℕ) (q : Request) (l : Looked p n flat before c q) (k : OrderTests.OtherTest) → OrderTests.orders (OrderTests.end_case (OrderTests.other_case k)) ≡ true → (d : ℕ) → d < n → d ≢ c → (xc : CacheCell) → cell_of p (held_by before d).state (other q) ≡ Some xc → k p before.memory.state l.good.claims (held_by before c).state (owns l.good.owner c) q l.mc l.oc l.pl l.next (held_by before d).state (owns l.good.owner d) xc ≡ true
 other_of p n flat before c q l k h d d_in apart xc is_xc =
     let st = l.good.claims in
     let fit : fits p st.shared (owns l.good.owner d) None (held_by before d).state ≡ true = ap (λ (t : Option Open). fits p st.shared (owns l.good.owner d) (awaited t d) (held_by before d).state) (sym l.calm) ∙ l.good.states d d_in in
     other_rule k p before.memory.state st (held_by before c).state (owns l.good.owner c) q l.mc l.oc l.pl l.next (end_of p n flat before c q l (OrderTests.other_case k) h) (held_by before d).state (owns l.good.owner d) xc fit (owns_apart l.good.owner c d apart) (owns_owned l.good.owner d st.owned l.good.is_owned) is_xc
 
 -- each other core has its row
-pub other_cell : (p : Protocol) (n : ℕ) (flat : ℕ) (before : Picture) (c : ℕ) (q : Request) (l : Looked p n flat before c q) (d : ℕ) → d < n → (xc : CacheCell) × (cell_of p (held_by before d).state (other q) ≡ Some xc)
+pub other_cell : (p : Protocol) (n : ℕ) (flat : List ℕ) (before : Picture) (c : ℕ) (q : Request) (l : Looked p n flat before c q) (d : ℕ) → d < n → (xc : CacheCell) × (cell_of p (held_by before d).state (other q) ≡ Some xc)
 other_cell p n flat before c q l d d_in =
     let st = l.good.claims in
     let fit : fits p st.shared (owns l.good.owner d) None (held_by before d).state ≡ true = ap (λ (t : Option Open). fits p st.shared (owns l.good.owner d) (awaited t d) (held_by before d).state) (sym l.calm) ∙ l.good.states d d_in in
@@ -139,7 +140,7 @@ payload_of_requestor : (a b : Option Payload) (pl sent : Payload) → or_else a 
 payload_of_requestor None b pl sent e f = cc
 payload_of_requestor (Some x) b pl sent e f = cc
 
-pub sent_payload : (p : Protocol) (n : ℕ) (flat : ℕ) (before : Picture) (c : ℕ) (q : Request) (l : Looked p n flat before c q) (from : Option ℕ) (sent : Payload) → Sends p n before c q from sent → sent ≡ l.pl
+pub sent_payload : (p : Protocol) (n : ℕ) (flat : List ℕ) (before : Picture) (c : ℕ) (q : Request) (l : Looked p n flat before c q) (from : Option ℕ) (sent : Payload) → Sends p n before c q from sent → sent ≡ l.pl
 sent_payload p n flat before c q l None sent sends =
     let e : sent_by_memory (Some l.mc) ≡ Some sent = ap sent_by_memory (sym l.is_mc) ∙ sends in
     payload_of_memory (sent_by (Some l.oc)) (sent_by_memory (Some l.mc)) (is_put_m q) l.good.claims.owned l.pl sent (end_of p n flat before c q l OrderTests.requestor_sends OrderTests.requestor_sends_holds) (end_of p n flat before c q l OrderTests.memory_sends OrderTests.memory_sends_holds) l.is_pl e
@@ -183,10 +184,10 @@ owns_next_other true (Some o) c d apart = elim (eqb_tells c o) as (λ _. owns (c
 owns_next_other false owner c d apart = sym (and-false (owns owner d))
 
 -- the states after an Order
-requestor_after : (p : Protocol) (n : ℕ) (flat : ℕ) (before : Picture) (c : ℕ) (q : Request) (after : Picture) (l : Looked p n flat before c q) → Orders p n before c q after → held_by after c ≡ moves_to l.oc.next (held_by before c)
+requestor_after : (p : Protocol) (n : ℕ) (flat : List ℕ) (before : Picture) (c : ℕ) (q : Request) (after : Picture) (l : Looked p n flat before c q) → Orders p n before c q after → held_by after c ≡ moves_to l.oc.next (held_by before c)
 requestor_after p n flat before c q after l o = takes_row p (seen_by c c q) (own q) (held_by before c) (held_by after c) l.oc (seen_own c q) l.is_oc (o.taken c l.requestor_in)
 
-other_after : (p : Protocol) (n : ℕ) (flat : ℕ) (before : Picture) (c : ℕ) (q : Request) (after : Picture) (l : Looked p n flat before c q) → Orders p n before c q after → (d : ℕ) → d < n → d ≢ c → (xc : CacheCell) → cell_of p (held_by before d).state (other q) ≡ Some xc → held_by after d ≡ moves_to xc.next (held_by before d)
+other_after : (p : Protocol) (n : ℕ) (flat : List ℕ) (before : Picture) (c : ℕ) (q : Request) (after : Picture) (l : Looked p n flat before c q) → Orders p n before c q after → (d : ℕ) → d < n → d ≢ c → (xc : CacheCell) → cell_of p (held_by before d).state (other q) ≡ Some xc → held_by after d ≡ moves_to xc.next (held_by before d)
 other_after p n flat before c q after l o d d_in apart xc is_xc = takes_row p (seen_by d c q) (other q) (held_by before d) (held_by after d) xc (seen_other d c q apart) is_xc (o.taken d d_in)
 
 -- a row that makes no reader of a core lets its values carry over
@@ -202,7 +203,7 @@ came_to old new next comes carries_over =
           implied (is_clean next) (is_clean old.state) parts.1 e;
     }
 
-pub order_carries : (p : Protocol) (n : ℕ) (flat : ℕ) (before : Picture) (c : ℕ) (q : Request) (after : Picture) (l : Looked p n flat before c q) → Orders p n before c q after → (d : ℕ) → d < n → Carried (held_by before d) (held_by after d)
+pub order_carries : (p : Protocol) (n : ℕ) (flat : List ℕ) (before : Picture) (c : ℕ) (q : Request) (after : Picture) (l : Looked p n flat before c q) → Orders p n before c q after → (d : ℕ) → d < n → Carried (held_by before d) (held_by after d)
 order_carries p n flat before c q after l o d d_in =
     elim (eqb_tells d c) as (λ _. Carried (held_by before d) (held_by after d)) [
       | inl h ↦ subst (λ (x : ℕ). Carried (held_by before x) (held_by after x)) (sym h.1) (came_to (held_by before c) (held_by after c) l.oc.next (requestor_after p n flat before c q after l o) (end_of p n flat before c q l OrderTests.requestor_carries OrderTests.requestor_carries_holds))
@@ -211,7 +212,7 @@ order_carries p n flat before c q after l o d d_in =
           came_to (held_by before d) (held_by after d) x.0.next (other_after p n flat before c q after l o d d_in h.1 x.0 x.1) (other_of p n flat before c q l OrderTests.other_carries OrderTests.other_carries_holds d d_in h.1 x.0 x.1)
     ]
 
-pub order_states : (p : Protocol) (n : ℕ) (flat : ℕ) (before : Picture) (c : ℕ) (q : Request) (after : Picture) (l : Looked p n flat before c q) → Orders p n before c q after → (opened : Open) → opened.core ≡ c → opened.request ≡ q → (d : ℕ) → d < n → fits p l.next.shared (owns (next_owner q c l.good.owner) d) (awaited (Some opened) d) (held_by after d).state ≡ true
+pub order_states : (p : Protocol) (n : ℕ) (flat : List ℕ) (before : Picture) (c : ℕ) (q : Request) (after : Picture) (l : Looked p n flat before c q) → Orders p n before c q after → (opened : Open) → opened.core ≡ c → opened.request ≡ q → (d : ℕ) → d < n → fits p l.next.shared (owns (next_owner q c l.good.owner) d) (awaited (Some opened) d) (held_by after d).state ≡ true
 order_states p n flat before c q after l o opened is_core is_request d d_in =
     elim (eqb_tells d c) as (λ _. fits p l.next.shared (owns (next_owner q c l.good.owner) d) (awaited (Some opened) d) (held_by after d).state ≡ true) [
       | inl h ↦
@@ -230,7 +231,7 @@ order_states p n flat before c q after l o opened is_core is_request d d_in =
     ]
 
 -- a clean owner's value is memory's
-order_fresh : (p : Protocol) (n : ℕ) (flat : ℕ) (before : Picture) (c : ℕ) (q : Request) (l : Looked p n flat before c q) → l.next.fresh ≡ true → before.memory.value ≡ flat
+order_fresh : (p : Protocol) (n : ℕ) (flat : List ℕ) (before : Picture) (c : ℕ) (q : Request) (l : Looked p n flat before c q) → l.next.fresh ≡ true → before.memory.value ≡ flat
 order_fresh p n flat before c q l h =
     let t = end_of p n flat before c q l OrderTests.fresh_after OrderTests.fresh_after_holds in
     let e : (l.good.claims.fresh || is_clean (held_by before c).state) ≡ true = implied l.next.fresh (l.good.claims.fresh || is_clean (held_by before c).state) t h in
@@ -240,7 +241,7 @@ order_fresh p n flat before c q l h =
     ]
 
 -- the value that a sender can send is the block's
-pub sender_value : (p : Protocol) (n : ℕ) (flat : ℕ) (before : Picture) (c : ℕ) (q : Request) (l : Looked p n flat before c q) (from : Option ℕ) (sent : Payload) → Sends p n before c q from sent → carries_value sent ≡ true → value_at before from ≡ flat
+pub sender_value : (p : Protocol) (n : ℕ) (flat : List ℕ) (before : Picture) (c : ℕ) (q : Request) (l : Looked p n flat before c q) (from : Option ℕ) (sent : Payload) → Sends p n before c q from sent → carries_value sent ≡ true → value_at before from ≡ flat
 sender_value p n flat before c q l None sent sends carrying =
     let e : sent_by_memory (Some l.mc) ≡ Some sent = ap sent_by_memory (sym l.is_mc) ∙ sends in
     let t = end_of p n flat before c q l OrderTests.memory_sends_fresh OrderTests.memory_sends_fresh_holds in
@@ -267,7 +268,7 @@ sender_value p n flat before c q l (Some d) sent sends carrying =
           let fit = l.good.states d sends.0 in
           owner_reads (held_by before d).state (fits_is_owner p l.good.claims.shared (owns l.good.owner d) (awaited before.transaction d) (held_by before d).state fit ∙ owning)
     ] in
-    ap (λ (k : Option ℕ). unwrap_or k 0) (l.good.kept d sends.0 reads)
+    ap (λ (k : Option (List ℕ)). unwrap_or k zero_words) (l.good.kept d sends.0 reads)
 
 next_owner_in : (put : Bool) (c : ℕ) (owner : Option ℕ) (n : ℕ) → ((o : ℕ) → owner ≡ Some o → o < n) → (o : ℕ) → cond put (cond (owns owner c) None owner) None ≡ Some o → o < n
 next_owner_in true c None n was o e = cc
@@ -277,8 +278,8 @@ next_owner_in true c (Some k) n was o e = elim (or_not (eqb c k)) as (λ _. o < 
 ]
 next_owner_in false c owner n was o e = cc
 
--- an Order of a good picture leads to a good one
-pub order_keeps : (p : Protocol) (n : ℕ) (flat : ℕ) (before : Picture) (c : ℕ) (q : Request) (after : Picture) → Good p n flat before → Orders p n before c q after → Good p n flat after
+-- an Order keeps the invariant of a picture
+pub order_keeps : (p : Protocol) (n : ℕ) (flat : List ℕ) (before : Picture) (c : ℕ) (q : Request) (after : Picture) → BlockInvariant p n flat before → Orders p n before c q after → BlockInvariant p n flat after
 unfolding look
 order_keeps p n flat before c q after good o =
     let l = look p n flat before c q good o.requestor_in o.waits o.calm in

@@ -1,10 +1,10 @@
 -- Each step finds its rows, and an Order exactly one sender.
-use Rattle.std.proofs.Common.{◌≡◌, ◌≢◌, ◌<◌, ◌&&◌, ◌⊎◌, ◌∙◌, ℕ, Bool, true, false, not, cond, Option, Some, None, refl, inl, inr, ap, sym, subst}
+use Rattle.std.proofs.Common.{◌≡◌, ◌≢◌, ◌<◌, ◌&&◌, ◌⊎◌, ◌∙◌, ℕ, List, Bool, true, false, not, cond, Option, Some, None, refl, inl, inr, ap, sym, subst}
 use Rattle.std.specs.Prelude.{is_some}
 use Rattle.std.proofs.lemmas.Bool.Decides.{eqb_tells}
 use Rattle.std.proofs.lemmas.Bool.{eq-eqb, and_parts}
 use Rattle.snoop_trace.specs.declared.step.Op.{Op}
-use Rattle.snoop_rules.specs.declared.names.Protocol.{Protocol}
+use Rattle.snoop_trace.specs.declared.protocol.Protocol.{Protocol}
 use Rattle.snoop_rules.specs.declared.names.CacheState.{CacheState}
 use Rattle.snoop_rules.specs.declared.names.CacheEvent.{CacheEvent}
 use Rattle.snoop_rules.specs.declared.names.Request.{Request}
@@ -17,10 +17,10 @@ use Rattle.snoop_rules.specs.Cell.{cell_of}
 use Rattle.snoop_rules.specs.MemoryCell.{memory_cell_of}
 use Rattle.snoop_rules.proofs.Every.{all_states-at}
 use Rattle.snoop_history.specs.Totals.{is_put_m}
-use Rattle.snoop_bus.specs.declared.transactions.Open.{Open}
+use Rattle.snoop_bus.specs.Traffic.{Open}
 use Rattle.snoop_model.specs.Pictures.Picture.{Picture, held_by}
 use Rattle.snoop_model.specs.Invariant.Fits.{claims_of, in_protocol, fits}
-use Rattle.snoop_model.specs.Invariant.Good.{Good, talk_of, awaited, owns}
+use Rattle.snoop_model.specs.Invariant.Block.{BlockInvariant, talk_of, awaited, owns}
 use Rattle.snoop_model.proofs.Tables.Every.{either-at, same_is, some_of, when_at}
 use Rattle.snoop_model.proofs.OneBlock.Steps.{sent_by, sent_by_memory, Sends, IsOnlySender, row_of, mem_row_of, is_idle_evict, Answerable}
 use Rattle.snoop_model.proofs.Tables.SenderTests.{Memory, Core, Requestor, follows_sender_table, sender_as}
@@ -43,7 +43,7 @@ pub record Possible (p : Protocol) (n : ℕ) (before : Picture) (c : ℕ) (q : R
   pub writeback : is_put_m q ≡ true → from ≡ Some c
   pub order_line : follows_sender_table p q before.memory.state (sender_as before c from) payload cell_of_memory.next ≡ true
 
-possible_rows : (p : Protocol) (n : ℕ) (flat : ℕ) (before : Picture) (c : ℕ) (q : Request) (l : Looked p n flat before c q) (d : ℕ) → d < n → (r : CacheCell) × (cell_of p (held_by before d).state (seen_by d c q) ≡ Some r)
+possible_rows : (p : Protocol) (n : ℕ) (flat : List ℕ) (before : Picture) (c : ℕ) (q : Request) (l : Looked p n flat before c q) (d : ℕ) → d < n → (r : CacheCell) × (cell_of p (held_by before d).state (seen_by d c q) ≡ Some r)
 possible_rows p n flat before c q l d d_in = elim (eqb_tells d c) as (λ _. (r : CacheCell) × (cell_of p (held_by before d).state (seen_by d c q) ≡ Some r)) [
   | inl h ↦ (l.oc, subst (λ (x : ℕ). cell_of p (held_by before x).state (seen_by x c q) ≡ Some l.oc) (sym h.1) (ap (λ (e : CacheEvent). cell_of p (held_by before c).state e) (seen_own c q) ∙ l.is_oc))
   | inr h ↦
@@ -52,13 +52,13 @@ possible_rows p n flat before c q l d d_in = elim (eqb_tells d c) as (λ _. (r :
 ]
 
 -- each controller sends exactly where it is meant to
-pub record Roles (p : Protocol) (n : ℕ) (flat : ℕ) (before : Picture) (c : ℕ) (q : Request) (l : Looked p n flat before c q) : Type 0 where
+pub record Roles (p : Protocol) (n : ℕ) (flat : List ℕ) (before : Picture) (c : ℕ) (q : Request) (l : Looked p n flat before c q) : Type 0 where
   pub memory : is_some (sent_by_memory (Some l.mc)) ≡ (not (is_put_m q) && not l.good.claims.owned)
   pub requestor : is_some (sent_by (Some l.oc)) ≡ is_put_m q
   pub puts : owns l.good.owner c ≡ true → is_put_m q ≡ true
   pub others : (d : ℕ) → d < n → d ≢ c → (xc : CacheCell) → cell_of p (held_by before d).state (other q) ≡ Some xc → is_some (sent_by (Some xc)) ≡ (owns l.good.owner d && not (is_put_m q))
 
-roles : (p : Protocol) (n : ℕ) (flat : ℕ) (before : Picture) (c : ℕ) (q : Request) (l : Looked p n flat before c q) → Roles p n flat before c q l
+roles : (p : Protocol) (n : ℕ) (flat : List ℕ) (before : Picture) (c : ℕ) (q : Request) (l : Looked p n flat before c q) → Roles p n flat before c q l
 roles p n flat before c q l = record {
   memory = same_is _ _ (end_of p n flat before c q l OrderTests.memory_sends OrderTests.memory_sends_holds);
   requestor = same_is _ _ (end_of p n flat before c q l OrderTests.requestor_sends OrderTests.requestor_sends_holds);
@@ -67,14 +67,14 @@ roles p n flat before c q l = record {
 }
 
 -- the row of a core that is d
-own_row : (p : Protocol) (n : ℕ) (flat : ℕ) (before : Picture) (c : ℕ) (q : Request) (l : Looked p n flat before c q) (d : ℕ) → d ≡ c → cell_of p (held_by before d).state (seen_by d c q) ≡ Some l.oc
+own_row : (p : Protocol) (n : ℕ) (flat : List ℕ) (before : Picture) (c : ℕ) (q : Request) (l : Looked p n flat before c q) (d : ℕ) → d ≡ c → cell_of p (held_by before d).state (seen_by d c q) ≡ Some l.oc
 own_row p n flat before c q l d e = subst (λ (x : ℕ). cell_of p (held_by before x).state (seen_by x c q) ≡ Some l.oc) (sym e) (ap (λ (x : CacheEvent). cell_of p (held_by before c).state x) (seen_own c q) ∙ l.is_oc)
 
 -- who sends: the requestor of a PutM, else memory where no core owns, else the owner
 abbrev pub meant : Request → ℕ → Option ℕ → Option ℕ
 meant q c owner = cond (is_put_m q) (Some c) owner
 
-only : (p : Protocol) (n : ℕ) (flat : ℕ) (before : Picture) (c : ℕ) (q : Request) (l : Looked p n flat before c q) → Roles p n flat before c q l → (another : Option ℕ) (sent : Payload) → Sends p n before c q another sent → another ≡ meant q c l.good.owner
+only : (p : Protocol) (n : ℕ) (flat : List ℕ) (before : Picture) (c : ℕ) (q : Request) (l : Looked p n flat before c q) → Roles p n flat before c q l → (another : Option ℕ) (sent : Payload) → Sends p n before c q another sent → another ≡ meant q c l.good.owner
 only p n flat before c q l roles None sent sends =
     let e : is_some (sent_by_memory (Some l.mc)) ≡ true = some_true (sent_by_memory (Some l.mc)) sent (ap sent_by_memory (sym l.is_mc) ∙ sends) in
     let h = and_parts (not (is_put_m q)) (not l.good.claims.owned) (sym roles.memory ∙ e) in
@@ -95,12 +95,12 @@ only p n flat before c q l roles (Some d) sent sends = elim (eqb_tells d c) as (
 ]
 
 -- the sender sends, and its line is in the table
-pub record Sent (p : Protocol) (n : ℕ) (flat : ℕ) (before : Picture) (c : ℕ) (q : Request) (l : Looked p n flat before c q) : Type 0 where
+pub record Sent (p : Protocol) (n : ℕ) (flat : List ℕ) (before : Picture) (c : ℕ) (q : Request) (l : Looked p n flat before c q) : Type 0 where
   pub payload : Payload
   pub sends : Sends p n before c q (meant q c l.good.owner) payload
   pub order_line : follows_sender_table p q before.memory.state (sender_as before c (meant q c l.good.owner)) l.pl l.mc.next ≡ true
 
-sent_put : (p : Protocol) (n : ℕ) (flat : ℕ) (before : Picture) (c : ℕ) (q : Request) (l : Looked p n flat before c q) → Roles p n flat before c q l → is_put_m q ≡ true → Sent p n flat before c q l
+sent_put : (p : Protocol) (n : ℕ) (flat : List ℕ) (before : Picture) (c : ℕ) (q : Request) (l : Looked p n flat before c q) → Roles p n flat before c q l → is_put_m q ≡ true → Sent p n flat before c q l
 sent_put p n flat before c q l roles put =
     let x = some_of (sent_by (Some l.oc)) (roles.requestor ∙ put) in
     let row = own_row p n flat before c q l c refl in
@@ -112,7 +112,7 @@ sent_put p n flat before c q l roles put =
       order_line = subst (λ (w : Option ℕ). follows_sender_table p q before.memory.state (sender_as before c w) l.pl l.mc.next ≡ true) (sym who) (rw (eq-eqb c c refl) line);
     }
 
-sent_memory : (p : Protocol) (n : ℕ) (flat : ℕ) (before : Picture) (c : ℕ) (q : Request) (l : Looked p n flat before c q) → Roles p n flat before c q l → is_put_m q ≡ false → l.good.claims.owned ≡ false → Sent p n flat before c q l
+sent_memory : (p : Protocol) (n : ℕ) (flat : List ℕ) (before : Picture) (c : ℕ) (q : Request) (l : Looked p n flat before c q) → Roles p n flat before c q l → is_put_m q ≡ false → l.good.claims.owned ≡ false → Sent p n flat before c q l
 sent_memory p n flat before c q l roles no_put unowned =
     let e : is_some (sent_by_memory (Some l.mc)) ≡ true = roles.memory ∙ rw (no_put, unowned) refl in
     let x = some_of (sent_by_memory (Some l.mc)) e in
@@ -124,7 +124,7 @@ sent_memory p n flat before c q l roles no_put unowned =
       order_line = subst (λ (w : Option ℕ). follows_sender_table p q before.memory.state (sender_as before c w) l.pl l.mc.next ≡ true) (sym who) line;
     }
 
-sent_owner : (p : Protocol) (n : ℕ) (flat : ℕ) (before : Picture) (c : ℕ) (q : Request) (l : Looked p n flat before c q) → Roles p n flat before c q l → is_put_m q ≡ false → (d : ℕ) → l.good.owner ≡ Some d → Sent p n flat before c q l
+sent_owner : (p : Protocol) (n : ℕ) (flat : List ℕ) (before : Picture) (c : ℕ) (q : Request) (l : Looked p n flat before c q) → Roles p n flat before c q l → is_put_m q ≡ false → (d : ℕ) → l.good.owner ≡ Some d → Sent p n flat before c q l
 sent_owner p n flat before c q l roles no_put d is_d =
     let d_in = l.good.owner_in d is_d in
     let owning : owns l.good.owner d ≡ true = rw is_d (eq-eqb d d refl) in
@@ -145,7 +145,7 @@ some_or_none : (o : Option ℕ) → (o ≡ None) ⊎ ((d : ℕ) × (o ≡ Some d
 some_or_none None = inl refl
 some_or_none (Some d) = inr (d, refl)
 
-sent : (p : Protocol) (n : ℕ) (flat : ℕ) (before : Picture) (c : ℕ) (q : Request) (l : Looked p n flat before c q) → Roles p n flat before c q l → Sent p n flat before c q l
+sent : (p : Protocol) (n : ℕ) (flat : List ℕ) (before : Picture) (c : ℕ) (q : Request) (l : Looked p n flat before c q) → Roles p n flat before c q l → Sent p n flat before c q l
 sent p n flat before c q l roles = elim (or_not (is_put_m q)) as (λ _. Sent p n flat before c q l) [
   | inl put ↦ sent_put p n flat before c q l roles put
   | inr no_put ↦ elim (some_or_none l.good.owner) as (λ _. Sent p n flat before c q l) [
@@ -155,7 +155,7 @@ sent p n flat before c q l roles = elim (or_not (is_put_m q)) as (λ _. Sent p n
 ]
 
 -- an Order finds all its rows and exactly one sender, and is a line of the table of Orders
-pub order_possible : (p : Protocol) (n : ℕ) (flat : ℕ) (before : Picture) (c : ℕ) (q : Request) → Good p n flat before → c < n → waiting_request (held_by before c).state ≡ Some q → before.transaction ≡ None → Possible p n before c q
+pub order_possible : (p : Protocol) (n : ℕ) (flat : List ℕ) (before : Picture) (c : ℕ) (q : Request) → BlockInvariant p n flat before → c < n → waiting_request (held_by before c).state ≡ Some q → before.transaction ≡ None → Possible p n before c q
 order_possible p n flat before c q good c_in waits calm =
     let l = look p n flat before c q good c_in waits calm in
     let r = roles p n flat before c q l in
@@ -177,13 +177,13 @@ unfolding fits
 fits_protocol p shared ow w s h = (and_parts _ _ h).0
 
 -- an Ask finds its row; an Evict in I has none and needs none
-pub ask_possible : (p : Protocol) (n : ℕ) (flat : ℕ) (before : Picture) (c : ℕ) (o : Op) → Good p n flat before → c < n → is_idle_evict (held_by before c).state (asked o) ≡ false → (r : CacheCell) × (cell_of p (held_by before c).state (asked o) ≡ Some r)
+pub ask_possible : (p : Protocol) (n : ℕ) (flat : List ℕ) (before : Picture) (c : ℕ) (o : Op) → BlockInvariant p n flat before → c < n → is_idle_evict (held_by before c).state (asked o) ≡ false → (r : CacheCell) × (cell_of p (held_by before c).state (asked o) ≡ Some r)
 ask_possible p n flat before c o good c_in busy =
     let fit = good.states c c_in in
     let h = when_at _ _ (fits_protocol p good.claims.shared (owns good.owner c) (awaited before.transaction c) (held_by before c).state fit) (ask_row p (held_by before c).state o) in
     some_of (cell_of p (held_by before c).state (asked o)) (right_of (is_idle_evict (held_by before c).state (asked o)) _ h busy)
 
-pub respond_possible : (p : Protocol) (n : ℕ) (flat : ℕ) (before : Picture) (o : Open) → Good p n flat before → before.transaction ≡ Some o → Answerable p before o
+pub respond_possible : (p : Protocol) (n : ℕ) (flat : List ℕ) (before : Picture) (o : Open) → BlockInvariant p n flat before → before.transaction ≡ Some o → Answerable p before o
 respond_possible p n flat before o good was_open =
     let c = o.core in
     let s = (held_by before c).state in

@@ -1,10 +1,12 @@
 -- A Respond keeps the invariant, and a load that it performs gives the flat value.
-use Rattle.std.proofs.Common.{◌≡◌, ◌≢◌, ◌<◌, ◌&&◌, ◌||◌, ◌∙◌, ℕ, Bool, true, false, not, cond, eqb, Option, Some, None, refl, inl, inr, ap, sym, subst}
+use Rattle.std.proofs.Common.{◌≡◌, ◌≢◌, ◌<◌, ◌&&◌, ◌||◌, ◌∙◌, ℕ, List, Bool, true, false, not, cond, eqb, Option, Some, None, refl, inl, inr, ap, sym, subst}
 use Rattle.std.specs.Prelude.{is_some}
 use Rattle.std.proofs.lemmas.Bool.Decides.{eqb_tells}
 use Rattle.std.proofs.lemmas.Bool.{eq-eqb, and_parts}
+use Rattle.std.specs.Prelude.{slice_set}
+use Rattle.snoop_trace.specs.Words.{word_at}
 use Rattle.snoop_trace.specs.declared.step.Op.TheVariants as op
-use Rattle.snoop_rules.specs.declared.names.Protocol.{Protocol}
+use Rattle.snoop_trace.specs.declared.protocol.Protocol.{Protocol}
 use Rattle.snoop_rules.specs.declared.names.CacheState.{CacheState}
 use Rattle.snoop_rules.specs.declared.names.CacheEvent.{CacheEvent}
 use Rattle.snoop_rules.specs.declared.names.CacheAction.{CacheAction}
@@ -23,13 +25,13 @@ use Rattle.snoop_rules.specs.Cell.{Cell}
 use Rattle.snoop_rules.proofs.Every.{all_states-at}
 use Rattle.snoop_rules.proofs.Rows.{Cell-found}
 use Rattle.snoop_history.specs.Totals.{is_put_m, is_get_m}
-use Rattle.snoop_bus.specs.declared.transactions.Open.{Open}
-use Rattle.snoop_model.specs.declared.line.Line.{Line}
+use Rattle.snoop_bus.specs.Traffic.{Open}
+use Rattle.snoop_model.specs.Pictures.Lines.{Line}
 use Rattle.snoop_model.specs.Pictures.Picture.{Picture, held_by}
 use Rattle.snoop_model.specs.Moves.Move.{written}
 use Rattle.snoop_model.specs.Pictures.Sound.{keeps, IsProper}
 use Rattle.snoop_model.specs.Invariant.Fits.{Claims, claims_of, is_clean, fits}
-use Rattle.snoop_model.specs.Invariant.Good.{Good, talk_of, awaited, owns}
+use Rattle.snoop_model.specs.Invariant.Block.{BlockInvariant, talk_of, awaited, owns}
 use Rattle.snoop_model.proofs.Tables.Every.{either-at, given, given_at, same_is, some_of, when_at}
 use Rattle.snoop_model.proofs.OneBlock.Steps.{Done, flat_after, IsLawful, row_of, mem_row_of, MemoryTakes, Fills, RequestorTakes, Responds}
 use Rattle.snoop_model.proofs.Tables.SenderTests.{after_respond, next_memory, next_of}
@@ -49,32 +51,32 @@ memory_after : (b : Bool) (p : Protocol) (before : Picture) (opened : Open) (aft
 memory_after true p before opened after t = next_at p before.memory.state (arrival_at_memory opened.payload) ∙ (ap next_of t.1 ∙ ap (λ (m : MemState). Some m) (sym t.2))
 memory_after false p before opened after t = ap (λ (m : MemState). Some m) (sym t.0)
 
-written_flat : (a : MemAction) (v old flat : ℕ) → (writes a ≡ true → v ≡ flat) → old ≡ flat → written a v old ≡ flat
+written_flat : (a : MemAction) (v old flat : List ℕ) → (writes a ≡ true → v ≡ flat) → old ≡ flat → written a v old ≡ flat
 written_flat mem_action.Write v old flat h e = h refl
 written_flat mem_action.None v old flat h e = e
 written_flat (mem_action.Send pl) v old flat h e = e
 
-written_now : (a : MemAction) (v old flat : ℕ) → writes a ≡ true → v ≡ flat → written a v old ≡ flat
+written_now : (a : MemAction) (v old flat : List ℕ) → writes a ≡ true → v ≡ flat → written a v old ≡ flat
 written_now mem_action.Write v old flat h e = e
 written_now mem_action.None v old flat h e = cc
 written_now (mem_action.Send pl) v old flat h e = cc
 
 -- what memory had of the flat value it keeps
-value_stays : (b : Bool) (p : Protocol) (before : Picture) (opened : Open) (after : Picture) (flat : ℕ) → MemoryTakes b p before opened after → (not b || given (mem_row_of p before.memory.state (arrival_at_memory opened.payload)) (λ r. not (writes r.action) || carries_value opened.payload)) ≡ true → (carries_value opened.payload ≡ true → opened.value ≡ flat) → before.memory.value ≡ flat → after.memory.value ≡ flat
+value_stays : (b : Bool) (p : Protocol) (before : Picture) (opened : Open) (after : Picture) (flat : List ℕ) → MemoryTakes b p before opened after → (not b || given (mem_row_of p before.memory.state (arrival_at_memory opened.payload)) (λ r. not (writes r.action) || carries_value opened.payload)) ≡ true → (carries_value opened.payload ≡ true → opened.value ≡ flat) → before.memory.value ≡ flat → after.memory.value ≡ flat
 value_stays true p before opened after flat t test carried e =
     let h = given_at (mem_row_of p before.memory.state (arrival_at_memory opened.payload)) (λ r. not (writes r.action) || carries_value opened.payload) t.0 t.1 test in
     t.3 ∙ written_flat t.0.action opened.value before.memory.value flat (λ w. carried (implied (writes t.0.action) (carries_value opened.payload) h w)) e
 value_stays false p before opened after flat t test carried e = t.1 ∙ e
 
-value_written : (b : Bool) (p : Protocol) (before : Picture) (opened : Open) (after : Picture) (flat : ℕ) → MemoryTakes b p before opened after → (b && carries_value opened.payload && given (mem_row_of p before.memory.state (arrival_at_memory opened.payload)) (λ r. writes r.action)) ≡ true → (carries_value opened.payload ≡ true → opened.value ≡ flat) → after.memory.value ≡ flat
+value_written : (b : Bool) (p : Protocol) (before : Picture) (opened : Open) (after : Picture) (flat : List ℕ) → MemoryTakes b p before opened after → (b && carries_value opened.payload && given (mem_row_of p before.memory.state (arrival_at_memory opened.payload)) (λ r. writes r.action)) ≡ true → (carries_value opened.payload ≡ true → opened.value ≡ flat) → after.memory.value ≡ flat
 value_written true p before opened after flat t test carried =
     let parts = and_parts (carries_value opened.payload) (given (mem_row_of p before.memory.state (arrival_at_memory opened.payload)) (λ r. writes r.action)) test in
     let w : writes t.0.action ≡ true = given_at (mem_row_of p before.memory.state (arrival_at_memory opened.payload)) (λ r. writes r.action) t.0 t.1 parts.1 in
     t.3 ∙ written_now t.0.action opened.value before.memory.value flat w (carried parts.0)
 value_written false p before opened after flat t test carried = cc
 
--- what a Respond of a good picture looks up
-pub record Found (p : Protocol) (n : ℕ) (flat : ℕ) (before after : Picture) (opened : Open) (g : Good p n flat before) : Type 0 where
+-- what a Respond looks up of a picture that keeps its invariant
+pub record Found (p : Protocol) (n : ℕ) (flat : List ℕ) (before after : Picture) (opened : Open) (g : BlockInvariant p n flat before) : Type 0 where
   pub is_claims : claims_of p before.memory.state (Some (opened.request, opened.payload)) ≡ Some g.claims
   pub is_memory : after_respond p opened.request before.memory.state opened.payload ≡ Some after.memory.state
   pub next : Claims
@@ -85,7 +87,7 @@ pub record Found (p : Protocol) (n : ℕ) (flat : ℕ) (before after : Picture) 
   pub requestor_in : opened.core < n
   pub owned : next.owned ≡ (g.claims.owned || gains opened.request opened.payload)
 
-find : (p : Protocol) (n : ℕ) (flat : ℕ) (before after : Picture) (made : Option Done) (g : Good p n flat before) (r : Responds p n before after made) → Found p n flat before after r.opened g
+find : (p : Protocol) (n : ℕ) (flat : List ℕ) (before after : Picture) (made : Option Done) (g : BlockInvariant p n flat before) (r : Responds p n before after made) → Found p n flat before after r.opened g
 find p n flat before after made g r =
     let o = r.opened in
     let q = o.request in
@@ -118,7 +120,7 @@ find p n flat before after made g r =
     }
 
 -- a core that is not answered keeps its state, and it fits the line after
-stays_fits : (p : Protocol) (n : ℕ) (flat : ℕ) (before after : Picture) (o : Open) (g : Good p n flat before) (f : Found p n flat before after o g) (d : ℕ) → d < n → fits p g.claims.shared (owns g.owner d) None (held_by before d).state ≡ true → fits p f.next.shared (owns g.owner d) None (held_by before d).state ≡ true
+stays_fits : (p : Protocol) (n : ℕ) (flat : List ℕ) (before after : Picture) (o : Open) (g : BlockInvariant p n flat before) (f : Found p n flat before after o g) (d : ℕ) → d < n → fits p g.claims.shared (owns g.owner d) None (held_by before d).state ≡ true → fits p f.next.shared (owns g.owner d) None (held_by before d).state ≡ true
 stays_fits p n flat before after o g f d d_in fit =
     let t = after_rule RespondTests.stay_fits RespondTests.stay_fits_holds p before.memory.state o.request o.payload g.claims after.memory.state f.next f.is_claims f.is_memory f.is_next in
     let s = (held_by before d).state in
@@ -127,7 +129,7 @@ stays_fits p n flat before after o g f d d_in fit =
     when_at _ _ (owns_owned g.owner d g.claims.owned g.is_owned) (when_at _ _ fit h0)
 
 -- after a GetM no other core may read
-stays_blind : (p : Protocol) (n : ℕ) (flat : ℕ) (before after : Picture) (o : Open) (g : Good p n flat before) (f : Found p n flat before after o g) → is_get_m o.request ≡ true → (d : ℕ) → d < n → fits p g.claims.shared (owns g.owner d) None (held_by before d).state ≡ true → keeps (held_by before d).state ≡ false
+stays_blind : (p : Protocol) (n : ℕ) (flat : List ℕ) (before after : Picture) (o : Open) (g : BlockInvariant p n flat before) (f : Found p n flat before after o g) → is_get_m o.request ≡ true → (d : ℕ) → d < n → fits p g.claims.shared (owns g.owner d) None (held_by before d).state ≡ true → keeps (held_by before d).state ≡ false
 stays_blind p n flat before after o g f get_m d d_in fit =
     let t = when_at _ _ get_m (after_rule RespondTests.stay_alone RespondTests.stay_alone_holds p before.memory.state o.request o.payload g.claims after.memory.state f.next f.is_claims f.is_memory f.is_next) in
     let s = (held_by before d).state in
@@ -151,13 +153,13 @@ put_calm : (o : Open) (d : ℕ) → is_put_m o.request ≡ true → is_calm (awa
 put_calm o d h = elim (or_not (eqb d o.core)) as (λ _. is_calm (cond (eqb d o.core) (Some o.request) None) ≡ true) [ inl e ↦ rw e h | inr e ↦ rw e refl ]
 
 -- a PutM's end
-respond_put : (p : Protocol) (n : ℕ) (flat : ℕ) (before after : Picture) (made : Option Done) (g : Good p n flat before) (r : Responds p n before after made) → is_put_m r.opened.request ≡ true → ((d : ℕ) → d < n → held_by after d ≡ held_by before d) → made ≡ None → Good p n (flat_after flat made) after × IsLawful flat made
+respond_put : (p : Protocol) (n : ℕ) (flat : List ℕ) (before after : Picture) (made : Option Done) (g : BlockInvariant p n flat before) (r : Responds p n before after made) → is_put_m r.opened.request ≡ true → ((d : ℕ) → d < n → held_by after d ≡ held_by before d) → made ≡ None → BlockInvariant p n (flat_after flat made) after × IsLawful flat made
 respond_put p n flat before after made g r put same_held nothing =
     let f = find p n flat before after made g r in
     let o = r.opened in
     let gained : gains o.request o.payload ≡ false = put_gains o.request o.payload put in
     let calm : (d : ℕ) → is_calm (awaited before.transaction d) ≡ true = λ d. rw r.was_open (put_calm o d put) in
-    let good : Good p n flat after = record {
+    let good : BlockInvariant p n flat after = record {
       claims = f.next;
       is_claims = ap (λ (t : Option Open). claims_of p after.memory.state (talk_of t)) r.closes ∙ f.is_next;
       owner = g.owner;
@@ -199,13 +201,13 @@ owns_answered_other true false c d (Some o) apart e h = cc
 owns_answered_other false owned c d owner apart e h = refl
 
 -- what the requestor moves to
-pub record Arrives (p : Protocol) (n : ℕ) (flat : ℕ) (before after : Picture) (o : Open) (g : Good p n flat before) (f : Found p n flat before after o g) (row : CacheCell) : Type 0 where
+pub record Arrives (p : Protocol) (n : ℕ) (flat : List ℕ) (before after : Picture) (o : Open) (g : BlockInvariant p n flat before) (f : Found p n flat before after o g) (row : CacheCell) : Type 0 where
   pub not_owner : owns g.owner o.core ≡ false
   pub fit : fits p f.next.shared (gains o.request o.payload) None row.next ≡ true
   pub clean : is_clean row.next ≡ true → (g.claims.fresh ≡ true) × (is_get_m o.request ≡ false)
   pub fills : fills_store row.action ≡ is_get_m o.request
 
-arrive : (p : Protocol) (n : ℕ) (flat : ℕ) (before after : Picture) (o : Open) (g : Good p n flat before) (f : Found p n flat before after o g) (row : CacheCell) → before.transaction ≡ Some o → is_put_m o.request ≡ false → row_of p (held_by before o.core).state (arrival o.payload) ≡ Some row → Arrives p n flat before after o g f row
+arrive : (p : Protocol) (n : ℕ) (flat : List ℕ) (before after : Picture) (o : Open) (g : BlockInvariant p n flat before) (f : Found p n flat before after o g) (row : CacheCell) → before.transaction ≡ Some o → is_put_m o.request ≡ false → row_of p (held_by before o.core).state (arrival o.payload) ≡ Some row → Arrives p n flat before after o g f row
 arrive p n flat before after o g f row was_open no_put is_row =
     let c = o.core in
     let s = (held_by before c).state in
@@ -229,23 +231,23 @@ arrive p n flat before after o g f row was_open no_put is_row =
     }
 
 -- what a fill leaves: the state, the kept value, and the flat value
-pub record Filled (flat : ℕ) (row : CacheCell) (v : ℕ) (new : Line) (made : Option Done) : Type 0 where
+pub record Filled (flat : List ℕ) (row : CacheCell) (v : List ℕ) (new : Line) (made : Option Done) : Type 0 where
   pub state : new.state ≡ row.next
   pub kept : new.kept ≡ Some (flat_after flat made)
   pub lawful : IsLawful flat made
   pub load_keeps : fills_store row.action ≡ false → flat_after flat made ≡ flat
 
-fill : (flat : ℕ) (a : CacheAction) (next : CacheState) (v : ℕ) (old new : Line) (made : Option Done) → v ≡ flat → Fills a next v old new made → Filled flat (record { action = a; next = next }) v new made
+fill : (flat : List ℕ) (a : CacheAction) (next : CacheState) (v : List ℕ) (old new : Line) (made : Option Done) → v ≡ flat → Fills a next v old new made → Filled flat (record { action = a; next = next }) v new made
 fill flat action.FillLoad next v old new made v_flat did = record {
-  state = ap (λ (x : Line). x.state) did.0;
-  kept = ap (λ (x : Line). x.kept) did.0 ∙ rw did.1 (ap (λ (x : ℕ). Some x) v_flat);
-  lawful = rw did.1 v_flat;
-  load_keeps = λ h. rw did.1 refl;
+  state = ap (λ (x : Line). x.state) did.1;
+  kept = ap (λ (x : Line). x.kept) did.1 ∙ rw did.2 (ap (λ (x : List ℕ). Some x) v_flat);
+  lawful = rw did.2 (ap (λ (x : List ℕ). word_at x did.0) v_flat);
+  load_keeps = λ h. rw did.2 refl;
 }
 fill flat action.FillStore next v old new made v_flat did = record {
-  state = ap (λ (x : Line). x.state) did.2;
-  kept = ap (λ (x : Line). x.kept) did.2 ∙ rw did.3 refl;
-  lawful = rw did.3 tt;
+  state = ap (λ (x : Line). x.state) did.3;
+  kept = ap (λ (x : Line). x.kept) did.3 ∙ rw did.4 (ap (λ (x : List ℕ). Some (slice_set x did.0 did.1)) v_flat);
+  lawful = rw did.4 tt;
   load_keeps = λ h. cc;
 }
 fill flat action.None next v old new made v_flat did = absurd did
@@ -256,9 +258,9 @@ fill flat action.Drop next v old new made v_flat did = absurd did
 fill flat (action.Send pl t) next v old new made v_flat did = absurd did
 
 -- what a fill leaves is proper
-fill_proper : (p : Protocol) (s : CacheState) (e : CacheEvent) (a : CacheAction) (next : CacheState) (v : ℕ) (old new : Line) (made : Option Done) → Cell p s e a next → Fills a next v old new made → IsProper new
-fill_proper p s e action.FillLoad next v old new made row did = subst IsProper (sym did.0) (IsProper-fill p s e action.FillLoad next op.Load v tt row)
-fill_proper p s e action.FillStore next v old new made row did = subst IsProper (sym did.2) (IsProper-fill p s e action.FillStore next (op.Store did.0) did.0 tt row)
+fill_proper : (p : Protocol) (s : CacheState) (e : CacheEvent) (a : CacheAction) (next : CacheState) (v : List ℕ) (old new : Line) (made : Option Done) → Cell p s e a next → Fills a next v old new made → IsProper new
+fill_proper p s e action.FillLoad next v old new made row did = subst IsProper (sym did.1) (IsProper-fill p s e action.FillLoad next op.Load v tt row)
+fill_proper p s e action.FillStore next v old new made row did = subst IsProper (sym did.3) (IsProper-fill p s e action.FillStore next (op.Store did.1) (slice_set v did.0 did.1) tt row)
 fill_proper p s e action.None next v old new made row did = absurd did
 fill_proper p s e action.Hit next v old new made row did = absurd did
 fill_proper p s e action.Stall next v old new made row did = absurd did
@@ -266,12 +268,12 @@ fill_proper p s e (action.Issue r) next v old new made row did = absurd did
 fill_proper p s e action.Drop next v old new made row did = absurd did
 fill_proper p s e (action.Send pl t) next v old new made row did = absurd did
 
-arrival_proper : (p : Protocol) (s : CacheState) (e : Option CacheEvent) (row : CacheCell) (v : ℕ) (old new : Line) (made : Option Done) → row_of p s e ≡ Some row → Fills row.action row.next v old new made → IsProper new
+arrival_proper : (p : Protocol) (s : CacheState) (e : Option CacheEvent) (row : CacheCell) (v : List ℕ) (old new : Line) (made : Option Done) → row_of p s e ≡ Some row → Fills row.action row.next v old new made → IsProper new
 arrival_proper p s None row v old new made is_row did = cc
 arrival_proper p s (Some e) row v old new made is_row did = fill_proper p s e row.action row.next v old new made (Cell-found p s e row is_row) did
 
 -- the end of a GetS or a GetM
-respond_get : (p : Protocol) (n : ℕ) (flat : ℕ) (before after : Picture) (made : Option Done) (g : Good p n flat before) (r : Responds p n before after made) → is_put_m r.opened.request ≡ false → (row : CacheCell) → row_of p (held_by before r.opened.core).state (arrival r.opened.payload) ≡ Some row → Fills row.action row.next r.opened.value (held_by before r.opened.core) (held_by after r.opened.core) made → ((d : ℕ) → d < n → d ≢ r.opened.core → held_by after d ≡ held_by before d) → Good p n (flat_after flat made) after × IsLawful flat made
+respond_get : (p : Protocol) (n : ℕ) (flat : List ℕ) (before after : Picture) (made : Option Done) (g : BlockInvariant p n flat before) (r : Responds p n before after made) → is_put_m r.opened.request ≡ false → (row : CacheCell) → row_of p (held_by before r.opened.core).state (arrival r.opened.payload) ≡ Some row → Fills row.action row.next r.opened.value (held_by before r.opened.core) (held_by after r.opened.core) made → ((d : ℕ) → d < n → d ≢ r.opened.core → held_by after d ≡ held_by before d) → BlockInvariant p n (flat_after flat made) after × IsLawful flat made
 respond_get p n flat before after made g r no_put row is_row fills others =
     let f = find p n flat before after made g r in
     let o = r.opened in
@@ -286,7 +288,7 @@ respond_get p n flat before after made g r no_put row is_row fills others =
     let alone = after_rule RespondTests.gain_alone RespondTests.gain_alone_holds p before.memory.state o.request o.payload g.claims after.memory.state f.next f.is_claims f.is_memory f.is_next in
     -- the flat value is as before, or no other core may read and memory isn't fresh
     let same_flat : is_get_m o.request ≡ false → flat_after flat made ≡ flat = λ h. l.load_keeps (a.fills ∙ h) in
-    let good : Good p n (flat_after flat made) after = record {
+    let good : BlockInvariant p n (flat_after flat made) after = record {
       claims = f.next;
       is_claims = ap (λ (t : Option Open). claims_of p after.memory.state (talk_of t)) r.closes ∙ f.is_next;
       owner = answered_owner gained c g.owner;
@@ -300,7 +302,7 @@ respond_get p n flat before after made g r no_put row is_row fills others =
         | inl e ↦ ap (λ (x : ℕ). (held_by after x).kept) e.1 ∙ l.kept
         | inr e ↦ elim (or_not (is_get_m o.request)) as (λ _. (held_by after d).kept ≡ Some (flat_after flat made)) [
           | inl m ↦ absurd (clash (keeps (held_by before d).state) (ap (λ (x : Line). keeps x.state) (sym (others d d_in e.1)) ∙ h) (stays_blind p n flat before after o g f m d d_in (fit d d_in e.1)))
-          | inr m ↦ carried_kept (held_by before d) (held_by after d) flat (carried_same (held_by before d) (held_by after d) (others d d_in e.1)) (g.kept d d_in) h ∙ ap (λ (x : ℕ). Some x) (sym (same_flat m))
+          | inr m ↦ carried_kept (held_by before d) (held_by after d) flat (carried_same (held_by before d) (held_by after d) (others d d_in e.1)) (g.kept d d_in) h ∙ ap (λ (x : List ℕ). Some x) (sym (same_flat m))
         ]
       ];
       clean = λ d d_in h. elim (eqb_tells d c) as (λ _. after.memory.value ≡ flat_after flat made) [
@@ -324,10 +326,10 @@ respond_get p n flat before after made g r no_put row is_row fills others =
     } in
     (good, l.lawful)
 
--- a Respond of a good picture leads to a good one, and a load that it performs gives the flat value
-pub respond_keeps : (p : Protocol) (n : ℕ) (flat : ℕ) (before after : Picture) (made : Option Done) → Good p n flat before → Responds p n before after made → Good p n (flat_after flat made) after × IsLawful flat made
+-- a Respond keeps the invariant of a picture, and a load that it performs gives the flat value
+pub respond_keeps : (p : Protocol) (n : ℕ) (flat : List ℕ) (before after : Picture) (made : Option Done) → BlockInvariant p n flat before → Responds p n before after made → BlockInvariant p n (flat_after flat made) after × IsLawful flat made
 respond_keeps p n flat before after made g r =
-    let step : (b : Bool) → is_put_m r.opened.request ≡ b → RequestorTakes b p n before r.opened after made → Good p n (flat_after flat made) after × IsLawful flat made = λ b. elim b as (λ x. is_put_m r.opened.request ≡ x → RequestorTakes x p n before r.opened after made → Good p n (flat_after flat made) after × IsLawful flat made) [
+    let step : (b : Bool) → is_put_m r.opened.request ≡ b → RequestorTakes b p n before r.opened after made → BlockInvariant p n (flat_after flat made) after × IsLawful flat made = λ b. elim b as (λ x. is_put_m r.opened.request ≡ x → RequestorTakes x p n before r.opened after made → BlockInvariant p n (flat_after flat made) after × IsLawful flat made) [
       | true ↦ λ e t. respond_put p n flat before after made g r e t.0 t.1
       | false ↦ λ e t. respond_get p n flat before after made g r e t.0 t.1 t.2 t.3
     ] in

@@ -1,9 +1,10 @@
 -- The steps of one block, by whole rows of the tables: the form in which the invariant is shown to be kept.
-use Rattle.std.proofs.Common.{◌≡◌, ◌≢◌, ◌<◌, ℕ, Bool, true, false, Option, Some, None}
-use Rattle.std.specs.Prelude.{⊤}
+use Rattle.std.proofs.Common.{◌≡◌, ◌≢◌, ◌<◌, ℕ, List, Bool, true, false, Option, Some, None}
+use Rattle.std.specs.Prelude.{⊤, slice_set}
+use Rattle.snoop_trace.specs.Words.{word_at}
 use Rattle.snoop_trace.specs.declared.step.Op.{Op}
 use Rattle.snoop_trace.specs.declared.step.Op.TheVariants as op
-use Rattle.snoop_rules.specs.declared.names.Protocol.{Protocol}
+use Rattle.snoop_trace.specs.declared.protocol.Protocol.{Protocol}
 use Rattle.snoop_rules.specs.declared.names.CacheState.{CacheState}
 use Rattle.snoop_rules.specs.declared.names.CacheState.TheVariants as state
 use Rattle.snoop_rules.specs.declared.names.CacheEvent.{CacheEvent}
@@ -22,16 +23,16 @@ use Rattle.snoop_rules.specs.declared.names.MemCell.{MemCell}
 use Rattle.snoop_rules.specs.Cell.{cell_of}
 use Rattle.snoop_rules.specs.MemoryCell.{memory_cell_of}
 use Rattle.snoop_history.specs.Totals.{is_put_m}
-use Rattle.snoop_bus.specs.declared.transactions.Open.{Open}
-use Rattle.snoop_model.specs.declared.line.Line.{Line}
+use Rattle.snoop_bus.specs.Traffic.{Open}
+use Rattle.snoop_model.specs.Pictures.Lines.{Line}
 use Rattle.snoop_model.specs.Pictures.Picture.{Picture, held_by, kept_on}
 use Rattle.snoop_model.specs.Pictures.Sends.{value_sent}
 use Rattle.snoop_model.specs.Moves.Move.{moves_to, written, kept_waiting}
 
--- an operation that a step performs
+-- an operation that a step performs, by its word and value
 pub data Done : Type 0 where
-  Loaded : ℕ → Done
-  Stored : ℕ → Done
+  Loaded : ℕ → ℕ → Done
+  Stored : ℕ → ℕ → Done
 
 abbrev pub sent_by : Option CacheCell → Option Payload
 sent_by None = None
@@ -54,7 +55,7 @@ pub record IsOnlySender (p : Protocol) (n : ℕ) (before : Picture) (c : ℕ) (q
 abbrev pub Takes : Protocol → CacheEvent → Line → Line → Type 0
 Takes p e old new = (r : CacheCell) × (cell_of p old.state e ≡ Some r) × (new ≡ moves_to r.next old)
 
-abbrev pub message : ℕ → ℕ → Request → Payload → ℕ → Option ℕ → Open
+abbrev pub message : ℕ → ℕ → Request → Payload → List ℕ → Option ℕ → Open
 message block c q pl v from = record { core = c; request = q; block = block; payload = pl; value = v; from = from }
 
 pub record Orders (p : Protocol) (n : ℕ) (before : Picture) (c : ℕ) (q : Request) (after : Picture) : Type 0 where
@@ -72,30 +73,30 @@ pub record Orders (p : Protocol) (n : ℕ) (before : Picture) (c : ℕ) (q : Req
   pub block : ℕ
   pub opens : after.transaction ≡ Some (message block c q payload (value_sent before from payload) from)
 
-abbrev pub flat_after : ℕ → Option Done → ℕ
+abbrev pub flat_after : List ℕ → Option Done → List ℕ
 flat_after flat None = flat
-flat_after flat (Some (Loaded v)) = flat
-flat_after flat (Some (Stored v)) = v
+flat_after flat (Some (Loaded w v)) = flat
+flat_after flat (Some (Stored w v)) = slice_set flat w v
 
 -- a load gives flat memory's value
-abbrev pub IsLawful : ℕ → Option Done → Type 0
+abbrev pub IsLawful : List ℕ → Option Done → Type 0
 IsLawful flat None = ⊤
-IsLawful flat (Some (Loaded v)) = v ≡ flat
-IsLawful flat (Some (Stored v)) = ⊤
+IsLawful flat (Some (Loaded w v)) = v ≡ word_at flat w
+IsLawful flat (Some (Stored w v)) = ⊤
 
 -- an Ask by the row's action. No row here is a stall.
-abbrev pub Performs : CacheAction → Op → CacheState → Line → Line → Option Done → Type 0
-Performs action.Hit op.Load next old new made = (v : ℕ) × (old.kept ≡ Some v) × (new ≡ record { state = next; kept = Some v; waiting = old.waiting }) × (made ≡ Some (Loaded v))
-Performs action.Hit (op.Store v) next old new made = (new ≡ record { state = next; kept = Some v; waiting = old.waiting }) × (made ≡ Some (Stored v))
-Performs (action.Issue r) asking next old new made = (new ≡ record { state = next; kept = kept_on next old.kept; waiting = kept_waiting asking }) × (made ≡ None)
-Performs action.Drop asking next old new made = (new ≡ moves_to next old) × (made ≡ None)
-Performs _ asking next old new made = ⊥
+abbrev pub Performs : CacheAction → ℕ → Op → CacheState → Line → Line → Option Done → Type 0
+Performs action.Hit word op.Load next old new made = (ws : List ℕ) × (old.kept ≡ Some ws) × (new ≡ record { state = next; kept = Some ws; waiting = old.waiting }) × (made ≡ Some (Loaded word (word_at ws word)))
+Performs action.Hit word (op.Store v) next old new made = (ws : List ℕ) × (old.kept ≡ Some ws) × (new ≡ record { state = next; kept = Some (slice_set ws word v); waiting = old.waiting }) × (made ≡ Some (Stored word v))
+Performs (action.Issue r) word asking next old new made = (new ≡ record { state = next; kept = kept_on next old.kept; waiting = kept_waiting word asking }) × (made ≡ None)
+Performs action.Drop word asking next old new made = (new ≡ moves_to next old) × (made ≡ None)
+Performs _ word asking next old new made = ⊥
 
-pub record Asks (p : Protocol) (n : ℕ) (before : Picture) (c : ℕ) (asking : Op) (after : Picture) (made : Option Done) : Type 0 where
+pub record Asks (p : Protocol) (n : ℕ) (before : Picture) (c word : ℕ) (asking : Op) (after : Picture) (made : Option Done) : Type 0 where
   pub asker_in : c < n
   pub row : CacheCell
   pub is_row : cell_of p (held_by before c).state (asked asking) ≡ Some row
-  pub performs : Performs row.action asking row.next (held_by before c) (held_by after c) made
+  pub performs : Performs row.action word asking row.next (held_by before c) (held_by after c) made
   pub others : (d : ℕ) → d < n → d ≢ c → held_by after d ≡ held_by before d
   pub memory : after.memory.state ≡ before.memory.state
   pub value : after.memory.value ≡ before.memory.value
@@ -115,9 +116,9 @@ MemoryTakes true p before opened after = (r : MemCell) × (mem_row_of p before.m
 MemoryTakes false p before opened after = (after.memory.state ≡ before.memory.state) × (after.memory.value ≡ before.memory.value)
 
 -- the waiting operation is performed with the data
-abbrev pub Fills : CacheAction → CacheState → ℕ → Line → Line → Option Done → Type 0
-Fills action.FillLoad next v old new made = (new ≡ record { state = next; kept = Some v; waiting = None }) × (made ≡ Some (Loaded v))
-Fills action.FillStore next v old new made = (w : ℕ) × (old.waiting ≡ Some (op.Store w)) × (new ≡ record { state = next; kept = Some w; waiting = None }) × (made ≡ Some (Stored w))
+abbrev pub Fills : CacheAction → CacheState → List ℕ → Line → Line → Option Done → Type 0
+Fills action.FillLoad next v old new made = (w : ℕ) × (new ≡ record { state = next; kept = Some v; waiting = None }) × (made ≡ Some (Loaded w (word_at v w)))
+Fills action.FillStore next v old new made = (w : ℕ) × (stored : ℕ) × (old.waiting ≡ Some (record { word = w; op = op.Store stored })) × (new ≡ record { state = next; kept = Some (slice_set v w stored); waiting = None }) × (made ≡ Some (Stored w stored))
 Fills _ next v old new made = ⊥
 
 -- the requestor of a GetS or GetM takes the payload

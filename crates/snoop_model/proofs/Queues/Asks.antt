@@ -14,7 +14,8 @@ use Rattle.snoop_rules.specs.Takers.{asked}
 use Rattle.snoop_rules.specs.Waits.{waiting_request}
 use Rattle.snoop_history.specs.declared.items.Item.{Item}
 use Rattle.snoop_bus.specs.Queues.{queue_of, after_issue}
-use Rattle.snoop_model.specs.declared.line.Line.{Line}
+use Rattle.snoop_model.specs.declared.line.Access.{Access}
+use Rattle.snoop_model.specs.Pictures.Lines.{Line}
 use Rattle.snoop_model.specs.declared.replies.Reply.{Reply}
 use Rattle.snoop_model.specs.Pictures.Picture.{held_by}
 use Rattle.snoop_model.specs.Pictures.Situation.{Situation, picture_of, state_of}
@@ -60,7 +61,7 @@ module _ (s : Situation) (kept : IsWellKept s) (core block : ℕ) (line : Line) 
 
   -- the line waits and awaits as it did
   pub kept_line : waiting_request line.state ≡ waiting_request (state_of s core block) → awaited_request line.state ≡ awaited_request (state_of s core block)
-      → ((asking : Op) → line.waiting ≡ Some asking → has_missed line.state ≡ true)
+      → ((access : Access) → line.waiting ≡ Some access → has_missed line.state ≡ true)
       → IsWellKept (record s { caches = placed s.caches core block line; log = log })
   kept_line waits awaits missed =
       let same : (k b : ℕ) → waiting_request (line_at (placed s.caches core block line) k b).state ≡ waiting_request (line_at s.caches k b).state =
@@ -78,15 +79,15 @@ module _ (s : Situation) (kept : IsWellKept s) (core block : ℕ) (line : Line) 
         queued = λ k b q h. kept.queued k b q (sym (same k b) ∙ h);
         waits = λ k b h. (let w = kept.waits k b h in (w.0, same k b ∙ w.1));
         awaits = λ k b q h. kept.awaits k b q (sym (waited k b) ∙ h);
-        operations = λ k b asking h. elim (placed_cases s.caches core block line in_caches in_row k b) [
-          | inl p ↦ ap (λ (x : Line). has_missed x.state) p.2 ∙ missed asking (ap (λ (x : Line). x.waiting) (sym p.2) ∙ h)
-          | inr e ↦ ap (λ (x : Line). has_missed x.state) e ∙ kept.operations k b asking (ap (λ (x : Line). x.waiting) (sym e) ∙ h)
+        operations = λ k b access h. elim (placed_cases s.caches core block line in_caches in_row k b) [
+          | inl p ↦ ap (λ (x : Line). has_missed x.state) p.2 ∙ missed access (ap (λ (x : Line). x.waiting) (sym p.2) ∙ h)
+          | inr e ↦ ap (λ (x : Line). has_missed x.state) e ∙ kept.operations k b access (ap (λ (x : Line). x.waiting) (sym e) ∙ h)
         ];
       }
 
   -- the line waits with a request that has just been issued
   pub kept_issue : (request : Request) → waiting_request (state_of s core block) ≡ None → waiting_request line.state ≡ Some request → awaited_request line.state ≡ awaited_request (state_of s core block)
-      → ((asking : Op) → line.waiting ≡ Some asking → has_missed line.state ≡ true)
+      → ((access : Access) → line.waiting ≡ Some access → has_missed line.state ≡ true)
       → IsWellKept (record s { caches = placed s.caches core block line; queues = after_issue s.queues core block; log = log })
   kept_issue request idle waits awaits missed =
       let waited : (k b : ℕ) → awaited_request (line_at (placed s.caches core block line) k b).state ≡ awaited_request (line_at s.caches k b).state =
@@ -133,17 +134,17 @@ module _ (s : Situation) (kept : IsWellKept s) (core block : ℕ) (line : Line) 
           | inr ne ↦ (let Q : List ℕ → Type 0 = λ l. Contains l b in still k b (kept.waits k b (subst Q (others k ne) h)))
         ];
         awaits = λ k b q h. kept.awaits k b q (sym (waited k b) ∙ h);
-        operations = λ k b asking h. elim (placed_cases s.caches core block line in_caches in_row k b) [
-          | inl p ↦ ap (λ (x : Line). has_missed x.state) p.2 ∙ missed asking (ap (λ (x : Line). x.waiting) (sym p.2) ∙ h)
-          | inr e ↦ ap (λ (x : Line). has_missed x.state) e ∙ kept.operations k b asking (ap (λ (x : Line). x.waiting) (sym e) ∙ h)
+        operations = λ k b access h. elim (placed_cases s.caches core block line in_caches in_row k b) [
+          | inl p ↦ ap (λ (x : Line). has_missed x.state) p.2 ∙ missed access (ap (λ (x : Line). x.waiting) (sym p.2) ∙ h)
+          | inr e ↦ ap (λ (x : Line). has_missed x.state) e ∙ kept.operations k b access (ap (λ (x : Line). x.waiting) (sym e) ∙ h)
         ];
       }
 
 -- the line that an Ask leaves, by its row
-module _ (s : Situation) (kept : IsWellKept s) (core block : ℕ) (asking : Op) (has_core : core < s.shape.cores) (has_block : block < s.shape.blocks)
+module _ (s : Situation) (kept : IsWellKept s) (core block word : ℕ) (asking : Op) (has_core : core < s.shape.cores) (has_block : block < s.shape.blocks)
     (held : Line) (next : CacheState) (answer : Reply) (entry : Option Item) (log : List Item) where
   pub kept_taken : (act : CacheAction) → Cell s.protocol (state_of s core block) (asked asking) act next
-      → Takes act next s.log core block asking (held_by (picture_of s block) core) held answer entry
+      → Takes act next s.log core block word asking (held_by (picture_of s block) core) held answer entry
       → IsWellKept (record s { caches = placed s.caches core block held; queues = queues_after act s.queues core block; log = log })
   kept_taken action.Hit row taken =
       let state : held.state ≡ next = ap (λ (x : Line). x.state) taken.1.0.held in
@@ -158,7 +159,7 @@ module _ (s : Situation) (kept : IsWellKept s) (core block : ℕ) (asking : Op) 
       kept_issue s kept core block held log has_core has_block request waits.0
       (ap waiting_request state ∙ waits.1)
       (ap awaited_request state ∙ awaited-asked s.protocol (state_of s core block) asking (action.Issue request) next row)
-      (λ o h. ap has_missed state ∙ missed-issued s.protocol (state_of s core block) asking o request next row (sym (ap (λ (x : Line). x.waiting) taken.0) ∙ h))
+      (λ o h. ap has_missed state ∙ missed-issued s.protocol (state_of s core block) word asking o request next row (sym (ap (λ (x : Line). x.waiting) taken.0) ∙ h))
   kept_taken action.Drop row taken =
       let state : held.state ≡ next = ap (λ (x : Line). x.state) taken.0 in
       kept_line s kept core block held log has_core has_block
@@ -172,7 +173,7 @@ module _ (s : Situation) (kept : IsWellKept s) (core block : ℕ) (asking : Op) 
   kept_taken action.FillStore row taken = absurd taken
   kept_taken (action.Send payload target) row taken = absurd taken
 
-pub kept_asks : (s t : Situation) (core block : ℕ) (asking : Op) (answer : Reply) (entry : Option Item) → IsWellKept s → IsWithin s core block → Asks s core block asking answer t entry → IsWellKept t
-kept_asks s t core block asking answer entry kept within asks =
+pub kept_asks : (s t : Situation) (core block word : ℕ) (asking : Op) (answer : Reply) (entry : Option Item) → IsWellKept s → IsWithin s core block → Asks s core block word asking answer t entry → IsWellKept t
+kept_asks s t core block word asking answer entry kept within asks =
     let P : Situation → Type 0 = λ x. IsWellKept x in
-    subst P (sym asks.after) (kept_taken s kept core block asking within.0 within.1 asks.held asks.next answer entry _ asks.act asks.row asks.taken)
+    subst P (sym asks.after) (kept_taken s kept core block word asking within.0 within.1 asks.held asks.next answer entry _ asks.act asks.row asks.taken)

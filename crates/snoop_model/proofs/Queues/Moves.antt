@@ -4,14 +4,15 @@ use Rattle.std.specs.Prelude.{All, Contains}
 use Rattle.std.proofs.lemmas.Bool.{cases_lt}
 use Rattle.std.proofs.lemmas.List.{length-replicate, get_or-replicate, get_or_past}
 use Rattle.snoop_trace.specs.Extent.{Extent}
-use Rattle.snoop_trace.specs.declared.step.Op.{Op}
+use Rattle.snoop_trace.specs.Words.{zero_words}
 use Rattle.snoop_trace.specs.declared.step.Step.TheVariants.{Ask, Order, Respond}
-use Rattle.snoop_rules.specs.declared.names.Protocol.{Protocol}
+use Rattle.snoop_trace.specs.declared.protocol.Protocol.{Protocol}
 use Rattle.snoop_rules.specs.declared.names.Request.{Request}
 use Rattle.snoop_rules.specs.Waits.{waiting_request}
-use Rattle.snoop_bus.specs.declared.transactions.Open.{Open}
+use Rattle.snoop_bus.specs.Traffic.{Open}
 use Rattle.snoop_bus.specs.Queues.{queue_of}
-use Rattle.snoop_model.specs.declared.line.Line.{Line}
+use Rattle.snoop_model.specs.declared.line.Access.{Access}
+use Rattle.snoop_model.specs.Pictures.Lines.{Line}
 use Rattle.snoop_model.specs.Pictures.Picture.{first_memory, held_at, held_by, nothing_held}
 use Rattle.snoop_model.specs.Pictures.Situation.{Situation, picture_of, reset}
 use Rattle.snoop_model.specs.Turns.Serving.{IsServing}
@@ -23,9 +24,9 @@ use Rattle.snoop_model.proofs.Queues.Orders.{kept_orders}
 use Rattle.snoop_model.proofs.Queues.Responds.{kept_responds}
 
 pub keeps_well : KeepsWell
-keeps_well s t (Ask core on asking) answer entry kept move = elim move.1.1.2 [
+keeps_well s t (Ask core on word asking) answer entry kept move = elim move.1.1.2 [
   | inl absent ↦ (let P : Situation → Type 0 = λ x. IsWellKept x in subst P (sym absent.3) kept)
-  | inr asks ↦ kept_asks s t core move.0 asking answer entry kept move.1.1.1 asks
+  | inr asks ↦ kept_asks s t core move.0 word asking answer entry kept move.1.1.1 asks
 ]
 keeps_well s t (Order core) answer entry kept move =
     kept_orders s t kept core move.0 move.1.1.0 move.1.1.1.0.0 move.1.1.1.0.1 move.1.1.1.3
@@ -52,14 +53,14 @@ module _ (protocol : Protocol) (shape : Extent) where
     shaped = record {
       rows = length-replicate shape.blocks (replicate shape.cores nothing_held);
       row = λ b h. ap length (get_or-replicate shape.blocks b (replicate shape.cores nothing_held) [] h) ∙ length-replicate shape.cores nothing_held;
-      memory = length-replicate shape.blocks (record { state = first_memory protocol; value = 0 });
+      memory = length-replicate shape.blocks (record { state = first_memory protocol; value = zero_words });
       queues = length-replicate shape.cores [];
       transactions = length-replicate shape.blocks None;
     };
     queued = λ k b q h. (let clash : ◌≡◌ {A = Option Request} None (Some q) = sym (ap (λ (x : Line). waiting_request x.state) (line_is k b)) ∙ h in cc);
     waits = λ k b h. (let P : List ℕ → Type 0 = λ l. Contains l b in let there : Contains [] b = subst P (queue_is k) h in let lt = there.1 in absurd (omega arith));
     awaits = λ k b q h. (let clash : ◌≡◌ {A = Option Request} None (Some q) = sym (ap (λ (x : Line). awaited_request x.state) (line_is k b)) ∙ h in cc);
-    operations = λ k b asking h. (let clash : ◌≡◌ {A = Option Op} None (Some asking) = sym (ap (λ (x : Line). x.waiting) (line_is k b)) ∙ h in cc);
+    operations = λ k b access h. (let clash : ◌≡◌ {A = Option Access} None (Some access) = sym (ap (λ (x : Line). x.waiting) (line_is k b)) ∙ h in cc);
   }
 
   serving_reset : (under_way : ℕ → Option ℕ) → IsServing under_way (reset protocol shape)

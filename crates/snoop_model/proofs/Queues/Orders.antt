@@ -4,12 +4,12 @@ use Rattle.std.specs.Prelude.{slice_index_or, Contains, ◌==◌}
 use Rattle.std.proofs.lemmas.Bool.{false≢true, cases_eq, cases_lt, eq-eqb, ne_eqb}
 use Rattle.std.proofs.lemmas.List.{length-set, get_or-set_same, get_or-set_other, get_or_past}
 use Rattle.std.proofs.lemmas.List.Elements.{All-contains, All-contains_itself, All-filter, filter_passes}
-use Rattle.snoop_trace.specs.declared.step.Op.{Op}
 use Rattle.snoop_rules.specs.declared.names.Request.{Request}
 use Rattle.snoop_rules.specs.Takers.{seen_by}
 use Rattle.snoop_rules.specs.Waits.{waiting_request}
 use Rattle.snoop_bus.specs.Queues.{queue_of}
-use Rattle.snoop_model.specs.declared.line.Line.{Line}
+use Rattle.snoop_model.specs.declared.line.Access.{Access}
+use Rattle.snoop_model.specs.Pictures.Lines.{Line}
 use Rattle.snoop_model.specs.Pictures.Picture.{held_at, held_by, nothing_held}
 use Rattle.snoop_model.specs.Pictures.Situation.{Situation, picture_of, state_of}
 use Rattle.snoop_model.specs.Moves.Move.{Orders, TakesRow}
@@ -146,14 +146,14 @@ module _ (s t : Situation) (kept : IsWellKept s) (core block : ℕ) (request : R
         cc)
   ]
 
-  missed_here : (k : ℕ) (asking : Op) → (held_by (picture_of t block) k).waiting ≡ Some asking → has_missed (state_of t k block) ≡ true
-  missed_here k asking h = elim (row_or_past k) [
+  missed_here : (k : ℕ) (access : Access) → (held_by (picture_of t block) k).waiting ≡ Some access → has_missed (state_of t k block) ≡ true
+  missed_here k access h = elim (row_or_past k) [
     | inl lt ↦
         (let row = orders.rows k lt in
         let is = line_here k ∙ row.1.1.1 in
         ap (λ (x : Line). has_missed x.state) is
-        ∙ missed-ordered s.protocol (state_of s k block) k core request row.0 row.1.0 row.1.1.0 (kept.operations k block asking (sym (ap (λ (x : Line). x.waiting) is) ∙ h)))
-    | inr past ↦ (let clash : ◌≡◌ {A = Option Op} None (Some asking) = sym (ap (λ (x : Line). x.waiting) past.0) ∙ h in cc)
+        ∙ missed-ordered s.protocol (state_of s k block) k core request row.0 row.1.0 row.1.1.0 (kept.operations k block access (sym (ap (λ (x : Line). x.waiting) is) ∙ h)))
+    | inr past ↦ (let clash : ◌≡◌ {A = Option Access} None (Some access) = sym (ap (λ (x : Line). x.waiting) past.0) ∙ h in cc)
   ]
 
   pub kept_orders : IsWellKept t
@@ -188,13 +188,13 @@ module _ (s t : Situation) (kept : IsWellKept s) (core block : ℕ) (request : R
           (let had = kept.awaits k b q (ap (λ (x : Line). awaited_request x.state) (sym (line_elsewhere k b nf)) ∙ h) in
           (had.0, (open_elsewhere b nf ∙ had.1.0, had.1.1, had.1.2)))
     ];
-    operations = λ k b asking h. elim (cases_eq b block) [
+    operations = λ k b access h. elim (cases_eq b block) [
       | inl f ↦
           (let P : ℕ → Type 0 = λ x. has_missed (state_of t k x) ≡ true in
-          let Q : ℕ → Type 0 = λ x. (held_by (picture_of t x) k).waiting ≡ Some asking in
-          subst P (sym f) (missed_here k asking (subst Q f h)))
+          let Q : ℕ → Type 0 = λ x. (held_by (picture_of t x) k).waiting ≡ Some access in
+          subst P (sym f) (missed_here k access (subst Q f h)))
       | inr nf ↦
           (let same = line_elsewhere k b nf in
-          ap (λ (x : Line). has_missed x.state) same ∙ kept.operations k b asking (ap (λ (x : Line). x.waiting) (sym same) ∙ h))
+          ap (λ (x : Line). has_missed x.state) same ∙ kept.operations k b access (ap (λ (x : Line). x.waiting) (sym same) ∙ h))
     ];
   }

@@ -4,15 +4,15 @@ use Rattle.std.specs.Prelude.{slice_index_or}
 use Rattle.std.proofs.lemmas.Bool.{cases_eq, cases_lt}
 use Rattle.std.proofs.lemmas.Option.{same_Some}
 use Rattle.std.proofs.lemmas.List.{length-set, get_or-set_same, get_or-set_other, get_or_past}
-use Rattle.snoop_trace.specs.declared.step.Op.{Op}
-use Rattle.snoop_rules.specs.declared.names.Protocol.{Protocol}
+use Rattle.snoop_trace.specs.declared.protocol.Protocol.{Protocol}
 use Rattle.snoop_rules.specs.declared.names.Request.{Request}
 use Rattle.snoop_rules.specs.declared.names.Request.TheVariants.{GetS, GetM, PutM}
 use Rattle.snoop_rules.specs.Waits.{waiting_request}
 use Rattle.snoop_history.specs.declared.items.Did.{Did}
 use Rattle.snoop_history.specs.declared.items.Item.{Item}
-use Rattle.snoop_bus.specs.declared.transactions.Open.{Open}
-use Rattle.snoop_model.specs.declared.line.Line.{Line}
+use Rattle.snoop_bus.specs.Traffic.{Open}
+use Rattle.snoop_model.specs.declared.line.Access.{Access}
+use Rattle.snoop_model.specs.Pictures.Lines.{Line}
 use Rattle.snoop_model.specs.Pictures.Picture.{held_at, held_by, nothing_held}
 use Rattle.snoop_model.specs.Pictures.Situation.{Situation, picture_of, state_of}
 use Rattle.snoop_model.specs.Moves.Move.{Responds, FillsRequestor, ArrivesFor}
@@ -39,7 +39,7 @@ module _ (closing : Open) (p : Protocol) (log : List Item) (old new : List Line)
   fills_waits k = elim (filled_or_same k) [
     | inl e ↦
         ap (λ (x : Line). waiting_request x.state) (e.1 ∙ fills.fills.held)
-        ∙ (fill-waits p (held_at old closing.core).state fills.fills.event fills.fills.act fills.fills.next fills.asking fills.fills.fill fills.fills.row ∙ ap (λ j. waiting_request (held_at old j).state) (sym e.0))
+        ∙ (fill-waits p (held_at old closing.core).state fills.fills.event fills.fills.act fills.fills.next fills.asking.op fills.fills.fill fills.fills.row ∙ ap (λ j. waiting_request (held_at old j).state) (sym e.0))
     | inr e ↦ ap (λ (x : Line). waiting_request x.state) e
   ]
 
@@ -59,9 +59,9 @@ module _ (closing : Open) (p : Protocol) (log : List Item) (old new : List Line)
   fills_other : (k : ℕ) → (k ≡ closing.core → ⊥) → held_at new k ≡ held_at old k
   fills_other k ne = ap (λ l. held_at l k) fills.held ∙ get_or-set_other old closing.core k fills.line nothing_held ne
 
-  fills_waiting : (k : ℕ) (asking : Op) → (held_at new k).waiting ≡ Some asking → held_at new k ≡ held_at old k
-  fills_waiting k asking h = elim (filled_or_same k) [
-    | inl e ↦ (let clash : ◌≡◌ {A = Option Op} None (Some asking) = sym (ap (λ (x : Line). x.waiting) (e.1 ∙ fills.fills.held)) ∙ h in cc)
+  fills_waiting : (k : ℕ) (access : Access) → (held_at new k).waiting ≡ Some access → held_at new k ≡ held_at old k
+  fills_waiting k access h = elim (filled_or_same k) [
+    | inl e ↦ (let clash : ◌≡◌ {A = Option Access} None (Some access) = sym (ap (λ (x : Line). x.waiting) (e.1 ∙ fills.fills.held)) ∙ h in cc)
     | inr e ↦ e
   ]
 
@@ -136,14 +136,14 @@ module _ (s t : Situation) (kept : IsWellKept s) (block : ℕ) (closing : Open) 
         ]
       ]
 
-  missed_here : (k : ℕ) (asking : Op) → (held_by (picture_of t block) k).waiting ≡ Some asking → has_missed (state_of t k block) ≡ true
-  missed_here k asking h =
-      let at : (held_at responds.next.caches k).waiting ≡ Some asking = ap (λ (x : Line). x.waiting) (sym (line_here k)) ∙ h in
+  missed_here : (k : ℕ) (access : Access) → (held_by (picture_of t block) k).waiting ≡ Some access → has_missed (state_of t k block) ≡ true
+  missed_here k access h =
+      let at : (held_at responds.next.caches k).waiting ≡ Some access = ap (λ (x : Line). x.waiting) (sym (line_here k)) ∙ h in
       let same : held_at responds.next.caches k ≡ held_by (picture_of s block) k = elim arrived [
         | inl put ↦ ap (λ l. held_at l k) put.1
-        | inr fills ↦ fills_waiting closing s.protocol s.log (picture_of s block).caches responds.next.caches did fills k asking at
+        | inr fills ↦ fills_waiting closing s.protocol s.log (picture_of s block).caches responds.next.caches did fills k access at
       ] in
-      ap (λ (x : Line). has_missed x.state) (line_here k ∙ same) ∙ kept.operations k block asking (ap (λ (x : Line). x.waiting) (sym same) ∙ at)
+      ap (λ (x : Line). has_missed x.state) (line_here k ∙ same) ∙ kept.operations k block access (ap (λ (x : Line). x.waiting) (sym same) ∙ at)
 
   pub kept_responds : IsWellKept t
   kept_responds = record {
@@ -170,13 +170,13 @@ module _ (s t : Situation) (kept : IsWellKept s) (block : ℕ) (closing : Open) 
           (let had = kept.awaits k b q (ap (λ (x : Line). awaited_request x.state) (sym (line_elsewhere k b nf)) ∙ h) in
           (had.0, (open_elsewhere b nf ∙ had.1.0, had.1.1, had.1.2)))
     ];
-    operations = λ k b asking h. elim (cases_eq b block) [
+    operations = λ k b access h. elim (cases_eq b block) [
       | inl f ↦
           (let P : ℕ → Type 0 = λ x. has_missed (state_of t k x) ≡ true in
-          let Q : ℕ → Type 0 = λ x. (held_by (picture_of t x) k).waiting ≡ Some asking in
-          subst P (sym f) (missed_here k asking (subst Q f h)))
+          let Q : ℕ → Type 0 = λ x. (held_by (picture_of t x) k).waiting ≡ Some access in
+          subst P (sym f) (missed_here k access (subst Q f h)))
       | inr nf ↦
           (let same = line_elsewhere k b nf in
-          ap (λ (x : Line). has_missed x.state) same ∙ kept.operations k b asking (ap (λ (x : Line). x.waiting) (sym same) ∙ h))
+          ap (λ (x : Line). has_missed x.state) same ∙ kept.operations k b access (ap (λ (x : Line). x.waiting) (sym same) ∙ h))
     ];
   }

@@ -8,7 +8,7 @@ use Rattle.snoop_trace.specs.Extent.{Extent}
 use Rattle.snoop_trace.specs.declared.step.Op.{Op}
 use Rattle.snoop_trace.specs.declared.step.Step.{Step}
 use Rattle.snoop_trace.specs.declared.step.Step.TheVariants.{Ask, Order, Respond}
-use Rattle.snoop_rules.specs.declared.names.Protocol.{Protocol}
+use Rattle.snoop_trace.specs.declared.protocol.Protocol.{Protocol}
 use Rattle.snoop_rules.specs.declared.names.CacheState.{CacheState}
 use Rattle.snoop_rules.specs.declared.names.CacheAction.{CacheAction}
 use Rattle.snoop_rules.specs.declared.names.CacheAction.TheVariants as action
@@ -20,8 +20,8 @@ use Rattle.snoop_rules.specs.Waits.{waiting_request}
 use Rattle.snoop_history.specs.declared.items.Did.{Did}
 use Rattle.snoop_history.specs.declared.items.Item.{Item}
 use Rattle.snoop_bus.specs.Queues.{queue_of, after_issue, after_order}
-use Rattle.snoop_bus.specs.declared.transactions.Open.{Open}
-use Rattle.snoop_model.specs.declared.line.Line.{Line}
+use Rattle.snoop_bus.specs.Traffic.{Open}
+use Rattle.snoop_model.specs.Pictures.Lines.{Line}
 use Rattle.snoop_model.specs.declared.replies.Reply.{Reply}
 use Rattle.snoop_model.specs.declared.replies.Refused.{Refused}
 use Rattle.snoop_model.specs.Pictures.Picture.{Picture, held_at, held_by, nothing_held}
@@ -30,7 +30,7 @@ use Rattle.snoop_model.specs.Moves.Move.{Takes, FillsRequestor, ArrivesFor, Asks
 use Rattle.snoop_model.specs.Runs.Run.{Goes, RunFrom}
 use Rattle.snoop_model.specs.Runs.Once.{one_if}
 use Rattle.snoop_model.specs.Pictures.InQueue.{IsInQueue}
-use Rattle.snoop_model.specs.Invariant.Coherent.{IsCoherent}
+use Rattle.snoop_model.specs.Invariant.Invariant.{Invariant}
 use Rattle.snoop_model.proofs.Tables.Rows.{issue-waits, hit-waits, drop-waits, own-waits, other-waits, fill-waits}
 use Rattle.snoop_model.proofs.OneBlock.AfterMoves.{ask_line, ask_other_core, ask_other_block, order_here, order_other_block, respond_here, respond_other_block}
 use Rattle.snoop_model.proofs.Lists.Facts.{either_way}
@@ -44,20 +44,20 @@ same_waits : (s t : CacheState) → waiting_request s ≡ waiting_request t → 
 same_waits s t e = ap (λ (x : Option Request). one_if (is_some x)) e
 
 -- an Ask issues a request for a block on which the core did not wait, or leaves queue and wait
-ask_waits : (p : Protocol) (a : CacheAction) (next : CacheState) (log : List Item) (c b : ℕ) (asking : Op) (old new : Line) (answer : Reply) (entry : Option Item) (queues : List (List ℕ)) → Cell p old.state (asked asking) a next → Takes a next log c b asking old new answer entry
+ask_waits : (p : Protocol) (a : CacheAction) (next : CacheState) (log : List Item) (c b word : ℕ) (asking : Op) (old new : Line) (answer : Reply) (entry : Option Item) (queues : List (List ℕ)) → Cell p old.state (asked asking) a next → Takes a next log c b word asking old new answer entry
     → ((queues_after a queues c b ≡ after_issue queues c b) × ((waits old.state ≡ 0) × (waits new.state ≡ 1))) ⊎ ((queues_after a queues c b ≡ queues) × (waits new.state ≡ waits old.state))
-ask_waits p action.Hit next log c b asking old new answer entry queues row t =
+ask_waits p action.Hit next log c b word asking old new answer entry queues row t =
     inr (refl, ap (λ (x : Line). waits x.state) t.1.0.held ∙ same_waits next old.state (hit-waits p old.state (asked asking) next row))
-ask_waits p (action.Issue q) next log c b asking old new answer entry queues row t =
+ask_waits p (action.Issue q) next log c b word asking old new answer entry queues row t =
     let w = issue-waits p old.state (asked asking) q next row in
     inl (refl, (ap (λ (x : Option Request). one_if (is_some x)) w.0, ap (λ (x : Line). waits x.state) t.0 ∙ ap (λ (x : Option Request). one_if (is_some x)) w.1))
-ask_waits p action.Drop next log c b asking old new answer entry queues row t =
+ask_waits p action.Drop next log c b word asking old new answer entry queues row t =
     inr (refl, ap (λ (x : Line). waits x.state) t.0 ∙ same_waits next old.state (drop-waits p old.state (asked asking) next row))
-ask_waits p action.None next log c b asking old new answer entry queues row t = absurd t
-ask_waits p action.Stall next log c b asking old new answer entry queues row t = absurd t
-ask_waits p action.FillLoad next log c b asking old new answer entry queues row t = absurd t
-ask_waits p action.FillStore next log c b asking old new answer entry queues row t = absurd t
-ask_waits p (action.Send sent target) next log c b asking old new answer entry queues row t = absurd t
+ask_waits p action.None next log c b word asking old new answer entry queues row t = absurd t
+ask_waits p action.Stall next log c b word asking old new answer entry queues row t = absurd t
+ask_waits p action.FillLoad next log c b word asking old new answer entry queues row t = absurd t
+ask_waits p action.FillStore next log c b word asking old new answer entry queues row t = absurd t
+ask_waits p (action.Send sent target) next log c b word asking old new answer entry queues row t = absurd t
 
 -- the pictures of the other cores and blocks are as they were
 others_waits : (old new : Situation) (c b core block : ℕ) → ((k : ℕ) → k ≢ c → held_by (picture_of new b) k ≡ held_by (picture_of old b) k) → ((k : ℕ) → k ≢ b → picture_of new k ≡ picture_of old k)
@@ -112,14 +112,14 @@ issued old new c b q within queues was is others core block =
           ]
     ]
 
-ask_queued : (old : Situation) (c b : ℕ) (asking : Op) (answer : Reply) (new : Situation) (entry : Option Item) → IsCoherent old → AreQueued old → IsWithin old c b → Asks old c b asking answer new entry → AreQueued new
-ask_queued old c b asking answer new entry g q within a =
+ask_queued : (old : Situation) (c b word : ℕ) (asking : Op) (answer : Reply) (new : Situation) (entry : Option Item) → Invariant old → AreQueued old → IsWithin old c b → Asks old c b word asking answer new entry → AreQueued new
+ask_queued old c b word asking answer new entry g q within a =
     let queues : new.queues ≡ queues_after a.act old.queues c b = ap (λ (s : Situation). s.queues) a.after in
     let in_queues : c < length old.queues = subst (λ (n : ℕ). c < n) (sym g.shaped.queues) within.0 in
-    let line = ask_line old c b asking answer new entry g within a in
-    let others = λ (core block : ℕ). others_waits old new c b core block (ask_other_core old c b asking answer new entry g within a) (ask_other_block old c b asking answer new entry g within a) in
+    let line = ask_line old c b word asking answer new entry g within a in
+    let others = λ (core block : ℕ). others_waits old new c b core block (ask_other_core old c b word asking answer new entry g within a) (ask_other_block old c b word asking answer new entry g within a) in
     let here : (x : ℕ) → waits a.held.state ≡ x → waits (state_of new c b) ≡ x = λ x e. ap (λ (y : Line). waits y.state) line ∙ e in
-    elim (ask_waits old.protocol a.act a.next old.log c b asking (held_by (picture_of old b) c) a.held answer entry old.queues a.row a.taken) [
+    elim (ask_waits old.protocol a.act a.next old.log c b word asking (held_by (picture_of old b) c) a.held answer entry old.queues a.row a.taken) [
       | inl i ↦ issued old new c b q in_queues (queues ∙ i.0) i.1.0 (here 1 i.1.1) others
       | inr i ↦ left_alone old new q (queues ∙ i.0) (λ core block. elim (others core block) [
         | inr e ↦ e
@@ -149,7 +149,7 @@ order_waits old c b q new o k = elim (cases_lt k (length o.next.caches)) [
       e ∙ (either_way (eqb k c) 0 ∙ ap (λ (n : ℕ). cond (eqb k c) 0 n) (sym f))
 ]
 
-order_queued : (old : Situation) (c b : ℕ) (q : Request) (new : Situation) → IsCoherent old → AreQueued old → IsWithin old c b → Orders old c b q new → AreQueued new
+order_queued : (old : Situation) (c b : ℕ) (q : Request) (new : Situation) → Invariant old → AreQueued old → IsWithin old c b → Orders old c b q new → AreQueued new
 order_queued old c b q new g k within o core block =
     let queues : new.queues ≡ after_order old.queues c b = ap (λ (s : Situation). s.queues) o.after in
     let left : List ℕ = filter (λ x. not (eqb x b)) (queue_of old.queues c) in
@@ -180,7 +180,7 @@ fills_waits closing p log old new did inside f k =
           let P : ℕ → Type 0 = λ x. waits (held_at (slice_set old closing.core f.line) x).state ≡ waits (held_at old x).state in
           let here : waits (held_at (slice_set old closing.core f.line) closing.core).state ≡ waits (held_at old closing.core).state =
           ap (λ (x : Line). waits x.state) (get_or-set_same old closing.core f.line nothing_held inside ∙ f.fills.held)
-          ∙ same_waits f.fills.next (held_at old closing.core).state (fill-waits p (held_at old closing.core).state f.fills.event f.fills.act f.fills.next f.asking f.fills.fill f.fills.row) in
+          ∙ same_waits f.fills.next (held_at old closing.core).state (fill-waits p (held_at old closing.core).state f.fills.event f.fills.act f.fills.next f.asking.op f.fills.fill f.fills.row) in
           ap (λ (x : Line). waits x.state) now ∙ subst P (sym h.1) here
     ]
 
@@ -189,9 +189,9 @@ arrives_waits request.GetS closing p log old new did inside a k = fills_waits cl
 arrives_waits request.GetM closing p log old new did inside a k = fills_waits closing p log old new did inside a k
 arrives_waits request.PutM closing p log old new did inside a k = ap (λ (l : List Line). waits (held_at l k).state) a.0
 
-respond_queued : (old : Situation) (b : ℕ) (closing : Open) (did : Option Did) (new : Situation) → IsCoherent old → AreQueued old → b < old.shape.blocks → Responds old b closing did new → AreQueued new
+respond_queued : (old : Situation) (b : ℕ) (closing : Open) (did : Option Did) (new : Situation) → Invariant old → AreQueued old → b < old.shape.blocks → Responds old b closing did new → AreQueued new
 respond_queued old b closing did new g q within r =
-    let inside : closing.core < length (picture_of old b).caches = subst (λ (n : ℕ). closing.core < n) (sym (g.shaped.row b within)) ((g.good b within).requestor_in closing r.opened) in
+    let inside : closing.core < length (picture_of old b).caches = subst (λ (n : ℕ). closing.core < n) (sym (g.shaped.row b within)) ((g.blocks b within).requestor_in closing r.opened) in
     left_alone old new q (ap (λ (s : Situation). s.queues) r.after) (λ core block. elim (eqb_tells block b) [
       | inl h ↦
           let P : ℕ → Type 0 = λ y. waits (state_of new core y) ≡ waits (state_of old core y) in
@@ -200,19 +200,19 @@ respond_queued old b closing did new g q within r =
     ])
 
 -- a move keeps the queues
-pub move_queued : (block : ℕ) (old : Situation) (step : Step) (answer : Reply) (new : Situation) (entry : Option Item) → IsCoherent old → AreQueued old → MoveOn block old step answer new entry → AreQueued new
-move_queued block old (Ask core on asking) answer new entry g q m = elim m.2 as (λ _. AreQueued new) [
+pub move_queued : (block : ℕ) (old : Situation) (step : Step) (answer : Reply) (new : Situation) (entry : Option Item) → Invariant old → AreQueued old → MoveOn block old step answer new entry → AreQueued new
+move_queued block old (Ask core on word asking) answer new entry g q m = elim m.2 as (λ _. AreQueued new) [
   | inl idle ↦ subst AreQueued (sym idle.3) q
-  | inr a ↦ ask_queued old core block asking answer new entry g q m.1 a
+  | inr a ↦ ask_queued old core block word asking answer new entry g q m.1 a
 ]
 move_queued block old (Order core) answer new entry g q m = order_queued old core block m.0 new g q m.1.0 m.1.3
 move_queued block old (Respond on) answer new entry g q m = respond_queued old block m.0 m.1.0 new g q m.1.1.1 m.1.1.4
 
-goes_queued : (old : Situation) (step : Step) (outcome : Result Reply Refused) (new : Situation) → IsCoherent old → AreQueued old → Goes old step outcome new → AreQueued new
+goes_queued : (old : Situation) (step : Step) (outcome : Result Reply Refused) (new : Situation) → Invariant old → AreQueued old → Goes old step outcome new → AreQueued new
 goes_queued old step (Ok answer) new g q m = move_queued m.1.0 old step answer new m.0 g q m.1.1
 goes_queued old step (Err cause) new g q r = subst AreQueued (sym (refusal_same old step cause new r)) q
 
-pub run_queued : (steps : List Step) (outcomes : List (Result Reply Refused)) (old new : Situation) → IsCoherent old → AreQueued old → RunFrom old steps outcomes new → AreQueued new
+pub run_queued : (steps : List Step) (outcomes : List (Result Reply Refused)) (old new : Situation) → Invariant old → AreQueued old → RunFrom old steps outcomes new → AreQueued new
 run_queued [] [] old new g q r = subst AreQueued (sym r) q
 run_queued (step ∷ steps) (outcome ∷ outcomes) old new g q r = run_queued steps outcomes r.0 new (goes_keeps old step outcome r.0 g r.1.0) (goes_queued old step outcome r.0 g q r.1.0) r.1.1
 run_queued [] (outcome ∷ outcomes) old new g q r = absurd r

@@ -2,11 +2,12 @@
 use Rattle.std.proofs.Common.{◌≡◌, ℕ, ◌<◌, ◌≤◌, Bool, true, false, List, [], ◌∷◌, ◌++◌, length, Option, Some, None, refl, ◌⊎◌, inl, inr, ap, sym, ◌∙◌, subst, arith}
 use Rattle.std.specs.Prelude.{IsSome, IsSomeAnd, Result, Ok, Err, MatchBool, is_some, option_to_list, slice_get, slice_set}
 use Rattle.std.proofs.lemmas.List.{same_lists, get_or_default}
+use Rattle.snoop_trace.specs.Words.{HasWord, word_at}
 use Rattle.snoop_trace.specs.declared.step.Op.{Op}
 use Rattle.snoop_trace.specs.declared.step.Op.TheVariants as op
 use Rattle.snoop_trace.specs.declared.step.Step.{Step}
 use Rattle.snoop_trace.specs.declared.step.Step.TheVariants.{Ask, Order, Respond}
-use Rattle.snoop_rules.specs.declared.names.Protocol.{Protocol}
+use Rattle.snoop_trace.specs.declared.protocol.Protocol.{Protocol}
 use Rattle.snoop_rules.specs.declared.names.CacheState.{CacheState}
 use Rattle.snoop_rules.specs.declared.names.CacheEvent.{CacheEvent}
 use Rattle.snoop_rules.specs.declared.names.CacheAction.{CacheAction}
@@ -27,9 +28,10 @@ use Rattle.snoop_history.specs.declared.items.Did.{Did}
 use Rattle.snoop_history.specs.declared.items.Item.{Item}
 use Rattle.snoop_history.specs.declared.items.Item.TheVariants as item
 use Rattle.snoop_history.specs.History.{next_number}
-use Rattle.snoop_bus.specs.declared.transactions.Open.{Open}
+use Rattle.snoop_bus.specs.Traffic.{Open}
 use Rattle.snoop_bus.specs.Queues.{queue_of, after_order}
-use Rattle.snoop_model.specs.declared.line.Line.{Line}
+use Rattle.snoop_model.specs.declared.line.Access.{Access}
+use Rattle.snoop_model.specs.Pictures.Lines.{Line}
 use Rattle.snoop_model.specs.declared.replies.Reply.{Reply}
 use Rattle.snoop_model.specs.declared.replies.Reply.TheVariants as reply
 use Rattle.snoop_model.specs.declared.replies.Refused.{Refused}
@@ -50,20 +52,20 @@ same_some : {A : Type 0} {a b : A} → ◌≡◌ {A = Option A} (Some a) (Some b
 same_some e = cc
 
 -- why an Ask is refused
-abbrev AskCause : Situation → ℕ → ℕ → Op → Refused → Type 0
-AskCause s core block asking cause =
+abbrev AskCause : Situation → ℕ → ℕ → ℕ → Op → Refused → Type 0
+AskCause s core block word asking cause =
     ((cause ≡ NoCore) × (s.shape.cores ≤ core))
-    ⊎ (((cause ≡ NoBlock) × (core < s.shape.cores) × (s.shape.blocks ≤ block))
-    ⊎ ((cause ≡ Stalled (state_of s core block)) × (core < s.shape.cores) × (block < s.shape.blocks) × IsStall s core block asking))
+    ⊎ (((cause ≡ NoBlock) × (core < s.shape.cores) × ((s.shape.blocks ≤ block) ⊎ (¬ HasWord s.shape word asking)))
+    ⊎ ((cause ≡ Stalled (state_of s core block)) × (core < s.shape.cores) × (block < s.shape.blocks) × IsStall s core block asking × HasWord s.shape word asking))
 
-ask_cause : (s : Situation) (core block : ℕ) (asking : Op) (cause : Refused) → Refuses s (Ask core block asking) cause → AskCause s core block asking cause
-ask_cause s core block asking NoCore h = inl (refl, h)
-ask_cause s core block asking NoBlock h = inr (inl (refl, h.0, h.1))
-ask_cause s core block asking (Stalled held) h = inr (inr (ap (λ (x : CacheState). Stalled x) h.1, h.0.0, h.0.1, h.2))
-ask_cause s core block asking NothingWaiting h = absurd h
-ask_cause s core block asking (BusTaken on) h = absurd h
-ask_cause s core block asking NoTransaction h = absurd h
-ask_cause s core block asking NoMemory h = absurd h
+ask_cause : (s : Situation) (core block word : ℕ) (asking : Op) (cause : Refused) → Refuses s (Ask core block word asking) cause → AskCause s core block word asking cause
+ask_cause s core block word asking NoCore h = inl (refl, h)
+ask_cause s core block word asking NoBlock h = inr (inl (refl, h.0, h.1))
+ask_cause s core block word asking (Stalled held) h = inr (inr (ap (λ (x : CacheState). Stalled x) h.1, h.0.0, h.0.1, h.2, h.3))
+ask_cause s core block word asking NothingWaiting h = absurd h
+ask_cause s core block word asking (BusTaken on) h = absurd h
+ask_cause s core block word asking NoTransaction h = absurd h
+ask_cause s core block word asking NoMemory h = absurd h
 
 -- why an Order is refused
 abbrev OrderCause : Situation → ℕ → Refused → Type 0
@@ -102,16 +104,16 @@ head_waits s kept core block first none =
     let waits = kept.waits core block (first_in (queue_of s.queues core) block first) in
     none block waits.0 waits.1
 
-ask_causes : (s : Situation) (core block : ℕ) (asking : Op) (c d : Refused) → AskCause s core block asking c → AskCause s core block asking d → c ≡ d
-ask_causes s core block asking c d (inl h) (inl k) = h.0 ∙ sym k.0
-ask_causes s core block asking c d (inl h) (inr (inl k)) = let a : s.shape.cores ≤ core = h.1 in let b : core < s.shape.cores = k.1 in absurd (omega arith)
-ask_causes s core block asking c d (inl h) (inr (inr k)) = let a : s.shape.cores ≤ core = h.1 in let b : core < s.shape.cores = k.1 in absurd (omega arith)
-ask_causes s core block asking c d (inr (inl h)) (inl k) = let a : s.shape.cores ≤ core = k.1 in let b : core < s.shape.cores = h.1 in absurd (omega arith)
-ask_causes s core block asking c d (inr (inl h)) (inr (inl k)) = h.0 ∙ sym k.0
-ask_causes s core block asking c d (inr (inl h)) (inr (inr k)) = let a : s.shape.blocks ≤ block = h.2 in let b : block < s.shape.blocks = k.2 in absurd (omega arith)
-ask_causes s core block asking c d (inr (inr h)) (inl k) = let a : s.shape.cores ≤ core = k.1 in let b : core < s.shape.cores = h.1 in absurd (omega arith)
-ask_causes s core block asking c d (inr (inr h)) (inr (inl k)) = let a : s.shape.blocks ≤ block = k.2 in let b : block < s.shape.blocks = h.2 in absurd (omega arith)
-ask_causes s core block asking c d (inr (inr h)) (inr (inr k)) = h.0 ∙ sym k.0
+ask_causes : (s : Situation) (core block word : ℕ) (asking : Op) (c d : Refused) → AskCause s core block word asking c → AskCause s core block word asking d → c ≡ d
+ask_causes s core block word asking c d (inl h) (inl k) = h.0 ∙ sym k.0
+ask_causes s core block word asking c d (inl h) (inr (inl k)) = let a : s.shape.cores ≤ core = h.1 in let b : core < s.shape.cores = k.1 in absurd (omega arith)
+ask_causes s core block word asking c d (inl h) (inr (inr k)) = let a : s.shape.cores ≤ core = h.1 in let b : core < s.shape.cores = k.1 in absurd (omega arith)
+ask_causes s core block word asking c d (inr (inl h)) (inl k) = let a : s.shape.cores ≤ core = k.1 in let b : core < s.shape.cores = h.1 in absurd (omega arith)
+ask_causes s core block word asking c d (inr (inl h)) (inr (inl k)) = h.0 ∙ sym k.0
+ask_causes s core block word asking c d (inr (inl h)) (inr (inr k)) = elim h.2 [ inl a ↦ (let b : block < s.shape.blocks = k.2 in absurd (omega arith)) | inr none ↦ absurd (none k.4) ]
+ask_causes s core block word asking c d (inr (inr h)) (inl k) = let a : s.shape.cores ≤ core = k.1 in let b : core < s.shape.cores = h.1 in absurd (omega arith)
+ask_causes s core block word asking c d (inr (inr h)) (inr (inl k)) = elim k.2 [ inl a ↦ (let b : block < s.shape.blocks = h.2 in absurd (omega arith)) | inr none ↦ absurd (none h.4) ]
+ask_causes s core block word asking c d (inr (inr h)) (inr (inr k)) = h.0 ∙ sym k.0
 
 order_causes : (s : Situation) → IsWellKept s → (core : ℕ) (c d : Refused) → OrderCause s core c → OrderCause s core d → c ≡ d
 order_causes s kept core c d (inl h) (inl k) = h.0 ∙ sym k.0
@@ -132,34 +134,34 @@ respond_causes s block c d (inr h) (inr k) = h.0 ∙ sym k.0
 
 -- one cause refuses a step
 one_cause : (s : Situation) → IsWellKept s → (step : Step) (c d : Refused) → Refuses s step c → Refuses s step d → c ≡ d
-one_cause s kept (Ask core block asking) c d h k = ask_causes s core block asking c d (ask_cause s core block asking c h) (ask_cause s core block asking d k)
+one_cause s kept (Ask core block word asking) c d h k = ask_causes s core block word asking c d (ask_cause s core block word asking c h) (ask_cause s core block word asking d k)
 one_cause s kept (Order core) c d h k = order_causes s kept core c d (order_cause s core c h) (order_cause s core d k)
 one_cause s kept (Respond block) c d h k = respond_causes s block c d (respond_cause s block c h) (respond_cause s block d k)
 
 -- a move is not refused
-asks_no_stall : (s : Situation) (core block : ℕ) (asking : Op) (answer : Reply) (new : Situation) (entry : Option Item) → IsAbsent s core block asking answer new entry ⊎ Asks s core block asking answer new entry → ¬ IsStall s core block asking
-asks_no_stall s core block asking answer new entry (inl absent) stall = no_row s.protocol (state_of s core block) asking action.Stall stall.0 absent.0 absent.1 stall.1
-asks_no_stall s core block asking answer new entry (inr asks) stall =
+asks_no_stall : (s : Situation) (core block word : ℕ) (asking : Op) (answer : Reply) (new : Situation) (entry : Option Item) → IsAbsent s core block asking answer new entry ⊎ Asks s core block word asking answer new entry → ¬ IsStall s core block asking
+asks_no_stall s core block word asking answer new entry (inl absent) stall = no_row s.protocol (state_of s core block) asking action.Stall stall.0 absent.0 absent.1 stall.1
+asks_no_stall s core block word asking answer new entry (inr asks) stall =
     let same = (Cell-one s.protocol (state_of s core block) (asked asking) asks.act action.Stall asks.next stall.0 asks.row stall.1).0 in
-    let P : CacheAction → Type 0 = λ act. Takes act asks.next s.log core block asking (held_by (picture_of s block) core) asks.held answer entry in
+    let P : CacheAction → Type 0 = λ act. Takes act asks.next s.log core block word asking (held_by (picture_of s block) core) asks.held answer entry in
     subst P same asks.taken
 
 -- the parts of an Ask's move
-ask_parts : (s : Situation) (core block : ℕ) (asking : Op) (answer : Reply) (new : Situation) (entry : Option Item) → FirstMove s (Ask core block asking) answer new entry → IsWithin s core block × (IsAbsent s core block asking answer new entry ⊎ Asks s core block asking answer new entry)
-ask_parts s core block asking answer new entry move =
-    let P : ℕ → Type 0 = λ b. IsWithin s core b × (IsAbsent s core b asking answer new entry ⊎ Asks s core b asking answer new entry) in
-    subst P (sym move.1.1.0) (move.1.1.1, move.1.1.2)
+ask_parts : (s : Situation) (core block word : ℕ) (asking : Op) (answer : Reply) (new : Situation) (entry : Option Item) → FirstMove s (Ask core block word asking) answer new entry → IsWithin s core block × (IsAbsent s core block asking answer new entry ⊎ Asks s core block word asking answer new entry) × HasWord s.shape word asking
+ask_parts s core block word asking answer new entry move =
+    let P : ℕ → Type 0 = λ b. IsWithin s core b × (IsAbsent s core b asking answer new entry ⊎ Asks s core b word asking answer new entry) × HasWord s.shape word asking in
+    subst P (sym move.1.1.0) (move.1.1.1, move.1.1.2, move.1.1.3)
 
 not_refused : (s : Situation) → IsWellKept s → (step : Step) (answer : Reply) (new : Situation) (entry : Option Item) (cause : Refused) → FirstMove s step answer new entry → ¬ Refuses s step cause
-not_refused s kept (Ask core block asking) answer new entry cause move refused =
-    let parts = ask_parts s core block asking answer new entry move in
+not_refused s kept (Ask core block word asking) answer new entry cause move refused =
+    let parts = ask_parts s core block word asking answer new entry move in
     let in_cores : core < s.shape.cores = parts.0.0 in
     let in_blocks : block < s.shape.blocks = parts.0.1 in
-    elim (ask_cause s core block asking cause refused) [
+    elim (ask_cause s core block word asking cause refused) [
       | inl h ↦ let past : s.shape.cores ≤ core = h.1 in absurd (omega arith)
       | inr rest ↦ elim rest [
-        | inl h ↦ let past : s.shape.blocks ≤ block = h.2 in absurd (omega arith)
-        | inr h ↦ asks_no_stall s core block asking answer new entry parts.1 h.3
+        | inl h ↦ elim h.2 [ inl past ↦ absurd (omega arith) | inr none ↦ absurd (none parts.2) ]
+        | inr h ↦ asks_no_stall s core block word asking answer new entry parts.1 h.3
       ]
     ]
 not_refused s kept (Order core) answer new entry cause move refused =
@@ -189,41 +191,42 @@ not_refused s kept (Respond block) answer new entry cause move refused =
     ]
 
 -- an Ask's row does one thing
-hits_one : (next : CacheState) (log : List Item) (core block : ℕ) (asking : Op) (old new new' : Line) (answer answer' : Reply) (entry entry' : Option Item)
-    → Takes action.Hit next log core block asking old new answer entry → Takes action.Hit next log core block asking old new' answer' entry' → (new ≡ new') × (answer ≡ answer') × (entry ≡ entry')
-hits_one next log core block op.Load old new new' answer answer' entry entry' a b =
+hits_one : (next : CacheState) (log : List Item) (core block word : ℕ) (asking : Op) (old new new' : Line) (answer answer' : Reply) (entry entry' : Option Item)
+    → Takes action.Hit next log core block word asking old new answer entry → Takes action.Hit next log core block word asking old new' answer' entry' → (new ≡ new') × (answer ≡ answer') × (entry ≡ entry')
+hits_one next log core block word op.Load old new new' answer answer' entry entry' a b =
     let f = a.1.0 in
     let g = b.1.0 in
     let before : f.before ≡ g.before = same_some (sym f.kept ∙ g.kept) in
-    let value : a.0 ≡ b.0 = f.performed.0 ∙ (before ∙ sym g.performed.0) in
+    let value : a.0 ≡ b.0 = f.performed.0 ∙ (ap (λ (ws : List ℕ). word_at ws word) before ∙ sym g.performed.0) in
     let after : f.after ≡ g.after = f.performed.1 ∙ (before ∙ sym g.performed.1) in
-    let line : new ≡ new' = f.held ∙ (ap (λ (v : ℕ). let x : Line = record { state = next; kept = Some v; waiting = old.waiting } in x) after ∙ sym g.held) in (
+    let line : new ≡ new' = f.held ∙ (ap (λ (v : List ℕ). let x : Line = record { state = next; kept = Some v; waiting = old.waiting } in x) after ∙ sym g.held) in (
       line,
       a.1.1 ∙ (ap (λ v. reply.Hit v) value ∙ sym b.1.1),
-      a.1.2 ∙ (ap (λ (v : ℕ). let x : Option Item = Some (item.Did (record { core = core; number = next_number log core; block = block; load = true; value = v; hit = true })) in x) value ∙ sym b.1.2),
+      a.1.2 ∙ (ap (λ (v : ℕ). let x : Option Item = Some (item.Did (record { core = core; number = next_number log core; block = block; word = word; load = true; value = v; hit = true })) in x) value ∙ sym b.1.2),
     )
-hits_one next log core block (op.Store stored) old new new' answer answer' entry entry' a b =
+hits_one next log core block word (op.Store stored) old new new' answer answer' entry entry' a b =
     let f = a.1.0 in
     let g = b.1.0 in
+    let before : f.before ≡ g.before = same_some (sym f.kept ∙ g.kept) in
     let value : a.0 ≡ b.0 = f.performed.0 ∙ sym g.performed.0 in
-    let after : f.after ≡ g.after = f.performed.1 ∙ sym g.performed.1 in
-    let line : new ≡ new' = f.held ∙ (ap (λ (v : ℕ). let x : Line = record { state = next; kept = Some v; waiting = old.waiting } in x) after ∙ sym g.held) in (
+    let after : f.after ≡ g.after = f.performed.1 ∙ (ap (λ (ws : List ℕ). slice_set ws word stored) before ∙ sym g.performed.1) in
+    let line : new ≡ new' = f.held ∙ (ap (λ (v : List ℕ). let x : Line = record { state = next; kept = Some v; waiting = old.waiting } in x) after ∙ sym g.held) in (
       line,
       a.1.1 ∙ sym b.1.1,
-      a.1.2 ∙ (ap (λ (v : ℕ). let x : Option Item = Some (item.Did (record { core = core; number = next_number log core; block = block; load = false; value = v; hit = true })) in x) value ∙ sym b.1.2),
+      a.1.2 ∙ (ap (λ (v : ℕ). let x : Option Item = Some (item.Did (record { core = core; number = next_number log core; block = block; word = word; load = false; value = v; hit = true })) in x) value ∙ sym b.1.2),
     )
-hits_one next log core block op.Evict old new new' answer answer' entry entry' a b = absurd a.1.0.performed
+hits_one next log core block word op.Evict old new new' answer answer' entry entry' a b = absurd a.1.0.performed
 
-takes_one : (act : CacheAction) (next : CacheState) (log : List Item) (core block : ℕ) (asking : Op) (old new new' : Line) (answer answer' : Reply) (entry entry' : Option Item)
-    → Takes act next log core block asking old new answer entry → Takes act next log core block asking old new' answer' entry' → (new ≡ new') × (answer ≡ answer') × (entry ≡ entry')
-takes_one action.Hit next log core block asking old new new' answer answer' entry entry' a b = hits_one next log core block asking old new new' answer answer' entry entry' a b
-takes_one (action.Issue r) next log core block asking old new new' answer answer' entry entry' a b = (a.0 ∙ sym b.0, a.1 ∙ sym b.1, a.2 ∙ sym b.2)
-takes_one action.Drop next log core block asking old new new' answer answer' entry entry' a b = (a.0 ∙ sym b.0, a.1 ∙ sym b.1, a.2 ∙ sym b.2)
-takes_one action.None next log core block asking old new new' answer answer' entry entry' a b = absurd a
-takes_one action.Stall next log core block asking old new new' answer answer' entry entry' a b = absurd a
-takes_one action.FillLoad next log core block asking old new new' answer answer' entry entry' a b = absurd a
-takes_one action.FillStore next log core block asking old new new' answer answer' entry entry' a b = absurd a
-takes_one (action.Send payload target) next log core block asking old new new' answer answer' entry entry' a b = absurd a
+takes_one : (act : CacheAction) (next : CacheState) (log : List Item) (core block word : ℕ) (asking : Op) (old new new' : Line) (answer answer' : Reply) (entry entry' : Option Item)
+    → Takes act next log core block word asking old new answer entry → Takes act next log core block word asking old new' answer' entry' → (new ≡ new') × (answer ≡ answer') × (entry ≡ entry')
+takes_one action.Hit next log core block word asking old new new' answer answer' entry entry' a b = hits_one next log core block word asking old new new' answer answer' entry entry' a b
+takes_one (action.Issue r) next log core block word asking old new new' answer answer' entry entry' a b = (a.0 ∙ sym b.0, a.1 ∙ sym b.1, a.2 ∙ sym b.2)
+takes_one action.Drop next log core block word asking old new new' answer answer' entry entry' a b = (a.0 ∙ sym b.0, a.1 ∙ sym b.1, a.2 ∙ sym b.2)
+takes_one action.None next log core block word asking old new new' answer answer' entry entry' a b = absurd a
+takes_one action.Stall next log core block word asking old new new' answer answer' entry entry' a b = absurd a
+takes_one action.FillLoad next log core block word asking old new new' answer answer' entry entry' a b = absurd a
+takes_one action.FillStore next log core block word asking old new new' answer answer' entry entry' a b = absurd a
+takes_one (action.Send payload target) next log core block word asking old new new' answer answer' entry entry' a b = absurd a
 
 -- the situation after an Ask, by its action, its line and its item
 abbrev asked_after : Situation → ℕ → ℕ → CacheAction → Line → Option Item → Situation
@@ -237,23 +240,23 @@ asked_after s core block act held entry = record s {
 abbrev SameMove : Reply → Situation → Reply → Situation → Type 0
 SameMove answer new answer' new' = (answer ≡ answer') × (new ≡ new')
 
-asks_one : (s : Situation) (core block : ℕ) (asking : Op) (answer answer' : Reply) (new new' : Situation) (entry entry' : Option Item) → Asks s core block asking answer new entry → Asks s core block asking answer' new' entry' → SameMove answer new answer' new'
-asks_one s core block asking answer answer' new new' entry entry' a b =
+asks_one : (s : Situation) (core block word : ℕ) (asking : Op) (answer answer' : Reply) (new new' : Situation) (entry entry' : Option Item) → Asks s core block word asking answer new entry → Asks s core block word asking answer' new' entry' → SameMove answer new answer' new'
+asks_one s core block word asking answer answer' new new' entry entry' a b =
     let row = Cell-one s.protocol (state_of s core block) (asked asking) a.act b.act a.next b.next a.row b.row in
     let old : Line = held_by (picture_of s block) core in
-    let P : CacheAction → Type 0 = λ act. Takes act b.next s.log core block asking old b.held answer' entry' in
-    let Q : CacheState → Type 0 = λ next. Takes a.act next s.log core block asking old b.held answer' entry' in
-    let taken : Takes a.act a.next s.log core block asking old b.held answer' entry' = subst Q (sym row.1) (subst P (sym row.0) b.taken) in
-    let same = takes_one a.act a.next s.log core block asking old a.held b.held answer answer' entry entry' a.taken taken in (
+    let P : CacheAction → Type 0 = λ act. Takes act b.next s.log core block word asking old b.held answer' entry' in
+    let Q : CacheState → Type 0 = λ next. Takes a.act next s.log core block word asking old b.held answer' entry' in
+    let taken : Takes a.act a.next s.log core block word asking old b.held answer' entry' = subst Q (sym row.1) (subst P (sym row.0) b.taken) in
+    let same = takes_one a.act a.next s.log core block word asking old a.held b.held answer answer' entry entry' a.taken taken in (
       same.1,
       a.after ∙ (ap (λ act. asked_after s core block act a.held entry) row.0 ∙ (ap (λ held. asked_after s core block b.act held entry) same.0 ∙ (ap (λ e. asked_after s core block b.act b.held e) same.2 ∙ sym b.after))),
     )
 
-asks_or_absent : (s : Situation) (core block : ℕ) (asking : Op) (answer answer' : Reply) (new new' : Situation) (entry entry' : Option Item) → IsAbsent s core block asking answer new entry ⊎ Asks s core block asking answer new entry → IsAbsent s core block asking answer' new' entry' ⊎ Asks s core block asking answer' new' entry' → SameMove answer new answer' new'
-asks_or_absent s core block asking answer answer' new new' entry entry' (inl a) (inl b) = (a.2 ∙ sym b.2, a.3 ∙ sym b.3)
-asks_or_absent s core block asking answer answer' new new' entry entry' (inl a) (inr b) = absurd (no_row s.protocol (state_of s core block) asking b.act b.next a.0 a.1 b.row)
-asks_or_absent s core block asking answer answer' new new' entry entry' (inr a) (inl b) = absurd (no_row s.protocol (state_of s core block) asking a.act a.next b.0 b.1 a.row)
-asks_or_absent s core block asking answer answer' new new' entry entry' (inr a) (inr b) = asks_one s core block asking answer answer' new new' entry entry' a b
+asks_or_absent : (s : Situation) (core block word : ℕ) (asking : Op) (answer answer' : Reply) (new new' : Situation) (entry entry' : Option Item) → IsAbsent s core block asking answer new entry ⊎ Asks s core block word asking answer new entry → IsAbsent s core block asking answer' new' entry' ⊎ Asks s core block word asking answer' new' entry' → SameMove answer new answer' new'
+asks_or_absent s core block word asking answer answer' new new' entry entry' (inl a) (inl b) = (a.2 ∙ sym b.2, a.3 ∙ sym b.3)
+asks_or_absent s core block word asking answer answer' new new' entry entry' (inl a) (inr b) = absurd (no_row s.protocol (state_of s core block) asking b.act b.next a.0 a.1 b.row)
+asks_or_absent s core block word asking answer answer' new new' entry entry' (inr a) (inl b) = absurd (no_row s.protocol (state_of s core block) asking a.act a.next b.0 b.1 a.row)
+asks_or_absent s core block word asking answer answer' new new' entry entry' (inr a) (inr b) = asks_one s core block word asking answer answer' new new' entry entry' a b
 
 -- a controller's row leads to one line
 row_one : (p : Protocol) (e : CacheEvent) (old new new' : Line) → TakesRow p e old new → TakesRow p e old new' → new ≡ new'
@@ -290,16 +293,16 @@ orders_one s core block q new new' a b =
     a.after ∙ (ap then next ∙ sym b.after)
 
 -- data does one thing at its requestor
-fill_ends : (o : Open) (log : List Item) (old new new' : List Line) (did did' : Option Did) (asking : Op) (value value' after after' : ℕ) (next : CacheState)
-    → Performs asking o.value value after → Performs asking o.value value' after'
-    → did ≡ Some (next_did log o.core o.block asking value false) → did' ≡ Some (next_did log o.core o.block asking value' false)
+fill_ends : (o : Open) (log : List Item) (old new new' : List Line) (did did' : Option Did) (word : ℕ) (asking : Op) (value value' : ℕ) (after after' : List ℕ) (next : CacheState)
+    → Performs word asking o.value value after → Performs word asking o.value value' after'
+    → did ≡ Some (next_did log o.core o.block word asking value false) → did' ≡ Some (next_did log o.core o.block word asking value' false)
     → new ≡ slice_set old o.core (record { state = next; kept = Some after; waiting = None }) → new' ≡ slice_set old o.core (record { state = next; kept = Some after'; waiting = None })
     → (new ≡ new') × (did ≡ did')
-fill_ends o log old new new' did did' op.Load value value' after after' next a b logged logged' held held' =
-    (held ∙ (ap (λ (v : ℕ). slice_set old o.core (let x : Line = record { state = next; kept = Some v; waiting = None } in x)) (a.1 ∙ sym b.1) ∙ sym held'), logged ∙ (ap (λ (v : ℕ). let x : Option Did = Some (next_did log o.core o.block op.Load v false) in x) (a.0 ∙ sym b.0) ∙ sym logged'))
-fill_ends o log old new new' did did' (op.Store stored) value value' after after' next a b logged logged' held held' =
-    (held ∙ (ap (λ (v : ℕ). slice_set old o.core (let x : Line = record { state = next; kept = Some v; waiting = None } in x)) (a.1 ∙ sym b.1) ∙ sym held'), logged ∙ (ap (λ (v : ℕ). let x : Option Did = Some (next_did log o.core o.block (op.Store stored) v false) in x) (a.0 ∙ sym b.0) ∙ sym logged'))
-fill_ends o log old new new' did did' op.Evict value value' after after' next a b logged logged' held held' = absurd a
+fill_ends o log old new new' did did' word op.Load value value' after after' next a b logged logged' held held' =
+    (held ∙ (ap (λ (v : List ℕ). slice_set old o.core (let x : Line = record { state = next; kept = Some v; waiting = None } in x)) (a.1 ∙ sym b.1) ∙ sym held'), logged ∙ (ap (λ (v : ℕ). let x : Option Did = Some (next_did log o.core o.block word op.Load v false) in x) (a.0 ∙ sym b.0) ∙ sym logged'))
+fill_ends o log old new new' did did' word (op.Store stored) value value' after after' next a b logged logged' held held' =
+    (held ∙ (ap (λ (v : List ℕ). slice_set old o.core (let x : Line = record { state = next; kept = Some v; waiting = None } in x)) (a.1 ∙ sym b.1) ∙ sym held'), logged ∙ (ap (λ (v : ℕ). let x : Option Did = Some (next_did log o.core o.block word (op.Store stored) v false) in x) (a.0 ∙ sym b.0) ∙ sym logged'))
+fill_ends o log old new new' did did' word op.Evict value value' after after' next a b logged logged' held held' = absurd a
 
 fills_one : (o : Open) (p : Protocol) (log : List Item) (old new new' : List Line) (did did' : Option Did) → FillsRequestor o p log old new did → FillsRequestor o p log old new' did' → (new ≡ new') × (did ≡ did')
 fills_one o p log old new new' did did' a b =
@@ -310,10 +313,10 @@ fills_one o p log old new new' did did' a b =
     let row : Cell p state f.event g.act g.next = subst (λ (e : CacheEvent). Cell p state e g.act g.next) event g.row in
     let next : g.next ≡ f.next = (Cell-one p state f.event g.act f.act g.next f.next row f.row).1 in
     let asking : b.asking ≡ a.asking = same_some (sym g.waited ∙ f.waited) in
-    let performed : Performs a.asking o.value b.value g.after = subst (λ (x : Op). Performs x o.value b.value g.after) asking g.performed in
-    let logged : did' ≡ Some (next_did log o.core o.block a.asking b.value false) = b.logged ∙ ap (λ (x : Op). let d : Option Did = Some (next_did log o.core o.block x b.value false) in d) asking in
+    let performed : Performs a.asking.word a.asking.op o.value b.value g.after = subst (λ (x : Access). Performs x.word x.op o.value b.value g.after) asking g.performed in
+    let logged : did' ≡ Some (next_did log o.core o.block a.asking.word a.asking.op b.value false) = b.logged ∙ ap (λ (x : Access). let d : Option Did = Some (next_did log o.core o.block x.word x.op b.value false) in d) asking in
     let held : b.line ≡ record { state = f.next; kept = Some g.after; waiting = None } = g.held ∙ ap (λ (x : CacheState). let l : Line = record { state = x; kept = Some g.after; waiting = None } in l) next in
-    fill_ends o log old new new' did did' a.asking a.value b.value f.after g.after f.next f.performed performed a.logged logged (a.held ∙ ap (slice_set old o.core) f.held) (b.held ∙ ap (slice_set old o.core) held)
+    fill_ends o log old new new' did did' a.asking.word a.asking.op a.value b.value f.after g.after f.next f.performed performed a.logged logged (a.held ∙ ap (slice_set old o.core) f.held) (b.held ∙ ap (slice_set old o.core) held)
 
 arrives_one : (q : Request) (o : Open) (p : Protocol) (log : List Item) (old new new' : List Line) (did did' : Option Did) → ArrivesFor q o p log old new did → ArrivesFor q o p log old new' did' → (new ≡ new') × (did ≡ did')
 arrives_one request.PutM o p log old new new' did did' a b = (a.0 ∙ sym b.0, a.1 ∙ sym b.1)
@@ -346,8 +349,8 @@ responds_one s block o o' did did' new new' a b =
 
 -- a step moves in one way
 move_one : (s : Situation) (step : Step) (answer answer' : Reply) (new new' : Situation) (entry entry' : Option Item) → FirstMove s step answer new entry → FirstMove s step answer' new' entry' → SameMove answer new answer' new'
-move_one s (Ask core block asking) answer answer' new new' entry entry' a b =
-    asks_or_absent s core block asking answer answer' new new' entry entry' (ask_parts s core block asking answer new entry a).1 (ask_parts s core block asking answer' new' entry' b).1
+move_one s (Ask core block word asking) answer answer' new new' entry entry' a b =
+    asks_or_absent s core block word asking answer answer' new new' entry entry' (ask_parts s core block word asking answer new entry a).1 (ask_parts s core block word asking answer' new' entry' b).1
 move_one s (Order core) answer answer' new new' entry entry' a b =
     let block : b.0 ≡ a.0 = same_some (sym b.1.0 ∙ a.1.0) in
     let P : ℕ → Type 0 = λ on. Orders s core on b.1.1.0 new' in

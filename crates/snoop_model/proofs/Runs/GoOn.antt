@@ -1,12 +1,14 @@
 -- From every situation of a run each step leads on: it is a move, or refused for a cause.
-use Rattle.std.proofs.Common.{◌≡◌, ℕ, zero, suc, ◌<◌, Bool, true, false, not, ◌&&◌, ◌||◌, List, [], ◌∷◌, ◌++◌, length, Option, Some, None, refl, inl, inr, ap, sym, ◌∙◌, subst, arith}
+use Rattle.std.proofs.Common.{◌⊎◌, ◌≡◌, ℕ, zero, suc, ◌<◌, Bool, true, false, not, ◌&&◌, ◌||◌, List, [], ◌∷◌, ◌++◌, length, Option, Some, None, refl, inl, inr, ap, sym, ◌∙◌, subst, arith}
 use Rattle.std.specs.Prelude.{Contains, Result, Ok, Err, is_some, option_map, option_to_list, slice_get, slice_set}
 use Rattle.std.proofs.lemmas.Bool.{cases_lt, and_parts}
+use Rattle.snoop_trace.specs.Words.{HasWord, IsWord, word_at}
+use Rattle.snoop_trace.specs.Extent.{Extent}
 use Rattle.snoop_trace.specs.declared.step.Op.{Op}
 use Rattle.snoop_trace.specs.declared.step.Op.TheVariants as op
 use Rattle.snoop_trace.specs.declared.step.Step.{Step}
 use Rattle.snoop_trace.specs.declared.step.Step.TheVariants.{Ask, Order, Respond}
-use Rattle.snoop_rules.specs.declared.names.Protocol.{Protocol}
+use Rattle.snoop_trace.specs.declared.protocol.Protocol.{Protocol}
 use Rattle.snoop_rules.specs.declared.names.CacheState.{CacheState}
 use Rattle.snoop_rules.specs.declared.names.CacheEvent.{CacheEvent}
 use Rattle.snoop_rules.specs.declared.names.CacheEvent.TheVariants as event
@@ -27,12 +29,12 @@ use Rattle.snoop_rules.proofs.MemRows.{MemoryCell-found}
 use Rattle.snoop_history.specs.declared.items.Did.{Did}
 use Rattle.snoop_history.specs.declared.items.Item.{Item}
 use Rattle.snoop_history.specs.declared.items.Item.TheVariants as item
-use Rattle.snoop_history.specs.History.{flat}
+use Rattle.snoop_history.specs.History.{flat_words}
 use Rattle.snoop_history.specs.Totals.{is_put_m}
-use Rattle.snoop_bus.specs.declared.transactions.Open.{Open}
+use Rattle.snoop_bus.specs.Traffic.{Open}
 use Rattle.snoop_bus.specs.Queues.{queue_of, after_order}
-use Rattle.snoop_model.specs.declared.line.Line.{Line}
-use Rattle.snoop_model.specs.declared.memory.MemLine.{MemLine}
+use Rattle.snoop_model.specs.declared.line.Access.{Access}
+use Rattle.snoop_model.specs.Pictures.Lines.{Line, MemLine}
 use Rattle.snoop_model.specs.declared.replies.Reply.{Reply}
 use Rattle.snoop_model.specs.declared.replies.Reply.TheVariants as reply
 use Rattle.snoop_model.specs.declared.replies.Refused.{Refused}
@@ -45,7 +47,7 @@ use Rattle.snoop_model.specs.Moves.Move.{TakesRow, FillsRequestor, ArrivesFor, A
 use Rattle.snoop_model.specs.Runs.Run.{GoesFirst, FirstRunFrom}
 use Rattle.snoop_model.specs.Invariant.WellKept.{IsWellKept}
 use Rattle.snoop_model.specs.Turns.TurnRule.{KeepsWell}
-use Rattle.snoop_model.specs.Invariant.Coherent.{IsCoherent}
+use Rattle.snoop_model.specs.Invariant.Invariant.{Invariant}
 use Rattle.snoop_model.proofs.Tables.Rows.{same_request, same_request-true}
 use Rattle.snoop_model.proofs.OneBlock.Steps.{Answerable, is_idle_evict, row_of, mem_row_of}
 use Rattle.snoop_model.specs.Moves.LookUps.{HasRow}
@@ -109,21 +111,22 @@ after_ask s core block act held entry = record s {
   log = s.log ++ option_to_list entry;
 }
 
-some_kept : (kept : Option ℕ) → is_some kept ≡ true → (v : ℕ) × (kept ≡ Some v)
+some_kept : (kept : Option (List ℕ)) → is_some kept ≡ true → (ws : List ℕ) × (kept ≡ Some ws)
 some_kept None h = cc
 some_kept (Some v) h = (v, refl)
 
 -- an Ask whose row is this one
-module _ (s : Situation) (core block : ℕ) (within : IsWithin s core block) where
+module _ (s : Situation) (core block word : ℕ) (within : IsWithin s core block) where
   held : Line
   held = held_by (picture_of s block) core
 
-  hit : (asking : Op) (next : CacheState) → Cell s.protocol (state_of s core block) (asked asking) action.Hit next → is_asked action.Hit (asked asking) ≡ true → (v : ℕ) → held.kept ≡ Some v → LeadsOn s (Ask core block asking)
+  hit : (asking : Op) (next : CacheState) → Cell s.protocol (state_of s core block) (asked asking) action.Hit next → is_asked action.Hit (asked asking) ≡ true → HasWord s.shape word asking → (ws : List ℕ) → held.kept ≡ Some ws → LeadsOn s (Ask core block word asking)
   unfolding after_ask held
-  hit op.Load next row allowed v kept =
-      let did : Did = next_did s.log core block op.Load v true in
-      let line : Line = record { state = next; kept = Some v; waiting = held.waiting } in
-      moved s (Ask core block op.Load) (reply.Hit v) (after_ask s core block action.Hit line (Some (item.Did did))) (Some (item.Did did)) (
+  hit op.Load next row allowed there ws kept =
+      let v = word_at ws word in
+      let did : Did = next_did s.log core block word op.Load v true in
+      let line : Line = record { state = next; kept = Some ws; waiting = held.waiting } in
+      moved s (Ask core block word op.Load) (reply.Hit v) (after_ask s core block action.Hit line (Some (item.Did did))) (Some (item.Did did)) (
         block,
         (
           tt,
@@ -135,16 +138,17 @@ module _ (s : Situation) (core block : ℕ) (within : IsWithin s core block) whe
               next = next;
               held = line;
               row = row;
-              taken = (v, (record { before = v; after = v; kept = kept; performed = (refl, refl); held = refl }, refl, refl));
+              taken = (v, (record { before = ws; after = ws; kept = kept; performed = (refl, refl); held = refl }, refl, refl));
               after = refl;
             }),
+            there,
           ),
         ),
       )
-  hit (op.Store w) next row allowed v kept =
-      let did : Did = next_did s.log core block (op.Store w) w true in
-      let line : Line = record { state = next; kept = Some w; waiting = held.waiting } in
-      moved s (Ask core block (op.Store w)) reply.StoreHit (after_ask s core block action.Hit line (Some (item.Did did))) (Some (item.Did did)) (
+  hit (op.Store w) next row allowed there ws kept =
+      let did : Did = next_did s.log core block word (op.Store w) w true in
+      let line : Line = record { state = next; kept = Some (slice_set ws word w); waiting = held.waiting } in
+      moved s (Ask core block word (op.Store w)) reply.StoreHit (after_ask s core block action.Hit line (Some (item.Did did))) (Some (item.Did did)) (
         block,
         (
           tt,
@@ -156,55 +160,71 @@ module _ (s : Situation) (core block : ℕ) (within : IsWithin s core block) whe
               next = next;
               held = line;
               row = row;
-              taken = (w, (record { before = v; after = w; kept = kept; performed = (refl, refl); held = refl }, refl, refl));
+              taken = (w, (record { before = ws; after = slice_set ws word w; kept = kept; performed = (refl, refl); held = refl }, refl, refl));
               after = refl;
             }),
+            there,
           ),
         ),
       )
-  hit op.Evict next row allowed v kept = cc
+  hit op.Evict next row allowed there ws kept = cc
 
-  by_row : (asking : Op) (act : CacheAction) (next : CacheState) → Cell s.protocol (state_of s core block) (asked asking) act next → is_asked act (asked asking) ≡ true → (hits act ≡ true → (v : ℕ) × (held.kept ≡ Some v)) → LeadsOn s (Ask core block asking)
+  by_row : (asking : Op) (act : CacheAction) (next : CacheState) → Cell s.protocol (state_of s core block) (asked asking) act next → is_asked act (asked asking) ≡ true → HasWord s.shape word asking → (hits act ≡ true → (ws : List ℕ) × (held.kept ≡ Some ws)) → LeadsOn s (Ask core block word asking)
   unfolding after_ask held
-  by_row asking action.Hit next row allowed kept = hit asking next row allowed (kept refl).0 (kept refl).1
-  by_row asking action.Stall next row allowed kept = (Err (Stalled (state_of s core block)), (s, ((within, refl, (next, row)), refl)))
-  by_row asking (action.Issue r) next row allowed kept =
-      let line : Line = record { state = next; kept = kept_on next held.kept; waiting = kept_waiting asking } in
-      moved s (Ask core block asking) (reply.Issued r) (after_ask s core block (action.Issue r) line None) None
-      (block, (tt, (refl, within, inr (record { act = action.Issue r; next = next; held = line; row = row; taken = (refl, refl, refl); after = refl }))))
-  by_row asking action.Drop next row allowed kept =
+  by_row asking action.Hit next row allowed there kept = hit asking next row allowed there (kept refl).0 (kept refl).1
+  by_row asking action.Stall next row allowed there kept = (Err (Stalled (state_of s core block)), (s, ((within, refl, (next, row), there), refl)))
+  by_row asking (action.Issue r) next row allowed there kept =
+      let line : Line = record { state = next; kept = kept_on next held.kept; waiting = kept_waiting word asking } in
+      moved s (Ask core block word asking) (reply.Issued r) (after_ask s core block (action.Issue r) line None) None
+      (block, (tt, (refl, within, inr (record { act = action.Issue r; next = next; held = line; row = row; taken = (refl, refl, refl); after = refl }), there)))
+  by_row asking action.Drop next row allowed there kept =
       let line : Line = moves_to next held in
-      moved s (Ask core block asking) reply.Gone (after_ask s core block action.Drop line None) None
-      (block, (tt, (refl, within, inr (record { act = action.Drop; next = next; held = line; row = row; taken = (refl, refl, refl); after = refl }))))
-  by_row asking action.None next row allowed kept = cc
-  by_row asking action.FillLoad next row allowed kept = cc
-  by_row asking action.FillStore next row allowed kept = cc
-  by_row asking (action.Send payload target) next row allowed kept = cc
+      moved s (Ask core block word asking) reply.Gone (after_ask s core block action.Drop line None) None
+      (block, (tt, (refl, within, inr (record { act = action.Drop; next = next; held = line; row = row; taken = (refl, refl, refl); after = refl }), there)))
+  by_row asking action.None next row allowed there kept = cc
+  by_row asking action.FillLoad next row allowed there kept = cc
+  by_row asking action.FillStore next row allowed there kept = cc
+  by_row asking (action.Send payload target) next row allowed there kept = cc
 
-ask_within : (s : Situation) → IsCoherent s → (core block : ℕ) (asking : Op) → IsWithin s core block → LeadsOn s (Ask core block asking)
+ask_within : (s : Situation) → Invariant s → (core block word : ℕ) (asking : Op) → IsWithin s core block → HasWord s.shape word asking → LeadsOn s (Ask core block word asking)
 unfolding held
-ask_within s g core block asking within =
+ask_within s g core block word asking within there =
     let p = s.protocol in
     let line = held_by (picture_of s block) core in
-    elim (or_not (is_idle_evict line.state (asked asking))) as (λ _. LeadsOn s (Ask core block asking)) [
+    elim (or_not (is_idle_evict line.state (asked asking))) as (λ _. LeadsOn s (Ask core block word asking)) [
       | inl idle ↦
           let is = idle_evict line.state asking idle in
-          moved s (Ask core block asking) reply.Absent s None (block, (tt, (refl, within, inl (is.0, is.1, refl, refl, refl))))
+          moved s (Ask core block word asking) reply.Absent s None (block, (tt, (refl, within, inl (is.0, is.1, refl, refl, refl), there)))
       | inr busy ↦
-          let good = g.good block within.1 in
-          let row = ask_possible p s.shape.cores (flat s.log block) (picture_of s block) core asking good within.0 busy in
+          let good = g.blocks block within.1 in
+          let row = ask_possible p s.shape.cores (flat_words s.log block) (picture_of s block) core asking good within.0 busy in
           let cell = Cell-found p line.state (asked asking) row.0 row.1 in
           let rule = ask_rule p line.state asking row.0.action row.0.next cell in
-          by_row s core block within asking row.0.action row.0.next cell rule.0
+          by_row s core block word within asking row.0.action row.0.next cell rule.0 there
           (λ is_hit. some_kept line.kept ((good.proper core within.0).kept ∙ right_if (hits row.0.action) (keeps line.state) is_hit rule.1))
     ]
 
-ask_leads : (s : Situation) → IsCoherent s → (core block : ℕ) (asking : Op) → LeadsOn s (Ask core block asking)
-ask_leads s g core block asking = elim (cases_lt core s.shape.cores) [
+-- a word is one that there is, or not
+is_word_or_not : (shape : Extent) (word : ℕ) → IsWord shape word ⊎ (¬ IsWord shape word)
+is_word_or_not shape word = elim (cases_lt word shape.words) [
+  | inl less ↦ elim (cases_lt word 64) [ inl few ↦ inl (less, few) | inr past ↦ inr (λ there. let few = there.1 in absurd (omega arith)) ]
+  | inr past ↦ inr (λ there. let less = there.0 in absurd (omega arith))
+]
+
+pub word_or_not : (s : Situation) (word : ℕ) (asking : Op) → HasWord s.shape word asking ⊎ (¬ HasWord s.shape word asking)
+word_or_not s word op.Load = is_word_or_not s.shape word
+word_or_not s word (op.Store v) = is_word_or_not s.shape word
+word_or_not s word op.Evict = inl tt
+
+ask_leads : (s : Situation) → Invariant s → (core block word : ℕ) (asking : Op) → LeadsOn s (Ask core block word asking)
+ask_leads s g core block word asking = elim (cases_lt core s.shape.cores) [
   | inr past ↦ (Err NoCore, (s, (past, refl)))
   | inl in_cores ↦ elim (cases_lt block s.shape.blocks) [
-    | inr past ↦ (Err NoBlock, (s, ((in_cores, past), refl)))
-    | inl in_blocks ↦ ask_within s g core block asking (in_cores, in_blocks)
+    | inr past ↦ (Err NoBlock, (s, ((in_cores, inl past), refl)))
+    | inl in_blocks ↦ elim (word_or_not s word asking) [
+      | inl there ↦ ask_within s g core block word asking (in_cores, in_blocks) there
+      | inr none ↦ (Err NoBlock, (s, ((in_cores, inr none), refl)))
+    ]
   ]
 ]
 
@@ -226,7 +246,7 @@ lines_at P (suc n) find =
     line_before P n first.0 first.1 (lines_at (λ k. P (suc k)) n (λ k h. find (suc k) (omega arith)))
 
 -- an Order on the block that stands first, free
-order_free : (s : Situation) → IsCoherent s → (core block : ℕ) (q : Request) → StandsFirst s core block → CanOrder s core block q → LeadsOn s (Order core)
+order_free : (s : Situation) → Invariant s → (core block : ℕ) (q : Request) → StandsFirst s core block → CanOrder s core block q → LeadsOn s (Order core)
 order_free s g core block q first ready =
     let p = s.protocol in
     let before : Picture = picture_of s block in
@@ -269,7 +289,7 @@ pub first_in : (queue : List ℕ) (block : ℕ) → slice_get queue 0 ≡ Some b
 first_in [] block e = cc
 first_in (x ∷ queue) block e = let same : x ≡ block = cc in (0, omega arith, same)
 
-order_first : (s : Situation) → IsCoherent s → IsWellKept s → (core : ℕ) → core < s.shape.cores → (found : Option ℕ) → slice_get (queue_of s.queues core) 0 ≡ found → LeadsOn s (Order core)
+order_first : (s : Situation) → Invariant s → IsWellKept s → (core : ℕ) → core < s.shape.cores → (found : Option ℕ) → slice_get (queue_of s.queues core) 0 ≡ found → LeadsOn s (Order core)
 order_first s g kept core in_cores None none =
     (Err NothingWaiting, (s, ((in_cores, λ block q waits. no_first (queue_of s.queues core) block none (kept.queued core block q waits)), refl)))
   where
@@ -285,7 +305,7 @@ order_first s g kept core in_cores (Some block) first =
     go q waits (Some t) is = (Err (BusTaken block), (s, ((in_cores, first, rw is refl), refl)))
     go q waits None is = order_free s g core block q first (waits, is)
 
-order_leads : (s : Situation) → IsCoherent s → IsWellKept s → (core : ℕ) → LeadsOn s (Order core)
+order_leads : (s : Situation) → Invariant s → IsWellKept s → (core : ℕ) → LeadsOn s (Order core)
 order_leads s g kept core = elim (cases_lt core s.shape.cores) [
   | inr past ↦ (Err NoCore, (s, (past, refl)))
   | inl in_cores ↦ order_first s g kept core in_cores (slice_get (queue_of s.queues core) 0) refl
@@ -316,17 +336,25 @@ arrives_as_data Payload.DataE e is = cc
 arrives_as_data Payload.NoData e is = cc
 arrives_as_data Payload.NoDataE e is = cc
 
-load_waits : (waiting : Option Op) → option_map request_for waiting ≡ Some request.GetS → waiting ≡ Some op.Load
-load_waits None e = cc
-load_waits (Some op.Load) e = refl
-load_waits (Some (op.Store v)) e = cc
-load_waits (Some op.Evict) e = cc
+load_op : (o : Op) → request_for o ≡ request.GetS → o ≡ op.Load
+load_op op.Load e = refl
+load_op (op.Store v) e = cc
+load_op op.Evict e = cc
 
-store_waits : (waiting : Option Op) → option_map request_for waiting ≡ Some request.GetM → (v : ℕ) × (waiting ≡ Some (op.Store v))
+store_op : (o : Op) → request_for o ≡ request.GetM → (v : ℕ) × (o ≡ op.Store v)
+store_op op.Load e = cc
+store_op (op.Store v) e = (v, refl)
+store_op op.Evict e = cc
+
+load_waits : (waiting : Option Access) → option_map (λ access. request_for access.op) waiting ≡ Some request.GetS → (word : ℕ) × (waiting ≡ Some (record { word = word; op = op.Load }))
+load_waits None e = cc
+load_waits (Some access) e = (access.word, ap (λ (o : Op). let a : Option Access = Some (record { word = access.word; op = o }) in a) (load_op access.op (let f : request_for access.op ≡ request.GetS = cc in f)))
+
+store_waits : (waiting : Option Access) → option_map (λ access. request_for access.op) waiting ≡ Some request.GetM → (word : ℕ) × ((v : ℕ) × (waiting ≡ Some (record { word = word; op = op.Store v })))
 store_waits None e = cc
-store_waits (Some op.Load) e = cc
-store_waits (Some (op.Store v)) e = (v, refl)
-store_waits (Some op.Evict) e = cc
+store_waits (Some access) e =
+    let is = store_op access.op (let f : request_for access.op ≡ request.GetM = cc in f) in
+    (access.word, (is.0, ap (λ (o : Op). let a : Option Access = Some (record { word = access.word; op = o }) in a) is.1))
 
 -- what the response brings to the caches
 abbrev Brings : Protocol → List Item → List Line → Open → Request → Type 0
@@ -336,15 +364,17 @@ module _ (p : Protocol) (log : List Item) (old : List Line) (o : Open) where
   fill : (e : CacheEvent) → arrival o.payload ≡ Some e → (act : CacheAction) (next : CacheState) → Cell p (held_at old o.core).state e act next → fills act (held_at old o.core).state ≡ true → IsProper (held_at old o.core)
       → (new : List Line) × ((did : Option Did) × FillsRequestor o p log old new did)
   fill e arrives action.FillLoad next row fits proper =
-      let did : Did = next_did log o.core o.block op.Load o.value false in (
+      let waits = load_waits _ (proper.waiting ∙ same_request-true _ _ fits) in
+      let v = word_at o.value waits.0 in
+      let did : Did = next_did log o.core o.block waits.0 op.Load v false in (
         slice_set old o.core (record { state = next; kept = Some o.value; waiting = None }),
         (
           Some did,
           record {
             line = record { state = next; kept = Some o.value; waiting = None };
-            asking = op.Load;
-            value = o.value;
-            fills = record { event = e; act = action.FillLoad; next = next; after = o.value; arrives = arrives; row = row; waited = load_waits _ (proper.waiting ∙ same_request-true _ _ fits); fill = tt; performed = (refl, refl); held = refl };
+            asking = record { word = waits.0; op = op.Load };
+            value = v;
+            fills = record { event = e; act = action.FillLoad; next = next; after = o.value; arrives = arrives; row = row; waited = waits.1; fill = tt; performed = (refl, refl); held = refl };
             held = refl;
             logged = refl;
           },
@@ -352,15 +382,16 @@ module _ (p : Protocol) (log : List Item) (old : List Line) (o : Open) where
       )
   fill e arrives action.FillStore next row fits proper =
       let waits = store_waits _ (proper.waiting ∙ same_request-true _ _ fits) in
-      let did : Did = next_did log o.core o.block (op.Store waits.0) waits.0 false in (
-        slice_set old o.core (record { state = next; kept = Some waits.0; waiting = None }),
+      let after = slice_set o.value waits.0 waits.1.0 in
+      let did : Did = next_did log o.core o.block waits.0 (op.Store waits.1.0) waits.1.0 false in (
+        slice_set old o.core (record { state = next; kept = Some after; waiting = None }),
         (
           Some did,
           record {
-            line = record { state = next; kept = Some waits.0; waiting = None };
-            asking = op.Store waits.0;
-            value = waits.0;
-            fills = record { event = e; act = action.FillStore; next = next; after = waits.0; arrives = arrives; row = row; waited = waits.1; fill = tt; performed = (refl, refl); held = refl };
+            line = record { state = next; kept = Some after; waiting = None };
+            asking = record { word = waits.0; op = op.Store waits.1.0 };
+            value = waits.1.0;
+            fills = record { event = e; act = action.FillStore; next = next; after = after; arrives = arrives; row = row; waited = waits.1.1; fill = tt; performed = (refl, refl); held = refl };
             held = refl;
             logged = refl;
           },
@@ -403,12 +434,12 @@ brings_to_memory p before o row = elim (or_not (takes_payload o.request before.m
   | inr idle ↦ (before.memory, record { act = mem_action.None; settled = rw idle (refl, refl); value = refl })
 ]
 
-respond_open : (s : Situation) → IsCoherent s → (block : ℕ) → block < s.shape.blocks → (o : Open) → (picture_of s block).transaction ≡ Some o → LeadsOn s (Respond block)
+respond_open : (s : Situation) → Invariant s → (block : ℕ) → block < s.shape.blocks → (o : Open) → (picture_of s block).transaction ≡ Some o → LeadsOn s (Respond block)
 respond_open s g block within o opened =
     let p = s.protocol in
     let before : Picture = picture_of s block in
-    let good = g.good block within in
-    let found : Answerable p before o = respond_possible p s.shape.cores (flat s.log block) before o good opened in
+    let good = g.blocks block within in
+    let found : Answerable p before o = respond_possible p s.shape.cores (flat_words s.log block) before o good opened in
     let caches = brings p s.log before.caches o o.request found.requestor (good.proper o.core (good.requestor_in o opened)) in
     let memory = brings_to_memory p before o found.memory in
     let next : Picture = record { caches = caches.0; memory = memory.0; transaction = None } in
@@ -441,7 +472,7 @@ respond_open s g block within o opened =
       ),
     )
 
-respond_leads : (s : Situation) → IsCoherent s → (block : ℕ) → LeadsOn s (Respond block)
+respond_leads : (s : Situation) → Invariant s → (block : ℕ) → LeadsOn s (Respond block)
 respond_leads s g block = elim (cases_lt block s.shape.blocks) [
   | inr past ↦ (Err NoBlock, (s, (past, refl)))
   | inl within ↦ go within (picture_of s block).transaction refl
@@ -451,14 +482,14 @@ respond_leads s g block = elim (cases_lt block s.shape.blocks) [
     go within None none = (Err NoTransaction, (s, ((within, none), refl)))
     go within (Some o) opened = respond_open s g block within o opened
 
-pub leads_on : (s : Situation) → IsCoherent s → IsWellKept s → (step : Step) → LeadsOn s step
-leads_on s g kept (Ask core block asking) = ask_leads s g core block asking
+pub leads_on : (s : Situation) → Invariant s → IsWellKept s → (step : Step) → LeadsOn s step
+leads_on s g kept (Ask core block word asking) = ask_leads s g core block word asking
 leads_on s g kept (Order core) = order_leads s g kept core
 leads_on s g kept (Respond block) = respond_leads s g block
 
 -- what every run keeps
 abbrev pub IsSteady : Situation → Type 0
-IsSteady s = IsCoherent s × IsWellKept s
+IsSteady s = Invariant s × IsWellKept s
 
 pub steady_on : KeepsWell → (old : Situation) (step : Step) (outcome : Result Reply Refused) (new : Situation) → IsSteady old → GoesFirst old step outcome new → IsSteady new
 steady_on keeps old step (Ok answer) new steady goes = (first_keeps old step answer new goes.0 steady.0 goes.1, keeps old new step answer goes.0 steady.1 goes.1)

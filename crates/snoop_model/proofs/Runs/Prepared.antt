@@ -13,7 +13,7 @@ use Rattle.snoop_model.specs.Moves.Prepared.{IsPrepared}
 
 -- a move adds its item to the log
 pub move-log : (old new : Situation) (step : Step) (answer : Reply) (added : Option Item) → FirstMove old step answer new added → new.log ≡ old.log ++ option_to_list added
-move-log old new (Ask core block asking) answer added m = elim m.1.1.2 [
+move-log old new (Ask core block word asking) answer added m = elim m.1.1.2 [
   | inl absent ↦ ap (λ (s : Situation). s.log) absent.3 ∙ (sym (append-nil old.log) ∙ ap (λ (e : Option Item). old.log ++ option_to_list e) (sym absent.4))
   | inr asks ↦ ap (λ (s : Situation). s.log) asks.after
 ]

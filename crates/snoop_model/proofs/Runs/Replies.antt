@@ -5,7 +5,7 @@ use Rattle.snoop_trace.specs.declared.step.Op.{Op}
 use Rattle.snoop_trace.specs.declared.step.Op.TheVariants as op
 use Rattle.snoop_trace.specs.declared.step.Step.{Step}
 use Rattle.snoop_trace.specs.declared.step.Step.TheVariants.{Ask, Order, Respond}
-use Rattle.snoop_rules.specs.declared.names.Protocol.{Protocol}
+use Rattle.snoop_trace.specs.declared.protocol.Protocol.{Protocol}
 use Rattle.snoop_rules.specs.declared.names.CacheState.{CacheState}
 use Rattle.snoop_rules.specs.declared.names.CacheEvent.{CacheEvent}
 use Rattle.snoop_rules.specs.declared.names.CacheEvent.TheVariants as event
@@ -20,7 +20,7 @@ use Rattle.snoop_rules.proofs.Every.{all_protocols, all_states, all_events}
 use Rattle.snoop_rules.proofs.Rows.{each_row, each_row-at}
 use Rattle.snoop_history.specs.declared.items.Item.{Item}
 use Rattle.snoop_history.specs.declared.items.Item.TheVariants as item
-use Rattle.snoop_model.specs.declared.line.Line.{Line}
+use Rattle.snoop_model.specs.Pictures.Lines.{Line}
 use Rattle.snoop_model.specs.declared.replies.Reply.{Reply}
 use Rattle.snoop_model.specs.declared.replies.Reply.TheVariants as reply
 use Rattle.snoop_model.specs.declared.replies.Refused.{Refused}
@@ -52,68 +52,69 @@ drop_gives_up : (p : Protocol) (s : CacheState) (e : CacheEvent) (n : CacheState
 unfolding each_row all_protocols all_states all_events
 drop_gives_up p s e n row = let t : gives_up e ≡ true = each_row-at reply_test refl p s e action.Drop n row in t
 
-issued_reply : (core block : ℕ) (asking : Op) (q : Request) → serves (asked asking) q ≡ true → IsReplyTo (Ask core block asking) (reply.Issued q)
-issued_reply core block op.Load request.GetS h = tt
-issued_reply core block op.Load request.GetM h = cc
-issued_reply core block op.Load request.PutM h = cc
-issued_reply core block (op.Store v) request.GetM h = tt
-issued_reply core block (op.Store v) request.GetS h = cc
-issued_reply core block (op.Store v) request.PutM h = cc
-issued_reply core block op.Evict request.PutM h = tt
-issued_reply core block op.Evict request.GetS h = cc
-issued_reply core block op.Evict request.GetM h = cc
+issued_reply : (core block word : ℕ) (asking : Op) (q : Request) → serves (asked asking) q ≡ true → IsReplyTo (Ask core block word asking) (reply.Issued q)
+issued_reply core block word op.Load request.GetS h = tt
+issued_reply core block word op.Load request.GetM h = cc
+issued_reply core block word op.Load request.PutM h = cc
+issued_reply core block word (op.Store v) request.GetM h = tt
+issued_reply core block word (op.Store v) request.GetS h = cc
+issued_reply core block word (op.Store v) request.PutM h = cc
+issued_reply core block word op.Evict request.PutM h = tt
+issued_reply core block word op.Evict request.GetS h = cc
+issued_reply core block word op.Evict request.GetM h = cc
 
-gone_reply : (core block : ℕ) (asking : Op) → gives_up (asked asking) ≡ true → IsReplyTo (Ask core block asking) reply.Gone
-gone_reply core block op.Evict h = tt
-gone_reply core block op.Load h = cc
-gone_reply core block (op.Store v) h = cc
+gone_reply : (core block word : ℕ) (asking : Op) → gives_up (asked asking) ≡ true → IsReplyTo (Ask core block word asking) reply.Gone
+gone_reply core block word op.Evict h = tt
+gone_reply core block word op.Load h = cc
+gone_reply core block word (op.Store v) h = cc
 
-performed_reply : (core block : ℕ) (asking : Op) (before value after : ℕ) → Performs asking before value after → IsReplyTo (Ask core block asking) (hit_reply asking value)
-performed_reply core block op.Load before value after h = tt
-performed_reply core block (op.Store v) before value after h = tt
-performed_reply core block op.Evict before value after h = absurd h
+performed_reply : (core block word : ℕ) (asking : Op) (before : List ℕ) (value : ℕ) (after : List ℕ) → Performs word asking before value after → IsReplyTo (Ask core block word asking) (hit_reply asking value)
+performed_reply core block word op.Load before value after h = tt
+performed_reply core block word (op.Store v) before value after h = tt
+performed_reply core block word op.Evict before value after h = absurd h
 
-module _ (p : Protocol) (next : CacheState) (log : List Item) (core block : ℕ) (asking : Op) (old new : Line) (answer : Reply) (entry : Option Item) where
-  taken_reply : (a : CacheAction) → Cell p old.state (asked asking) a next → Takes a next log core block asking old new answer entry → IsReplyTo (Ask core block asking) answer
-  taken_reply action.Hit row t = subst (λ (r : Reply). IsReplyTo (Ask core block asking) r) (sym t.1.1) (performed_reply core block asking t.1.0.before t.0 t.1.0.after t.1.0.performed)
-  taken_reply (action.Issue q) row t = subst (λ (r : Reply). IsReplyTo (Ask core block asking) r) (sym t.1) (issued_reply core block asking q (issue_serves p old.state (asked asking) q next row))
-  taken_reply action.Drop row t = subst (λ (r : Reply). IsReplyTo (Ask core block asking) r) (sym t.1) (gone_reply core block asking (drop_gives_up p old.state (asked asking) next row))
+module _ (p : Protocol) (next : CacheState) (log : List Item) (core block word : ℕ) (asking : Op) (old new : Line) (answer : Reply) (entry : Option Item) where
+  taken_reply : (a : CacheAction) → Cell p old.state (asked asking) a next → Takes a next log core block word asking old new answer entry → IsReplyTo (Ask core block word asking) answer
+  taken_reply action.Hit row t = subst (λ (r : Reply). IsReplyTo (Ask core block word asking) r) (sym t.1.1) (performed_reply core block word asking t.1.0.before t.0 t.1.0.after t.1.0.performed)
+  taken_reply (action.Issue q) row t = subst (λ (r : Reply). IsReplyTo (Ask core block word asking) r) (sym t.1) (issued_reply core block word asking q (issue_serves p old.state (asked asking) q next row))
+  taken_reply action.Drop row t = subst (λ (r : Reply). IsReplyTo (Ask core block word asking) r) (sym t.1) (gone_reply core block word asking (drop_gives_up p old.state (asked asking) next row))
   taken_reply _ row t = absurd t
 
-absent_reply : (core block : ℕ) (asking : Op) (answer : Reply) → asking ≡ op.Evict → answer ≡ reply.Absent → IsReplyTo (Ask core block asking) answer
-absent_reply core block asking answer e is = rw (e, is) tt
+absent_reply : (core block word : ℕ) (asking : Op) (answer : Reply) → asking ≡ op.Evict → answer ≡ reply.Absent → IsReplyTo (Ask core block word asking) answer
+absent_reply core block word asking answer e is = rw (e, is) tt
 
 pub move_replies : (old new : Situation) (step : Step) (answer : Reply) (entry : Option Item) → FirstMove old step answer new entry → IsReplyTo step answer
-move_replies old new (Ask core on asking) answer entry m = elim m.1.1.2 [
-  | inl absent ↦ absent_reply core on asking answer absent.0 absent.2
-  | inr a ↦ taken_reply old.protocol a.next old.log core on asking (held_by (picture_of old m.0) core) a.held answer entry a.act a.row
-      (let P : ℕ → Type 0 = λ b. Takes a.act a.next old.log core b asking (held_by (picture_of old m.0) core) a.held answer entry in subst P (sym m.1.1.0) a.taken)
+move_replies old new (Ask core on word asking) answer entry m = elim m.1.1.2 [
+  | inl absent ↦ absent_reply core on word asking answer absent.0 absent.2
+  | inr a ↦ taken_reply old.protocol a.next old.log core on word asking (held_by (picture_of old m.0) core) a.held answer entry a.act a.row
+      (let P : ℕ → Type 0 = λ b. Takes a.act a.next old.log core b word asking (held_by (picture_of old m.0) core) a.held answer entry in subst P (sym m.1.1.0) a.taken)
 ]
 move_replies old new (Order core) answer entry m = subst (λ (r : Reply). IsReplyTo (Order core) r) (sym m.1.1.1.1) tt
 move_replies old new (Respond on) answer entry m = subst (λ (r : Reply). IsReplyTo (Respond on) r) (sym m.1.1.1.1.2) tt
 
 -- an item that stands in the log of a load that hit
-hit_logs : (p : Protocol) (next : CacheState) (log : List Item) (core block : ℕ) (asking : Op) (old new : Line) (value : ℕ) (entry : Option Item) (a : CacheAction)
-    → Takes a next log core block asking old new (reply.Hit value) entry → (asking ≡ op.Load) × (entry ≡ Some (item.Did (next_did log core block op.Load value true)))
-hit_logs p next log core block op.Load old new value entry action.Hit t =
+hit_logs : (p : Protocol) (next : CacheState) (log : List Item) (core block word : ℕ) (asking : Op) (old new : Line) (value : ℕ) (entry : Option Item) (a : CacheAction)
+    → Takes a next log core block word asking old new (reply.Hit value) entry → (asking ≡ op.Load) × (entry ≡ Some (item.Did (next_did log core block word op.Load value true)))
+hit_logs p next log core block word op.Load old new value entry action.Hit t =
     let same : value ≡ t.0 = (let e = t.1.1 in cc) in
-    (refl, t.1.2 ∙ ap (λ (v : ℕ). let r : Option Item = Some (item.Did (next_did log core block op.Load v true)) in r) (sym same))
-hit_logs p next log core block (op.Store v) old new value entry action.Hit t = let e = t.1.1 in cc
-hit_logs p next log core block op.Evict old new value entry action.Hit t = absurd t.1.0.performed
-hit_logs p next log core block asking old new value entry (action.Issue q) t = let e = t.1 in cc
-hit_logs p next log core block asking old new value entry action.Drop t = let e = t.1 in cc
-hit_logs p next log core block asking old new value entry _ t = absurd t
+    (refl, t.1.2 ∙ ap (λ (v : ℕ). let r : Option Item = Some (item.Did (next_did log core block word op.Load v true)) in r) (sym same))
+hit_logs p next log core block word (op.Store v) old new value entry action.Hit t = let e = t.1.1 in cc
+hit_logs p next log core block word op.Evict old new value entry action.Hit t = absurd t.1.0.performed
+hit_logs p next log core block word asking old new value entry (action.Issue q) t = let e = t.1 in cc
+hit_logs p next log core block word asking old new value entry action.Drop t = let e = t.1 in cc
+hit_logs p next log core block word asking old new value entry _ t = absurd t
 
 pub load_hit : (old new : Situation) (step : Step) (value : ℕ) (entry : Option Item) → FirstMove old step (reply.Hit value) new entry → IsLoadHit step value old.log new.log
-load_hit old new (Ask core on asking) value entry m = elim m.1.1.2 [
+load_hit old new (Ask core on word asking) value entry m = elim m.1.1.2 [
   | inl absent ↦ (let e = absent.2 in cc)
   | inr a ↦
-      let h = hit_logs old.protocol a.next old.log core m.0 asking (held_by (picture_of old m.0) core) a.held value entry a.act a.taken in
-      let grown : new.log ≡ old.log ++ option_to_list entry = move-log old new (Ask core on asking) (reply.Hit value) entry m in
+      let h = hit_logs old.protocol a.next old.log core m.0 word asking (held_by (picture_of old m.0) core) a.held value entry a.act a.taken in
+      let grown : new.log ≡ old.log ++ option_to_list entry = move-log old new (Ask core on word asking) (reply.Hit value) entry m in
       record {
         core = core;
         block = m.0;
-        asked = ap (λ (b : ℕ). Ask core b asking) m.1.1.0 ∙ ap (λ (o : Op). Ask core m.0 o) h.0;
+        word = word;
+        asked = ap (λ (b : ℕ). Ask core b word asking) m.1.1.0 ∙ ap (λ (o : Op). Ask core m.0 word o) h.0;
         logged = grown ∙ ap (λ (e : Option Item). old.log ++ option_to_list e) h.1;
       }
 ]

@@ -2,7 +2,7 @@
 use Rattle.std.proofs.Common.{◌≡◌, ◌&&◌, ◌||◌, Bool, true, false, not, Option, Some, refl}
 use Rattle.std.specs.Prelude.{is_some}
 use Rattle.snoop_trace.specs.declared.step.Op.{Op}
-use Rattle.snoop_rules.specs.declared.names.Protocol.{Protocol}
+use Rattle.snoop_trace.specs.declared.protocol.Protocol.{Protocol}
 use Rattle.snoop_rules.specs.declared.names.CacheState.{CacheState}
 use Rattle.snoop_rules.specs.declared.names.CacheEvent.{CacheEvent}
 use Rattle.snoop_rules.specs.declared.names.CacheEvent.TheVariants as event

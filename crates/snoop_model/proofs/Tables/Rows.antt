@@ -1,12 +1,12 @@
 -- What holds of every row, found by trying all.
-use Rattle.std.proofs.Common.{◌≡◌, ℕ, Bool, true, false, not, ◌&&◌, ◌||◌, Option, Some, None, refl, sym, ◌∙◌}
+use Rattle.std.proofs.Common.{List, ◌≡◌, ℕ, Bool, true, false, not, ◌&&◌, ◌||◌, Option, Some, None, refl, sym, ◌∙◌}
 use Rattle.std.proofs.Common.{inl, inr, subst}
 use Rattle.std.proofs.Math.Bool.{and-true, and-false}
 use Rattle.std.proofs.lemmas.Bool.{and_parts, cases_eq, eq-eqb, ne_eqb}
 use Rattle.std.specs.Prelude.{is_some, option_map}
 use Rattle.snoop_trace.specs.declared.step.Op.{Op}
 use Rattle.snoop_trace.specs.declared.step.Op.TheVariants as op
-use Rattle.snoop_rules.specs.declared.names.Protocol.{Protocol}
+use Rattle.snoop_trace.specs.declared.protocol.Protocol.{Protocol}
 use Rattle.snoop_rules.specs.declared.names.CacheState.{CacheState}
 use Rattle.snoop_rules.specs.declared.names.CacheState.TheVariants.{I, IsAd, IsD, ImAd, ImD, S, SmAd, SmD, E, M, EiA, MiA, IiA}
 use Rattle.snoop_rules.specs.declared.names.CacheEvent.{CacheEvent}
@@ -21,7 +21,7 @@ use Rattle.snoop_rules.specs.Waits.{waiting_request}
 use Rattle.snoop_rules.specs.declared.names.CacheCell.{CacheCell}
 use Rattle.snoop_rules.proofs.Every.{all_protocols, all_states, all_events}
 use Rattle.snoop_rules.proofs.Rows.{each_row, each_row-at}
-use Rattle.snoop_model.specs.declared.line.Line.{Line}
+use Rattle.snoop_model.specs.Pictures.Lines.{Line}
 use Rattle.snoop_model.specs.Pictures.Picture.{kept_on}
 use Rattle.snoop_model.specs.Pictures.Sound.{keeps, request_for, missed_request, IsProper}
 use Rattle.snoop_model.specs.Moves.Move.{moves_to, kept_waiting, IsFillFor}
@@ -81,9 +81,9 @@ same_event _ _ = false
 -- after an issue the kept value is there where it was and is not given up, and the operation asked waits
 abbrev pub issue_line_test : Op → Protocol → CacheState → CacheEvent → CacheCell → Bool
 issue_line_test asking p s e row =
-    elim row.action [ action.Issue q ↦ not (same_event e (asked asking)) || (same_bool (keeps row.next) (keeps s && not (given_up row.next)) && same_request (option_map request_for (kept_waiting asking)) (missed_request row.next)) | _ ↦ true ]
+    elim row.action [ action.Issue q ↦ not (same_event e (asked asking)) || (same_bool (keeps row.next) (keeps s && not (given_up row.next)) && same_request (option_map (λ access. request_for access.op) (kept_waiting 0 asking)) (missed_request row.next)) | _ ↦ true ]
 
-is_some-kept_on : (next : CacheState) (kept : Option ℕ) (b : Bool) → is_some kept ≡ b → is_some (kept_on next kept) ≡ (b && not (given_up next))
+is_some-kept_on : (next : CacheState) (kept : Option (List ℕ)) (b : Bool) → is_some kept ≡ b → is_some (kept_on next kept) ≡ (b && not (given_up next))
 is_some-kept_on I kept b h = sym (and-false b)
 is_some-kept_on IsAd kept b h = h ∙ sym (and-true b)
 is_some-kept_on IsD kept b h = h ∙ sym (and-true b)
@@ -117,18 +117,24 @@ same_event-asked op.Load = refl
 same_event-asked (op.Store value) = refl
 same_event-asked op.Evict = refl
 
-pub IsProper-issue : (p : Protocol) (old : Line) (asking : Op) (q : Request) (n : CacheState) → IsProper old → Cell p old.state (asked asking) (action.Issue q) n
-    → IsProper (record { state = n; kept = kept_on n old.kept; waiting = kept_waiting asking })
-IsProper-issue p old asking q n proper row =
+pub IsProper-issue : (p : Protocol) (old : Line) (word : ℕ) (asking : Op) (q : Request) (n : CacheState) → IsProper old → Cell p old.state (asked asking) (action.Issue q) n
+    → IsProper (record { state = n; kept = kept_on n old.kept; waiting = kept_waiting word asking })
+IsProper-issue p old word asking q n proper row =
     let a = same_bool (keeps n) (keeps old.state && not (given_up n)) in
-    let b = same_request (option_map request_for (kept_waiting asking)) (missed_request n) in
+    let b = same_request (option_map (λ access. request_for access.op) (kept_waiting 0 asking)) (missed_request n) in
     let t : (not (same_event (asked asking) (asked asking)) || (a && b)) ≡ true = each_row-at (issue_line_test asking) (issue_line_all asking) p old.state (asked asking) (action.Issue q) n row in
     let u : (a && b) ≡ true = rw same_event-asked at t in
     let parts = and_parts a b u in
     record {
       kept = is_some-kept_on n old.kept (keeps old.state) proper.kept ∙ sym (same_bool-true _ _ parts.0);
-      waiting = same_request-true _ _ parts.1;
+      waiting = any_word word asking ∙ same_request-true _ _ parts.1;
     }
+  where
+    -- the request that an operation is for does not depend on its word
+    any_word : (w : ℕ) (o : Op) → option_map (λ access. request_for access.op) (kept_waiting w o) ≡ option_map (λ access. request_for access.op) (kept_waiting 0 o)
+    any_word w op.Load = refl
+    any_word w (op.Store value) = refl
+    any_word w op.Evict = refl
 
 -- a hit keeps a value, and what waits goes on waiting
 abbrev pub hit_test : Protocol → CacheState → CacheEvent → CacheCell → Bool
@@ -146,7 +152,7 @@ hit_facts p s e n row =
     let r = and_parts b c l.1 in
     (same_bool-true _ _ l.0, same_request-true _ _ r.0, same_request-true _ _ r.1)
 
-pub IsProper-hit : (p : Protocol) (old : Line) (e : CacheEvent) (n : CacheState) (after : ℕ) → IsProper old → Cell p old.state e action.Hit n
+pub IsProper-hit : (p : Protocol) (old : Line) (e : CacheEvent) (n : CacheState) (after : List ℕ) → IsProper old → Cell p old.state e action.Hit n
     → IsProper (record { state = n; kept = Some after; waiting = old.waiting })
 IsProper-hit p old e n after proper row =
     let f = hit_facts p old.state e n row in
@@ -302,7 +308,7 @@ fill_facts p s e a n asking fill row = absurd fill
 pub fill-waits : (p : Protocol) (s : CacheState) (e : CacheEvent) (a : CacheAction) (n : CacheState) (asking : Op) → IsFillFor a asking → Cell p s e a n → waiting_request n ≡ waiting_request s
 fill-waits p s e a n asking fill row = (fill_facts p s e a n asking fill row).2
 
-pub IsProper-fill : (p : Protocol) (s : CacheState) (e : CacheEvent) (a : CacheAction) (n : CacheState) (asking : Op) (after : ℕ) → IsFillFor a asking → Cell p s e a n
+pub IsProper-fill : (p : Protocol) (s : CacheState) (e : CacheEvent) (a : CacheAction) (n : CacheState) (asking : Op) (after : List ℕ) → IsFillFor a asking → Cell p s e a n
     → IsProper (record { state = n; kept = Some after; waiting = None })
 IsProper-fill p s e a n asking after fill row =
     let f = fill_facts p s e a n asking fill row in

@@ -1,6 +1,6 @@
 -- Tests of the states and of the table of claims, computed over all of them.
-use Rattle.std.proofs.Common.{◌≡◌, ◌&&◌, ◌||◌, ℕ, Bool, true, false, not, Option, Some, None, refl, ap}
-use Rattle.snoop_rules.specs.declared.names.Protocol.{Protocol}
+use Rattle.std.proofs.Common.{List, ◌≡◌, ◌&&◌, ◌||◌, ℕ, Bool, true, false, not, Option, Some, None, refl, ap}
+use Rattle.snoop_trace.specs.declared.protocol.Protocol.{Protocol}
 use Rattle.snoop_rules.specs.declared.names.CacheState.{CacheState}
 use Rattle.snoop_rules.specs.declared.names.CacheState.TheVariants as state
 use Rattle.snoop_rules.specs.declared.names.CacheEvent.TheVariants as event
@@ -29,7 +29,7 @@ pub owner_reads : (s : CacheState) → is_owner s ≡ true → keeps s ≡ true
 owner_reads s h = when_at _ _ h (all_states-at (λ s. when (is_owner s) (λ _. keeps s)) owner_reads_test s)
 
 -- a state that may read keeps the value
-pub kept_reader : (s : CacheState) (kept : Option ℕ) → keeps s ≡ true → kept_on s kept ≡ kept
+pub kept_reader : (s : CacheState) (kept : Option (List ℕ)) → keeps s ≡ true → kept_on s kept ≡ kept
 unfolding is_owner is_sharer
 kept_reader state.I kept h = cc
 kept_reader state.ImAd kept h = cc

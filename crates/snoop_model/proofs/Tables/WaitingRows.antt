@@ -5,7 +5,7 @@ use Rattle.std.proofs.lemmas.Bool.{false≢true, cases_eq, eq-eqb, ne_eqb}
 use Rattle.std.proofs.lemmas.Option.{same_Some}
 use Rattle.snoop_trace.specs.declared.step.Op.{Op}
 use Rattle.snoop_trace.specs.declared.step.Op.TheVariants as op
-use Rattle.snoop_rules.specs.declared.names.Protocol.{Protocol}
+use Rattle.snoop_trace.specs.declared.protocol.Protocol.{Protocol}
 use Rattle.snoop_rules.specs.declared.names.CacheState.{CacheState}
 use Rattle.snoop_rules.specs.declared.names.CacheState.TheVariants.{I, IsAd, IsD, ImAd, ImD, S, SmAd, SmD, E, M, EiA, MiA, IiA}
 use Rattle.snoop_rules.specs.declared.names.CacheEvent.{CacheEvent}
@@ -21,6 +21,7 @@ use Rattle.snoop_rules.specs.Takers.{asked, own, other, seen_by, arrival}
 use Rattle.snoop_rules.specs.declared.names.CacheCell.{CacheCell}
 use Rattle.snoop_rules.proofs.Every.{all_protocols, all_states, all_events}
 use Rattle.snoop_rules.proofs.Rows.{each_row, each_row-at}
+use Rattle.snoop_model.specs.declared.line.Access.{Access}
 use Rattle.snoop_model.specs.Moves.Move.{kept_waiting}
 use Rattle.snoop_model.specs.Pictures.Sound.{missed_request}
 use Rattle.snoop_model.specs.Invariant.WellKept.{awaited_request}
@@ -156,10 +157,10 @@ missed-asked p s op.Load a n row h = first_lasts (has_missed s) (has_missed n) _
 missed-asked p s (op.Store v) a n row h = first_lasts (has_missed s) (has_missed n) _ (each_row-at missed_test missed_test_holds p s event.Store a n row) h
 missed-asked p s op.Evict a n row h = lasts (has_missed s) (has_missed n) (each_row-at missed_test missed_test_holds p s event.Evict a n row) h
 
-pub missed-issued : (p : Protocol) (s : CacheState) (asking waiting : Op) (q : Request) (n : CacheState) → Cell p s (asked asking) (action.Issue q) n → kept_waiting asking ≡ Some waiting → has_missed n ≡ true
-missed-issued p s op.Load waiting q n row h = second_lasts (not (has_missed s) || has_missed n) true (has_missed n) (each_row-at missed_test missed_test_holds p s event.Load (action.Issue q) n row) refl
-missed-issued p s (op.Store v) waiting q n row h = second_lasts (not (has_missed s) || has_missed n) true (has_missed n) (each_row-at missed_test missed_test_holds p s event.Store (action.Issue q) n row) refl
-missed-issued p s op.Evict waiting q n row h = cc
+pub missed-issued : (p : Protocol) (s : CacheState) (word : ℕ) (asking : Op) (waiting : Access) (q : Request) (n : CacheState) → Cell p s (asked asking) (action.Issue q) n → kept_waiting word asking ≡ Some waiting → has_missed n ≡ true
+missed-issued p s word op.Load waiting q n row h = second_lasts (not (has_missed s) || has_missed n) true (has_missed n) (each_row-at missed_test missed_test_holds p s event.Load (action.Issue q) n row) refl
+missed-issued p s word (op.Store v) waiting q n row h = second_lasts (not (has_missed s) || has_missed n) true (has_missed n) (each_row-at missed_test missed_test_holds p s event.Store (action.Issue q) n row) refl
+missed-issued p s word op.Evict waiting q n row h = cc
 
 missed-own : (p : Protocol) (s : CacheState) (q : Request) (a : CacheAction) (n : CacheState) → Cell p s (own q) a n → has_missed s ≡ true → has_missed n ≡ true
 missed-own p s GetS a n row h = lasts (has_missed s) (has_missed n) (each_row-at missed_test missed_test_holds p s event.OwnGetS a n row) h

@@ -9,7 +9,7 @@ use Rattle.snoop_rules.specs.declared.names.Request.{Request}
 use Rattle.snoop_rules.specs.declared.names.CacheAction.{CacheAction}
 use Rattle.snoop_rules.specs.declared.names.CacheAction.TheVariants as action
 use Rattle.snoop_rules.specs.Waits.{waiting_request}
-use Rattle.snoop_bus.specs.declared.transactions.Open.{Open}
+use Rattle.snoop_bus.specs.Traffic.{Open}
 use Rattle.snoop_bus.specs.Queues.{queue_of}
 use Rattle.snoop_history.specs.declared.items.Item.{Item}
 use Rattle.snoop_model.specs.declared.replies.Reply.{Reply}
@@ -33,25 +33,25 @@ none_some : (o : Option ℕ) (b : ℕ) → o ≡ None → o ≡ Some b → ⊥
 none_some o b e f = cc
 
 -- the queues and the transactions are as before
-same_queues : (s t : Situation) (core block : ℕ) (asking : Op) (answer : Reply) (entry : Option Item) → FirstMove s (Ask core block asking) answer t entry → ((request : Request) → answer ≢ Issued request) → (t.queues ≡ s.queues) × (t.transactions ≡ s.transactions)
-same_queues s t core block asking answer entry m other = by_kind m.1.1.2
+same_queues : (s t : Situation) (core block word : ℕ) (asking : Op) (answer : Reply) (entry : Option Item) → FirstMove s (Ask core block word asking) answer t entry → ((request : Request) → answer ≢ Issued request) → (t.queues ≡ s.queues) × (t.transactions ≡ s.transactions)
+same_queues s t core block word asking answer entry m other = by_kind m.1.1.2
   where
-    by_act : (a : Asks s core m.0 asking answer t entry) → (act : CacheAction) → a.act ≡ act → queues_after a.act s.queues core m.0 ≡ s.queues
+    by_act : (a : Asks s core m.0 word asking answer t entry) → (act : CacheAction) → a.act ≡ act → queues_after a.act s.queues core m.0 ≡ s.queues
     by_act a (action.Issue request) e =
-        let P : CacheAction → Type 0 = λ x. Takes x a.next s.log core m.0 asking (held_by (picture_of s m.0) core) a.held answer entry in
+        let P : CacheAction → Type 0 = λ x. Takes x a.next s.log core m.0 word asking (held_by (picture_of s m.0) core) a.held answer entry in
         let taken = subst P e a.taken in
         absurd (other request taken.1)
     by_act a action.Hit e = rw e refl
     by_act a action.Drop e = rw e refl
     by_act a _ e = rw e refl
 
-    by_kind : IsAbsent s core m.0 asking answer t entry ⊎ Asks s core m.0 asking answer t entry → (t.queues ≡ s.queues) × (t.transactions ≡ s.transactions)
+    by_kind : IsAbsent s core m.0 asking answer t entry ⊎ Asks s core m.0 word asking answer t entry → (t.queues ≡ s.queues) × (t.transactions ≡ s.transactions)
     by_kind (inl absent) = (ap (λ (x : Situation). x.queues) absent.3, ap (λ (x : Situation). x.transactions) absent.3)
     by_kind (inr a) = (ap (λ (x : Situation). x.queues) a.after ∙ by_act a a.act refl, ap (λ (x : Situation). x.transactions) a.after)
 
 pub asked_once : AskedOnce
-asked_once s t under_way core block asking answer entry serving idle kept m other =
-    let same = same_queues s t core block asking answer entry m other in
+asked_once s t under_way core block word asking answer entry serving idle kept m other =
+    let same = same_queues s t core block word asking answer entry m other in
     idle_turn core block (waiting_request (state_of t core block)) (picture_of t block).transaction
     (λ r w. none_some (under_way core) block idle (All-contains (λ b. under_way core ≡ Some b) (queue_of s.queues core) block (serving.waits core) (subst (λ q. Contains (queue_of q core) block) same.0 (kept.queued core block r w))))
     (λ o is c. none_some (under_way o.core) block (ap under_way c ∙ idle) (serving.opened block o (ap (λ l. slice_index_or l block None) (sym same.1) ∙ is)))

@@ -11,13 +11,14 @@ use Rattle.snoop_rules.specs.declared.names.CacheState.TheVariants as state
 use Rattle.snoop_rules.specs.declared.names.Request.{Request}
 use Rattle.snoop_rules.specs.declared.names.Request.TheVariants.{GetS, GetM}
 use Rattle.snoop_rules.specs.Waits.{waiting_request}
-use Rattle.snoop_bus.specs.declared.transactions.Open.{Open}
+use Rattle.snoop_bus.specs.Traffic.{Open}
+use Rattle.snoop_model.specs.declared.line.Access.{Access}
 use Rattle.snoop_model.specs.Pictures.Picture.{held_by}
 use Rattle.snoop_model.specs.Pictures.Situation.{Situation, picture_of, state_of}
 use Rattle.snoop_model.specs.Invariant.WellKept.{IsWellKept, awaited_request}
 use Rattle.snoop_model.proofs.Tables.WaitingRows.{has_missed}
 use Rattle.snoop_model.specs.Turns.Turn.{turn_of, step_under_way}
-use Rattle.snoop_model.specs.Runs.Once.{waits_for, one_if, same_op}
+use Rattle.snoop_model.specs.Runs.Once.{waits_for, one_if, same_access}
 use Rattle.snoop_model.specs.Runs.Owed.{ClosedIsLast}
 
 -- a request waits, or its data is awaited
@@ -33,9 +34,9 @@ missed state.ImD e = inr (GetM, refl)
 missed state.SmD e = inr (GetM, refl)
 missed _ e = absurd (true≢false (sym e))
 
-pub some_waits : (o : Option Op) (wanted : Op) → option_map_or (λ asking. one_if (same_op wanted asking)) o 0 ≡ 1 → (asking : Op) × (o ≡ Some asking)
+pub some_waits : (o : Option Access) (wanted : Access) → option_map_or (λ access. one_if (same_access wanted access)) o 0 ≡ 1 → (access : Access) × (o ≡ Some access)
 some_waits None wanted e = absurd (omega arith)
-some_waits (Some asking) wanted e = (asking, refl)
+some_waits (Some access) wanted e = (access, refl)
 
 no_step : (core block : ℕ) (w : Option Request) (o : Option Open) → step_under_way w o core block ≡ None → ((r : Request) × (w ≡ Some r)) ⊎ ((t : Open) × (o ≡ Some t) × (t.core ≡ core)) → ⊥
 no_step core block (Some r) None e h = cc
@@ -48,8 +49,8 @@ no_step core block None (Some u) e (inr (t, y, z)) =
     let clash = subst P (eq-eqb u.core core (ap (λ (v : Open). v.core) same ∙ z)) e in
     cc
 
-pub has_step : (s : Situation) (core block : ℕ) (asking wanted : Op) → IsWellKept s → waits_for s core block wanted ≡ 1 → turn_of s core block asking true ≡ None → ⊥
-has_step s core block asking wanted kept waits none =
+pub has_step : (s : Situation) (core block word : ℕ) (asking : Op) (wanted : Access) → IsWellKept s → waits_for s core block wanted ≡ 1 → turn_of s core block word asking true ≡ None → ⊥
+has_step s core block word asking wanted kept waits none =
     let it = some_waits (held_by (picture_of s block) core).waiting wanted waits in
     by_state (missed (state_of s core block) (kept.operations core block it.0 it.1))
   where
@@ -61,5 +62,5 @@ has_step s core block asking wanted kept waits none =
 
 -- where no step is left, the operation is the core's last one
 pub closed_is_last : ClosedIsLast
-closed_is_last s core block asking wanted kept (inl waits) none = absurd (has_step s core block asking wanted kept waits none)
-closed_is_last s core block asking wanted kept (inr last) none = last
+closed_is_last s core block word asking wanted kept (inl waits) none = absurd (has_step s core block word asking wanted kept waits none)
+closed_is_last s core block word asking wanted kept (inr last) none = last

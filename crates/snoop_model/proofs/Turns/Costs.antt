@@ -4,7 +4,7 @@ use Rattle.std.specs.Prelude.{sum_by, count_by, is_some, slice_set}
 use Rattle.snoop_trace.specs.declared.step.Step.TheVariants.{Ask, Order, Respond}
 use Rattle.snoop_rules.specs.declared.names.CacheAction.{CacheAction}
 use Rattle.snoop_rules.specs.declared.names.CacheAction.TheVariants as action
-use Rattle.snoop_bus.specs.declared.transactions.Open.{Open}
+use Rattle.snoop_bus.specs.Traffic.{Open}
 use Rattle.snoop_bus.specs.Queues.{after_order}
 use Rattle.snoop_model.specs.Pictures.Situation.{Situation}
 use Rattle.snoop_model.specs.Moves.Move.{queues_after}
@@ -26,7 +26,7 @@ abbrev owes : List (List ℕ) → List (Option Open) → ℕ
 owes lines transactions = 2 * sum_by length lines + count_by is_some transactions
 
 pub pays : Pays
-pays s t (Ask core on asking) answer entry move = elim move.1.1.2 [
+pays s t (Ask core on word asking) answer entry move = elim move.1.1.2 [
   | inl absent ↦ let e : owed t ≡ owed s = ap (λ (x : Situation). owed x) absent.3 in omega arith
   | inr asks ↦
       let e : owed t ≡ owes (queues_after asks.act s.queues core move.0) s.transactions = ap (λ (x : Situation). owed x) asks.after in

@@ -4,6 +4,7 @@ use Rattle.std.specs.Prelude.{◌==◌, is_some, All, slice_index_or, slice_set,
 use Rattle.std.proofs.lemmas.Bool.{false≢true, cases_eq, eq-eqb}
 use Rattle.std.proofs.lemmas.Option.{same_Some}
 use Rattle.std.proofs.lemmas.List.Elements.{All-contains, All-weaker, Contains-get_or}
+use Rattle.snoop_trace.specs.Words.{HasWord}
 use Rattle.snoop_trace.specs.declared.step.Op.{Op}
 use Rattle.snoop_trace.specs.declared.step.Step.{Step}
 use Rattle.snoop_trace.specs.declared.step.Step.TheVariants.{Ask, Order, Respond}
@@ -12,8 +13,9 @@ use Rattle.snoop_rules.specs.declared.names.CacheAction.TheVariants as action
 use Rattle.snoop_rules.specs.declared.names.Request.{Request}
 use Rattle.snoop_rules.specs.Waits.{waiting_request}
 use Rattle.snoop_rules.specs.Takers.{asked}
-use Rattle.snoop_bus.specs.declared.transactions.Open.{Open}
+use Rattle.snoop_bus.specs.Traffic.{Open}
 use Rattle.snoop_bus.specs.Queues.{queue_of}
+use Rattle.snoop_model.specs.declared.line.Access.{Access}
 use Rattle.snoop_model.specs.declared.replies.Refused.{Refused}
 use Rattle.snoop_model.specs.declared.replies.Refused.TheVariants.{NoCore, NoBlock, Stalled, NothingWaiting, BusTaken, NoTransaction, NoMemory}
 use Rattle.snoop_model.specs.Pictures.Picture.{held_by}
@@ -55,10 +57,10 @@ none_left None (Some o) core block h = (
 two_blocks : (b : ℕ) → ◌≡◌ {A = Option ℕ} None (Some b) → ⊥
 two_blocks b h = cc
 
-module _ (s : Situation) (under_way : ℕ → Option ℕ) (core block : ℕ) (asking : Op) (serving : IsServing under_way s) (kept : IsWellKept s) (has_core : core < s.shape.cores) (has_block : block < s.shape.blocks) where
-  ask_goes : under_way core ≡ None → (cause : Refused) → Refuses s (Ask core block asking) cause → ⊥
+module _ (s : Situation) (under_way : ℕ → Option ℕ) (core block word : ℕ) (asking : Op) (serving : IsServing under_way s) (kept : IsWellKept s) (has_core : core < s.shape.cores) (has_block : block < s.shape.blocks) (has_word : HasWord s.shape word asking) where
+  ask_goes : under_way core ≡ None → (cause : Refused) → Refuses s (Ask core block word asking) cause → ⊥
   ask_goes idle NoCore h = absurd (omega arith)
-  ask_goes idle NoBlock h = let l = h.1 in absurd (omega arith)
+  ask_goes idle NoBlock h = elim h.1 [ inl l ↦ absurd (omega arith) | inr none ↦ absurd (none has_word) ]
   ask_goes idle (Stalled state) h =
       two_blocks block (sym idle ∙ busy_under_way s under_way serving kept core block (stall_busy s.protocol (state_of s core block) (asked asking) h.2.0 h.2.1))
   ask_goes idle NothingWaiting h = absurd h
@@ -89,14 +91,14 @@ module _ (s : Situation) (under_way : ℕ → Option ℕ) (core block : ℕ) (as
   respond_goes o open_here NoMemory h = absurd h
 
 pub never_refused : NeverRefused
-never_refused s under_way core block asking false step serving kept has_core has_block works is cause refused =
+never_refused s under_way core block word asking false step serving kept has_core has_block has_word works is cause refused =
     let R : Step → Type 0 = λ x. Refuses s x cause in
-    ask_goes s under_way core block asking serving kept has_core has_block works cause (subst R (sym (same_Some _ _ is)) refused)
-never_refused s under_way core block asking true step serving kept has_core has_block works is cause refused =
+    ask_goes s under_way core block word asking serving kept has_core has_block has_word works cause (subst R (sym (same_Some _ _ is)) refused)
+never_refused s under_way core block word asking true step serving kept has_core has_block has_word works is cause refused =
     let R : Step → Type 0 = λ x. Refuses s x cause in
     elim (under_way_step (waiting_request (state_of s core block)) (picture_of s block).transaction core block step is) [
-      | inl p ↦ order_goes s under_way core block asking serving kept has_core has_block works p.1 p.2.0 p.2.1 cause (subst R p.0 refused)
-      | inr p ↦ respond_goes s under_way core block asking serving kept has_core has_block p.1.0 p.1.1 cause (subst R p.0 refused)
+      | inl p ↦ order_goes s under_way core block word asking serving kept has_core has_block has_word works p.1 p.2.0 p.2.1 cause (subst R p.0 refused)
+      | inr p ↦ respond_goes s under_way core block word asking serving kept has_core has_block has_word p.1.0 p.1.1 cause (subst R p.0 refused)
     ]
 
 module _ (s : Situation) (before after : ℕ → Option ℕ) (serving : IsServing before s) (extends : (core block : ℕ) → before core ≡ Some block → after core ≡ Some block) where
@@ -127,7 +129,7 @@ module _ (s : Situation) (before after : ℕ → Option ℕ) (serving : IsServin
   ]
 
 pub serves_on : ServesOn
-serves_on s t before after (Ask core on asking) answer entry serving move extends its =
+serves_on s t before after (Ask core on word asking) answer entry serving move extends its =
     let P : Situation → Type 0 = λ x. IsServing after x in
     elim move.1.1.2 [
       | inl absent ↦ subst P (sym absent.3) (record { waits = still_waits s before after serving extends; opened = still_opened s before after serving extends })
@@ -159,7 +161,7 @@ serves_on s t before after (Respond on) answer entry serving move extends its =
     })
 
 pub ends : Ends
-ends s before after core block asking serving kept works none others =
+ends s before after core block word asking serving kept works none others =
     let left = none_left (waiting_request (state_of s core block)) (picture_of s block).transaction core block none in
     record {
       waits = λ k. elim (cases_eq k core) [
@@ -188,7 +190,7 @@ no_open : (t : Option Open) → ((o : Open) → t ≡ Some o → ⊥) → t ≡ 
 no_open None h = refl
 no_open (Some o) h = absurd (h o refl)
 
-no_operation : (t : Option Op) → ((o : Op) → t ≡ Some o → ⊥) → t ≡ None
+no_operation : (t : Option Access) → ((o : Access) → t ≡ Some o → ⊥) → t ≡ None
 no_operation None h = refl
 no_operation (Some o) h = absurd (h o refl)
 

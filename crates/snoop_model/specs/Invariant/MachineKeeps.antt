@@ -5,7 +5,7 @@ use Rattle.snoop_rules.specs.declared.names.MemState.{MemState}
 use Rattle.snoop_model.specs.Pictures.Situation.{Situation, picture_of}
 use Rattle.snoop_model.specs.Pictures.InQueue.{IsInQueue}
 use Rattle.snoop_model.specs.Moves.SenderTable.{IsOnLine}
-use Rattle.snoop_model.specs.Invariant.Coherent.{IsCoherent}
+use Rattle.snoop_model.specs.Invariant.Invariant.{Invariant}
 use Rattle.snoop_model.specs.Invariant.WellKept.{IsWellKept}
 
 -- each open transaction is on a line of the table of senders, with memory's state now
@@ -14,7 +14,7 @@ AreOnLines s = (block : ℕ) → IfSome (picture_of s block).transaction (λ tra
 
 -- what every machine keeps: the inductive invariant, open transactions on lines of the table of senders, and queues and transactions as the states of the lines say
 pub record MachineKeeps (s : Situation) : Type 0 where
-  pub coherent : IsCoherent s
+  pub inductive : Invariant s
   pub on_lines : AreOnLines s
   pub queued : (core block : ℕ) → IsInQueue s core block
   pub well_kept : IsWellKept s

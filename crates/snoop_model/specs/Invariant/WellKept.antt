@@ -1,12 +1,12 @@
 -- What every run keeps between the states of the lines, the queues and the open transactions.
 -- Source: the states are those of "A Primer on Memory Consistency and Cache Coherence", 2nd edition, chapter 7.
 use Rattle.std.specs.Prelude.{◌≡◌, ℕ, ◌<◌, length, Contains, Option, Some, None, IsSome}
-use Rattle.snoop_trace.specs.declared.step.Op.{Op}
+use Rattle.snoop_model.specs.declared.line.Access.{Access}
 use Rattle.snoop_rules.specs.declared.names.CacheState.{CacheState}
 use Rattle.snoop_rules.specs.declared.names.CacheState.TheVariants.{IsD, ImD, SmD}
 use Rattle.snoop_rules.specs.declared.names.Request.{Request}
 use Rattle.snoop_rules.specs.declared.names.Request.TheVariants.{GetS, GetM}
-use Rattle.snoop_bus.specs.declared.transactions.Open.{Open}
+use Rattle.snoop_bus.specs.Traffic.{Open}
 use Rattle.snoop_bus.specs.Queues.{queue_of}
 use Rattle.snoop_model.specs.Pictures.Picture.{held_by}
 use Rattle.snoop_model.specs.Pictures.Situation.{Situation, picture_of, state_of, Waits}
@@ -41,4 +41,4 @@ pub record IsWellKept (s : Situation) : Type 0 where
   -- a core that awaits data has the block's transaction open
   pub awaits : (core block : ℕ) (request : Request) → awaited_request (state_of s core block) ≡ Some request → HasOpen s core block request
   -- an operation waits only where a load or a store has missed
-  pub operations : (core block : ℕ) (asking : Op) → (held_by (picture_of s block) core).waiting ≡ Some asking → IsSome (missed_request (state_of s core block))
+  pub operations : (core block : ℕ) (access : Access) → (held_by (picture_of s block) core).waiting ≡ Some access → IsSome (missed_request (state_of s core block))

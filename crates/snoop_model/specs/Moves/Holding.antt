@@ -1,6 +1,7 @@
 -- How many lines a core's map has, from step to step.
 -- Source: this project's profile.
 use Rattle.std.specs.Prelude.{◌≡◌, ◌≢◌, ◌≤◌, ◌+◌, ℕ, true, false}
+use Rattle.snoop_trace.specs.Words.{HasWord}
 use Rattle.snoop_trace.specs.declared.step.Op.TheVariants as op
 use Rattle.snoop_trace.specs.declared.step.Step.{Step}
 use Rattle.snoop_trace.specs.declared.step.Step.TheVariants.{Ask, Order, Respond}
@@ -11,8 +12,8 @@ use Rattle.snoop_model.specs.Moves.Standing.{Standing, lines_of, has_line}
 
 -- the step is an Ask of the core that leaves I, a load or a store of a block that the core does not hold, and its map has no line for the block yet
 abbrev pub NeedsLine : Standing → Step → ℕ → Type 0
-NeedsLine s (Ask asker block asking) core =
-    (asker ≡ core) × IsWithin s.situation asker block × (asking ≢ op.Evict) × (state_of s.situation asker block ≡ I) × (has_line s asker block ≡ false)
+NeedsLine s (Ask asker block word asking) core =
+    (asker ≡ core) × IsWithin s.situation asker block × (asking ≢ op.Evict) × (state_of s.situation asker block ≡ I) × (has_line s asker block ≡ false) × HasWord s.situation.shape word asking
 NeedsLine s (Order orderer) core = ⊥
 NeedsLine s (Respond block) core = ⊥
 

@@ -4,7 +4,7 @@ use Rattle.std.specs.Prelude.{◌≡◌, ◌≢◌, ℕ, Option, Some, IsSomeAnd
 use Rattle.snoop_trace.specs.declared.step.Op.TheVariants as op
 use Rattle.snoop_trace.specs.declared.step.Step.{Step}
 use Rattle.snoop_trace.specs.declared.step.Step.TheVariants.{Ask, Order, Respond}
-use Rattle.snoop_rules.specs.declared.names.Protocol.{Protocol}
+use Rattle.snoop_trace.specs.declared.protocol.Protocol.{Protocol}
 use Rattle.snoop_rules.specs.declared.names.CacheState.{CacheState}
 use Rattle.snoop_rules.specs.declared.names.CacheState.TheVariants as state
 use Rattle.snoop_rules.specs.declared.names.CacheEvent.{CacheEvent}
@@ -17,7 +17,7 @@ use Rattle.snoop_rules.specs.declared.names.Request.TheVariants.{PutM}
 use Rattle.snoop_rules.specs.Cell.{Cell}
 use Rattle.snoop_rules.specs.MemoryCell.{MemoryCell}
 use Rattle.snoop_rules.specs.Takers.{asked, seen_by, at_memory, arrival, arrival_at_memory, takes_payload}
-use Rattle.snoop_bus.specs.declared.transactions.Open.{Open}
+use Rattle.snoop_bus.specs.Traffic.{Open}
 use Rattle.snoop_model.specs.Pictures.Situation.{Situation, picture_of, state_of, CanOrder}
 
 -- the cache table has a row for the pair
@@ -31,7 +31,7 @@ HasMemRow protocol memory event = (act : MemAction) × ((next : MemState) × Mem
 -- at the step the core looks up its row for this event on the block: at an Ask the asker for its operation, but not for an Evict in I; at an Order of a free block each core for the request;
 -- and at a Respond the requestor for its payload, but not at a PutM. A payload that is for memory alone is no event, and has no row
 abbrev pub ConsultsCache : Situation → Step → ℕ → ℕ → Option CacheEvent → Type 0
-ConsultsCache s (Ask asker on asking) core block event =
+ConsultsCache s (Ask asker on word asking) core block event =
     (core ≡ asker) × (block ≡ on) × (¬ ((asking ≡ op.Evict) × (state_of s core block ≡ state.I))) × (event ≡ Some (asked asking))
 ConsultsCache s (Order requestor) core block event = (request : Request) × (CanOrder s requestor block request × (event ≡ Some (seen_by core requestor request)))
 ConsultsCache s (Respond on) core block event =
@@ -39,7 +39,7 @@ ConsultsCache s (Respond on) core block event =
 
 -- at the step memory looks up its row for this event on the block: the request, or the payload that it takes. A payload that is for a requestor alone is no event, and has no row
 abbrev pub ConsultsMemory : Situation → Step → ℕ → Option MemEvent → Type 0
-ConsultsMemory s (Ask asker on asking) block event = ⊥
+ConsultsMemory s (Ask asker on word asking) block event = ⊥
 ConsultsMemory s (Order requestor) block event = (request : Request) × (CanOrder s requestor block request × (event ≡ Some (at_memory request)))
 ConsultsMemory s (Respond on) block event =
     (closing : Open) × ((block ≡ on) × ((picture_of s block).transaction ≡ Some closing) × IsTrue (takes_payload closing.request (picture_of s block).memory.state) × (event ≡ arrival_at_memory closing.payload))

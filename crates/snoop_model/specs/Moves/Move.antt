@@ -1,11 +1,12 @@
 -- The moves of the machine.
 -- Source: "A Primer on Memory Consistency and Cache Coherence", 2nd edition, chapter 7: atomic transactions, each controller taking its row of the tables; replies and items are this project's profile.
 use Rattle.std.specs.Prelude.{◌≡◌, ℕ, ◌<◌, Bool, true, false, List, [], ◌∷◌, ◌++◌, length, Option, Some, None, option_to_list, slice_set, MatchBool, IsSomeAnd, ◌⊎◌, ⊤}
+use Rattle.snoop_trace.specs.Words.{Data, HasWord, word_at}
 use Rattle.snoop_trace.specs.declared.step.Op.{Op}
 use Rattle.snoop_trace.specs.declared.step.Op.TheVariants as op
 use Rattle.snoop_trace.specs.declared.step.Step.{Step}
 use Rattle.snoop_trace.specs.declared.step.Step.TheVariants.{Ask, Order, Respond}
-use Rattle.snoop_rules.specs.declared.names.Protocol.{Protocol}
+use Rattle.snoop_trace.specs.declared.protocol.Protocol.{Protocol}
 use Rattle.snoop_rules.specs.declared.names.CacheState.{CacheState}
 use Rattle.snoop_rules.specs.declared.names.CacheState.TheVariants as state
 use Rattle.snoop_rules.specs.declared.names.CacheEvent.{CacheEvent}
@@ -26,21 +27,21 @@ use Rattle.snoop_history.specs.declared.items.Came.{Came}
 use Rattle.snoop_history.specs.declared.items.Item.{Item}
 use Rattle.snoop_history.specs.declared.items.Item.TheVariants as item
 use Rattle.snoop_history.specs.History.{next_number}
-use Rattle.snoop_bus.specs.declared.transactions.Open.{Open}
+use Rattle.snoop_bus.specs.Traffic.{Open}
 use Rattle.snoop_bus.specs.Queues.{after_issue, after_order}
 use Rattle.snoop_model.specs.declared.replies.Reply.{Reply}
 use Rattle.snoop_model.specs.declared.replies.Reply.TheVariants as reply
 use Rattle.snoop_model.specs.Pictures.Picture.{Picture, held_at, held_by, kept_on}
 use Rattle.snoop_model.specs.Pictures.Situation.{Situation, picture_of, with_picture, state_of, CanOrder, StandsFirst}
-use Rattle.snoop_model.specs.declared.line.Line.{Line}
-use Rattle.snoop_model.specs.declared.memory.MemLine.{MemLine}
+use Rattle.snoop_model.specs.Pictures.Lines.{Line, MemLine}
+use Rattle.snoop_model.specs.declared.line.Access.{Access}
 use Rattle.snoop_model.specs.Pictures.Sends.{IsOnlySender, value_sent}
 
--- an operation on a block's value: the value that it loads or stores, and the block's value after it
-abbrev pub Performs : Op → ℕ → ℕ → ℕ → Type 0
-Performs op.Load before value after = (value ≡ before) × (after ≡ before)
-Performs (op.Store stored) before value after = (value ≡ stored) × (after ≡ stored)
-Performs op.Evict before value after = ⊥
+-- an operation on one word of a block: the value that it loads or stores, and the block's words after it; a store keeps the other words
+abbrev pub Performs : ℕ → Op → Data → ℕ → Data → Type 0
+Performs word op.Load before value after = (value ≡ word_at before word) × (after ≡ before)
+Performs word (op.Store stored) before value after = (value ≡ stored) × (after ≡ slice_set before word stored)
+Performs word op.Evict before value after = ⊥
 
 -- the operation is a load
 abbrev pub is_load : Op → Bool
@@ -55,29 +56,29 @@ hit_reply (op.Store stored) value = reply.StoreHit
 hit_reply op.Evict value = reply.Gone
 
 -- the operation that waits once its request is issued
-abbrev pub kept_waiting : Op → Option Op
-kept_waiting op.Load = Some op.Load
-kept_waiting (op.Store stored) = Some (op.Store stored)
-kept_waiting op.Evict = None
+abbrev pub kept_waiting : ℕ → Op → Option Access
+kept_waiting word op.Load = Some (record { word = word; op = op.Load })
+kept_waiting word (op.Store stored) = Some (record { word = word; op = op.Store stored })
+kept_waiting word op.Evict = None
 
 -- the core's next operation in the log, as it is performed
-abbrev pub next_did : List Item → ℕ → ℕ → Op → ℕ → Bool → Did
-next_did log core block op value hit = record { core = core; number = next_number log core; block = block; load = is_load op; value = value; hit = hit }
+abbrev pub next_did : List Item → ℕ → ℕ → ℕ → Op → ℕ → Bool → Did
+next_did log core block word op value hit = record { core = core; number = next_number log core; block = block; word = word; load = is_load op; value = value; hit = hit }
 
 -- a core that moves to a state with nothing performed
 abbrev pub moves_to : CacheState → Line → Line
 moves_to next held = record { state = next; kept = kept_on next held.kept; waiting = held.waiting }
 
 -- a core that moves to a state with its request issued: the operation waits, but an eviction does not
-abbrev pub moves_waiting : CacheState → Op → Line → Line
-moves_waiting next asking held = record (moves_to next held) { waiting = kept_waiting asking }
+abbrev pub moves_waiting : CacheState → ℕ → Op → Line → Line
+moves_waiting next word asking held = record (moves_to next held) { waiting = kept_waiting word asking }
 
--- what a hit leaves in a line: the operation is performed on the kept value
-pub record Hits (next : CacheState) (old new : Line) (asking : Op) (value : ℕ) : Type 0 where
-  pub before : ℕ
-  pub after : ℕ
+-- what a hit leaves in a line: the operation is performed on the kept words
+pub record Hits (next : CacheState) (old new : Line) (word : ℕ) (asking : Op) (value : ℕ) : Type 0 where
+  pub before : Data
+  pub after : Data
   pub kept : old.kept ≡ Some before
-  pub performed : Performs asking before value after
+  pub performed : Performs word asking before value after
   pub held : new ≡ record { state = next; kept = Some after; waiting = old.waiting }
 
 -- a core takes its row for a request, its own or another's
@@ -95,26 +96,26 @@ IsFillFor action.FillStore (op.Store stored) = ⊤
 IsFillFor _ _ = ⊥
 
 -- the data reaches the requestor's line, and the operation that waits there is performed with it
-pub record Fills (closing : Open) (protocol : Protocol) (old new : Line) (asking : Op) (value : ℕ) : Type 0 where
+pub record Fills (closing : Open) (protocol : Protocol) (old new : Line) (asking : Access) (value : ℕ) : Type 0 where
   pub event : CacheEvent
   pub act : CacheAction
   pub next : CacheState
-  pub after : ℕ
+  pub after : Data
   pub arrives : arrival closing.payload ≡ Some event
   pub row : Cell protocol old.state event act next
   pub waited : old.waiting ≡ Some asking
-  pub fill : IsFillFor act asking
-  pub performed : Performs asking closing.value value after
+  pub fill : IsFillFor act asking.op
+  pub performed : Performs asking.word asking.op closing.value value after
   pub held : new ≡ record { state = next; kept = Some after; waiting = None }
 
 -- the same, on the requestor's line among all lines, and the operation as the history will have it
 pub record FillsRequestor (closing : Open) (protocol : Protocol) (log : List Item) (old new : List Line) (did : Option Did) : Type 0 where
   pub line : Line
-  pub asking : Op
+  pub asking : Access
   pub value : ℕ
   pub fills : Fills closing protocol (held_at old closing.core) line asking value
   pub held : new ≡ slice_set old closing.core line
-  pub logged : did ≡ Some (next_did log closing.core closing.block asking value false)
+  pub logged : did ≡ Some (next_did log closing.core closing.block asking.word asking.op value false)
 
 -- what a response brings to the caches: nothing at a PutM
 abbrev pub ArrivesFor : Request → Open → Protocol → List Item → List Line → List Line → Option Did → Type 0
@@ -122,8 +123,8 @@ ArrivesFor PutM closing protocol log old new did = (new ≡ old) × (did ≡ Non
 ArrivesFor GetS closing protocol log old new did = FillsRequestor closing protocol log old new did
 ArrivesFor GetM closing protocol log old new did = FillsRequestor closing protocol log old new did
 
--- memory's value after an action: a write takes the data's value
-abbrev pub written : MemAction → ℕ → ℕ → ℕ
+-- memory's words after an action: a write takes the data's
+abbrev pub written : MemAction → Data → Data → Data
 written mem_action.Write value before = value
 written _ value before = before
 
@@ -154,15 +155,15 @@ IsAbsent old core block asking answer new entry =
     (asking ≡ op.Evict) × (state_of old core block ≡ state.I) × (answer ≡ reply.Absent) × (new ≡ old) × (entry ≡ None)
 
 -- what one core holds after an Ask by this row, what is replied, and the item that is added; a stall is no move
-abbrev pub Takes : CacheAction → CacheState → List Item → ℕ → ℕ → Op → Line → Line → Reply → Option Item → Type 0
-Takes action.Hit next log core block asking old new answer entry =
-    (value : ℕ) × (Hits next old new asking value × (answer ≡ hit_reply asking value)
-    × (entry ≡ Some (item.Did (next_did log core block asking value true))))
-Takes (action.Issue request) next log core block asking old new answer entry =
-    (new ≡ moves_waiting next asking old) × (answer ≡ reply.Issued request) × (entry ≡ None)
-Takes action.Drop next log core block asking old new answer entry =
+abbrev pub Takes : CacheAction → CacheState → List Item → ℕ → ℕ → ℕ → Op → Line → Line → Reply → Option Item → Type 0
+Takes action.Hit next log core block word asking old new answer entry =
+    (value : ℕ) × (Hits next old new word asking value × (answer ≡ hit_reply asking value)
+    × (entry ≡ Some (item.Did (next_did log core block word asking value true))))
+Takes (action.Issue request) next log core block word asking old new answer entry =
+    (new ≡ moves_waiting next word asking old) × (answer ≡ reply.Issued request) × (entry ≡ None)
+Takes action.Drop next log core block word asking old new answer entry =
     (new ≡ moves_to next old) × (answer ≡ reply.Gone) × (entry ≡ None)
-Takes _ next log core block asking old new answer entry = ⊥
+Takes _ next log core block word asking old new answer entry = ⊥
 
 -- the queues after an Ask: an issue puts the block last
 abbrev pub queues_after : CacheAction → List (List ℕ) → ℕ → ℕ → List (List ℕ)
@@ -170,12 +171,12 @@ queues_after (action.Issue request) queues core block = after_issue queues core 
 queues_after _ queues core block = queues
 
 -- an Ask that takes a row: that one core takes it
-pub record Asks (old : Situation) (core block : ℕ) (asking : Op) (answer : Reply) (new : Situation) (entry : Option Item) : Type 0 where
+pub record Asks (old : Situation) (core block word : ℕ) (asking : Op) (answer : Reply) (new : Situation) (entry : Option Item) : Type 0 where
   pub act : CacheAction
   pub next : CacheState
   pub held : Line
   pub row : Cell old.protocol (state_of old core block) (asked asking) act next
-  pub taken : Takes act next old.log core block asking (held_by (picture_of old block) core) held answer entry
+  pub taken : Takes act next old.log core block word asking (held_by (picture_of old block) core) held answer entry
   pub after : new ≡ record old {
     caches = slice_set old.caches block (slice_set (picture_of old block).caches core held);
     queues = queues_after act old.queues core block;
@@ -183,8 +184,8 @@ pub record Asks (old : Situation) (core block : ℕ) (asking : Op) (answer : Rep
   }
 
 -- an Evict in I, or an Ask that takes a row
-abbrev pub MovesAsk : Situation → ℕ → ℕ → Op → Reply → Situation → Option Item → Type 0
-MovesAsk old core block asking answer new entry = IsAbsent old core block asking answer new entry ⊎ Asks old core block asking answer new entry
+abbrev pub MovesAsk : Situation → ℕ → ℕ → ℕ → Op → Reply → Situation → Option Item → Type 0
+MovesAsk old core block word asking answer new entry = IsAbsent old core block asking answer new entry ⊎ Asks old core block word asking answer new entry
 
 -- an Order: each controller takes its row for the request, looked up before it, at once
 pub record Orders (old : Situation) (core block : ℕ) (request : Request) (new : Situation) : Type 0 where
@@ -216,8 +217,8 @@ pub record Responds (old : Situation) (block : ℕ) (closing : Open) (did : Opti
 
 -- the step, on this block, is answered by this reply, leads from old to new, and adds this item, if any
 abbrev pub MoveOn : ℕ → Situation → Step → Reply → Situation → Option Item → Type 0
-MoveOn block old (Ask core on asking) answer new entry =
-    (on ≡ block) × IsWithin old core block × MovesAsk old core block asking answer new entry
+MoveOn block old (Ask core on word asking) answer new entry =
+    (on ≡ block) × IsWithin old core block × MovesAsk old core block word asking answer new entry × HasWord old.shape word asking
 MoveOn block old (Order core) answer new entry =
     (request : Request) × (IsWithin old core block × (answer ≡ reply.Ordered request)
     × (entry ≡ Some (item.Sent (record { core = core; request = request; block = block })))
@@ -235,7 +236,7 @@ Move old step answer new entry = (block : ℕ) × MoveOn block old step answer n
 -- an Order takes the block that stands first
 abbrev pub TakesFirst : Situation → Step → ℕ → Type 0
 TakesFirst old (Order core) block = StandsFirst old core block
-TakesFirst old (Ask core on asking) block = ⊤
+TakesFirst old (Ask core on word asking) block = ⊤
 TakesFirst old (Respond on) block = ⊤
 
 -- a move in which an Order takes the block that stands first

@@ -28,7 +28,7 @@ room_to _ before core block = 1
 
 -- there is no room for the item or the request that the step adds, or none for the line that its request needs
 abbrev pub IsFull : Standing → Step → Type 0
-IsFull before (Ask core block asking) =
+IsFull before (Ask core block word asking) =
     (act : CacheAction) × ((next : CacheState) × (Cell before.situation.protocol (state_of before.situation core block) (asked asking) act next × (room_to act before core block ≡ 0)))
 IsFull before (Order core) = before.room ≡ 0
 IsFull before (Respond block) = before.room ≡ 0

@@ -1,6 +1,7 @@
 -- When a step is refused, and why.
 -- Source: this project's profile.
-use Rattle.std.specs.Prelude.{◌≡◌, ℕ, ◌<◌, ◌≤◌, None, IsSome}
+use Rattle.std.specs.Prelude.{◌≡◌, ℕ, ◌<◌, ◌≤◌, ◌⊎◌, None, IsSome}
+use Rattle.snoop_trace.specs.Words.{HasWord}
 use Rattle.snoop_trace.specs.declared.step.Op.{Op}
 use Rattle.snoop_trace.specs.declared.step.Step.{Step}
 use Rattle.snoop_trace.specs.declared.step.Step.TheVariants.{Ask, Order, Respond}
@@ -24,9 +25,9 @@ WaitsOnNone s core = (block : ℕ) (request : Request) → ¬ Waits s core block
 
 -- the step is refused for this cause, the first that holds
 abbrev pub Refuses : Situation → Step → Refused → Type 0
-Refuses s (Ask core block asking) NoCore = s.shape.cores ≤ core
-Refuses s (Ask core block asking) NoBlock = (core < s.shape.cores) × (s.shape.blocks ≤ block)
-Refuses s (Ask core block asking) (Stalled state) = IsWithin s core block × (state ≡ state_of s core block) × IsStall s core block asking
+Refuses s (Ask core block word asking) NoCore = s.shape.cores ≤ core
+Refuses s (Ask core block word asking) NoBlock = (core < s.shape.cores) × ((s.shape.blocks ≤ block) ⊎ (¬ HasWord s.shape word asking))
+Refuses s (Ask core block word asking) (Stalled state) = IsWithin s core block × (state ≡ state_of s core block) × IsStall s core block asking × HasWord s.shape word asking
 Refuses s (Order core) NoCore = s.shape.cores ≤ core
 Refuses s (Order core) NothingWaiting = (core < s.shape.cores) × WaitsOnNone s core
 Refuses s (Order core) (BusTaken block) = (core < s.shape.cores) × StandsFirst s core block × IsSome (picture_of s block).transaction

@@ -13,13 +13,13 @@ use Rattle.snoop_model.specs.Moves.Move.{next_did}
 
 -- the step may be answered by this reply: a load hits or issues GetS, a store hits or issues GetM, an Evict gives the copy up, finds none or issues PutM
 abbrev pub IsReplyTo : Step → Reply → Type 0
-IsReplyTo (Ask core block op.Load) (Hit value) = ⊤
-IsReplyTo (Ask core block op.Load) (Issued GetS) = ⊤
-IsReplyTo (Ask core block (op.Store stored)) StoreHit = ⊤
-IsReplyTo (Ask core block (op.Store stored)) (Issued GetM) = ⊤
-IsReplyTo (Ask core block op.Evict) Gone = ⊤
-IsReplyTo (Ask core block op.Evict) Absent = ⊤
-IsReplyTo (Ask core block op.Evict) (Issued PutM) = ⊤
+IsReplyTo (Ask core block word op.Load) (Hit value) = ⊤
+IsReplyTo (Ask core block word op.Load) (Issued GetS) = ⊤
+IsReplyTo (Ask core block word (op.Store stored)) StoreHit = ⊤
+IsReplyTo (Ask core block word (op.Store stored)) (Issued GetM) = ⊤
+IsReplyTo (Ask core block word op.Evict) Gone = ⊤
+IsReplyTo (Ask core block word op.Evict) Absent = ⊤
+IsReplyTo (Ask core block word op.Evict) (Issued PutM) = ⊤
 IsReplyTo (Order core) (Ordered request) = ⊤
 IsReplyTo (Respond block) (Came payload from did) = ⊤
 IsReplyTo _ _ = ⊥
@@ -28,5 +28,6 @@ IsReplyTo _ _ = ⊥
 pub record IsLoadHit (step : Step) (value : ℕ) (before after : List Item) : Type 0 where
   pub core : ℕ
   pub block : ℕ
-  pub asked : step ≡ Ask core block op.Load
-  pub logged : after ≡ before ++ item.Did (next_did before core block op.Load value true) ∷ []
+  pub word : ℕ
+  pub asked : step ≡ Ask core block word op.Load
+  pub logged : after ≡ before ++ item.Did (next_did before core block word op.Load value true) ∷ []

@@ -1,9 +1,10 @@
 -- Each Order, each open transaction and each Respond goes by the table of senders.
 -- Source: "A Primer on Memory Consistency and Cache Coherence", 2nd edition, chapter 7; MESI's memory is this project's profile.
 use Rattle.std.specs.Prelude.{◌≡◌, ℕ, Option, Some, None, IfSome, option_map, ⊤}
+use Rattle.snoop_trace.specs.Words.{Data}
 use Rattle.snoop_trace.specs.declared.step.Step.{Step}
 use Rattle.snoop_trace.specs.declared.step.Step.TheVariants.{Ask, Order, Respond}
-use Rattle.snoop_rules.specs.declared.names.Protocol.{Protocol}
+use Rattle.snoop_trace.specs.declared.protocol.Protocol.{Protocol}
 use Rattle.snoop_rules.specs.declared.names.CacheState.{CacheState}
 use Rattle.snoop_rules.specs.declared.names.MemState.{MemState}
 use Rattle.snoop_rules.specs.declared.names.MemAction.{MemAction}
@@ -13,7 +14,7 @@ use Rattle.snoop_rules.specs.declared.names.Payload.{Payload}
 use Rattle.snoop_rules.specs.Takers.{at_memory}
 use Rattle.snoop_rules.specs.WhoSends.{SentAs}
 use Rattle.snoop_history.specs.declared.items.Item.{Item}
-use Rattle.snoop_bus.specs.declared.transactions.Open.{Open}
+use Rattle.snoop_bus.specs.Traffic.{Open}
 use Rattle.snoop_model.specs.declared.replies.Reply.{Reply}
 use Rattle.snoop_model.specs.Pictures.Picture.{Picture, held_by}
 use Rattle.snoop_model.specs.Pictures.Situation.{Situation, picture_of, CanOrder}
@@ -41,7 +42,7 @@ pub record FollowsSenderTable (protocol : Protocol) (before : Picture) (core : �
 pub record IsOrderedByTable (old : Situation) (core block : ℕ) (request : Request) (new : Situation) : Type 0 where
   pub from : Option ℕ
   pub payload : Payload
-  pub value : ℕ
+  pub value : Data
   pub opened : (picture_of new block).transaction ≡ Some (record { core = core; request = request; block = block; payload = payload; value = value; from = from })
   pub is_line : IsLine old.protocol (picture_of old block) core request from payload (picture_of new block).memory.state
 
@@ -56,7 +57,7 @@ pub record IsSettledByTable (old : Situation) (block : ℕ) (new : Situation) : 
 abbrev pub IsByTable : ℕ → Situation → Step → Situation → Type 0
 IsByTable block old (Order core) new = (request : Request) × (CanOrder old core block request × IsOrderedByTable old core block request new)
 IsByTable block old (Respond on) new = IsSettledByTable old block new
-IsByTable block old (Ask core on asking) new = ⊤
+IsByTable block old (Ask core on word asking) new = ⊤
 
 -- each move from here is by the table
 abbrev pub MovesAreByTable : Situation → Type 0

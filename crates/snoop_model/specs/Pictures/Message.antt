@@ -1,14 +1,13 @@
 -- The look-up of the sender at an Order, and the rows that the cores take.
 -- Source: this project's profile.
 use Rattle.std.specs.Prelude.{◌≡◌, ℕ, ◌<◌, List, length, Option, Some, None, if◌then◌else◌}
-use Rattle.snoop_rules.specs.declared.names.Protocol.{Protocol}
+use Rattle.snoop_trace.specs.Words.{Data, zero_words}
+use Rattle.snoop_trace.specs.declared.protocol.Protocol.{Protocol}
 use Rattle.snoop_rules.specs.declared.names.Request.{Request}
 use Rattle.snoop_rules.specs.Takers.{seen_by, carries_value}
 use Rattle.snoop_rules.specs.declared.names.MemAction.{MemAction}
 use Rattle.snoop_rules.specs.declared.names.MemAction.TheVariants as mem_action
-use Rattle.snoop_model.specs.declared.line.Line.{Line}
-use Rattle.snoop_model.specs.declared.memory.MemLine.{MemLine}
-use Rattle.snoop_model.specs.declared.message.Message.{Message}
+use Rattle.snoop_model.specs.Pictures.Lines.{Line, MemLine, Message}
 use Rattle.snoop_model.specs.Pictures.Picture.{Picture, held_at, held_by}
 use Rattle.snoop_model.specs.Pictures.Sends.{IsOnlySender, value_sent}
 use Rattle.snoop_model.specs.Moves.Move.{TakesRow}
@@ -30,7 +29,7 @@ pub record TakesRows (protocol : Protocol) (core : ℕ) (request : Request) (old
   pub rows : (k : ℕ) → k < length old → TakesRow protocol (seen_by k core request) (held_at old k) (held_at new k)
 
 -- the message that memory sends by an action
-abbrev pub memory_message : MemAction → ℕ → Option Message
-memory_message (mem_action.Send payload) value = Some (record { payload = payload; value = if carries_value payload then value else 0; from = None })
+abbrev pub memory_message : MemAction → Data → Option Message
+memory_message (mem_action.Send payload) value = Some (record { payload = payload; value = if carries_value payload then value else zero_words; from = None })
 memory_message mem_action.None value = None
 memory_message mem_action.Write value = None

@@ -1,7 +1,7 @@
 -- A single writer, or many readers.
 -- Source: "A Primer on Memory Consistency and Cache Coherence", 2nd edition: the single-writer-multiple-reader invariant.
 use Rattle.std.specs.Prelude.{◌≢◌, ℕ}
-use Rattle.snoop_rules.specs.declared.names.Protocol.{Protocol}
+use Rattle.snoop_trace.specs.declared.protocol.Protocol.{Protocol}
 use Rattle.snoop_rules.specs.Possible.{MayLoad, MayStore}
 use Rattle.snoop_model.specs.Pictures.Picture.{Picture, held_by}
 

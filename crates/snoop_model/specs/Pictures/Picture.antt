@@ -1,15 +1,15 @@
 -- The picture of a block: what each core, memory and the bus hold of it.
 -- Source: "A Primer on Memory Consistency and Cache Coherence", 2nd edition, chapter 7, system model.
 use Rattle.std.specs.Prelude.{ℕ, List, Option, None, slice_index_or}
-use Rattle.snoop_rules.specs.declared.names.Protocol.{Protocol}
-use Rattle.snoop_rules.specs.declared.names.Protocol.TheVariants.{Msi, Mesi}
+use Rattle.snoop_trace.specs.Words.{Data}
+use Rattle.snoop_trace.specs.declared.protocol.Protocol.{Protocol}
+use Rattle.snoop_trace.specs.declared.protocol.Protocol.TheVariants.{Msi, Mesi}
 use Rattle.snoop_rules.specs.declared.names.CacheState.{CacheState}
 use Rattle.snoop_rules.specs.declared.names.CacheState.TheVariants.{I, ImAd, IiA}
 use Rattle.snoop_rules.specs.declared.names.MemState.{MemState}
 use Rattle.snoop_rules.specs.declared.names.MemState.TheVariants as mem
-use Rattle.snoop_model.specs.declared.line.Line.{Line}
-use Rattle.snoop_model.specs.declared.memory.MemLine.{MemLine}
-use Rattle.snoop_bus.specs.declared.transactions.Open.{Open}
+use Rattle.snoop_model.specs.Pictures.Lines.{Line, MemLine}
+use Rattle.snoop_bus.specs.Traffic.{Open}
 
 -- each core's line, memory's line, and the open transaction, if any
 pub record Picture : Type 0 where
@@ -34,8 +34,8 @@ abbrev pub first_memory : Protocol → MemState
 first_memory Msi = mem.IorS
 first_memory Mesi = mem.I
 
--- what is left of a kept value when a state comes: it is given up in I, IM_AD and II_A
-abbrev pub kept_on : CacheState → Option ℕ → Option ℕ
+-- what is left of kept words when a state comes: they are given up in I, IM_AD and II_A
+abbrev pub kept_on : CacheState → Option Data → Option Data
 kept_on I kept = None
 kept_on ImAd kept = None
 kept_on IiA kept = None

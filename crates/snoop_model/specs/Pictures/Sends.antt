@@ -1,7 +1,8 @@
 -- Who sends at an Order.
 -- Source: "A Primer on Memory Consistency and Cache Coherence", 2nd edition, chapter 7; the rows for MESI memory and E's eviction are this project's profile.
 use Rattle.std.specs.Prelude.{◌≡◌, ℕ, ◌<◌, length, Option, Some, None, unwrap_or, if◌then◌else◌}
-use Rattle.snoop_rules.specs.declared.names.Protocol.{Protocol}
+use Rattle.snoop_trace.specs.Words.{Data, zero_words}
+use Rattle.snoop_trace.specs.declared.protocol.Protocol.{Protocol}
 use Rattle.snoop_rules.specs.declared.names.CacheState.{CacheState}
 use Rattle.snoop_rules.specs.declared.names.CacheAction.TheVariants as action
 use Rattle.snoop_rules.specs.declared.names.MemState.{MemState}
@@ -25,11 +26,11 @@ pub record IsOnlySender (protocol : Protocol) (before : Picture) (core : ℕ) (r
   pub sends : Sends protocol before core request from payload
   pub alone : (other : Option ℕ) (message : Payload) → Sends protocol before core request other message → other ≡ from
 
--- the value that the controller can send
-abbrev pub value_at : Picture → Option ℕ → ℕ
+-- the words that the controller can send
+abbrev pub value_at : Picture → Option ℕ → Data
 value_at before None = before.memory.value
-value_at before (Some core) = unwrap_or (held_by before core).kept 0
+value_at before (Some core) = unwrap_or (held_by before core).kept zero_words
 
--- the value in the message
-abbrev pub value_sent : Picture → Option ℕ → Payload → ℕ
-value_sent before from payload = if carries_value payload then value_at before from else 0
+-- the words in the message
+abbrev pub value_sent : Picture → Option ℕ → Payload → Data
+value_sent before from payload = if carries_value payload then value_at before from else zero_words

@@ -2,15 +2,15 @@
 -- Source: this project's profile.
 use Rattle.std.specs.Prelude.{◌≡◌, ℕ, List, [], Option, Some, None, slice_get, slice_index_or, slice_set, replicate}
 use Rattle.snoop_trace.specs.Extent.{Extent}
-use Rattle.snoop_rules.specs.declared.names.Protocol.{Protocol}
+use Rattle.snoop_trace.specs.Words.{zero_words}
+use Rattle.snoop_trace.specs.declared.protocol.Protocol.{Protocol}
 use Rattle.snoop_rules.specs.declared.names.CacheState.{CacheState}
 use Rattle.snoop_rules.specs.declared.names.Request.{Request}
 use Rattle.snoop_rules.specs.Waits.{waiting_request}
 use Rattle.snoop_history.specs.declared.items.Item.{Item}
 use Rattle.snoop_model.specs.Pictures.Picture.{Picture, first_memory, nothing_held, held_by}
-use Rattle.snoop_model.specs.declared.line.Line.{Line}
-use Rattle.snoop_model.specs.declared.memory.MemLine.{MemLine}
-use Rattle.snoop_bus.specs.declared.transactions.Open.{Open}
+use Rattle.snoop_model.specs.Pictures.Lines.{Line, MemLine}
+use Rattle.snoop_bus.specs.Traffic.{Open}
 use Rattle.snoop_bus.specs.Queues.{queue_of}
 use Rattle.snoop_rules.specs.declared.names.MemState.TheVariants.{IorS}
 
@@ -31,7 +31,7 @@ reset protocol shape =
       protocol = protocol;
       shape = shape;
       caches = replicate shape.blocks (replicate shape.cores nothing_held);
-      memory = replicate shape.blocks (record { state = first_memory protocol; value = 0 });
+      memory = replicate shape.blocks (record { state = first_memory protocol; value = zero_words });
       transactions = replicate shape.blocks None;
       queues = replicate shape.cores [];
       log = [];
@@ -39,7 +39,7 @@ reset protocol shape =
 
 -- what stands for memory outside the shape
 abbrev pub no_memory : MemLine
-no_memory = record { state = IorS; value = 0 }
+no_memory = record { state = IorS; value = zero_words }
 
 -- the picture of a block
 abbrev pub picture_of : Situation → ℕ → Picture

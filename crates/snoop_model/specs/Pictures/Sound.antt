@@ -9,9 +9,9 @@ use Rattle.snoop_rules.specs.declared.names.CacheState.TheVariants.{IsAd, IsD, I
 use Rattle.snoop_rules.specs.declared.names.Request.{Request}
 use Rattle.snoop_rules.specs.declared.names.Request.TheVariants.{GetS, GetM, PutM}
 use Rattle.snoop_rules.specs.Waits.{waiting_request}
-use Rattle.snoop_bus.specs.declared.transactions.Open.{Open}
+use Rattle.snoop_bus.specs.Traffic.{Open}
 use Rattle.snoop_bus.specs.Traffic.{Traffic, waiting_of, transaction_on}
-use Rattle.snoop_model.specs.declared.line.Line.{Line}
+use Rattle.snoop_model.specs.Pictures.Lines.{Line}
 use Rattle.snoop_model.specs.Pictures.Picture.{held_at}
 
 -- a kept value is there in this state: the state may read
@@ -41,10 +41,10 @@ missed_request SmAd = Some GetM
 missed_request SmD = Some GetM
 missed_request _ = None
 
--- a line keeps a value exactly in the states that may be read, and an operation waits in it exactly in those in which one has missed, a load or a store as the state says; so a line in I holds nothing
+-- a line keeps words exactly in the states that may be read, and an operation waits in it exactly in those in which one has missed, a load or a store as the state says; so a line in I holds nothing
 pub record IsProper (line : Line) : Type 0 where
   pub kept : is_some line.kept ≡ keeps line.state
-  pub waiting : option_map request_for line.waiting ≡ missed_request line.state
+  pub waiting : option_map (λ access. request_for access.op) line.waiting ≡ missed_request line.state
 
 -- what the core holds of the block
 abbrev pub line_at : List (List Line) → ℕ → ℕ → Line

@@ -8,6 +8,7 @@ use Rattle.snoop_trace.specs.declared.step.Step.{Step}
 use Rattle.snoop_trace.specs.declared.step.Step.TheVariants.{Ask, Order, Respond}
 use Rattle.snoop_history.specs.declared.items.Did.{Did}
 use Rattle.snoop_history.specs.History.{answers_of}
+use Rattle.snoop_model.specs.declared.line.Access.{Access}
 use Rattle.snoop_model.specs.declared.replies.Reply.{Reply}
 use Rattle.snoop_model.specs.declared.replies.Refused.{Refused}
 use Rattle.snoop_model.specs.Pictures.Picture.{held_by}
@@ -19,6 +20,10 @@ same_op op.Load op.Load = true
 same_op (op.Store v) (op.Store w) = v == w
 same_op _ _ = false
 
+-- the same operation on the same word
+abbrev pub same_access : Access → Access → Bool
+same_access wanted access = wanted.word == access.word && same_op wanted.op access.op
+
 -- the steps that were taken
 abbrev pub taken : List Step → List (Result Reply Refused) → List Step
 taken [] outcomes = []
@@ -27,8 +32,8 @@ taken (step ∷ steps) (Ok answer ∷ outcomes) = step ∷ taken steps outcomes
 taken (step ∷ steps) (Err cause ∷ outcomes) = taken steps outcomes
 
 -- the step is this core's Ask of the operation on the block
-abbrev pub asks : ℕ → ℕ → Op → Step → Bool
-asks core block wanted (Ask c b asking) = c == core && (b == block && same_op wanted asking)
+abbrev pub asks : ℕ → ℕ → Access → Step → Bool
+asks core block wanted (Ask c b word asking) = c == core && (b == block && same_access wanted (record { word = word; op = asking }))
 asks core block wanted (Order c) = false
 asks core block wanted (Respond b) = false
 
@@ -41,9 +46,13 @@ op_of false value = op.Store value
 abbrev pub did_op : Did → Op
 did_op did = op_of did.load did.value
 
+-- the operation that was performed, with its word
+abbrev pub did_access : Did → Access
+did_access did = record { word = did.word; op = did_op did }
+
 -- it is this operation on this block
-abbrev pub did_it : ℕ → Op → Did → Bool
-did_it block wanted did = did.block == block && same_op wanted (did_op did)
+abbrev pub did_it : ℕ → Access → Did → Bool
+did_it block wanted did = did.block == block && same_access wanted (did_access did)
 
 -- 1 where it is so, else 0
 abbrev pub one_if : Bool → ℕ
@@ -51,22 +60,22 @@ one_if true = 1
 one_if false = 0
 
 -- 1 where the core's operation on the block waits, else 0
-abbrev pub waits_for : Situation → ℕ → ℕ → Op → ℕ
-waits_for s core block wanted = option_map_or (λ asking. one_if (same_op wanted asking)) (held_by (picture_of s block) core).waiting 0
+abbrev pub waits_for : Situation → ℕ → ℕ → Access → ℕ
+waits_for s core block wanted = option_map_or (λ access. one_if (same_access wanted access)) (held_by (picture_of s block) core).waiting 0
 
 -- how often the core's operation on the block stands in the log or waits
-abbrev pub tally : Situation → ℕ → ℕ → Op → ℕ
+abbrev pub tally : Situation → ℕ → ℕ → Access → ℕ
 tally s core block wanted = count_by (did_it block wanted) (answers_of s.log core) + waits_for s core block wanted
 
 -- how often the core's taken Asks are of the operation on the block
-abbrev pub times_asked : List Step → List (Result Reply Refused) → ℕ → ℕ → Op → ℕ
+abbrev pub times_asked : List Step → List (Result Reply Refused) → ℕ → ℕ → Access → ℕ
 times_asked steps outcomes core block wanted = count_by (asks core block wanted) (taken steps outcomes)
 
 -- the taken Asks of loads and stores are the operations in the log and those that wait, each as often
 abbrev pub Once : List Step → List (Result Reply Refused) → Situation → Type 0
-Once steps outcomes s = (core block : ℕ) (wanted : Op) → tally s core block wanted ≡ times_asked steps outcomes core block wanted
+Once steps outcomes s = (core block : ℕ) (wanted : Access) → tally s core block wanted ≡ times_asked steps outcomes core block wanted
 
 -- the same as growth, from one situation to another
 abbrev pub OnceMore : Situation → List Step → List (Result Reply Refused) → Situation → Type 0
 OnceMore old steps outcomes new =
-    (core block : ℕ) (wanted : Op) → tally new core block wanted ≡ tally old core block wanted + times_asked steps outcomes core block wanted
+    (core block : ℕ) (wanted : Access) → tally new core block wanted ≡ tally old core block wanted + times_asked steps outcomes core block wanted

@@ -8,6 +8,7 @@ use Rattle.snoop_rules.specs.declared.names.Request.{Request}
 use Rattle.snoop_history.specs.declared.items.Did.{Did}
 use Rattle.snoop_history.specs.declared.items.Item.{Item}
 use Rattle.snoop_history.specs.History.{last_of}
+use Rattle.snoop_model.specs.declared.line.Access.{Access}
 use Rattle.snoop_model.specs.declared.replies.Reply.{Reply}
 use Rattle.snoop_model.specs.declared.replies.Reply.TheVariants.{Issued}
 use Rattle.snoop_model.specs.Pictures.Situation.{Situation}
@@ -18,17 +19,17 @@ use Rattle.snoop_model.specs.Turns.Serving.{IsServing}
 use Rattle.snoop_model.specs.Turns.Turn.{turn_of}
 
 -- the last operation that the core performed is this one on the block
-abbrev pub IsLast : Situation → ℕ → ℕ → Op → Type 0
+abbrev pub IsLast : Situation → ℕ → ℕ → Access → Type 0
 IsLast s core block wanted = (did : Did) × (last_of s.log core ≡ Some did) × (did_it block wanted did ≡ true)
 
 -- the core's operation on the block still waits, or is the last one that it performed
-abbrev pub IsOwed : Situation → ℕ → ℕ → Op → Type 0
+abbrev pub IsOwed : Situation → ℕ → ℕ → Access → Type 0
 IsOwed s core block wanted = (waits_for s core block wanted ≡ 1) ⊎ IsLast s core block wanted
 
 -- what waited before the step, or is asked by it, is owed after it
 abbrev pub OwesAfter : Step → Situation → Situation → Type 0
 OwesAfter step s t =
-    (core block : ℕ) (wanted : Op) → (waits_for s core block wanted ≡ 1) ⊎ (asks core block wanted step ≡ true) → IsOwed t core block wanted
+    (core block : ℕ) (wanted : Access) → (waits_for s core block wanted ≡ 1) ⊎ (asks core block wanted step ≡ true) → IsOwed t core block wanted
 
 -- a move owes what waited and what it asks
 abbrev pub Owes : Type 0
@@ -39,12 +40,12 @@ Owes =
 -- what is owed to a core whose work has no step left is its last operation
 abbrev pub ClosedIsLast : Type 0
 ClosedIsLast =
-    (s : Situation) (core block : ℕ) (asking wanted : Op)
-    → IsWellKept s → IsOwed s core block wanted → turn_of s core block asking true ≡ None → IsLast s core block wanted
+    (s : Situation) (core block word : ℕ) (asking : Op) (wanted : Access)
+    → IsWellKept s → IsOwed s core block wanted → turn_of s core block word asking true ≡ None → IsLast s core block wanted
 
 -- an Ask that issues no request ends its work at once, where the core had none under way
 abbrev pub AskedOnce : Type 0
 AskedOnce =
-    (s t : Situation) (under_way : ℕ → Option ℕ) (core block : ℕ) (asking : Op) (answer : Reply) (entry : Option Item)
-    → IsServing under_way s → under_way core ≡ None → IsWellKept t → FirstMove s (Ask core block asking) answer t entry
-    → ((request : Request) → answer ≢ Issued request) → turn_of t core block asking true ≡ None
+    (s t : Situation) (under_way : ℕ → Option ℕ) (core block word : ℕ) (asking : Op) (answer : Reply) (entry : Option Item)
+    → IsServing under_way s → under_way core ≡ None → IsWellKept t → FirstMove s (Ask core block word asking) answer t entry
+    → ((request : Request) → answer ≢ Issued request) → turn_of t core block word asking true ≡ None

@@ -3,7 +3,7 @@
 use Rattle.std.specs.Prelude.{◌≡◌, List, [], ◌∷◌, ◌++◌, map, Option, Result, Ok, Err}
 use Rattle.snoop_trace.specs.Extent.{Extent}
 use Rattle.snoop_trace.specs.declared.step.Step.{Step}
-use Rattle.snoop_rules.specs.declared.names.Protocol.{Protocol}
+use Rattle.snoop_trace.specs.declared.protocol.Protocol.{Protocol}
 use Rattle.snoop_history.specs.declared.items.Item.{Item}
 use Rattle.snoop_model.specs.declared.replies.Reply.{Reply}
 use Rattle.snoop_model.specs.declared.replies.Refused.{Refused}
@@ -55,11 +55,11 @@ TheRun protocol shape steps outcomes new = FirstRunFrom (reset protocol shape) s
 abbrev pub AllTaken : Protocol → Extent → List Step → Situation → Type 0
 AllTaken protocol shape steps new = (replies : List Reply) × TheRun protocol shape steps (map (λ reply. Ok reply) replies) new
 
--- a fact about every run from reset: the protocol, the steps, their outcomes, and where they lead
-abbrev pub EveryRun : (Protocol → List Step → List (Result Reply Refused) → Situation → Type 0) → Type 0
+-- a fact about every run from reset: the protocol, the shape, the steps, their outcomes, and where they lead
+abbrev pub EveryRun : (Protocol → Extent → List Step → List (Result Reply Refused) → Situation → Type 0) → Type 0
 EveryRun P =
     (protocol : Protocol) (shape : Extent) (steps : List Step) (outcomes : List (Result Reply Refused)) (new : Situation) →
-    Run protocol shape steps outcomes new → P protocol steps outcomes new
+    Run protocol shape steps outcomes new → P protocol shape steps outcomes new
 
 -- from where the run of some steps has led, any further steps have a run too
 abbrev pub RunsGoOn : Type 0

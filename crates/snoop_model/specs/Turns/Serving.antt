@@ -3,7 +3,7 @@
 use Rattle.std.specs.Prelude.{◌≡◌, ℕ, ◌+◌, ◌*◌, length, All, Option, Some, is_some, sum_by, count_by, ⊤}
 use Rattle.snoop_trace.specs.declared.step.Step.{Step}
 use Rattle.snoop_trace.specs.declared.step.Step.TheVariants.{Ask, Order, Respond}
-use Rattle.snoop_bus.specs.declared.transactions.Open.{Open}
+use Rattle.snoop_bus.specs.Traffic.{Open}
 use Rattle.snoop_bus.specs.Queues.{queue_of}
 use Rattle.snoop_model.specs.Pictures.Situation.{Situation, picture_of}
 
@@ -14,7 +14,7 @@ pub record IsServing (under_way : ℕ → Option ℕ) (s : Situation) : Type 0 w
 
 -- a core that asks has this block under way
 abbrev pub IsUnderWay : (ℕ → Option ℕ) → Step → Type 0
-IsUnderWay under_way (Ask core block asking) = under_way core ≡ Some block
+IsUnderWay under_way (Ask core block word asking) = under_way core ≡ Some block
 IsUnderWay under_way (Order core) = ⊤
 IsUnderWay under_way (Respond block) = ⊤
 
@@ -24,6 +24,6 @@ owed s = 2 * sum_by length s.queues + count_by is_some s.transactions
 
 -- what a step pays in: an Ask three, of which one is its own
 abbrev pub paid : Step → ℕ
-paid (Ask core block asking) = 3
+paid (Ask core block word asking) = 3
 paid (Order core) = 0
 paid (Respond block) = 0

@@ -6,7 +6,7 @@ use Rattle.snoop_trace.specs.declared.step.Step.{Step}
 use Rattle.snoop_trace.specs.declared.step.Step.TheVariants.{Ask, Order, Respond}
 use Rattle.snoop_rules.specs.declared.names.Request.{Request}
 use Rattle.snoop_rules.specs.Waits.{waiting_request}
-use Rattle.snoop_bus.specs.declared.transactions.Open.{Open}
+use Rattle.snoop_bus.specs.Traffic.{Open}
 use Rattle.snoop_model.specs.Pictures.Situation.{Situation, picture_of, state_of}
 
 -- the step of a core whose work is under way, by what waits there and what is open
@@ -17,6 +17,6 @@ step_under_way None (Some transaction) core block = if transaction.core == core 
 step_under_way None None core block = None
 
 -- the step of a core's turn; none where another core's turn has closed its work
-abbrev pub turn_of : Situation → ℕ → ℕ → Op → Bool → Option Step
-turn_of s core block asking false = Some (Ask core block asking)
-turn_of s core block asking true = step_under_way (waiting_request (state_of s core block)) (picture_of s block).transaction core block
+abbrev pub turn_of : Situation → ℕ → ℕ → ℕ → Op → Bool → Option Step
+turn_of s core block word asking false = Some (Ask core block word asking)
+turn_of s core block word asking true = step_under_way (waiting_request (state_of s core block)) (picture_of s block).transaction core block

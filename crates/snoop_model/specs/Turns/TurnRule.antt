@@ -1,10 +1,11 @@
 -- The laws of turns that follow the turn rule.
 -- Source: this project's profile.
 use Rattle.std.specs.Prelude.{◌≡◌, ◌≢◌, ℕ, ◌<◌, ◌≤◌, ◌+◌, Bool, true, Option, Some, None, if◌then◌else◌}
+use Rattle.snoop_trace.specs.Words.{HasWord}
 use Rattle.snoop_trace.specs.Extent.{Extent}
 use Rattle.snoop_trace.specs.declared.step.Op.{Op}
 use Rattle.snoop_trace.specs.declared.step.Step.{Step}
-use Rattle.snoop_rules.specs.declared.names.Protocol.{Protocol}
+use Rattle.snoop_trace.specs.declared.protocol.Protocol.{Protocol}
 use Rattle.snoop_history.specs.declared.items.Item.{Item}
 use Rattle.snoop_model.specs.declared.replies.Reply.{Reply}
 use Rattle.snoop_model.specs.declared.replies.Refused.{Refused}
@@ -30,9 +31,9 @@ KeepsWell =
 -- no step of a turn is refused, memory aside
 abbrev pub NeverRefused : Type 0
 NeverRefused =
-    (s : Situation) (under_way : ℕ → Option ℕ) (core block : ℕ) (asking : Op) (begun : Bool) (step : Step)
-    → IsServing under_way s → IsWellKept s → core < s.shape.cores → block < s.shape.blocks
-    → under_way core ≡ (if begun then Some block else None) → turn_of s core block asking begun ≡ Some step
+    (s : Situation) (under_way : ℕ → Option ℕ) (core block word : ℕ) (asking : Op) (begun : Bool) (step : Step)
+    → IsServing under_way s → IsWellKept s → core < s.shape.cores → block < s.shape.blocks → HasWord s.shape word asking
+    → under_way core ≡ (if begun then Some block else None) → turn_of s core block word asking begun ≡ Some step
     → (cause : Refused) → ¬ Refuses s step cause
 
 -- a move serves on, once the core that asks has its block under way
@@ -46,8 +47,8 @@ ServesOn =
 -- a work that has no step left is over: its core may have any other under way
 abbrev pub Ends : Type 0
 Ends =
-    (s : Situation) (before after : ℕ → Option ℕ) (core block : ℕ) (asking : Op)
-    → IsServing before s → IsWellKept s → before core ≡ Some block → turn_of s core block asking true ≡ None
+    (s : Situation) (before after : ℕ → Option ℕ) (core block word : ℕ) (asking : Op)
+    → IsServing before s → IsWellKept s → before core ≡ Some block → turn_of s core block word asking true ≡ None
     → ((other : ℕ) → other ≢ core → after other ≡ before other)
     → IsServing after s
 

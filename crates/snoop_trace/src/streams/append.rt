@@ -10,7 +10,10 @@ use itoa::Buffer;
 pub fn push_text(out: &mut Vec<u8>, text: &str) -> Result<(), NoMemory>
     ensures ok { OnOk result (out.new.items ≡ out.old.items ++ text.now) }
 {
-    out.extend_from_slice(text.as_bytes()).map_err(|_| NoMemory)
+    match out.extend_from_slice(text.as_bytes()) {
+        Ok(()) => Ok(()),
+        Err(_) => Err(NoMemory),
+    }
 }
 
 /// Appends a byte. After `NoMemory` nothing is said of what stands there.
@@ -18,7 +21,10 @@ pub fn push_text(out: &mut Vec<u8>, text: &str) -> Result<(), NoMemory>
 pub fn push_byte(out: &mut Vec<u8>, byte: u8) -> Result<(), NoMemory>
     ensures ok { OnOk result (out.new.items ≡ out.old.items ++ byte ∷ []) }
 {
-    out.push(byte).map_err(|_| NoMemory)
+    match out.push(byte) {
+        Ok(()) => Ok(()),
+        Err(_) => Err(NoMemory),
+    }
 }
 
 /// Appends a number in decimal digits. After `NoMemory` nothing is said of what stands there.

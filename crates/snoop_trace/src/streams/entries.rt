@@ -1,5 +1,5 @@
 //! What the entries of a text are gathered in.
-ghost use Rattle.std.specs.Prelude.{◌≡◌, ◌++◌, ◌∷◌, [], List, OnOk, ⊤};
+ghost use Rattle.std.specs.Prelude.{◌≡◌, ◌<◌, ◌^◌, ◌++◌, ◌∷◌, [], List, length, OnOk, ⊤};
 
 use crate::fault::NoMemory;
 
@@ -11,10 +11,11 @@ pub trait Entries<E> {
     // The entries that it can keep.
     ghost fits: { E → Type 0 };
 
-    /// Appends an entry.
+    /// Appends an entry. No list is ever as long as there are numbers for records.
     fn append(&mut self, entry: E) -> Result<(), NoMemory>
         requires { fits entry }
-        ensures { OnOk result (listed self.new ≡ listed self.old ++ entry ∷ []) };
+        ensures items { OnOk result (listed self.new ≡ listed self.old ++ entry ∷ []) }
+        ensures bounded { OnOk result (length (listed self.new) < 2 ^ 63) };
 }
 
 impl<E: Copy> Entries<E> for Vec<E> {
@@ -23,6 +24,9 @@ impl<E: Copy> Entries<E> for Vec<E> {
     ghost fits = { λ entry. ⊤ };
 
     fn append(&mut self, entry: E) -> Result<(), NoMemory> {
-        self.push(entry).map_err(|_| NoMemory)
+        match self.push(entry) {
+            Ok(()) => Ok(()),
+            Err(_) => Err(NoMemory),
+        }
     }
 }

@@ -1,32 +1,41 @@
 //! Readers that know whether they can fail.
 //!
-//! A call that reads answers `Read` where its reader failed. That it answers so nowhere else is its
-//! clause `never_blamed`: a reader whose contract rules failure out is never blamed, over known
-//! bytes that are fewer than 2^64 - 1. `std::io::Read` has no word for that, so `Source` adds one.
-ghost use Rattle.std.specs.Prelude.{◌≡◌, Bool, true, false, IsOk};
+//! Two clauses say when a call that reads answers `Read`. `blamed`, for a reader of which it is
+//! known that no read had failed: exactly where one fails. `never_blamed`, for a reader whose
+//! contract rules failure out: never. `std::io::Read` has no words for either, so `Source` adds
+//! them.
+ghost use Rattle.std.specs.Prelude.{◌≡◌, Bool, true, false, Option, Some, None, IsOk, IsErr};
 ghost use Rattle.std.specs.Io.{ReadsAtMost};
 ghost use Rattle.std.specs.Io.KnownBytes.{ReadConsumes};
+ghost use Rattle.snoop_trace.specs.Text.{BlamesReader};
 
 use std::io;
-use std::io::Read;
+use std::io::{ErrorKind, Read};
+use std::marker::{Brand, PhantomData};
 
-/// A reader, and whether its contract rules failure out.
+/// A reader, whether its contract rules failure out, and whether a read of it has failed.
 ///
 /// A slice of bytes cannot fail. For any other reader, put it in `AnyReader`.
 pub trait Source: Read {
     // Its reads never fail.
     ghost never_fails: { Bool };
 
+    // Whether a read has failed so far, where that is known.
+    ghost failed: { Self → Option Bool };
+
     /// What `read` does: it takes bytes from the front of what is left, and 0 of them at its end
     /// alone.
     fn pull(&mut self, buf: &mut [u8]) -> io::Result<usize>
         ensures bound { ReadsAtMost result buf.new }
         ensures bytes { ReadConsumes (Self.remaining self.old) (Self.remaining self.new) result buf.new }
-        ensures sure { never_fails ≡ true → IsOk result };
+        ensures sure { never_fails ≡ true → IsOk result }
+        ensures noted { BlamesReader (failed self.old) (failed self.new) (IsErr result) };
 }
 
 impl Source for &[u8] {
     ghost never_fails = { true };
+
+    ghost failed = { λ _. Some false };
 
     fn pull(&mut self, buf: &mut [u8]) -> io::Result<usize> {
         self.read(buf)
@@ -36,65 +45,128 @@ impl Source for &[u8] {
 impl<R: Source> Source for &mut R {
     ghost never_fails = { R.never_fails };
 
+    ghost failed = { λ r. R.failed r.now };
+
     fn pull(&mut self, buf: &mut [u8]) -> io::Result<usize> {
         Source::pull(&mut **self, buf)
     }
 }
 
-/// Any reader, of which it is not known whether it can fail: a file, a pipe, standard input.
+/// Any reader, of which it is not known whether it can fail: a file, a pipe, standard input. It
+/// notes whether a read has failed.
 #[derive(Drop)]
-pub struct AnyReader<R>(pub R);
+pub struct AnyReader<R> {
+    pub inner: R,
+    pub failed: bool,
+}
+
+impl<R: Read> AnyReader<R> {
+    pub fn new(inner: R) -> Self
+        ensures inner { result.inner ≡ inner }
+        ensures failed { result.failed ≡ false }
+    {
+        AnyReader {
+            inner,
+            failed: false,
+        }
+    }
+
+    // Reads once, and notes a failure.
+    fn read_noting(&mut self, buf: &mut [u8]) -> io::Result<usize>
+        ensures bound { ReadsAtMost result buf.new }
+        ensures bytes { ReadConsumes (R.remaining self.old.inner) (R.remaining self.new.inner) result buf.new }
+        ensures noted { BlamesReader (Some self.old.failed) (Some self.new.failed) (IsErr result) }
+        ensures stays { self.old.failed ≡ true → self.new.failed ≡ true }
+    {
+        let read = self.inner.read(buf);
+        self.failed |= read.is_err();
+        read
+    }
+}
 
 impl<R: Read> Read for AnyReader<R> {
-    ghost remaining = { λ r. R.remaining r.0 };
+    ghost remaining = { λ r. R.remaining r.inner };
 
-    fn read(&mut self, buf: &mut [u8]) -> io::Result<usize> {
-        self.0.read(buf)
+    fn read(&mut self, buf: &mut [u8]) -> io::Result<usize>
+        ensures bound { ReadsAtMost result buf.new }
+        ensures bytes { ReadConsumes (R.remaining self.old.inner) (R.remaining self.new.inner) result buf.new }
+        ensures noted { BlamesReader (Some self.old.failed) (Some self.new.failed) (IsErr result) }
+        ensures stays { self.old.failed ≡ true → self.new.failed ≡ true }
+    {
+        self.read_noting(buf)
     }
 }
 
 impl<R: Read> Source for AnyReader<R> {
     ghost never_fails = { false };
 
-    fn pull(&mut self, buf: &mut [u8]) -> io::Result<usize> {
-        Read::read(self, buf)
+    ghost failed = { λ r. Some r.failed };
+
+    fn pull(&mut self, buf: &mut [u8]) -> io::Result<usize>
+        ensures bound { ReadsAtMost result buf.new }
+        ensures bytes { ReadConsumes (R.remaining self.old.inner) (R.remaining self.new.inner) result buf.new }
+        ensures sure { false ≡ true → IsOk result }
+        ensures noted { BlamesReader (Some self.old.failed) (Some self.new.failed) (IsErr result) }
+        ensures stays { self.old.failed ≡ true → self.new.failed ≡ true }
+    {
+        self.read_noting(buf)
     }
 }
 
-/// A reader that notes a failure of the one inside.
-#[derive(Drop)]
-pub(crate) struct Watched<R: Source> {
+/// What is known of a reader as a call begins, for the proof alone: a call at `Brand` picks it.
+pub(crate) trait Begun {
+    // Whether a read had failed, where that is known.
+    ghost before: { Option Bool };
+}
+
+impl Begun for Brand {
+    ghost before = { None };
+}
+
+/// A reader, and whether a read of it has failed since a call has it; then it is read no more.
+pub(crate) struct Watched<R: Source, K: Begun> {
     inner: R,
     failed: bool,
+    begun: PhantomData<K>,
+    ghost noted: { K.before ≡ Some false → R.failed inner ≡ Some failed },
     ghost told: { failed ≡ true → R.never_fails ≡ false },
 }
 
-impl<R: Source> Watched<R> {
-    pub(crate) fn new(inner: R) -> Watched<R>
+impl<R: Source, K: Begun> Watched<R, K> {
+    pub(crate) fn new(inner: R) -> Watched<R, K>
+        requires { R.failed inner ≡ K.before }
         ensures { result.inner ≡ inner }
     {
         Watched {
             inner,
             failed: false,
+            begun: PhantomData,
         }
     }
 
-    /// Whether a read of the one inside failed.
-    pub(crate) fn has_failed(&self) -> bool
-        ensures { result ≡ true → R.never_fails ≡ false }
+    /// The reader, and whether a read of it has failed since.
+    pub(crate) fn into_parts(self) -> (R, bool)
+        ensures blamed { BlamesReader K.before (R.failed result.0) (result.1 ≡ true) }
+        ensures never_blamed { result.1 ≡ true → R.never_fails ≡ false }
     {
-        self.failed
+        let Watched {
+            inner,
+            failed,
+            begun: _,
+        } = self;
+        (inner, failed)
     }
 }
 
-impl<R: Source> Read for Watched<R> {
+impl<R: Source, K: Begun> Read for Watched<R, K> {
     ghost remaining = { λ r. R.remaining r.inner };
 
     fn read(&mut self, buf: &mut [u8]) -> io::Result<usize> {
-        let read = self.inner.pull(buf);
-        if read.is_err() {
-            self.failed = true;
+        if self.failed {
+            return Err(io::Error::from(ErrorKind::Other));
         }
+        let read = self.inner.pull(buf);
+        self.failed = read.is_err();
         read
     }
 }

@@ -1,4 +1,4 @@
-use Rattle.std.proofs.Common.{◌≡◌, ℕ, ◌<◌, ◌∙◌, [], ◌∷◌, List, length, get_or, take, arith, refl, sym, ap, true≢false, Some, None}
+use Rattle.std.proofs.Common.{◌≡◌, ℕ, ◌<◌, ◌∙◌, [], ◌∷◌, List, length, get_or, take, arith, refl, sym, ap, true≢false, Some, false}
 use Rattle.std.specs.Prelude.{slice_get}
 use Rattle.std.proofs.lemmas.Option.{slice_get-get_or, get_or_from_slice_get}
 use Rattle.snoop_history.specs.declared.items.Did.{Did}
@@ -10,7 +10,7 @@ use Rattle.snoop_cores.proofs.gathering.first_difference.Goals.{in-Some-own_did+
 use Rattle.snoop_cores.proofs.gathering.first_difference.Goals as goal
 
 abbrev no_did : Did
-no_did = record { core = 0; number = 0; block = 0; load = Rattle.std.proofs.Common.false; value = 0; hit = Rattle.std.proofs.Common.false }
+no_did = record { core = 0; number = 0; block = 0; word = 0; load = false; value = 0; hit = false }
 
 abbrev no_item : Item
 no_item = item.Did no_did

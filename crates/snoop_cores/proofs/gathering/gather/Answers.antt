@@ -1,6 +1,6 @@
 use Rattle.std.proofs.Common.{◌≡◌, ◌∙◌, ℕ, List, ap, sym, subst, Result, Ok, Err, IfErr}
 use Rattle.snoop_trace.specs.Extent.{Extent}
-use Rattle.snoop_rules.specs.declared.names.Protocol.{Protocol}
+use Rattle.snoop_trace.specs.declared.protocol.Protocol.{Protocol}
 use Rattle.snoop_bench.specs.Locked.{Locked, IsKept}
 use Rattle.snoop_cores.specs.Seats.{Seating}
 use Rattle.snoop_cores.specs.Joined.{IsNotAllSeats, IsHeld, RefusesJoin, RefusesGather, OneForEach}

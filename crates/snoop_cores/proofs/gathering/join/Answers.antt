@@ -1,4 +1,4 @@
-use Rattle.std.proofs.Common.{◌≡◌, ◌∙◌, ℕ, ◌<◌, List, ap, refl, sym, subst}
+use Rattle.std.proofs.Common.{◌≡◌, ◌∙◌, ℕ, ◌<◌, List, ap, sym, subst}
 use Rattle.snoop_trace.specs.Extent.{Extent}
 use Rattle.snoop_history.specs.declared.items.Item.{Item}
 use Rattle.snoop_cores.specs.Joined.{IsAnswered, DiffersAt}

@@ -1,10 +1,10 @@
-use Rattle.std.proofs.Common.{◌≡◌, ℕ, ◌<◌, ◌/◌, ◌++◌, ◌∷◌, [], length, take, sym, ap, ◌∙◌, arith, get_or}
+use Rattle.std.proofs.Common.{◌≡◌, ◌<◌, ◌/◌, ◌++◌, ◌∷◌, [], length, take, sym, ap, ◌∙◌, arith, get_or}
 use Rattle.std.proofs.lemmas.List.{get_or_default, take_all}
 use Rattle.std.proofs.lemmas.List.Elements.{All-get_or}
 use Rattle.snoop_trace.specs.declared.step.Row.{Row}
 use Rattle.snoop_trace.specs.declared.step.Op.TheVariants.{Load}
 use Rattle.snoop_trace.specs.Grammar.{IsRowWithin}
-use Rattle.snoop_engine.specs.declared.work.Work.{Work}
+use Rattle.snoop_trace.specs.declared.step.Work.{Work}
 use Rattle.snoop_engine.specs.Todo.{Todo, todo_of, nothing_to_do, work_of, works_of}
 use Rattle.snoop_engine.proofs.Dealing.{dealt_none, dealt_more, block_is}
 use Rattle.snoop_engine.proofs.deal.deal.Goals as goal
@@ -29,8 +29,8 @@ loop-row-preserved c =
     let in_lanes : row.core < length c.loop-row.lanes.items = omega arith in
     let old : todo_of c.loop-row.lanes.items row.core ≡ c.index_mut.result.now = get_or_default c.loop-row.lanes.items row.core nothing_to_do c.index_mut.result.now in_lanes ∙ sym c.index_mut.ensures.value in
     let block : c.unwrap-block.result ≡ row.address / c.args.shape.block_bytes = block_is c.args.shape row there c.block_of.result c.unwrap-block.result c.block_of.ensures c.unwrap-block.ensures in
-    let work : Work = record { block = c.unwrap-block.result; op = row.op } in
-    let same : record { block = c.unwrap-block.result; op = row.op } ≡ work_of c.args.shape row = ap (λ (b : ℕ). let w : Work = record { block = b; op = row.op } in w) block in
+    let work : Work = record { block = c.unwrap-block.result; word = c.word_asked.result; op = row.op } in
+    let same : work ≡ work_of c.args.shape row = λ i. record { block = block i; word = c.word_asked.ensures i; op = row.op } in
     dealt_more c.args.shape c.args.rows.now c.loop-row.row-index c.loop-row.lanes.items row c.push.new.self c.loop-row.invariant c.loop-row-test.true
     (get_or_default c.args.rows.now c.loop-row.row-index (record { core = 0; op = Load; address = 0 }) row c.loop-row-test.true) in_lanes
     (c.in_ok-push.ensures.left ∙ (ap (λ (w : Work). c.index_mut.result.now.left ++ w ∷ []) same ∙ ap (λ (t : Todo). t.left ++ work_of c.args.shape row ∷ []) (sym old)))

@@ -16,9 +16,9 @@ pub returns-in_err-write_report-clause-front : goal.returns-in_err-write_report-
 returns-in_err-write_report-clause-front g c =
     on_err c.from_residual-in_err-write_report.result _
     (begins_run_report c.args.protocol c.args.shape c.args.rows.items c.in_ok-driver.driver c.in_ok-driver.ensures.situation c.in_ok-driver.ensures.left c.in_ok-driver.ensures.all
-    c.write_driven.new.driver c.log.result.now.items _ _ _ c.log.ensures c.in_ok-write_driven.ensures.ok c.in_err-write_report.ensures.front)
+    c.write_driven.new.driver c.log.result.now.words c.log.result.now.items _ _ _ c.log.ensures.words c.log.ensures.items c.in_ok-write_driven.ensures.ok c.in_err-write_report.ensures.front)
 
 pub returns-clause-ok : goal.returns-clause-ok
 returns-clause-ok g c =
     reports_run c.args.protocol c.args.shape c.args.rows.items c.in_ok-driver.driver c.in_ok-driver.ensures.situation c.in_ok-driver.ensures.left c.in_ok-driver.ensures.all
-    c.write_driven.new.driver c.log.result.now.items _ _ _ c.log.ensures c.in_ok-write_driven.ensures.ok c.in_ok-write_report.ensures.ok
+    c.write_driven.new.driver c.log.result.now.words c.log.result.now.items _ _ _ c.log.ensures.words c.log.ensures.items c.in_ok-write_driven.ensures.ok c.in_ok-write_report.ensures.ok

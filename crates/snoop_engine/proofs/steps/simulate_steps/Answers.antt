@@ -10,7 +10,7 @@ returns-in_err-write_output-clause-does g c =
     let is : c.gather_steps.result ≡ Ok c.in_ok-steps.steps = search rules in
     let read = rw is at c.gather_steps.ensures.read in
     let p = err_from_is_err_and c.from_residual-in_err-write_output.result c.from_residual-in_err-write_output.ensures.1 in
-    simulates_front c.args.protocol c.args.shape (g.R.Read.remaining c.args.reader) c.in_ok-steps.steps c.in_err-write_output.field-0.0 _ _ _
+    simulates_front c.args.protocol c.args.shape (g.R.Read.remaining c.args.reader.now) c.in_ok-steps.steps c.in_err-write_output.field-0.0 _ _ _
     (p.1 ∙ ap (λ f. Err f) p.2) read c.in_err-write_output.ensures.front
 
 pub returns-clause-does : goal.returns-clause-does

@@ -12,10 +12,10 @@ returns-in_err-write_lines-clause-front g c =
 
 pub returns-in_err-write_report-clause-front : goal.returns-in_err-write_report-clause-front
 returns-in_err-write_report-clause-front g c =
-    on_err c.from_residual-in_err-write_report.result _ (begins_report c.args.protocol c.args.shape c.args.steps c.in_ok-machine.machine.situation c.write_lines.new.machine.situation c.log.result.now.items _ _ _
-    c.in_ok-machine.ensures.at_reset c.log.ensures.items c.in_ok-write_lines.ensures.ok c.in_err-write_report.ensures.front)
+    on_err c.from_residual-in_err-write_report.result _ (begins_report c.args.protocol c.args.shape c.args.steps c.in_ok-machine.machine.situation c.write_lines.new.machine.situation c.log.result.now.words c.log.result.now.items _ _ _
+    c.in_ok-machine.ensures.at_reset c.log.ensures.shape.2 c.log.ensures.items c.in_ok-write_lines.ensures.ok c.in_err-write_report.ensures.front)
 
 pub returns-clause-ok : goal.returns-clause-ok
 returns-clause-ok g c =
-    reports c.args.protocol c.args.shape c.args.steps c.in_ok-machine.machine.situation c.write_lines.new.machine.situation c.log.result.now.items _ _ _
-    c.in_ok-machine.ensures.at_reset c.log.ensures.items c.in_ok-write_lines.ensures.ok c.in_ok-write_report.ensures.ok
+    reports c.args.protocol c.args.shape c.args.steps c.in_ok-machine.machine.situation c.write_lines.new.machine.situation c.log.result.now.words c.log.result.now.items _ _ _
+    c.in_ok-machine.ensures.at_reset c.log.ensures.shape.2 c.log.ensures.items c.in_ok-write_lines.ensures.ok c.in_ok-write_report.ensures.ok

@@ -1,7 +1,8 @@
 -- The steps so far have been taken.
 use Rattle.std.proofs.Common.{◌≤◌, take}
 use Rattle.snoop_machine.proofs.RunSteps.{Going}
+use Rattle.snoop_machine.specs.AnyParts.{stand}
 use Rattle.snoop_machine.proofs.machine.run_steps.Given as goal
 
 abbrev pub invariant-loop-step : goal.invariant-loop-step
-invariant-loop-step l = Going l.initial.machine-inside.parts (take l.step-index l.steps) l.taken l.machine-inside.parts × (l.taken ≤ l.step-index)
+invariant-loop-step l = Going (stand l.initial.machine-inside.parts) (take l.step-index l.steps) l.taken (stand l.machine-inside.parts) × (l.taken ≤ l.step-index)

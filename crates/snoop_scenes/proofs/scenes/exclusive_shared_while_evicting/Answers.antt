@@ -1,5 +1,5 @@
 use Rattle.std.proofs.Common.{refl}
-use Rattle.snoop_rules.specs.declared.names.Protocol.TheVariants.{Mesi}
+use Rattle.snoop_trace.specs.declared.protocol.Protocol.TheVariants.{Mesi}
 use Rattle.snoop_scenes.specs.Scene.{two_cores}
 use Rattle.snoop_scenes.specs.ExclusiveSharedWhileEvicting.{frames, end}
 use Rattle.snoop_scenes.proofs.Play.{Told, told}

@@ -1,5 +1,5 @@
 use Rattle.std.proofs.Common.{refl}
-use Rattle.snoop_rules.specs.declared.names.Protocol.TheVariants.{Msi}
+use Rattle.snoop_trace.specs.declared.protocol.Protocol.TheVariants.{Msi}
 use Rattle.snoop_scenes.specs.Scene.{two_blocks}
 use Rattle.snoop_scenes.specs.HeadOfQueueBlocks.{frames, end}
 use Rattle.snoop_scenes.proofs.Play.{Told, told}

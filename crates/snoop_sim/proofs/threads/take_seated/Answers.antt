@@ -1,4 +1,5 @@
 use Rattle.std.proofs.Common.{rules, ◌≡◌, Ok, sym, subst}
+use Rattle.snoop_trace.specs.Extent.{IsWithinLimits}
 use Rattle.snoop_sim.specs.ThreadsFault.{IsOfThreads}
 use Rattle.snoop_sim.specs.declared.fault.ThreadsFault.TheVariants.{Run}
 use Rattle.snoop_sim.proofs.Threading.{begun, first_refused, named, threaded, turned}
@@ -21,6 +22,7 @@ returns-in_err-stops-clause-err g c =
 pub returns-in_err-check_stops-clause-err : goal.returns-in_err-check_stops-clause-err
 returns-in_err-check_stops-clause-err g c =
     let ran : c.run_seats.result ≡ Ok c.in_ok-stops.stops = (let a = c.map_err.ensures.cases in let b = c.in_ok-stops.was in search rules) in
+    let limits : IsWithinLimits c.args.shared.now.shape = subst IsWithinLimits c.shape.ensures c.within_limits.ensures in
     turned c.from_residual-in_err-check_stops.result c.in_err-check_stops.field-0.0 c.from_residual-in_err-check_stops.ensures.1
-    (first_refused c.args.shared.now.shape c.args.rows.now c.in_ok-stops.stops.items c.args.seats.now c.run_seats.new.seats c.in_err-check_stops.field-0.0 c.requires.seats
+    (first_refused c.args.shared.now.shape c.args.rows.now c.in_ok-stops.stops.items c.args.seats.now c.run_seats.new.seats c.in_err-check_stops.field-0.0 limits c.requires.seats
     (rw ran at c.run_seats.ensures.stops) c.requires.rows (rw ran at c.run_seats.ensures.ran) (rw c.deref.ensures.value at c.in_err-check_stops.ensures.err))

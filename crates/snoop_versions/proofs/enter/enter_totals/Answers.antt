@@ -18,6 +18,6 @@ returns-in-Ok-clause-some c =
     let v = knows c.args.reader.place in
     let w = knows c.in-Ok.reading.place in
     let s : Sees v c.in-Ok.reading.part.value c.in-Ok.reading.part.value w = c.in-Ok.ensures.1 in
-    let shown : c.get.result.now.board ≡ board_of w.cores w.blocks w.seen = ap (λ (x : Version). x.board) (c.get.ensures ∙ s.version) in
+    let shown : c.get.result.now.board ≡ board_of w.cores w.blocks w.words w.seen = ap (λ (x : Version). x.board) (c.get.ensures ∙ s.version) in
     let P : View → Type 0 = λ u. Enters (viewing v) (viewing u) × (c.totals-totals.result ≡ capped_totals (totals_of u.seen)) in
-    subst P (sym c.leave.ensures.1) (enters v w _ _ c.requires s, c.totals-totals.ensures.board w.cores w.blocks w.seen shown)
+    subst P (sym c.leave.ensures.1) (enters v w _ _ c.requires s, c.totals-totals.ensures.board w.cores w.blocks w.words w.seen shown)

@@ -1,5 +1,5 @@
 use Rattle.std.proofs.Common.{◌≡◌, Some, None, sym, ap, ◌∙◌, subst}
-use Rattle.std.specs.Prelude.{nat_lt, if◌then◌else◌}
+use Rattle.std.specs.Prelude.{◌&&◌, nat_lt, if◌then◌else◌}
 use Rattle.snoop_history.specs.History.{flat}
 use Rattle.snoop_versions.specs.declared.rule.View.{View}
 use Rattle.snoop_versions.specs.declared.version.Version.{Version}
@@ -19,6 +19,6 @@ returns-in-Ok-clause-some c =
     let v = knows c.args.reader.place in
     let w = knows c.in-Ok.reading.place in
     let s : Sees v c.in-Ok.reading.part.value c.in-Ok.reading.part.value w = c.in-Ok.ensures.1 in
-    let shown : c.get.result.now.board ≡ board_of w.cores w.blocks w.seen = ap (λ (x : Version). x.board) (c.get.ensures ∙ s.version) in
-    let P : View → Type 0 = λ u. Enters (viewing v) (viewing u) × (c.value-value.result ≡ (if nat_lt c.args.block u.blocks then Some (flat u.seen c.args.block) else None)) in
-    subst P (sym c.leave.ensures.1) (enters v w _ _ c.requires s, value_whole w.cores w.blocks w.seen s.within c.args.block _ (c.value-value.ensures.board w.cores w.blocks w.seen shown))
+    let shown : c.get.result.now.board ≡ board_of w.cores w.blocks w.words w.seen = ap (λ (x : Version). x.board) (c.get.ensures ∙ s.version) in
+    let P : View → Type 0 = λ u. Enters (viewing v) (viewing u) × (c.value-value.result ≡ (if nat_lt c.args.place.0 u.blocks && nat_lt c.args.place.1 u.words then Some (flat u.seen c.args.place.0 c.args.place.1) else None)) in
+    subst P (sym c.leave.ensures.1) (enters v w _ _ c.requires s, value_whole w.cores w.blocks w.words w.seen s.within c.args.place.0 c.args.place.1 _ (c.value-value.ensures.board w.cores w.blocks w.words w.seen shown))

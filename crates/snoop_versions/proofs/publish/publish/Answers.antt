@@ -9,8 +9,8 @@ pub publish_as-requires : goal.publish_as-requires
 publish_as-requires g c next is =
     let w = c.args.writer in
     let p = c.requires.publishing in
-    let one = one_ready p.0 p.1 (knows w.desk.place) w.desk.shown.value (drop w.behind w.log.items) c.requires.one c.requires.legal p.2 p.3 in
-    adds w.desk.place.id (knows w.desk.place) w.desk.shown.value next one.0 one.1 one.2 one.4 p.2.writing one.5 one.6 (is ∙ ap (λ ops. fold grown w.desk.shown.value ops) one.3)
+    let one = one_ready p.0 p.1 p.2 (knows w.desk.place) w.desk.shown.value (drop w.behind w.log.items) c.requires.one c.requires.legal p.3 p.4 in
+    adds w.desk.place.id (knows w.desk.place) w.desk.shown.value next one.0 one.1 one.2 one.3 one.5 p.3.writing one.6 one.7 (is ∙ ap (λ ops. fold grown w.desk.shown.value ops) one.4)
 
 pub returns-clause-list : goal.returns-clause-list
 returns-clause-list g c =
@@ -19,14 +19,14 @@ returns-clause-list g c =
     let ok = c.publish_as.ensures.succeeds tt in
     let values = ok_side _ c.publish_as.result.1 ok c.publish_as.ensures.values in
     let rule = ok_side _ c.publish_as.result.1 ok c.publish_as.ensures.rule in
-    list_grows (knows w.desk.place) (knows n.desk.place) w.desk.shown.value n.desk.shown.value (drop w.behind w.log.items) c.requires.one c.requires.publishing.2.few rule.1 values.0
+    list_grows (knows w.desk.place) (knows n.desk.place) w.desk.shown.value n.desk.shown.value (drop w.behind w.log.items) c.requires.one c.requires.publishing.3.few rule.1 values.0
 
 pub returns-clause-publishing : goal.returns-clause-publishing
-returns-clause-publishing g c cores blocks p =
+returns-clause-publishing g c cores blocks words p =
     let w = c.args.writer in
     let n = c.publish_as.result.0 in
     let ok = c.publish_as.ensures.succeeds tt in
     let values = ok_side _ c.publish_as.result.1 ok c.publish_as.ensures.values in
     let rule = ok_side _ c.publish_as.result.1 ok c.publish_as.ensures.rule in
     let list = list_grows (knows w.desk.place) (knows n.desk.place) w.desk.shown.value n.desk.shown.value (drop w.behind w.log.items) c.requires.one p.few rule.1 values.0 in
-    publishes_on cores blocks (knows w.desk.place) (knows n.desk.place) w.desk.shown.value n.desk.shown.value (drop w.behind w.log.items) c.requires.one rule.0 list values.0 p
+    publishes_on cores blocks words (knows w.desk.place) (knows n.desk.place) w.desk.shown.value n.desk.shown.value (drop w.behind w.log.items) c.requires.one rule.0 list values.0 p

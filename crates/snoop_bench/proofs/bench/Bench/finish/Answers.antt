@@ -9,14 +9,15 @@ use Rattle.snoop_model.specs.Pictures.Situation.{Situation, state_of, picture_of
 use Rattle.snoop_model.specs.Turns.Turn.{turn_of}
 use Rattle.snoop_model.specs.Moves.Move.{FirstMove}
 use Rattle.snoop_model.specs.Invariant.WellKept.{IsWellKept}
-use Rattle.snoop_bench.specs.declared.work.Work.{Work}
+use Rattle.snoop_trace.specs.declared.step.Work.{Work}
 use Rattle.snoop_bench.specs.Locked.{Locked, record_of}
 use Rattle.snoop_bench.specs.Recording.{Recording, Takes}
 use Rattle.snoop_bench.specs.Keeps.{AreUnderWay, locked}
 use Rattle.snoop_bench.specs.Turns.{Finishes, TurnsIn}
 use Rattle.snoop_bench.specs.Turns.Case.{ends}
 use Rattle.snoop_bench.specs.Faults.{IsInside}
-use Rattle.snoop_bench.specs.Works.{work_at}
+use Rattle.snoop_bench.specs.Works.{access_of, work_at}
+use Rattle.snoop_bench.proofs.Within.{turn_within}
 use Rattle.snoop_bench.proofs.Turning.{Stepped, serving_step, over_keeps}
 use Rattle.snoop_bench.proofs.Closing.{its_own, no_request, closed_after}
 use Rattle.snoop_bench.proofs.Outcomes.{finishes, last_is}
@@ -25,17 +26,23 @@ use Rattle.snoop_bench.proofs.bench.Bench.finish.Goals as goal
 
 -- the work has no step left, and the works stay under way until it is put out
 abbrev Finished : Situation → Situation → Step → List (Option Work) → ℕ → Work → Type 0
-Finished s t step works core work = (step ≡ Respond work.block) × (turn_of t core work.block work.op true ≡ None) × AreUnderWay works t
+Finished s t step works core work = (step ≡ Respond work.block) × (turn_of t core work.block work.word work.op true ≡ None) × AreUnderWay works t
 
 finished : Rattle.snoop_model.specs.Turns.TurnRule.TurnRule → (s t : Situation) (step : Step) (answer : Rattle.snoop_model.specs.declared.replies.Reply.Reply) (works : List (Option Work)) (core : ℕ) (work : Work) → AreUnderWay works s → IsWellKept s → core < s.shape.cores
-    → Stepped s t step answer → turn_of s core work.block work.op true ≡ Some step → is_some (waiting_request (state_of s core work.block)) ≡ false → Finished s t step works core work
+    → Stepped s t step answer → turn_of s core work.block work.word work.op true ≡ Some step → is_some (waiting_request (state_of s core work.block)) ≡ false → Finished s t step works core work
 finished rule s t step answer works core work u well inside m turn none =
     let own = its_own core work.block (waiting_request (state_of s core work.block)) (picture_of s work.block).transaction step turn none in
     let move : FirstMove s (Respond work.block) answer t m.entry = subst (λ (x : Step). FirstMove s x answer t m.entry) own.0 m.move in (
       own.0,
-      closed_after s t core work.block work.op answer m.entry own.1.0 well inside (no_request (waiting_request (state_of s core work.block)) none) own.1.1.0 own.1.1.1 move,
-      serving_step rule s t core work.block work.op step answer works u m turn,
+      closed_after s t core work.block work.word work.op answer m.entry own.1.0 well inside (no_request (waiting_request (state_of s core work.block)) none) own.1.1.0 own.1.1.1 move,
+      serving_step rule s t core work.block work.word work.op step answer works u m turn,
     )
+
+pub take-requires-clause-within : goal.take-requires-clause-within
+take-requires-clause-within g c =
+    let inside = subst (λ (l : Locked). IsInside c.args.core c.args.work l) (sym c.self.view_is) c.requires.inside in
+    let turn = ap (λ (l : Locked). turn_of l.situation c.args.core c.args.work.block c.args.work.word c.args.work.op true) c.self.view_is ∙ c.requires.step in
+    turn_within c.self.inside.recorder.situation c.args.core c.args.work.block c.args.work.word c.args.work.op c.args.step inside.0 inside.1 turn
 
 pub invariant_of-self-2 : goal.invariant_of-self-2
 invariant_of-self-2 g c =
@@ -46,7 +53,7 @@ invariant_of-self-2 g c =
     let took = c.in_ok-take.ensures.takes in
     let its = ap (λ (l : Locked). work_at l.works c.args.core) c.self.view_is ∙ c.requires.its in
     let inside = subst (λ (l : Locked). IsInside c.args.core c.args.work l) (sym c.self.view_is) c.requires.inside in
-    let turn = ap (λ (l : Locked). turn_of l.situation c.args.core c.args.work.block c.args.work.op true) c.self.view_is ∙ c.requires.step in
+    let turn = ap (λ (l : Locked). turn_of l.situation c.args.core c.args.work.block c.args.work.word c.args.work.op true) c.self.view_is ∙ c.requires.step in
     let none = ap (λ (l : Locked). is_some (waiting_request (state_of l.situation c.args.core c.args.work.block))) c.self.view_is ∙ c.requires.waits in
     let m : Stepped s t c.args.step c.in_ok-take.field-0 = record { entry = took.item; move = took.move; once = c.in_ok-take.ensures.once; cores = ap (λ (e : Rattle.snoop_trace.specs.Extent.Extent). e.cores) c.take.ensures.stays.1; kept = well } in
     let f = finished c.turns_are_served.ensures s t c.args.step c.in_ok-take.field-0 c.self.inside.works.items c.args.core c.args.work c.self.invariant before inside.0 m turn none in
@@ -61,7 +68,7 @@ returns-clause-ok g c =
     let took = c.in_ok-take.ensures.takes in
     let its = ap (λ (l : Locked). work_at l.works c.args.core) c.self.view_is ∙ c.requires.its in
     let inside = subst (λ (l : Locked). IsInside c.args.core c.args.work l) (sym c.self.view_is) c.requires.inside in
-    let turn = ap (λ (l : Locked). turn_of l.situation c.args.core c.args.work.block c.args.work.op true) c.self.view_is ∙ c.requires.step in
+    let turn = ap (λ (l : Locked). turn_of l.situation c.args.core c.args.work.block c.args.work.word c.args.work.op true) c.self.view_is ∙ c.requires.step in
     let none = ap (λ (l : Locked). is_some (waiting_request (state_of l.situation c.args.core c.args.work.block))) c.self.view_is ∙ c.requires.waits in
     let m : Stepped s t c.args.step c.in_ok-take.field-0 = record { entry = took.item; move = took.move; once = c.in_ok-take.ensures.once; cores = ap (λ (e : Rattle.snoop_trace.specs.Extent.Extent). e.cores) c.take.ensures.stays.1; kept = well } in
     let f = finished c.turns_are_served.ensures s t c.args.step c.in_ok-take.field-0 c.self.inside.works.items c.args.core c.args.work c.self.invariant before inside.0 m turn none in
@@ -69,7 +76,7 @@ returns-clause-ok g c =
     let last : c.last-last.result ≡ last_of t.log c.args.core =
     last_is c.log.result.now.cores c.args.core c.log.result.now.items c.last-last.result c.last-last.ensures cores
     ∙ ap (λ (l : List Item). last_of l c.args.core) (c.log.ensures.items ∙ ap (λ (x : Situation). x.log) c.machine-3.ensures) in
-    let done = finishes t c.args.core c.args.work c.last-last.result last (λ isnt. c.turns_are_served.ensures.closed_is_last t c.args.core c.args.work.block c.args.work.op c.args.work.op well (f.2.owed c.args.core c.args.work its isnt) f.1) in
+    let done = finishes t c.args.core c.args.work c.last-last.result last (λ isnt. c.turns_are_served.ensures.closed_is_last t c.args.core c.args.work.block c.args.work.word c.args.work.op (access_of c.args.work) well (f.2.owed c.args.core c.args.work its isnt) f.1) in
     let p : Locked = locked c.self.inside in
     let q : Locked = record { situation = t; steps = c.take.new.self.steps; works = c.set_work.new.works.items; published = c.take.new.self.published } in
     let takes : Takes (Respond c.args.work.block) c.in_ok-take.field-0 (record_of p) (record_of q) = subst (λ (x : Step). Takes x c.in_ok-take.field-0 (record_of p) (record_of q)) f.0 took in

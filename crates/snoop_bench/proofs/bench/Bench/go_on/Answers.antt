@@ -1,9 +1,10 @@
 use Rattle.std.proofs.Common.{◌≡◌, ◌∙◌, ◌<◌, Bool, true, false, Option, Some, None, refl, sym, ap, subst}
 use Rattle.std.specs.Prelude.{is_some}
+use Rattle.snoop_trace.specs.Words.{HasWord}
 use Rattle.snoop_rules.specs.Waits.{waiting_request}
 use Rattle.snoop_model.specs.Pictures.Situation.{Situation, state_of, picture_of}
 use Rattle.snoop_model.specs.Turns.Turn.{turn_of, step_under_way}
-use Rattle.snoop_bench.specs.declared.work.Work.{Work}
+use Rattle.snoop_trace.specs.declared.step.Work.{Work}
 use Rattle.snoop_bench.specs.declared.work.Turn.{Turn}
 use Rattle.snoop_bench.specs.Locked.{Locked}
 use Rattle.snoop_bench.specs.Turns.{Turns, TurnsIn, case_under_way, case_of}
@@ -19,8 +20,8 @@ under_way_turn core work given p q its t = subst (λ (b : Bool). TurnsIn (case_o
 pub returns-then-waits_on-clause-ok : goal.returns-then-waits_on-clause-ok
 returns-then-waits_on-clause-ok g c =
     let same : c.machine-machine.result.now.situation ≡ c.args.self.now.situation = c.machine-machine.ensures ∙ ap (λ (l : Locked). l.situation) c.self.view_is in
-    let within = subst (λ (s : Situation). (c.args.core < s.shape.cores) × (c.args.work.block < s.shape.blocks)) (sym same) c.requires.inside in
-    let turn = ap (λ (s : Situation). turn_of s c.args.core c.args.work.block c.args.work.op true) (sym same) ∙ sym c.turn_step.ensures ∙ c.in-Some.is in
+    let within = subst (λ (s : Situation). (c.args.core < s.shape.cores) × (c.args.work.block < s.shape.blocks) × HasWord s.shape c.args.work.word c.args.work.op) (sym same) c.requires.inside in
+    let turn = ap (λ (s : Situation). turn_of s c.args.core c.args.work.block c.args.work.word c.args.work.op true) (sym same) ∙ sym c.turn_step.ensures ∙ c.in-Some.is in
     let waits = ap (λ (s : Situation). is_some (waiting_request (state_of s c.args.core c.args.work.block))) (sym same) ∙ sym (c.waits_on.ensures.inside within.0 within.1) ∙ c.if-waits_on.true in
     let p = c.args.self.now in
     under_way_turn c.args.core c.args.work Rattle.snoop_bench.specs.declared.work.Turn.TheVariants.Going p c.serve.new.self c.requires.its
@@ -29,8 +30,8 @@ returns-then-waits_on-clause-ok g c =
 pub returns-clause-ok : goal.returns-clause-ok
 returns-clause-ok g c =
     let same : c.machine-machine.result.now.situation ≡ c.args.self.now.situation = c.machine-machine.ensures ∙ ap (λ (l : Locked). l.situation) c.self.view_is in
-    let within = subst (λ (s : Situation). (c.args.core < s.shape.cores) × (c.args.work.block < s.shape.blocks)) (sym same) c.requires.inside in
-    let turn = ap (λ (s : Situation). turn_of s c.args.core c.args.work.block c.args.work.op true) (sym same) ∙ sym c.turn_step.ensures ∙ c.in-Some.is in
+    let within = subst (λ (s : Situation). (c.args.core < s.shape.cores) × (c.args.work.block < s.shape.blocks) × HasWord s.shape c.args.work.word c.args.work.op) (sym same) c.requires.inside in
+    let turn = ap (λ (s : Situation). turn_of s c.args.core c.args.work.block c.args.work.word c.args.work.op true) (sym same) ∙ sym c.turn_step.ensures ∙ c.in-Some.is in
     let none = ap (λ (s : Situation). is_some (waiting_request (state_of s c.args.core c.args.work.block))) (sym same) ∙ sym (c.waits_on.ensures.inside within.0 within.1) ∙ c.if-waits_on.false in
     let p = c.args.self.now in
     under_way_turn c.args.core c.args.work c.in_ok-turn.turn p c.finish.new.self c.requires.its

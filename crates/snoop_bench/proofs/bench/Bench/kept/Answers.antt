@@ -1,4 +1,5 @@
 use Rattle.std.proofs.Common.{◌≡◌, ◌∙◌, sym, ap, subst}
+use Rattle.snoop_bench.specs.Works.{access_of}
 use Rattle.snoop_model.specs.Pictures.Situation.{Situation}
 use Rattle.snoop_model.specs.Invariant.WellKept.{IsWellKept}
 use Rattle.snoop_bench.specs.Locked.{Locked, IsKept}
@@ -14,9 +15,10 @@ returns-clause-kept c =
     let well : IsWellKept s = subst IsWellKept c.machine.ensures c.coherent.ensures.well_kept in
     let kept : IsKept (locked c.self.inside) = record {
       run = r.run;
+      readable = r.readable;
       places = u.places;
       serving = u.serving;
-      closed = λ core work its isnt closed. ends_with s core work (c.turns_are_served.ensures.closed_is_last s core work.block work.op work.op well (u.owed core work its isnt) (closed_turn s core work.block work.op closed));
+      closed = λ core work its isnt closed. ends_with s core work (c.turns_are_served.ensures.closed_is_last s core work.block work.word work.op (access_of work) well (u.owed core work its isnt) (closed_turn s core work.block work.word work.op closed));
       published = r.published;
     } in
     subst IsKept c.self.view_is kept

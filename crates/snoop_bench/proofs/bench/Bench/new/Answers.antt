@@ -1,7 +1,7 @@
 use Rattle.std.proofs.Common.{◌≡◌, ◌∙◌, rules, List, Option, None, sym, ap, subst}
 use Rattle.std.specs.Prelude.{replicate}
 use Rattle.snoop_model.specs.Pictures.Situation.{Situation, reset}
-use Rattle.snoop_bench.specs.declared.work.Work.{Work}
+use Rattle.snoop_trace.specs.declared.step.Work.{Work}
 use Rattle.snoop_bench.specs.Recording.{Recording}
 use Rattle.snoop_bench.specs.Keeps.{AreUnderWay}
 use Rattle.snoop_bench.proofs.Turning.{reset_under_way}

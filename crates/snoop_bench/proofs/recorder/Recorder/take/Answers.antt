@@ -1,12 +1,13 @@
 use Rattle.std.proofs.Common.{rules, ◌≡◌, ◌∙◌, ◌∷◌, [], ◌++◌, List, Option, sym, ap, subst}
 use Rattle.std.specs.Prelude.{option_to_list}
+use Rattle.snoop_trace.specs.Output.{IsWithin}
 use Rattle.snoop_trace.specs.declared.step.Step.{Step}
 use Rattle.snoop_history.specs.declared.items.Item.{Item}
 use Rattle.snoop_model.specs.Pictures.Situation.{Situation}
 use Rattle.snoop_model.specs.Moves.Move.{FirstMove}
 use Rattle.snoop_versions.specs.Readings.{Publishing}
 use Rattle.snoop_bench.specs.Recording.{Recording, Takes}
-use Rattle.snoop_bench.proofs.Recorded.{moved, run_on}
+use Rattle.snoop_bench.proofs.Recorded.{moved, run_on, readable_on}
 use Rattle.snoop_bench.proofs.recorder.Recorder.take.Goals as goal
 
 pub invariant_of-self-2 : goal.invariant_of-self-2
@@ -25,14 +26,17 @@ invariant_of-self-2 g c =
     ap (λ (w : Publishing). w.list) c.publish.ensures ∙ ap (λ (w : Publishing). w.list ++ w.ready) ready in
     let log = (c.step.ensures.prepared c.in-Ok-prepared.item told).1 ∙ ap (λ (x : Situation). x.log ++ option_to_list c.in-Ok-prepared.item) same in
     let inv = c.self.invariant in
+    let within = subst (λ (r : Recording). IsWithin r.situation.shape c.args.step) (sym c.self.view_is) c.requires.within in
     record {
       recorded = record {
         run = run_on s t c.self.inside.steps.items c.push_reserved.new.self.items c.args.step c.in-Ok-step.reply c.in-Ok-prepared.item inv.recorded.run move protocol shape steps;
+        readable = readable_on s.shape t.shape c.self.inside.steps.items c.push_reserved.new.self.items c.args.step inv.recorded.readable within shape steps;
         published = list ∙ ap (λ (l : List Item). l ++ option_to_list c.in-Ok-prepared.item) inv.recorded.published ∙ sym log;
       };
       ready = ap (λ (w : Publishing). w.ready) c.publish.ensures;
       cores = ap (λ (w : Publishing). w.cores) c.publish.ensures ∙ ap (λ (w : Publishing). w.cores) ready ∙ inv.cores ∙ sym (ap (λ (e : Rattle.snoop_trace.specs.Extent.Extent). e.cores) shape);
       blocks = ap (λ (w : Publishing). w.blocks) c.publish.ensures ∙ ap (λ (w : Publishing). w.blocks) ready ∙ inv.blocks ∙ sym (ap (λ (e : Rattle.snoop_trace.specs.Extent.Extent). e.blocks) shape);
+      words = ap (λ (w : Publishing). w.words) c.publish.ensures ∙ ap (λ (w : Publishing). w.words) ready ∙ inv.words ∙ sym (ap (λ (e : Rattle.snoop_trace.specs.Extent.Extent). e.words) shape);
     }
 
 pub returns-clause-takes : goal.returns-clause-takes

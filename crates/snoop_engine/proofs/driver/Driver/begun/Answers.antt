@@ -27,7 +27,7 @@ turn_step-requires-clause-block c =
     let C : Progress → Type 0 = λ p. c.args.core < p.situation.shape.cores in
     let within : c.args.core < c.self.inside.machine.situation.shape.cores = subst C (sym c.self.view_is) c.requires.core in
     let todo : todo_of c.self.inside.lanes.items c.args.core ≡ c.index_mut.result.now = get_or_default c.self.inside.lanes.items c.args.core nothing_to_do c.index_mut.result.now (let e = c.self.invariant.cores in omega arith) ∙ sym c.index_mut.ensures.value in
-    first_in turn_rule c.self.inside.machine.situation c.self.inside.lanes.items c.self.inside.turns.items c.self.invariant c.args.core within c.in_ok-work.work c.take_up.new.self.left (ap (λ (t : Todo). t.left) todo ∙ c.in_ok-work.ensures.left)
+    (first_in turn_rule c.self.inside.machine.situation c.self.inside.lanes.items c.self.inside.turns.items c.self.invariant c.args.core within c.in_ok-work.work c.take_up.new.self.left (ap (λ (t : Todo). t.left) todo ∙ c.in_ok-work.ensures.left)).0
 
 pub invariant_of-self-2 : goal.invariant_of-self-2
 invariant_of-self-2 c =
@@ -45,8 +45,8 @@ returns-clause-enabled c =
     let T : Progress → Type 0 = λ p. Contains p.turns c.args.core in
     let within : c.args.core < c.self.inside.machine.situation.shape.cores = subst C (sym c.self.view_is) c.requires.core in
     let todo : todo_of c.self.inside.lanes.items c.args.core ≡ c.index_mut.result.now = get_or_default c.self.inside.lanes.items c.args.core nothing_to_do c.index_mut.result.now (let e = c.self.invariant.cores in omega arith) ∙ sym c.index_mut.ensures.value in
-    let block = first_in turn_rule c.self.inside.machine.situation c.self.inside.lanes.items c.self.inside.turns.items c.self.invariant c.args.core within c.in_ok-work.work c.take_up.new.self.left (ap (λ (t : Todo). t.left) todo ∙ c.in_ok-work.ensures.left) in
-    goes_begun turn_rule c.self.inside.machine.situation c.self.inside.lanes.items c.self.inside.turns.items c.self.invariant c.args.core within (subst O (sym c.self.view_is) c.requires.over) c.in_ok-work.work block c.turn_step.result c.turn_step.ensures
+    let within_now = first_in turn_rule c.self.inside.machine.situation c.self.inside.lanes.items c.self.inside.turns.items c.self.invariant c.args.core within c.in_ok-work.work c.take_up.new.self.left (ap (λ (t : Todo). t.left) todo ∙ c.in_ok-work.ensures.left) in
+    goes_begun turn_rule c.self.inside.machine.situation c.self.inside.lanes.items c.self.inside.turns.items c.self.invariant c.args.core within (subst O (sym c.self.view_is) c.requires.over) c.in_ok-work.work within_now c.turn_step.result c.turn_step.ensures
 
 pub invariant_of-self : goal.invariant_of-self
 invariant_of-self c =

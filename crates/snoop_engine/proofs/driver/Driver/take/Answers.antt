@@ -1,4 +1,4 @@
-use Rattle.std.proofs.Common.{Option, Result, sym, subst, ap}
+use Rattle.std.proofs.Common.{Option, Result, sym, subst, ap, rules}
 use Rattle.std.specs.Prelude.{IfOk}
 use Rattle.snoop_trace.specs.declared.fault.NoMemory.{NoMemory}
 use Rattle.snoop_history.specs.declared.items.Item.{Item}
@@ -8,8 +8,8 @@ use Rattle.snoop_model.specs.Pictures.Situation.{Situation}
 use Rattle.snoop_model.specs.Turns.Serving.{IsUnderWay}
 use Rattle.snoop_model.proofs.Turns.Laws.{turn_rule}
 use Rattle.snoop_engine.specs.Todo.{under_way}
-use Rattle.snoop_engine.specs.Round.{Progress, IsFit}
-use Rattle.snoop_engine.proofs.Driving.{fit_moves}
+use Rattle.snoop_engine.specs.Round.{Progress, IsEnabled, IsFit}
+use Rattle.snoop_engine.proofs.Driving.{fit_moves, only_memory}
 use Rattle.snoop_engine.proofs.driver.Driver.take.Goals as goal
 use Rattle.snoop_engine.proofs.driver.Driver.take.Goals.{in-Ok, in-Err-NoMemory}
 
@@ -32,3 +32,9 @@ returns-clause-taken c =
       | in-Ok w ↦ subst T (sym w.result-is) (subst (λ (p : Progress). P p.situation w.in-Ok.reply) c.self.view_is w.in-Ok.ensures.taken)
       | in-Err-NoMemory w ↦ subst T (sym w.result-is) tt
     ]
+
+pub unreachable-requires : goal.unreachable-requires
+unreachable-requires c =
+    let E : Progress → Type 0 = λ p. IsEnabled p.situation c.args.step in
+    let only = only_memory c.self.inside.machine.situation c.args.step c.in-Err.field-0 c.in-Err.ensures.refused.0 (subst E (sym c.self.view_is) c.requires.enabled) in
+    search rules

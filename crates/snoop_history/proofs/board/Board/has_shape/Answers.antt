@@ -1,24 +1,14 @@
-use Rattle.std.proofs.Common.{◌≡◌, arith, sym, ap, ◌∙◌, length}
-use Rattle.std.proofs.lemmas.Bool.{eqb-true, eq-eqb}
-use Rattle.snoop_history.specs.Board.{Tables}
-use Rattle.snoop_history.proofs.Boards.{board_lengths}
+use Rattle.std.proofs.Common.{sym, ◌∙◌}
+use Rattle.snoop_history.proofs.Boards.{sizes-of}
 use Rattle.snoop_history.proofs.board.Board.has_shape.Goals as goal
 
-pub returns-then-len-cores-clause-board : goal.returns-then-len-cores-clause-board
-returns-then-len-cores-clause-board c cores blocks items is =
-    let lengths = board_lengths cores blocks items in
-    let counts : length c.self.inside.counts.items ≡ cores = ap (λ (t : Tables). length t.counts) (c.self.view_is ∙ is) ∙ lengths.0 in
-    let values : length c.self.inside.values.items ≡ blocks = ap (λ (t : Tables). length t.values) (c.self.view_is ∙ is) ∙ lengths.1 in
-    let many_counts : c.len.result ≡ cores = omega (arith, c.self.inside.counts.ok.0) in
-    let many_values : c.len-then-len-cores.result ≡ blocks = omega (arith, c.self.inside.values.ok.0) in (
-      λ same. (sym many_counts ∙ c.if-len-cores.true ∙ c.cores.ensures.value, sym many_values ∙ eqb-true _ _ same ∙ c.blocks-then-len-cores.ensures.value),
-      λ shape. eq-eqb _ _ (many_values ∙ shape.1 ∙ sym c.blocks-then-len-cores.ensures.value),
-    )
-
-pub returns-else-len-cores-clause-board : goal.returns-else-len-cores-clause-board
-returns-else-len-cores-clause-board c cores blocks items is =
-    let counts : length c.self.inside.counts.items ≡ cores = ap (λ (t : Tables). length t.counts) (c.self.view_is ∙ is) ∙ (board_lengths cores blocks items).0 in
-    let many_counts : c.len.result ≡ cores = omega (arith, c.self.inside.counts.ok.0) in (
-      λ same. absurd (c.if-len-cores.false (eqb-true _ _ same)),
-      λ shape. absurd (c.if-len-cores.false (many_counts ∙ shape.0 ∙ sym c.cores.ensures.value)),
+pub returns-clause-board : goal.returns-clause-board
+returns-clause-board c cores blocks words items is =
+    let sizes = sizes-of c.args.self.now cores blocks words items is in
+    let told = c.has_sizes.ensures in
+    let of_cores = c.cores-cores.ensures.value in
+    let of_blocks = c.blocks-blocks.ensures.value in
+    let of_words = c.words-words.ensures.value in (
+      λ yes. let same = told.0 yes in (sym sizes.0 ∙ same.0 ∙ of_cores, sym sizes.1 ∙ same.1 ∙ of_blocks, sym sizes.2 ∙ same.2 ∙ of_words),
+      λ shape. told.1 (sizes.0 ∙ shape.0 ∙ sym of_cores, sizes.1 ∙ shape.1 ∙ sym of_blocks, sizes.2 ∙ shape.2 ∙ sym of_words),
     )

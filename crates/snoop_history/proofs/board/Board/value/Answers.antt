@@ -1,7 +1,8 @@
-use Rattle.std.proofs.Common.{arith}
-use Rattle.std.proofs.lemmas.Grind.{elements}
+use Rattle.std.proofs.Common.{Some, ap}
+use Rattle.std.proofs.lemmas.Bool.{lt-ltb}
 use Rattle.snoop_history.proofs.Boards.{board_value}
 use Rattle.snoop_history.proofs.board.Board.value.Goals as goal
 
-pub returns-clause-board : goal.returns-clause-board
-returns-clause-board c = board_value _ _ _ c.args.block c.self.view_is (grind (arith, elements))
+pub returns-then-word-self-clause-board : goal.returns-then-word-self-clause-board
+returns-then-word-self-clause-board c =
+    board_value _ _ _ c.args.block c.args.word c.self.view_is (rw (lt-ltb _ _ c.if-block-self.true, lt-ltb _ _ c.if-word-self.true) (ap Some c.read_value.ensures))

@@ -7,5 +7,5 @@ use Rattle.snoop_history.proofs.log.Log.kept.Goals as goal
 
 pub returns : goal.returns
 returns c =
-    let P : Journal → Type 0 = λ j. All (IsWithin j.cores j.blocks) j.items in
+    let P : Journal → Type 0 = λ j. All (IsWithin j.cores j.blocks j.words) j.items in
     subst P c.self.view_is (within_all c.self.invariant.kept)

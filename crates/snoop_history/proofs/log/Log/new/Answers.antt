@@ -14,8 +14,9 @@ invariant_of-result c =
     let few_cores = c.if-prove.false in
     let same_cores = c.cores.ensures.value in
     let few_blocks = c.blocks-2.ensures.within in
+    let few_words = c.words.ensures.within.1 in
     record {
-      kept = kept-empty items (kept-as _ _ shape.0 shape.1 (kept-at_first c.args.shape.cores c.args.shape.blocks board c.in_ok-new-2.field-0.order (omega arith) (omega (arith, few_blocks)) tallied order));
+      kept = kept-empty items (kept-as _ _ _ shape.0 shape.1 shape.2 (kept-at_first c.args.shape.cores c.args.shape.blocks c.args.shape.words board c.in_ok-new-2.field-0.order (omega arith) (omega (arith, few_blocks)) (omega (arith, few_words)) tallied order));
       as_many = ap (λ (m : Mentions). m.blocks) c.in_ok-new-2.ensures ∙ (c.blocks-2.ensures.value ∙ sym shape.1);
     }
 
@@ -23,4 +24,4 @@ pub returns : goal.returns
 returns c =
     let tallied = c.in_ok-new.ensures in
     let shape = board-shape [] tallied in
-    same-journal _ _ shape.0 shape.1 (ap (map unpacked) c.new.ensures.items) (omega (arith, c.new.ensures.len, c.new.ensures.capacity))
+    same-journal _ _ shape.0 shape.1 shape.2 (ap (map unpacked) c.new.ensures.items) (omega (arith, c.new.ensures.len, c.new.ensures.capacity))

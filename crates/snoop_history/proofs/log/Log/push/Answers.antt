@@ -14,13 +14,13 @@ invariant_of-self c =
     let items = map unpacked l.items.items in
     let entry = c.args.item in
     let kept = c.self.invariant.kept in
-    let P : Journal → Type 0 = λ j. IsWithin j.cores j.blocks entry in
+    let P : Journal → Type 0 = λ j. IsWithin j.cores j.blocks j.words entry in
     let Q : Journal → Type 0 = λ j. IsNumbered j.items entry in
     let more : map unpacked c.push_reserved.new.self.items ≡ items ++ entry ∷ [] =
     ap (map unpacked) c.push_reserved.ensures.items ∙ (map-append unpacked l.items.items (c.new.result ∷ []) ∙ ap (λ (e : Item). items ++ e ∷ []) c.new.ensures) in
-    let tallied = c.absorb.ensures.board _ _ items kept.tallied in
+    let tallied = c.absorb.ensures.board _ _ _ items kept.tallied in
     let shape = board-shape (items ++ entry ∷ []) tallied in
     record {
-      kept = kept-as _ _ shape.0 shape.1 (kept-push kept entry _ _ _ (subst P (sym c.self.view_is) c.requires.within) (subst Q (sym c.self.view_is) c.requires.numbered) more tallied (c.add.ensures.order items kept.mentioned));
+      kept = kept-as _ _ _ shape.0 shape.1 shape.2 (kept-push kept entry _ _ _ (subst P (sym c.self.view_is) c.requires.within) (subst Q (sym c.self.view_is) c.requires.numbered) more tallied (c.add.ensures.order items kept.mentioned));
       as_many = c.add.ensures.blocks ∙ (c.self.invariant.as_many ∙ sym shape.1);
     }

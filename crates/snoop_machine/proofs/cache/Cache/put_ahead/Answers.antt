@@ -4,8 +4,7 @@ use Rattle.std.specs.Map.{lookup, keys_of}
 use Rattle.std.proofs.lemmas.List.{map-append}
 use Rattle.indexmap.proofs.CallerLemmas.{insert_entry-new}
 use Rattle.indexmap.specs.IndexMap.{spare}
-use Rattle.snoop_model.specs.declared.line.Line.{Line}
-use Rattle.snoop_model.specs.Pictures.Picture.{nothing_held}
+use Rattle.snoop_model.specs.Pictures.Lines.{Line}
 use Rattle.snoop_machine.specs.Cache.{Contents, blocks_of}
 use Rattle.snoop_machine.proofs.cache.Cache.put_ahead.Goals as goal
 
@@ -19,12 +18,12 @@ none None e = refl
 none (Some line) e = cc
 
 pub returns-clause-blocks : goal.returns-clause-blocks
-returns-clause-blocks c =
+returns-clause-blocks g c =
     let m = c.self.inside.lines in
     let block = c.args.block in
     let room : 0 < spare m = subst (λ (cache : Contents). 0 < cache.spare) (sym c.self.view_is) c.requires.room in
     let absent : is_some (lookup (nat_eq block) m.entries) ≡ false = subst (λ (cache : Contents). is_some (lookup (nat_eq block) cache.entries) ≡ false) (sym c.self.view_is) c.requires.absent in
     ap (λ (es : List (ℕ × Line)). keys_of es) (on_ok c.insert.result c.insert.ensures.entries (c.insert.ensures.succeeds room))
-    ∙ (ap (λ (es : List (ℕ × Line)). keys_of es) (insert_entry-new nat_eq m block nothing_held (none (lookup (nat_eq block) m.entries) absent))
-    ∙ (map-append (λ (e : ℕ × Line). e.0) m.entries ((block, nothing_held) ∷ [])
+    ∙ (ap (λ (es : List (ℕ × Line)). keys_of es) (insert_entry-new nat_eq m block c.new.result (none (lookup (nat_eq block) m.entries) absent))
+    ∙ (map-append (λ (e : ℕ × Line). e.0) m.entries ((block, c.new.result) ∷ [])
     ∙ ap (λ (cache : Contents). blocks_of cache ++ block ∷ []) c.self.view_is))

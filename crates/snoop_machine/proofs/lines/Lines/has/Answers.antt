@@ -4,20 +4,21 @@ use Rattle.std.specs.Map.{lookup}
 use Rattle.std.proofs.lemmas.List.{get_or_read}
 use Rattle.snoop_machine.specs.Cache.{Contents, no_cache}
 use Rattle.snoop_machine.proofs.LineMaps.{in_maps, among_seen, none_held}
+use Rattle.snoop_machine.proofs.lines.Lines.has.Given.{Over}
 use Rattle.snoop_machine.proofs.lines.Lines.has.Goals as goal
 use Rattle.snoop_machine.proofs.lines.Lines.has.Goals.{After-has}
 
-found : (c : After-has) → c.has.result ≡ is_some (lookup (nat_eq c.args.block) (slice_index_or c.self.inside.caches.items c.args.core no_cache).entries)
-found c =
-    let within = in_maps c.self.inside c.args.self.now c.self.view_is c.args.core c.requires.core in
+found : (g : Over) (c : After-has g) → c.has.result ≡ is_some (lookup (nat_eq c.args.block) (slice_index_or c.self.inside.caches.items c.args.core no_cache).entries)
+found g c =
+    let within = in_maps c.self.inside.caches.items c.self.inside.holders c.args.self.now c.self.view_is c.args.core c.requires.core in
     c.has.ensures ∙ ap (λ (cache : Contents). is_some (lookup (nat_eq c.args.block) cache.entries)) (get_or_read c.self.inside.caches.items c.args.core c.index-cache.result.now within c.index-cache.ensures no_cache)
 
 pub returns-clause-line : goal.returns-clause-line
-returns-clause-line c =
-    let d = (goal.at.returns-clause-line c).After-has in
-    found d ∙ among_seen c.self.inside c.args.self.now c.self.view_is c.args.core c.args.block
+returns-clause-line g c =
+    let d = (goal.at.returns-clause-line g c).After-has in
+    found g d ∙ among_seen c.self.inside.caches.items c.self.inside.holders c.args.self.now c.self.view_is c.args.core c.args.block
 
 pub returns-clause-held : goal.returns-clause-held
-returns-clause-held c =
-    let d = (goal.at.returns-clause-held c).After-has in
-    λ none. none_held c.self.inside c.args.self.now c.self.view_is c.args.core c.args.block (sym (found d) ∙ none)
+returns-clause-held g c =
+    let d = (goal.at.returns-clause-held g c).After-has in
+    λ none. none_held c.self.inside.caches.items c.self.inside.holders c.args.self.now c.self.view_is c.args.core c.args.block (sym (found g d) ∙ none)

@@ -1,5 +1,6 @@
 use Rattle.std.proofs.Common.{◌<◌, length, arith, sym, ap, ◌∙◌, subst, Some}
 use Rattle.std.specs.Prelude.{unwrap_or, if◌then◌else◌}
+use Rattle.snoop_trace.specs.Words.{zero_words}
 use Rattle.snoop_rules.specs.declared.names.CacheState.{CacheState}
 use Rattle.snoop_rules.specs.declared.names.CacheEvent.{CacheEvent}
 use Rattle.snoop_rules.specs.declared.names.CacheAction.{CacheAction}
@@ -8,74 +9,84 @@ use Rattle.snoop_rules.specs.Cell.{Cell}
 use Rattle.snoop_rules.specs.MemoryCell.{MemoryCell}
 use Rattle.snoop_rules.specs.Possible.{IsImpossible}
 use Rattle.snoop_rules.specs.Takers.{seen_by, carries_value}
-use Rattle.snoop_model.specs.declared.line.Line.{Line}
+use Rattle.snoop_model.specs.Pictures.Lines.{Line}
 use Rattle.snoop_model.specs.Pictures.Picture.{held_at}
 use Rattle.snoop_model.specs.Pictures.Message.{free_picture}
-use Rattle.snoop_model.proofs.Lines.TheSender.{Silent-more, Silent-past, Silent-all, IsMessage-sent, IsMessage-memory}
+use Rattle.snoop_model.proofs.Lines.TheSender.{Silent-none, Silent-more, Silent-past, Silent-all, IsMessage-sent, IsMessage-memory}
 use Rattle.snoop_model.proofs.Lines.EachRow.{row_of}
 use Rattle.snoop_machine.proofs.ConcernedCores.{concerned_within, waits_within, Cell-passed}
+use Rattle.snoop_machine.proofs.lines.Lines.message.Given.{Over}
 use Rattle.snoop_machine.proofs.lines.Lines.message.Goals as goal
 use Rattle.snoop_machine.proofs.lines.Lines.message.Goals.{In-Some-cache_cell, In-Some-next}
 
 pub returns-in-Some-message_of_memory : goal.returns-in-Some-message_of_memory
-returns-in-Some-message_of_memory c =
+returns-in-Some-message_of_memory g c =
     let before = free_picture (row_of c.args.self.now.rows c.args.block) c.args.memory in
     let P : MemEvent → Type 0 = λ event. MemoryCell c.args.protocol c.args.memory.state event c.in-Some.cell.action c.in-Some.cell.next in
     IsMessage-memory c.args.protocol before c.args.requestor c.args.request c.requires.rows c.requires.line c.in-Some-message_of_memory.message c.in-Some.cell.action c.in-Some.cell.next
     (subst P c.event_at_memory.ensures c.in-Some.ensures.row) (sym c.message_of_memory.ensures ∙ c.in-Some-message_of_memory.is)
 
-requestor_within : (c : In-Some-next) → c.args.requestor < length (row_of c.args.self.now.rows c.args.block)
-requestor_within c = waits_within (row_of c.args.self.now.rows c.args.block) c.args.requestor c.args.request c.requires.waits
+requestor_within : (g : Over) (c : In-Some-next g) → c.args.requestor < length (row_of c.args.self.now.rows c.args.block)
+requestor_within g c = waits_within (row_of c.args.self.now.rows c.args.block) c.args.requestor c.args.request c.requires.waits
 
-within_row : (c : In-Some-next) → c.in-Some-next.core < length (row_of c.args.self.now.rows c.args.block)
-within_row c = concerned_within c.args.protocol (row_of c.args.self.now.rows c.args.block) c.args.requestor c.args.request c.concerned-concerned.result c.concerned-concerned.ensures.own c.concerned-concerned.ensures.others (requestor_within c) c.in-Some-next.core c.in-Some-next.ensures.some.2
+within_row : (g : Over) (c : In-Some-next g) → c.in-Some-next.core < length (row_of c.args.self.now.rows c.args.block)
+within_row g c = concerned_within c.args.protocol (row_of c.args.self.now.rows c.args.block) c.args.requestor c.args.request c.concerned-concerned.result c.concerned-concerned.ensures.own c.concerned-concerned.ensures.others (requestor_within g c) c.in-Some-next.core c.in-Some-next.ensures.some.2
 
 pub get-line-requires-clause-core : goal.get-line-requires-clause-core
-get-line-requires-clause-core c = within_row (goal.at.get-line-requires-clause-core c).In-Some-next
+get-line-requires-clause-core g c = within_row g (goal.at.get-line-requires-clause-core g c).In-Some-next
 
 -- the row of the core that is looked at, in the picture
-row : (c : In-Some-cache_cell) → Cell c.args.protocol (held_at (row_of c.args.self.now.rows c.args.block) c.in-Some-next.core).state (seen_by c.in-Some-next.core c.args.requestor c.args.request) c.in-Some-cache_cell.cell.action c.in-Some-cache_cell.cell.next
-row c =
+row : (g : Over) (c : In-Some-cache_cell g) → Cell c.args.protocol (held_at (row_of c.args.self.now.rows c.args.block) c.in-Some-next.core).state (seen_by c.in-Some-next.core c.args.requestor c.args.request) c.in-Some-cache_cell.cell.action c.in-Some-cache_cell.cell.next
+row g c =
     let P : CacheEvent → Type 0 = λ event. Cell c.args.protocol c.get-line.result.state event c.in-Some-cache_cell.cell.action c.in-Some-cache_cell.cell.next in
     let Q : CacheState → Type 0 = λ state. Cell c.args.protocol state (seen_by c.in-Some-next.core c.args.requestor c.args.request) c.in-Some-cache_cell.cell.action c.in-Some-cache_cell.cell.next in
     subst Q (ap (λ (line : Line). line.state) c.get-line.ensures.line) (subst P c.event_seen.ensures c.in-Some-cache_cell.ensures.row)
 
 pub unreachable-requires-in_default-cache_cell : goal.unreachable-requires-in_default-cache_cell
-unreachable-requires-in_default-cache_cell c =
+unreachable-requires-in_default-cache_cell g c =
     let core = c.in-Some-next.core in
     let P : CacheEvent → Type 0 = λ event. IsImpossible c.args.protocol c.get-line.result.state event in
     let Q : CacheState → Type 0 = λ state. IsImpossible c.args.protocol state (seen_by core c.args.requestor c.args.request) in
     let none = subst Q (ap (λ (line : Line). line.state) c.get-line.ensures.line) (subst P c.event_seen.ensures c.in_default-cache_cell.ensures.impossible) in
-    let there = c.requires.rows core (within_row (goal.at.unreachable-requires-in_default-cache_cell c).In-Some-next) in
+    let there = c.requires.rows core (within_row g (goal.at.unreachable-requires-in_default-cache_cell g c).In-Some-next) in
     none there.0 there.1.0 there.1.1
 
 pub returns-in-Send : goal.returns-in-Send
-returns-in-Send c =
-    let d = (goal.at.returns-in-Send c).In-Some-cache_cell in
+returns-in-Send g c =
+    let d = (goal.at.returns-in-Send g c).In-Some-cache_cell in
     let before = free_picture (row_of c.args.self.now.rows c.args.block) c.args.memory in
     let core = c.in-Some-next.core in
     let P : CacheAction → Type 0 = λ act. Cell c.args.protocol (held_at (row_of c.args.self.now.rows c.args.block) core).state (seen_by core c.args.requestor c.args.request) act c.in-Some-cache_cell.cell.next in
-    IsMessage-sent c.args.protocol before c.args.requestor c.args.request c.requires.rows c.requires.line (record { payload = c.in-Send.payload; value = c.value_for.result; from = Some core })
-    (within_row (goal.at.returns-in-Send c).In-Some-next, (c.in-Send.field-1, (c.in-Some-cache_cell.cell.next, subst P c.in-Send.is (row d))))
-    (c.value_for.ensures ∙ ap (λ (line : Line). if carries_value c.in-Send.payload then unwrap_or line.kept 0 else 0) c.get-line.ensures.line)
+    IsMessage-sent c.args.protocol before c.args.requestor c.args.request c.requires.rows c.requires.line (record { payload = c.in-Send.payload; value = c.words_for.result; from = Some core })
+    (within_row g (goal.at.returns-in-Send g c).In-Some-next, (c.in-Send.field-1, (c.in-Some-cache_cell.cell.next, subst P c.in-Send.is (row g d))))
+    (c.words_for.ensures ∙ ap (λ (line : Line). if carries_value c.in-Send.payload then unwrap_or line.kept zero_words else zero_words) c.get-line.ensures.line)
+
+pub loop-core-init : goal.loop-core-init
+loop-core-init g c =
+    let before = free_picture (row_of c.args.self.now.rows c.args.block) c.args.memory in
+    let P : MemEvent → Type 0 = λ event. MemoryCell c.args.protocol c.args.memory.state event c.in-Some.cell.action c.in-Some.cell.next in (
+      Silent-none c.args.protocol before c.args.requestor c.args.request c.in-Some.cell.action c.in-Some.cell.next
+          (subst P c.event_at_memory.ensures c.in-Some.ensures.row) (sym c.message_of_memory.ensures ∙ c.in_default-message_of_memory.is),
+      omega arith,
+    )
 
 pub loop-core-preserved : goal.loop-core-preserved
-loop-core-preserved c =
-    let d = (goal.at.loop-core-preserved c).In-Some-cache_cell in
+loop-core-preserved g c =
+    let d = (goal.at.loop-core-preserved g c).In-Some-cache_cell in
     let before = free_picture (row_of c.args.self.now.rows c.args.block) c.args.memory in
     let core = c.in-Some-next.core in
-    let within : core < length (row_of c.args.self.now.rows c.args.block) = within_row (goal.at.loop-core-preserved c).In-Some-next in
+    let within : core < length (row_of c.args.self.now.rows c.args.block) = within_row g (goal.at.loop-core-preserved g c).In-Some-next in
     let silent = Silent-past c.args.protocol before c.args.requestor c.args.request c.loop-core.from core c.in-Some-next.ensures.some.0
     (λ k above below. Cell-passed c.args.protocol (row_of c.args.self.now.rows c.args.block) c.args.requestor c.args.request c.concerned-concerned.result c.concerned-concerned.ensures.own c.concerned-concerned.ensures.others c.requires.rows k (omega arith)
     (c.in-Some-next.ensures.some.3 k above below))
     c.loop-core.invariant.0 in (
       Silent-more c.args.protocol before c.args.requestor c.args.request core c.in-Some-cache_cell.cell.action c.in-Some-cache_cell.cell.next
-          silent (row d) c.in_default-action.not-Send,
+          silent (row g d) c.in_default-action.not-Send,
       omega arith,
     )
 
 pub unreachable-requires-2 : goal.unreachable-requires-2
-unreachable-requires-2 c =
+unreachable-requires-2 g c =
     let before = free_picture (row_of c.args.self.now.rows c.args.block) c.args.memory in
     let silent = Silent-past c.args.protocol before c.args.requestor c.args.request c.loop-core.from (length (row_of c.args.self.now.rows c.args.block)) c.loop-core.invariant.1
     (λ k above below. Cell-passed c.args.protocol (row_of c.args.self.now.rows c.args.block) c.args.requestor c.args.request c.concerned-concerned.result c.concerned-concerned.ensures.own c.concerned-concerned.ensures.others c.requires.rows k below
@@ -84,4 +95,10 @@ unreachable-requires-2 c =
     Silent-all c.args.protocol before c.args.requestor c.args.request silent c.requires.line
 
 pub concerned-concerned-requires-clause-requestor : goal.concerned-concerned-requires-clause-requestor
-concerned-concerned-requires-clause-requestor c = waits_within (row_of c.args.self.now.rows c.args.block) c.args.requestor c.args.request c.requires.waits
+concerned-concerned-requires-clause-requestor g c = waits_within (row_of c.args.self.now.rows c.args.block) c.args.requestor c.args.request c.requires.waits
+
+pub loop-core-smaller : goal.loop-core-smaller
+loop-core-smaller g c =
+    let within = within_row g (goal.at.loop-core-smaller g c).In-Some-next in
+    let up = c.in-Some-next.ensures.some.0 in
+    omega arith

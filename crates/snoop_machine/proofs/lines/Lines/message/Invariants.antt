@@ -5,7 +5,7 @@ use Rattle.snoop_model.proofs.Lines.EachRow.{row_of}
 use Rattle.snoop_machine.proofs.lines.Lines.message.Given as goal
 
 abbrev pub invariant-loop-core : goal.invariant-loop-core
-invariant-loop-core l = SilentBelow l.protocol (free_picture (row_of l.self.rows l.block) l.fn.memory) l.requestor l.request l.from × (l.from ≤ length (row_of l.self.rows l.block))
+invariant-loop-core g l = SilentBelow l.protocol (free_picture (row_of l.self.rows l.block) l.fn.memory) l.requestor l.request l.from × (l.from ≤ length (row_of l.self.rows l.block))
 
 abbrev pub decreases-loop-core : goal.decreases-loop-core
-decreases-loop-core l = length (row_of l.self.rows l.block) - l.from
+decreases-loop-core g l = length (row_of l.self.rows l.block) - l.from

@@ -1,7 +1,9 @@
 use Rattle.std.proofs.Common.{◌≡◌, ℕ, List, [], length, replicate, sym, ◌∙◌, ap, subst, arith}
 use Rattle.std.specs.Prelude.{slice_index_or}
+use Rattle.std.proofs.lemmas.Grind.{common_steps}
+use Rattle.std.proofs.lemmas.Result.{err_from_is_err_and}
 use Rattle.std.proofs.lemmas.List.{length-replicate, get_or-replicate}
-use Rattle.snoop_model.specs.declared.line.Line.{Line}
+use Rattle.snoop_model.specs.Pictures.Lines.{Line}
 use Rattle.snoop_model.specs.Pictures.Picture.{nothing_held}
 use Rattle.snoop_model.specs.Pictures.Sound.{IsProper, keeps}
 use Rattle.snoop_model.specs.Invariant.Fits.{is_owner}
@@ -10,33 +12,47 @@ use Rattle.snoop_model.proofs.Invariant.Runs.{nothing_proper}
 use Rattle.snoop_machine.specs.declared.holders.Holders.{Holders}
 use Rattle.snoop_machine.specs.Holders.{AreHolders}
 use Rattle.snoop_machine.specs.Lines.{rows_of, no_holders}
-use Rattle.snoop_machine.proofs.MapRows.{line-empty, row-empty, rows-empty, blocks-empty}
+use Rattle.snoop_machine.proofs.MapRows.{empty-push, line-empty, row-empty, rows-empty, blocks-empty}
+use Rattle.snoop_machine.proofs.lines.Lines.new.Given.{Over}
 use Rattle.snoop_machine.proofs.lines.Lines.new.Goals as goal
 use Rattle.snoop_machine.proofs.lines.Lines.new.Goals.{In_ok-holders}
 
-counted : (c : In_ok-holders) → length c.loop.caches.items ≡ c.args.shape.cores
-counted c =
+counted : (g : Over) (c : In_ok-holders g) → length c.loop.caches.items ≡ c.args.shape.cores
+counted g c =
     let many = c.loop.invariant.1 in
     omega (arith, many, c.loop-test.false, c.loop.auto.counter-end, c.cores-cores.ensures.value)
 
-holders_are : (c : In_ok-holders) → c.in_ok-holders.holders ≡ replicate c.args.shape.blocks c.empty.result
-holders_are c = c.in_ok-holders.ensures ∙ ap (λ (n : ℕ). replicate n c.empty.result) c.blocks-2.ensures.value
+holders_are : (g : Over) (c : In_ok-holders g) → c.in_ok-holders.holders ≡ replicate c.args.shape.blocks c.empty.result
+holders_are g c = c.in_ok-holders.ensures ∙ ap (λ (n : ℕ). replicate n c.empty.result) c.blocks-2.ensures.value
+
+pub loop-preserved : goal.loop-preserved
+loop-preserved g c = (
+  rw c.push_reserved.ensures.items (empty-push _ _ c.loop.invariant.0 c.new.ensures),
+  grind (arith, common_steps),
+  grind (arith, common_steps),
+)
+
+pub returns-in_err-holders-clause-rows : goal.returns-in_err-holders-clause-rows
+returns-in_err-holders-clause-rows g c = rw (err_from_is_err_and c.from_residual-in_err-holders.result c.from_residual-in_err-holders.ensures.1).1 tt
+
+pub returns-in_err-holders-clause-lines : goal.returns-in_err-holders-clause-lines
+returns-in_err-holders-clause-lines g c = rw (err_from_is_err_and c.from_residual-in_err-holders.result c.from_residual-in_err-holders.ensures.1).1 tt
 
 pub invariant_of-result : goal.invariant_of-result
 unfolding is_owner
-invariant_of-result c =
-    let d = (goal.at.invariant_of-result c).In_ok-holders in
+invariant_of-result g c =
+    let d = (goal.at.invariant_of-result g c).In_ok-holders in
     let caches = c.loop.caches.items in
     let holders = c.in_ok-holders.holders in
-    let many = counted d in
+    let many = counted g d in
     let few = c.requires in
     record {
       few = omega (arith, many, few);
       proper = λ core block. subst (λ (line : Line). IsProper line) (sym (line-empty caches c.loop.invariant.0 core block)) nothing_proper;
       indexed = λ block lt.
-          let long : length holders ≡ c.args.shape.blocks = ap (λ (l : List Holders). length l) (holders_are d) ∙ length-replicate c.args.shape.blocks c.empty.result in
+          let long : length holders ≡ c.args.shape.blocks = ap (λ (l : List Holders). length l) (holders_are g d) ∙ length-replicate c.args.shape.blocks c.empty.result in
           let none : slice_index_or holders block no_holders ≡ c.empty.result =
-          ap (λ (l : List Holders). slice_index_or l block no_holders) (holders_are d) ∙ get_or-replicate c.args.shape.blocks block c.empty.result no_holders (omega (arith, long, lt)) in
+          ap (λ (l : List Holders). slice_index_or l block no_holders) (holders_are g d) ∙ get_or-replicate c.args.shape.blocks block c.empty.result no_holders (omega (arith, long, lt)) in
           subst (λ (row : List Line). AreHolders (slice_index_or holders block no_holders) row) (sym (row-empty caches c.loop.invariant.0 block))
           (subst (λ (h : Holders). AreHolders h (replicate (length caches) nothing_held)) (sym none) (record {
             owners = λ core. c.empty.ensures.owners core ∙ sym (ap (λ (l : Line). is_owner l.state) (replicated (length caches) core nothing_held));
@@ -45,13 +61,13 @@ invariant_of-result c =
     }
 
 pub returns-clause-rows : goal.returns-clause-rows
-returns-clause-rows c =
-    let d = (goal.at.returns-clause-rows c).In_ok-holders in
+returns-clause-rows g c =
+    let d = (goal.at.returns-clause-rows g c).In_ok-holders in
     let caches = c.loop.caches.items in
-    let long : length c.in_ok-holders.holders ≡ c.args.shape.blocks = ap (λ (l : List Holders). length l) (holders_are d) ∙ length-replicate c.args.shape.blocks c.empty.result in
-    ap (λ (n : ℕ). rows_of n caches) long ∙ (rows-empty caches c.loop.invariant.0 c.args.shape.blocks ∙ ap (λ (n : ℕ). replicate c.args.shape.blocks (replicate n nothing_held)) (counted d))
+    let long : length c.in_ok-holders.holders ≡ c.args.shape.blocks = ap (λ (l : List Holders). length l) (holders_are g d) ∙ length-replicate c.args.shape.blocks c.empty.result in
+    ap (λ (n : ℕ). rows_of n caches) long ∙ (rows-empty caches c.loop.invariant.0 c.args.shape.blocks ∙ ap (λ (n : ℕ). replicate c.args.shape.blocks (replicate n nothing_held)) (counted g d))
 
 pub returns-clause-lines : goal.returns-clause-lines
-returns-clause-lines c =
-    let d = (goal.at.returns-clause-lines c).In_ok-holders in
-    blocks-empty c.loop.caches.items c.loop.invariant.0 ∙ ap (λ (n : ℕ). let l : List (List ℕ) = replicate n [] in l) (counted d)
+returns-clause-lines g c =
+    let d = (goal.at.returns-clause-lines g c).In_ok-holders in
+    blocks-empty c.loop.caches.items c.loop.invariant.0 ∙ ap (λ (n : ℕ). let l : List (List ℕ) = replicate n [] in l) (counted g d)

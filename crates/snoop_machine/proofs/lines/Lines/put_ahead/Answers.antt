@@ -7,42 +7,43 @@ use Rattle.snoop_machine.specs.Lines.{Held}
 use Rattle.snoop_machine.proofs.MapRows.{rows-same}
 use Rattle.snoop_machine.proofs.LineMaps.{in_maps, among_seen, spare_seen, blocks_seen}
 use Rattle.snoop_machine.proofs.LineParts.{AreLines-alike}
+use Rattle.snoop_machine.proofs.lines.Lines.put_ahead.Given.{Over}
 use Rattle.snoop_machine.proofs.lines.Lines.put_ahead.Goals as goal
 use Rattle.snoop_machine.proofs.lines.Lines.put_ahead.Goals.{After-index_mut-cache}
 
-within : (c : After-index_mut-cache) → c.args.core < length c.self.inside.caches.items
-within c = in_maps c.self.inside c.args.self.now c.self.view_is c.args.core c.requires.core
+within : (g : Over) (c : After-index_mut-cache g) → c.args.core < length c.self.inside.caches.items
+within g c = in_maps c.self.inside.caches.items c.self.inside.holders c.args.self.now c.self.view_is c.args.core c.requires.core
 
-read : (c : After-index_mut-cache) → c.index_mut-cache.result.now ≡ slice_index_or c.self.inside.caches.items c.args.core no_cache
-read c = get_or_read c.self.inside.caches.items c.args.core c.index_mut-cache.result.now (within c) c.index_mut-cache.ensures.value no_cache
+read : (g : Over) (c : After-index_mut-cache g) → c.index_mut-cache.result.now ≡ slice_index_or c.self.inside.caches.items c.args.core no_cache
+read g c = get_or_read c.self.inside.caches.items c.args.core c.index_mut-cache.result.now (within g c) c.index_mut-cache.ensures.value no_cache
 
 pub put_ahead-requires-clause-absent : goal.put_ahead-requires-clause-absent
-put_ahead-requires-clause-absent c =
-    let d = (goal.at.put_ahead-requires-clause-absent c).After-index_mut-cache in
-    ap (λ (cache : Contents). is_some (lookup (nat_eq c.args.block) cache.entries)) (read d) ∙ (among_seen c.self.inside c.args.self.now c.self.view_is c.args.core c.args.block ∙ c.requires.absent)
+put_ahead-requires-clause-absent g c =
+    let d = (goal.at.put_ahead-requires-clause-absent g c).After-index_mut-cache in
+    ap (λ (cache : Contents). is_some (lookup (nat_eq c.args.block) cache.entries)) (read g d) ∙ (among_seen c.self.inside.caches.items c.self.inside.holders c.args.self.now c.self.view_is c.args.core c.args.block ∙ c.requires.absent)
 
 pub put_ahead-requires-clause-room : goal.put_ahead-requires-clause-room
-put_ahead-requires-clause-room c =
-    let d = (goal.at.put_ahead-requires-clause-room c).After-index_mut-cache in
-    subst (λ (n : ℕ). 0 < n) (sym (ap (λ (cache : Contents). cache.spare) (read d) ∙ spare_seen c.self.inside c.args.self.now c.self.view_is c.args.core)) c.requires.room
+put_ahead-requires-clause-room g c =
+    let d = (goal.at.put_ahead-requires-clause-room g c).After-index_mut-cache in
+    subst (λ (n : ℕ). 0 < n) (sym (ap (λ (cache : Contents). cache.spare) (read g d) ∙ spare_seen c.self.inside.caches.items c.self.inside.holders c.args.self.now c.self.view_is c.args.core)) c.requires.room
 
 pub invariant_of-self : goal.invariant_of-self
-invariant_of-self c =
-    let d = (goal.at.invariant_of-self c).After-index_mut-cache in
-    AreLines-alike c.self.inside.caches.items c.self.inside.holders c.self.invariant c.args.core c.put_ahead.new.self (within d)
-    (λ b. c.put_ahead.ensures.same b ∙ ap (λ (cache : Contents). line_in cache b) (read d))
+invariant_of-self g c =
+    let d = (goal.at.invariant_of-self g c).After-index_mut-cache in
+    AreLines-alike c.self.inside.caches.items c.self.inside.holders c.self.invariant c.args.core c.put_ahead.new.self (within g d)
+    (λ b. c.put_ahead.ensures.same b ∙ ap (λ (cache : Contents). line_in cache b) (read g d))
 
 pub returns-clause-rows : goal.returns-clause-rows
-returns-clause-rows c =
-    let d = (goal.at.returns-clause-rows c).After-index_mut-cache in
+returns-clause-rows g c =
+    let d = (goal.at.returns-clause-rows g c).After-index_mut-cache in
     rows-same (length c.self.inside.holders) c.self.inside.caches.items c.args.core c.put_ahead.new.self
-    (λ b. c.put_ahead.ensures.same b ∙ ap (λ (cache : Contents). line_in cache b) (read d))
+    (λ b. c.put_ahead.ensures.same b ∙ ap (λ (cache : Contents). line_in cache b) (read g d))
     ∙ ap (λ (h : Held). h.rows) c.self.view_is
 
 pub returns-clause-lines : goal.returns-clause-lines
-returns-clause-lines c =
-    let d = (goal.at.returns-clause-lines c).After-index_mut-cache in
+returns-clause-lines g c =
+    let d = (goal.at.returns-clause-lines g c).After-index_mut-cache in
     map-set blocks_of c.self.inside.caches.items c.args.core c.put_ahead.new.self
     ∙ (ap (λ (blocks : List ℕ). slice_set (map blocks_of c.self.inside.caches.items) c.args.core blocks)
-    (c.put_ahead.ensures.blocks ∙ ap (λ (blocks : List ℕ). blocks ++ c.args.block ∷ []) (ap blocks_of (read d) ∙ blocks_seen c.self.inside c.args.self.now c.self.view_is c.args.core))
+    (c.put_ahead.ensures.blocks ∙ ap (λ (blocks : List ℕ). blocks ++ c.args.block ∷ []) (ap blocks_of (read g d) ∙ blocks_seen c.self.inside.caches.items c.self.inside.holders c.args.self.now c.self.view_is c.args.core))
     ∙ ap (λ (lines : List (List ℕ)). slice_set lines c.args.core (slice_index_or c.args.self.now.lines c.args.core [] ++ c.args.block ∷ [])) (ap (λ (h : Held). h.lines) c.self.view_is))

@@ -6,53 +6,54 @@ use Rattle.snoop_machine.specs.Lines.{Held}
 use Rattle.snoop_machine.proofs.MapRows.{rows-same, line-same, blocks-same, spare-at}
 use Rattle.snoop_machine.proofs.LineMaps.{in_maps}
 use Rattle.snoop_machine.proofs.LineParts.{AreLines-alike}
+use Rattle.snoop_machine.proofs.lines.Lines.reserve.Given.{Over}
 use Rattle.snoop_machine.proofs.lines.Lines.reserve.Goals as goal
 use Rattle.snoop_machine.proofs.lines.Lines.reserve.Goals.{After-reserve}
 
-within : (c : After-reserve) → c.args.core < length c.self.inside.caches.items
-within c = in_maps c.self.inside c.args.self.now c.self.view_is c.args.core c.requires.core
+within : (g : Over) (c : After-reserve g) → c.args.core < length c.self.inside.caches.items
+within g c = in_maps c.self.inside.caches.items c.self.inside.holders c.args.self.now c.self.view_is c.args.core c.requires.core
 
 -- the map's entries are as they were
-same : (c : After-reserve) → c.reserve.new.self.entries ≡ (slice_index_or c.self.inside.caches.items c.args.core no_cache).entries
-same c =
+same : (g : Over) (c : After-reserve g) → c.reserve.new.self.entries ≡ (slice_index_or c.self.inside.caches.items c.args.core no_cache).entries
+same g c =
     c.reserve.ensures.same
-    ∙ ap (λ (cache : Contents). cache.entries) (get_or_read c.self.inside.caches.items c.args.core c.index_mut-cache.result.now (within c) c.index_mut-cache.ensures.value no_cache)
+    ∙ ap (λ (cache : Contents). cache.entries) (get_or_read c.self.inside.caches.items c.args.core c.index_mut-cache.result.now (within g c) c.index_mut-cache.ensures.value no_cache)
 
 pub invariant_of-self : goal.invariant_of-self
-invariant_of-self c =
-    let d = (goal.at.invariant_of-self c).After-reserve in
-    AreLines-alike c.self.inside.caches.items c.self.inside.holders c.self.invariant c.args.core c.reserve.new.self (within d)
-    (line-same c.reserve.new.self (slice_index_or c.self.inside.caches.items c.args.core no_cache) (same d))
+invariant_of-self g c =
+    let d = (goal.at.invariant_of-self g c).After-reserve in
+    AreLines-alike c.self.inside.caches.items c.self.inside.holders c.self.invariant c.args.core c.reserve.new.self (within g d)
+    (line-same c.reserve.new.self (slice_index_or c.self.inside.caches.items c.args.core no_cache) (same g d))
 
 pub returns-clause-rows : goal.returns-clause-rows
-returns-clause-rows c =
-    let d = (goal.at.returns-clause-rows c).After-reserve in
-    rows-same (length c.self.inside.holders) c.self.inside.caches.items c.args.core c.reserve.new.self (line-same c.reserve.new.self (slice_index_or c.self.inside.caches.items c.args.core no_cache) (same d))
+returns-clause-rows g c =
+    let d = (goal.at.returns-clause-rows g c).After-reserve in
+    rows-same (length c.self.inside.holders) c.self.inside.caches.items c.args.core c.reserve.new.self (line-same c.reserve.new.self (slice_index_or c.self.inside.caches.items c.args.core no_cache) (same g d))
     ∙ ap (λ (h : Held). h.rows) c.self.view_is
 
 pub returns-clause-lines : goal.returns-clause-lines
-returns-clause-lines c =
-    let d = (goal.at.returns-clause-lines c).After-reserve in
-    blocks-same c.self.inside.caches.items c.args.core c.reserve.new.self (same d) ∙ ap (λ (h : Held). h.lines) c.self.view_is
+returns-clause-lines g c =
+    let d = (goal.at.returns-clause-lines g c).After-reserve in
+    blocks-same c.self.inside.caches.items c.args.core c.reserve.new.self (same g d) ∙ ap (λ (h : Held). h.lines) c.self.view_is
 
 -- the room that callers see of each map after it
-abbrev spares : (c : After-reserve) → List ℕ
-spares c = map (λ (cache : Contents). cache.spare) (slice_set c.self.inside.caches.items c.args.core c.reserve.new.self)
+abbrev spares : (g : Over) (c : After-reserve g) → List ℕ
+spares g c = map (λ (cache : Contents). cache.spare) (slice_set c.self.inside.caches.items c.args.core c.reserve.new.self)
 
 -- for this core it is the map's
-here : (c : After-reserve) → slice_index_or (spares c) c.args.core 0 ≡ c.reserve.new.self.spare
-here c =
+here : (g : Over) (c : After-reserve g) → slice_index_or (spares g c) c.args.core 0 ≡ c.reserve.new.self.spare
+here g c =
     spare-at (slice_set c.self.inside.caches.items c.args.core c.reserve.new.self) c.args.core
-    ∙ ap (λ (cache : Contents). cache.spare) (get_or-set_same c.self.inside.caches.items c.args.core c.reserve.new.self no_cache (within c))
+    ∙ ap (λ (cache : Contents). cache.spare) (get_or-set_same c.self.inside.caches.items c.args.core c.reserve.new.self no_cache (within g c))
 
 pub returns-clause-ok : goal.returns-clause-ok
-returns-clause-ok c =
-    let d = (goal.at.returns-clause-ok c).After-reserve in
-    subst (λ (n : ℕ). OnOk c.reserve.result (0 < n)) (sym (here d)) c.reserve.ensures.ok
+returns-clause-ok g c =
+    let d = (goal.at.returns-clause-ok g c).After-reserve in
+    subst (λ (n : ℕ). OnOk c.reserve.result (0 < n)) (sym (here g d)) c.reserve.ensures.ok
 
 pub returns-clause-spares : goal.returns-clause-spares
-returns-clause-spares c =
-    let d = (goal.at.returns-clause-spares c).After-reserve in
+returns-clause-spares g c =
+    let d = (goal.at.returns-clause-spares g c).After-reserve in
     map-set (λ (cache : Contents). cache.spare) c.self.inside.caches.items c.args.core c.reserve.new.self
-    ∙ (ap (λ (n : ℕ). slice_set (map (λ (cache : Contents). cache.spare) c.self.inside.caches.items) c.args.core n) (sym (here d))
-    ∙ ap (λ (h : Held). slice_set h.spares c.args.core (slice_index_or (spares d) c.args.core 0)) c.self.view_is)
+    ∙ (ap (λ (n : ℕ). slice_set (map (λ (cache : Contents). cache.spare) c.self.inside.caches.items) c.args.core n) (sym (here g d))
+    ∙ ap (λ (h : Held). slice_set h.spares c.args.core (slice_index_or (spares g d) c.args.core 0)) c.self.view_is)

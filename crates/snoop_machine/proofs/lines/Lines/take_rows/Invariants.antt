@@ -5,7 +5,7 @@ use Rattle.snoop_machine.specs.Lines.{LinesGo}
 use Rattle.snoop_machine.proofs.lines.Lines.take_rows.Given as goal
 
 abbrev pub invariant-loop-core : goal.invariant-loop-core
-invariant-loop-core l =
+invariant-loop-core g l =
     Taking l.protocol l.requestor l.request (row_of l.initial.self.rows l.block) (row_of l.self.rows l.block) l.from
     × (l.from ≤ length (row_of l.initial.self.rows l.block))
     × (l.self.rows ≡ slice_set l.initial.self.rows l.block (row_of l.self.rows l.block))
@@ -13,4 +13,4 @@ invariant-loop-core l =
     × LinesGo l.block l.initial.self l.self
 
 abbrev pub decreases-loop-core : goal.decreases-loop-core
-decreases-loop-core l = length (row_of l.initial.self.rows l.block) - l.from
+decreases-loop-core g l = length (row_of l.initial.self.rows l.block) - l.from

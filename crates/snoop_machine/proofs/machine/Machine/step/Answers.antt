@@ -7,33 +7,34 @@ use Rattle.snoop_model.proofs.Invariant.Safety.{step_keeps, is_safe}
 use Rattle.snoop_model.proofs.Invariant.Steps.{step_once}
 use Rattle.snoop_model.proofs.Runs.Shape.{step_stays, IsAlike}
 use Rattle.snoop_model.proofs.Runs.Replies.{Hits, step_replies, step_hits}
+use Rattle.snoop_machine.specs.AnyParts.{stand}
 use Rattle.snoop_machine.proofs.machine.Machine.step.Goals as goal
 use Rattle.snoop_machine.proofs.machine.Machine.step.Goals.{After-step}
 
 -- the parts keep what every machine keeps
-keeps : (c : After-step) → MachineKeeps c.step.new.self.situation
-keeps c = step_keeps c.self.inside.parts c.step.new.self c.args.step c.step.result c.self.invariant c.step.ensures.taken c.step.ensures.refused
+keeps : (c : After-step) → MachineKeeps (stand c.step.new.self).situation
+keeps c = step_keeps (stand c.self.inside.parts) (stand c.step.new.self) c.args.step c.step.result c.self.invariant c.step.ensures.taken c.step.ensures.refused
 
 pub invariant_of-self : goal.invariant_of-self
 invariant_of-self c = keeps (goal.at.invariant_of-self c).After-step
 
 pub returns-clause-safe : goal.returns-clause-safe
-returns-clause-safe c = is_safe c.step.new.self.situation (keeps (goal.at.returns-clause-safe c).After-step)
+returns-clause-safe c = is_safe (stand c.step.new.self).situation (keeps (goal.at.returns-clause-safe c).After-step)
 
 pub returns-clause-once : goal.returns-clause-once
 returns-clause-once c =
-    let P : Standing → Type 0 = λ s. IfOk c.step.result (λ reply. OnceMore s.situation (c.args.step ∷ []) (Ok reply ∷ []) c.step.new.self.situation) in
-    subst P c.self.view_is (step_once c.self.inside.parts.situation c.step.new.self.situation c.args.step c.step.result c.self.invariant.coherent c.step.ensures.taken)
+    let P : Standing → Type 0 = λ s. IfOk c.step.result (λ reply. OnceMore s.situation (c.args.step ∷ []) (Ok reply ∷ []) (stand c.step.new.self).situation) in
+    subst P c.self.view_is (step_once (stand c.self.inside.parts).situation (stand c.step.new.self).situation c.args.step c.step.result c.self.invariant.inductive c.step.ensures.taken)
 
 pub returns-clause-stays : goal.returns-clause-stays
 returns-clause-stays c =
-    let P : Standing → Type 0 = λ s. IsAlike s.situation c.step.new.self.situation in
-    subst P c.self.view_is (step_stays c.self.inside.parts c.step.new.self c.args.step c.step.result c.step.ensures.taken c.step.ensures.refused)
+    let P : Standing → Type 0 = λ s. IsAlike s.situation (stand c.step.new.self).situation in
+    subst P c.self.view_is (step_stays (stand c.self.inside.parts) (stand c.step.new.self) c.args.step c.step.result c.step.ensures.taken c.step.ensures.refused)
 
 pub returns-clause-replied : goal.returns-clause-replied
-returns-clause-replied c = step_replies c.self.inside.parts.situation c.step.new.self.situation c.args.step c.step.result c.step.ensures.taken
+returns-clause-replied c = step_replies (stand c.self.inside.parts).situation (stand c.step.new.self).situation c.args.step c.step.result c.step.ensures.taken
 
 pub returns-clause-hit : goal.returns-clause-hit
 returns-clause-hit c =
-    let P : Standing → Type 0 = λ s. Hits s.situation.log c.step.new.self.situation.log c.args.step c.step.result in
-    subst P c.self.view_is (step_hits c.self.inside.parts.situation c.step.new.self.situation c.args.step c.step.result c.step.ensures.taken)
+    let P : Standing → Type 0 = λ s. Hits s.situation.log (stand c.step.new.self).situation.log c.args.step c.step.result in
+    subst P c.self.view_is (step_hits (stand c.self.inside.parts).situation (stand c.step.new.self).situation c.args.step c.step.result c.step.ensures.taken)

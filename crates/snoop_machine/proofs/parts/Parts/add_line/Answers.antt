@@ -1,24 +1,25 @@
 use Rattle.std.proofs.Common.{◌≡◌, ◌<◌, ◌≤◌, ◌++◌, ◌∷◌, [], ◌∙◌, ℕ, List, sym, ap, subst, length, arith}
 use Rattle.std.specs.Prelude.{slice_set, slice_index, slice_index_or}
+use Rattle.std.proofs.lemmas.Grind.{common_steps}
 use Rattle.std.proofs.lemmas.Result.{err_from_is_err_and}
 use Rattle.std.proofs.lemmas.List.{length-set}
 use Rattle.snoop_bus.specs.Traffic.{Traffic, Waiting, waiting_of}
-use Rattle.snoop_machine.specs.PartsView.{places_of}
-use Rattle.snoop_machine.specs.declared.parts.Parts.TheInside.{Inside}
-use Rattle.snoop_model.specs.declared.line.Line.{Line}
+use Rattle.snoop_machine.specs.PartsView.{Fields, fields, places_of}
+use Rattle.snoop_model.specs.Pictures.Lines.{Line}
 use Rattle.snoop_model.specs.Moves.Standing.{Standing}
 use Rattle.snoop_model.specs.Pictures.Sound.{IsSound}
 use Rattle.snoop_machine.proofs.Room.{held_in, held_in-set, keeps_room, places-full, places-map, places-queue}
 use Rattle.snoop_machine.proofs.QueueViews.{queues_of-room, same_traffic, IsSound-room}
+use Rattle.snoop_machine.proofs.parts.Parts.add_line.Given.{Over}
 use Rattle.snoop_machine.proofs.parts.Parts.add_line.Goals as goal
 use Rattle.snoop_machine.proofs.parts.Parts.add_line.Goals.{After-put_ahead}
 
-rows : (c : After-put_ahead) → c.put_ahead.new.self.rows ≡ c.self.inside.lines.rows
-rows c = c.put_ahead.ensures.rows ∙ c.reserve.ensures.rows
+rows : (g : Over) (c : After-put_ahead g) → c.put_ahead.new.self.rows ≡ c.self.inside.lines.rows
+rows g c = c.put_ahead.ensures.rows ∙ c.reserve.ensures.rows
 
 pub invariant_of-self-2 : goal.invariant_of-self-2
-invariant_of-self-2 c =
-    let m = c.self.inside in
+invariant_of-self-2 g c =
+    let m = (fields c.self.inside.protocol c.self.inside.shape c.self.inside.lines c.self.inside.memory c.self.inside.bus c.self.inside.log) in
     let bus = m.bus in
     let core = c.args.core in
     let room = (waiting_of c.reserve-2.new.self core).room in
@@ -30,7 +31,7 @@ invariant_of-self-2 c =
     let Q : Traffic → Type 0 = λ b. IsSound m.shape m.lines.rows b in
     let R : List (List Line) → Type 0 = λ caches. IsSound m.shape caches c.reserve-2.new.self in
     record {
-      sound = subst R (sym (rows (goal.at.invariant_of-self-2 c).After-put_ahead)) (subst Q (sym same) (IsSound-room m.shape m.lines.rows bus core room in_queues c.self.invariant.sound));
+      sound = subst R (sym (rows g (goal.at.invariant_of-self-2 g c).After-put_ahead)) (subst Q (sym same) (IsSound-room m.shape m.lines.rows bus core room in_queues c.self.invariant.sound));
       few = c.self.invariant.few;
       lines = ap (λ (lines : List (List ℕ)). length lines) c.put_ahead.ensures.lines
           ∙ (length-set c.reserve.new.self.lines core (slice_index_or c.reserve.new.self.lines core [] ++ c.args.block ∷ [])
@@ -38,46 +39,55 @@ invariant_of-self-2 c =
       memory = c.self.invariant.memory;
       cores = c.self.invariant.cores;
       blocks = c.self.invariant.blocks;
+      words = c.self.invariant.words;
+      held = c.self.invariant.held;
+      few_words = c.self.invariant.few_words;
     }
 
 pub returns-in_err-reserve-clause-full : goal.returns-in_err-reserve-clause-full
-returns-in_err-reserve-clause-full c =
-    let m = c.self.inside in
+returns-in_err-reserve-clause-full g c =
+    let m = (fields c.self.inside.protocol c.self.inside.shape c.self.inside.lines c.self.inside.memory c.self.inside.bus c.self.inside.log) in
     let p = err_from_is_err_and c.from_residual.result c.from_residual.ensures.1 in
     let P : Standing → Type 0 = λ s. slice_index s.places c.args.core ≡ 0 in
     rw p.1 (subst P c.self.view_is (places-map m.bus.queues m.lines.spares c.args.core c.in_err-reserve.ensures.full))
 
 pub returns-in_err-reserve-2-clause-full : goal.returns-in_err-reserve-2-clause-full
-returns-in_err-reserve-2-clause-full c =
-    let m = c.self.inside in
+returns-in_err-reserve-2-clause-full g c =
+    let m = (fields c.self.inside.protocol c.self.inside.shape c.self.inside.lines c.self.inside.memory c.self.inside.bus c.self.inside.log) in
     let p = err_from_is_err_and c.from_residual-in_err-reserve-2.result c.from_residual-in_err-reserve-2.ensures.1 in
     let P : Standing → Type 0 = λ s. slice_index s.places c.args.core ≡ 0 in
     rw p.1 (subst P c.self.view_is (places-queue m.bus.queues m.lines.spares c.args.core c.in_err-reserve-2.ensures.full))
 
 pub returns-in_err-reserve-2-clause-refused : goal.returns-in_err-reserve-2-clause-refused
-returns-in_err-reserve-2-clause-refused c =
-    let m = c.self.inside in
+returns-in_err-reserve-2-clause-refused g c =
+    let m = (fields c.self.inside.protocol c.self.inside.shape c.self.inside.lines c.self.inside.memory c.self.inside.bus c.self.inside.log) in
     let after = c.reserve.new.self in
     let p = err_from_is_err_and c.from_residual-in_err-reserve-2.result c.from_residual-in_err-reserve-2.ensures.1 in
     let places : places_of m.bus.queues after.spares ≡ places_of m.bus.queues m.lines.spares =
     ap (λ (spares : List ℕ). places_of m.bus.queues spares) c.reserve.ensures.spares ∙ places-full m.bus.queues m.lines.spares c.args.core _ c.in_err-reserve-2.ensures.full in
     rw (p.1, c.in_err-reserve-2.ensures.refused, c.reserve.ensures.rows, c.reserve.ensures.lines, places) c.self.view_is
 
+pub returns-clause-ok : goal.returns-clause-ok
+returns-clause-ok g c = grind (arith, common_steps)
+
+pub returns-clause-more : goal.returns-clause-more
+returns-clause-more g c = grind (arith, common_steps)
+
 pub returns-clause-unchanged : goal.returns-clause-unchanged
-returns-clause-unchanged c =
+returns-clause-unchanged g c =
     let bus = c.self.inside.bus in
     let room = (waiting_of c.reserve-2.new.self c.args.core).room in
-    rw (rows (goal.at.returns-clause-unchanged c).After-put_ahead, c.reserve-2.ensures.queue, queues_of-room bus.queues c.args.core room, c.reserve-2.ensures.transactions) (ap (λ s. s.situation) c.self.view_is)
+    rw (rows g (goal.at.returns-clause-unchanged g c).After-put_ahead, c.reserve-2.ensures.queue, queues_of-room bus.queues c.args.core room, c.reserve-2.ensures.transactions) (ap (λ s. s.situation) c.self.view_is)
 
 pub returns-clause-room : goal.returns-clause-room
-returns-clause-room c =
-    let m = c.self.inside in
+returns-clause-room g c =
+    let m = (fields c.self.inside.protocol c.self.inside.shape c.self.inside.lines c.self.inside.memory c.self.inside.bus c.self.inside.log) in
     let core = c.args.core in
     let P : Standing → Type 0 = λ s. core < s.situation.shape.cores in
     let in_cores : core < m.shape.cores = subst P (sym c.self.view_is) c.requires.core in
     let in_queues : core < length m.bus.queues = omega (arith, c.self.invariant.sound.queues) in
     let queue : Waiting = record { requests = (waiting_of m.bus core).requests; room = (waiting_of c.reserve-2.new.self core).room } in
     let more = c.reserve-2.ensures.room in
-    let new : Inside = record m { lines = c.put_ahead.new.self; bus = c.reserve-2.new.self } in
+    let new : Fields = record m { lines = c.put_ahead.new.self; bus = c.reserve-2.new.self } in
     let Q : List Waiting → Type 0 = λ queues. (k : ℕ) → held_in m.bus.queues k ≤ held_in queues k in
     keeps_room m new c.args.self.now c.self.view_is (omega arith) (subst Q (sym c.reserve-2.ensures.queue) (held_in-set m.bus.queues core queue in_queues (omega arith)))

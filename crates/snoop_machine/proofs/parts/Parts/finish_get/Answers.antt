@@ -7,13 +7,12 @@ use Rattle.snoop_history.specs.declared.items.Did.{Did}
 use Rattle.snoop_history.specs.declared.items.Came.{Came}
 use Rattle.snoop_history.specs.declared.items.Item.TheVariants as item
 use Rattle.snoop_bus.specs.Traffic.{Traffic}
-use Rattle.snoop_model.specs.declared.line.Line.{Line}
-use Rattle.snoop_model.specs.declared.memory.MemLine.{MemLine}
+use Rattle.snoop_model.specs.Pictures.Lines.{Line, MemLine}
 use Rattle.snoop_model.specs.Pictures.Picture.{Picture}
 use Rattle.snoop_model.specs.Moves.Standing.{Standing}
 use Rattle.snoop_model.specs.Pictures.Situation.{Situation, picture_of, with_picture}
 use Rattle.snoop_model.specs.Pictures.Sound.{IsSound, IsProper, line_at}
-use Rattle.snoop_machine.specs.PartsView.{queues_of}
+use Rattle.snoop_machine.specs.PartsView.{fields, queues_of}
 use Rattle.snoop_model.specs.Moves.Move.{Fills, ArrivesFor, ArrivesAtMemory, Responds, came_of, next_did}
 use Rattle.snoop_model.proofs.Lines.EachRow.{row_of}
 use Rattle.snoop_model.proofs.Lines.OneLine.{placed}
@@ -26,19 +25,19 @@ use Rattle.snoop_machine.proofs.Following.{follows-set}
 use Rattle.snoop_machine.proofs.parts.Parts.finish_get.Goals as goal
 
 pub invariant_of-self : goal.invariant_of-self
-invariant_of-self c =
-    let m = c.self.inside in
+invariant_of-self g c =
+    let m = (fields c.self.inside.protocol c.self.inside.shape c.self.inside.lines c.self.inside.memory c.self.inside.bus c.self.inside.log) in
     let block = c.args.block in
     let core = c.args.closing.core in
     let filled = c.args.filled in
     let P : Standing → Type 0 = λ x. core < x.situation.shape.cores in
     let Q : Standing → Type 0 = λ x. block < x.situation.shape.blocks in
-    let T : Standing → Type 0 = λ x. Fills c.args.closing x.situation.protocol (line_at x.situation.caches core block) filled.line filled.op filled.value in
-    let f : Fills c.args.closing m.protocol (line_at m.lines.rows core block) filled.line filled.op filled.value = subst T (sym c.self.view_is) c.requires.filled in
+    let T : Standing → Type 0 = λ x. Fills c.args.closing x.situation.protocol (line_at x.situation.caches core block) filled.line filled.access filled.value in
+    let f : Fills c.args.closing m.protocol (line_at m.lines.rows core block) filled.line filled.access filled.value = subst T (sym c.self.view_is) c.requires.filled in
     let I : Line → Type 0 = λ x. IsProper x in
-    let proper : IsProper filled.line = subst I (sym f.held) (IsProper-fill m.protocol (line_at m.lines.rows core block).state f.event f.act f.next filled.op f.after f.fill f.row) in
+    let proper : IsProper filled.line = subst I (sym f.held) (IsProper-fill m.protocol (line_at m.lines.rows core block).state f.event f.act f.next filled.access.op f.after f.fill f.row) in
     let same : waiting_request filled.line.state ≡ waiting_request (line_at m.lines.rows core block).state =
-    ap (λ (x : Line). waiting_request x.state) f.held ∙ fill-waits m.protocol (line_at m.lines.rows core block).state f.event f.act f.next filled.op f.fill f.row in
+    ap (λ (x : Line). waiting_request x.state) f.held ∙ fill-waits m.protocol (line_at m.lines.rows core block).state f.event f.act f.next filled.access.op f.fill f.row in
     let in_blocks : block < m.shape.blocks = subst Q (sym c.self.view_is) c.requires.block in
     let placed_sound = IsSound-line m.shape m.lines.rows m.bus c.self.invariant.sound core block filled.line (subst P (sym c.self.view_is) c.requires.core) in_blocks proper same in
     let S : List (List Line) → Type 0 = λ caches. IsSound m.shape caches c.finish.new.self in
@@ -50,11 +49,14 @@ invariant_of-self c =
       memory = ap (λ (l : List MemLine). length l) c.set-2.ensures ∙ (length-set m.memory c.args.block c.args.memory ∙ c.self.invariant.memory);
       cores = ap (λ (j : Journal). j.cores) c.push.ensures ∙ c.self.invariant.cores;
       blocks = ap (λ (j : Journal). j.blocks) c.push.ensures ∙ c.self.invariant.blocks;
+      words = ap (λ (j : Journal). j.words) c.push.ensures ∙ c.self.invariant.words;
+      held = c.self.invariant.held;
+      few_words = c.self.invariant.few_words;
     }
 
 pub returns-clause-responded : goal.returns-clause-responded
-returns-clause-responded c =
-    let m = c.self.inside in
+returns-clause-responded g c =
+    let m = (fields c.self.inside.protocol c.self.inside.shape c.self.inside.lines c.self.inside.memory c.self.inside.bus c.self.inside.log) in
     let block = c.args.block in
     let closing = c.args.closing in
     let core = c.args.closing.core in
@@ -63,8 +65,8 @@ returns-clause-responded c =
     let Q : Standing → Type 0 = λ x. block < x.situation.shape.blocks in
     let in_cores : core < m.shape.cores = subst P (sym c.self.view_is) c.requires.core in
     let in_blocks : block < m.shape.blocks = subst Q (sym c.self.view_is) c.requires.block in
-    let D : Standing → Did = λ x. next_did x.situation.log core closing.block filled.op filled.value false in
-    let did_is : c.next_did-did.result ≡ next_did m.log.items core closing.block filled.op filled.value false = c.next_did-did.ensures ∙ sym (ap D c.self.view_is) in
+    let D : Standing → Did = λ x. next_did x.situation.log core closing.block filled.access.word filled.access.op filled.value false in
+    let did_is : c.next_did-did.result ≡ next_did m.log.items core closing.block filled.access.word filled.access.op filled.value false = c.next_did-did.ensures ∙ sym (ap D c.self.view_is) in
     let did = c.next_did-did.result in
     let old : Situation = record { protocol = m.protocol; shape = m.shape; caches = m.lines.rows; memory = m.memory; transactions = m.bus.transactions; queues = queues_of m.bus.queues; log = m.log.items } in
     let is : old ≡ c.args.self.now.situation = ap (λ (x : Standing). x.situation) c.self.view_is in
@@ -72,7 +74,7 @@ returns-clause-responded c =
     let G : Situation → Type 0 = λ x. Responds x block closing (Some did) new in
     let F : Situation → Type 0 = λ x. (picture_of x block).transaction ≡ Some closing in
     let N : Situation → Type 0 = λ x. ArrivesAtMemory closing x.protocol (picture_of x block).memory c.args.memory in
-    let T : Situation → Type 0 = λ x. Fills closing x.protocol (line_at x.caches core block) filled.line filled.op filled.value in
+    let T : Situation → Type 0 = λ x. Fills closing x.protocol (line_at x.caches core block) filled.line filled.access filled.value in
     let next : Picture = record { caches = slice_set (row_of m.lines.rows block) core filled.line; memory = c.args.memory; transaction = None } in
     let A : Did → Type 0 = λ d. ArrivesFor closing.request closing m.protocol m.log.items (row_of m.lines.rows block) (slice_set (row_of m.lines.rows block) core filled.line) (Some d) in
     subst G is (record {
@@ -88,14 +90,14 @@ returns-clause-responded c =
     })
 
 pub set-requires-clause-proper : goal.set-requires-clause-proper
-set-requires-clause-proper c =
+set-requires-clause-proper g c =
     let I : Line → Type 0 = λ x. IsProper x in
-    let S : Standing → Type 0 = λ x. Fills c.args.closing x.situation.protocol (line_at x.situation.caches c.args.closing.core c.args.block) c.args.filled.line c.args.filled.op c.args.filled.value in
-    let m = c.self.inside in
-    let its : Fills c.args.closing m.protocol (line_at m.lines.rows c.args.closing.core c.args.block) c.args.filled.line c.args.filled.op c.args.filled.value = subst S (sym c.self.view_is) c.requires.filled in
-    subst I (sym its.held) (IsProper-fill m.protocol (line_at m.lines.rows c.args.closing.core c.args.block).state its.event its.act its.next c.args.filled.op its.after its.fill its.row)
+    let S : Standing → Type 0 = λ x. Fills c.args.closing x.situation.protocol (line_at x.situation.caches c.args.closing.core c.args.block) c.args.filled.line c.args.filled.access c.args.filled.value in
+    let m = (fields c.self.inside.protocol c.self.inside.shape c.self.inside.lines c.self.inside.memory c.self.inside.bus c.self.inside.log) in
+    let its : Fills c.args.closing m.protocol (line_at m.lines.rows c.args.closing.core c.args.block) c.args.filled.line c.args.filled.access c.args.filled.value = subst S (sym c.self.view_is) c.requires.filled in
+    subst I (sym its.held) (IsProper-fill m.protocol (line_at m.lines.rows c.args.closing.core c.args.block).state its.event its.act its.next c.args.filled.access.op its.after its.fill its.row)
 
 pub returns-clause-lines : goal.returns-clause-lines
-returns-clause-lines c =
-    follows-set c.self.inside c.args.self.now c.self.view_is _ c.args.block c.set.new.self refl refl c.self.invariant c.args.closing.core c.args.filled.line c.requires.core c.requires.block
+returns-clause-lines g c =
+    follows-set (fields c.self.inside.protocol c.self.inside.shape c.self.inside.lines c.self.inside.memory c.self.inside.bus c.self.inside.log) c.args.self.now c.self.view_is _ c.args.block c.set.new.self refl refl c.self.invariant c.args.closing.core c.args.filled.line c.requires.core c.requires.block
     c.set.ensures.rows c.set.ensures.lines c.set.ensures.others

@@ -1,5 +1,5 @@
 use Rattle.std.proofs.Common.{◌≡◌, ◌<◌, ◌++◌, ◌∷◌, [], List, length, Some, None, ◌∙◌, refl, sym, ap, subst}
-use Rattle.snoop_model.specs.declared.memory.MemLine.{MemLine}
+use Rattle.snoop_model.specs.Pictures.Lines.{MemLine}
 use Rattle.std.proofs.lemmas.List.{length-set, set-get_or}
 use Rattle.snoop_history.specs.Journal.{Journal}
 use Rattle.snoop_history.specs.declared.items.Came.{Came}
@@ -9,7 +9,7 @@ use Rattle.snoop_model.specs.Pictures.Picture.{Picture}
 use Rattle.snoop_model.specs.Moves.Standing.{Standing}
 use Rattle.snoop_model.specs.Pictures.Situation.{Situation, picture_of, with_picture}
 use Rattle.snoop_model.specs.Pictures.Sound.{IsSound}
-use Rattle.snoop_machine.specs.PartsView.{queues_of}
+use Rattle.snoop_machine.specs.PartsView.{fields, queues_of}
 use Rattle.snoop_model.specs.Moves.Move.{ArrivesAtMemory, Responds, came_of}
 use Rattle.snoop_model.proofs.Lines.EachRow.{row_of}
 use Rattle.snoop_machine.proofs.QueueViews.{IsSound-close}
@@ -18,8 +18,8 @@ use Rattle.snoop_machine.proofs.QueueHeads.{same_situation}
 use Rattle.snoop_machine.proofs.parts.Parts.finish_put.Goals as goal
 
 pub invariant_of-self : goal.invariant_of-self
-invariant_of-self c =
-    let m = c.self.inside in
+invariant_of-self g c =
+    let m = (fields c.self.inside.protocol c.self.inside.shape c.self.inside.lines c.self.inside.memory c.self.inside.bus c.self.inside.log) in
     let Q : Standing → Type 0 = λ x. c.args.block < x.situation.shape.blocks in
     let R : Traffic → Type 0 = λ bus. IsSound m.shape m.lines.rows bus in
     record {
@@ -29,11 +29,14 @@ invariant_of-self c =
       memory = ap (λ (l : List MemLine). length l) c.set.ensures ∙ (length-set m.memory c.args.block c.args.memory ∙ c.self.invariant.memory);
       cores = ap (λ (j : Journal). j.cores) c.push.ensures ∙ c.self.invariant.cores;
       blocks = ap (λ (j : Journal). j.blocks) c.push.ensures ∙ c.self.invariant.blocks;
+      words = ap (λ (j : Journal). j.words) c.push.ensures ∙ c.self.invariant.words;
+      held = c.self.invariant.held;
+      few_words = c.self.invariant.few_words;
     }
 
 pub returns-clause-responded : goal.returns-clause-responded
-returns-clause-responded c =
-    let m = c.self.inside in
+returns-clause-responded g c =
+    let m = (fields c.self.inside.protocol c.self.inside.shape c.self.inside.lines c.self.inside.memory c.self.inside.bus c.self.inside.log) in
     let block = c.args.block in
     let closing = c.args.closing in
     let old : Situation = record { protocol = m.protocol; shape = m.shape; caches = m.lines.rows; memory = m.memory; transactions = m.bus.transactions; queues = queues_of m.bus.queues; log = m.log.items } in

@@ -7,13 +7,15 @@ use Rattle.snoop_model.specs.Moves.Standing.{Standing}
 use Rattle.snoop_model.specs.Moves.Refuses.{WaitsOnNone}
 use Rattle.snoop_model.specs.Moves.OrderMove.{IsHead}
 use Rattle.snoop_machine.proofs.QueueHeads.{line_from_head, waits_from_head, idle_from_head, within_from_waits, empty_from_head}
+use Rattle.snoop_machine.specs.PartsView.{fields}
+use Rattle.snoop_machine.proofs.parts.Parts.head.Given.{Over}
 use Rattle.snoop_machine.proofs.parts.Parts.head.Goals as goal
 use Rattle.snoop_machine.proofs.parts.Parts.head.Goals.{After-head}
 
-some_head : (c : After-head) (o : Option (Request × ℕ)) → head_of c.self.inside.bus c.args.core ≡ o → IfSome o (λ head. IsHead c.args.self.now.situation c.args.core head.0 head.1)
-some_head c None is = tt
-some_head c (Some head) is =
-    let m = c.self.inside in
+some_head : (g : Over) (c : After-head g) (o : Option (Request × ℕ)) → head_of c.self.inside.bus c.args.core ≡ o → IfSome o (λ head. IsHead c.args.self.now.situation c.args.core head.0 head.1)
+some_head g c None is = tt
+some_head g c (Some head) is =
+    let m = (fields c.self.inside.protocol c.self.inside.shape c.self.inside.lines c.self.inside.memory c.self.inside.bus c.self.inside.log) in
     let P : Standing → Type 0 = λ s. IsHead s.situation c.args.core head.0 head.1 in
     let waits = waits_from_head m.shape m.lines.rows m.bus c.self.invariant.sound c.args.core head.0 head.1 is in
     let within : head.1 < length m.lines.rows = within_from_waits m.lines.rows c.args.core head.1 head.0 waits in
@@ -24,24 +26,24 @@ some_head c (Some head) is =
       within = omega arith;
     })
 
-no_head : (c : After-head) (o : Option (Request × ℕ)) → head_of c.self.inside.bus c.args.core ≡ o → IfNone o (WaitsOnNone c.args.self.now.situation c.args.core)
-no_head c None is =
-    let m = c.self.inside in
+no_head : (g : Over) (c : After-head g) (o : Option (Request × ℕ)) → head_of c.self.inside.bus c.args.core ≡ o → IfNone o (WaitsOnNone c.args.self.now.situation c.args.core)
+no_head g c None is =
+    let m = (fields c.self.inside.protocol c.self.inside.shape c.self.inside.lines c.self.inside.memory c.self.inside.bus c.self.inside.log) in
     let P : Standing → Type 0 = λ s. WaitsOnNone s.situation c.args.core in
     subst P c.self.view_is (idle_from_head m.shape m.lines.rows m.bus c.self.invariant.sound c.args.core is)
-no_head c (Some head) is = tt
+no_head g c (Some head) is = tt
 
 pub returns-clause-some : goal.returns-clause-some
-returns-clause-some c = some_head (goal.at.returns-clause-some c).After-head c.head.result (sym c.head.ensures)
+returns-clause-some g c = some_head g (goal.at.returns-clause-some g c).After-head c.head.result (sym c.head.ensures)
 
 pub returns-clause-none : goal.returns-clause-none
-returns-clause-none c = no_head (goal.at.returns-clause-none c).After-head c.head.result (sym c.head.ensures)
+returns-clause-none g c = no_head g (goal.at.returns-clause-none g c).After-head c.head.result (sym c.head.ensures)
 
-empty_queue : (c : After-head) (o : Option (Request × ℕ)) → head_of c.self.inside.bus c.args.core ≡ o → IfNone o (slice_get (queue_of c.args.self.now.situation.queues c.args.core) 0 ≡ None)
-empty_queue c None is =
+empty_queue : (g : Over) (c : After-head g) (o : Option (Request × ℕ)) → head_of c.self.inside.bus c.args.core ≡ o → IfNone o (slice_get (queue_of c.args.self.now.situation.queues c.args.core) 0 ≡ None)
+empty_queue g c None is =
     let P : Standing → Type 0 = λ s. slice_get (queue_of s.situation.queues c.args.core) 0 ≡ None in
     subst P c.self.view_is (empty_from_head c.self.inside.bus c.args.core is)
-empty_queue c (Some head) is = tt
+empty_queue g c (Some head) is = tt
 
 pub returns-clause-empty : goal.returns-clause-empty
-returns-clause-empty c = empty_queue (goal.at.returns-clause-empty c).After-head c.head.result (sym c.head.ensures)
+returns-clause-empty g c = empty_queue g (goal.at.returns-clause-empty g c).After-head c.head.result (sym c.head.ensures)

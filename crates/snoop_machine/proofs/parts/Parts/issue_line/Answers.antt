@@ -4,9 +4,8 @@ use Rattle.std.specs.Prelude.{slice_set, slice_index_or}
 use Rattle.snoop_rules.specs.Waits.{waiting_request}
 use Rattle.snoop_rules.specs.declared.names.Request.{Request}
 use Rattle.snoop_bus.specs.Traffic.{Traffic, Waiting, waiting_of}
-use Rattle.snoop_machine.specs.declared.parts.Parts.TheInside.{Inside}
 use Rattle.snoop_bus.specs.Queues.{after_issue}
-use Rattle.snoop_model.specs.declared.line.Line.{Line}
+use Rattle.snoop_model.specs.Pictures.Lines.{Line}
 use Rattle.snoop_model.specs.Moves.Standing.{Standing}
 use Rattle.snoop_model.specs.Pictures.Situation.{Situation}
 use Rattle.snoop_model.specs.Pictures.Sound.{IsSound, line_at}
@@ -15,11 +14,12 @@ use Rattle.snoop_machine.proofs.LineWrites.{IsSound-issue}
 use Rattle.snoop_model.proofs.Lines.OneLine.{placed}
 use Rattle.snoop_machine.proofs.QueueViews.{queues_of-issue, same_traffic}
 use Rattle.snoop_machine.proofs.Following.{follows-set}
+use Rattle.snoop_machine.specs.PartsView.{Fields, fields}
 use Rattle.snoop_machine.proofs.parts.Parts.issue_line.Goals as goal
 
 pub invariant_of-self : goal.invariant_of-self
-invariant_of-self c =
-    let m = c.self.inside in
+invariant_of-self g c =
+    let m = (fields c.self.inside.protocol c.self.inside.shape c.self.inside.lines c.self.inside.memory c.self.inside.bus c.self.inside.log) in
     let core = c.args.core in
     let room = (waiting_of m.bus core).room - 1 in
     let P : Standing → Type 0 = λ s. core < s.situation.shape.cores in
@@ -39,18 +39,21 @@ invariant_of-self c =
       memory = c.self.invariant.memory;
       cores = c.self.invariant.cores;
       blocks = c.self.invariant.blocks;
+      words = c.self.invariant.words;
+      held = c.self.invariant.held;
+      few_words = c.self.invariant.few_words;
     }
 
 pub returns-clause-written : goal.returns-clause-written
-returns-clause-written c =
-    let m = c.self.inside in
+returns-clause-written g c =
+    let m = (fields c.self.inside.protocol c.self.inside.shape c.self.inside.lines c.self.inside.memory c.self.inside.bus c.self.inside.log) in
     let room = (waiting_of m.bus c.args.core).room - 1 in
     rw (c.issue.ensures.queue, queues_of-issue m.bus.queues c.args.core c.args.block room c.args.request, c.issue.ensures.transactions, c.set.ensures.rows)
     (ap (λ (s : Standing). let t : Situation = record s.situation { caches = slice_set s.situation.caches c.args.block (slice_set (slice_index_or s.situation.caches c.args.block []) c.args.core c.args.line); queues = after_issue s.situation.queues c.args.core c.args.block } in t) c.self.view_is)
 
 pub returns-clause-room : goal.returns-clause-room
-returns-clause-room c =
-    let m = c.self.inside in
+returns-clause-room g c =
+    let m = (fields c.self.inside.protocol c.self.inside.shape c.self.inside.lines c.self.inside.memory c.self.inside.bus c.self.inside.log) in
     let core = c.args.core in
     let before : Waiting = waiting_of m.bus core in
     let P : Standing → Type 0 = λ s. core < s.situation.shape.cores in
@@ -59,11 +62,11 @@ returns-clause-room c =
     let requests : List (Request × ℕ) = before.requests ++ (c.args.request, c.args.block) ∷ [] in
     let queue : Waiting = record { requests = requests; room = before.room - 1 } in
     let long : length requests ≡ length before.requests + 1 = length-append before.requests ((c.args.request, c.args.block) ∷ []) in
-    let new : Inside = record m { lines = c.set.new.self; bus = c.issue.new.self } in
+    let new : Fields = record m { lines = c.set.new.self; bus = c.issue.new.self } in
     let Q : List Waiting → Type 0 = λ queues. (k : ℕ) → held_in m.bus.queues k ≤ held_in queues k in
     keeps_room m new c.args.self.now c.self.view_is (omega arith) (subst Q (sym c.issue.ensures.queue) (held_in-set m.bus.queues core queue in_queues (omega arith)))
 
 pub returns-clause-lines : goal.returns-clause-lines
-returns-clause-lines c =
-    follows-set c.self.inside c.args.self.now c.self.view_is _ c.args.block c.set.new.self refl refl c.self.invariant c.args.core c.args.line c.requires.core c.requires.block
+returns-clause-lines g c =
+    follows-set (fields c.self.inside.protocol c.self.inside.shape c.self.inside.lines c.self.inside.memory c.self.inside.bus c.self.inside.log) c.args.self.now c.self.view_is _ c.args.block c.set.new.self refl refl c.self.invariant c.args.core c.args.line c.requires.core c.requires.block
     c.set.ensures.rows c.set.ensures.lines c.set.ensures.others

@@ -5,9 +5,9 @@ use Rattle.snoop_rules.specs.declared.names.MemEvent.{MemEvent}
 use Rattle.snoop_rules.specs.MemoryCell.{MemoryCell}
 use Rattle.snoop_rules.specs.Possible.{IsMemImpossible}
 use Rattle.snoop_rules.specs.Takers.{at_memory, seen_by}
-use Rattle.snoop_bus.specs.declared.transactions.Open.{Open}
+use Rattle.snoop_bus.specs.Traffic.{Open}
 use Rattle.snoop_bus.specs.Traffic.{transaction_on}
-use Rattle.snoop_model.specs.declared.memory.MemLine.{MemLine}
+use Rattle.snoop_model.specs.Pictures.Lines.{MemLine}
 use Rattle.snoop_model.specs.Pictures.Picture.{Picture, held_by}
 use Rattle.snoop_model.specs.Moves.Standing.{Standing}
 use Rattle.snoop_model.specs.Pictures.Situation.{picture_of, no_memory}
@@ -19,6 +19,8 @@ use Rattle.snoop_model.proofs.Lines.EachRow.{row_of}
 use Rattle.snoop_model.proofs.Invariant.Coherence.{orders_follow_sender_table, finds_rows}
 use Rattle.snoop_machine.specs.declared.plan.Plan.TheVariants as plan
 use Rattle.snoop_machine.proofs.Plans.{plan-allowed}
+use Rattle.snoop_machine.specs.PartsView.{fields}
+use Rattle.snoop_machine.proofs.parts.Parts.plan_order.Given.{Over}
 use Rattle.snoop_machine.proofs.parts.Parts.plan_order.Goals as goal
 use Rattle.snoop_machine.proofs.parts.Parts.plan_order.Goals.{In-Some-mem_cell}
 
@@ -27,71 +29,71 @@ none_from_is_some None h = refl
 none_from_is_some (Some x) h = cc
 
 -- what memory holds
-memory_is : (c : In-Some-mem_cell) → c.get_or-memory.result ≡ slice_index_or c.self.inside.memory c.in-Some.block no_memory
-memory_is c = c.get_or-memory.ensures
+memory_is : (g : Over) (c : In-Some-mem_cell g) → c.get_or-memory.result ≡ slice_index_or c.self.inside.memory c.in-Some.block no_memory
+memory_is g c = c.get_or-memory.ensures ∙ ap (λ (x : MemLine). slice_index_or c.self.inside.memory c.in-Some.block x) c.no_memory.ensures
 
 -- the block that stands first has no open transaction, and this picture
-picture : (c : In-Some-mem_cell) → free_picture (row_of c.self.inside.lines.rows c.in-Some.block) c.get_or-memory.result ≡ picture_of c.args.self.now.situation c.in-Some.block
-picture c =
-    let m = c.self.inside in
+picture : (g : Over) (c : In-Some-mem_cell g) → free_picture (row_of c.self.inside.lines.rows c.in-Some.block) c.get_or-memory.result ≡ picture_of c.args.self.now.situation c.in-Some.block
+picture g c =
+    let m = (fields c.self.inside.protocol c.self.inside.shape c.self.inside.lines c.self.inside.memory c.self.inside.bus c.self.inside.log) in
     let free : transaction_on m.bus c.in-Some.block ≡ None = none_from_is_some _ (ap is_some (sym c.open.ensures) ∙ (sym c.is_some.ensures ∙ c.if-is_some.false)) in
-    ap (λ (x : MemLine). free_picture (row_of m.lines.rows c.in-Some.block) x) (memory_is c)
+    ap (λ (x : MemLine). free_picture (row_of m.lines.rows c.in-Some.block) x) (memory_is g c)
     ∙ (ap (λ (o : Option Open). let p : Picture = record (free_picture (row_of m.lines.rows c.in-Some.block) (slice_index_or m.memory c.in-Some.block no_memory)) { transaction = o } in p) (sym free)
     ∙ ap (λ (s : Standing). picture_of s.situation c.in-Some.block) c.self.view_is)
 
-protocol : (c : In-Some-mem_cell) → c.self.inside.protocol ≡ c.args.self.now.situation.protocol
-protocol c = ap (λ (s : Standing). s.situation.protocol) c.self.view_is
+protocol : (g : Over) (c : In-Some-mem_cell g) → c.self.inside.protocol ≡ c.args.self.now.situation.protocol
+protocol g c = ap (λ (s : Standing). s.situation.protocol) c.self.view_is
 
-memory_row : (c : In-Some-mem_cell) → TakesMemRow c.args.self.now.situation.protocol (at_memory c.in-Some.request) (picture_of c.args.self.now.situation c.in-Some.block).memory.state c.in-Some-mem_cell.cell.next
-memory_row c =
+memory_row : (g : Over) (c : In-Some-mem_cell g) → TakesMemRow c.args.self.now.situation.protocol (at_memory c.in-Some.request) (picture_of c.args.self.now.situation c.in-Some.block).memory.state c.in-Some-mem_cell.cell.next
+memory_row g c =
     let P : MemEvent → Type 0 = λ e. MemoryCell c.self.inside.protocol c.get_or-memory.result.state e c.in-Some-mem_cell.cell.action c.in-Some-mem_cell.cell.next in
     let Q : Picture → Type 0 = λ p. TakesMemRow c.self.inside.protocol (at_memory c.in-Some.request) p.memory.state c.in-Some-mem_cell.cell.next in
-    rw (← protocol c) (subst Q (picture c) (c.in-Some-mem_cell.cell.action, subst P c.event_at_memory.ensures c.in-Some-mem_cell.ensures.row))
+    rw (← protocol g c) (subst Q (picture g c) (c.in-Some-mem_cell.cell.action, subst P c.event_at_memory.ensures c.in-Some-mem_cell.ensures.row))
 
-free_here : (c : In-Some-mem_cell) → (picture_of c.args.self.now.situation c.in-Some.block).transaction ≡ None
-free_here c =
+free_here : (g : Over) (c : In-Some-mem_cell g) → (picture_of c.args.self.now.situation c.in-Some.block).transaction ≡ None
+free_here g c =
     let free : transaction_on c.self.inside.bus c.in-Some.block ≡ None = none_from_is_some _ (ap is_some (sym c.open.ensures) ∙ (sym c.is_some.ensures ∙ c.if-is_some.false)) in
     sym (ap (λ (s : Standing). (picture_of s.situation c.in-Some.block).transaction) c.self.view_is) ∙ free
 
 -- each core has its row for a waiting request on a free block
 pub message-message-requires-clause-rows : goal.message-message-requires-clause-rows
-message-message-requires-clause-rows c =
-    let d = (goal.at.message-message-requires-clause-rows c).In-Some-mem_cell in
+message-message-requires-clause-rows g c =
+    let d = (goal.at.message-message-requires-clause-rows g c).In-Some-mem_cell in
     let s = c.args.self.now.situation in
     let request = c.in-Some.request in
     let Q : Picture → Type 0 = λ p. (k : ℕ) → k < length p.caches → HasRow c.self.inside.protocol (held_by p k).state (seen_by k c.args.core request) in
-    subst Q (sym (picture d)) (λ k inside. rw (protocol d)
-    ((finds_rows s c.requires.coherent (Order c.args.core)).cache k c.in-Some.block (Some (seen_by k c.args.core request)) (request, ((c.in-Some.ensures.some.waits, free_here d), refl))))
+    subst Q (sym (picture g d)) (λ k inside. rw (protocol g d)
+    ((finds_rows s c.requires.inductive (Order c.args.core)).cache k c.in-Some.block (Some (seen_by k c.args.core request)) (request, ((c.in-Some.ensures.some.waits, free_here g d), refl))))
 
 pub message-message-requires-clause-line : goal.message-message-requires-clause-line
-message-message-requires-clause-line c =
-    let d = (goal.at.message-message-requires-clause-line c).In-Some-mem_cell in
+message-message-requires-clause-line g c =
+    let d = (goal.at.message-message-requires-clause-line g c).In-Some-mem_cell in
     let Q : Picture → Type 0 = λ p. FollowsSenderTable c.self.inside.protocol p c.args.core c.in-Some.request in
-    subst Q (sym (picture d))
-    (rw (protocol d) (orders_follow_sender_table c.args.self.now.situation c.requires.coherent c.args.core c.in-Some.block c.in-Some.request (c.in-Some.ensures.some.waits, free_here d)))
+    subst Q (sym (picture g d))
+    (rw (protocol g d) (orders_follow_sender_table c.args.self.now.situation c.requires.inductive c.args.core c.in-Some.block c.in-Some.request (c.in-Some.ensures.some.waits, free_here g d)))
 
 pub returns-clause-found : goal.returns-clause-found
-returns-clause-found c =
-    let d = (goal.at.returns-clause-found c).In-Some-mem_cell in
+returns-clause-found g c =
+    let d = (goal.at.returns-clause-found g c).In-Some-mem_cell in
     let Q : Picture → Type 0 = λ p. IsMessage c.self.inside.protocol p c.args.core c.in-Some.request c.message-message.result in
-    let sent = subst Q (picture d) c.message-message.ensures in (
+    let sent = subst Q (picture g d) c.message-message.ensures in (
       refl,
-      (c.requires.core, record { head = c.in-Some.ensures.some; free = free_here d; memory_row = memory_row d; sent = rw (← protocol d) sent }),
+      (c.requires.core, record { head = c.in-Some.ensures.some; free = free_here g d; memory_row = memory_row g d; sent = rw (← protocol g d) sent }),
     )
 
 pub returns-clause-exactly : goal.returns-clause-exactly
-returns-clause-exactly c =
-    let d = (goal.at.returns-clause-exactly c).In-Some-mem_cell in
+returns-clause-exactly g c =
+    let d = (goal.at.returns-clause-exactly g c).In-Some-mem_cell in
     let Q : Picture → Type 0 = λ p. IsMessage c.self.inside.protocol p c.args.core c.in-Some.request c.message-message.result in
-    let sent = subst Q (picture d) c.message-message.ensures in
+    let sent = subst Q (picture g d) c.message-message.ensures in
     λ cause refuses. absurd (plan-allowed c.args.self.now.situation (plan.Order c.args.core c.in-Some.request c.in-Some.block c.message-message.result c.in-Some-mem_cell.cell.next)
-    (c.requires.core, record { head = c.in-Some.ensures.some; free = free_here d; memory_row = memory_row d; sent = rw (← protocol d) sent })
+    (c.requires.core, record { head = c.in-Some.ensures.some; free = free_here g d; memory_row = memory_row g d; sent = rw (← protocol g d) sent })
     cause refuses)
 
 pub unreachable-requires : goal.unreachable-requires
-unreachable-requires c =
+unreachable-requires g c =
     let s = c.args.self.now.situation in
-    let m = c.self.inside in
+    let m = (fields c.self.inside.protocol c.self.inside.shape c.self.inside.lines c.self.inside.memory c.self.inside.bus c.self.inside.log) in
     let block = c.in-Some.block in
     let request = c.in-Some.request in
     let head = c.in-Some.ensures.some in
@@ -100,10 +102,10 @@ unreachable-requires c =
     let W : Standing → Type 0 = λ x. block < x.situation.shape.blocks in
     let within : block < m.shape.blocks = subst W (sym c.self.view_is) head.within in
     let long = c.self.invariant.memory in
-    let held : c.get_or-memory.result ≡ slice_index_or m.memory block no_memory = c.get_or-memory.ensures in
+    let held : c.get_or-memory.result ≡ slice_index_or m.memory block no_memory = c.get_or-memory.ensures ∙ ap (λ (x : MemLine). slice_index_or m.memory block x) c.no_memory.ensures in
     let P : MemEvent → Type 0 = λ event. IsMemImpossible m.protocol c.get_or-memory.result.state event in
     let Q : MemLine → Type 0 = λ x. IsMemImpossible m.protocol x.state (at_memory request) in
     let R : Standing → Type 0 = λ x. IsMemImpossible x.situation.protocol (picture_of x.situation block).memory.state (at_memory request) in
     let none : IsMemImpossible s.protocol (picture_of s block).memory.state (at_memory request) = subst R c.self.view_is (subst Q held (subst P c.event_at_memory.ensures c.in_default-mem_cell.ensures.impossible)) in
-    let line = orders_follow_sender_table s c.requires.coherent c.args.core block request (head.waits, free) in
+    let line = orders_follow_sender_table s c.requires.inductive c.args.core block request (head.waits, free) in
     none line.ordered.0 line.next line.ordered.1

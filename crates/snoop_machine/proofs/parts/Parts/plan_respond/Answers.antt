@@ -1,31 +1,31 @@
-use Rattle.std.proofs.Common.{◌≡◌, ◌≢◌, true, false, refl, sym, ◌∙◌, subst}
-use Rattle.std.specs.Prelude.{IsSomeAnd, IsTrue}
+use Rattle.std.proofs.Common.{◌≡◌, ◌≢◌, true, false, refl, sym, ap, ◌∙◌, subst}
+use Rattle.std.specs.Prelude.{IsSomeAnd, IsTrue, slice_index_or}
 use Rattle.snoop_trace.specs.declared.step.Step.TheVariants.{Respond}
 use Rattle.snoop_rules.specs.declared.names.Request.TheVariants.{PutM}
 use Rattle.snoop_rules.specs.Takers.{arrival, arrival_at_memory, takes_payload}
-use Rattle.snoop_model.specs.declared.line.Line.{Line}
-use Rattle.snoop_model.specs.declared.memory.MemLine.{MemLine}
+use Rattle.snoop_model.specs.Pictures.Lines.{Line, MemLine}
 use Rattle.snoop_model.specs.Moves.Standing.{Standing}
 use Rattle.snoop_model.specs.Pictures.Situation.{picture_of}
 use Rattle.snoop_model.specs.Pictures.Sound.{line_at}
 use Rattle.snoop_model.specs.Moves.LookUps.{HasRow, HasMemRow}
 use Rattle.snoop_model.proofs.Invariant.Coherence.{finds_rows}
+use Rattle.snoop_machine.proofs.WordsHeld.{waiting_held}
 use Rattle.snoop_machine.proofs.parts.Parts.plan_respond.Goals as goal
 use Rattle.snoop_machine.proofs.parts.Parts.plan_respond.Goals.{in-PutM, in_default-matches}
 
 pub arrive-memory-requires : goal.arrive-memory-requires
-arrive-memory-requires c =
+arrive-memory-requires g c =
     let s = c.args.self.now.situation in
     let block = c.args.block in
     let closing = c.in-Some.closing in
     let P : MemLine → Type 0 = λ x. IsTrue (takes_payload closing.request x.state) → IsSomeAnd (arrival_at_memory closing.payload) (HasMemRow c.self.inside.protocol x.state) in
     let Q : Standing → Type 0 = λ x. IsTrue (takes_payload closing.request (picture_of x.situation block).memory.state) → IsSomeAnd (arrival_at_memory closing.payload) (HasMemRow x.situation.protocol (picture_of x.situation block).memory.state) in
-    let finds = finds_rows s c.requires.coherent (Respond block) in
-    subst P (sym c.get_or-before.ensures) (subst Q (sym c.self.view_is)
+    let finds = finds_rows s c.requires.inductive (Respond block) in
+    subst P (sym (c.get_or-before.ensures ∙ ap (λ (x : MemLine). slice_index_or c.self.inside.memory block x) c.no_memory.ensures)) (subst Q (sym c.self.view_is)
     (λ takes. finds.memory block (arrival_at_memory closing.payload) (closing, (refl, sym c.transaction.ensures.value ∙ c.in-Some.is, takes, refl))))
 
 pub fill-filled-requires-clause-possible : goal.fill-filled-requires-clause-possible
-fill-filled-requires-clause-possible c =
+fill-filled-requires-clause-possible g c =
     let s = c.args.self.now.situation in
     let closing = c.in-Some.closing in
     let get : closing.request ≢ PutM = elim c.match-matches.branch [
@@ -35,6 +35,11 @@ fill-filled-requires-clause-possible c =
     let line = line_at s.caches closing.core c.args.block in
     let P : Line → Type 0 = λ x. IsSomeAnd (arrival closing.payload) (HasRow c.self.inside.protocol x.state) in
     let Q : Standing → Type 0 = λ x. IsSomeAnd (arrival closing.payload) (HasRow x.situation.protocol line.state) in
-    let finds = finds_rows s c.requires.coherent (Respond c.args.block) in
+    let finds = finds_rows s c.requires.inductive (Respond c.args.block) in
     subst P (sym c.line-line.ensures.line) (subst Q (sym c.self.view_is)
     (finds.cache closing.core c.args.block (arrival closing.payload) (closing, (refl, sym c.transaction.ensures.value ∙ c.in-Some.is, refl, get, refl))))
+
+pub fill-filled-requires-clause-word : goal.fill-filled-requires-clause-word
+fill-filled-requires-clause-word g c =
+    let held = sym (ap (λ (x : Standing). x.situation.shape.words) c.self.view_is) ∙ c.self.invariant.held in
+    rw c.line-line.ensures.line (waiting_held c.args.self.now.situation _ c.in-Some.closing.core c.args.block held c.requires.inductive)

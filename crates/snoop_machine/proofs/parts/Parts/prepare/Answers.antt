@@ -7,16 +7,16 @@ use Rattle.snoop_machine.proofs.Holding.{HoldsOn-room}
 use Rattle.snoop_machine.proofs.parts.Parts.prepare.Goals as goal
 
 pub returns-in_err-make_room-clause-refused : goal.returns-in_err-make_room-clause-refused
-returns-in_err-make_room-clause-refused c =
-    let p = err_from_is_err_and c.from_residual-in_err-make_room.result c.from_residual-in_err-make_room.ensures.1 in
-    rw (p.1, p.2) (RefusedFor-memory c.args.self.now.situation c.args.step c.in_ok-plan.plan c.in_ok-plan.ensures.found, c.in_err-make_room.ensures.refused)
+returns-in_err-make_room-clause-refused g c =
+    let p = err_from_is_err_and c.from_residual.result c.from_residual.ensures.1 in
+    rw (p.1, p.2) (RefusedFor-memory c.args.self.now.situation c.args.step c.in-Ok.plan c.in-Ok.ensures.found, c.in_err-make_room.ensures.refused)
 
 pub returns-clause-prepared : goal.returns-clause-prepared
-returns-clause-prepared c =
-    let P : Situation → Type 0 = λ s. IsPlanFor s c.args.step c.in_ok-plan.plan in
-    IsPrepared-plan c.make_room.new.self c.args.step c.in_ok-plan.plan c.item.result
-    (subst P (sym c.make_room.ensures.unchanged) c.in_ok-plan.ensures.found) c.in_ok-make_room.ensures.ok c.item.ensures
+returns-clause-prepared g c =
+    let P : Situation → Type 0 = λ s. IsPlanFor s c.args.step c.in-Ok.plan in
+    IsPrepared-plan c.make_room.new.self c.args.step c.in-Ok.plan c.item.result
+    (subst P (sym c.make_room.ensures.unchanged) c.in-Ok.ensures.found) c.in_ok-make_room.ensures.ok c.item.ensures
 
 pub returns-clause-lines : goal.returns-clause-lines
-returns-clause-lines c core =
-    HoldsOn-room c.args.self.now c.make_room.new.self c.args.step c.in_ok-plan.plan core c.in_ok-plan.ensures.found c.make_room.ensures.unchanged (c.make_room.ensures.lines core)
+returns-clause-lines g c core =
+    HoldsOn-room c.args.self.now c.make_room.new.self c.args.step c.in-Ok.plan core c.in-Ok.ensures.found c.make_room.ensures.unchanged (c.make_room.ensures.lines core)

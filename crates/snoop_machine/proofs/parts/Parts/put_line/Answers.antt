@@ -1,15 +1,16 @@
 use Rattle.std.proofs.Common.{◌≡◌, ◌<◌, sym, subst, List, ◌∙◌, refl}
 use Rattle.snoop_rules.specs.Waits.{waiting_request}
-use Rattle.snoop_model.specs.declared.line.Line.{Line}
+use Rattle.snoop_model.specs.Pictures.Lines.{Line}
 use Rattle.snoop_model.specs.Moves.Standing.{Standing}
 use Rattle.snoop_model.specs.Pictures.Sound.{IsSound, line_at}
 use Rattle.snoop_machine.proofs.LineWrites.{IsSound-line}
 use Rattle.snoop_machine.proofs.Following.{follows-set}
+use Rattle.snoop_machine.specs.PartsView.{fields}
 use Rattle.snoop_machine.proofs.parts.Parts.put_line.Goals as goal
 
 pub invariant_of-self : goal.invariant_of-self
-invariant_of-self c =
-    let m = c.self.inside in
+invariant_of-self g c =
+    let m = (fields c.self.inside.protocol c.self.inside.shape c.self.inside.lines c.self.inside.memory c.self.inside.bus c.self.inside.log) in
     let P : Standing → Type 0 = λ s. c.args.core < s.situation.shape.cores in
     let Q : Standing → Type 0 = λ s. c.args.block < s.situation.shape.blocks in
     let R : Standing → Type 0 = λ s. waiting_request c.args.line.state ≡ waiting_request (line_at s.situation.caches c.args.core c.args.block).state in
@@ -23,9 +24,12 @@ invariant_of-self c =
       memory = c.self.invariant.memory;
       cores = c.self.invariant.cores;
       blocks = c.self.invariant.blocks;
+      words = c.self.invariant.words;
+      held = c.self.invariant.held;
+      few_words = c.self.invariant.few_words;
     }
 
 pub returns-clause-lines : goal.returns-clause-lines
-returns-clause-lines c =
-    follows-set c.self.inside c.args.self.now c.self.view_is _ c.args.block c.set.new.self refl refl c.self.invariant c.args.core c.args.line c.requires.core c.requires.block
+returns-clause-lines g c =
+    follows-set (fields c.self.inside.protocol c.self.inside.shape c.self.inside.lines c.self.inside.memory c.self.inside.bus c.self.inside.log) c.args.self.now c.self.view_is _ c.args.block c.set.new.self refl refl c.self.invariant c.args.core c.args.line c.requires.core c.requires.block
     c.set.ensures.rows c.set.ensures.lines c.set.ensures.others

@@ -1,15 +1,15 @@
 use Rattle.std.proofs.Common.{◌≡◌, ◌<◌, ◌≤◌, ℕ, List, sym, ap, subst, length, arith}
 use Rattle.std.specs.Prelude.{slice_set}
 use Rattle.snoop_bus.specs.Traffic.{Traffic, Waiting, waiting_of}
-use Rattle.snoop_machine.specs.declared.parts.Parts.TheInside.{Inside}
 use Rattle.snoop_model.specs.Moves.Standing.{Standing}
 use Rattle.snoop_model.specs.Pictures.Sound.{IsSound}
 use Rattle.snoop_machine.proofs.Room.{held_in, held_in-set, keeps_room}
 use Rattle.snoop_machine.proofs.QueueViews.{queues_of-room, same_traffic, IsSound-room}
+use Rattle.snoop_machine.specs.PartsView.{Fields, fields}
 use Rattle.snoop_machine.proofs.parts.Parts.reserve_request.Goals as goal
 
 pub invariant_of-self : goal.invariant_of-self
-invariant_of-self c =
+invariant_of-self g c =
     let bus = c.self.inside.bus in
     let core = c.args.core in
     let room = (waiting_of c.reserve.new.self core).room in
@@ -26,23 +26,26 @@ invariant_of-self c =
       memory = c.self.invariant.memory;
       cores = c.self.invariant.cores;
       blocks = c.self.invariant.blocks;
+      words = c.self.invariant.words;
+      held = c.self.invariant.held;
+      few_words = c.self.invariant.few_words;
     }
 
 pub returns-clause-unchanged : goal.returns-clause-unchanged
-returns-clause-unchanged c =
+returns-clause-unchanged g c =
     let bus = c.self.inside.bus in
     let room = (waiting_of c.reserve.new.self c.args.core).room in
     rw (c.reserve.ensures.queue, queues_of-room bus.queues c.args.core room, c.reserve.ensures.transactions) (ap (λ s. s.situation) c.self.view_is)
 
 pub returns-clause-room : goal.returns-clause-room
-returns-clause-room c =
-    let m = c.self.inside in
+returns-clause-room g c =
+    let m = (fields c.self.inside.protocol c.self.inside.shape c.self.inside.lines c.self.inside.memory c.self.inside.bus c.self.inside.log) in
     let core = c.args.core in
     let P : Standing → Type 0 = λ s. core < s.situation.shape.cores in
     let in_cores : core < m.shape.cores = subst P (sym c.self.view_is) c.requires in
     let in_queues : core < length m.bus.queues = omega (arith, c.self.invariant.sound.queues) in
     let queue : Waiting = record { requests = (waiting_of m.bus core).requests; room = (waiting_of c.reserve.new.self core).room } in
     let more = c.reserve.ensures.room in
-    let new : Inside = record m { bus = c.reserve.new.self } in
+    let new : Fields = record m { bus = c.reserve.new.self } in
     let Q : List Waiting → Type 0 = λ queues. (k : ℕ) → held_in m.bus.queues k ≤ held_in queues k in
     keeps_room m new c.args.self.now c.self.view_is (omega arith) (subst Q (sym c.reserve.ensures.queue) (held_in-set m.bus.queues core queue in_queues (omega arith)))

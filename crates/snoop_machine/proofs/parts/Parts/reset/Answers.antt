@@ -1,10 +1,10 @@
 use Rattle.snoop_model.specs.Pictures.Picture.{first_memory}
-use Rattle.snoop_model.specs.declared.memory.MemLine.{MemLine}
+use Rattle.snoop_model.specs.Pictures.Lines.{MemLine, Line}
 use Rattle.snoop_rules.specs.declared.names.MemState.{MemState}
 use Rattle.snoop_model.specs.Pictures.Situation.{reset}
-use Rattle.std.proofs.Common.{rules, arith, ◌≡◌, ℕ, List, [], length, replicate, refl, sym, ap, subst, ◌∙◌}
+use Rattle.std.proofs.Common.{rules, ◌≡◌, ℕ, List, [], length, replicate, refl, sym, ap, subst, ◌∙◌}
+use Rattle.snoop_trace.specs.Words.{zero_words}
 use Rattle.snoop_history.specs.Journal.{Journal}
-use Rattle.snoop_model.specs.declared.line.Line.{Line}
 use Rattle.snoop_model.specs.Pictures.Sound.{IsSound}
 use Rattle.std.specs.Prelude.{slice_index_or}
 use Rattle.std.proofs.lemmas.List.{length-replicate}
@@ -14,27 +14,31 @@ use Rattle.snoop_machine.proofs.QueueHeads.{same_situation}
 use Rattle.snoop_machine.proofs.parts.Parts.reset.Goals as goal
 
 pub invariant_of-result : goal.invariant_of-result
-invariant_of-result c =
+invariant_of-result g c =
     let S : List (List Line) → Type 0 = λ caches. IsSound c.args.shape caches c.in_ok-bus.bus in
     record {
       few = search rules;
       lines = ap (λ (l : List (List ℕ)). length l) c.in_ok-lines.ensures.lines ∙ length-replicate c.args.shape.cores [];
       sound = subst S (sym c.in_ok-lines.ensures.rows) (IsSound-reset c.args.shape c.in_ok-bus.bus c.in_ok-bus.ensures.queues.0 c.in_ok-bus.ensures.queues.1 c.in_ok-bus.ensures.transactions);
-      memory = ap (λ (l : List MemLine). length l) c.in_ok-memory.ensures ∙ (length-replicate c.blocks-2.result (record { state = c.first_state.result; value = 0 }) ∙ c.blocks-2.ensures.value);
+      memory = ap (λ (l : List MemLine). length l) c.in_ok-memory.ensures ∙ (length-replicate c.blocks-2.result (record { state = c.first_state.result; value = c.zero.result }) ∙ c.blocks-2.ensures.value);
       cores = ap (λ (j : Journal). j.cores) c.in_ok-log.ensures;
       blocks = ap (λ (j : Journal). j.blocks) c.in_ok-log.ensures;
+      words = ap (λ (j : Journal). j.words) c.in_ok-log.ensures;
+      held = c.requires.words;
+      few_words = search rules;
     }
 
 pub returns-clause-situation : goal.returns-clause-situation
-returns-clause-situation c =
-    let items : c.in_ok-memory.memory ≡ replicate c.args.shape.blocks (record { state = first_memory c.args.protocol; value = 0 }) =
+returns-clause-situation g c =
+    let items : c.in_ok-memory.memory ≡ replicate c.args.shape.blocks (record { state = first_memory c.args.protocol; value = zero_words }) =
     c.in_ok-memory.ensures
-    ∙ (ap (λ (n : ℕ). let l : List MemLine = replicate n (record { state = c.first_state.result; value = 0 }) in l) c.blocks-2.ensures.value
-    ∙ ap (λ (x : MemState). let l : List MemLine = replicate c.args.shape.blocks (record { state = x; value = 0 }) in l) c.first_state.ensures) in
+    ∙ (ap (λ (n : ℕ). let l : List MemLine = replicate n (record { state = c.first_state.result; value = c.zero.result }) in l) c.blocks-2.ensures.value
+    ∙ (ap (λ (x : MemState). let l : List MemLine = replicate c.args.shape.blocks (record { state = x; value = c.zero.result }) in l) c.first_state.ensures
+    ∙ ap (λ (ws : List ℕ). let l : List MemLine = replicate c.args.shape.blocks (record { state = first_memory c.args.protocol; value = ws }) in l) c.zero.ensures)) in
     same_situation _ (reset c.args.protocol c.args.shape) refl refl c.in_ok-lines.ensures.rows items c.in_ok-bus.ensures.transactions
     (queues_of-reset c.in_ok-bus.bus.queues c.in_ok-bus.ensures.queues.1 ∙ ap (λ (n : ℕ). let l : List (List ℕ) = replicate n [] in l) c.in_ok-bus.ensures.queues.0)
     (ap (λ (j : Journal). j.items) c.in_ok-log.ensures)
 
 pub returns-clause-empty : goal.returns-clause-empty
-returns-clause-empty c core =
+returns-clause-empty g c core =
     ap (λ (l : List (List ℕ)). length (slice_index_or l core [])) c.in_ok-lines.ensures.lines ∙ ap (λ (l : List ℕ). length l) (replicated c.args.shape.cores core [])

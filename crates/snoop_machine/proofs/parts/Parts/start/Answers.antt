@@ -5,17 +5,16 @@ use Rattle.snoop_rules.specs.declared.names.Request.{Request}
 use Rattle.snoop_rules.specs.Takers.{at_memory, seen_by}
 use Rattle.snoop_history.specs.Journal.{Journal}
 use Rattle.snoop_history.specs.declared.items.Item.TheVariants as item
-use Rattle.snoop_bus.specs.declared.transactions.Open.{Open}
-use Rattle.snoop_machine.specs.declared.parts.Parts.TheInside.{Inside}
+use Rattle.snoop_bus.specs.Traffic.{Open}
 use Rattle.snoop_bus.specs.Traffic.{Traffic, Waiting, waiting_of, head_of, transaction_on, Starts}
 use Rattle.snoop_bus.specs.Queues.{after_order}
-use Rattle.snoop_model.specs.declared.memory.MemLine.{MemLine}
+use Rattle.snoop_model.specs.Pictures.Lines.{MemLine}
 use Rattle.snoop_model.specs.Pictures.Picture.{Picture, held_by}
 use Rattle.snoop_model.specs.Moves.Standing.{Standing}
 use Rattle.snoop_model.specs.Pictures.Situation.{Situation, picture_of, no_memory, Waits}
 use Rattle.snoop_model.specs.Pictures.Sends.{value_sent}
 use Rattle.snoop_model.specs.Pictures.Sound.{IsSound}
-use Rattle.snoop_machine.specs.PartsView.{queues_of}
+use Rattle.snoop_machine.specs.PartsView.{Fields, fields, queues_of}
 use Rattle.snoop_model.specs.Moves.Move.{Orders}
 use Rattle.snoop_model.specs.Pictures.Message.{IsMessage}
 use Rattle.snoop_model.specs.Moves.LookUps.{HasRow}
@@ -27,46 +26,47 @@ use Rattle.snoop_machine.proofs.QueueHeads.{head_from_line, same_situation}
 use Rattle.snoop_machine.proofs.AfterOrders.{IsSound-order, blocks_of-rest}
 use Rattle.snoop_machine.proofs.QueueViews.{queues_of-set, queue_of-queues_of, same_traffic}
 use Rattle.snoop_machine.proofs.Following.{follows-rows}
+use Rattle.snoop_machine.proofs.parts.Parts.start.Given.{Over}
 use Rattle.snoop_machine.proofs.parts.Parts.start.Goals as goal
 use Rattle.snoop_machine.proofs.parts.Parts.start.Goals.{After-take_rows, After-start}
 
 pub take_rows-requires-clause-rows : goal.take_rows-requires-clause-rows
-take_rows-requires-clause-rows c =
+take_rows-requires-clause-rows g c =
     let P : Standing → Type 0 = λ s. (k : ℕ) → k < length (picture_of s.situation c.args.block).caches → HasRow s.situation.protocol (held_by (picture_of s.situation c.args.block) k).state (seen_by k c.args.core c.args.request) in
     subst P (sym c.self.view_is) c.requires.message.rows
 
-head : (c : After-take_rows) → head_of c.self.inside.bus c.args.core ≡ Some (c.args.request, c.args.block)
-head c =
-    let m = c.self.inside in
+head : (g : Over) (c : After-take_rows g) → head_of c.self.inside.bus c.args.core ≡ Some (c.args.request, c.args.block)
+head g c =
+    let m = (fields c.self.inside.protocol c.self.inside.shape c.self.inside.lines c.self.inside.memory c.self.inside.bus c.self.inside.log) in
     let P : Standing → Type 0 = λ s. IsHead s.situation c.args.core c.args.request c.args.block in
     let h : IsHead _ c.args.core c.args.request c.args.block = subst P (sym c.self.view_is) c.requires.head in
     head_from_line m.shape m.lines.rows m.bus c.self.invariant.sound c.args.core c.args.request c.args.block h.first h.waits
 
 pub start-requires-clause-head : goal.start-requires-clause-head
-start-requires-clause-head c =
-    let d = (goal.at.start-requires-clause-head c).After-take_rows in
+start-requires-clause-head g c =
+    let d = (goal.at.start-requires-clause-head g c).After-take_rows in
     let P : Option (Request × ℕ) → Type 0 = λ o. IsSome o in
-    subst P (sym (head d)) refl
+    subst P (sym (head g d)) refl
 
 pub start-requires-clause-free : goal.start-requires-clause-free
-start-requires-clause-free c =
-    let d = (goal.at.start-requires-clause-free c).After-take_rows in
+start-requires-clause-free g c =
+    let d = (goal.at.start-requires-clause-free g c).After-take_rows in
     let Q : Standing → Type 0 = λ s. (picture_of s.situation c.args.block).transaction ≡ None in
     let free : transaction_on c.self.inside.bus c.args.block ≡ None = subst Q (sym c.self.view_is) c.requires.free in
     let P : Option (Request × ℕ) → Type 0 = λ o. IfSome o (λ head. transaction_on c.self.inside.bus head.1 ≡ None) in
-    subst P (sym (head d)) free
+    subst P (sym (head g d)) free
 
-starts : (d : After-take_rows) (c : After-start) → head_of c.self.inside.bus c.args.core ≡ Some (c.args.request, c.args.block) → Starts c.self.inside.bus c.start.new.self c.args.core c.args.request c.args.block c.args.message.payload c.args.message.value c.args.message.from
-starts d c h =
+starts : (g : Over) (c : After-start g) → head_of c.self.inside.bus c.args.core ≡ Some (c.args.request, c.args.block) → Starts c.self.inside.bus c.start.new.self c.args.core c.args.request c.args.block c.args.message.payload c.args.message.value c.args.message.from
+starts g c h =
     let P : Option (Request × ℕ) → Type 0 = λ o. IfSome o (λ head. Starts c.self.inside.bus c.start.new.self c.args.core head.0 head.1 c.args.message.payload c.args.message.value c.args.message.from) in
     subst P h c.start.ensures
 
 pub invariant_of-self : goal.invariant_of-self
-invariant_of-self c =
-    let m = c.self.inside in
-    let d = (goal.at.invariant_of-self c).After-take_rows in
-    let h = head d in
-    let s = starts d (goal.at.invariant_of-self c).After-start h in
+invariant_of-self g c =
+    let m = (fields c.self.inside.protocol c.self.inside.shape c.self.inside.lines c.self.inside.memory c.self.inside.bus c.self.inside.log) in
+    let d = (goal.at.invariant_of-self g c).After-take_rows in
+    let h = head g d in
+    let s = starts g (goal.at.invariant_of-self g c).After-start h in
     let P : Standing → Type 0 = λ x. c.args.core < x.situation.shape.cores in
     let Q : Standing → Type 0 = λ x. c.args.block < x.situation.shape.blocks in
     let after : Traffic = record {
@@ -84,14 +84,17 @@ invariant_of-self c =
       memory = ap (λ (l : List MemLine). length l) c.set.ensures ∙ (length-set m.memory c.args.block (record { state = c.args.memory; value = c.get_or-before.result.value }) ∙ c.self.invariant.memory);
       cores = ap (λ (j : Journal). j.cores) c.push.ensures ∙ c.self.invariant.cores;
       blocks = ap (λ (j : Journal). j.blocks) c.push.ensures ∙ c.self.invariant.blocks;
+      words = ap (λ (j : Journal). j.words) c.push.ensures ∙ c.self.invariant.words;
+      held = c.self.invariant.held;
+      few_words = c.self.invariant.few_words;
     }
 
 pub returns-clause-ordered : goal.returns-clause-ordered
-returns-clause-ordered c =
-    let m = c.self.inside in
-    let d = (goal.at.returns-clause-ordered c).After-take_rows in
-    let h = head d in
-    let s = starts d (goal.at.returns-clause-ordered c).After-start h in
+returns-clause-ordered g c =
+    let m = (fields c.self.inside.protocol c.self.inside.shape c.self.inside.lines c.self.inside.memory c.self.inside.bus c.self.inside.log) in
+    let d = (goal.at.returns-clause-ordered g c).After-take_rows in
+    let h = head g d in
+    let s = starts g (goal.at.returns-clause-ordered g c).After-start h in
     let core = c.args.core in
     let block = c.args.block in
     let request = c.args.request in
@@ -105,7 +108,7 @@ returns-clause-ordered c =
     let M : Situation → Type 0 = λ x. IsMessage x.protocol (picture_of x block) core request message in
     let N : Situation → Type 0 = λ x. TakesMemRow x.protocol (at_memory request) (picture_of x block).memory.state c.args.memory in
     let sent : IsMessage m.protocol (picture_of old block) core request message = subst M (sym is) c.requires.message in
-    let value : c.get_or-before.result ≡ slice_index_or m.memory block no_memory = c.get_or-before.ensures in
+    let value : c.get_or-before.result ≡ slice_index_or m.memory block no_memory = c.get_or-before.ensures ∙ ap (λ (x : MemLine). slice_index_or m.memory block x) c.no_memory.ensures in
     let next : Picture = record {
       caches = row_of c.take_rows.new.self.rows block;
       memory = record { state = c.args.memory; value = (picture_of old block).memory.value };
@@ -133,7 +136,7 @@ returns-clause-ordered c =
           })
           refl refl c.take_rows.ensures.others
           (c.set.ensures ∙ ap (λ (x : MemLine). slice_set m.memory block (let r : MemLine = record { state = c.args.memory; value = x.value } in r)) value)
-          (s.transactions ∙ ap (λ (x : ℕ). slice_set m.bus.transactions block (let o : Option Open = Some (record { core = core; request = request; block = block; payload = message.payload; value = x; from = message.from }) in o)) sent.value)
+          (s.transactions ∙ ap (λ (x : List ℕ). slice_set m.bus.transactions block (let o : Option Open = Some (record { core = core; request = request; block = block; payload = message.payload; value = x; from = message.from }) in o)) sent.value)
           (ap queues_of s.queues ∙ (queues_of-set m.bus.queues core (record { requests = drop 1 (waiting_of m.bus core).requests; room = s.room })
           ∙ ap (λ l. slice_set (queues_of m.bus.queues) core l)
           (blocks_of-rest (waiting_of m.bus core).requests request block h (c.self.invariant.sound.once core) ∙ ap (filter (λ x. not (x == block))) (sym (queue_of-queues_of m.bus.queues core)))))
@@ -141,10 +144,10 @@ returns-clause-ordered c =
     })
 
 pub returns-clause-room : goal.returns-clause-room
-returns-clause-room c =
-    let m = c.self.inside in
-    let d = (goal.at.returns-clause-room c).After-take_rows in
-    let s = starts d (goal.at.returns-clause-room c).After-start (head d) in
+returns-clause-room g c =
+    let m = (fields c.self.inside.protocol c.self.inside.shape c.self.inside.lines c.self.inside.memory c.self.inside.bus c.self.inside.log) in
+    let d = (goal.at.returns-clause-room g c).After-take_rows in
+    let s = starts g (goal.at.returns-clause-room g c).After-start (head g d) in
     let core = c.args.core in
     let before : Waiting = waiting_of m.bus core in
     let P : Standing → Type 0 = λ x. core < x.situation.shape.cores in
@@ -158,7 +161,7 @@ returns-clause-room c =
     let kept : (k : ℕ) → held_in m.bus.queues k ≤ held_in c.start.new.self.queues k =
     (let Q : List Waiting → Type 0 = λ queues. (k : ℕ) → held_in m.bus.queues k ≤ held_in queues k in
     subst Q (sym s.queues) (held_in-set m.bus.queues core queue in_queues (omega arith))) in
-    let new : Inside = record m {
+    let new : Fields = record m {
       lines = c.take_rows.new.self;
       memory = c.set.new.self;
       bus = c.start.new.self;
@@ -171,4 +174,4 @@ returns-clause-room c =
     keeps_room m new c.args.self.now c.self.view_is items kept
 
 pub returns-clause-lines : goal.returns-clause-lines
-returns-clause-lines c = follows-rows c.self.inside c.args.self.now c.self.view_is _ c.args.block c.take_rows.new.self refl refl c.take_rows.ensures.others c.take_rows.ensures.lines
+returns-clause-lines g c = follows-rows (fields c.self.inside.protocol c.self.inside.shape c.self.inside.lines c.self.inside.memory c.self.inside.bus c.self.inside.log) c.args.self.now c.self.view_is _ c.args.block c.take_rows.new.self refl refl c.take_rows.ensures.others c.take_rows.ensures.lines

@@ -10,25 +10,25 @@ use Rattle.snoop_machine.proofs.Holding.{HoldsOn-taken}
 use Rattle.snoop_machine.proofs.parts.Parts.step.Goals as goal
 
 pub returns-in_err-make_room-clause-refused : goal.returns-in_err-make_room-clause-refused
-returns-in_err-make_room-clause-refused c =
-    let p = err_from_is_err_and c.from_residual-in_err-make_room.result c.from_residual-in_err-make_room.ensures.1 in
-    rw (p.1, p.2) (RefusedFor-memory c.args.self.now.situation c.args.step c.in_ok-plan.plan c.in_ok-plan.ensures.found, c.in_err-make_room.ensures.refused)
+returns-in_err-make_room-clause-refused g c =
+    let p = err_from_is_err_and c.from_residual.result c.from_residual.ensures.1 in
+    rw (p.1, p.2) (RefusedFor-memory c.args.self.now.situation c.args.step c.in-Ok.plan c.in-Ok.ensures.found, c.in_err-make_room.ensures.refused)
 
 pub returns-clause-prepared : goal.returns-clause-prepared
-returns-clause-prepared c =
-    let plan = c.in_ok-plan.plan in
+returns-clause-prepared g c =
+    let plan = c.in-Ok.plan in
     let new = c.perform.new.self.situation in
     let P : Situation → Type 0 = λ s. FirstMove s (step_of plan) c.perform.result new (entry_of s.log plan) in
     let Q : Step → Type 0 = λ t. FirstMove c.args.self.now.situation t c.perform.result new (entry_of c.args.self.now.situation.log plan) in
-    let move = subst Q c.in_ok-plan.ensures.found.0 (subst P c.make_room.ensures.unchanged c.perform.ensures.moved) in
+    let move = subst Q c.in-Ok.ensures.found.0 (subst P c.make_room.ensures.unchanged c.perform.ensures.moved) in
     λ entry prepared. (refl, prepared-log c.args.self.now new c.args.step c.perform.result (entry_of c.args.self.now.situation.log plan) entry prepared move)
 
 pub returns-clause-lines : goal.returns-clause-lines
-returns-clause-lines c core =
-    let plan = c.in_ok-plan.plan in
+returns-clause-lines g c core =
+    let plan = c.in-Ok.plan in
     let new = c.perform.new.self.situation in
     let P : Situation → Type 0 = λ s. FirstMove s (step_of plan) c.perform.result new (entry_of s.log plan) in
     let Q : Step → Type 0 = λ t. FirstMove c.args.self.now.situation t c.perform.result new (entry_of c.args.self.now.situation.log plan) in
-    let move = subst Q c.in_ok-plan.ensures.found.0 (subst P c.make_room.ensures.unchanged c.perform.ensures.moved) in
+    let move = subst Q c.in-Ok.ensures.found.0 (subst P c.make_room.ensures.unchanged c.perform.ensures.moved) in
     HoldsOn-taken c.args.self.now c.make_room.new.self c.perform.new.self c.args.step plan core c.perform.result (entry_of c.args.self.now.situation.log plan)
-    c.in_ok-plan.ensures.found c.make_room.ensures.unchanged (c.make_room.ensures.lines core) (c.perform.ensures.lines core) move
+    c.in-Ok.ensures.found c.make_room.ensures.unchanged (c.make_room.ensures.lines core) (c.perform.ensures.lines core) move

@@ -8,7 +8,7 @@ use Rattle.snoop_machine.proofs.QueueHeads.{some_first}
 use Rattle.snoop_machine.proofs.parts.Parts.waiting.Goals as goal
 
 pub returns : goal.returns
-returns c =
+returns g c =
     let f = some_first (waiting_of c.self.inside.bus c.args.core).requests in
     let r = c.is_some.ensures ∙ ap is_some c.head.ensures in
     let line = sym (queue_of-queues_of c.self.inside.bus.queues c.args.core) ∙ ap (λ (s : Standing). queue_of s.situation.queues c.args.core) c.self.view_is in

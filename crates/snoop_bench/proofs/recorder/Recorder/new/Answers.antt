@@ -1,0 +1,20 @@
+use Rattle.std.proofs.Common.{rules, List, sym, subst, All}
+use Rattle.std.proofs.lemmas.List.Elements.{All-nil}
+use Rattle.snoop_trace.specs.Output.{IsWithin}
+use Rattle.snoop_trace.specs.declared.step.Step.{Step}
+use Rattle.snoop_bench.proofs.recorder.Recorder.new.Goals as goal
+
+pub invariant_of-result : goal.invariant_of-result
+invariant_of-result c =
+    let shape = c.in_ok-machine.machine.situation.shape in
+    record {
+      recorded = record {
+        run = search rules;
+        readable = subst (λ (l : List Step). All (IsWithin shape) l) (sym c.new-2.ensures.items) (All-nil (IsWithin shape));
+        published = search rules;
+      };
+      ready = search rules;
+      cores = search rules;
+      blocks = search rules;
+      words = search rules;
+    }

@@ -1,0 +1,8 @@
+use Rattle.std.proofs.Common.{◌≡◌, ◌++◌, map}
+use Rattle.std.specs.List.{range_with_len}
+use Rattle.snoop_history.specs.History.{flat}
+use Rattle.snoop_history.specs.Report.{values_text}
+use Rattle.snoop_history.proofs.report.push_values.Given as goal
+
+abbrev pub invariant-loop-word : goal.invariant-loop-word
+invariant-loop-word l = l.out.items ≡ l.fn.out.items ++ values_text (map (flat l.log.items l.block) (range_with_len 0 l.word))

@@ -1,0 +1,24 @@
+-- The words that operations are of lie below how many a block has.
+use Rattle.std.proofs.Common.{◌≡◌, ℕ, ◌<◌, ◌⊎◌, inl, inr, Option, Some, None, refl, subst}
+use Rattle.std.specs.Prelude.{IfSome}
+use Rattle.snoop_trace.specs.Words.{HasWord}
+use Rattle.snoop_trace.specs.declared.step.Op.{Op}
+use Rattle.snoop_trace.specs.declared.step.Op.TheVariants.{Load, Store, Evict}
+use Rattle.snoop_model.specs.declared.line.Access.{Access}
+use Rattle.snoop_model.specs.Pictures.Situation.{Situation}
+use Rattle.snoop_model.specs.Pictures.Sound.{line_at}
+use Rattle.snoop_model.specs.Invariant.Invariant.{Invariant}
+
+-- the word of an operation within
+pub operation_held : (s : Situation) (count word : ℕ) (asking : Op) → s.shape.words ≡ count → HasWord s.shape word asking → (word < count) ⊎ (asking ≡ Evict)
+operation_held s count word Load held within = inl (subst (λ (n : ℕ). word < n) held within.0)
+operation_held s count word (Store value) held within = inl (subst (λ (n : ℕ). word < n) held within.0)
+operation_held s count word Evict held within = inr refl
+
+-- the word of an operation that waits
+pub waiting_held : (s : Situation) (count core block : ℕ) → s.shape.words ≡ count → Invariant s → IfSome (line_at s.caches core block).waiting (λ access. access.word < count)
+waiting_held s count core block held inductive = go (line_at s.caches core block).waiting refl
+  where
+    go : (o : Option Access) → (line_at s.caches core block).waiting ≡ o → IfSome o (λ access. access.word < count)
+    go None is = tt
+    go (Some access) is = subst (λ (n : ℕ). access.word < n) held (inductive.accesses core block access is).0

@@ -1,0 +1,15 @@
+-- The parts of a machine, however they hold the words of a block.
+-- Source: this project's profile.
+use Rattle.snoop_machine.specs.declared.any_parts.AnyParts.{AnyParts}
+use Rattle.snoop_machine.specs.declared.any_parts.AnyParts.TheVariants.{One, Two, Four, Eight, Sixteen, ThirtyTwo, SixtyFour}
+use Rattle.snoop_model.specs.Moves.Standing.{Standing}
+
+-- their view
+abbrev pub stand : AnyParts → Standing
+stand (One parts) = parts
+stand (Two parts) = parts
+stand (Four parts) = parts
+stand (Eight parts) = parts
+stand (Sixteen parts) = parts
+stand (ThirtyTwo parts) = parts
+stand (SixtyFour parts) = parts

@@ -1,0 +1,55 @@
+-- Coherence: what holds after any steps that a machine at reset takes or refuses, in any order.
+-- Source: chapters 2 and 7 of "A Primer on Memory Consistency and Cache Coherence", 2nd edition; the rest is this project's profile.
+use Rattle.std.specs.Prelude.{◌≡◌, ◌<◌, ℕ, List, All, Result}
+use Rattle.snoop_trace.specs.Extent.{Extent}
+use Rattle.snoop_trace.specs.Words.{IsWord}
+use Rattle.snoop_trace.specs.declared.step.Step.{Step}
+use Rattle.snoop_trace.specs.declared.protocol.Protocol.{Protocol}
+use Rattle.snoop_history.specs.History.{flat_words, operations, Legal}
+use Rattle.snoop_model.specs.declared.replies.Reply.{Reply}
+use Rattle.snoop_model.specs.declared.replies.Refused.{Refused}
+use Rattle.snoop_model.specs.Pictures.Picture.{held_by}
+use Rattle.snoop_model.specs.Pictures.Situation.{Situation, picture_of}
+use Rattle.snoop_model.specs.Pictures.OneWriter.{OneWriter}
+use Rattle.snoop_model.specs.Pictures.Current.{IsCurrent}
+use Rattle.snoop_model.specs.Pictures.MemoryCurrent.{IsMemoryCurrent, NamesItsBlock}
+use Rattle.snoop_model.specs.Pictures.Sound.{IsProper}
+use Rattle.snoop_model.specs.Pictures.InQueue.{IsInQueue}
+use Rattle.snoop_model.specs.Moves.Move.{IsWithin}
+use Rattle.snoop_model.specs.Moves.LookUps.{FindsRows}
+use Rattle.snoop_model.specs.Moves.SenderTable.{OrdersFollowSenderTable, GoesByTable}
+use Rattle.snoop_model.specs.Runs.Once.{Once}
+
+-- a coherent machine
+pub record IsCoherent (s : Situation) : Type 0 where
+  -- each block has one writer alone, or only readers
+  pub one_writer : (block : ℕ) → OneWriter s.protocol (picture_of s block)
+  -- each load of the history has the value of the last store to its word before it, and each core's operations are numbered in order
+  pub legal : Legal s.log
+  -- each operation of the history is by a core, of a block and of a word that the machine has
+  pub logged : All (λ did. IsWithin s did.core did.block × IsWord s.shape did.word) (operations s.log)
+  -- each copy that may be read has in each word the value of the last store to it
+  pub current : (block : ℕ) → IsCurrent s.protocol (picture_of s block) (flat_words s.log block)
+  -- so has data under way; and so has memory where no core may write the block and no data is under way
+  pub memory : (block : ℕ) → block < s.shape.blocks → IsMemoryCurrent s.protocol (picture_of s block) (flat_words s.log block)
+  -- a block's open transaction is of this block, by a core of the machine
+  pub opened : (block : ℕ) → NamesItsBlock s block
+  -- no step meets an impossible cell, nor would an Order of a waiting request of any free block
+  pub possible : (step : Step) → FindsRows s step
+  -- such an Order would have exactly one sender, and be a line of the table of senders
+  pub lines : OrdersFollowSenderTable s.protocol s
+  -- each Order that is taken next, of any block, is a line of that table. An open transaction is on such a line, and a Respond taken next leaves memory as the line says
+  pub by_table : GoesByTable s
+  -- a core keeps words of a block exactly where its state may read, and an operation waits exactly where one has missed
+  pub proper : (core block : ℕ) → IsProper (held_by (picture_of s block) core)
+  -- each core's queue has the blocks on which it waits to be ordered, each once
+  pub queued : (core block : ℕ) → IsInQueue s core block
+
+-- where these steps, with these outcomes, lead a machine of this protocol and shape from reset
+pub record IsCoherentRun (protocol : Protocol) (shape : Extent) (steps : List Step) (outcomes : List (Result Reply Refused)) (s : Situation) : Type 0 where
+  -- it has the protocol and the shape still
+  pub stays : (s.protocol ≡ protocol) × (s.shape ≡ shape)
+  -- it is coherent
+  pub coherent : IsCoherent s
+  -- each load and store that was asked stands once in the history, or waits
+  pub once : Once steps outcomes s

@@ -1,0 +1,41 @@
+-- The inductive invariant of one block's picture, for any number of cores.
+-- Source: this project's profile.
+use Rattle.std.specs.Prelude.{◌≡◌, ◌<◌, ◌==◌, ℕ, Bool, true, false, cond, Option, Some, None, is_some}
+use Rattle.snoop_trace.specs.Words.{Data}
+use Rattle.snoop_trace.specs.declared.protocol.Protocol.{Protocol}
+use Rattle.snoop_rules.specs.declared.names.Request.{Request}
+use Rattle.snoop_rules.specs.Takers.{carries_value}
+use Rattle.snoop_bus.specs.Traffic.{Open}
+use Rattle.snoop_model.specs.Pictures.Picture.{Picture, held_by}
+use Rattle.snoop_model.specs.Pictures.Sound.{keeps, IsProper}
+use Rattle.snoop_model.specs.Invariant.Fits.{Claims, Talk, claims_of, is_clean, fits}
+
+-- what is said on the bus
+abbrev pub talk_of : Option Open → Option Talk
+talk_of None = None
+talk_of (Some o) = Some (o.request, o.payload)
+
+-- the request whose answer the core awaits
+abbrev pub awaited : Option Open → ℕ → Option Request
+awaited None d = None
+awaited (Some o) d = cond (d == o.core) (Some o.request) None
+
+-- the core is the owner
+abbrev pub owns : Option ℕ → ℕ → Bool
+owns None d = false
+owns (Some o) d = d == o
+
+-- where n cores hold a block whose words in flat memory are these: each reader keeps it, and memory and the message have it where they are said to
+pub record BlockInvariant (p : Protocol) (n : ℕ) (flat : Data) (picture : Picture) : Type 0 where
+  pub claims : Claims
+  pub is_claims : claims_of p picture.memory.state (talk_of picture.transaction) ≡ Some claims
+  pub owner : Option ℕ
+  pub owner_in : (o : ℕ) → owner ≡ Some o → o < n
+  pub is_owned : is_some owner ≡ claims.owned
+  pub states : (d : ℕ) → d < n → fits p claims.shared (owns owner d) (awaited picture.transaction d) (held_by picture d).state ≡ true
+  pub kept : (d : ℕ) → d < n → keeps (held_by picture d).state ≡ true → (held_by picture d).kept ≡ Some flat
+  pub clean : (d : ℕ) → d < n → is_clean (held_by picture d).state ≡ true → picture.memory.value ≡ flat
+  pub fresh : claims.fresh ≡ true → picture.memory.value ≡ flat
+  pub carried : (o : Open) → picture.transaction ≡ Some o → carries_value o.payload ≡ true → o.value ≡ flat
+  pub requestor_in : (o : Open) → picture.transaction ≡ Some o → o.core < n
+  pub proper : (d : ℕ) → d < n → IsProper (held_by picture d)

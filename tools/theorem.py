@@ -1,0 +1,218 @@
+#!/usr/bin/env python3
+"""Prints docs/THEOREM.md, or writes it: the coherence theorem, with the types and the definitions that it stands on.
+
+    tools/theorem.py --write
+
+The page is made of the theorem's file, of the other crates/*/specs with their comments, and of the types in crates/*/src. If a
+definition's file is of no subject, or NOTATION doesn't explain a word of the standard library, or explains one that nothing uses,
+these are named, nothing is written and the status is 1.
+"""
+import argparse
+import re
+import sys
+import textwrap
+
+import definitions as specs
+from definitions import TOP
+
+PAGE = TOP / "docs" / "THEOREM.md"
+RECORDS = TOP / "crates" / "snoop_model" / "specs" / "Coherent.antt"
+WIDTH = 100
+DECLARED = re.compile(r"use Rattle\.(\w+)\.specs\.declared\.\w+\.(\w+)(?:\.TheVariants)?(?:\.\{([^}]*)\})?(?: as (\w+))?")
+TYPE = re.compile(r"((?:^///.*\n)*)(?:^#\[.*\n)*(^pub (?:struct|enum) (\w+).*\{\n(?:.*\n)*?^\}\n)", re.MULTILINE)
+
+# The subjects in reading order, each with the folders of its definitions.
+SUBJECTS = [
+    ("The protocol's tables", ["snoop_rules/specs"]),
+    ("A machine's shape, and a block's words", ["snoop_trace/specs"]),
+    ("The history: what was done", ["snoop_history/specs"]),
+    ("Pictures: what each core, memory and the bus hold", ["snoop_bus/specs", "snoop_model/specs/Pictures"]),
+    ("Moves: what a step does", ["snoop_model/specs/Moves"]),
+    ("Runs: steps in a row", ["snoop_model/specs/Runs"]),
+]
+
+# What the definitions use of the standard library.
+NOTATION = [
+    ("ℕ, Bool, true, false", "numbers from 0 on; true or false"),
+    ("List, [], ◌∷◌, ◌++◌", "lists: the empty one, an element before a list, one list after another"),
+    ("Option, None, Some", "nothing, or a value"),
+    ("Result, Ok, Err", "an answer, or a refusal"),
+    ("◌≡◌, ◌≢◌, ◌<◌, ◌≤◌", "equal, not equal, less, at most"),
+    ("◌⊎◌, ⊤", "or; always true"),
+    ("◌==◌, not, ◌&&◌, if◌then◌else◌, ◌+◌", "tests, and the sum"),
+    ("IsTrue b, MatchBool b P Q", "the test b passes; P if it passes, else Q"),
+    ("IsSome o, is_some o", "the option has a value, as a fact and as a test"),
+    ("IfSome o P, IsSomeAnd o P", "if the option has a value, P holds of it; it has one, and P holds of it"),
+    ("MatchOption o Q P", "P of the option's value, or Q if there is none"),
+    ("option_map f o, option_map_or f o x", "f of the option's value, if any; f of it, or x if there is none"),
+    ("option_to_list o, unwrap_or o x", "the option's value as a list of at most one; the value, or x if there is none"),
+    ("length xs, take n xs", "how many elements; the first n"),
+    ("slice_get xs k, slice_index_or xs k x", "the element at place k, counted from 0, if any; the same, or x if there is none"),
+    ("slice_set xs k x", "the list with x at place k, or as it was if it has no such place"),
+    ("replicate n x, range_with_len a n", "n times x; the n numbers from a on"),
+    ("map f xs, filter p xs, filter_map f xs", "f of each element; those that pass; the values among what f gives"),
+    ("count_by p xs, All P xs", "how many elements pass; P holds of each"),
+]
+
+HEAD = """# The theorem
+
+{doc}
+
+```rust
+{contract}
+```
+
+```text
+{records}
+```
+
+So it is about every list of steps that a machine takes from reset, in any order. Each step is taken
+or refused, an Order may take any block on which its core waits, and any step may be refused as out
+of memory. It says nothing of time, nor that a request is ever ordered or answered. That the code
+takes such steps and no others is what `Machine::step` and `run_steps` promise (docs/PROVED.md), and
+why all this holds is in docs/COHERENCE.md. `tools/theorem.py --write` makes this page of the
+sources, whose files say where each rule comes from.
+
+## How to read it
+
+A fact is spelled like a type (`OneWriter`), a function like a function (`flat`), and `f a b` is `f`
+of a and b. A definition begins with the types of its arguments and of what it is; `Type 0` says
+that it is a fact or a type. Below stands what it means, case by case, the first that fits, with `_`
+for any value. A record of facts holds where all of them do, and `record s {{ .. }}` is s with these
+fields. `x.log` is a field. A member of a type may stand with a short name of its type before it, as
+`op.Load`; `Nothing` is a controller's `None`.
+
+`A × B` is "A and B", `(x : T) × P` "there is an x with P", `(x : T) → P` "P for every x", `A → B`
+"if A then B", `¬ A` "not A", `⊥` what never holds, and `λ x. ..` a function of x.
+
+Look-ups have a default: outside a machine's shape a core holds nothing (state I), no transaction is
+open and memory's words are 0.
+
+| Written | Means |
+|---|---|
+{notation}
+
+## Types
+
+As the code declares them. In the definitions numbers are ℕ, and `K` is a block's `Data`.
+
+```rust
+{types}
+```
+"""
+
+
+def wrapped(text):
+    return "\n\n".join(textwrap.fill(part, WIDTH, break_long_words=False, break_on_hyphens=False) for part in text.split("\n\n"))
+
+
+def subject_of(page):
+    """The number of a page's subject and of its folder there, if it has one."""
+    for number, (_, folders) in enumerate(SUBJECTS):
+        for place, folder in enumerate(folders):
+            if page.path.as_posix().startswith(f"crates/{folder}/"):
+                return number, place
+    return None
+
+
+def shows(text, name):
+    """Whether a text has a word, or all signs of an operator."""
+    if "◌" in name:
+        return all(f" {sign} " in re.sub(r"[\s()]", " ", f" {text} ") for sign in name.split("◌") if sign)
+    return name in text if name == "[]" else name in specs.WORD.findall(text)
+
+
+def used_of_std(page, text):
+    """The words and operators of the standard library that a text in the page has."""
+    groups = [names for crate, _, names in specs.IMPORT.findall((TOP / page.path).read_text()) if crate == "std"]
+    return {name.strip() for names in groups for name in names.split(",") if shows(text, name.strip())}
+
+
+def notation():
+    """The rows of the table, and the words that they explain."""
+    parts = [(signs.split(", "), meaning) for signs, meaning in NOTATION]
+    written = [", ".join(f"`{sign.replace('◌', ' ').strip()}`" for sign in signs) for signs, _ in parts]
+    rows = "\n".join(f"| {signs} | {meaning} |" for signs, (_, meaning) in zip(written, parts))
+    return rows, {sign.split()[0] for signs, _ in parts for sign in signs}
+
+
+def declared():
+    """The types that the code declares, by crate and name, with their comments, and without what is derived for them."""
+    return {
+        (crate, name): re.sub(r"<(\w+) = \w+>", r"<\1>", comment + text)
+        for crate in specs.crates()
+        for path in sorted((TOP / "crates" / crate / "src").rglob("*.rt"))
+        for comment, text, name in TYPE.findall(path.read_text())
+    }
+
+
+def types_of(shown):
+    """The texts of the types that definitions speak of, and of those that these are made of, in the order of crates and files."""
+    known, found = declared(), set()
+    crate_of = {name: crate for crate, name in known}
+
+    def visit(key):
+        if key in known and key not in found:
+            found.add(key)
+            fields = re.sub(r"//.*|^    [A-Z]\w*|^pub.*", "", known[key], flags=re.MULTILINE)  # no comments, and no names of members
+            for name in re.findall(r"\b[A-Z]\w+", fields):
+                visit((crate_of.get(name), name))
+
+    for page, definition in shown:
+        text = "\n".join(definition.lines)
+        for crate, name, members, alias in DECLARED.findall((TOP / page.path).read_text()):
+            if any(re.search(rf"\b{word}\b", text) for word in [alias or name, *re.findall(r"\w+", members)]):
+                visit((crate, name))
+    return "\n".join(text for key, text in known.items() if key in found)
+
+
+def files_of(pages, shown, subject):
+    """A subject's files, each with its definitions."""
+    placed = sorted((subject_of(page), at) for at, page in enumerate(pages) if subject_of(page))
+    for (number, _), at in placed:
+        definitions = [definition for definition in pages[at].definitions if specs.key_of(pages[at], definition.name) in shown]
+        if number == subject and definitions:
+            about = pages[at].head.split("\nSource:")[0].replace("\n", " ")
+            texts = "\n\n".join(f"-- {definition.meaning}\n" + "\n".join(definition.lines) for definition in definitions)
+            yield f"{wrapped(f'{about} ({pages[at].path.as_posix()})')}\n\n```text\n{texts}\n```\n"
+
+
+def lacks(shown, explained):
+    """What the page can't show."""
+    used = set().union(*(used_of_std(page, "\n".join(definition.lines)) for page, definition in shown.values()))
+    for page in {page.path: page for page, _ in shown.values()}.values():
+        if TOP / page.path != RECORDS and not subject_of(page):
+            yield f"{page.path}: of no subject"
+    yield from (f"not explained: {word}" for word in sorted(used - explained))
+    yield from (f"explained, and not used: {word}" for word in sorted(explained - used))
+
+
+def page_of(pages):
+    """The page, from all definitions."""
+    shown = specs.headline(specs.known_in(pages))
+    rows, explained = notation()
+    lacking = list(lacks(shown, explained))
+    if lacking:
+        sys.exit("\n".join(lacking))
+    law = re.search(r"((?:^///.*\n)+)(pub fn coherent\(\)(?:\n .*)+)", specs.THEOREM.read_text(), re.MULTILINE)
+    doc = re.sub(r"(?<!\n)\n(?!\n)", " ", re.sub(r"^/// ?", "", law.group(1).strip(), flags=re.MULTILINE))
+    records = RECORDS.read_text().split("\n\n", 1)[1].strip()
+    text = HEAD.format(doc=wrapped(doc), contract=law.group(2), records=records, notation=rows, types=types_of(shown.values()).strip())
+    for number, (title, _) in enumerate(SUBJECTS):
+        text += f"\n## {title}\n\n" + "\n".join(files_of(pages, shown, number))
+    return text
+
+
+def main():
+    parser = argparse.ArgumentParser(description=__doc__, formatter_class=argparse.RawDescriptionHelpFormatter)
+    parser.add_argument("--write", action="store_true", help="write the page instead of printing it")
+    options = parser.parse_args()
+    text = page_of([specs.page_of(path) for crate in specs.crates() for path in specs.files_of(TOP / "crates" / crate / "specs")])
+    if options.write:
+        PAGE.write_text(text)
+    else:
+        sys.stdout.write(text)
+
+
+if __name__ == "__main__":
+    main()
