@@ -49,7 +49,14 @@ pub(crate) struct Parts<B: Block> {
 // Not derived: each end of each function that owns one would prove the drop of its fields anew.
 impl<B: Block> Drop for Parts<B> {
     fn drop(self) {
-        let Parts { protocol: _, shape: _, lines: _, memory: _, bus: _, log: _ } = self;
+        let Parts {
+            protocol: _,
+            shape: _,
+            lines: _,
+            memory: _,
+            bus: _,
+            log: _,
+        } = self;
     }
 }
 
