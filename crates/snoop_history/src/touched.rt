@@ -1,5 +1,6 @@
 //! The blocks that a history mentions.
-ghost use Rattle.std.specs.Prelude.{◌≡◌, ◌<◌, List, [], ◌∷◌, ◌++◌, IfOk, nat_eq};
+ghost use Rattle.std.specs.Prelude.{◌≡◌, ◌<◌, List, [], ◌∷◌, ◌++◌, IfOk, nat_eq, false};
+ghost use Rattle.std.specs.List.{list_any};
 ghost use Rattle.std.specs.Option.{ForSome};
 ghost use Rattle.indexmap.specs.IndexSet.{insert_key};
 ghost use Rattle.snoop_history.specs.declared.items.Item.{Item};
@@ -73,11 +74,21 @@ impl TouchedBlocks {
         ensures { self.new ≡ record { blocks = self.old.blocks; order = insert_key nat_eq self.old.order block } }
     {
         if !self.marks[block as usize] {
-            self.marks[block as usize] = true;
-            let Ok(_) = self.order.insert(block) else {
-                unreachable!()
-            };
+            self.put_last(block);
         }
+    }
+
+    // Puts a new block last. It stands apart, so that what is done with every item stays small.
+    #[inline(never)]
+    fn put_last(&mut self, block: u32)
+        requires within { block < self.old.blocks }
+        requires unmarked { list_any (nat_eq block) self.old.order ≡ false }
+        ensures { self.new ≡ record { blocks = self.old.blocks; order = insert_key nat_eq self.old.order block } }
+    {
+        self.marks[block as usize] = true;
+        let Ok(_) = self.order.insert(block) else {
+            unreachable!()
+        };
     }
 
     /// The same blocks again.

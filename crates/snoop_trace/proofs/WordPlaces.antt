@@ -10,6 +10,7 @@ use Rattle.snoop_trace.specs.declared.step.Op.{Op}
 use Rattle.snoop_trace.specs.declared.step.Op.TheVariants.{Load, Store, Evict}
 use Rattle.snoop_trace.specs.Grammar.{word_asked, word_in_block}
 use Rattle.snoop_trace.specs.Output.{word_address}
+use Rattle.snoop_trace.specs.Words.{HasWord, word_places}
 
 -- a power of two goes into a greater one
 pub goes_into : (w b : ℕ) → IsPowerOfTwo w → IsPowerOfTwo b → w ≤ b → (k : ℕ) × ((0 < k) × (b ≡ w * k))
@@ -74,11 +75,21 @@ words_of_shape shape limits =
     let some = pow_pos i in
     (omega (arith, e, some), words_fit shape.words shape.block_bytes limits.block_bytes.0 limits.words.2)
 
+-- no word that a block has lies past the places
+below_places : (shape : Extent) (word : ℕ) → IsWithinLimits shape → word < shape.words → word < word_places
+below_places shape word limits few = let most = limits.words.1 in omega (arith, few, most)
+
 -- the word that is asked for is one that the block has
 pub asked_within : (shape : Extent) (address : ℕ) (op : Op) → IsWithinLimits shape → word_asked shape address op < shape.words
 asked_within shape address Load limits = word_within shape address limits.words.0 limits.block_bytes.0 (words_of_shape shape limits).1
 asked_within shape address (Store value) limits = word_within shape address limits.words.0 limits.block_bytes.0 (words_of_shape shape limits).1
 asked_within shape address Evict limits = (words_of_shape shape limits).0
+
+-- an operation may be of the word that is asked for
+pub word_there : (shape : Extent) (address : ℕ) (op : Op) → IsWithinLimits shape → HasWord shape (word_asked shape address op) op
+word_there shape address Load limits = (asked_within shape address Load limits, below_places shape _ limits (asked_within shape address Load limits))
+word_there shape address (Store value) limits = (asked_within shape address (Store value) limits, below_places shape _ limits (asked_within shape address (Store value) limits))
+word_there shape address Evict limits = tt
 
 -- a word's address is read as its block and its word
 pub address_back : (shape : Extent) (block word : ℕ) → IsWithinLimits shape → word < shape.words

@@ -29,6 +29,7 @@ impl Entry for Step {
     ghost says = { spec.step_in };
 
     #[tactic(auto, unfolding(crate::specs::Grammar::step_in))]
+    #[inline(always)]
     fn from_record(shape: Shape, n: u64, fields: &ByteRecord) -> Result<Self, TextFault> {
         match letter_of(fields).ok_or(TextFault::BadKind(n))? {
             b'O' => order(shape, n, fields),
@@ -42,6 +43,7 @@ impl Entry for Row {
     ghost says = { spec.row_in };
 
     #[tactic(auto, unfolding(crate::specs::Grammar::row_in))]
+    #[inline(always)]
     fn from_record(shape: Shape, n: u64, fields: &ByteRecord) -> Result<Self, TextFault> {
         let letter = letter_of(fields).ok_or(TextFault::BadKind(n))?;
         let row = asked(shape, n, letter, fields)?;
@@ -116,6 +118,7 @@ fn asked(shape: Shape, n: u64, letter: u8, fields: &ByteRecord) -> Result<Row, T
 }
 
 #[tactic(auto, unfolding(crate::specs::Grammar::ask))]
+#[inline(always)]
 fn ask(shape: Shape, n: u64, letter: u8, fields: &ByteRecord) -> Result<Step, TextFault>
     ensures { result ≡ spec.ask shape n letter (fields_of fields.now) }
 {
@@ -130,6 +133,7 @@ fn ask(shape: Shape, n: u64, letter: u8, fields: &ByteRecord) -> Result<Step, Te
 }
 
 #[tactic(auto, unfolding(crate::specs::Grammar::order))]
+#[inline(always)]
 fn order(shape: Shape, n: u64, fields: &ByteRecord) -> Result<Step, TextFault>
     ensures { result ≡ spec.order shape n (fields_of fields.now) }
 {
@@ -140,6 +144,7 @@ fn order(shape: Shape, n: u64, fields: &ByteRecord) -> Result<Step, TextFault>
 }
 
 #[tactic(auto, unfolding(crate::specs::Grammar::respond))]
+#[inline(always)]
 fn respond(shape: Shape, n: u64, fields: &ByteRecord) -> Result<Step, TextFault>
     ensures { result ≡ spec.respond shape n (fields_of fields.now) }
 {

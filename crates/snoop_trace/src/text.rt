@@ -24,6 +24,7 @@ use std::marker::Brand;
 
 // Whether there is one more record, and its fields. A failed read is answered as out of memory
 // here: `read_known` tells the two apart.
+#[inline(always)]
 fn next_record<R: Read>(text: &mut Reader<R>, fields: &mut ByteRecord) -> Result<bool, NoMemory>
     requires { IsPlain text.old }
     ensures plain { IfOk result (λ found. found ≡ true → IsPlain text.new) }
@@ -36,6 +37,7 @@ fn next_record<R: Read>(text: &mut Reader<R>, fields: &mut ByteRecord) -> Result
 }
 
 // The entry of record n, which is the next one; None at the end of the text.
+#[inline(always)]
 fn next_entry<E: Entry, R: Read>(
     text: &mut Reader<R>,
     fields: &mut ByteRecord,

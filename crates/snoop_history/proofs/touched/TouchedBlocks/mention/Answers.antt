@@ -1,40 +1,22 @@
-use Rattle.std.proofs.Common.{◌≡◌, ◌∙◌, ◌<◌, ◌+◌, [], true, false, Some, length, arith, refl, sym, ap, subst, length-set, length-append}
-use Rattle.std.specs.Prelude.{slice_get, nat_eq, ◌∷◌, IsOk}
+use Rattle.std.proofs.Common.{◌≡◌, ◌∙◌, ◌<◌, true, false, Some, length, refl, sym, ap, subst}
+use Rattle.std.specs.Prelude.{slice_get, nat_eq}
+use Rattle.std.specs.List.{list_any}
 use Rattle.std.proofs.lemmas.Option.{slice_get_read}
-use Rattle.indexmap.specs.IndexSet.{insert_key, spare}
+use Rattle.indexmap.specs.IndexSet.{insert_key}
 use Rattle.snoop_history.specs.Mentions.{Mentions}
-use Rattle.snoop_history.proofs.Marks.{inserted, room-left, marks-after, marked-before}
+use Rattle.snoop_history.proofs.Marks.{marked-before, unmarked}
 use Rattle.snoop_history.proofs.touched.TouchedBlocks.mention.Goals as goal
 
-pub invariant_of-self : goal.invariant_of-self
-invariant_of-self c =
+pub put_last-requires-clause-unmarked : goal.put_last-requires-unmarked
+put_last-requires-clause-unmarked c =
     let t = c.self.inside in
     let block = c.args.block in
     let P : Mentions → Type 0 = λ m. block < m.blocks in
     let within : block < length t.marks.items = subst P (sym c.self.view_is) c.requires in
     let at : slice_get t.marks.items block ≡ Some c.index.result.now = slice_get_read t.marks.items (length t.marks.items) block c.index.result.now refl within c.index.ensures in
     let free : slice_get t.marks.items block ≡ Some false = at ∙ ap Some c.if-not-index.true in
-    let keys : c.insert.new.self.keys ≡ insert_key nat_eq t.order.keys block = c.in-Ok.ensures.keys in
-    let more : length c.insert.new.self.keys ≡ length t.order.keys + 1 = ap length (keys ∙ inserted t.marks.items t.order.keys c.self.invariant.marks block within free) ∙ length-append t.order.keys (block ∷ []) in
-    let room = c.self.invariant.room in
-    let less = c.insert.ensures.spare in
-    let same = length-set t.marks.items block true in
-    record { marks = marks-after t.marks.items t.order.keys c.self.invariant.marks block within free c.insert.new.self.keys keys; room = omega arith }
-
-pub unreachable-requires : goal.unreachable-requires
-unreachable-requires c =
-    let t = c.self.inside in
-    let block = c.args.block in
-    let P : Mentions → Type 0 = λ m. block < m.blocks in
-    let within : block < length t.marks.items = subst P (sym c.self.view_is) c.requires in
-    let at : slice_get t.marks.items block ≡ Some c.index.result.now = slice_get_read t.marks.items (length t.marks.items) block c.index.result.now refl within c.index.ensures in
-    let free : slice_get t.marks.items block ≡ Some false = at ∙ ap Some c.if-not-index.true in
-    let left = room-left t.marks.items t.order.keys c.self.invariant.marks block within free in
-    let room = c.self.invariant.room in
-    let roomy : 0 < spare t.order = omega arith in
-    let succeeds = c.insert.ensures.succeeds roomy in
-    let fails : false ≡ true = subst IsOk c.in_default.is succeeds in
-    cc
+    let Q : Mentions → Type 0 = λ m. list_any (nat_eq block) m.order ≡ false in
+    subst Q c.self.view_is (unmarked t.marks.items t.order.keys c.self.invariant.marks block within free)
 
 pub returns-else-not-index : goal.returns-else-not-index
 returns-else-not-index c =
