@@ -164,6 +164,7 @@ impl StepQueue {
 }
 
 // Appends the step's word, if it is not of a first word, and what it stores, if it does.
+#[inline(always)]
 fn append_data(
     words: &mut VecDeque<u8>,
     values: &mut VecDeque<u64>,
@@ -199,6 +200,7 @@ impl Entries<Step> for StepQueue {
 
     ghost fits = { IsStepWithin largest };
 
+    #[inline(always)]
     fn append(&mut self, step: Step) -> Result<(), NoMemory> {
         self.heads.reserve(1)?;
         append_data(&mut self.words, &mut self.values, step)?;

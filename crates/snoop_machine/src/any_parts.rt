@@ -181,6 +181,26 @@ impl AnyParts {
         // What `prepare` reported comes true.
         ensures prepared { (entry : Option Item) → IsPrepared (stand self.old) step entry → IsOk result × ((stand self.new).situation.log ≡ (stand self.old).situation.log ++ option_to_list entry) }
     {
+        match self {
+            AnyParts::One(parts) => parts.step(step),
+            _ => self.step_of_words(step),
+        }
+    }
+
+    /// The same with blocks of several words. It stands apart: a function pays at its entry for the locals of all sizes that it holds.
+    #[inline(never)]
+    fn step_of_words(&mut self, step: Step) -> Result<Reply, Refused>
+        requires { Invariant (stand self.old).situation }
+        ensures taken { IfOk result (λ reply. (entry : Option Item) × FirstMove (stand self.old).situation step reply (stand self.new).situation entry) }
+        ensures refused { IfErr result (λ cause. RefusedFor (stand self.old).situation step cause × (stand self.new ≡ stand self.old)) }
+        ensures exactly { (cause : Refused) → Refuses (stand self.old).situation step cause → result ≡ Err cause }
+        ensures full { result ≡ Err OutOfMemory → IsFull (stand self.old) step }
+        ensures room { KeepsRoom (stand self.old) (stand self.new) }
+        ensures lines { (core : ℕ) → HoldsOn (stand self.old) (stand self.new) step core }
+
+        // What `prepare` reported comes true.
+        ensures prepared { (entry : Option Item) → IsPrepared (stand self.old) step entry → IsOk result × ((stand self.new).situation.log ≡ (stand self.old).situation.log ++ option_to_list entry) }
+    {
         each!(self, parts => parts.step(step))
     }
 

@@ -7,7 +7,7 @@ use Rattle.snoop_history.specs.Mentions.{Mentions}
 use Rattle.snoop_history.proofs.Marks.{marked-before, unmarked}
 use Rattle.snoop_history.proofs.touched.TouchedBlocks.mention.Goals as goal
 
-pub put_last-requires-clause-unmarked : goal.put_last-requires-unmarked
+pub put_last-requires-clause-unmarked : goal.put_last-requires-clause-unmarked
 put_last-requires-clause-unmarked c =
     let t = c.self.inside in
     let block = c.args.block in

@@ -1,4 +1,4 @@
-use Rattle.std.proofs.Common.{◌≡◌, ◌∙◌, ◌<◌, ◌+◌, [], true, false, Some, length, arith, refl, sym, ap, subst, length-set, length-append}
+use Rattle.std.proofs.Common.{◌≡◌, ◌∙◌, ◌<◌, ◌+◌, [], true, false, Some, length, arith, sym, ap, subst, length-set, length-append}
 use Rattle.std.specs.Prelude.{slice_get, nat_eq, ◌∷◌, IsOk}
 use Rattle.std.specs.List.{list_any}
 use Rattle.indexmap.specs.IndexSet.{insert_key, spare}
