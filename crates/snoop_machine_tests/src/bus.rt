@@ -93,3 +93,43 @@ fn requests_from_issue_to_response(rt: HostRuntime) -> Result<(), Fail> {
     }
     Ok(())
 }
+
+// The transaction of core 0's load of block 1, which memory answers with 5 in word 0.
+fn opened_load() -> Open {
+    Open {
+        core: 0,
+        request: Request::GetS,
+        block: 1,
+        payload: Payload::Data,
+        value: Words::zero().with(0, 5),
+        from: None,
+    }
+}
+
+#[test]
+fn a_queue_keeps_the_order_of_issue(rt: HostRuntime) -> Result<(), Fail> {
+    let mut bus = small_bus(rt.alloc())?;
+    issue(&mut bus, 0, Request::GetS, 1)?;
+    issue(&mut bus, 0, Request::GetS, 0)?;
+    if bus.head(0) != Some((Request::GetS, 1)) || bus.head(1).is_some() {
+        Err("the oldest request")?
+    }
+    if !start(&mut bus, 0, Payload::Data, 5, None)
+        || bus.open(1) != Some(opened_load())
+        || bus.head(0) != Some((Request::GetS, 0))
+    {
+        Err("what is open")?
+    }
+
+    // Another block has none to finish, and this one's stays.
+    if bus.finish(2).is_some()
+        || bus.open(1) != Some(opened_load())
+        || bus.head(0) != Some((Request::GetS, 0))
+    {
+        Err("a block with nothing open")?
+    }
+    if bus.finish(1) != Some(opened_load()) || bus.open(1).is_some() {
+        Err("what was open")?
+    }
+    Ok(())
+}

@@ -158,19 +158,33 @@ fn a_log_and_its_copy(rt: HostRuntime) -> Result<(), Fail> {
     Ok(())
 }
 
+// Whether the board answers what follows from the items of the block boundary, inside the shape and outside, with these totals.
+fn is_of_the_boundary(board: &Board, totals: Totals) -> bool {
+    [board.value(0, 0), board.value(1, 0), board.value(4, 0)] == [Some(0), Some(7), None]
+        && [board.count(0), board.count(1), board.count(2)] == [Some(1), Some(1), None]
+        && [board.last(0), board.last(1), board.last(2)] == [Some(STORED), Some(LOADED), None]
+        && board.totals() == totals
+}
+
 #[test]
 fn a_board_of_the_block_boundary(rt: HostRuntime) -> Result<(), Fail> {
     let shape = Shape::new(2, 4, 64)?;
-    let board = board_of(rt.alloc(), shape, block_boundary().as_slice())?;
+    let mut board = board_of(rt.alloc(), shape, block_boundary().as_slice())?;
     if !board.has_shape(shape) || board.has_shape(Shape::new(3, 4, 64)?) {
         Err("its shape")?
     }
-    if [board.value(0, 0), board.value(1, 0), board.value(4, 0)] != [Some(0), Some(7), None]
-        || [board.count(0), board.count(1), board.count(2)] != [Some(1), Some(1), None]
-        || [board.last(0), board.last(1), board.last(2)] != [Some(STORED), Some(LOADED), None]
-        || board.totals() != BOUNDARY_TOTALS
-    {
+    if !is_of_the_boundary(&board, BOUNDARY_TOTALS) {
         Err("its answers")?
+    }
+
+    // A request for a block that there is not is counted, and changes nothing else.
+    board.absorb(sent(0, Request::GetS, 9));
+    let totals = Totals {
+        get_s: 2,
+        ..BOUNDARY_TOTALS
+    };
+    if !is_of_the_boundary(&board, totals) {
+        Err("a request outside the shape")?
     }
     Ok(())
 }

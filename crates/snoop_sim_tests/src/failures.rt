@@ -3,9 +3,9 @@
 use crate::engine::{ENGINES, Ended, Engine};
 use crate::streams::{FailingReader, FailingWriter, Fault};
 use snoop_rules::Protocol;
-use snoop_sim::command;
-use snoop_trace::TextFault;
+use snoop_sim::{SimFault, command, simulate_steps};
 use snoop_trace::streams::{AnyReader, AnyWriter};
+use snoop_trace::{Shape, TextFault};
 use std::alloc::Global;
 use std::sync::Wait;
 use std::test::Fail;
@@ -100,6 +100,50 @@ fn a_fault_before_a_failing_read_is_named(rt: HostRuntime) -> Result<(), Fail> {
         let ended = engine.simulate(&rt, rt.alloc(), &mut reader, &mut written, Protocol::Msi)?;
         assert_eq!(rt; ended, Ended::Text(TextFault::BadKind(2)), "{engine:?}");
         assert!(rt; written.is_empty());
+    }
+    Ok(())
+}
+
+/// Core 0 loads block 0.
+const LOAD: &[u8] = b"L,0,0\nO,0\nR,0\n";
+
+/// Each reader stops at another byte of the text.
+#[test]
+fn a_load_that_is_not_read_whole(rt: HostRuntime) -> Result<(), Fail> {
+    let shape = Shape::new(2, 4, 64)?;
+    for left in 0..LOAD.len() {
+        let mut reader = AnyReader::new(FailingReader {
+            text: LOAD,
+            left,
+            most: AMPLE,
+        });
+        let mut written = Vec::new(rt.alloc());
+        let answer = simulate_steps(rt.alloc(), &mut reader, &mut written, Protocol::Msi, shape);
+        if answer != Err(SimFault::Text(TextFault::Read)) || !written.is_empty() {
+            Err(left)?
+        }
+    }
+    Ok(())
+}
+
+/// The writers take twelve bytes in all, in calls of so many at most.
+#[test]
+fn a_writer_of_twelve_bytes(rt: HostRuntime) -> Result<(), Fail> {
+    let shape = Shape::new(2, 4, 64)?;
+    for (calls, most) in [(12, 1), (4, 3), (1, 12)] {
+        let mut reader = LOAD;
+        let mut writer = AnyWriter::new(FailingWriter::new(
+            rt.alloc(),
+            calls,
+            most,
+            Fault::Refuses,
+        ));
+        let answer = simulate_steps(rt.alloc(), &mut reader, &mut writer, Protocol::Msi, shape);
+        if answer != Err(SimFault::Write)
+            || writer.inner.held.as_slice() != b"L,0,0: issue".as_slice()
+        {
+            Err(most)?
+        }
     }
     Ok(())
 }

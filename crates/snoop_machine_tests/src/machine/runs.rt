@@ -3,21 +3,45 @@
 use crate::machine::support::{UPGRADE_RACE, ask, machine_of, order, respond, two_cores};
 use snoop_history::{Came, Did, Item, Totals};
 use snoop_machine::{Machine, run_steps};
-use snoop_rules::{CacheState, Payload, Protocol, Request};
+use snoop_rules::{CacheState, MemState, Payload, Protocol, Request};
 use snoop_trace::{Op, Step};
 use std::alloc::Global;
 use std::test::Fail;
+
+/// Whether core 1 has won the race: its GetM is open on block 0, and core 0 has lost its copy.
+fn has_a_winner(machine: &Machine) -> bool {
+    let Some(open) = machine.open(0) else {
+        return false;
+    };
+    open.core == 1
+        && open.request == Request::GetM
+        && machine.state(0, 0) == Some(CacheState::ImAd)
+        && machine.state(1, 0) == Some(CacheState::SmD)
+        && machine.mem_state(0) == Some(MemState::M)
+}
+
+/// Whether both have stored, core 0 last.
+fn has_both_stores(machine: &Machine) -> bool {
+    machine.kept(0, 0, 0) == Some(5) && machine.log().flat(0, 0) == Some(5)
+}
 
 #[test]
 fn a_refused_step_is_passed_over_and_not_counted(rt: HostRuntime) -> Result<(), Fail> {
     let mut machine = two_cores(rt.alloc())?;
     let begun = run_steps(&mut machine, &UPGRADE_RACE[..9]);
-    if begun != 9 || machine.state(1, 0) != Some(CacheState::SmD) {
+    if begun != 9 || !has_a_winner(&machine) {
         Err(begun)?
     }
     let ended = run_steps(&mut machine, &UPGRADE_RACE[9..]);
-    if ended != 3 || machine.kept(0, 0, 0) != Some(5) || machine.log().flat(0, 0) != Some(5) {
+    if ended != 3 || !has_both_stores(&machine) {
         Err(ended)?
+    }
+
+    // All at once, one of the thirteen is refused.
+    let mut whole = two_cores(rt.alloc())?;
+    let taken = run_steps(&mut whole, &UPGRADE_RACE);
+    if taken != 12 || !has_both_stores(&whole) {
+        Err(taken)?
     }
     Ok(())
 }
