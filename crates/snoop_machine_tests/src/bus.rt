@@ -59,39 +59,58 @@ fn opened() -> Open {
     }
 }
 
-#[test]
-fn requests_from_issue_to_response(rt: HostRuntime) -> Result<(), Fail> {
-    let mut bus = small_bus(rt.alloc())?;
-    issue(&mut bus, 0, Request::GetM, 3)?;
-    issue(&mut bus, 1, Request::PutM, 3)?;
-    issue(&mut bus, 1, Request::GetS, 2)?;
+// Orders what waits: a block that is taken waits; the core's next request, for another block, does not.
+fn start_all(bus: &mut Bus) -> [bool; 3]
+    requires queues { length bus.old.queues ≡ 2 }
+    ensures queues { length bus.new.queues ≡ length bus.old.queues }
+    ensures transactions { length bus.new.transactions ≡ length bus.old.transactions }
+{
+    [
+        start(bus, 1, Payload::NoData, 0, Some(1)),
+        start(bus, 0, Payload::Data, 7, None),
+        start(bus, 1, Payload::Data, 8, Some(0)),
+    ]
+}
 
-    // A block that is taken waits; the core's next request, for another block, does not.
-    let started = [
-        start(&mut bus, 1, Payload::NoData, 0, Some(1)),
-        start(&mut bus, 0, Payload::Data, 7, None),
-        start(&mut bus, 1, Payload::Data, 8, Some(0)),
-    ];
-    if started != [true, false, true]
+// Whether core 1's writeback is finished once, and core 0's request then starts.
+fn is_finished_once(bus: &mut Bus) -> bool
+    requires queues { length bus.old.queues ≡ 2 }
+    ensures queues { length bus.new.queues ≡ length bus.old.queues }
+{
+    bus.finish(3) == Some(opened())
+        && bus.finish(3).is_none()
+        && bus.finish(0).is_none()
+        && start(bus, 0, Payload::Data, 7, None)
+}
+
+fn go_through(bus: &mut Bus) -> Result<(), Fail>
+    requires queues { length bus.old.queues ≡ 2 }
+    requires transactions { length bus.old.transactions ≡ 4 }
+{
+    issue(bus, 0, Request::GetM, 3)?;
+    issue(bus, 1, Request::PutM, 3)?;
+    issue(bus, 1, Request::GetS, 2)?;
+    if start_all(bus) != [true, false, true]
         || bus.head(0) != Some((Request::GetM, 3))
         || bus.head(1).is_some()
+        || bus.open(3) != Some(opened())
     {
-        Err(started)?
-    }
-    if bus.open(3) != Some(opened()) {
         Err("what is open")?
     }
-    if bus.finish(3) != Some(opened()) || bus.finish(3).is_some() || bus.finish(0).is_some() {
+    if !is_finished_once(bus) {
         Err("what was open")?
-    }
-    if !start(&mut bus, 0, Payload::Data, 7, None) {
-        Err("the block is free")?
     }
     bus.reserve(1)?;
     if !bus.has_room(1) || bus.has_room(2) {
         Err("room")?
     }
     Ok(())
+}
+
+#[test]
+fn requests_from_issue_to_response(rt: HostRuntime) -> Result<(), Fail> {
+    let mut bus = small_bus(rt.alloc())?;
+    go_through(&mut bus)
 }
 
 // The transaction of core 0's load of block 1, which memory answers with 5 in word 0.
@@ -106,30 +125,34 @@ fn opened_load() -> Open {
     }
 }
 
-#[test]
-fn a_queue_keeps_the_order_of_issue(rt: HostRuntime) -> Result<(), Fail> {
-    let mut bus = small_bus(rt.alloc())?;
-    issue(&mut bus, 0, Request::GetS, 1)?;
-    issue(&mut bus, 0, Request::GetS, 0)?;
+// Whether block 1 has the load open, and core 0's request for block 0 waits.
+fn has_load_open(bus: &Bus) -> bool {
+    bus.open(1) == Some(opened_load()) && bus.head(0) == Some((Request::GetS, 0))
+}
+
+fn go_in_order(bus: &mut Bus) -> Result<(), Fail>
+    requires queues { length bus.old.queues ≡ 2 }
+    requires transactions { length bus.old.transactions ≡ 4 }
+{
+    issue(bus, 0, Request::GetS, 1)?;
+    issue(bus, 0, Request::GetS, 0)?;
     if bus.head(0) != Some((Request::GetS, 1)) || bus.head(1).is_some() {
         Err("the oldest request")?
     }
-    if !start(&mut bus, 0, Payload::Data, 5, None)
-        || bus.open(1) != Some(opened_load())
-        || bus.head(0) != Some((Request::GetS, 0))
-    {
+    if !start(bus, 0, Payload::Data, 5, None) || !has_load_open(bus) {
         Err("what is open")?
     }
-
-    // Another block has none to finish, and this one's stays.
-    if bus.finish(2).is_some()
-        || bus.open(1) != Some(opened_load())
-        || bus.head(0) != Some((Request::GetS, 0))
-    {
+    if bus.finish(2).is_some() || !has_load_open(bus) {
         Err("a block with nothing open")?
     }
     if bus.finish(1) != Some(opened_load()) || bus.open(1).is_some() {
         Err("what was open")?
     }
     Ok(())
+}
+
+#[test]
+fn a_queue_keeps_the_order_of_issue(rt: HostRuntime) -> Result<(), Fail> {
+    let mut bus = small_bus(rt.alloc())?;
+    go_in_order(&mut bus)
 }

@@ -1,12 +1,11 @@
 mod memory;
 
+use crate::writers::{Failure, Stopping};
 use snoop_history::{Board, Came, Did, Item, Log, Sent, Totals, write_report};
 use snoop_rules::{Payload, Request};
 use snoop_trace::streams::AnyWriter;
 use snoop_trace::{NoMemory, Shape, WriteFault};
 use std::alloc::Global;
-use std::io;
-use std::io::{ErrorKind, Write};
 use std::test::Fail;
 
 fn did(core: u32, number: u64, block: u32, load: bool, value: u64) -> Did {
@@ -141,19 +140,35 @@ fn has_boundary_answers(log: &Log) -> bool {
         && log.totals() == BOUNDARY_TOTALS
 }
 
+// Whether the core's operations are this one.
+fn has_done(log: &Log, core: u32, did: Did) -> bool {
+    match log.answers(core) {
+        Ok(answers) => answers.as_slice() == [did].as_slice(),
+        Err(_) => false,
+    }
+}
+
+// Whether it is the log of the block boundary.
+fn is_the_boundary(log: &Log) -> bool {
+    has_boundary_items(log)
+        && has_boundary_answers(log)
+        && has_done(log, 0, STORED)
+        && has_done(log, 1, LOADED)
+}
+
+fn has_an_equal_copy(log: &Log) -> bool {
+    match log.copy() {
+        Ok(copy) => is_the_boundary(&copy),
+        Err(_) => false,
+    }
+}
+
 #[test]
 fn a_log_and_its_copy(rt: HostRuntime) -> Result<(), Fail> {
     let shape = Shape::new(2, 4, 64)?;
-    let whole = log_of(rt.alloc(), shape, block_boundary().as_slice())?;
-    let copy = whole.copy()?;
-    for log in [&whole, &copy] {
-        if !has_boundary_items(log) || !has_boundary_answers(log) {
-            Err("the log's items")?
-        }
-        let (first, second) = (log.answers(0)?, log.answers(1)?);
-        if first.as_slice() != [STORED].as_slice() || second.as_slice() != [LOADED].as_slice() {
-            Err("the cores' operations")?
-        }
+    let log = log_of(rt.alloc(), shape, block_boundary().as_slice())?;
+    if !is_the_boundary(&log) || !has_an_equal_copy(&log) {
+        Err("the log or its copy")?
     }
     Ok(())
 }
@@ -166,24 +181,26 @@ fn is_of_the_boundary(board: &Board, totals: Totals) -> bool {
         && board.totals() == totals
 }
 
-#[test]
-fn a_board_of_the_block_boundary(rt: HostRuntime) -> Result<(), Fail> {
-    let shape = Shape::new(2, 4, 64)?;
-    let mut board = board_of(rt.alloc(), shape, block_boundary().as_slice())?;
-    if !board.has_shape(shape) || board.has_shape(Shape::new(3, 4, 64)?) {
-        Err("its shape")?
-    }
-    if !is_of_the_boundary(&board, BOUNDARY_TOTALS) {
-        Err("its answers")?
-    }
-
-    // A request for a block that there is not is counted, and changes nothing else.
+// A request for a block that there is not is counted, and changes nothing else.
+fn counts_a_request_outside(board: &mut Board) -> bool {
     board.absorb(sent(0, Request::GetS, 9));
     let totals = Totals {
         get_s: 2,
         ..BOUNDARY_TOTALS
     };
-    if !is_of_the_boundary(&board, totals) {
+    is_of_the_boundary(board, totals)
+}
+
+#[test]
+fn a_board_of_the_block_boundary(rt: HostRuntime) -> Result<(), Fail> {
+    let shape = Shape::new(2, 4, 64)?;
+    let other = Shape::new(3, 4, 64)?;
+    let mut board = board_of(rt.alloc(), shape, block_boundary().as_slice())?;
+    let has_shape = board.has_shape(shape) && !board.has_shape(other);
+    if !has_shape || !is_of_the_boundary(&board, BOUNDARY_TOTALS) {
+        Err("the board")?
+    }
+    if !counts_a_request_outside(&mut board) {
         Err("a request outside the shape")?
     }
     Ok(())
@@ -258,22 +275,17 @@ fn report_of(alloc: Global, shape: Shape, items: &[Item]) -> Result<Vec<u8>, Fai
     Ok(report)
 }
 
-#[test]
-fn reports(rt: HostRuntime) -> Result<(), Fail> {
-    let shape = Shape::new(2, 4, 64)?;
-    let hit = |core, block, load, value| {
-        Item::Did(Did {
-            core,
-            number: 0,
-            block,
-            word: 0,
-            load,
-            value,
-            hit: true,
-        })
-    };
-    let hits = [hit(1, 3, false, u64::MAX), hit(0, 0, true, 0)];
-    let operation_of_another_block = [Item::Came(
+// The core's first operation, a hit.
+fn hit(core: u32, block: u32, load: bool, value: u64) -> Item {
+    Item::Did(Did {
+        hit: true,
+        ..did(core, 0, block, load, value)
+    })
+}
+
+// An answer to a request for block 0, with an operation of block 1.
+fn of_another_block() -> Item {
+    Item::Came(
         Came {
             core: 0,
             request: Request::GetM,
@@ -282,56 +294,49 @@ fn reports(rt: HostRuntime) -> Result<(), Fail> {
             payload: Payload::Data,
         },
         Some(did(0, 0, 1, false, 7)),
-    )];
-    for (items, text) in [
-        ([].as_slice(), EMPTY),
-        (block_boundary().as_slice(), BLOCK_BOUNDARY),
-        (two_blocks_open().as_slice(), TWO_BLOCKS_OPEN),
-        (hits.as_slice(), LATER_BLOCK_FIRST),
-        (operation_of_another_block.as_slice(), OF_ANOTHER_BLOCK),
-    ] {
-        if report_of(rt.alloc(), shape, items)?.as_slice() != text.as_bytes() {
-            Err(text)?
-        }
+    )
+}
+
+// Compares the items' report.
+fn look_at_report(alloc: Global, shape: Shape, items: &[Item], text: &str) -> Result<(), Fail> {
+    let report = report_of(alloc, shape, items)?;
+    if report.as_slice() != text.as_bytes() {
+        Err(report)?
     }
     Ok(())
 }
 
-// A writer that takes so many bytes in all, at most 5 a time, and then fails.
-#[derive(Drop)]
-struct Brief {
-    held: Vec<u8>,
-    left: usize,
+#[test]
+fn reports(rt: HostRuntime) -> Result<(), Fail> {
+    let alloc = rt.alloc();
+    let shape = Shape::new(2, 4, 64)?;
+    let hits = [hit(1, 3, false, u64::MAX), hit(0, 0, true, 0)];
+    look_at_report(alloc, shape, &[], EMPTY)?;
+    look_at_report(alloc, shape, block_boundary().as_slice(), BLOCK_BOUNDARY)?;
+    look_at_report(alloc, shape, two_blocks_open().as_slice(), TWO_BLOCKS_OPEN)?;
+    look_at_report(alloc, shape, hits.as_slice(), LATER_BLOCK_FIRST)?;
+    look_at_report(
+        alloc,
+        shape,
+        [of_another_block()].as_slice(),
+        OF_ANOTHER_BLOCK,
+    )
 }
 
-impl Write for Brief {
-    fn write(&mut self, buf: &[u8]) -> io::Result<usize> {
-        let taken = buf.len().min(self.left).min(5);
-        if taken == 0 {
-            return Err(io::Error::from(ErrorKind::WriteZero));
-        }
-        self.held.extend_from_slice(&buf[..taken])?;
-        self.left -= taken;
-        Ok(taken)
-    }
-
-    fn flush(&mut self) -> io::Result<()> {
-        Ok(())
-    }
+// Whether a writer that takes twelve bytes in all is blamed, and holds the beginning of the report.
+fn is_cut_off(alloc: Global, log: &Log) -> bool {
+    let mut writer = AnyWriter::new(Stopping::new(alloc, 4, 3, Failure::Refuses));
+    let written = write_report(alloc, &mut writer, log);
+    written == Err(WriteFault::Write)
+        && writer.inner.held.as_slice() == b"loads 1 hits".as_slice()
+        && writer.inner.calls_after == 1
 }
 
 #[test]
 fn failing_writer(rt: HostRuntime) -> Result<(), Fail> {
     let shape = Shape::new(2, 4, 64)?;
     let log = log_of(rt.alloc(), shape, block_boundary().as_slice())?;
-    let mut writer = AnyWriter::new(Brief {
-        held: Vec::new(rt.alloc()),
-        left: 12,
-    });
-    let written = write_report(rt.alloc(), &mut writer, &log);
-    if written != Err(WriteFault::Write)
-        || writer.inner.held.as_slice() != b"loads 1 hits".as_slice()
-    {
+    if !is_cut_off(rt.alloc(), &log) {
         Err("a beginning")?
     }
     Ok(())
@@ -363,45 +368,51 @@ block 1 value 7 9
 // The values of both words of block 1 and of one that there is not, and of words of block 0 and of one that there is not.
 const VALUES: [Option<u64>; 5] = [Some(7), Some(9), None, Some(0), None];
 
-#[test]
-fn words_of_a_block_have_values_of_their_own(rt: HostRuntime) -> Result<(), Fail> {
-    let shape = Shape::with_words(2, 4, 64, 2)?;
-    let log = log_of(rt.alloc(), shape, two_words().as_slice())?;
-    let board = board_of(rt.alloc(), shape, two_words().as_slice())?;
-    let of_log = [
+fn values_of_log(log: &Log) -> [Option<u64>; 5] {
+    [
         log.flat(1, 0),
         log.flat(1, 1),
         log.flat(1, 2),
         log.flat(0, 1),
         log.flat(4, 0),
-    ];
-    let of_board = [
+    ]
+}
+
+fn values_of_board(board: &Board) -> [Option<u64>; 5] {
+    [
         board.value(1, 0),
         board.value(1, 1),
         board.value(1, 2),
         board.value(0, 1),
         board.value(4, 0),
-    ];
-    if log.len() != 2 || of_log != VALUES || of_board != VALUES {
-        Err(of_board)?
+    ]
+}
+
+#[test]
+fn words_of_a_block_have_values_of_their_own(rt: HostRuntime) -> Result<(), Fail> {
+    let shape = Shape::with_words(2, 4, 64, 2)?;
+    let log = log_of(rt.alloc(), shape, two_words().as_slice())?;
+    if log.len() != 2 || values_of_log(&log) != VALUES {
+        Err(values_of_log(&log))?
     }
-    if board.has_shape(Shape::new(2, 4, 64)?) {
-        Err("its shape")?
+    Ok(())
+}
+
+#[test]
+fn a_board_has_the_values_of_all_words(rt: HostRuntime) -> Result<(), Fail> {
+    let shape = Shape::with_words(2, 4, 64, 2)?;
+    let of_one_word = Shape::new(2, 4, 64)?;
+    let board = board_of(rt.alloc(), shape, two_words().as_slice())?;
+    if board.has_shape(of_one_word) || values_of_board(&board) != VALUES {
+        Err(values_of_board(&board))?
     }
     Ok(())
 }
 
 #[test]
 fn a_report_has_the_values_of_all_words(rt: HostRuntime) -> Result<(), Fail> {
-    let report = report_of(
-        rt.alloc(),
-        Shape::with_words(2, 4, 64, 2)?,
-        two_words().as_slice(),
-    )?;
-    if report.as_slice() != TWO_WORDS.as_bytes() {
-        Err(report)?
-    }
-    Ok(())
+    let shape = Shape::with_words(2, 4, 64, 2)?;
+    look_at_report(rt.alloc(), shape, two_words().as_slice(), TWO_WORDS)
 }
 
 // Word 1 is one that blocks of one word do not have.

@@ -12,3 +12,5 @@ mod machine;
 mod rules;
 #[cfg(test)]
 mod trace;
+#[cfg(test)]
+mod writers;

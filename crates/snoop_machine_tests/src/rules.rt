@@ -1,10 +1,10 @@
 mod memory;
 
+use crate::writers::{Failure, Stopping};
 use snoop_rules::{CacheState, Protocol, Which, may_load, may_store, write_table};
 use snoop_trace::WriteFault;
 use snoop_trace::streams::AnyWriter;
 use std::alloc::Global;
-use std::io;
 use std::test::Fail;
 
 const MSI_CACHE: &str = "\
@@ -205,32 +205,9 @@ fn writes_the_four_tables(rt: HostRuntime) -> Result<(), Fail> {
     Ok(())
 }
 
-// A writer that takes so many bytes, and then none.
-#[derive(Drop)]
-struct Narrow {
-    held: Vec<u8>,
-    room: usize,
-}
-
-impl io::Write for Narrow {
-    fn write(&mut self, buf: &[u8]) -> io::Result<usize> {
-        let taken = buf.len().min(self.room);
-        self.room -= taken;
-        self.held.extend_from_slice(&buf[..taken])?;
-        Ok(taken)
-    }
-
-    fn flush(&mut self) -> io::Result<()> {
-        Ok(())
-    }
-}
-
-// Whether a writer of so much room is blamed, and then holds the beginning of the table.
+// Whether a writer of so much room, that then takes nothing, is blamed, and then holds the beginning of the table.
 fn is_cut_off(alloc: Global, protocol: Protocol, which: Which, table: &str, room: usize) -> bool {
-    let mut writer = AnyWriter::new(Narrow {
-        held: Vec::new(alloc),
-        room,
-    });
+    let mut writer = AnyWriter::new(Stopping::new(alloc, 1, room, Failure::TakesNothing));
     let written = write_table(alloc, &mut writer, protocol, which);
     let beginning = table.as_bytes().get(..room).unwrap_or(&[]);
     written == Err(WriteFault::Write) && writer.inner.held.as_slice() == beginning

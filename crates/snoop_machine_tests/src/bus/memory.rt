@@ -31,17 +31,24 @@ fn issue_at_last(bus: &mut Bus, core: u32, request: Request, block: u32) -> Resu
     Ok(())
 }
 
-#[test]
-fn a_queue_grows_by_each_request(rt: HostRuntime) -> Result<(), Fail> {
-    let mut bus = bus_at_reset(rt.alloc())?;
-    issue_at_last(&mut bus, 1, Request::GetM, 3)?;
+fn issue_all(bus: &mut Bus) -> Result<(), Fail>
+    requires queues { length bus.old.queues ≡ 2 }
+    requires transactions { length bus.old.transactions ≡ 4 }
+{
+    issue_at_last(bus, 1, Request::GetM, 3)?;
     if bus.head(1) != Some((Request::GetM, 3)) {
         Err("the first request")?
     }
-    issue_at_last(&mut bus, 1, Request::GetS, 0)?;
-    issue_at_last(&mut bus, 0, Request::GetS, 2)?;
+    issue_at_last(bus, 1, Request::GetS, 0)?;
+    issue_at_last(bus, 0, Request::GetS, 2)?;
     if bus.head(0) != Some((Request::GetS, 2)) || bus.head(1) != Some((Request::GetM, 3)) {
         Err("the oldest requests")?
     }
     Ok(())
+}
+
+#[test]
+fn a_queue_grows_by_each_request(rt: HostRuntime) -> Result<(), Fail> {
+    let mut bus = bus_at_reset(rt.alloc())?;
+    issue_all(&mut bus)
 }

@@ -70,18 +70,23 @@ fn take(machine: &mut Machine, step: Step) -> Result<bool, Fail> {
     }
 }
 
-#[test]
-fn a_step_out_of_memory_changes_nothing_and_is_taken_again(rt: HostRuntime) -> Result<(), Fail> {
-    let mut machine = at_reset(rt.alloc())?;
+/// Takes the race, of which one step is refused.
+fn take_race(machine: &mut Machine) -> Result<(), Fail> {
     let mut taken = 0_u32;
     for step in &UPGRADE_RACE {
-        taken = taken.saturating_add(u32::from(take(&mut machine, *step)?));
+        taken = taken.saturating_add(u32::from(take(machine, *step)?));
     }
     let log = machine.log();
     if taken != 12 || log.flat(0, 0) != Some(5) || log.len() != 8 {
         Err(taken)?
     }
     Ok(())
+}
+
+#[test]
+fn a_step_out_of_memory_changes_nothing_and_is_taken_again(rt: HostRuntime) -> Result<(), Fail> {
+    let mut machine = at_reset(rt.alloc())?;
+    take_race(&mut machine)
 }
 
 /// Prepares the step, again after a refused growth, which adds no line; preparing changes nothing else. Then the step meets no refusal,
@@ -110,15 +115,20 @@ fn prepare_and_take(machine: &mut Machine, step: Step) -> Result<bool, Fail> {
     }
 }
 
-#[test]
-fn a_prepared_step_takes_no_memory(rt: HostRuntime) -> Result<(), Fail> {
-    let mut machine = at_reset(rt.alloc())?;
+/// Takes the race, each step prepared.
+fn take_prepared_race(machine: &mut Machine) -> Result<(), Fail> {
     let mut taken = 0_u32;
     for step in &UPGRADE_RACE {
-        taken = taken.saturating_add(u32::from(prepare_and_take(&mut machine, *step)?));
+        taken = taken.saturating_add(u32::from(prepare_and_take(machine, *step)?));
     }
     if taken != 12 || machine.log().flat(0, 0) != Some(5) {
         Err(taken)?
     }
     Ok(())
+}
+
+#[test]
+fn a_prepared_step_takes_no_memory(rt: HostRuntime) -> Result<(), Fail> {
+    let mut machine = at_reset(rt.alloc())?;
+    take_prepared_race(&mut machine)
 }

@@ -25,22 +25,29 @@ fn has_both_stores(machine: &Machine) -> bool {
     machine.kept(0, 0, 0) == Some(5) && machine.log().flat(0, 0) == Some(5)
 }
 
+/// Takes the race in two parts: nine steps, and four of which one is refused.
+fn take_in_parts(machine: &mut Machine) -> Result<(), &'static str> {
+    if run_steps(machine, &UPGRADE_RACE[..9]) != 9 || !has_a_winner(machine) {
+        return Err("nine steps");
+    }
+    if run_steps(machine, &UPGRADE_RACE[9..]) != 3 || !has_both_stores(machine) {
+        return Err("the other four");
+    }
+    Ok(())
+}
+
 #[test]
 fn a_refused_step_is_passed_over_and_not_counted(rt: HostRuntime) -> Result<(), Fail> {
     let mut machine = two_cores(rt.alloc())?;
-    let begun = run_steps(&mut machine, &UPGRADE_RACE[..9]);
-    if begun != 9 || !has_a_winner(&machine) {
-        Err(begun)?
-    }
-    let ended = run_steps(&mut machine, &UPGRADE_RACE[9..]);
-    if ended != 3 || !has_both_stores(&machine) {
-        Err(ended)?
-    }
+    take_in_parts(&mut machine)?;
+    Ok(())
+}
 
-    // All at once, one of the thirteen is refused.
-    let mut whole = two_cores(rt.alloc())?;
-    let taken = run_steps(&mut whole, &UPGRADE_RACE);
-    if taken != 12 || !has_both_stores(&whole) {
+#[test]
+fn of_thirteen_steps_one_is_refused(rt: HostRuntime) -> Result<(), Fail> {
+    let mut machine = two_cores(rt.alloc())?;
+    let taken = run_steps(&mut machine, &UPGRADE_RACE);
+    if taken != 12 || !has_both_stores(&machine) {
         Err(taken)?
     }
     Ok(())
@@ -71,9 +78,8 @@ const LAST_STORE: Item = Item::Came(
     }),
 );
 
-#[test]
-fn every_core_stores_after_the_one_before_it(rt: HostRuntime) -> Result<(), Fail> {
-    let alloc = rt.alloc();
+/// Each core asks to store its number in the block, and only then are the requests ordered.
+fn waiting_stores(alloc: Global) -> Result<Vec<Step>, Fail> {
     let mut steps = Vec::new(alloc);
     for core in 0..256_u32 {
         steps.push(ask(core, 0, Op::Store(core as u64)))?;
@@ -81,8 +87,11 @@ fn every_core_stores_after_the_one_before_it(rt: HostRuntime) -> Result<(), Fail
     for core in 0..256_u32 {
         steps.extend_from_slice(&[order(core), respond(0)])?;
     }
-    let mut machine = machine_of(alloc, Protocol::Msi, 256)?;
-    let taken = run_steps(&mut machine, &steps);
+    Ok(steps)
+}
+
+/// Whether the last core has stored last.
+fn has_last_store(machine: &Machine) -> bool {
     let totals = Totals {
         stores: 256,
         get_m: 256,
@@ -90,10 +99,15 @@ fn every_core_stores_after_the_one_before_it(rt: HostRuntime) -> Result<(), Fail
         from_caches: 255,
         ..Totals::default()
     };
-    if taken != 768
-        || machine.kept(255, 0, 0) != Some(255)
-        || !ends_with(&machine, LAST_STORE, totals)
-    {
+    machine.kept(255, 0, 0) == Some(255) && ends_with(machine, LAST_STORE, totals)
+}
+
+#[test]
+fn every_core_stores_after_the_one_before_it(rt: HostRuntime) -> Result<(), Fail> {
+    let steps = waiting_stores(rt.alloc())?;
+    let mut machine = machine_of(rt.alloc(), Protocol::Msi, 256)?;
+    let taken = run_steps(&mut machine, &steps);
+    if taken != 768 || !has_last_store(&machine) {
         Err(taken)?
     }
     Ok(())
@@ -125,9 +139,8 @@ const WRITTEN_BACK: Item = Item::Came(
     None,
 );
 
-#[test]
-fn only_the_last_of_all_writebacks_is_not_stale(rt: HostRuntime) -> Result<(), Fail> {
-    let steps = late_evictions(rt.alloc())?;
+/// Whether memory has the last core's value, and no other writeback was taken.
+fn has_last_writeback(machine: &Machine) -> bool {
     let totals = Totals {
         stores: 256,
         get_m: 256,
@@ -138,18 +151,23 @@ fn only_the_last_of_all_writebacks_is_not_stale(rt: HostRuntime) -> Result<(), F
         stale: 255,
         ..Totals::default()
     };
-    for protocol in [Protocol::Msi, Protocol::Mesi] {
-        let mut machine = machine_of(rt.alloc(), protocol, 256)?;
-        let taken = run_steps(&mut machine, &steps);
-        if taken != 1536
-            || machine.kept(255, 0, 0).is_some()
-            || machine.mem_value(0, 0) != Some(255)
-        {
-            Err(taken)?
-        }
-        if !ends_with(&machine, WRITTEN_BACK, totals) {
-            Err(protocol)?
-        }
+    machine.kept(255, 0, 0).is_none()
+        && machine.mem_value(0, 0) == Some(255)
+        && ends_with(machine, WRITTEN_BACK, totals)
+}
+
+fn write_back(alloc: Global, protocol: Protocol, steps: &[Step]) -> Result<(), Fail> {
+    let mut machine = machine_of(alloc, protocol, 256)?;
+    let taken = run_steps(&mut machine, steps);
+    if taken != 1536 || !has_last_writeback(&machine) {
+        Err(taken)?
     }
     Ok(())
+}
+
+#[test]
+fn only_the_last_of_all_writebacks_is_not_stale(rt: HostRuntime) -> Result<(), Fail> {
+    let steps = late_evictions(rt.alloc())?;
+    write_back(rt.alloc(), Protocol::Msi, &steps)?;
+    write_back(rt.alloc(), Protocol::Mesi, &steps)
 }

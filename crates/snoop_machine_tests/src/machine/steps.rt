@@ -142,14 +142,20 @@ fn has_states(machine: &Machine, first: CacheState, second: CacheState, memory: 
         && machine.mem_state(0) == Some(memory)
 }
 
-#[test]
-fn the_loser_of_an_upgrade_race_asks_for_the_whole_block(rt: HostRuntime) -> Result<(), Fail> {
-    let mut machine = two_cores(rt.alloc())?;
+/// Takes the race, and compares each answer and what it leaves.
+fn take_race(machine: &mut Machine) -> Result<(), Fail> {
     for (step, (answer, first, second, memory)) in UPGRADE_RACE.iter().zip(&RACE_ANSWERS) {
-        if machine.step(*step) != *answer || !has_states(&machine, *first, *second, *memory) {
+        if machine.step(*step) != *answer || !has_states(machine, *first, *second, *memory) {
             Err(*step)?
         }
     }
+    Ok(())
+}
+
+#[test]
+fn the_loser_of_an_upgrade_race_asks_for_the_whole_block(rt: HostRuntime) -> Result<(), Fail> {
+    let mut machine = two_cores(rt.alloc())?;
+    take_race(&mut machine)?;
     if machine.log().flat(0, 0) != Some(5) {
         Err("the last store")?
     }
@@ -285,17 +291,23 @@ fn is_prepared(machine: &mut Machine, step: Step, entry: Option<Item>) -> bool {
         && machine.log().item(before.items) == entry
 }
 
-#[test]
-fn preparing_tells_the_item_and_changes_nothing(rt: HostRuntime) -> Result<(), Fail> {
-    let mut machine = two_cores(rt.alloc())?;
+/// Takes the steps, each prepared, and then prepares one that is refused.
+fn prepare_all(machine: &mut Machine) -> Result<(), Fail> {
     for (step, entry) in &STORED_AND_EVICTED {
-        if !is_prepared(&mut machine, *step, *entry) {
+        if !is_prepared(machine, *step, *entry) {
             Err(*step)?
         }
     }
     if machine.prepare(Step::Order { core: 0 }) != Err(Refused::NothingWaiting) {
         Err("nothing waits")?
     }
+    Ok(())
+}
+
+#[test]
+fn preparing_tells_the_item_and_changes_nothing(rt: HostRuntime) -> Result<(), Fail> {
+    let mut machine = two_cores(rt.alloc())?;
+    prepare_all(&mut machine)?;
     if machine.mem_value(1, 0) != Some(7) {
         Err("what was written back")?
     }
@@ -335,19 +347,36 @@ static TURNS: [(u32, Op, bool, Option<Step>); 8] = [
     (1, Op::Store(5), true, None),
 ];
 
+/// Whether the turn's step is this one, and is taken.
+fn takes_turn(
+    machine: &mut Machine,
+    core: u32,
+    op: Op,
+    under_way: bool,
+    step: Option<Step>,
+) -> bool {
+    if core >= machine.shape().cores() || machine.turn_step(core, 0, 0, op, under_way) != step {
+        return false;
+    }
+    match step {
+        Some(step) => machine.step(step).is_ok(),
+        None => true,
+    }
+}
+
+fn take_turns(machine: &mut Machine) -> Result<(), Fail> {
+    for (core, op, under_way, step) in &TURNS {
+        if !takes_turn(machine, *core, *op, *under_way, *step) {
+            Err(*core)?
+        }
+    }
+    Ok(())
+}
+
 #[test]
 fn turns_of_two_cores(rt: HostRuntime) -> Result<(), Fail> {
     let mut machine = two_cores(rt.alloc())?;
-    for (core, op, under_way, step) in &TURNS {
-        if *core >= machine.shape().cores()
-            || machine.turn_step(*core, 0, 0, *op, *under_way) != *step
-        {
-            Err(*core)?
-        }
-        if let Some(step) = *step {
-            machine.step(step)?;
-        }
-    }
+    take_turns(&mut machine)?;
     if machine.kept(1, 0, 0) != Some(5) || machine.protocol() != Protocol::Msi {
         Err("what was stored")?
     }

@@ -191,30 +191,41 @@ fn is_replayed(log: &Log) -> bool {
         && replay.totals.store_hits > 0
 }
 
-fn storm(alloc: Global, protocol: Protocol) -> Result<(), Fail> {
-    let steps = storm_of(alloc, 100_000)?;
-    let mut machine = machine_of(alloc, protocol, CORES)?;
+/// Takes the steps one by one, and looks at the machine after each. Answers how many are taken.
+fn take_each(machine: &mut Machine, steps: &[Step]) -> Result<usize, Fail> {
     let mut taken = 0_usize;
-    for step in &steps {
-        taken = taken.saturating_add(run_steps(&mut machine, &[*step]));
-        if !is_well(&machine) {
+    for step in steps {
+        taken = taken.saturating_add(run_steps(machine, &[*step]));
+        if !is_well(machine) {
             Err(*step)?
         }
     }
-    if !is_replayed(machine.log()) {
-        Err("the history")?
-    }
+    Ok(taken)
+}
 
-    // Taken whole, the same steps do the same.
-    let mut whole = machine_of(alloc, protocol, CORES)?;
-    if run_steps(&mut whole, &steps) != taken || !whole.log().equals(machine.log()) {
-        Err("taken whole")?
+/// Whether a machine that takes the same steps whole takes as many, to an equal history.
+fn is_taken_whole(
+    alloc: Global,
+    machine: &Machine,
+    steps: &[Step],
+    taken: usize,
+) -> Result<bool, Fail> {
+    let mut whole = machine_of(alloc, machine.protocol(), CORES)?;
+    Ok(run_steps(&mut whole, steps) == taken && whole.log().equals(machine.log()))
+}
+
+fn storm(alloc: Global, protocol: Protocol, steps: &[Step]) -> Result<(), Fail> {
+    let mut machine = machine_of(alloc, protocol, CORES)?;
+    let taken = take_each(&mut machine, steps)?;
+    if !is_replayed(machine.log()) || !is_taken_whole(alloc, &machine, steps, taken)? {
+        Err("the history")?
     }
     Ok(())
 }
 
 #[test]
 fn a_storm_stays_coherent(rt: HostRuntime) -> Result<(), Fail> {
-    storm(rt.alloc(), Protocol::Msi)?;
-    storm(rt.alloc(), Protocol::Mesi)
+    let steps = storm_of(rt.alloc(), 100_000)?;
+    storm(rt.alloc(), Protocol::Msi, &steps)?;
+    storm(rt.alloc(), Protocol::Mesi, &steps)
 }

@@ -87,41 +87,45 @@ const ALL: [Option<u64>; 5] = [Some(7), Some(0), Some(9), Some(4), None];
 /// What a core keeps of a block that it doesn't hold.
 const NONE: [Option<u64>; 5] = [None; 5];
 
-#[test]
-fn a_fill_keeps_the_other_words_and_a_writeback_carries_all(rt: HostRuntime) -> Result<(), Fail> {
-    let mut machine = machine_of_words(rt.alloc())?;
-    if run_steps(&mut machine, &TWO_STORES) != 6 {
+fn fill(machine: &mut Machine) -> Result<(), Fail> {
+    if run_steps(machine, &TWO_STORES) != 6 {
         Err("six steps")?
     }
-    if kept(&machine, 0) != NONE
-        || kept(&machine, 1) != BOTH
-        || flat(&machine) != BOTH
-        || remembered(&machine) != AT_FIRST
+    if kept(machine, 0) != NONE
+        || kept(machine, 1) != BOTH
+        || flat(machine) != BOTH
+        || remembered(machine) != AT_FIRST
     {
-        Err(kept(&machine, 1))?
+        Err(kept(machine, 1))?
     }
+    Ok(())
+}
 
-    // A hit is of its word alone.
+/// Hits are of their word alone; the eviction's word is not looked at.
+fn hit_and_evict(machine: &mut Machine) -> Result<(), Fail> {
     if machine.step(ask_word(1, 0, Op::Load)) != Ok(Reply::Hit(7))
         || machine.step(ask_word(1, 3, Op::Store(4))) != Ok(Reply::StoreHit)
     {
         Err("hits")?
     }
-
-    // The eviction's word is not looked at.
     let evicted = [ask_word(1, 4, Op::Evict), order(1), respond(1)];
-    if run_steps(&mut machine, &evicted) != 3 {
+    if run_steps(machine, &evicted) != 3 {
         Err("three steps")?
     }
-    if kept(&machine, 1) != NONE || remembered(&machine) != ALL || flat(&machine) != ALL {
-        Err(remembered(&machine))?
+    if kept(machine, 1) != NONE || remembered(machine) != ALL || flat(machine) != ALL {
+        Err(remembered(machine))?
     }
     Ok(())
 }
 
 #[test]
-fn a_word_that_there_is_not_is_refused(rt: HostRuntime) -> Result<(), Fail> {
+fn a_fill_keeps_the_other_words_and_a_writeback_carries_all(rt: HostRuntime) -> Result<(), Fail> {
     let mut machine = machine_of_words(rt.alloc())?;
+    fill(&mut machine)?;
+    hit_and_evict(&mut machine)
+}
+
+fn ask_outside(machine: &mut Machine) -> Result<(), Fail> {
     for (word, op) in [(4, Op::Load), (4, Op::Store(5)), (u32::MAX, Op::Store(5))] {
         if machine.step(ask_word(0, word, op)) != Err(Refused::NoBlock) {
             Err(word)?
@@ -130,6 +134,13 @@ fn a_word_that_there_is_not_is_refused(rt: HostRuntime) -> Result<(), Fail> {
     if machine.step(ask_word(0, u32::MAX, Op::Evict)) != Ok(Reply::Absent) {
         Err("an eviction's word")?
     }
+    Ok(())
+}
+
+#[test]
+fn a_word_that_there_is_not_is_refused(rt: HostRuntime) -> Result<(), Fail> {
+    let mut machine = machine_of_words(rt.alloc())?;
+    ask_outside(&mut machine)?;
     if machine.waiting(0) || !machine.log().is_empty() {
         Err("something has changed")?
     }
