@@ -15,7 +15,7 @@ pub fn nanos_each(count: u64, time: Duration) -> u128 {
     time.as_nanos() / (count as u128).max(1)
 }
 
-/// How many times as long the first takes.
-pub fn ratio(time: Duration, other: Duration) -> f64 {
-    time.as_secs_f64() / other.as_secs_f64()
+/// How long the first takes, in hundredths of the other.
+pub fn per_cent(time: Duration, other: Duration) -> u128 {
+    time.as_nanos().saturating_mul(100) / other.as_nanos().max(1)
 }
