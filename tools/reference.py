@@ -6,16 +6,17 @@ core in plain dictionaries, and it recomputes the report from the whole history 
 text is reported as the program reports it (a line on standard error, status 1, nothing on standard output).
 
   steps    the line of each step of a text of steps, then the report, as `snoop steps`
-  run      the same for a text of rows, as `snoop run`
+  run      the same for a text of rows, as `snoop run`; with --serial as `snoop run --serial`
   states   a Markdown table with a row for each step: its line, the state of one block (--block) in each core that ever holds it,
            memory's state and memory's value (its values, where the block has several words)
   getters  all that a machine's getters answer after each step, as crates/snoop_getters prints it
-  storm    makes a text of random steps
+  storm    makes a text of random steps, or with --rows of random rows
   crowd    the output of a long text, or a text of many rows, as a rule writes it, without the machine below
   table    a controller's table, as `snoop table`
 
     tools/reference.py steps --protocol mesi < examples/silent_upgrade.steps
     tools/reference.py run --protocol mesi < examples/producer_and_consumer.rows
+    tools/reference.py run --serial < examples/producer_and_consumer.rows
     tools/reference.py states --protocol mesi < examples/silent_upgrade.steps
     tools/reference.py states --block 1 < examples/two_blocks_open.steps
     tools/reference.py getters --protocol mesi --cores 2 --blocks 1 < examples/silent_upgrade.steps
@@ -472,16 +473,29 @@ def run(options, text):
     lines.report()
 
 
+def run_serial(options, text):
+    """The lines of the steps that serve the rows one after another, in the order of the text, then the report: where a
+    row issues a request, that is ordered and answered before the next row is asked."""
+    lines = Lines(options)
+    for kind, numbers in records(options, text):
+        block, word = lines.place(numbers[1])
+        if lines.ask(numbers[0], block, word, operation(kind, numbers)).startswith("issued"):
+            lines.order(numbers[0])
+            lines.respond(block)
+    lines.report()
+
+
 def storm(options):
-    """Random steps of every kind, core, block and word, from a linear congruential generator."""
+    """Random steps of every kind, core, block and word, or random rows, from a linear congruential generator."""
     x = options.seed
+    kinds = 3 if options.rows else 5
     for n in range(1, options.count + 1):
         x = (x * 6364136223846793005 + 1442695040888963407) % 2**64
         k = x >> 33
-        core, block = k // 5 % options.cores, k // (5 * options.cores) % options.blocks
-        word = k // (5 * options.cores * options.blocks) % options.words
+        core, block = k // kinds % options.cores, k // (kinds * options.cores) % options.blocks
+        word = k // (kinds * options.cores * options.blocks) % options.words
         address = block * options.block_bytes + word * (options.block_bytes // options.words)
-        print((f"L,{core},{address}", f"S,{core},{address},{n}", f"E,{core},{address}", f"O,{core}", f"R,{address}")[k % 5])
+        print((f"L,{core},{address}", f"S,{core},{address},{n}", f"E,{core},{address}", f"O,{core}", f"R,{address}")[k % kinds])
 
 
 def all_cores_store(_):
@@ -554,6 +568,8 @@ def main():
     parser.add_argument("--blocks", type=int, default=4, help="how many blocks of memory, 1 to 65536 (default 4)")
     parser.add_argument("--block-bytes", type=int, default=64, help="bytes of a block, a power of two up to 4096 (default 64)")
     parser.add_argument("--words", type=int, default=1, help="words of a block, a power of two up to 64; several have 8 bytes or more each (default 1)")
+    parser.add_argument("--serial", action="store_true", help="run: each row is served whole before the next one of the text is asked")
+    parser.add_argument("--rows", action="store_true", help="storm: rows in place of steps")
     parser.add_argument("--block", type=int, default=0, metavar="N", help="states: the number of the block (default 0)")
     parser.add_argument("--which", choices=("cache", "memory"), default="cache", help="table: whose table (default cache)")
     parser.add_argument("--count", type=int, default=1000, help="storm: how many steps; crowd: how many blocks or rows, where that is open (default 1000)")
@@ -565,11 +581,13 @@ def main():
         parser.error("no such words: a power of two up to 64, and 8 bytes or more for each of several")
     if (options.command == "crowd") != (options.name is not None):
         parser.error("`crowd` takes a name, and no other command does")
+    if options.serial and options.command != "run":
+        parser.error("only `run` takes --serial")
     try:
         if options.command in ("storm", "crowd", "table"):
             {"storm": storm, "crowd": crowd, "table": table}[options.command](options)
         else:
-            {"steps": steps, "run": run, "states": states, "getters": getters}[options.command](options, sys.stdin.buffer.read())
+            {"steps": steps, "run": run_serial if options.serial else run, "states": states, "getters": getters}[options.command](options, sys.stdin.buffer.read())
         sys.stdout.flush()
     except BrokenPipeError:  # the reader has gone; nothing is left to flush at the end
         os.dup2(os.open(os.devnull, os.O_WRONLY), sys.stdout.fileno())

@@ -39,6 +39,8 @@ CASES = [
     (["run", "--words", "2"], ROWS + b"S,0,32,7\nL,1,32\n"),
     (["run", "--block-bytes", "4096", "--words", "64"], ROWS + b"S,0,4095,7\nL,1,4095\n"),
     (["run"], b"O,0\n"),
+    (["run", "--serial"], ROWS),
+    (["run", "--serial", "--words", "2"], ROWS + b"S,0,32,7\nL,1,32\n"),
     (["threads", "--cores", "1"], ALONE),
     (["threads", "--cores", "1", "--words", "2"], ALONE + b"S,0,32,7\nL,0,32\n"),
     (["threads", "--cores", "1"], b"O,0\n"),

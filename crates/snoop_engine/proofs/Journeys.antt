@@ -44,7 +44,7 @@ none_open : (n : ℕ) → count_by is_some (replicate n (the_open None)) ≡ 0
 none_open zero = refl
 none_open (suc n) = omega (arith, sum_by-cons (λ (t : Option Open). cond (is_some t) 1 0) None (replicate n None), none_open n)
 
-owed_reset : (protocol : Protocol) (shape : Extent) → owed (reset protocol shape) ≡ 0
+pub owed_reset : (protocol : Protocol) (shape : Extent) → owed (reset protocol shape) ≡ 0
 owed_reset protocol shape = omega (arith, none_wait shape.cores, none_open shape.blocks)
 
 pub way_begins : (start : Progress) → IsOnTheWay start [] [] start

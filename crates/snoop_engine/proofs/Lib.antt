@@ -7,3 +7,5 @@ pub mod Dealing
 pub mod Journeys
 pub mod DrivenLemmas
 pub mod Packing
+pub mod RowLemmas
+pub mod SerialLemmas

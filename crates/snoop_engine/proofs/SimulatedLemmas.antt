@@ -69,7 +69,7 @@ begins_report protocol shape steps from to words items a b c start these last fa
     }
 
 -- the lines of a run that goes on
-line_texts_on : (shape : Extent) (first rest : List Step) (outcomes more : List (Result Reply Refused)) (old new : Situation) → FirstRunFrom old first outcomes new
+pub line_texts_on : (shape : Extent) (first rest : List Step) (outcomes more : List (Result Reply Refused)) (old new : Situation) → FirstRunFrom old first outcomes new
     → line_texts shape (first ++ rest) (outcomes ++ more) ≡ line_texts shape first outcomes ++ line_texts shape rest more
 line_texts_on shape [] rest [] more old new run = refl
 line_texts_on shape (s ∷ ss) rest (o ∷ os) more old new run =
@@ -79,7 +79,7 @@ line_texts_on shape [] rest (o ∷ os) more old new run = absurd run
 line_texts_on shape (s ∷ ss) rest [] more old new run = absurd run
 
 -- a run, and then one from where it has led
-runs_on : (first rest : List Step) (outcomes more : List (Result Reply Refused)) (old middle new : Situation) → FirstRunFrom old first outcomes middle → FirstRunFrom middle rest more new → FirstRunFrom old (first ++ rest) (outcomes ++ more) new
+pub runs_on : (first rest : List Step) (outcomes more : List (Result Reply Refused)) (old middle new : Situation) → FirstRunFrom old first outcomes middle → FirstRunFrom middle rest more new → FirstRunFrom old (first ++ rest) (outcomes ++ more) new
 runs_on [] rest [] more old middle new run later = subst (λ (s : Situation). FirstRunFrom s rest more new) run later
 runs_on (s ∷ ss) rest (o ∷ os) more old middle new run later = (run.0, (run.1.0, runs_on ss rest os more run.0 middle new run.1.1 later))
 runs_on [] rest (o ∷ os) more old middle new run later = absurd run

@@ -9,3 +9,6 @@ pub mod Served
 pub mod Journey
 pub mod Driven
 pub mod SimulatedRun
+pub mod Serial
+pub mod SimulatedSerial
+pub mod OneRow

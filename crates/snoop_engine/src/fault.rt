@@ -3,7 +3,7 @@
 use snoop_trace::{TextFault, WriteFault};
 use thiserror::Error;
 
-/// Why a simulation stopped. After `Text` nothing was written; what was written at the others, `simulate_steps` and `simulate_run` say.
+/// Why a simulation stopped. After `Text` nothing was written; what was written at the others, each simulation says.
 #[derive(Clone, Copy, Debug, PartialEq, Eq, Error)]
 pub enum SimFault {
     #[error(transparent)]

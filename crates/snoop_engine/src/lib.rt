@@ -8,8 +8,10 @@ mod lane;
 mod line;
 mod packed;
 mod run;
+mod serial;
 mod steps;
 
 pub use fault::SimFault;
 pub use run::simulate_run;
+pub use serial::simulate_serial;
 pub use steps::simulate_steps;

@@ -12,7 +12,7 @@ use Rattle.snoop_engine.specs.declared.fault.SimFault.TheVariants.{NoMemory}
 use Rattle.snoop_sim.specs.declared.failure.Failure.{Failure}
 use Rattle.snoop_sim.specs.declared.failure.Failure.TheVariants.{CommandLine, NoCommand, NotUtf8, Shape, Simulation, Threads as ThreadsFailure}
 use Rattle.snoop_sim.specs.declared.options.Task.{Task}
-use Rattle.snoop_sim.specs.declared.options.Task.TheVariants.{Help, Steps, Run, Threads, Table}
+use Rattle.snoop_sim.specs.declared.options.Task.TheVariants.{Help, Steps, Run, Serial, Threads, Table}
 
 -- `clap` says what it finds in the words of such a command line
 is_simple_snoop : (steps run threads table tables : Names) → is_simple (snoop_app steps run threads table tables) ≡ true
@@ -40,6 +40,7 @@ asked app words None task snoop well named has = absurd has
 asked app words (Some command) (Help help) snoop well named has = absurd has
 asked app words (Some command) (Steps protocol shape) snoop well named has = (app, snoop, (well, subst (λ c. HasTask c (Steps protocol shape)) named has))
 asked app words (Some command) (Run protocol shape) snoop well named has = (app, snoop, (well, subst (λ c. HasTask c (Run protocol shape)) named has))
+asked app words (Some command) (Serial protocol shape) snoop well named has = (app, snoop, (well, subst (λ c. HasTask c (Serial protocol shape)) named has))
 asked app words (Some command) (Threads protocol shape) snoop well named has = (app, snoop, (well, subst (λ c. HasTask c (Threads protocol shape)) named has))
 asked app words (Some command) (Table protocol which) snoop well named has = (app, snoop, (well, subst (λ c. HasTask c (Table protocol which)) named has))
 

@@ -14,7 +14,7 @@ use Rattle.std.specs.Result.{OkIff}
 use Rattle.snoop_trace.specs.Extent.{Extent, IsBlockCount, IsBlockSize, IsCoreCount, IsWordCount}
 use Rattle.snoop_trace.specs.declared.shape.ShapeFault.{ShapeFault}
 use Rattle.snoop_trace.specs.declared.shape.ShapeFault.TheVariants.{BadCores, BadBlocks, BadBytes, BadWords}
-use Rattle.snoop_sim.specs.Options.{IsNumberOf, IsShape, protocol_named, which_named}
+use Rattle.snoop_sim.specs.Options.{IsNumberOf, IsShape, asks_serial, protocol_named, which_named}
 
 -- a text that is compared with another is found equal where it is equal
 equal : (a b : List ℕ) → a ≡ b → bytes_eq a b ≡ true
@@ -67,6 +67,24 @@ memory_not_named f name given other =
 -- no table was named
 pub no_table_named : (f : Found) → first_value f (codes "which") ≡ None → Cache ≡ which_named (first_of (codes "which") (rows_of f))
 no_table_named f given = rw (sym (first_value-rows f (codes "which")) ∙ given) refl
+
+-- the flag was set
+pub serial_set : (f : Found) (text : List ℕ) → first_value f (codes "serial") ≡ Some text → text ≡ codes "true"
+    → true ≡ asks_serial (first_of (codes "serial") (rows_of f))
+serial_set f text given same =
+    let is = equal _ _ same in
+    rw (sym (first_value-rows f (codes "serial")) ∙ given, is) refl
+
+-- the flag has another value
+pub serial_not_set : (f : Found) (text : List ℕ) → first_value f (codes "serial") ≡ Some text → (text ≡ codes "true" → ⊥)
+    → false ≡ asks_serial (first_of (codes "serial") (rows_of f))
+serial_not_set f text given other =
+    let is = unequal _ _ other in
+    rw (sym (first_value-rows f (codes "serial")) ∙ given, is) refl
+
+-- there is no flag
+pub no_serial : (f : Found) → first_value f (codes "serial") ≡ None → false ≡ asks_serial (first_of (codes "serial") (rows_of f))
+no_serial f given = rw (sym (first_value-rows f (codes "serial")) ∙ given) refl
 
 -- a number that is read by `get_one` and is 0 where there is none
 pub number_named : {E : Type 0} (f : Found) (name : List ℕ) (gives : List ℕ → Result ℕ E → Type 0) (read : Option ℕ)

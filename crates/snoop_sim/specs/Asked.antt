@@ -1,18 +1,18 @@
 -- What the words of a command line ask for, and why nothing is begun for them.
 -- Source: this project's profile.
-use Rattle.std.specs.Prelude.{⊤, ◌≡◌, ◌≢◌, ◌⊎◌, List, [], Option, Some, None, Ok, Err, codes}
+use Rattle.std.specs.Prelude.{⊤, ◌≡◌, ◌≢◌, ◌⊎◌, true, false, List, [], Option, Some, None, Ok, Err, codes}
 use Rattle.clap.specs.Words.{App, IsAmong, Row, Text, fault_of, first_of, kind_of, subcommand_of}
 use Rattle.clap.specs.declared.error.kind.ErrorKind.{ErrorKind}
 use Rattle.clap.specs.declared.error.kind.ErrorKind.TheVariants.{DisplayHelp, DisplayVersion}
 use Rattle.snoop_trace.specs.Extent.{Extent}
 use Rattle.snoop_trace.specs.declared.protocol.Protocol.{Protocol}
 use Rattle.snoop_sim.specs.CommandLine.{IsSnoop}
-use Rattle.snoop_sim.specs.Options.{IsShapeOf, protocol_named, which_named}
+use Rattle.snoop_sim.specs.Options.{IsShapeOf, asks_serial, protocol_named, which_named}
 use Rattle.snoop_engine.specs.declared.fault.SimFault.TheVariants.{NoMemory}
 use Rattle.snoop_sim.specs.declared.failure.Failure.{Failure}
 use Rattle.snoop_sim.specs.declared.failure.Failure.TheVariants.{CommandLine, NoCommand, Shape, Simulation}
 use Rattle.snoop_sim.specs.declared.options.Task.{Task}
-use Rattle.snoop_sim.specs.declared.options.Task.TheVariants.{Help, Steps, Run, Threads, Table}
+use Rattle.snoop_sim.specs.declared.options.Task.TheVariants.{Help, Steps, Run, Serial, Threads, Table}
 
 -- the protocol and the shape that the options name
 abbrev pub Sets : List Row → Protocol → Extent → Type 0
@@ -22,7 +22,8 @@ Sets options protocol shape = (protocol ≡ protocol_named (first_of (codes "pro
 abbrev pub IsTaskOf : Text × List Row → Task → Type 0
 IsTaskOf command (Help help) = ⊥
 IsTaskOf (name, options) (Steps protocol shape) = (name ≡ codes "steps") × Sets options protocol shape
-IsTaskOf (name, options) (Run protocol shape) = (name ≡ codes "run") × Sets options protocol shape
+IsTaskOf (name, options) (Run protocol shape) = (name ≡ codes "run") × (asks_serial (first_of (codes "serial") options) ≡ false) × Sets options protocol shape
+IsTaskOf (name, options) (Serial protocol shape) = (name ≡ codes "run") × (asks_serial (first_of (codes "serial") options) ≡ true) × Sets options protocol shape
 IsTaskOf (name, options) (Threads protocol shape) = (name ≡ codes "threads") × Sets options protocol shape
 IsTaskOf (name, options) (Table protocol which) = (name ≡ codes "table") × (protocol ≡ protocol_named (first_of (codes "protocol") options)) × (which ≡ which_named (first_of (codes "which") options))
 

@@ -3,6 +3,7 @@
 use Rattle.std.specs.Prelude.{◌≡◌, ℕ, List, [], ◌∷◌, Some, codes, map, true, false, pos}
 use Rattle.std.specs.Borrow.{Bor}
 use Rattle.clap.specs.Words.{App, Rule, new_app, new_rule, with_rule, with_subcommand}
+use Rattle.clap.specs.declared.builder.action.ArgAction.TheVariants.{SetTrue}
 use Rattle.clap.specs.declared.builder.command.Command.{Command}
 use Rattle.clap.specs.declared.builder.command.Command.TheViews.{out-Command}
 use Rattle.clap.specs.declared.builder.value_parser.ValueParser.{ValueParser}
@@ -39,6 +40,14 @@ simulation_app name protocols =
     (number_rule (codes "cores") (codes "2"))) (number_rule (codes "blocks") (codes "4"))) (number_rule (codes "block-bytes") (codes "64")))
     (number_rule (codes "words") (codes "1"))
 
+-- the flag `--serial`
+abbrev pub serial_rule : Rule
+serial_rule = record (new_rule (codes "serial")) { long = Some (codes "serial"); action = Some SetTrue }
+
+-- the command that serves rows: it has that flag too
+abbrev pub run_app : Names → App
+run_app protocols = with_rule (simulation_app (codes "run") protocols) serial_rule
+
 -- the command that writes a table
 abbrev pub table_app : Names → Names → App
 table_app protocols tables =
@@ -52,7 +61,7 @@ top_app = let new = new_app (codes "snoop") in record new { top = record new.top
 abbrev pub snoop_app : Names → Names → Names → Names → Names → App
 snoop_app steps run threads table tables =
     with_subcommand (with_subcommand (with_subcommand (with_subcommand top_app
-    (simulation_app (codes "steps") steps).top) (simulation_app (codes "run") run).top) (simulation_app (codes "threads") threads).top) (table_app table tables).top
+    (simulation_app (codes "steps") steps).top) (run_app run).top) (simulation_app (codes "threads") threads).top) (table_app table tables).top
 
 -- `clap`'s description of it
 abbrev pub IsSnoop : App → Type 0

@@ -1,6 +1,6 @@
 -- What the options of a command say.
 -- Source: this project's profile.
-use Rattle.std.specs.Prelude.{◌≡◌, ◌⊎◌, ◌<◌, ◌^◌, ℕ, List, Option, Some, None, Result, Ok, Err, if◌then◌else◌, codes, true, false}
+use Rattle.std.specs.Prelude.{◌≡◌, ◌⊎◌, ◌<◌, ◌^◌, ℕ, List, Option, Some, None, Result, Ok, Err, Bool, if◌then◌else◌, codes, true, false}
 use Rattle.std.specs.Str.Parse.{IsNumeral, digits_value, without_leading_plus}
 use Rattle.clap.specs.Words.{Row, one_of, same_text}
 use Rattle.snoop_trace.specs.Extent.{Extent, IsBlockCount, IsBlockSize, IsCoreCount, IsWordCount}
@@ -15,6 +15,11 @@ use Rattle.snoop_rules.specs.declared.table_text.Which.TheVariants.{Cache, Memor
 abbrev pub protocol_named : Option (List ℕ) → Protocol
 protocol_named None = Msi
 protocol_named (Some text) = if same_text true text (codes "mesi") then Mesi else Msi
+
+-- whether the rows are served one after another: where the flag is set
+abbrev pub asks_serial : Option (List ℕ) → Bool
+asks_serial None = false
+asks_serial (Some text) = same_text false text (codes "true")
 
 -- the memory controller's table where it is named; else the cache controllers'
 abbrev pub which_named : Option (List ℕ) → Which

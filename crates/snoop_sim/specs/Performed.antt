@@ -9,6 +9,7 @@ use Rattle.clap.specs.Words.{Text}
 use Rattle.snoop_sim.specs.Asked.{Asks, Refuses}
 use Rattle.snoop_engine.specs.Simulated.{Simulates}
 use Rattle.snoop_engine.specs.SimulatedRun.{SimulatesRun}
+use Rattle.snoop_engine.specs.SimulatedSerial.{SimulatesSerial}
 use Rattle.snoop_sim.specs.Threaded.{SimulatesThreads}
 use Rattle.snoop_sim.specs.Status.{status_of}
 use Rattle.snoop_engine.specs.declared.fault.SimFault.{SimFault}
@@ -18,7 +19,7 @@ use Rattle.snoop_sim.specs.declared.fault.ThreadsFault.TheVariants.{Text as Rows
 use Rattle.snoop_sim.specs.declared.failure.Failure.{Failure}
 use Rattle.snoop_sim.specs.declared.failure.Failure.TheVariants.{Simulation, Threads as ThreadsFailure}
 use Rattle.snoop_sim.specs.declared.options.Task.{Task}
-use Rattle.snoop_sim.specs.declared.options.Task.TheVariants.{Help, Steps, Run, Threads, Table}
+use Rattle.snoop_sim.specs.declared.options.Task.TheVariants.{Help, Steps, Run, Serial, Threads, Table}
 
 -- a text was written whole; or, out of memory, nothing; or, where a write failed, a beginning; there was none to refuse
 abbrev pub Writes : List ℕ → Result (Unit {0}) SimFault → Option (List ℕ) → Option (List ℕ) → Type 0
@@ -37,6 +38,7 @@ abbrev pub Performs : Task → Option (List ℕ) → Result (Unit {0}) Failure �
 Performs (Help help) input ending old new = (text : List ℕ) × EndsAs Simulation ending (λ done. Writes text done old new)
 Performs (Steps protocol shape) input ending old new = EndsAs Simulation ending (λ done. Simulates protocol shape input done old new)
 Performs (Run protocol shape) input ending old new = EndsAs Simulation ending (λ done. SimulatesRun protocol shape input done old new)
+Performs (Serial protocol shape) input ending old new = EndsAs Simulation ending (λ done. SimulatesSerial protocol shape input done old new)
 Performs (Threads protocol shape) input ending old new = EndsAs ThreadsFailure ending (λ done. SimulatesThreads protocol shape input done old new)
 Performs (Table protocol which) input ending old new = EndsAs Simulation ending (λ done. Writes (table_text protocol which) done old new)
 

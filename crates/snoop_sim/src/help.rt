@@ -113,8 +113,7 @@ Example: printf 'S,0,0,5\\nL,1,0\\n' | snoop run
 
 Snoop finds the bus steps itself: O,core orders the core's oldest request, and
 R,address brings the response. `run` keeps the order of each core's lines alone, and
-lets the cores go side by side. To keep the order of the whole text, as of a trace:
-  awk -F, '{print; print \"O,\"$2; print \"R,\"$3}' FILE | snoop steps"
+lets the cores go side by side; --serial keeps the order of the whole text."
     replies
     report
     faults "L, S or E" "L and E take 2 numbers, S 3"

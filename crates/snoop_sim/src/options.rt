@@ -2,13 +2,13 @@
 ghost use Rattle.std.specs.Prelude.{◌≡◌, IfErr, IfOk, codes, false, map, string_bytes};
 ghost use Rattle.clap.specs.Words.{app_of, first_of, found_of, one_of, rows_of, rule_of, subcommand_rows_of};
 ghost use Rattle.snoop_sim.specs.Asked.{Asks, HasNoTask, HasTask, Refuses};
-ghost use Rattle.snoop_sim.specs.CommandLine.{IsLocal, IsProtocols, IsSnoop, IsTables, Names, number_rule, protocol_rule, simulation_app, table_app};
-ghost use Rattle.snoop_sim.specs.Options.{IsNumberOf, IsShapeOf, protocol_named, which_named};
+ghost use Rattle.snoop_sim.specs.CommandLine.{IsLocal, IsProtocols, IsSnoop, IsTables, Names, number_rule, protocol_rule, serial_rule, simulation_app, table_app};
+ghost use Rattle.snoop_sim.specs.Options.{IsNumberOf, IsShapeOf, asks_serial, protocol_named, which_named};
 
 use crate::failure::Failure;
 use crate::help;
 use clap::builder::ValueParser;
-use clap::{Arg, ArgMatches, Command, Error, value_parser};
+use clap::{Arg, ArgAction, ArgMatches, Command, Error, value_parser};
 use snoop_rules::{Protocol, Which};
 use snoop_trace::{Shape, ShapeFault};
 use std::alloc::{AllocError, Global};
@@ -19,6 +19,7 @@ pub(crate) enum Task {
     Help(Error),
     Steps(Protocol, Shape),
     Run(Protocol, Shape),
+    Serial(Protocol, Shape),
     Threads(Protocol, Shape),
     Table(Protocol, Which),
 }
@@ -45,6 +46,9 @@ fn task_of(matches: &ArgMatches) -> Result<Task, Failure>
 {
     match matches.subcommand() {
         Some(("table", options)) => Ok(Task::Table(protocol_in(options), which_in(options))),
+        Some(("run", options)) if is_serial(options) => {
+            Ok(Task::Serial(protocol_in(options), shape_in(options)?))
+        }
         Some(("run", options)) => Ok(Task::Run(protocol_in(options), shape_in(options)?)),
         Some(("threads", options)) => Ok(Task::Threads(protocol_in(options), shape_in(options)?)),
         Some(("steps", options)) => Ok(Task::Steps(protocol_in(options), shape_in(options)?)),
@@ -73,7 +77,8 @@ fn grammar<'a>(alloc: Global) -> Result<Command<'a>, AllocError>
             "run",
             "Read what each core does; write each step's reply and a report",
             help::RUN,
-        )?)?
+        )?
+        .arg(serial(alloc))?)?
         .subcommand(simulation(
             alloc,
             "threads",
@@ -143,6 +148,15 @@ fn protocol<'a>(alloc: Global) -> Arg<'a>
         .default_value("msi")
 }
 
+fn serial<'a>(alloc: Global) -> Arg<'a>
+    ensures { (result.global ≡ false) × (rule_of result ≡ serial_rule) }
+{
+    Arg::new(alloc, "serial")
+        .long("serial")
+        .help("Do each line whole before the next, in the order of the text")
+        .action(ArgAction::SetTrue)
+}
+
 fn number<'a>(alloc: Global, name: &'a str, default: &'a str, help: &'a str) -> Arg<'a>
     ensures { (result.global ≡ false) × (rule_of result ≡ number_rule name.entry.now default.entry.now) }
 {
@@ -160,6 +174,16 @@ fn protocol_in(options: &ArgMatches) -> Protocol
     match options.get_str("protocol") {
         Some(name) if name.eq_ignore_ascii_case("mesi") => Protocol::Mesi,
         _ => Protocol::Msi,
+    }
+}
+
+/// Whether the rows are served one after another.
+fn is_serial(options: &ArgMatches) -> bool
+    ensures { result ≡ asks_serial (first_of (codes "serial") (rows_of (found_of options.now))) }
+{
+    match options.get_str("serial") {
+        Some("true") => true,
+        _ => false,
     }
 }
 

@@ -1,7 +1,9 @@
-//! The three simulations, each with a worked text.
+//! The four simulations, each with a worked text.
 
 use snoop_rules::Protocol;
-use snoop_sim::{SimFault, ThreadsFault, simulate_run, simulate_steps, simulate_threads};
+use snoop_sim::{
+    SimFault, ThreadsFault, simulate_run, simulate_serial, simulate_steps, simulate_threads,
+};
 use snoop_trace::streams::{Sink, Source};
 use snoop_trace::{Shape, TextFault, WriteFault};
 use std::alloc::Global;
@@ -47,6 +49,25 @@ writebacks 0 clean 0 stale 1
 block 0 value 2
 ";
 
+/// The same rows, one after another.
+const SERIAL_OUTPUT: &str = "\
+S,0,0,1: issued GetM
+O,0: ordered GetM
+R,0: Data from memory, store 1
+E,0,0: issued PutM
+O,0: ordered PutM
+R,0: Data from core 0
+S,1,0,2: issued GetM
+O,1: ordered GetM
+R,0: Data from memory, store 2
+loads 0 hits 0
+stores 2 hits 0
+GetS 0 GetM 2 PutM 1
+from memory 2 from caches 0
+writebacks 1 clean 0 stale 0
+block 0 value 2
+";
+
 /// Rows of core 0 alone, so that its thread's steps are known: it stores, evicts and loads in one block.
 const ALONE: &str = "S,0,0,4\nE,0,0\nL,0,0\n";
 
@@ -57,16 +78,17 @@ const ALONE_STEPS: &str = "V,2,msi,2,4,64,1\nS,0,0,4\nO,0\nR,0\nE,0,0\nO,0\nR,0\
 pub enum Engine {
     Steps,
     Run,
+    Serial,
     Threads,
 }
 
-pub static ENGINES: [Engine; 3] = [Engine::Steps, Engine::Run, Engine::Threads];
+pub static ENGINES: [Engine; 4] = [Engine::Steps, Engine::Run, Engine::Serial, Engine::Threads];
 
 impl Engine {
     pub fn text(self) -> &'static [u8] {
         match self {
             Engine::Steps => STEPS.as_bytes(),
-            Engine::Run => ROWS.as_bytes(),
+            Engine::Run | Engine::Serial => ROWS.as_bytes(),
             Engine::Threads => ALONE.as_bytes(),
         }
     }
@@ -76,6 +98,7 @@ impl Engine {
         match self {
             Engine::Steps => STEPS_OUTPUT.as_bytes(),
             Engine::Run => ROWS_OUTPUT.as_bytes(),
+            Engine::Serial => SERIAL_OUTPUT.as_bytes(),
             Engine::Threads => ALONE_STEPS.as_bytes(),
         }
     }
@@ -93,6 +116,7 @@ impl Engine {
         match self {
             Engine::Steps => steps_ended(simulate_steps(alloc, reader, writer, protocol, shape)),
             Engine::Run => steps_ended(simulate_run(alloc, reader, writer, protocol, shape)),
+            Engine::Serial => steps_ended(simulate_serial(alloc, reader, writer, protocol, shape)),
             Engine::Threads => threads_ended(simulate_threads(
                 rt, alloc, reader, writer, protocol, shape,
             )),

@@ -62,3 +62,8 @@ fn steps_leave_a_beginning_of_their_output(rt: HostRuntime) -> Result<(), Fail> 
 fn rows_leave_a_beginning_of_their_output(rt: HostRuntime) -> Result<(), Fail> {
     leaves_a_beginning(&rt, rt.alloc(), Engine::Run)
 }
+
+#[test]
+fn rows_in_their_order_leave_a_beginning_of_their_output(rt: HostRuntime) -> Result<(), Fail> {
+    leaves_a_beginning(&rt, rt.alloc(), Engine::Serial)
+}

@@ -2,8 +2,8 @@ use Rattle.std.proofs.Common.{ap, codes}
 use Rattle.std.proofs.lemmas.Result.{IfOk-weaker}
 use Rattle.clap.specs.Words.{new_app}
 use Rattle.clap.specs.Simple.{app_of_fields}
-use Rattle.snoop_sim.specs.CommandLine.{simulation_app, table_app, top_app}
-use Rattle.snoop_sim.proofs.CommandLineLemmas.{Describes, adds_command, keeps_description, requires_command, sets_version}
+use Rattle.snoop_sim.specs.CommandLine.{run_app, serial_rule, simulation_app, table_app, top_app}
+use Rattle.snoop_sim.proofs.CommandLineLemmas.{Describes, DescribesOption, adds_command, adds_option, keeps_description, requires_command, sets_version}
 use Rattle.snoop_sim.proofs.options.grammar.Goals as goal
 
 pub returns : goal.returns
@@ -15,7 +15,9 @@ returns c =
     let helped = keeps_description c.about.result c.after_help.result _ (ap (λ f. f.has_globals) c.after_help.ensures) (ap app_of_fields c.after_help.ensures) explained in
     let start : Describes c.subcommand_required.result top_app = requires_command c.after_help.result c.subcommand_required.result _ c.subcommand_required.ensures helped in
     let steps : Describes c.in_ok-simulation.field-0 (simulation_app (codes "steps") c.in_ok-simulation.ensures.1.0) = record { local = c.in_ok-simulation.ensures.0; is = c.in_ok-simulation.ensures.1.2 } in
-    let run : Describes c.in_ok-simulation-2.field-0 (simulation_app (codes "run") c.in_ok-simulation-2.ensures.1.0) = record { local = c.in_ok-simulation-2.ensures.0; is = c.in_ok-simulation-2.ensures.1.2 } in
+    let rounds : Describes c.in_ok-simulation-2.field-0 (simulation_app (codes "run") c.in_ok-simulation-2.ensures.1.0) = record { local = c.in_ok-simulation-2.ensures.0; is = c.in_ok-simulation-2.ensures.1.2 } in
+    let serial : DescribesOption c.serial.result serial_rule = record { local = c.serial.ensures.0; is = c.serial.ensures.1 } in
+    let run : Describes c.in_ok-arg.field-0 (run_app c.in_ok-simulation-2.ensures.1.0) = adds_option _ _ c.in_ok-arg.field-0 _ _ rounds serial c.in_ok-arg.ensures in
     let threads : Describes c.in_ok-simulation-3.field-0 (simulation_app (codes "threads") c.in_ok-simulation-3.ensures.1.0) = record { local = c.in_ok-simulation-3.ensures.0; is = c.in_ok-simulation-3.ensures.1.2 } in
     let table : Describes c.in_ok-table.field-0 (table_app c.in_ok-table.ensures.1.0 c.in_ok-table.ensures.1.1) = record { local = c.in_ok-table.ensures.0; is = c.in_ok-table.ensures.1.4 } in
     let one = adds_command _ _ c.in_ok-subcommand.field-0 _ _ start steps c.in_ok-subcommand.ensures in
