@@ -146,7 +146,7 @@ struct Asked {
     rows: Option<u64>,
 }
 
-fn asked(words: &[String]) -> Result<Asked> {
+fn read_words(words: &[String]) -> Result<Asked> {
     let steps = number(words, 1)? as u64;
     let shape = Shape::new(number(words, 2)?, number(words, 3)?, 64)?;
     let rows = if words.len() > 4 {
@@ -160,7 +160,7 @@ fn asked(words: &[String]) -> Result<Asked> {
 fn main(rt: HostRuntime) -> Result<()> {
     let alloc = rt.alloc();
     let words: Vec<String> = std::env::args(&rt)?.collect(alloc)?;
-    let Asked { steps, shape, rows } = asked(&words)?;
+    let Asked { steps, shape, rows } = read_words(&words)?;
     measure_steps(&rt, alloc, steps, shape)?;
     match rows {
         Some(rows) => measure_threads(&rt, alloc, rows, shape.blocks()),
