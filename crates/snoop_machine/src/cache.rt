@@ -62,6 +62,7 @@ impl<B: Block> Entry<B> {
         }
     }
 
+    #[inline(always)]
     fn line(&self) -> Line<Kept<B>>
         ensures { result ≡ self.now }
     {
@@ -124,6 +125,7 @@ impl<B: Block> Cache<B> {
     }
 
     /// What the core holds of the block.
+    #[inline(always)]
     pub(crate) fn get(&self, block: u32) -> Line<Kept<B>>
         ensures { result ≡ line_in self.now block }
     {
