@@ -105,13 +105,24 @@ def stored(values, word, value):
     return values[:word] + (value,) + values[word + 1:]
 
 
+class Sparse(dict):
+    """A table that has the same first entry wherever nothing was put in."""
+
+    def __init__(self, first):
+        super().__init__()
+        self.first = first
+
+    def __missing__(self, key):
+        return self.first
+
+
 class Machine:
     def __init__(self, protocol, cores, blocks, words):
         self.cache, self.memory_table = tables()[protocol]
         self.cores, self.blocks = cores, blocks
         first = "IorS" if protocol == "msi" else "I"
-        self.line = {(c, b): Line("I", None, None) for c in range(cores) for b in range(blocks)}
-        self.memory = {b: (first, (0,) * words) for b in range(blocks)}
+        self.line = Sparse(Line("I", None, None))
+        self.memory = Sparse((first, (0,) * words))
         self.open = {}
         self.queues = {c: [] for c in range(cores)}
         self.items = []
