@@ -1,5 +1,6 @@
 mod lines;
 mod memory;
+mod memory_states;
 mod runs;
 mod steps;
 mod storm;

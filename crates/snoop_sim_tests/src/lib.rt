@@ -8,6 +8,8 @@ mod failures;
 #[cfg(test)]
 mod memory;
 #[cfg(test)]
+mod messages;
+#[cfg(test)]
 mod streams;
 #[cfg(test)]
 mod threads;

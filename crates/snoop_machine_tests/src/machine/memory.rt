@@ -1,16 +1,16 @@
 //! Out of memory: each test passes with any one growth refused. tools/refusals.py refuses each in turn.
 
-use crate::machine::support::{UPGRADE_RACE, two_cores};
+use crate::machine::support::{RACE_ANSWERS, UPGRADE_RACE, two_cores};
 use snoop_bus::Open;
 use snoop_history::{Item, Totals};
-use snoop_machine::{Machine, Refused};
+use snoop_machine::{Machine, Refused, Reply};
 use snoop_rules::{CacheState, MemState, Protocol};
 use snoop_trace::{Shape, Step};
 use std::alloc::Global;
 use std::test::Fail;
 
-/// What a machine shows of block 0: what both caches and memory hold, its waiting requests and its transaction; and of its history how many
-/// items there are, the last one and the counts.
+/// What a machine shows of block 0: what both caches and memory hold, its waiting requests and its transaction; and of its history the
+/// first eight items, of which the race has no more, how many there are, and the counts.
 #[derive(Clone, Copy, PartialEq, Eq)]
 struct BlockSeen {
     caches: [Option<CacheState>; 2],
@@ -18,9 +18,10 @@ struct BlockSeen {
     memory: Option<MemState>,
     value: Option<u64>,
     waiting: [bool; 2],
+    waits_on: [bool; 2],
     open: Option<Open>,
     items: usize,
-    last: Option<Item>,
+    history: [Option<Item>; 8],
     totals: Totals,
 }
 
@@ -35,10 +36,20 @@ fn seen_of(machine: &Machine) -> BlockSeen {
         kept: [machine.kept(0, 0, 0), machine.kept(1, 0, 0)],
         memory: machine.mem_state(0),
         value: machine.mem_value(0, 0),
-        waiting: [machine.waits_on(0, 0), machine.waits_on(1, 0)],
+        waiting: [machine.waiting(0), machine.waiting(1)],
+        waits_on: [machine.waits_on(0, 0), machine.waits_on(1, 0)],
         open: machine.open(0),
         items: log.len(),
-        last: log.item(log.len().wrapping_sub(1)),
+        history: [
+            log.item(0),
+            log.item(1),
+            log.item(2),
+            log.item(3),
+            log.item(4),
+            log.item(5),
+            log.item(6),
+            log.item(7),
+        ],
         totals: log.totals(),
     }
 }
@@ -52,33 +63,29 @@ fn at_reset(alloc: Global) -> Result<Machine, Fail> {
     }
 }
 
-/// Takes the step, again after a refused growth, which changes nothing. Of the race, one step alone is refused. Answers whether the
-/// step was taken.
-fn take(machine: &mut Machine, step: Step) -> Result<bool, Fail> {
+/// Takes the step, again after a refused growth, which changes nothing. Answers what the step was answered then.
+fn take(machine: &mut Machine, step: Step) -> Result<Result<Reply, Refused>, Fail> {
     let (seen, lines) = (seen_of(machine), lines_of(machine));
-    let mut outcome = machine.step(step);
-    if outcome == Err(Refused::NoMemory) {
-        if seen_of(machine) != seen || lines_of(machine) != lines {
-            Err(step)?
-        }
-        outcome = machine.step(step);
+    let outcome = machine.step(step);
+    if outcome != Err(Refused::NoMemory) {
+        return Ok(outcome);
     }
-    match outcome {
-        Ok(_) => Ok(true),
-        Err(Refused::BusTaken(0)) => Ok(false),
-        Err(cause) => Err(cause)?,
+    if seen_of(machine) != seen || lines_of(machine) != lines {
+        Err(step)?
     }
+    Ok(machine.step(step))
 }
 
-/// Takes the race, of which one step is refused.
+/// Takes the race, whose answers are what they are without refused growths.
 fn take_race(machine: &mut Machine) -> Result<(), Fail> {
-    let mut taken = 0_u32;
-    for step in &UPGRADE_RACE {
-        taken = taken.saturating_add(u32::from(take(machine, *step)?));
+    for (step, (answer, ..)) in UPGRADE_RACE.iter().zip(&RACE_ANSWERS) {
+        if take(machine, *step)? != *answer {
+            Err(*step)?
+        }
     }
     let log = machine.log();
-    if taken != 12 || log.flat(0, 0) != Some(5) || log.len() != 8 {
-        Err(taken)?
+    if log.flat(0, 0) != Some(5) || log.len() != 8 {
+        Err("the history")?
     }
     Ok(())
 }

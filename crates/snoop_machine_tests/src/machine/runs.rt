@@ -59,6 +59,26 @@ fn ends_with(machine: &Machine, item: Item, totals: Totals) -> bool {
     log.item(log.len().saturating_sub(1)) == Some(item) && log.totals() == totals
 }
 
+/// The first core's store, whose data memory sends.
+const FIRST_STORE: Item = Item::Came(
+    Came {
+        core: 0,
+        request: Request::GetM,
+        block: 0,
+        from: None,
+        payload: Payload::Data,
+    },
+    Some(Did {
+        core: 0,
+        number: 0,
+        block: 0,
+        word: 0,
+        load: false,
+        value: 0,
+        hit: false,
+    }),
+);
+
 const LAST_STORE: Item = Item::Came(
     Came {
         core: 255,
@@ -90,7 +110,7 @@ fn waiting_stores(alloc: Global) -> Result<Vec<Step>, Fail> {
     Ok(steps)
 }
 
-/// Whether the last core has stored last.
+/// Whether the first core has stored what memory sent it, and the last core last.
 fn has_last_store(machine: &Machine) -> bool {
     let totals = Totals {
         stores: 256,
@@ -99,7 +119,9 @@ fn has_last_store(machine: &Machine) -> bool {
         from_caches: 255,
         ..Totals::default()
     };
-    machine.kept(255, 0, 0) == Some(255) && ends_with(machine, LAST_STORE, totals)
+    machine.kept(255, 0, 0) == Some(255)
+        && machine.log().item(1) == Some(FIRST_STORE)
+        && ends_with(machine, LAST_STORE, totals)
 }
 
 #[test]
@@ -113,11 +135,11 @@ fn every_core_stores_after_the_one_before_it(rt: HostRuntime) -> Result<(), Fail
     Ok(())
 }
 
-/// Each core stores the block and asks to evict it, and only then are the evictions ordered.
+/// Each core stores one more than its number and asks to evict the block, and only then are the evictions ordered.
 fn late_evictions(alloc: Global) -> Result<Vec<Step>, Fail> {
     let mut steps = Vec::new(alloc);
     for core in 0..256_u32 {
-        let store = ask(core, 0, Op::Store(core as u64));
+        let store = ask(core, 0, Op::Store(core as u64 + 1));
         let evict = ask(core, 0, Op::Evict);
         steps.extend_from_slice(&[store, order(core), respond(0), evict])?;
     }
@@ -152,7 +174,8 @@ fn has_last_writeback(machine: &Machine) -> bool {
         ..Totals::default()
     };
     machine.kept(255, 0, 0).is_none()
-        && machine.mem_value(0, 0) == Some(255)
+        && machine.mem_value(0, 0) == Some(256)
+        && machine.log().flat(0, 0) == Some(256)
         && ends_with(machine, WRITTEN_BACK, totals)
 }
 

@@ -1,7 +1,8 @@
 //! What the tests share.
 
-use snoop_machine::Machine;
-use snoop_rules::Protocol;
+use snoop_history::Did;
+use snoop_machine::{Machine, Refused, Reply};
+use snoop_rules::{CacheState, MemState, Payload, Protocol, Request};
 use snoop_trace::{Op, Shape, Step};
 use std::alloc::Global;
 use std::test::Fail;
@@ -42,6 +43,133 @@ pub static UPGRADE_RACE: [Step; 13] = [
     Step::Order { core: 0 },
     Step::Respond { block: 0 },
 ];
+
+/// The answers of the upgrade race, and after each step the states of block 0: in core 0, in core 1 and in memory.
+pub static RACE_ANSWERS: [(Result<Reply, Refused>, CacheState, CacheState, MemState); 13] = [
+    (
+        Ok(Reply::Issued(Request::GetS)),
+        CacheState::IsAd,
+        CacheState::I,
+        MemState::IorS,
+    ),
+    (
+        Ok(Reply::Ordered(Request::GetS)),
+        CacheState::IsD,
+        CacheState::I,
+        MemState::IorS,
+    ),
+    (
+        Ok(Reply::Came {
+            payload: Payload::Data,
+            from: None,
+            did: Some(FIRST_LOAD),
+        }),
+        CacheState::S,
+        CacheState::I,
+        MemState::IorS,
+    ),
+    (
+        Ok(Reply::Issued(Request::GetS)),
+        CacheState::S,
+        CacheState::IsAd,
+        MemState::IorS,
+    ),
+    (
+        Ok(Reply::Ordered(Request::GetS)),
+        CacheState::S,
+        CacheState::IsD,
+        MemState::IorS,
+    ),
+    (
+        Ok(Reply::Came {
+            payload: Payload::Data,
+            from: None,
+            did: Some(Did {
+                core: 1,
+                ..FIRST_LOAD
+            }),
+        }),
+        CacheState::S,
+        CacheState::S,
+        MemState::IorS,
+    ),
+    (
+        Ok(Reply::Issued(Request::GetM)),
+        CacheState::SmAd,
+        CacheState::S,
+        MemState::IorS,
+    ),
+    (
+        Ok(Reply::Issued(Request::GetM)),
+        CacheState::SmAd,
+        CacheState::SmAd,
+        MemState::IorS,
+    ),
+    (
+        Ok(Reply::Ordered(Request::GetM)),
+        CacheState::ImAd,
+        CacheState::SmD,
+        MemState::M,
+    ),
+    (
+        Err(Refused::BusTaken(0)),
+        CacheState::ImAd,
+        CacheState::SmD,
+        MemState::M,
+    ),
+    (
+        Ok(Reply::Came {
+            payload: Payload::Data,
+            from: None,
+            did: Some(STORE_OF_6),
+        }),
+        CacheState::ImAd,
+        CacheState::M,
+        MemState::M,
+    ),
+    (
+        Ok(Reply::Ordered(Request::GetM)),
+        CacheState::ImD,
+        CacheState::I,
+        MemState::M,
+    ),
+    (
+        Ok(Reply::Came {
+            payload: Payload::Data,
+            from: Some(1),
+            did: Some(Did {
+                core: 0,
+                value: 5,
+                ..STORE_OF_6
+            }),
+        }),
+        CacheState::M,
+        CacheState::I,
+        MemState::M,
+    ),
+];
+
+/// Core 0 loads block 0 as its first operation.
+const FIRST_LOAD: Did = Did {
+    core: 0,
+    number: 0,
+    block: 0,
+    word: 0,
+    load: true,
+    value: 0,
+    hit: false,
+};
+
+/// Core 1 stores 6 in block 0 as its second operation.
+const STORE_OF_6: Did = Did {
+    core: 1,
+    number: 1,
+    block: 0,
+    word: 0,
+    load: false,
+    value: 6,
+    hit: false,
+};
 
 /// So many cores, four blocks of 64 bytes.
 pub fn machine_of(alloc: Global, protocol: Protocol, cores: u32) -> Result<Machine, Fail> {

@@ -63,7 +63,7 @@ IsByTable block old (Ask core on word asking) new = ⊤
 abbrev pub MovesAreByTable : Situation → Type 0
 MovesAreByTable s = (block : ℕ) (step : Step) (answer : Reply) (new : Situation) (entry : Option Item) → MoveOn block s step answer new entry → IsByTable block s step new
 
--- the open transaction is on a line of the table: its request and its payload, sent by memory, or by a core that was in this state; memory's state is the line's after the Order, and `done` is the line's after the Respond; at a PutM the sender is the requestor itself
+-- the open transaction is on a line of the table: its request and its payload, sent by memory where the line says so, and else by a core; memory's state is the line's after the Order, and `done` is the line's after the Respond; at a PutM the sender is the requestor itself
 pub record IsOnLine (protocol : Protocol) (transaction : Open) (memory done : MemState) : Type 0 where
   pub before : MemState
   pub held : CacheState

@@ -1,0 +1,121 @@
+//! What a command line is answered: its status, and what is written and reported.
+
+use snoop_sim::command;
+use std::alloc::Global;
+use std::sync::Wait;
+use std::test::Fail;
+use std::thread::Threads;
+
+/// A command line and its text, the status that it ends with, and what is reported. Nothing is written.
+type Refusal = (&'static str, &'static [u8], u8, &'static [u8]);
+
+static REFUSALS: [Refusal; 16] = [
+    (
+        "snoop steps",
+        b"L,0,x\n",
+        1,
+        b"snoop: record 1: BadNumber\n",
+    ),
+    (
+        "snoop steps",
+        b"L,0,0\nX,0\n",
+        1,
+        b"snoop: record 2: BadKind\n",
+    ),
+    ("snoop run", b"O,0\n", 1, b"snoop: record 1: BadKind\n"),
+    (
+        "snoop run --serial",
+        b"S,0,0\n",
+        1,
+        b"snoop: record 1: BadFields\n",
+    ),
+    ("snoop threads", b"L,2,0\n", 1, b"snoop: record 1: NoCore\n"),
+    (
+        "snoop threads",
+        b"L,0,256\n",
+        1,
+        b"snoop: record 1: NoBlock\n",
+    ),
+    (
+        "snoop steps",
+        b"V,2,mesi,2,4,64,1\n",
+        1,
+        b"snoop: record 1: OtherShape\n",
+    ),
+    ("snoop steps", b"V,3\n", 1, b"snoop: record 1: BadVersion\n"),
+    (
+        "snoop run",
+        b"V,2,msi,2,4,64,1\n",
+        1,
+        b"snoop: record 1: BadKind\n",
+    ),
+    ("snoop steps --cores 0", b"X\n", 2, b"snoop: BadCores\n"),
+    (
+        "snoop steps --cores 257 --blocks 0",
+        b"",
+        2,
+        b"snoop: BadCores\n",
+    ),
+    ("snoop run --blocks 65537", b"", 2, b"snoop: BadBlocks\n"),
+    (
+        "snoop threads --block-bytes 3",
+        b"",
+        2,
+        b"snoop: BadBytes\n",
+    ),
+    ("snoop steps --words 3", b"", 2, b"snoop: BadWords\n"),
+    ("snoop run --words 16", b"", 2, b"snoop: BadWords\n"),
+    ("snoop threads --words 128", b"", 2, b"snoop: BadWords\n"),
+];
+
+/// MSI's table of memory.
+const MSI_MEMORY: &[u8] = b"IorS,GetS,send Data,IorS
+IorS,GetM,send Data,M
+IorS,PutM,none,IorS_D
+M,GetS,none,IorS_D
+M,GetM,none,M
+M,PutM,none,M_D
+IorS_D,Data,write,IorS
+IorS_D,NoData,none,IorS
+M_D,Data,write,IorS
+M_D,NoData,none,M
+";
+
+/// Does what the line asks for. Answers the status, what is written and what is reported.
+fn answered<T: Threads + Wait + Sync>(
+    rt: &T,
+    alloc: Global,
+    line: &str,
+    text: &[u8],
+) -> Result<(u8, Vec<u8>, Vec<u8>), Fail> {
+    let mut words = Vec::new(alloc);
+    for word in line.split(' ') {
+        words.push(String::from_str(alloc, word)?)?;
+    }
+    let mut reader = text;
+    let mut written = Vec::new(alloc);
+    let mut reported = Vec::new(alloc);
+    let status = command(rt, alloc, &words, &mut reader, &mut written, &mut reported);
+    Ok((status, written, reported))
+}
+
+#[test]
+fn what_is_refused_is_named(rt: HostRuntime) -> Result<(), Fail> {
+    for (line, text, expected, named) in REFUSALS {
+        let (status, written, reported) = answered(&rt, rt.alloc(), line, text)?;
+        if status != expected || !written.is_empty() || reported.as_slice() != named {
+            Err(line)?
+        }
+    }
+    Ok(())
+}
+
+#[test]
+fn a_table_is_written_as_it_is_asked_for(rt: HostRuntime) -> Result<(), Fail> {
+    let line = "snoop table --which memory --protocol MSI";
+    let (status, written, reported) = answered(&rt, rt.alloc(), line, b"")?;
+    if status != 0 || written.as_slice() != MSI_MEMORY || !reported.is_empty() {
+        Err(status)?
+    }
+    Ok(())
+}
