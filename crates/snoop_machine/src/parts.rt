@@ -1,5 +1,5 @@
 //! The parts of a machine, which its steps change one after another.
-ghost use Rattle.std.specs.Prelude.{◌≡◌, ◌<◌, ◌≤◌, ◌↔◌, ℕ, length, option_map, is_some, IsTrue, IfOk, IfSome, Some};
+ghost use Rattle.std.specs.Prelude.{◌≡◌, ◌<◌, ◌≤◌, ◌↔◌, ℕ, length, option_map, is_some, IsTrue, IfOk, IfSome, Some, position, ◌==◌};
 ghost use Rattle.snoop_trace.specs.Words.{AreZeroFrom, word_at};
 ghost use Rattle.snoop_bus.specs.Queues.{queue_of};
 ghost use Rattle.snoop_rules.specs.Waits.{waiting_request};
@@ -205,6 +205,13 @@ impl<B: Block> Parts<B> {
             Some((_, first)) if first == block => true,
             Some(_) => waits(self.line(core, block).state),
         }
+    }
+
+    /// How many requests of the core are older than the one for the block, if that one waits.
+    pub(crate) fn place(&self, core: u32, block: u32) -> Option<usize>
+        ensures { result ≡ position (λ waiting. waiting == block) (queue_of self.now.situation.queues core) }
+    {
+        self.bus.place(core, block)
     }
 
     /// How many lines the core's map has, or `None` outside the shape.
