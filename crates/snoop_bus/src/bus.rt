@@ -1,5 +1,5 @@
 //! The bus of a machine.
-ghost use Rattle.std.specs.Prelude.{◌≡◌, ◌-◌, ◌<◌, ◌≤◌, ◌↔◌, [], ◌∷◌, ◌++◌, length, replicate, All, IsTrue, IsNone, IsSome, IfOk, OnOk, OnErr, IfSome, None, position, slice_set, ◌==◌};
+ghost use Rattle.std.specs.Prelude.{◌≡◌, ◌+◌, ◌-◌, ◌<◌, ◌≤◌, ◌↔◌, [], ◌∷◌, ◌++◌, length, replicate, All, IsTrue, IsNone, IsSome, IfOk, OnOk, OnErr, IfSome, None, option_map, position, slice_set, ◌==◌};
 ghost use Rattle.snoop_bus.specs.Traffic.{Waiting, waiting_of, head_of, transaction_on, Starts};
 
 use crate::queues::Queue;
@@ -95,9 +95,9 @@ impl<K: Copy> Bus<K> {
         self.queues.get(core as usize)?.head()
     }
 
-    /// How many requests of the core are older than the one for the block, if that one waits.
+    /// The place of the core's request for the block, if it waits, the oldest request's being 1.
     pub fn place(&self, core: u32, block: u32) -> Option<usize>
-        ensures { result ≡ position (λ request. request.1 == block) (waiting_of self.now core).requests }
+        ensures { result ≡ option_map (λ older. older + 1) (position (λ request. request.1 == block) (waiting_of self.now core).requests) }
     {
         self.queues.get(core as usize)?.place(block)
     }

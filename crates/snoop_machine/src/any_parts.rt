@@ -1,5 +1,5 @@
 //! The parts of a machine, by how many words a block has.
-ghost use Rattle.snoop_bus.specs.Queues.{queue_of};
+ghost use Rattle.snoop_bus.specs.Queues.{place_in, queue_of};
 ghost use Rattle.snoop_history.specs.declared.items.Item.{Item};
 ghost use Rattle.snoop_model.specs.Invariant.Invariant.{Invariant};
 ghost use Rattle.snoop_model.specs.Moves.Holding.{HoldsOn, HasHeldLines};
@@ -16,7 +16,7 @@ ghost use Rattle.snoop_model.specs.declared.replies.Refused.{Refused};
 ghost use Rattle.snoop_model.specs.declared.replies.Refused.TheVariants.{NoMemory as OutOfMemory};
 ghost use Rattle.snoop_rules.specs.Waits.{waiting_request};
 ghost use Rattle.snoop_trace.specs.Words.{AreZeroFrom, word_at};
-ghost use Rattle.std.specs.Prelude.{◌≡◌, ◌<◌, ◌↔◌, ℕ, length, option_map, is_some, IsTrue, IfOk, IfSome, Some, ◌+◌, ◌++◌, true, Option, IfErr, IfNone, IsOk, Err, None, option_to_list, position, slice_get, ◌==◌};
+ghost use Rattle.std.specs.Prelude.{◌≡◌, ◌<◌, ◌↔◌, ℕ, length, option_map, is_some, IsTrue, IfOk, IfSome, Some, ◌+◌, ◌++◌, true, Option, IfErr, IfNone, IsOk, Err, None, option_to_list, slice_get};
 ghost use Rattle.snoop_machine.specs.AnyParts.{stand};
 
 use crate::parts::Parts;
@@ -150,9 +150,9 @@ impl AnyParts {
         each!(self, parts => parts.head(core))
     }
 
-    /// How many requests of the core are older than the one for the block, if that one waits.
+    /// The place of the core's request for the block, if it waits, the oldest request's being 1.
     pub(crate) fn place(&self, core: u32, block: u32) -> Option<usize>
-        ensures { result ≡ position (λ waiting. waiting == block) (queue_of (stand self.now).situation.queues core) }
+        ensures { result ≡ place_in (queue_of (stand self.now).situation.queues core) block }
     {
         each!(self, parts => parts.place(core, block))
     }

@@ -1,9 +1,9 @@
 //! The machine, as its users have it.
-ghost use Rattle.std.specs.Prelude.{◌≡◌, ◌<◌, ◌↔◌, ◌++◌, ℕ, [], ◌∷◌, length, option_map, Option, true, is_some, IsTrue, IsOk, IfOk, IfErr, IfSome, IfNone, Ok, Err, Some, None, option_to_list, position, slice_get, ◌==◌};
+ghost use Rattle.std.specs.Prelude.{◌≡◌, ◌<◌, ◌↔◌, ◌++◌, ℕ, [], ◌∷◌, length, option_map, Option, true, is_some, IsTrue, IsOk, IfOk, IfErr, IfSome, IfNone, Ok, Err, Some, None, option_to_list, slice_get};
 ghost use Rattle.snoop_trace.specs.Words.{AreZeroFrom, word_at};
 ghost use Rattle.snoop_trace.specs.declared.step.Step.{Step};
 ghost use Rattle.snoop_rules.specs.Waits.{waiting_request};
-ghost use Rattle.snoop_bus.specs.Queues.{queue_of};
+ghost use Rattle.snoop_bus.specs.Queues.{place_in, queue_of};
 ghost use Rattle.snoop_history.specs.declared.items.Item.{Item};
 ghost use Rattle.snoop_history.specs.History.{flat};
 ghost use Rattle.snoop_model.specs.declared.replies.Refused.{Refused};
@@ -205,10 +205,10 @@ impl Machine {
         self.parts.head(core)
     }
 
-    /// How many requests of the core are older than the one for the block and wait, or `None` where the one for the block
-    /// does not wait, and outside the shape.
+    /// The place of the core's request for the block among those that wait, the oldest's being 1; `None` where it does not
+    /// wait, and outside the shape.
     pub fn place(&self, core: u32, block: u32) -> Option<usize>
-        ensures { result ≡ position (λ waiting. waiting == block) (queue_of self.now.situation.queues core) }
+        ensures { result ≡ place_in (queue_of self.now.situation.queues core) block }
     {
         self.parts.place(core, block)
     }

@@ -1,7 +1,7 @@
 //! The parts of a machine, which its steps change one after another.
-ghost use Rattle.std.specs.Prelude.{◌≡◌, ◌<◌, ◌≤◌, ◌↔◌, ℕ, length, option_map, is_some, IsTrue, IfOk, IfSome, Some, position, ◌==◌};
+ghost use Rattle.std.specs.Prelude.{◌≡◌, ◌<◌, ◌≤◌, ◌↔◌, ℕ, length, option_map, is_some, IsTrue, IfOk, IfSome, Some};
 ghost use Rattle.snoop_trace.specs.Words.{AreZeroFrom, word_at};
-ghost use Rattle.snoop_bus.specs.Queues.{queue_of};
+ghost use Rattle.snoop_bus.specs.Queues.{place_in, queue_of};
 ghost use Rattle.snoop_rules.specs.Waits.{waiting_request};
 ghost use Rattle.snoop_model.specs.Pictures.Picture.{first_memory, held_by};
 ghost use Rattle.snoop_model.specs.Pictures.Situation.{no_memory, picture_of, reset, state_of};
@@ -207,9 +207,9 @@ impl<B: Block> Parts<B> {
         }
     }
 
-    /// How many requests of the core are older than the one for the block, if that one waits.
+    /// The place of the core's request for the block, if it waits, the oldest request's being 1.
     pub(crate) fn place(&self, core: u32, block: u32) -> Option<usize>
-        ensures { result ≡ position (λ waiting. waiting == block) (queue_of self.now.situation.queues core) }
+        ensures { result ≡ place_in (queue_of self.now.situation.queues core) block }
     {
         self.bus.place(core, block)
     }
