@@ -14,3 +14,5 @@ pub mod StatedLemmas
 pub mod RangeLemmas
 pub mod Inside
 pub mod TextLemmas
+pub mod AllLines
+pub mod TrueLines

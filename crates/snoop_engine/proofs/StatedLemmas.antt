@@ -18,6 +18,7 @@ use Rattle.snoop_engine.specs.Simulated.{Reads}
 use Rattle.snoop_engine.specs.SimulatedStates.{BeginsStates, ReportsStates, SimulatesStates, WritesStates, WritesStatesFront}
 use Rattle.snoop_engine.specs.States.{frame_text, frame_texts, header_text, states_text}
 use Rattle.snoop_engine.specs.declared.fault.SimFault.{SimFault}
+use Rattle.snoop_engine.proofs.TrueLines.{lines_true}
 use Rattle.snoop_engine.proofs.FrameLemmas.{are_the_run, framed, frames_on, states_text_more, states_text_on, steps_counted, steps_of_on}
 
 -- the first of the steps were taken, the others are left; the lines of the first were written or stand in the chunk
@@ -94,12 +95,8 @@ module _ (shape : Extent) (from : Situation) (steps left : List Step) (to : Situ
 pub reports_states : (protocol : Protocol) (shape : Extent) (steps : List Step) (from to : Situation) (a b : Option (List ℕ))
     → from ≡ reset protocol shape → WritesStates shape from steps to a b → ReportsStates protocol shape steps a b
 reports_states protocol shape steps from to a b start far =
-    record {
-      frames = far.frames;
-      final = to;
-      run = record { whole = far.whole; run = subst (λ (s : Situation). FramesFrom s far.frames to) start far.run };
-      output = far.lines;
-    }
+    let run : FramesFrom (reset protocol shape) far.frames to = subst (λ (s : Situation). FramesFrom s far.frames to) start far.run in
+    record { frames = far.frames; final = to; run = record { whole = far.whole; run = run }; rows = lines_true protocol shape far.frames to run; output = far.lines }
 
 -- the lines were cut
 pub begins_states : RunsGoOn → (protocol : Protocol) (shape : Extent) (steps : List Step) (from : Situation) (a b : Option (List ℕ))

@@ -15,4 +15,5 @@ pub mod OneRow
 pub mod Frames
 pub mod Taken
 pub mod States
+pub mod TrueLines
 pub mod SimulatedStates

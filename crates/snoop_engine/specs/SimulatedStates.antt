@@ -1,6 +1,6 @@
 -- What the command `states` leaves, by what it answers.
 -- Source: this project's profile.
-use Rattle.std.specs.Prelude.{◌≡◌, ℕ, List, ◌++◌, Option, Result, Ok, Err}
+use Rattle.std.specs.Prelude.{◌≡◌, ℕ, All, List, ◌++◌, Option, Result, Ok, Err}
 use Rattle.std.specs.Io.KnownBytes.{Appends}
 use Rattle.snoop_trace.specs.Extent.{Extent}
 use Rattle.snoop_trace.specs.Output.{AppendsFront}
@@ -10,14 +10,16 @@ use Rattle.snoop_model.specs.Pictures.Situation.{Situation}
 use Rattle.snoop_engine.specs.Frames.{AreFrames, Frame, FramesFrom, steps_of}
 use Rattle.snoop_engine.specs.Simulated.{Reads}
 use Rattle.snoop_engine.specs.States.{states_text}
+use Rattle.snoop_engine.specs.TrueLines.{ShowsRows}
 use Rattle.snoop_engine.specs.declared.fault.SimFault.{SimFault}
 use Rattle.snoop_engine.specs.declared.fault.SimFault.TheVariants.{Text, NoMemory, Write}
 
--- the writer got the states of the run of the steps
+-- the writer got the states of the run of the steps, and its lines are the rows that the controllers take
 pub record ReportsStates (protocol : Protocol) (shape : Extent) (steps : List Step) (old new : Option (List ℕ)) : Type 0 where
   pub frames : List Frame
   pub final : Situation
   pub run : AreFrames protocol shape steps frames final
+  pub rows : All ShowsRows frames
   pub output : Appends old new (states_text shape frames)
 
 -- the writer got a beginning of that
