@@ -1,6 +1,6 @@
 -- No row of a step that is taken is left out of its lines.
-use Rattle.std.proofs.Common.{◌≡◌, ℕ, ◌<◌, ◌≤◌, ◌+◌, Bool, true, false, zero, suc, List, [], ◌∷◌, ◌++◌, length, Option, Some, None, refl, sym, ap, subst, ◌∙◌, inl, inr, lt-ltb, arith}
-use Rattle.std.specs.Prelude.{◌&&◌, Contains, IsTrue as Holds, Result, Ok, nat_lt, slice_get, if◌then◌else◌}
+use Rattle.std.proofs.Common.{◌≡◌, ℕ, ◌<◌, ◌≤◌, ◌+◌, Bool, true, zero, suc, List, [], ◌∷◌, Option, Some, None, refl, sym, ap, subst, ◌∙◌, inl, inr, lt-ltb, arith}
+use Rattle.std.specs.Prelude.{◌&&◌, Contains, Ok, nat_lt, slice_get, if◌then◌else◌}
 use Rattle.std.specs.List.{flat_map, range_with_len}
 use Rattle.std.specs.Option.{option_map_or}
 use Rattle.std.proofs.lemmas.Bool.{cases_eq, cases_lt}
@@ -15,7 +15,6 @@ use Rattle.snoop_rules.specs.declared.names.CacheEvent.{CacheEvent}
 use Rattle.snoop_rules.specs.declared.names.CacheState.{CacheState}
 use Rattle.snoop_rules.specs.declared.names.CacheState.TheVariants.{I, IsAd, IsD, ImAd, ImD, S, SmAd, SmD, E, M, EiA, MiA, IiA}
 use Rattle.snoop_rules.specs.declared.names.MemEvent.{MemEvent}
-use Rattle.snoop_rules.specs.declared.names.MemState.{MemState}
 use Rattle.snoop_rules.specs.declared.names.Request.{Request}
 use Rattle.snoop_rules.specs.declared.names.Request.TheVariants.{GetS, GetM, PutM}
 use Rattle.snoop_rules.specs.Takers.{arrival, arrival_at_memory, asked, at_memory, seen_by, takes_payload}
@@ -23,10 +22,9 @@ use Rattle.snoop_rules.specs.Waits.{waiting_request}
 use Rattle.snoop_bus.specs.Queues.{queue_of}
 use Rattle.snoop_bus.specs.Traffic.{Open}
 use Rattle.snoop_model.specs.declared.replies.Reply.{Reply}
-use Rattle.snoop_model.specs.declared.replies.Refused.{Refused}
 use Rattle.snoop_model.specs.Pictures.Lines.{Line}
-use Rattle.snoop_model.specs.Pictures.Picture.{held_by, nothing_held}
-use Rattle.snoop_model.specs.Pictures.Situation.{CanOrder, Situation, picture_of, state_of}
+use Rattle.snoop_model.specs.Pictures.Picture.{nothing_held}
+use Rattle.snoop_model.specs.Pictures.Situation.{Situation, picture_of, state_of}
 use Rattle.snoop_model.specs.Moves.LookUps.{ConsultsCache, ConsultsMemory}
 use Rattle.snoop_model.specs.Moves.Move.{IsWithin, TakesFirst}
 use Rattle.snoop_model.specs.Runs.Run.{GoesFirst}

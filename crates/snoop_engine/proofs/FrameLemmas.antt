@@ -1,14 +1,13 @@
 -- Frames: as a run, one after another, and as a text.
-use Rattle.std.proofs.Common.{◌≡◌, ℕ, ◌+◌, List, [], ◌∷◌, ◌++◌, length, Option, refl, sym, ap, subst, ◌∙◌, append_assoc, append-nil, arith}
+use Rattle.std.proofs.Common.{◌≡◌, ℕ, ◌+◌, List, [], ◌∷◌, ◌++◌, length, refl, sym, ap, subst, ◌∙◌, append_assoc, append-nil, arith}
 use Rattle.std.specs.Prelude.{Result}
 use Rattle.snoop_trace.specs.Extent.{Extent}
 use Rattle.snoop_trace.specs.declared.step.Step.{Step}
-use Rattle.snoop_trace.specs.declared.protocol.Protocol.{Protocol}
 use Rattle.snoop_model.specs.declared.replies.Reply.{Reply}
 use Rattle.snoop_model.specs.declared.replies.Refused.{Refused}
 use Rattle.snoop_model.specs.Pictures.Situation.{Situation, reset}
 use Rattle.snoop_model.specs.Runs.Run.{FirstRunFrom, GoesFirst}
-use Rattle.snoop_engine.specs.Frames.{AreFrames, Frame, FramesAreTheRun, FramesFrom, IsFrameFrom, outcomes_of, steps_of}
+use Rattle.snoop_engine.specs.Frames.{Frame, FramesAreTheRun, FramesFrom, outcomes_of, steps_of}
 use Rattle.snoop_engine.specs.States.{frame_text, frame_texts, header_text, states_text}
 
 -- frames are a run

@@ -11,9 +11,9 @@ use Rattle.snoop_trace.specs.declared.fault.WriteFault.TheVariants as write
 use Rattle.snoop_trace.proofs.GathersLemmas.{gathers_cut, gathers_done, gathers_more, gathers_spilled, gathers_stop}
 use Rattle.snoop_trace.proofs.OutputLemmas.{appends_none}
 use Rattle.snoop_model.specs.Pictures.Situation.{Situation, reset}
-use Rattle.snoop_model.specs.Runs.Run.{FirstRunFrom, RunsGoOn, TheRun}
+use Rattle.snoop_model.specs.Runs.Run.{RunsGoOn, TheRun}
 use Rattle.snoop_engine.specs.Fault.{written}
-use Rattle.snoop_engine.specs.Frames.{AreFrames, Frame, FramesFrom, IsFrameFrom, outcomes_of, steps_of}
+use Rattle.snoop_engine.specs.Frames.{Frame, FramesFrom, IsFrameFrom, outcomes_of, steps_of}
 use Rattle.snoop_engine.specs.Simulated.{Reads}
 use Rattle.snoop_engine.specs.SimulatedStates.{BeginsStates, ReportsStates, SimulatesStates, WritesStates, WritesStatesFront}
 use Rattle.snoop_engine.specs.States.{frame_text, frame_texts, header_text, states_text}

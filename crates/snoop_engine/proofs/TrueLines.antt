@@ -1,6 +1,6 @@
 -- Each line of the frames of a run is true of its controller.
-use Rattle.std.proofs.Common.{◌≡◌, ℕ, ◌<◌, ◌≤◌, ◌+◌, Bool, true, false, zero, suc, List, [], ◌∷◌, ◌++◌, length, Option, Some, None, refl, sym, ap, subst, ◌∙◌, inl, inr, arith}
-use Rattle.std.specs.Prelude.{◌&&◌, ◌||◌, All, IsOk, IsSomeAnd, MatchBool, Result, Ok, Err, nat_lt, not, slice_get, slice_set, if◌then◌else◌}
+use Rattle.std.proofs.Common.{◌≡◌, ℕ, ◌<◌, ◌+◌, Bool, true, false, zero, suc, List, [], ◌∷◌, length, Option, Some, None, refl, sym, ap, subst, ◌∙◌, inl, inr, arith}
+use Rattle.std.specs.Prelude.{◌&&◌, ◌||◌, All, IsOk, IsSomeAnd, MatchBool, Result, Ok, Err, nat_lt, not, if◌then◌else◌}
 use Rattle.std.specs.List.{flat_map, range_with_len}
 use Rattle.std.specs.Option.{option_map_or}
 use Rattle.std.proofs.lemmas.Bool.{false≢true}
@@ -25,16 +25,14 @@ use Rattle.snoop_rules.specs.declared.names.MemEvent.{MemEvent}
 use Rattle.snoop_rules.specs.declared.names.MemState.{MemState}
 use Rattle.snoop_rules.specs.declared.names.Request.{Request}
 use Rattle.snoop_rules.specs.declared.names.Request.TheVariants.{GetS, GetM, PutM}
-use Rattle.snoop_rules.specs.Cell.{Cell, cell_of}
+use Rattle.snoop_rules.specs.Cell.{Cell}
 use Rattle.snoop_rules.specs.MemoryCell.{MemoryCell}
 use Rattle.snoop_rules.specs.Takers.{arrival, arrival_at_memory, asked, at_memory, seen_by, takes_payload}
-use Rattle.snoop_rules.specs.Waits.{waiting_request}
 use Rattle.snoop_rules.proofs.Every.{all_protocols, all_states, all_events}
 use Rattle.snoop_rules.proofs.Rows.{cell_of-Cell, each_row, each_row-at}
 use Rattle.snoop_rules.proofs.MemRows.{memory_cell_of-MemoryCell}
 use Rattle.snoop_history.specs.declared.items.Did.{Did}
 use Rattle.snoop_history.specs.declared.items.Item.{Item}
-use Rattle.snoop_bus.specs.Queues.{queue_of}
 use Rattle.snoop_bus.specs.Traffic.{Open}
 use Rattle.snoop_model.specs.declared.replies.Reply.{Reply}
 use Rattle.snoop_model.specs.declared.replies.Refused.{Refused}
@@ -42,7 +40,7 @@ use Rattle.snoop_model.specs.declared.replies.Refused.TheVariants.{NoCore, NoBlo
 use Rattle.snoop_model.specs.Pictures.Lines.{Line}
 use Rattle.snoop_model.specs.Pictures.Picture.{Picture, held_at, held_by, nothing_held}
 use Rattle.snoop_model.specs.Pictures.Situation.{Situation, picture_of, reset, state_of}
-use Rattle.snoop_model.specs.Moves.Move.{ArrivesFor, Asks, FillsRequestor, IsWithin, MovesAsk, Orders, Responds, Settles, Takes}
+use Rattle.snoop_model.specs.Moves.Move.{ArrivesFor, FillsRequestor, IsWithin, MovesAsk, Orders, Responds, Settles, Takes}
 use Rattle.snoop_model.specs.Moves.Refuses.{Refuses}
 use Rattle.snoop_model.specs.Runs.Run.{GoesFirst}
 use Rattle.snoop_model.specs.Invariant.Invariant.{Invariant}
@@ -51,7 +49,7 @@ use Rattle.snoop_model.proofs.OneBlock.AfterMoves.{ask_line, order_here, respond
 use Rattle.snoop_model.proofs.Queues.Moves.{keeps_well, starts_well}
 use Rattle.snoop_model.proofs.Runs.GoOn.{IsSteady, steady_on}
 use Rattle.snoop_engine.specs.Frames.{Frame, FramesFrom}
-use Rattle.snoop_engine.specs.Taken.{event_asked, lines_of, memory_at, of_arrival, of_arrival_at_memory, of_ask, of_core, of_holder, of_memory, of_order, of_request, of_requestor, of_respond, of_waiting_memory, refused_by, state_at, taken_by, unless_i}
+use Rattle.snoop_engine.specs.Taken.{event_asked, lines_of, of_arrival, of_arrival_at_memory, of_ask, of_core, of_holder, of_memory, of_order, of_request, of_requestor, of_respond, of_waiting_memory, refused_by, unless_i}
 use Rattle.snoop_engine.specs.TrueLines.{HasAllLines, IsTrue, ShowsRows}
 use Rattle.snoop_engine.proofs.AllLines.{cores_listed, memory_rows_listed}
 use Rattle.snoop_engine.specs.declared.taken.Taken.{Taken}

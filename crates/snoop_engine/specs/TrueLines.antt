@@ -1,6 +1,6 @@
 -- The lines of a step are true: they are rows that its controllers take.
 -- Source: "A Primer on Memory Consistency and Cache Coherence", 2nd edition, chapter 7, whose tables they are.
-use Rattle.std.specs.Prelude.{⊤, ◌≡◌, ℕ, All, Contains, IsOk, Option, Some, None}
+use Rattle.std.specs.Prelude.{⊤, ◌≡◌, ℕ, All, Contains, IsOk, Some, None}
 use Rattle.snoop_trace.specs.declared.step.Step.{Step}
 use Rattle.snoop_trace.specs.declared.step.Step.TheVariants.{Order}
 use Rattle.snoop_rules.specs.declared.names.CacheAction.{CacheAction}

@@ -72,7 +72,8 @@ pub(crate) fn takes_payload(request: Request, state: MemState) -> bool
 {
     match (request, state) {
         (Request::PutM, _)
-        | (_, MemState::IorSD | MemState::MD | MemState::ID | MemState::SD | MemState::EorMD) => true,
+        | (_, MemState::IorSD | MemState::MD | MemState::ID | MemState::SD | MemState::EorMD) =>
+            true,
         _ => false,
     }
 }

@@ -88,7 +88,10 @@ fn push_refusal(out: &mut Vec<u8>, cause: Refused) -> Result<(), NoMemory>
 }
 
 /// Appends what the machine answered.
-pub(crate) fn push_outcome(out: &mut Vec<u8>, outcome: Result<Reply, Refused>) -> Result<(), NoMemory>
+pub(crate) fn push_outcome(
+    out: &mut Vec<u8>,
+    outcome: Result<Reply, Refused>,
+) -> Result<(), NoMemory>
     ensures ok { OnOk result (out.new.items ≡ out.old.items ++ outcome_text outcome) }
 {
     match outcome {

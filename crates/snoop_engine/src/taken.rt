@@ -68,7 +68,15 @@ fn add_core(
 {
     match state_at(machine, core, block) {
         None => Ok(()),
-        Some(before) => add(lines, Taken::Core { core, block, event, before }),
+        Some(before) => add(
+            lines,
+            Taken::Core {
+                core,
+                block,
+                event,
+                before,
+            },
+        ),
     }
 }
 
@@ -82,7 +90,14 @@ fn add_memory(
 {
     match memory_at(machine, block) {
         None => Ok(()),
-        Some(before) => add(lines, Taken::Memory { block, event, before }),
+        Some(before) => add(
+            lines,
+            Taken::Memory {
+                block,
+                event,
+                before,
+            },
+        ),
     }
 }
 
@@ -99,7 +114,15 @@ fn add_ask(
         None => Ok(()),
         Some(before) => {
             let event = event_asked(op, before);
-            add(lines, Taken::Core { core, block, event, before })
+            add(
+                lines,
+                Taken::Core {
+                    core,
+                    block,
+                    event,
+                    before,
+                },
+            )
         }
     }
 }
@@ -127,7 +150,16 @@ fn add_holder(
         None => Ok(()),
         Some(before) => {
             let event = Some(event_seen(core, requestor, request));
-            add_unless_i(lines, before, Taken::Core { core, block, event, before })
+            add_unless_i(
+                lines,
+                before,
+                Taken::Core {
+                    core,
+                    block,
+                    event,
+                    before,
+                },
+            )
         }
     }
 }
@@ -242,7 +274,12 @@ pub(crate) fn add_taken(
     ensures { OnOk result (lines.new.items ≡ lines.old.items ++ taken_by machine.now.situation step) }
 {
     match step {
-        Step::Ask { core, block, word: _, op } => add_ask(lines, machine, core, block, op),
+        Step::Ask {
+            core,
+            block,
+            word: _,
+            op,
+        } => add_ask(lines, machine, core, block, op),
         Step::Order { core } => match machine.head(core) {
             None => Ok(()),
             Some((request, block)) => add_request(lines, machine, core, block, request),
@@ -265,9 +302,15 @@ pub(crate) fn add_refused(
 {
     let nobody = |core, block| Taken::Nobody { core, block };
     match (step, cause) {
-        (Step::Ask { core, block, word: _, op }, Refused::Stalled(_)) => {
-            add_ask(lines, machine, core, block, op)
-        }
+        (
+            Step::Ask {
+                core,
+                block,
+                word: _,
+                op,
+            },
+            Refused::Stalled(_),
+        ) => { add_ask(lines, machine, core, block, op) }
         (Step::Order { core }, Refused::BusTaken(block)) => {
             add_core(lines, machine, core, block, None)
         }

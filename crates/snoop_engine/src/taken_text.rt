@@ -217,20 +217,25 @@ fn push_core_on(out: &mut Vec<u8>, block: u32, core: u32) -> Result<(), NoMemory
 }
 
 /// Appends the fields of a controller, as the machine is after the step.
-pub(crate) fn push_taken(
-    out: &mut Vec<u8>,
-    machine: &Machine,
-    taken: Taken,
-) -> Result<(), NoMemory>
+pub(crate) fn push_taken(out: &mut Vec<u8>, machine: &Machine, taken: Taken) -> Result<(), NoMemory>
     ensures { OnOk result (out.new.items ≡ out.old.items ++ taken_text machine.now.situation taken) }
 {
     match taken {
-        Taken::Core { core, block, event, before } => {
+        Taken::Core {
+            core,
+            block,
+            event,
+            before,
+        } => {
             push_core_on(out, block, core)?;
             push_met(out, machine.protocol(), event, before)?;
             push_now(out, machine, core, block)
         }
-        Taken::Memory { block, event, before } => {
+        Taken::Memory {
+            block,
+            event,
+            before,
+        } => {
             push_decimal(out, block as u64)?;
             push_text(out, ",memory,")?;
             push_memory_met(out, machine.protocol(), event, before)?;
@@ -250,7 +255,13 @@ fn push_reply(out: &mut Vec<u8>, outcome: Result<Reply, Refused>) -> Result<(), 
     ensures { OnOk result (out.new.items ≡ out.old.items ++ reply_field outcome) }
 {
     match outcome {
-        Ok(Reply::Came { payload: _, from: _, did: Some(_) }) => {
+        Ok(
+            Reply::Came {
+                payload: _,
+                from: _,
+                did: Some(_),
+            },
+        ) => {
             push_byte(out, b'"')?;
             push_outcome(out, outcome)?;
             push_byte(out, b'"')
