@@ -134,7 +134,7 @@ def by_reference(options, given):
     output = io.StringIO()
     try:
         with contextlib.redirect_stdout(output):
-            {"steps": reference.steps, "run": reference.run_serial if options.serial else reference.run}[options.command](options, given)
+            {"steps": reference.states_csv if options.states else reference.steps, "run": reference.run_serial if options.serial else reference.run}[options.command](options, given)
     except reference.Faulty as fault:
         return 1, b"", f"snoop: {fault}\n".encode()
     return 0, output.getvalue().encode(), b""
@@ -142,8 +142,8 @@ def by_reference(options, given):
 
 def by_program(options, given):
     """What the program answers."""
-    words = [PROGRAM, options.command, "--protocol", options.protocol, "--cores", str(options.cores), "--blocks", str(options.blocks),
-             "--block-bytes", str(options.block_bytes), "--words", str(options.words)] + ["--serial"] * options.serial
+    words = [PROGRAM, "states" if options.states else options.command, "--protocol", options.protocol, "--cores", str(options.cores), "--blocks", str(options.blocks),
+             "--block-bytes", str(options.block_bytes), "--words", str(options.words)] + ["--serial"] * options.serial + ["--as", "csv"] * options.states
     done = subprocess.run(words, input=given, capture_output=True, check=False)
     return done.returncode, done.stdout, done.stderr
 
@@ -161,6 +161,7 @@ def main():
         options = SimpleNamespace(command=chance.choice(["steps", "steps", "steps", "run"] if asked.headings else ["steps", "run"]), protocol=chance.choice(["msi", "mesi"]),
                                   cores=cores, blocks=blocks, block_bytes=block_bytes, words=words, headings=asked.headings)
         options.serial = options.command == "run" and chance.random() < 0.5
+        options.states = options.command == "steps" and chance.random() < 0.3
         given = text(chance, options)
         expected = by_reference(options, given)
         refused += expected[0] == 1

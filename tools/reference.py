@@ -9,6 +9,7 @@ text is reported as the program reports it (a line on standard error, status 1, 
   run      the same for a text of rows, as `snoop run`; with --serial as `snoop run --serial`
   states   a Markdown table with a row for each step: its line, the state of one block (--block) in each core that ever holds it,
            memory's state and memory's value (its values, where the block has several words)
+           with --as csv a line for each controller that takes a row of its table, as `snoop states --as csv`
   getters  all that a machine's getters answer after each step, as crates/snoop_getters prints it
   storm    makes a text of random steps, or with --rows of random rows
   crowd    the output of a long text, or a text of many rows, as a rule writes it, without the machine below
@@ -25,6 +26,7 @@ text is reported as the program reports it (a line on standard error, status 1, 
     tools/reference.py table --protocol mesi --which memory
 """
 import argparse
+import csv
 import os
 import pathlib
 import re
@@ -416,6 +418,61 @@ def states(options, text):
         print("| " + " | ".join([name if name == "at reset" else f"`{name}`"] + cells) + " |")
 
 
+def controllers(machine, kind, place, numbers):
+    """Who meets what at a step, by the machine before it: the block, the core or "memory", and the event, where there are any."""
+    if kind in "LSE":
+        core, block = numbers[0], place(numbers[1])[0]
+        event = operation(kind, numbers)[0]
+        return [(block, core, None if event == "Evict" and machine.line[core, block].state == "I" else event)]
+    if kind == "O":
+        [core] = numbers
+        if not machine.queues[core]:
+            return [(None, core, None)]
+        block = machine.queues[core][0]
+        if block in machine.open:
+            return [(block, core, None)]
+        request = WAITING[machine.line[core, block].state]
+        holders = [other for other in range(machine.cores) if machine.line[other, block].state != "I"]
+        return [(block, other, ("Own" if other == core else "Other") + request) for other in holders] + [(block, "memory", request)]
+    block = place(numbers[0])[0]
+    if block not in machine.open:
+        return [(block, None, None)]
+    core, request, payload, _, _ = machine.open[block]
+    waits = request == "PutM" or machine.memory[block][0].endswith("_D")
+    return [(block, core, payload)] * (request != "PutM") + [(block, "memory", payload)] * waits
+
+
+def fields_of_controller(machine, block, controller):
+    """A controller's state of a block, the values that it keeps, and the place of the block in its queue."""
+    if controller == "memory":
+        state, values = machine.memory[block]
+        return state, shown_values(values), ""
+    if controller is None or block is None:
+        return "", "", ""
+    state, kept, _ = machine.line[controller, block]
+    queue = machine.queues[controller]
+    return state, "" if kept is None else shown_values(kept), queue.index(block) + 1 if block in queue else ""
+
+
+def states_csv(options, text):
+    """A line for each controller that takes a row of its table at a step, and one for a step at which none does."""
+    out = csv.writer(sys.stdout, lineterminator="\n")
+    out.writerow("step record reply block controller event before action after value place".split())
+    written = []
+    lines = Lines(options, written.append)
+    machine = lines.machine
+    for number, (kind, numbers) in enumerate(records(options, text), 1):
+        met = [(*one, fields_of_controller(machine, *one[:2])[0]) for one in controllers(machine, kind, lines.place, numbers)]
+        lines.take(kind, numbers)
+        record, reply = written.pop().split(": ", 1)
+        for block, controller, event, before in met:
+            table = machine.memory_table if controller == "memory" else machine.cache
+            name = controller if controller in (None, "memory") else f"core {controller}"
+            action = table[before, event][0] if event else None
+            after, values, at = fields_of_controller(machine, block, controller)
+            out.writerow([number, record, reply, block, name, event, before, action, after, values, at])
+
+
 def held(machine, core, block):
     """What a core holds of a block: its state, the values that it keeps, and a mark where its request waits to be ordered."""
     state, kept, _ = machine.line[core, block]
@@ -582,6 +639,7 @@ def main():
     parser.add_argument("--serial", action="store_true", help="run: each row is served whole before the next one of the text is asked")
     parser.add_argument("--rows", action="store_true", help="storm: rows in place of steps")
     parser.add_argument("--block", type=int, default=0, metavar="N", help="states: the number of the block (default 0)")
+    parser.add_argument("--as", dest="form", choices=("csv",), help="states: as `snoop states --as csv` (default a table in Markdown)")
     parser.add_argument("--which", choices=("cache", "memory"), default="cache", help="table: whose table (default cache)")
     parser.add_argument("--count", type=int, default=1000, help="storm: how many steps; crowd: how many blocks or rows, where that is open (default 1000)")
     parser.add_argument("--seed", type=int, default=1, help="storm: where the generator begins (default 1)")
@@ -598,7 +656,7 @@ def main():
         if options.command in ("storm", "crowd", "table"):
             {"storm": storm, "crowd": crowd, "table": table}[options.command](options)
         else:
-            {"steps": steps, "run": run_serial if options.serial else run, "states": states, "getters": getters}[options.command](options, sys.stdin.buffer.read())
+            {"steps": steps, "run": run_serial if options.serial else run, "states": states_csv if options.form else states, "getters": getters}[options.command](options, sys.stdin.buffer.read())
         sys.stdout.flush()
     except BrokenPipeError:  # the reader has gone; nothing is left to flush at the end
         os.dup2(os.open(os.devnull, os.O_WRONLY), sys.stdout.fileno())

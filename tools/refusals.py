@@ -41,6 +41,8 @@ CASES = [
     (["run"], b"O,0\n"),
     (["run", "--serial"], ROWS),
     (["run", "--serial", "--words", "2"], ROWS + b"S,0,32,7\nL,1,32\n"),
+    (["states", "--as", "csv"], RACE),
+    (["states", "--as", "csv", "--words", "8"], WORDS),
     (["threads", "--cores", "1"], ALONE),
     (["threads", "--cores", "1", "--words", "2"], ALONE + b"S,0,32,7\nL,0,32\n"),
     (["threads", "--cores", "1"], b"O,0\n"),

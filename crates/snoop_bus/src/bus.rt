@@ -1,5 +1,5 @@
 //! The bus of a machine.
-ghost use Rattle.std.specs.Prelude.{◌≡◌, ◌-◌, ◌<◌, ◌≤◌, ◌↔◌, [], ◌∷◌, ◌++◌, length, replicate, All, IsTrue, IsNone, IsSome, IfOk, OnOk, OnErr, IfSome, None, slice_set};
+ghost use Rattle.std.specs.Prelude.{◌≡◌, ◌+◌, ◌-◌, ◌<◌, ◌≤◌, ◌↔◌, [], ◌∷◌, ◌++◌, length, replicate, All, IsTrue, IsNone, IsSome, IfOk, OnOk, OnErr, IfSome, None, option_map, position, slice_set, ◌==◌};
 ghost use Rattle.snoop_bus.specs.Traffic.{Waiting, waiting_of, head_of, transaction_on, Starts};
 
 use crate::queues::Queue;
@@ -93,6 +93,13 @@ impl<K: Copy> Bus<K> {
         ensures { result ≡ head_of self.now core }
     {
         self.queues.get(core as usize)?.head()
+    }
+
+    /// The place of the core's request for the block, if it waits, the oldest request's being 1.
+    pub fn place(&self, core: u32, block: u32) -> Option<usize>
+        ensures { result ≡ option_map (λ older. older + 1) (position (λ request. request.1 == block) (waiting_of self.now core).requests) }
+    {
+        self.queues.get(core as usize)?.place(block)
     }
 
     /// The transaction that is open on the block.

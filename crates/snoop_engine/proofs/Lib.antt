@@ -9,3 +9,10 @@ pub mod DrivenLemmas
 pub mod Packing
 pub mod RowLemmas
 pub mod SerialLemmas
+pub mod FrameLemmas
+pub mod StatedLemmas
+pub mod RangeLemmas
+pub mod Inside
+pub mod TextLemmas
+pub mod AllLines
+pub mod TrueLines

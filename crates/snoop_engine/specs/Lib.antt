@@ -12,3 +12,8 @@ pub mod SimulatedRun
 pub mod Serial
 pub mod SimulatedSerial
 pub mod OneRow
+pub mod Frames
+pub mod Taken
+pub mod States
+pub mod TrueLines
+pub mod SimulatedStates

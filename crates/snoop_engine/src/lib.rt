@@ -3,15 +3,20 @@
 
 mod deal;
 mod driver;
+mod events;
 mod fault;
 mod lane;
 mod line;
 mod packed;
 mod run;
 mod serial;
+mod states;
 mod steps;
+mod taken;
+mod taken_text;
 
 pub use fault::SimFault;
 pub use run::simulate_run;
 pub use serial::simulate_serial;
+pub use states::simulate_states;
 pub use steps::simulate_steps;

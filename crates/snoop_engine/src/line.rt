@@ -11,8 +11,8 @@ use snoop_rules::Payload;
 use snoop_trace::streams::{push_byte, push_decimal, push_step, push_text};
 use snoop_trace::{NoMemory, Shape, Step};
 
-// Appends a text and then a number.
-fn push_numbered(out: &mut Vec<u8>, text: &str, number: u64) -> Result<(), NoMemory>
+/// Appends a text and then a number.
+pub(crate) fn push_numbered(out: &mut Vec<u8>, text: &str, number: u64) -> Result<(), NoMemory>
     ensures ok { OnOk result (out.new.items ≡ out.old.items ++ (text.now ++ decimal number)) }
 {
     push_text(out, text)?;
@@ -52,43 +52,47 @@ fn push_came(
     from: Option<u32>,
     did: Option<Did>,
 ) -> Result<(), NoMemory>
-    ensures ok { OnOk result (out.new.items ≡ out.old.items ++ codes ": " ++ reply_text (Came payload from did)) }
+    ensures ok { OnOk result (out.new.items ≡ out.old.items ++ reply_text (Came payload from did)) }
 {
-    push_both(out, ": ", payload.name())?;
+    push_text(out, payload.name())?;
     push_sender(out, from)?;
     push_performed(out, did)
 }
 
 fn push_reply(out: &mut Vec<u8>, reply: Reply) -> Result<(), NoMemory>
-    ensures ok { OnOk result (out.new.items ≡ out.old.items ++ codes ": " ++ reply_text reply) }
+    ensures ok { OnOk result (out.new.items ≡ out.old.items ++ reply_text reply) }
 {
     match reply {
-        Reply::Hit(value) => push_numbered(out, ": hit ", value),
-        Reply::StoreHit => push_text(out, ": store hit"),
-        Reply::Issued(request) => push_both(out, ": issued ", request.name()),
-        Reply::Gone => push_text(out, ": gone"),
-        Reply::Absent => push_text(out, ": absent"),
-        Reply::Ordered(request) => push_both(out, ": ordered ", request.name()),
+        Reply::Hit(value) => push_numbered(out, "hit ", value),
+        Reply::StoreHit => push_text(out, "store hit"),
+        Reply::Issued(request) => push_both(out, "issued ", request.name()),
+        Reply::Gone => push_text(out, "gone"),
+        Reply::Absent => push_text(out, "absent"),
+        Reply::Ordered(request) => push_both(out, "ordered ", request.name()),
         Reply::Came { payload, from, did } => push_came(out, payload, from, did),
     }
 }
 
 fn push_refusal(out: &mut Vec<u8>, cause: Refused) -> Result<(), NoMemory>
-    ensures ok { OnOk result (out.new.items ≡ out.old.items ++ codes ": refused " ++ refusal_text cause) }
+    ensures ok { OnOk result (out.new.items ≡ out.old.items ++ (codes "refused " ++ refusal_text cause)) }
 {
     match cause {
-        Refused::NoCore => push_text(out, ": refused NoCore"),
-        Refused::NoBlock => push_text(out, ": refused NoBlock"),
-        Refused::Stalled(state) => push_both(out, ": refused Stalled ", state.name()),
-        Refused::NothingWaiting => push_text(out, ": refused NothingWaiting"),
-        Refused::BusTaken(block) => push_numbered(out, ": refused BusTaken ", block as u64),
-        Refused::NoTransaction => push_text(out, ": refused NoTransaction"),
-        Refused::NoMemory => push_text(out, ": refused NoMemory"),
+        Refused::NoCore => push_text(out, "refused NoCore"),
+        Refused::NoBlock => push_text(out, "refused NoBlock"),
+        Refused::Stalled(state) => push_both(out, "refused Stalled ", state.name()),
+        Refused::NothingWaiting => push_text(out, "refused NothingWaiting"),
+        Refused::BusTaken(block) => push_numbered(out, "refused BusTaken ", block as u64),
+        Refused::NoTransaction => push_text(out, "refused NoTransaction"),
+        Refused::NoMemory => push_text(out, "refused NoMemory"),
     }
 }
 
-fn push_outcome(out: &mut Vec<u8>, outcome: Result<Reply, Refused>) -> Result<(), NoMemory>
-    ensures ok { OnOk result (out.new.items ≡ out.old.items ++ codes ": " ++ outcome_text outcome) }
+/// Appends what the machine answered.
+pub(crate) fn push_outcome(
+    out: &mut Vec<u8>,
+    outcome: Result<Reply, Refused>,
+) -> Result<(), NoMemory>
+    ensures ok { OnOk result (out.new.items ≡ out.old.items ++ outcome_text outcome) }
 {
     match outcome {
         Ok(reply) => push_reply(out, reply),
@@ -106,6 +110,7 @@ pub(crate) fn push_line(
     ensures ok { OnOk result (out.new.items ≡ out.old.items ++ line_text shape step outcome) }
 {
     push_step(out, shape, step)?;
+    push_text(out, ": ")?;
     push_outcome(out, outcome)?;
     push_byte(out, b'\n')
 }

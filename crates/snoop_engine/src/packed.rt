@@ -143,6 +143,14 @@ impl StepQueue {
         }
     }
 
+    /// How many steps there are.
+    #[tactic(auto, using(crate::proofs::Packing::steps_counted))]
+    pub(crate) fn len(&self) -> usize
+        ensures { result ≡ length self.now }
+    {
+        self.heads.len()
+    }
+
     /// Takes the first step away.
     pub(crate) fn next(&mut self) -> Option<Step>
         ensures first { self.old ≡ option_to_list result ++ self.new }

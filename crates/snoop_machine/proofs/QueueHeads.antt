@@ -3,16 +3,17 @@ use Rattle.std.proofs.Common.{◌≡◌, ℕ, ◌<◌, List, [], ◌∷◌, leng
 use Rattle.std.specs.Prelude.{slice_get, Contains}
 use Rattle.std.proofs.lemmas.Option.{same_Some}
 use Rattle.std.proofs.Common.{inl, inr, true}
-use Rattle.std.specs.Prelude.{is_some}
+use Rattle.std.specs.Prelude.{◌+◌, ◌==◌, is_some, nat_lt, not, option_map, position, if◌then◌else◌}
+use Rattle.std.specs.List.{prefix_len}
 use Rattle.std.proofs.lemmas.Bool.{false≢true}
 use Rattle.std.proofs.lemmas.Bool.{cases_lt}
-use Rattle.std.proofs.lemmas.List.{get_or_past}
+use Rattle.std.proofs.lemmas.List.{get_or_past, length-map}
 use Rattle.snoop_model.specs.Pictures.Picture.{held_at, nothing_held}
 use Rattle.snoop_trace.specs.Extent.{Extent}
 use Rattle.snoop_rules.specs.declared.names.Request.{Request}
 use Rattle.snoop_rules.specs.Waits.{waiting_request}
 use Rattle.snoop_bus.specs.Traffic.{Traffic, waiting_of, head_of}
-use Rattle.snoop_bus.specs.Queues.{queue_of}
+use Rattle.snoop_bus.specs.Queues.{place_in, queue_of}
 use Rattle.snoop_model.specs.Pictures.Lines.{Line, MemLine}
 use Rattle.snoop_model.specs.Pictures.Sound.{IsSound, line_at}
 use Rattle.snoop_machine.specs.PartsView.{queues_of}
@@ -93,3 +94,17 @@ pub empty_from_head : (bus : Traffic) (core : ℕ) → head_of bus core ≡ None
 empty_from_head bus core head =
     let P : List ℕ → Type 0 = λ queue. slice_get queue 0 ≡ None in
     subst P (sym (queue_of-queues_of bus.queues core)) (shows_none (waiting_of bus core).requests head)
+
+prefix_shown : (block : ℕ) (rs : List (Request × ℕ)) → prefix_len (λ (r : Request × ℕ). not (r.1 == block)) rs ≡ prefix_len (λ b. not (b == block)) (blocks_of rs)
+prefix_shown block [] = refl
+prefix_shown block (x ∷ xs) = ap (λ n. if not (x.1 == block) then 1 + n else 0) (prefix_shown block xs)
+
+-- a block's place in the line is that of its request in the queue
+pub place_shown : (bus : Traffic) (core block : ℕ) → option_map (λ older. older + 1) (position (λ (r : Request × ℕ). r.1 == block) (waiting_of bus core).requests) ≡ place_in (queue_of (queues_of bus.queues) core) block
+place_shown bus core block =
+    let rs : List (Request × ℕ) = (waiting_of bus core).requests in
+    let at : ℕ → ℕ → Option ℕ = λ n many. option_map (λ older. older + 1) (if nat_lt n many then Some n else None) in
+    let here : ℕ = prefix_len (λ (r : Request × ℕ). not (r.1 == block)) rs in
+    ap (at here) (sym (length-map rs (λ (r : Request × ℕ). r.1)))
+    ∙ ap (λ n. at n (length (blocks_of rs))) (prefix_shown block rs)
+    ∙ ap (λ queue. place_in queue block) (sym (queue_of-queues_of bus.queues core))

@@ -1,9 +1,10 @@
 //! The parts of a machine, by how many words a block has.
-ghost use Rattle.snoop_bus.specs.Queues.{queue_of};
+ghost use Rattle.snoop_bus.specs.Queues.{place_in, queue_of};
 ghost use Rattle.snoop_history.specs.declared.items.Item.{Item};
 ghost use Rattle.snoop_model.specs.Invariant.Invariant.{Invariant};
 ghost use Rattle.snoop_model.specs.Moves.Holding.{HoldsOn, HasHeldLines};
 ghost use Rattle.snoop_model.specs.Moves.Move.{FirstMove};
+ghost use Rattle.snoop_model.specs.Moves.OrderMove.{IsHead};
 ghost use Rattle.snoop_model.specs.Moves.Prepared.{IsFull, IsPrepared};
 ghost use Rattle.snoop_model.specs.Moves.Refuses.{Refuses};
 ghost use Rattle.snoop_model.specs.Moves.Standing.{lines_of, KeepsRoom};
@@ -15,14 +16,14 @@ ghost use Rattle.snoop_model.specs.declared.replies.Refused.{Refused};
 ghost use Rattle.snoop_model.specs.declared.replies.Refused.TheVariants.{NoMemory as OutOfMemory};
 ghost use Rattle.snoop_rules.specs.Waits.{waiting_request};
 ghost use Rattle.snoop_trace.specs.Words.{AreZeroFrom, word_at};
-ghost use Rattle.std.specs.Prelude.{◌≡◌, ◌<◌, ◌↔◌, ℕ, length, option_map, is_some, IsTrue, IfOk, IfSome, Some, ◌+◌, ◌++◌, true, Option, IfErr, IsOk, Err, option_to_list};
+ghost use Rattle.std.specs.Prelude.{◌≡◌, ◌<◌, ◌↔◌, ℕ, length, option_map, is_some, IsTrue, IfOk, IfSome, Some, ◌+◌, ◌++◌, true, Option, IfErr, IfNone, IsOk, Err, None, option_to_list, slice_get};
 ghost use Rattle.snoop_machine.specs.AnyParts.{stand};
 
 use crate::parts::Parts;
 use snoop_bus::Open;
 use snoop_history::{Item, Log};
 use snoop_model::{Refused, Reply};
-use snoop_rules::{CacheState, MemState, Protocol};
+use snoop_rules::{CacheState, MemState, Protocol, Request};
 use snoop_trace::{Few, NoMemory, Shape, Step};
 use std::alloc::Global;
 
@@ -139,6 +140,21 @@ impl AnyParts {
         ensures { IsTrue result ↔ (0 < length (queue_of (stand self.now).situation.queues core)) }
     {
         each!(self, parts => parts.waiting(core))
+    }
+
+    /// The core's oldest request, and its block.
+    pub(crate) fn head(&self, core: u32) -> Option<(Request, u32)>
+        ensures some { IfSome result (λ head. IsHead (stand self.now).situation core head.0 head.1) }
+        ensures empty { IfNone result (slice_get (queue_of (stand self.now).situation.queues core) 0 ≡ None) }
+    {
+        each!(self, parts => parts.head(core))
+    }
+
+    /// The place of the core's request for the block, if it waits, the oldest request's being 1.
+    pub(crate) fn place(&self, core: u32, block: u32) -> Option<usize>
+        ensures { result ≡ place_in (queue_of (stand self.now).situation.queues core) block }
+    {
+        each!(self, parts => parts.place(core, block))
     }
 
     /// Whether the core's request for the block waits to be ordered.

@@ -1,9 +1,9 @@
 //! The machine, as its users have it.
-ghost use Rattle.std.specs.Prelude.{◌≡◌, ◌<◌, ◌↔◌, ◌++◌, ℕ, [], ◌∷◌, length, option_map, Option, true, is_some, IsTrue, IsOk, IfOk, IfErr, IfSome, Ok, Err, Some, option_to_list};
+ghost use Rattle.std.specs.Prelude.{◌≡◌, ◌<◌, ◌↔◌, ◌++◌, ℕ, [], ◌∷◌, length, option_map, Option, true, is_some, IsTrue, IsOk, IfOk, IfErr, IfSome, IfNone, Ok, Err, Some, None, option_to_list, slice_get};
 ghost use Rattle.snoop_trace.specs.Words.{AreZeroFrom, word_at};
 ghost use Rattle.snoop_trace.specs.declared.step.Step.{Step};
 ghost use Rattle.snoop_rules.specs.Waits.{waiting_request};
-ghost use Rattle.snoop_bus.specs.Queues.{queue_of};
+ghost use Rattle.snoop_bus.specs.Queues.{place_in, queue_of};
 ghost use Rattle.snoop_history.specs.declared.items.Item.{Item};
 ghost use Rattle.snoop_history.specs.History.{flat};
 ghost use Rattle.snoop_model.specs.declared.replies.Refused.{Refused};
@@ -13,6 +13,7 @@ ghost use Rattle.snoop_model.specs.Pictures.Picture.{held_by};
 ghost use Rattle.snoop_model.specs.Pictures.Situation.{picture_of, reset, state_of};
 ghost use Rattle.snoop_model.specs.Pictures.Sound.{keeps};
 ghost use Rattle.snoop_model.specs.Moves.Move.{FirstMove};
+ghost use Rattle.snoop_model.specs.Moves.OrderMove.{IsHead};
 ghost use Rattle.snoop_model.specs.Moves.Replies.{IsReplyTo, IsLoadHit};
 ghost use Rattle.snoop_model.specs.Moves.Refuses.{Refuses};
 ghost use Rattle.snoop_model.specs.Moves.StepMove.{RefusedFor};
@@ -27,7 +28,7 @@ use crate::any_parts::AnyParts;
 use snoop_bus::Open;
 use snoop_history::{Item, Log};
 use snoop_model::{Refused, Reply};
-use snoop_rules::{CacheState, MemState, Protocol};
+use snoop_rules::{CacheState, MemState, Protocol, Request};
 use snoop_trace::{NoMemory, Shape, Step};
 use std::alloc::Global;
 use std::fmt;
@@ -193,6 +194,23 @@ impl Machine {
         ensures { IsTrue result ↔ (0 < length (queue_of self.now.situation.queues core)) }
     {
         self.parts.waiting(core)
+    }
+
+    /// The oldest request of the core that waits to be ordered, and its block: that of the core's next Order. `None` where
+    /// none waits, and outside the shape.
+    pub fn head(&self, core: u32) -> Option<(Request, u32)>
+        ensures some { IfSome result (λ head. IsHead self.now.situation core head.0 head.1) }
+        ensures empty { IfNone result (slice_get (queue_of self.now.situation.queues core) 0 ≡ None) }
+    {
+        self.parts.head(core)
+    }
+
+    /// The place of the core's request for the block among those that wait, the oldest's being 1; `None` where it does not
+    /// wait, and outside the shape.
+    pub fn place(&self, core: u32, block: u32) -> Option<usize>
+        ensures { result ≡ place_in (queue_of self.now.situation.queues core) block }
+    {
+        self.parts.place(core, block)
     }
 
     /// Whether the core's request for the block waits to be ordered; false outside the shape.

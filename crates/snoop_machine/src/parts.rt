@@ -1,7 +1,7 @@
 //! The parts of a machine, which its steps change one after another.
 ghost use Rattle.std.specs.Prelude.{◌≡◌, ◌<◌, ◌≤◌, ◌↔◌, ℕ, length, option_map, is_some, IsTrue, IfOk, IfSome, Some};
 ghost use Rattle.snoop_trace.specs.Words.{AreZeroFrom, word_at};
-ghost use Rattle.snoop_bus.specs.Queues.{queue_of};
+ghost use Rattle.snoop_bus.specs.Queues.{place_in, queue_of};
 ghost use Rattle.snoop_rules.specs.Waits.{waiting_request};
 ghost use Rattle.snoop_model.specs.Pictures.Picture.{first_memory, held_by};
 ghost use Rattle.snoop_model.specs.Pictures.Situation.{no_memory, picture_of, reset, state_of};
@@ -205,6 +205,13 @@ impl<B: Block> Parts<B> {
             Some((_, first)) if first == block => true,
             Some(_) => waits(self.line(core, block).state),
         }
+    }
+
+    /// The place of the core's request for the block, if it waits, the oldest request's being 1.
+    pub(crate) fn place(&self, core: u32, block: u32) -> Option<usize>
+        ensures { result ≡ place_in (queue_of self.now.situation.queues core) block }
+    {
+        self.bus.place(core, block)
     }
 
     /// How many lines the core's map has, or `None` outside the shape.

@@ -1,6 +1,7 @@
 mod lines;
 mod memory;
 mod memory_states;
+mod queues;
 mod runs;
 mod steps;
 mod storm;

@@ -29,6 +29,10 @@ IsProtocols names = map (λ name. name.now) names.now ≡ codes "msi" ∷ codes 
 abbrev pub IsTables : Names → Type 0
 IsTables names = map (λ name. name.now) names.now ≡ codes "cache" ∷ codes "memory" ∷ []
 
+-- those of `--as`
+abbrev pub IsForms : Names → Type 0
+IsForms names = map (λ name. name.now) names.now ≡ codes "csv" ∷ []
+
 -- a protocol, in either case
 abbrev pub protocol_rule : Names → Rule
 protocol_rule protocols = record (option_rule (codes "protocol") (codes "msi") (parser.Names protocols)) { ignore_case = true }
@@ -48,6 +52,14 @@ serial_rule = record (new_rule (codes "serial")) { long = Some (codes "serial");
 abbrev pub run_app : Names → App
 run_app protocols = with_rule (simulation_app (codes "run") protocols) serial_rule
 
+-- the option `--as`, which has to be there
+abbrev pub form_rule : Names → Rule
+form_rule forms = record (new_rule (codes "as")) { long = Some (codes "as"); parser = Some (parser.Names forms); required = true }
+
+-- the command that writes the states of a run: it has that option too
+abbrev pub states_app : Names → Names → App
+states_app protocols forms = with_rule (simulation_app (codes "states") protocols) (form_rule forms)
+
 -- the command that writes a table
 abbrev pub table_app : Names → Names → App
 table_app protocols tables =
@@ -57,17 +69,17 @@ table_app protocols tables =
 abbrev pub top_app : App
 top_app = let new = new_app (codes "snoop") in record new { top = record new.top { has_version = true; subcommand_required = true } }
 
--- the program with its four commands
-abbrev pub snoop_app : Names → Names → Names → Names → Names → App
-snoop_app steps run threads table tables =
-    with_subcommand (with_subcommand (with_subcommand (with_subcommand top_app
-    (simulation_app (codes "steps") steps).top) (run_app run).top) (simulation_app (codes "threads") threads).top) (table_app table tables).top
+-- the program with its five commands
+abbrev pub snoop_app : Names → Names → Names → Names → Names → Names → Names → App
+snoop_app steps run threads states forms table tables =
+    with_subcommand (with_subcommand (with_subcommand (with_subcommand (with_subcommand top_app
+    (simulation_app (codes "steps") steps).top) (run_app run).top) (simulation_app (codes "threads") threads).top) (states_app states forms).top) (table_app table tables).top
 
 -- `clap`'s description of it
 abbrev pub IsSnoop : App → Type 0
-IsSnoop app = (steps run threads table tables : Names)
-    × IsProtocols steps × IsProtocols run × IsProtocols threads × IsProtocols table × IsTables tables
-    × (app ≡ snoop_app steps run threads table tables)
+IsSnoop app = (steps run threads states forms table tables : Names)
+    × IsProtocols steps × IsProtocols run × IsProtocols threads × IsProtocols states × IsForms forms × IsProtocols table × IsTables tables
+    × (app ≡ snoop_app steps run threads states forms table tables)
 
 -- no option of the command is one of its subcommands' too
 abbrev pub IsLocal : Command → Type 0

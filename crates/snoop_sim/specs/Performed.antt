@@ -10,6 +10,7 @@ use Rattle.snoop_sim.specs.Asked.{Asks, Refuses}
 use Rattle.snoop_engine.specs.Simulated.{Simulates}
 use Rattle.snoop_engine.specs.SimulatedRun.{SimulatesRun}
 use Rattle.snoop_engine.specs.SimulatedSerial.{SimulatesSerial}
+use Rattle.snoop_engine.specs.SimulatedStates.{SimulatesStates}
 use Rattle.snoop_sim.specs.Threaded.{SimulatesThreads}
 use Rattle.snoop_sim.specs.Status.{status_of}
 use Rattle.snoop_engine.specs.declared.fault.SimFault.{SimFault}
@@ -19,7 +20,7 @@ use Rattle.snoop_sim.specs.declared.fault.ThreadsFault.TheVariants.{Text as Rows
 use Rattle.snoop_sim.specs.declared.failure.Failure.{Failure}
 use Rattle.snoop_sim.specs.declared.failure.Failure.TheVariants.{Simulation, Threads as ThreadsFailure}
 use Rattle.snoop_sim.specs.declared.options.Task.{Task}
-use Rattle.snoop_sim.specs.declared.options.Task.TheVariants.{Help, Steps, Run, Serial, Threads, Table}
+use Rattle.snoop_sim.specs.declared.options.Task.TheVariants.{Help, Steps, Run, Serial, Threads, States, Table}
 
 -- a text was written whole; or, out of memory, nothing; or, where a write failed, a beginning; there was none to refuse
 abbrev pub Writes : List ℕ → Result (Unit {0}) SimFault → Option (List ℕ) → Option (List ℕ) → Type 0
@@ -40,6 +41,7 @@ Performs (Steps protocol shape) input ending old new = EndsAs Simulation ending 
 Performs (Run protocol shape) input ending old new = EndsAs Simulation ending (λ done. SimulatesRun protocol shape input done old new)
 Performs (Serial protocol shape) input ending old new = EndsAs Simulation ending (λ done. SimulatesSerial protocol shape input done old new)
 Performs (Threads protocol shape) input ending old new = EndsAs ThreadsFailure ending (λ done. SimulatesThreads protocol shape input done old new)
+Performs (States protocol shape) input ending old new = EndsAs Simulation ending (λ done. SimulatesStates protocol shape input done old new)
 Performs (Table protocol which) input ending old new = EndsAs Simulation ending (λ done. Writes (table_text protocol which) done old new)
 
 -- the task that the words ask for was performed; or nothing was begun for them, and nothing written

@@ -140,6 +140,29 @@ A text with V, O or R is for `snoop steps`."
     more
 );
 
+pub(crate) static STATES: &str = help!(
+    "Reads standard input: `snoop states --as csv < FILE`. Each line is a step:"
+    asks
+    "
+  O,core                the bus orders the core's oldest request
+  R,address             the response for the block of the address comes"
+    numbers
+    "
+Example: printf 'L,0,0\\nO,0\\nR,0\\n' | snoop states --as csv
+
+The first line of output names the fields. Then each step has a line for each
+controller that takes a row of its table (see `snoop table`): at an Order of each
+core that is not in I, and of memory.
+  step, record, reply    its number, its text, and the machine's reply
+  block, controller      whose row it is: core 0, or memory
+  event, before, action, after    the row, with the state before and after
+  value                  the values that are kept after it
+  place                  the place of the block in the core's queue after it
+A refused step has one line, where only a stall has a row."
+    faults "L, S, E, O or R" "L and E take 2 numbers, S 3, O and R 1"
+    more
+);
+
 pub(crate) static TABLE: &str = "\
 No input is read. Each line of output is a cell of the table: state, event, action
 and next state, with commas between.

@@ -2,7 +2,7 @@
 ghost use Rattle.std.specs.Prelude.{◌≡◌, IfErr, IfOk, codes, false, map, string_bytes};
 ghost use Rattle.clap.specs.Words.{app_of, first_of, found_of, one_of, rows_of, rule_of, subcommand_rows_of};
 ghost use Rattle.snoop_sim.specs.Asked.{Asks, HasNoTask, HasTask, Refuses};
-ghost use Rattle.snoop_sim.specs.CommandLine.{IsLocal, IsProtocols, IsSnoop, IsTables, Names, number_rule, protocol_rule, serial_rule, simulation_app, table_app};
+ghost use Rattle.snoop_sim.specs.CommandLine.{IsForms, IsLocal, IsProtocols, IsSnoop, IsTables, Names, form_rule, number_rule, protocol_rule, serial_rule, simulation_app, table_app};
 ghost use Rattle.snoop_sim.specs.Options.{IsNumberOf, IsShapeOf, asks_serial, protocol_named, which_named};
 
 use crate::failure::Failure;
@@ -21,10 +21,13 @@ pub(crate) enum Task {
     Run(Protocol, Shape),
     Serial(Protocol, Shape),
     Threads(Protocol, Shape),
+    States(Protocol, Shape),
     Table(Protocol, Which),
 }
 
 static PROTOCOLS: [&str; 2] = ["msi", "mesi"];
+
+static FORMS: [&str; 1] = ["csv"];
 
 static TABLES: [&str; 2] = ["cache", "memory"];
 
@@ -51,6 +54,7 @@ fn task_of(matches: &ArgMatches) -> Result<Task, Failure>
         }
         Some(("run", options)) => Ok(Task::Run(protocol_in(options), shape_in(options)?)),
         Some(("threads", options)) => Ok(Task::Threads(protocol_in(options), shape_in(options)?)),
+        Some(("states", options)) => Ok(Task::States(protocol_in(options), shape_in(options)?)),
         Some(("steps", options)) => Ok(Task::Steps(protocol_in(options), shape_in(options)?)),
         _ => Err(Failure::NoCommand),
     }
@@ -85,6 +89,13 @@ fn grammar<'a>(alloc: Global) -> Result<Command<'a>, AllocError>
             "Read what each core does, let a thread for each do it; write the steps taken",
             help::THREADS,
         )?)?
+        .subcommand(simulation(
+            alloc,
+            "states",
+            "Read steps; write which row of its table each controller took",
+            help::STATES,
+        )?
+        .arg(form(alloc))?)?
         .subcommand(table(alloc)?)
 }
 
@@ -155,6 +166,16 @@ fn serial<'a>(alloc: Global) -> Arg<'a>
         .long("serial")
         .help("Do each line whole before the next, in the order of the text")
         .action(ArgAction::SetTrue)
+}
+
+fn form<'a>(alloc: Global) -> Arg<'a>
+    ensures { (result.global ≡ false) × ((forms : Names) × IsForms forms × (rule_of result ≡ form_rule forms)) }
+{
+    Arg::new(alloc, "as")
+        .long("as")
+        .help("The form of the output")
+        .value_parser(ValueParser::Names(FORMS.as_slice()))
+        .required(true)
 }
 
 fn number<'a>(alloc: Global, name: &'a str, default: &'a str, help: &'a str) -> Arg<'a>

@@ -1,8 +1,9 @@
-//! The four simulations, each with a worked text.
+//! The five simulations, each with a worked text.
 
 use snoop_rules::Protocol;
 use snoop_sim::{
-    SimFault, ThreadsFault, simulate_run, simulate_serial, simulate_steps, simulate_threads,
+    SimFault, ThreadsFault, simulate_run, simulate_serial, simulate_states, simulate_steps,
+    simulate_threads,
 };
 use snoop_trace::streams::{Sink, Source};
 use snoop_trace::{Shape, TextFault, WriteFault};
@@ -74,6 +75,18 @@ const ALONE: &str = "S,0,0,4\nE,0,0\nL,0,0\n";
 
 const ALONE_STEPS: &str = "V,2,msi,2,4,64,1\nS,0,0,4\nO,0\nR,0\nE,0,0\nO,0\nR,0\nL,0,0\nO,0\nR,0\n";
 
+/// Steps: core 0 loads.
+const LOAD: &str = "L,0,0\nO,0\nR,0\n";
+
+/// The rows that the controllers take.
+const LOAD_STATES: &str = "\
+step,record,reply,block,controller,event,before,action,after,value,place
+1,\"L,0,0\",issued GetS,0,core 0,Load,I,issue GetS,IS_AD,,1
+2,\"O,0\",ordered GetS,0,core 0,OwnGetS,IS_AD,none,IS_D,,
+2,\"O,0\",ordered GetS,0,memory,GetS,IorS,send Data,IorS,0,
+3,\"R,0\",\"Data from memory, load 0\",0,core 0,Data,IS_D,fill load,S,0,
+";
+
 /// One of the simulations.
 #[derive(Clone, Copy, Debug, PartialEq, Eq)]
 pub enum Engine {
@@ -81,9 +94,16 @@ pub enum Engine {
     Run,
     Serial,
     Threads,
+    States,
 }
 
-pub static ENGINES: [Engine; 4] = [Engine::Steps, Engine::Run, Engine::Serial, Engine::Threads];
+pub static ENGINES: [Engine; 5] = [
+    Engine::Steps,
+    Engine::Run,
+    Engine::Serial,
+    Engine::Threads,
+    Engine::States,
+];
 
 impl Engine {
     pub fn text(self) -> &'static [u8] {
@@ -91,6 +111,7 @@ impl Engine {
             Engine::Steps => STEPS.as_bytes(),
             Engine::Run | Engine::Serial => ROWS.as_bytes(),
             Engine::Threads => ALONE.as_bytes(),
+            Engine::States => LOAD.as_bytes(),
         }
     }
 
@@ -101,6 +122,7 @@ impl Engine {
             Engine::Run => ROWS_OUTPUT.as_bytes(),
             Engine::Serial => SERIAL_OUTPUT.as_bytes(),
             Engine::Threads => ALONE_STEPS.as_bytes(),
+            Engine::States => LOAD_STATES.as_bytes(),
         }
     }
 
@@ -118,6 +140,7 @@ impl Engine {
             Engine::Steps => steps_ended(simulate_steps(alloc, reader, writer, protocol, shape)),
             Engine::Run => steps_ended(simulate_run(alloc, reader, writer, protocol, shape)),
             Engine::Serial => steps_ended(simulate_serial(alloc, reader, writer, protocol, shape)),
+            Engine::States => steps_ended(simulate_states(alloc, reader, writer, protocol, shape)),
             Engine::Threads => threads_ended(simulate_threads(
                 rt, alloc, reader, writer, protocol, shape,
             )),

@@ -25,8 +25,7 @@ use snoop_trace::{Block, Kept};
 
 impl<B: Block> Parts<B> {
     /// The core's oldest request.
-    pub(super) fn head(&self, core: u32) -> Option<(Request, u32)>
-        requires { core < self.now.situation.shape.cores }
+    pub(crate) fn head(&self, core: u32) -> Option<(Request, u32)>
         ensures some { IfSome result (λ head. IsHead self.now.situation core head.0 head.1) }
         ensures none { IfNone result (WaitsOnNone self.now.situation core) }
         ensures empty { IfNone result (slice_get (queue_of self.now.situation.queues core) 0 ≡ None) }

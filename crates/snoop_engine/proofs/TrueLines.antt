@@ -1,0 +1,347 @@
+-- Each line of the frames of a run is true of its controller.
+use Rattle.std.proofs.Common.{◌≡◌, ℕ, ◌<◌, ◌+◌, Bool, true, false, zero, suc, List, [], ◌∷◌, length, Option, Some, None, refl, sym, ap, subst, ◌∙◌, inl, inr, arith}
+use Rattle.std.specs.Prelude.{◌&&◌, ◌||◌, All, IsOk, IsSomeAnd, MatchBool, Result, Ok, Err, nat_lt, not, if◌then◌else◌}
+use Rattle.std.specs.List.{flat_map, range_with_len}
+use Rattle.std.specs.Option.{option_map_or}
+use Rattle.std.proofs.lemmas.Bool.{false≢true}
+use Rattle.std.proofs.lemmas.List.{get_or-set_same}
+use Rattle.std.proofs.lemmas.List.Elements.{All-append, All-cons, All-nil}
+use Rattle.snoop_trace.specs.Extent.{Extent}
+use Rattle.snoop_trace.specs.declared.protocol.Protocol.{Protocol}
+use Rattle.snoop_trace.specs.declared.protocol.Protocol.TheVariants.{Msi, Mesi}
+use Rattle.snoop_trace.specs.declared.step.Op.{Op}
+use Rattle.snoop_trace.specs.declared.step.Op.TheVariants as op
+use Rattle.snoop_trace.specs.declared.step.Step.{Step}
+use Rattle.snoop_trace.specs.declared.step.Step.TheVariants.{Ask, Order, Respond}
+use Rattle.snoop_rules.specs.declared.names.CacheAction.{CacheAction}
+use Rattle.snoop_rules.specs.declared.names.CacheAction.TheVariants as action
+use Rattle.snoop_rules.specs.declared.names.CacheCell.{CacheCell}
+use Rattle.snoop_rules.specs.declared.names.CacheEvent.{CacheEvent}
+use Rattle.snoop_rules.specs.declared.names.CacheState.{CacheState}
+use Rattle.snoop_rules.specs.declared.names.CacheState.TheVariants.{I, IsAd, IsD, ImAd, ImD, S, SmAd, SmD, E, M, EiA, MiA, IiA}
+use Rattle.snoop_rules.specs.declared.names.MemAction.{MemAction}
+use Rattle.snoop_rules.specs.declared.names.MemAction.TheVariants as mem_action
+use Rattle.snoop_rules.specs.declared.names.MemEvent.{MemEvent}
+use Rattle.snoop_rules.specs.declared.names.MemState.{MemState}
+use Rattle.snoop_rules.specs.declared.names.Request.{Request}
+use Rattle.snoop_rules.specs.declared.names.Request.TheVariants.{GetS, GetM, PutM}
+use Rattle.snoop_rules.specs.Cell.{Cell}
+use Rattle.snoop_rules.specs.MemoryCell.{MemoryCell}
+use Rattle.snoop_rules.specs.Takers.{arrival, arrival_at_memory, asked, at_memory, seen_by, takes_payload}
+use Rattle.snoop_rules.proofs.Every.{all_protocols, all_states, all_events}
+use Rattle.snoop_rules.proofs.Rows.{cell_of-Cell, each_row, each_row-at}
+use Rattle.snoop_rules.proofs.MemRows.{memory_cell_of-MemoryCell}
+use Rattle.snoop_history.specs.declared.items.Did.{Did}
+use Rattle.snoop_history.specs.declared.items.Item.{Item}
+use Rattle.snoop_bus.specs.Traffic.{Open}
+use Rattle.snoop_model.specs.declared.replies.Reply.{Reply}
+use Rattle.snoop_model.specs.declared.replies.Refused.{Refused}
+use Rattle.snoop_model.specs.declared.replies.Refused.TheVariants.{NoCore, NoBlock, Stalled, NothingWaiting, BusTaken, NoTransaction, NoMemory}
+use Rattle.snoop_model.specs.Pictures.Lines.{Line}
+use Rattle.snoop_model.specs.Pictures.Picture.{Picture, held_at, held_by, nothing_held}
+use Rattle.snoop_model.specs.Pictures.Situation.{Situation, picture_of, reset, state_of}
+use Rattle.snoop_model.specs.Moves.Move.{ArrivesFor, FillsRequestor, IsWithin, MovesAsk, Orders, Responds, Settles, Takes}
+use Rattle.snoop_model.specs.Moves.Refuses.{Refuses}
+use Rattle.snoop_model.specs.Runs.Run.{GoesFirst}
+use Rattle.snoop_model.specs.Invariant.Invariant.{Invariant}
+use Rattle.snoop_model.proofs.Invariant.Runs.{reset_invariant}
+use Rattle.snoop_model.proofs.OneBlock.AfterMoves.{ask_line, order_here, respond_here}
+use Rattle.snoop_model.proofs.Queues.Moves.{keeps_well, starts_well}
+use Rattle.snoop_model.proofs.Runs.GoOn.{IsSteady, steady_on}
+use Rattle.snoop_engine.specs.Frames.{Frame, FramesFrom}
+use Rattle.snoop_engine.specs.Taken.{event_asked, lines_of, of_arrival, of_arrival_at_memory, of_ask, of_core, of_holder, of_memory, of_order, of_request, of_requestor, of_respond, of_waiting_memory, refused_by, unless_i}
+use Rattle.snoop_engine.specs.TrueLines.{HasAllLines, IsTrue, ShowsRows}
+use Rattle.snoop_engine.proofs.AllLines.{cores_listed, memory_rows_listed}
+use Rattle.snoop_engine.specs.declared.taken.Taken.{Taken}
+use Rattle.snoop_engine.specs.declared.taken.Taken.TheVariants.{Core, Memory, Nobody}
+
+-- two states are found equal only where they are
+abbrev stays : CacheState → CacheState → Bool
+stays I I = true
+stays IsAd IsAd = true
+stays IsD IsD = true
+stays ImAd ImAd = true
+stays ImD ImD = true
+stays S S = true
+stays SmAd SmAd = true
+stays SmD SmD = true
+stays E E = true
+stays M M = true
+stays EiA EiA = true
+stays MiA MiA = true
+stays IiA IiA = true
+stays _ _ = false
+
+stays_same : (a b : CacheState) → stays a b ≡ true → a ≡ b
+stays_same I I h = refl
+stays_same IsAd IsAd h = refl
+stays_same IsD IsD h = refl
+stays_same ImAd ImAd h = refl
+stays_same ImD ImD h = refl
+stays_same S S h = refl
+stays_same SmAd SmAd h = refl
+stays_same SmD SmD h = refl
+stays_same E E h = refl
+stays_same M M h = refl
+stays_same EiA EiA h = refl
+stays_same MiA MiA h = refl
+stays_same IiA IiA h = refl
+stays_same _ _ h = absurd (false≢true h)
+
+abbrev stalls : CacheAction → Bool
+stalls action.Stall = true
+stalls _ = false
+
+abbrev stall_test : Protocol → CacheState → CacheEvent → CacheCell → Bool
+stall_test p s e row = not (stalls row.action) || stays row.next s
+
+stall_test_holds : each_row stall_test ≡ true
+unfolding each_row all_protocols all_states all_events
+stall_test_holds = refl
+
+-- a stall leaves the state
+stall_stays : (p : Protocol) (s : CacheState) (e : CacheEvent) (n : CacheState) → Cell p s e action.Stall n → n ≡ s
+stall_stays p s e n h = stays_same n s (each_row-at stall_test stall_test_holds p s e action.Stall n h)
+
+-- an Ask that has a row is an event
+asked_event : (p : Protocol) (asking : Op) (s : CacheState) (a : CacheAction) (n : CacheState) → Cell p s (asked asking) a n → event_asked asking s ≡ Some (asked asking)
+asked_event p op.Load s a n h = refl
+asked_event p (op.Store v) s a n h = refl
+asked_event Msi op.Evict I a n h = absurd h
+asked_event Mesi op.Evict I a n h = absurd h
+asked_event p op.Evict IsAd a n h = refl
+asked_event p op.Evict IsD a n h = refl
+asked_event p op.Evict ImAd a n h = refl
+asked_event p op.Evict ImD a n h = refl
+asked_event p op.Evict S a n h = refl
+asked_event p op.Evict SmAd a n h = refl
+asked_event p op.Evict SmD a n h = refl
+asked_event p op.Evict E a n h = refl
+asked_event p op.Evict M a n h = refl
+asked_event p op.Evict EiA a n h = refl
+asked_event p op.Evict MiA a n h = refl
+asked_event p op.Evict IiA a n h = refl
+
+-- where an Ask leads its core
+taken_state : (act : CacheAction) (next : CacheState) (log : List Item) (core block word : ℕ) (asking : Op) (old new : Line) (answer : Reply) (entry : Option Item)
+    → Takes act next log core block word asking old new answer entry → new.state ≡ next
+taken_state action.Hit next log core block word asking old new answer entry t = ap (λ (l : Line). l.state) t.1.0.held
+taken_state (action.Issue request) next log core block word asking old new answer entry t = ap (λ (l : Line). l.state) t.0
+taken_state action.Drop next log core block word asking old new answer entry t = ap (λ (l : Line). l.state) t.0
+taken_state action.None next log core block word asking old new answer entry t = absurd t
+taken_state action.Stall next log core block word asking old new answer entry t = absurd t
+taken_state action.FillLoad next log core block word asking old new answer entry t = absurd t
+taken_state action.FillStore next log core block word asking old new answer entry t = absurd t
+taken_state (action.Send payload target) next log core block word asking old new answer entry t = absurd t
+
+-- what holds of the lines of a value holds where the value may be missing
+all_if : {A : Type 0} (P : Taken → Type 0) (b : Bool) (v : A) (f : A → List Taken) → All P (f v) → All P (option_map_or f (if b then Some v else None) [])
+all_if P true v f h = h
+all_if P false v f h = All-nil P
+
+all_one : (P : Taken → Type 0) (line : Taken) → P line → All P (line ∷ [])
+all_one P line h = All-cons P line [] h (All-nil P)
+
+all_unless_i : (P : Taken → Type 0) (s : CacheState) (line : Taken) → P line → All P (unless_i s line)
+all_unless_i P I line h = All-nil P
+all_unless_i P IsAd line h = all_one P line h
+all_unless_i P IsD line h = all_one P line h
+all_unless_i P ImAd line h = all_one P line h
+all_unless_i P ImD line h = all_one P line h
+all_unless_i P S line h = all_one P line h
+all_unless_i P SmAd line h = all_one P line h
+all_unless_i P SmD line h = all_one P line h
+all_unless_i P E line h = all_one P line h
+all_unless_i P M line h = all_one P line h
+all_unless_i P EiA line h = all_one P line h
+all_unless_i P MiA line h = all_one P line h
+all_unless_i P IiA line h = all_one P line h
+
+all_range : (P : Taken → Type 0) (f : ℕ → List Taken) (a n : ℕ) → ((k : ℕ) → k < a + n → All P (f k)) → All P (flat_map f (range_with_len a n))
+all_range P f a zero each = All-nil P
+all_range P f a (suc n) each =
+    All-append P (f a) (flat_map f (range_with_len (a + 1) n)) (each a (omega arith)) (all_range P f (a + 1) n (λ k h. each k (omega arith)))
+
+module _ (old new : Situation) (step : Step) (outcome : Result Reply Refused) where
+  abbrev here : Frame
+  here = record { step = step; outcome = outcome; before = old; after = new }
+
+  -- a core's line at its event
+  row_true : (core block : ℕ) (event : CacheEvent) (act : CacheAction) (next : CacheState) → Cell old.protocol (state_of old core block) event act next → state_of new core block ≡ next
+      → IsTrue here (Core core block (Some event) (state_of old core block))
+  row_true core block event act next row is =
+      (refl, (act, cell_of-Cell old.protocol (state_of old core block) event act next row ∙ ap (λ (s : CacheState). let c : Option CacheCell = Some (record { action = act; next = s }) in c) (sym is)))
+
+  -- a core's line with no event
+  idle_true : (core block : ℕ) → new ≡ old → IsTrue here (Core core block None (state_of old core block))
+  idle_true core block same = (refl, ap (λ (s : Situation). state_of s core block) same)
+
+  -- an Ask's line
+  asked_true : (core block : ℕ) (asking : Op) (act : CacheAction) (next : CacheState) → Cell old.protocol (state_of old core block) (asked asking) act next → state_of new core block ≡ next → All (IsTrue here) (of_ask old core block asking)
+  asked_true core block asking act next row is =
+      let s : CacheState = state_of old core block in
+      let line : IsTrue here (Core core block (event_asked asking s) s) =
+      subst (λ (e : Option CacheEvent). IsTrue here (Core core block e (state_of old core block))) (sym (asked_event old.protocol asking s act next row)) (row_true core block (asked asking) act next row is) in
+      all_if (IsTrue here) (nat_lt core old.shape.cores && nat_lt block old.shape.blocks) s (λ before. Core core block (event_asked asking before) before ∷ []) (all_one (IsTrue here) _ line)
+
+  absent_true : (core block : ℕ) (asking : Op) → asking ≡ op.Evict → state_of old core block ≡ I → new ≡ old → All (IsTrue here) (of_ask old core block asking)
+  absent_true core block asking evict is same =
+      let s : CacheState = state_of old core block in
+      let none : event_asked asking s ≡ None = ap (λ (o : Op). event_asked o s) evict ∙ ap (λ (t : CacheState). event_asked op.Evict t) is in
+      let line : IsTrue here (Core core block (event_asked asking s) s) =
+      subst (λ (e : Option CacheEvent). IsTrue here (Core core block e (state_of old core block))) (sym none) (idle_true core block same) in
+      all_if (IsTrue here) (nat_lt core old.shape.cores && nat_lt block old.shape.blocks) s (λ before. Core core block (event_asked asking before) before ∷ []) (all_one (IsTrue here) _ line)
+
+  memory_true : (block : ℕ) (event : MemEvent) → ((act : MemAction) × MemoryCell old.protocol (picture_of old block).memory.state event act (picture_of new block).memory.state) → All (IsTrue here) (of_memory old block event)
+  memory_true block event row =
+      let s : MemState = (picture_of old block).memory.state in
+      all_if (IsTrue here) (nat_lt block old.shape.blocks) s (λ before. Memory block event before ∷ [])
+      (all_one (IsTrue here) (Memory block event s) (refl, (row.0, memory_cell_of-MemoryCell old.protocol s event row.0 (picture_of new block).memory.state row.1)))
+
+  -- the lines of a move
+  ask_true : (core block word : ℕ) (asking : Op) (answer : Reply) (entry : Option Item) → Invariant old → IsWithin old core block → MovesAsk old core block word asking answer new entry → All (IsTrue here) (of_ask old core block asking)
+  ask_true core block word asking answer entry g within moves = elim moves [
+    | inl absent ↦ absent_true core block asking absent.0 absent.1 absent.3
+    | inr a ↦
+        let is : state_of new core block ≡ a.next =
+        ap (λ (l : Line). l.state) (ask_line old core block word asking answer new entry g within a) ∙ taken_state a.act a.next old.log core block word asking (held_by (picture_of old block) core) a.held answer entry a.taken in
+        asked_true core block asking a.act a.next a.row is
+  ]
+
+  order_true : (core block : ℕ) (request : Request) → Invariant old → IsWithin old core block → Orders old core block request new → All (IsTrue here) (of_request old core block request)
+  order_true core block request g within o =
+      let now : picture_of new block ≡ o.next = order_here old core block request new g within o in
+      let wide = g.shaped.row block within.1 in
+      let long = o.caches in
+      let holder : (k : ℕ) → k < 0 + old.shape.cores → All (IsTrue here) (of_holder old core block request k) = λ k k_in.
+      (let row = o.rows k (omega arith) in
+      let s : CacheState = state_of old k block in
+      let is : state_of new k block ≡ row.1.0 = ap (λ (p : Picture). (held_by p k).state) now ∙ ap (λ (l : Line). l.state) row.1.1.1 in
+      all_if (IsTrue here) (nat_lt k old.shape.cores && nat_lt block old.shape.blocks) s (λ before. unless_i before (Core k block (Some (seen_by k core request)) before))
+      (all_unless_i (IsTrue here) s _ (row_true k block (seen_by k core request) row.0 row.1.0 row.1.1.0 is))) in
+      All-append (IsTrue here) (flat_map (of_holder old core block request) (range_with_len 0 old.shape.cores)) (of_memory old block (at_memory request))
+      (all_range (IsTrue here) (of_holder old core block request) 0 old.shape.cores holder)
+      (memory_true block (at_memory request)
+      (o.memory.0, subst (λ (p : Picture). MemoryCell old.protocol (picture_of old block).memory.state (at_memory request) o.memory.0 p.memory.state) (sym now) o.memory.1))
+
+  -- the requestor's line at a Respond
+  filled_true : (block : ℕ) (closing : Open) (did : Option Did) (next : Picture) → closing.core < length (picture_of old block).caches → picture_of new block ≡ next
+      → FillsRequestor closing old.protocol old.log (picture_of old block).caches next.caches did → All (IsTrue here) (of_arrival old closing.core block (arrival closing.payload))
+  filled_true block closing did next within now f =
+      let core : ℕ = closing.core in
+      let s : CacheState = state_of old core block in
+      let is : state_of new core block ≡ f.fills.next =
+      ap (λ (p : Picture). (held_by p core).state) now
+      ∙ (ap (λ (l : List Line). (held_at l core).state) f.held
+      ∙ (ap (λ (l : Line). l.state) (get_or-set_same (picture_of old block).caches core f.line nothing_held within) ∙ ap (λ (l : Line). l.state) f.fills.held)) in
+      let line : All (IsTrue here) (of_core old core block (Some f.fills.event)) =
+      all_if (IsTrue here) (nat_lt core old.shape.cores && nat_lt block old.shape.blocks) s (λ before. Core core block (Some f.fills.event) before ∷ [])
+      (all_one (IsTrue here) (Core core block (Some f.fills.event) s) (row_true core block f.fills.event f.fills.act f.fills.next f.fills.row is)) in
+      subst (λ (e : Option CacheEvent). All (IsTrue here) (of_arrival old core block e)) (sym f.fills.arrives) line
+
+  requestor_true : (request : Request) (block : ℕ) (closing : Open) (did : Option Did) (next : Picture) → closing.core < length (picture_of old block).caches → picture_of new block ≡ next
+      → ArrivesFor request closing old.protocol old.log (picture_of old block).caches next.caches did → All (IsTrue here) (of_requestor request old block closing)
+  requestor_true PutM block closing did next within now f = All-nil (IsTrue here)
+  requestor_true GetS block closing did next within now f = filled_true block closing did next within now f
+  requestor_true GetM block closing did next within now f = filled_true block closing did next within now f
+
+  settled_lines : (block : ℕ) (takes : Bool) (event : Option MemEvent) (act : MemAction)
+      → MatchBool takes (IsSomeAnd event (λ e. MemoryCell old.protocol (picture_of old block).memory.state e act (picture_of new block).memory.state)) ((act ≡ mem_action.None) × ((picture_of new block).memory.state ≡ (picture_of old block).memory.state))
+      → All (IsTrue here) (if takes then of_arrival_at_memory old block event else [])
+  settled_lines block true None act h = absurd h
+  settled_lines block true (Some event) act h = memory_true block event (act, h)
+  settled_lines block false event act h = All-nil (IsTrue here)
+
+  respond_true : (block : ℕ) (closing : Open) (did : Option Did) → Invariant old → block < old.shape.blocks → Responds old block closing did new → All (IsTrue here) (of_respond old block closing)
+  respond_true block closing did g within r =
+      let now : picture_of new block ≡ r.next = respond_here old block closing did new g within r in
+      let core_in = (g.blocks block within).requestor_in closing r.opened in
+      let long = g.shaped.row block within in
+      let s : MemState = (picture_of old block).memory.state in
+      let settled : Settles old.protocol closing.request closing.payload s r.memory.act (picture_of new block).memory.state =
+      subst (λ (p : Picture). Settles old.protocol closing.request closing.payload (picture_of old block).memory.state r.memory.act p.memory.state) (sym now) r.memory.settled in
+      All-append (IsTrue here) (of_requestor closing.request old block closing) (of_waiting_memory old block closing)
+      (requestor_true closing.request block closing did r.next (omega arith) now r.requestor)
+      (all_if (IsTrue here) (nat_lt block old.shape.blocks) s (λ before. if takes_payload closing.request before then of_arrival_at_memory old block (arrival_at_memory closing.payload) else [])
+      (settled_lines block (takes_payload closing.request s) (arrival_at_memory closing.payload) r.memory.act settled))
+
+  nobody_true : (core block : Option ℕ) → All (IsTrue here) (Nobody core block ∷ [])
+  nobody_true core block = all_one (IsTrue here) (Nobody core block) tt
+
+  -- the lines of a refused step
+  refused_true : (asked_for : Step) (cause : Refused) → Refuses old asked_for cause → new ≡ old → All (IsTrue here) (refused_by old asked_for cause)
+  refused_true (Ask core block word asking) (Stalled held) refuses same =
+      let next = refuses.2.0 in
+      let stay : next ≡ state_of old core block = stall_stays old.protocol (state_of old core block) (asked asking) next refuses.2.1 in
+      asked_true core block asking action.Stall next refuses.2.1 (ap (λ (s : Situation). state_of s core block) same ∙ sym stay)
+  refused_true (Ask core block word asking) NoCore refuses same = nobody_true None None
+  refused_true (Ask core block word asking) NoBlock refuses same = nobody_true None None
+  refused_true (Ask core block word asking) NothingWaiting refuses same = nobody_true None None
+  refused_true (Ask core block word asking) (BusTaken b) refuses same = nobody_true None None
+  refused_true (Ask core block word asking) NoTransaction refuses same = nobody_true None None
+  refused_true (Ask core block word asking) NoMemory refuses same = nobody_true None None
+  refused_true (Order core) (BusTaken block) refuses same =
+      all_if (IsTrue here) (nat_lt core old.shape.cores && nat_lt block old.shape.blocks) (state_of old core block) (λ before. Core core block None before ∷ [])
+      (all_one (IsTrue here) (Core core block None (state_of old core block)) (idle_true core block same))
+  refused_true (Order core) NothingWaiting refuses same = nobody_true (Some core) None
+  refused_true (Order core) NoCore refuses same = nobody_true None None
+  refused_true (Order core) NoBlock refuses same = nobody_true None None
+  refused_true (Order core) (Stalled held) refuses same = nobody_true None None
+  refused_true (Order core) NoTransaction refuses same = nobody_true None None
+  refused_true (Order core) NoMemory refuses same = nobody_true None None
+  refused_true (Respond block) NoTransaction refuses same = nobody_true None (Some block)
+  refused_true (Respond block) NoCore refuses same = nobody_true None None
+  refused_true (Respond block) NoBlock refuses same = nobody_true None None
+  refused_true (Respond block) (Stalled held) refuses same = nobody_true None None
+  refused_true (Respond block) NothingWaiting refuses same = nobody_true None None
+  refused_true (Respond block) (BusTaken b) refuses same = nobody_true None None
+  refused_true (Respond block) NoMemory refuses same = nobody_true None None
+
+-- the lines of one step
+step_true : (old new : Situation) (step : Step) (outcome : Result Reply Refused) → IsSteady old → GoesFirst old step outcome new → All (IsTrue (here old new step outcome)) (lines_of old step outcome)
+step_true old new step (Err cause) steady goes = refused_true old new step (Err cause) step cause goes.0 goes.1
+step_true old new (Ask core block word asking) (Ok answer) steady goes =
+    let m = goes.1 in
+    let P : ℕ → Type 0 = λ b. IsWithin old core b × MovesAsk old core b word asking answer new goes.0 in
+    let moved : P block = subst P (sym m.1.1.0) (m.1.1.1, m.1.1.2) in
+    ask_true old new (Ask core block word asking) (Ok answer) core block word asking answer goes.0 steady.0 moved.0 moved.1
+step_true old new (Order core) (Ok answer) steady goes =
+    let m = goes.1 in
+    let block = m.0 in
+    let move = m.1.1.1 in
+    let request : Request = m.1.1.0 in
+    let frame : Frame = here old new (Order core) (Ok answer) in
+    let lines : All (IsTrue frame) (of_request old core block request) = order_true old new (Order core) (Ok answer) core block request steady.0 move.0 move.3 in
+    let waiting : All (IsTrue frame) (of_order old core block) = subst (λ (w : Option Request). All (IsTrue frame) (option_map_or (of_request old core block) w [])) (sym move.3.ready.0) lines in
+    subst (λ (b : Option ℕ). All (IsTrue frame) (option_map_or (of_order old core) b [])) (sym m.1.0) waiting
+step_true old new (Respond block) (Ok answer) steady goes =
+    let m = goes.1 in
+    let move = m.1.1 in
+    let closing : Open = move.0 in
+    let did : Option Did = move.1.0 in
+    let frame : Frame = here old new (Respond block) (Ok answer) in
+    let P : ℕ → Type 0 = λ b. (b < old.shape.blocks) × Responds old b closing did new in
+    let moved : P block = subst P (sym move.1.1.0) (move.1.1.1, move.1.1.4) in
+    subst (λ (t : Option Open). All (IsTrue frame) (option_map_or (of_respond old block) t [])) (sym moved.1.opened)
+    (respond_true old new (Respond block) (Ok answer) block closing did steady.0 moved.0 moved.1)
+
+-- none is left out
+step_whole : (old new : Situation) (step : Step) (outcome : Result Reply Refused) → IsSteady old → GoesFirst old step outcome new → IsOk outcome → HasAllLines (here old new step outcome)
+step_whole old new step (Ok answer) steady goes ok = record {
+  cores = cores_listed old new step answer steady.0 goes;
+  memory = memory_rows_listed old new step answer steady.0 goes;
+}
+step_whole old new step (Err cause) steady goes ok = absurd (false≢true ok)
+
+-- the frames of a run from a steady machine
+frames_show : (frames : List Frame) (old new : Situation) → IsSteady old → FramesFrom old frames new → All ShowsRows frames
+frames_show [] old new steady run = All-nil ShowsRows
+frames_show (f ∷ fs) old new steady run =
+    let from : IsSteady f.before = subst IsSteady (sym run.0.before) steady in
+    All-cons ShowsRows f fs (record { true = step_true f.before f.after f.step f.outcome from run.0.goes; all = step_whole f.before f.after f.step f.outcome from run.0.goes })
+    (frames_show fs f.after new (steady_on keeps_well f.before f.step f.outcome f.after from run.0.goes) run.1)
+
+-- the frames of a run from reset
+pub lines_true : (protocol : Protocol) (shape : Extent) (frames : List Frame) (final : Situation) → FramesFrom (reset protocol shape) frames final → All ShowsRows frames
+lines_true protocol shape frames final run =
+    frames_show frames (reset protocol shape) final (reset_invariant protocol shape, (starts_well protocol shape (λ core. None)).0) run

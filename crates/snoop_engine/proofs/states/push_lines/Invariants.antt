@@ -1,0 +1,9 @@
+use Rattle.std.proofs.Common.{◌≡◌, ◌++◌, take}
+use Rattle.std.specs.List.{flat_map}
+use Rattle.snoop_engine.specs.States.{step_fields, taken_text}
+use Rattle.snoop_engine.proofs.states.push_lines.Given as goal
+
+-- the lines so far
+abbrev pub invariant-loop-taken : goal.invariant-loop-taken
+invariant-loop-taken l =
+    l.chunk.items ≡ l.fn.chunk.items ++ flat_map (λ taken. step_fields l.shape l.number l.step l.outcome ++ taken_text l.machine.situation taken) (take l.taken-index l.lines)

@@ -1,0 +1,321 @@
+//! Which rows of the tables the controllers take at a step.
+ghost use Rattle.std.specs.Prelude.{◌≡◌, ◌++◌, ◌∷◌, [], OnOk, Option, Some, None};
+ghost use Rattle.std.specs.List.{flat_map, range_with_len};
+ghost use Rattle.snoop_engine.specs.Taken.{memory_at, of_arrival, of_arrival_at_memory, of_ask, of_core, of_holder, of_memory, of_request, of_requestor, of_respond, refused_by, state_at, taken_by, of_waiting_memory, unless_i};
+
+use crate::events::{
+    arrival, arrival_at_memory, event_asked, event_at_memory, event_seen, takes_payload,
+};
+use snoop_bus::Open;
+use snoop_machine::{Machine, Refused};
+use snoop_rules::{CacheEvent, CacheState, MemEvent, MemState, Request};
+use snoop_trace::{NoMemory, Op, Step};
+
+/// A controller that meets an event in a state, or what a refused step names.
+#[derive(Clone, Copy, Debug)]
+pub(crate) enum Taken {
+    /// The core meets the event, or none.
+    Core {
+        core: u32,
+        block: u32,
+        event: Option<CacheEvent>,
+        before: CacheState,
+    },
+    /// Memory meets the event.
+    Memory {
+        block: u32,
+        event: MemEvent,
+        before: MemState,
+    },
+    /// No controller meets anything.
+    Nobody {
+        core: Option<u32>,
+        block: Option<u32>,
+    },
+}
+
+/// The core's state of the block, where both are there.
+pub(crate) fn state_at(machine: &Machine, core: u32, block: u32) -> Option<CacheState>
+    ensures { result ≡ state_at machine.now.situation core block }
+{
+    machine.state(core, block)
+}
+
+/// Memory's state of the block, where it is there.
+pub(crate) fn memory_at(machine: &Machine, block: u32) -> Option<MemState>
+    ensures { result ≡ memory_at machine.now.situation block }
+{
+    machine.mem_state(block)
+}
+
+fn add(lines: &mut Vec<Taken>, line: Taken) -> Result<(), NoMemory>
+    ensures { OnOk result (lines.new.items ≡ lines.old.items ++ line ∷ []) }
+{
+    match lines.push(line) {
+        Ok(()) => Ok(()),
+        Err(_) => Err(NoMemory),
+    }
+}
+
+fn add_core(
+    lines: &mut Vec<Taken>,
+    machine: &Machine,
+    core: u32,
+    block: u32,
+    event: Option<CacheEvent>,
+) -> Result<(), NoMemory>
+    ensures { OnOk result (lines.new.items ≡ lines.old.items ++ of_core machine.now.situation core block event) }
+{
+    match state_at(machine, core, block) {
+        None => Ok(()),
+        Some(before) => add(
+            lines,
+            Taken::Core {
+                core,
+                block,
+                event,
+                before,
+            },
+        ),
+    }
+}
+
+fn add_memory(
+    lines: &mut Vec<Taken>,
+    machine: &Machine,
+    block: u32,
+    event: MemEvent,
+) -> Result<(), NoMemory>
+    ensures { OnOk result (lines.new.items ≡ lines.old.items ++ of_memory machine.now.situation block event) }
+{
+    match memory_at(machine, block) {
+        None => Ok(()),
+        Some(before) => add(
+            lines,
+            Taken::Memory {
+                block,
+                event,
+                before,
+            },
+        ),
+    }
+}
+
+fn add_ask(
+    lines: &mut Vec<Taken>,
+    machine: &Machine,
+    core: u32,
+    block: u32,
+    op: Op,
+) -> Result<(), NoMemory>
+    ensures { OnOk result (lines.new.items ≡ lines.old.items ++ of_ask machine.now.situation core block op) }
+{
+    match state_at(machine, core, block) {
+        None => Ok(()),
+        Some(before) => {
+            let event = event_asked(op, before);
+            add(
+                lines,
+                Taken::Core {
+                    core,
+                    block,
+                    event,
+                    before,
+                },
+            )
+        }
+    }
+}
+
+fn add_unless_i(lines: &mut Vec<Taken>, state: CacheState, line: Taken) -> Result<(), NoMemory>
+    ensures { OnOk result (lines.new.items ≡ lines.old.items ++ unless_i state line) }
+{
+    match state {
+        CacheState::I => Ok(()),
+        _ => add(lines, line),
+    }
+}
+
+fn add_holder(
+    lines: &mut Vec<Taken>,
+    machine: &Machine,
+    requestor: u32,
+    block: u32,
+    request: Request,
+    core: u32,
+) -> Result<(), NoMemory>
+    ensures { OnOk result (lines.new.items ≡ lines.old.items ++ of_holder machine.now.situation requestor block request core) }
+{
+    match state_at(machine, core, block) {
+        None => Ok(()),
+        Some(before) => {
+            let event = Some(event_seen(core, requestor, request));
+            add_unless_i(
+                lines,
+                before,
+                Taken::Core {
+                    core,
+                    block,
+                    event,
+                    before,
+                },
+            )
+        }
+    }
+}
+
+fn add_holders(
+    lines: &mut Vec<Taken>,
+    machine: &Machine,
+    requestor: u32,
+    block: u32,
+    request: Request,
+) -> Result<(), NoMemory>
+    ensures { OnOk result (lines.new.items ≡ lines.old.items ++ flat_map (of_holder machine.now.situation requestor block request) (range_with_len 0 machine.now.situation.shape.cores)) }
+{
+    for core in 0..machine.shape().cores() {
+        add_holder(lines, machine, requestor, block, request, core)?;
+    }
+    Ok(())
+}
+
+fn add_request(
+    lines: &mut Vec<Taken>,
+    machine: &Machine,
+    requestor: u32,
+    block: u32,
+    request: Request,
+) -> Result<(), NoMemory>
+    ensures { OnOk result (lines.new.items ≡ lines.old.items ++ of_request machine.now.situation requestor block request) }
+{
+    add_holders(lines, machine, requestor, block, request)?;
+    add_memory(lines, machine, block, event_at_memory(request))
+}
+
+fn add_arrival(
+    lines: &mut Vec<Taken>,
+    machine: &Machine,
+    core: u32,
+    block: u32,
+    event: Option<CacheEvent>,
+) -> Result<(), NoMemory>
+    ensures { OnOk result (lines.new.items ≡ lines.old.items ++ of_arrival machine.now.situation core block event) }
+{
+    match event {
+        None => Ok(()),
+        Some(event) => add_core(lines, machine, core, block, Some(event)),
+    }
+}
+
+fn add_requestor(
+    lines: &mut Vec<Taken>,
+    machine: &Machine,
+    block: u32,
+    opened: &Open,
+) -> Result<(), NoMemory>
+    ensures { OnOk result (lines.new.items ≡ lines.old.items ++ of_requestor opened.now.request machine.now.situation block opened.now) }
+{
+    match opened.request {
+        Request::PutM => Ok(()),
+        Request::GetS | Request::GetM => {
+            add_arrival(lines, machine, opened.core, block, arrival(opened.payload))
+        }
+    }
+}
+
+fn add_arrival_at_memory(
+    lines: &mut Vec<Taken>,
+    machine: &Machine,
+    block: u32,
+    event: Option<MemEvent>,
+) -> Result<(), NoMemory>
+    ensures { OnOk result (lines.new.items ≡ lines.old.items ++ of_arrival_at_memory machine.now.situation block event) }
+{
+    match event {
+        None => Ok(()),
+        Some(event) => add_memory(lines, machine, block, event),
+    }
+}
+
+fn add_waiting_memory(
+    lines: &mut Vec<Taken>,
+    machine: &Machine,
+    block: u32,
+    opened: &Open,
+) -> Result<(), NoMemory>
+    ensures { OnOk result (lines.new.items ≡ lines.old.items ++ of_waiting_memory machine.now.situation block opened.now) }
+{
+    match memory_at(machine, block) {
+        Some(before) if takes_payload(opened.request, before) => {
+            add_arrival_at_memory(lines, machine, block, arrival_at_memory(opened.payload))
+        }
+        _ => Ok(()),
+    }
+}
+
+fn add_respond(
+    lines: &mut Vec<Taken>,
+    machine: &Machine,
+    block: u32,
+    opened: &Open,
+) -> Result<(), NoMemory>
+    ensures { OnOk result (lines.new.items ≡ lines.old.items ++ of_respond machine.now.situation block opened.now) }
+{
+    add_requestor(lines, machine, block, opened)?;
+    add_waiting_memory(lines, machine, block, opened)
+}
+
+/// Adds the rows that the controllers take at a step, if it is taken.
+pub(crate) fn add_taken(
+    lines: &mut Vec<Taken>,
+    machine: &Machine,
+    step: Step,
+) -> Result<(), NoMemory>
+    ensures { OnOk result (lines.new.items ≡ lines.old.items ++ taken_by machine.now.situation step) }
+{
+    match step {
+        Step::Ask {
+            core,
+            block,
+            word: _,
+            op,
+        } => add_ask(lines, machine, core, block, op),
+        Step::Order { core } => match machine.head(core) {
+            None => Ok(()),
+            Some((request, block)) => add_request(lines, machine, core, block, request),
+        },
+        Step::Respond { block } => match machine.open(block) {
+            None => Ok(()),
+            Some(opened) => add_respond(lines, machine, block, &opened),
+        },
+    }
+}
+
+/// Adds what there is to say of a step that was refused.
+pub(crate) fn add_refused(
+    lines: &mut Vec<Taken>,
+    machine: &Machine,
+    step: Step,
+    cause: Refused,
+) -> Result<(), NoMemory>
+    ensures { OnOk result (lines.new.items ≡ lines.old.items ++ refused_by machine.now.situation step cause) }
+{
+    let nobody = |core, block| Taken::Nobody { core, block };
+    match (step, cause) {
+        (
+            Step::Ask {
+                core,
+                block,
+                word: _,
+                op,
+            },
+            Refused::Stalled(_),
+        ) => { add_ask(lines, machine, core, block, op) }
+        (Step::Order { core }, Refused::BusTaken(block)) => {
+            add_core(lines, machine, core, block, None)
+        }
+        (Step::Order { core }, Refused::NothingWaiting) => add(lines, nobody(Some(core), None)),
+        (Step::Respond { block }, Refused::NoTransaction) => add(lines, nobody(None, Some(block))),
+        _ => add(lines, nobody(None, None)),
+    }
+}
