@@ -129,23 +129,23 @@ performs-one word op.Evict a b v w m n e p q = absurd p
 module _ (s : Situation) (core block word : ℕ) (asking : Op) (answer : Reply) (new : Situation) (added : Option Item) where
   ask-adds : (way : Asked) → TakesAsk s.protocol (line_at s.caches core block) word asking way → MovesAsk s core block word asking answer new added → added ≡ entry_of_ask s.log core block word asking way
   ask-adds Absent t (inl absent) = absent.4
-  ask-adds Absent t (inr asks) = absurd (no_row s.protocol (state_of s core block) asking asks.act asks.next t.0 t.1 asks.row)
+  ask-adds Absent t (inr asks) = absurd (no_row s.protocol (state_of s core block) asking asks.row.action asks.row.next t.0 t.1 asks.is_row)
   ask-adds (Hit line value) t (inl absent) = absurd (no_row s.protocol (state_of s core block) asking action.Hit t.0 absent.0 absent.1 t.1.0)
   ask-adds (Hit line value) t (inr asks) =
-      let same = (Cell-one s.protocol (state_of s core block) (asked asking) asks.act action.Hit asks.next t.0 asks.row t.1.0).0 in
-      let P : CacheAction → Type 0 = λ a. Takes a asks.next s.log core block word asking (line_at s.caches core block) asks.held answer added in
-      let h : Takes action.Hit asks.next s.log core block word asking (line_at s.caches core block) asks.held answer added = subst P same asks.taken in
+      let same = (Cell-one s.protocol (state_of s core block) (asked asking) asks.row.action action.Hit asks.row.next t.0 asks.is_row t.1.0).0 in
+      let P : CacheAction → Type 0 = λ a. Takes a asks.row.next s.log core block word asking (line_at s.caches core block) asks.held answer added in
+      let h : Takes action.Hit asks.row.next s.log core block word asking (line_at s.caches core block) asks.held answer added = subst P same asks.taken in
       let its = performs-one word asking h.1.0.before t.1.1.before h.0 value h.1.0.after t.1.1.after (same_Some _ _ (sym h.1.0.kept ∙ t.1.1.kept)) h.1.0.performed t.1.1.performed in
       h.1.2 ∙ ap (λ (x : ℕ). let r : Option Item = Some (item.Did (next_did s.log core block word asking x true)) in r) its
   ask-adds (Issue request line) t (inl absent) = absurd (no_row s.protocol (state_of s core block) asking (action.Issue request) t.0 absent.0 absent.1 t.1.0)
   ask-adds (Issue request line) t (inr asks) =
-      let same = (Cell-one s.protocol (state_of s core block) (asked asking) asks.act (action.Issue request) asks.next t.0 asks.row t.1.0).0 in
-      let P : CacheAction → Type 0 = λ a. Takes a asks.next s.log core block word asking (line_at s.caches core block) asks.held answer added in
+      let same = (Cell-one s.protocol (state_of s core block) (asked asking) asks.row.action (action.Issue request) asks.row.next t.0 asks.is_row t.1.0).0 in
+      let P : CacheAction → Type 0 = λ a. Takes a asks.row.next s.log core block word asking (line_at s.caches core block) asks.held answer added in
       (subst P same asks.taken).2
   ask-adds (Drop line) t (inl absent) = absurd (no_row s.protocol (state_of s core block) asking action.Drop t.0 absent.0 absent.1 t.1.0)
   ask-adds (Drop line) t (inr asks) =
-      let same = (Cell-one s.protocol (state_of s core block) (asked asking) asks.act action.Drop asks.next t.0 asks.row t.1.0).0 in
-      let P : CacheAction → Type 0 = λ a. Takes a asks.next s.log core block word asking (line_at s.caches core block) asks.held answer added in
+      let same = (Cell-one s.protocol (state_of s core block) (asked asking) asks.row.action action.Drop asks.row.next t.0 asks.is_row t.1.0).0 in
+      let P : CacheAction → Type 0 = λ a. Takes a asks.row.next s.log core block word asking (line_at s.caches core block) asks.held answer added in
       (subst P same asks.taken).2
 
 fills_of : (q : Request) (closing : Open) (p : Protocol) (log : List Item) (old new : List Line) (did : Option Did) → q ≢ PutM → ArrivesFor q closing p log old new did → FillsRequestor closing p log old new did

@@ -65,11 +65,10 @@ module _ (closing : Open) (protocol : Protocol) (log : List Item) (lines : List 
     value = done.value;
     fills = record {
       event = event;
-      act = found.act;
-      next = found.next;
+      row = record { action = found.act; next = found.next };
       after = done.after;
       arrives = arrives;
-      row = found.row;
+      is_row = found.row;
       waited = waited;
       fill = fill;
       performed = done.performs;

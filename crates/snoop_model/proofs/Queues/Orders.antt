@@ -84,7 +84,7 @@ module _ (s t : Situation) (kept : IsWellKept s) (core block : ℕ) (request : R
   waits_other k ne = elim (row_or_past k) [
     | inl lt ↦
         (let row = orders.rows k lt in
-        ap (λ (x : Line). waiting_request x.state) (line_here k ∙ row.1.1.1) ∙ other-waits s.protocol (state_of s k block) k core request row.0 row.1.0 ne row.1.1.0)
+        ap (λ (x : Line). waiting_request x.state) (line_here k ∙ row.2) ∙ other-waits s.protocol (state_of s k block) k core request row.0.action row.0.next ne row.1)
     | inr past ↦ ap (λ (x : Line). waiting_request x.state) (past.0 ∙ sym past.1)
   ]
 
@@ -92,7 +92,7 @@ module _ (s t : Situation) (kept : IsWellKept s) (core block : ℕ) (request : R
   own_row = orders.rows core (let a = orders.caches in let b = kept.shaped.row block has_block in omega arith)
 
   waits_own : waiting_request (state_of t core block) ≡ None
-  waits_own = ap (λ (x : Line). waiting_request x.state) (line_here core ∙ own_row.1.1.1) ∙ own-waits s.protocol (state_of s core block) core request own_row.0 own_row.1.0 own_row.1.1.0
+  waits_own = ap (λ (x : Line). waiting_request x.state) (line_here core ∙ own_row.2) ∙ own-waits s.protocol (state_of s core block) core request own_row.0.action own_row.0.next own_row.1
 
   -- a wait elsewhere, or of another core, is as it was
   waits_same : (k b : ℕ) → ((k ≡ core) × (b ≡ block)) ⊎ (waiting_request (state_of t k b) ≡ waiting_request (state_of s k b))
@@ -131,15 +131,15 @@ module _ (s t : Situation) (kept : IsWellKept s) (core block : ℕ) (request : R
   awaits_here : (k : ℕ) (q : Request) → awaited_request (state_of t k block) ≡ Some q → HasOpen t k block q
   awaits_here k q h = elim (cases_eq k core) [
     | inl e ↦
-        (let here : awaited_request own_row.1.0 ≡ Some q =
-        ap (λ (x : Line). awaited_request x.state) (sym (line_here core ∙ own_row.1.1.1)) ∙ (ap (λ j. awaited_request (state_of t j block)) (sym e) ∙ h) in
-        let its : q ≡ request = awaited-own s.protocol (state_of s core block) core request q own_row.0 own_row.1.0 own_row.1.1.0 here in
+        (let here : awaited_request own_row.0.next ≡ Some q =
+        ap (λ (x : Line). awaited_request x.state) (sym (line_here core ∙ own_row.2)) ∙ (ap (λ j. awaited_request (state_of t j block)) (sym e) ∙ h) in
+        let its : q ≡ request = awaited-own s.protocol (state_of s core block) core request q own_row.0.action own_row.0.next own_row.1 here in
         (_, (open_here ∙ orders.opened, sym e, sym its)))
     | inr ne ↦
         (let none : awaited_request (state_of t k block) ≡ None = elim (row_or_past k) [
           | inl lt ↦
               (let row = orders.rows k lt in
-              ap (λ (x : Line). awaited_request x.state) (line_here k ∙ row.1.1.1) ∙ awaited-other s.protocol (state_of s k block) k core request row.0 row.1.0 ne row.1.1.0)
+              ap (λ (x : Line). awaited_request x.state) (line_here k ∙ row.2) ∙ awaited-other s.protocol (state_of s k block) k core request row.0.action row.0.next ne row.1)
           | inr past ↦ ap (λ (x : Line). awaited_request x.state) past.0
         ] in
         let clash : ◌≡◌ {A = Option Request} None (Some q) = sym none ∙ h in
@@ -150,9 +150,9 @@ module _ (s t : Situation) (kept : IsWellKept s) (core block : ℕ) (request : R
   missed_here k access h = elim (row_or_past k) [
     | inl lt ↦
         (let row = orders.rows k lt in
-        let is = line_here k ∙ row.1.1.1 in
+        let is = line_here k ∙ row.2 in
         ap (λ (x : Line). has_missed x.state) is
-        ∙ missed-ordered s.protocol (state_of s k block) k core request row.0 row.1.0 row.1.1.0 (kept.operations k block access (sym (ap (λ (x : Line). x.waiting) is) ∙ h)))
+        ∙ missed-ordered s.protocol (state_of s k block) k core request row.0.action row.0.next row.1 (kept.operations k block access (sym (ap (λ (x : Line). x.waiting) is) ∙ h)))
     | inr past ↦ (let clash : ◌≡◌ {A = Option Access} None (Some access) = sym (ap (λ (x : Line). x.waiting) past.0) ∙ h in cc)
   ]
 

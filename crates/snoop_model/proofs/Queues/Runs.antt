@@ -114,12 +114,12 @@ issued old new c b q within queues was is others core block =
 
 ask_queued : (old : Situation) (c b word : ℕ) (asking : Op) (answer : Reply) (new : Situation) (entry : Option Item) → Invariant old → AreQueued old → IsWithin old c b → Asks old c b word asking answer new entry → AreQueued new
 ask_queued old c b word asking answer new entry g q within a =
-    let queues : new.queues ≡ queues_after a.act old.queues c b = ap (λ (s : Situation). s.queues) a.after in
+    let queues : new.queues ≡ queues_after a.row.action old.queues c b = ap (λ (s : Situation). s.queues) a.after in
     let in_queues : c < length old.queues = subst (λ (n : ℕ). c < n) (sym g.shaped.queues) within.0 in
     let line = ask_line old c b word asking answer new entry g within a in
     let others = λ (core block : ℕ). others_waits old new c b core block (ask_other_core old c b word asking answer new entry g within a) (ask_other_block old c b word asking answer new entry g within a) in
     let here : (x : ℕ) → waits a.held.state ≡ x → waits (state_of new c b) ≡ x = λ x e. ap (λ (y : Line). waits y.state) line ∙ e in
-    elim (ask_waits old.protocol a.act a.next old.log c b word asking (held_by (picture_of old b) c) a.held answer entry old.queues a.row a.taken) [
+    elim (ask_waits old.protocol a.row.action a.row.next old.log c b word asking (held_by (picture_of old b) c) a.held answer entry old.queues a.is_row a.taken) [
       | inl i ↦ issued old new c b q in_queues (queues ∙ i.0) i.1.0 (here 1 i.1.1) others
       | inr i ↦ left_alone old new q (queues ∙ i.0) (λ core block. elim (others core block) [
         | inr e ↦ e
@@ -134,13 +134,13 @@ order_waits : (old : Situation) (c b : ℕ) (q : Request) (new : Situation) (o :
 order_waits old c b q new o k = elim (cases_lt k (length o.next.caches)) [
   | inl inside ↦
       let row = o.rows k inside in
-      let state : waits (held_by o.next k).state ≡ waits row.1.0 = ap (λ (x : Line). waits x.state) row.1.1.1 in
+      let state : waits (held_by o.next k).state ≡ waits row.0.next = ap (λ (x : Line). waits x.state) row.2 in
       elim (eqb_tells k c) as (λ _. waits (held_by o.next k).state ≡ cond (eqb k c) 0 (waits (held_by (picture_of old b) k).state)) [
         | inl h ↦
-            let P : ℕ → Type 0 = λ x. Cell old.protocol (held_by (picture_of old b) x).state (seen_by x c q) row.0 row.1.0 in
-            let own = own-waits old.protocol (held_by (picture_of old b) c).state c q row.0 row.1.0 (subst P h.1 row.1.1.0) in
+            let P : ℕ → Type 0 = λ x. Cell old.protocol (held_by (picture_of old b) x).state (seen_by x c q) row.0.action row.0.next in
+            let own = own-waits old.protocol (held_by (picture_of old b) c).state c q row.0.action row.0.next (subst P h.1 row.1) in
             rw h.0 (state ∙ ap (λ (x : Option Request). one_if (is_some x)) own)
-        | inr h ↦ rw h.0 (state ∙ same_waits row.1.0 (held_by (picture_of old b) k).state (other-waits old.protocol (held_by (picture_of old b) k).state k c q row.0 row.1.0 h.1 row.1.1.0))
+        | inr h ↦ rw h.0 (state ∙ same_waits row.0.next (held_by (picture_of old b) k).state (other-waits old.protocol (held_by (picture_of old b) k).state k c q row.0.action row.0.next h.1 row.1))
       ]
   | inr past ↦
       let long = o.caches in
@@ -180,7 +180,7 @@ fills_waits closing p log old new did inside f k =
           let P : ℕ → Type 0 = λ x. waits (held_at (slice_set old closing.core f.line) x).state ≡ waits (held_at old x).state in
           let here : waits (held_at (slice_set old closing.core f.line) closing.core).state ≡ waits (held_at old closing.core).state =
           ap (λ (x : Line). waits x.state) (get_or-set_same old closing.core f.line nothing_held inside ∙ f.fills.held)
-          ∙ same_waits f.fills.next (held_at old closing.core).state (fill-waits p (held_at old closing.core).state f.fills.event f.fills.act f.fills.next f.asking.op f.fills.fill f.fills.row) in
+          ∙ same_waits f.fills.row.next (held_at old closing.core).state (fill-waits p (held_at old closing.core).state f.fills.event f.fills.row.action f.fills.row.next f.asking.op f.fills.fill f.fills.is_row) in
           ap (λ (x : Line). waits x.state) now ∙ subst P (sym h.1) here
     ]
 

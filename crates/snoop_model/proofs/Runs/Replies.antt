@@ -86,8 +86,8 @@ absent_reply core block word asking answer e is = rw (e, is) tt
 pub move_replies : (old new : Situation) (step : Step) (answer : Reply) (entry : Option Item) → FirstMove old step answer new entry → IsReplyTo step answer
 move_replies old new (Ask core on word asking) answer entry m = elim m.1.1.2 [
   | inl absent ↦ absent_reply core on word asking answer absent.0 absent.2
-  | inr a ↦ taken_reply old.protocol a.next old.log core on word asking (held_by (picture_of old m.0) core) a.held answer entry a.act a.row
-      (let P : ℕ → Type 0 = λ b. Takes a.act a.next old.log core b word asking (held_by (picture_of old m.0) core) a.held answer entry in subst P (sym m.1.1.0) a.taken)
+  | inr a ↦ taken_reply old.protocol a.row.next old.log core on word asking (held_by (picture_of old m.0) core) a.held answer entry a.row.action a.is_row
+      (let P : ℕ → Type 0 = λ b. Takes a.row.action a.row.next old.log core b word asking (held_by (picture_of old m.0) core) a.held answer entry in subst P (sym m.1.1.0) a.taken)
 ]
 move_replies old new (Order core) answer entry m = subst (λ (r : Reply). IsReplyTo (Order core) r) (sym m.1.1.1.1) tt
 move_replies old new (Respond on) answer entry m = subst (λ (r : Reply). IsReplyTo (Respond on) r) (sym m.1.1.1.1.2) tt
@@ -108,7 +108,7 @@ pub load_hit : (old new : Situation) (step : Step) (value : ℕ) (entry : Option
 load_hit old new (Ask core on word asking) value entry m = elim m.1.1.2 [
   | inl absent ↦ (let e = absent.2 in cc)
   | inr a ↦
-      let h = hit_logs old.protocol a.next old.log core m.0 word asking (held_by (picture_of old m.0) core) a.held value entry a.act a.taken in
+      let h = hit_logs old.protocol a.row.next old.log core m.0 word asking (held_by (picture_of old m.0) core) a.held value entry a.row.action a.taken in
       let grown : new.log ≡ old.log ++ option_to_list entry = move-log old new (Ask core on word asking) (reply.Hit value) entry m in
       record {
         core = core;

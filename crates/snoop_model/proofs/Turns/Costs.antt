@@ -29,8 +29,8 @@ pub pays : Pays
 pays s t (Ask core on word asking) answer entry move = elim move.1.1.2 [
   | inl absent ↦ let e : owed t ≡ owed s = ap (λ (x : Situation). owed x) absent.3 in omega arith
   | inr asks ↦
-      let e : owed t ≡ owes (queues_after asks.act s.queues core move.0) s.transactions = ap (λ (x : Situation). owed x) asks.after in
-      omega (arith, e, sum_asked asks.act s.queues core move.0)
+      let e : owed t ≡ owes (queues_after asks.row.action s.queues core move.0) s.transactions = ap (λ (x : Situation). owed x) asks.after in
+      omega (arith, e, sum_asked asks.row.action s.queues core move.0)
 ]
 pays s t (Order core) answer entry move =
     let orders = move.1.1.1.3 in

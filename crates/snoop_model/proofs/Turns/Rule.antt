@@ -136,7 +136,7 @@ serves_on s t before after (Ask core on word asking) answer entry serving move e
       | inr asks ↦
           let Q : ℕ → Type 0 = λ b. after core ≡ Some b in
           subst P (sym asks.after) (record {
-            waits = asked_waits s before after serving extends asks.act core move.0 (subst Q move.1.1.0 its);
+            waits = asked_waits s before after serving extends asks.row.action core move.0 (subst Q move.1.1.0 its);
             opened = still_opened s before after serving extends;
           })
     ]

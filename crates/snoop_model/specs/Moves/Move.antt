@@ -19,8 +19,10 @@ use Rattle.snoop_rules.specs.declared.names.MemAction.TheVariants as mem_action
 use Rattle.snoop_rules.specs.declared.names.Request.{Request}
 use Rattle.snoop_rules.specs.declared.names.Request.TheVariants.{GetS, GetM, PutM}
 use Rattle.snoop_rules.specs.declared.names.Payload.{Payload}
-use Rattle.snoop_rules.specs.Cell.{Cell}
-use Rattle.snoop_rules.specs.MemoryCell.{MemoryCell}
+use Rattle.snoop_rules.specs.declared.names.CacheCell.{CacheCell}
+use Rattle.snoop_rules.specs.declared.names.MemCell.{MemCell}
+use Rattle.snoop_rules.specs.Cell.{cell_of}
+use Rattle.snoop_rules.specs.MemoryCell.{MemoryCell, memory_cell_of}
 use Rattle.snoop_rules.specs.Takers.{asked, seen_by, at_memory, arrival, arrival_at_memory, takes_payload}
 use Rattle.snoop_history.specs.declared.items.Did.{Did}
 use Rattle.snoop_history.specs.declared.items.Came.{Came}
@@ -83,11 +85,11 @@ pub record Hits (next : CacheState) (old new : Line) (word : ℕ) (asking : Op) 
 
 -- a core takes its row for a request, its own or another's
 abbrev pub TakesRow : Protocol → CacheEvent → Line → Line → Type 0
-TakesRow protocol event old new = (act : CacheAction) × ((next : CacheState) × (Cell protocol old.state event act next × (new ≡ moves_to next old)))
+TakesRow protocol event old new = (row : CacheCell) × (cell_of protocol old.state event ≡ Some row) × (new ≡ moves_to row.next old)
 
 -- memory takes its row for an event
 abbrev pub TakesMemRow : Protocol → MemEvent → MemState → MemState → Type 0
-TakesMemRow protocol event old new = (act : MemAction) × MemoryCell protocol old event act new
+TakesMemRow protocol event old new = (row : MemCell) × (memory_cell_of protocol old event ≡ Some row) × (new ≡ row.next)
 
 -- a fill is for the operation that waits
 abbrev pub IsFillFor : CacheAction → Op → Type 0
@@ -98,15 +100,14 @@ IsFillFor _ _ = ⊥
 -- the data reaches the requestor's line, and the operation that waits there is performed with it
 pub record Fills (closing : Open) (protocol : Protocol) (old new : Line) (asking : Access) (value : ℕ) : Type 0 where
   pub event : CacheEvent
-  pub act : CacheAction
-  pub next : CacheState
+  pub row : CacheCell
   pub after : Data
   pub arrives : arrival closing.payload ≡ Some event
-  pub row : Cell protocol old.state event act next
+  pub is_row : cell_of protocol old.state event ≡ Some row
   pub waited : old.waiting ≡ Some asking
-  pub fill : IsFillFor act asking.op
+  pub fill : IsFillFor row.action asking.op
   pub performed : Performs asking.word asking.op closing.value value after
-  pub held : new ≡ record { state = next; kept = Some after; waiting = None }
+  pub held : new ≡ record { state = row.next; kept = Some after; waiting = None }
 
 -- the same, on the requestor's line among all lines, and the operation as the history will have it
 pub record FillsRequestor (closing : Open) (protocol : Protocol) (log : List Item) (old new : List Line) (did : Option Did) : Type 0 where
@@ -172,14 +173,13 @@ queues_after _ queues core block = queues
 
 -- an Ask that takes a row: that one core takes it
 pub record Asks (old : Situation) (core block word : ℕ) (asking : Op) (answer : Reply) (new : Situation) (entry : Option Item) : Type 0 where
-  pub act : CacheAction
-  pub next : CacheState
+  pub row : CacheCell
+  pub is_row : cell_of old.protocol (state_of old core block) (asked asking) ≡ Some row
   pub held : Line
-  pub row : Cell old.protocol (state_of old core block) (asked asking) act next
-  pub taken : Takes act next old.log core block word asking (held_by (picture_of old block) core) held answer entry
+  pub taken : Takes row.action row.next old.log core block word asking (held_by (picture_of old block) core) held answer entry
   pub after : new ≡ record old {
     caches = slice_set old.caches block (slice_set (picture_of old block).caches core held);
-    queues = queues_after act old.queues core block;
+    queues = queues_after row.action old.queues core block;
     log = old.log ++ option_to_list entry;
   }
 
