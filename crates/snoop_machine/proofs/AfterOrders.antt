@@ -15,7 +15,7 @@ use Rattle.snoop_bus.specs.Traffic.{Traffic, Waiting, no_queue, waiting_of, head
 use Rattle.snoop_model.specs.Pictures.Lines.{Line}
 use Rattle.snoop_model.specs.Pictures.Picture.{held_at, nothing_held}
 use Rattle.snoop_model.specs.Pictures.Sound.{IsSound, IsProper, IsEachOnce, line_at}
-use Rattle.snoop_model.specs.Pictures.Message.{TakesRows}
+use Rattle.snoop_model.specs.Moves.Move.{TakesRows}
 use Rattle.snoop_model.proofs.Lines.EachRow.{row_of}
 use Rattle.snoop_model.proofs.Tables.Rows.{own-waits, other-waits, IsProper-order}
 use Rattle.snoop_machine.proofs.QueueViews.{blocks_of}

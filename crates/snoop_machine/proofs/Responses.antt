@@ -1,32 +1,16 @@
 -- What a response brings to the caches, from what it does to one line.
-use Rattle.std.proofs.Common.{◌≡◌, ◌≢◌, true, false, List, Some, None, Option, refl, sym, subst}
+use Rattle.std.proofs.Common.{◌≡◌, ◌≢◌, false, List, Some, None, Option, refl, sym, subst}
 use Rattle.std.specs.Prelude.{slice_set}
 use Rattle.snoop_trace.specs.declared.protocol.Protocol.{Protocol}
 use Rattle.snoop_rules.specs.declared.names.Request.{Request}
 use Rattle.snoop_rules.specs.declared.names.Request.TheVariants.{GetS, GetM, PutM}
-use Rattle.snoop_rules.specs.declared.names.Payload.{Payload}
-use Rattle.snoop_rules.specs.declared.names.MemState.{MemState}
-use Rattle.snoop_rules.specs.declared.names.MemEvent.{MemEvent}
-use Rattle.snoop_rules.specs.declared.names.MemAction.{MemAction}
-use Rattle.snoop_rules.specs.MemoryCell.{MemoryCell}
-use Rattle.snoop_rules.specs.Takers.{arrival_at_memory, awaits_payload, takes_payload}
 use Rattle.snoop_history.specs.declared.items.Did.{Did}
 use Rattle.snoop_history.specs.declared.items.Item.{Item}
 use Rattle.snoop_bus.specs.Traffic.{Open}
 use Rattle.snoop_model.specs.Pictures.Lines.{Line}
 use Rattle.snoop_machine.specs.Plan.{Filled}
 use Rattle.snoop_model.specs.Pictures.Picture.{held_at}
-use Rattle.snoop_model.specs.Moves.Move.{Fills, FillsRequestor, ArrivesFor, Settles, next_did}
-
--- a memory that waits for a message takes it
-pub takes_awaited : (q : Request) (memory : MemState) → awaits_payload memory ≡ true → takes_payload q memory ≡ true
-takes_awaited PutM memory awaits = refl
-takes_awaited GetS memory awaits = awaits
-takes_awaited GetM memory awaits = awaits
-
--- memory takes the message by its row
-pub settles_by : (p : Protocol) (q : Request) (payload : Payload) (old new : MemState) (event : MemEvent) (act : MemAction) → takes_payload q old ≡ true → arrival_at_memory payload ≡ Some event → MemoryCell p old event act new → Settles p q payload old act new
-settles_by p q payload old new event act takes arrives row = rw (takes, arrives) row
+use Rattle.snoop_model.specs.Moves.Move.{Fills, FillsRequestor, ArrivesFor, next_did}
 
 pub Arrives-put : (closing : Open) (p : Protocol) (log : List Item) (caches : List Line) → closing.request ≡ PutM → ArrivesFor closing.request closing p log caches caches None
 Arrives-put closing p log caches put =

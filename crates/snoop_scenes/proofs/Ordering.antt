@@ -27,7 +27,7 @@ use Rattle.snoop_model.specs.declared.replies.Refused.TheVariants.{BusTaken}
 use Rattle.snoop_model.specs.Pictures.Picture.{Picture, held_at, held_by}
 use Rattle.snoop_model.specs.Pictures.Situation.{Situation, picture_of, with_picture, state_of}
 use Rattle.snoop_model.specs.Pictures.Sends.{sent_by, sent_by_memory, Sends, IsOnlySender, value_sent}
-use Rattle.snoop_model.specs.Moves.Move.{moves_to, TakesRow}
+use Rattle.snoop_model.specs.Moves.Move.{moves_to, TakesRow, TakesRows}
 use Rattle.snoop_model.specs.Runs.Run.{GoesFirst}
 use Rattle.snoop_model.proofs.Lines.TheSender.{sending, sending_memory}
 use Rattle.snoop_scenes.proofs.Deciding.{if_true, if_some}
@@ -68,8 +68,7 @@ pub record Sender (protocol : Protocol) (before : Picture) (core : ℕ) (request
 -- what an Order does to a block's picture: each controller takes its row
 pub record Ordered (protocol : Protocol) (before : Picture) (core : ℕ) (request : Request) : Type 0 where
   pub caches : List Line
-  pub same_length : length caches ≡ length before.caches
-  pub rows : (k : ℕ) → k < length caches → TakesRow protocol (seen_by k core request) (held_by before k) (held_at caches k)
+  pub taken : TakesRows protocol core request before.caches caches
   pub act : MemAction
   pub memory : MemState
   pub row : MemoryCell protocol before.memory.state (at_memory request) act memory
@@ -159,8 +158,7 @@ module _ (protocol : Protocol) (core : ℕ) (request : Request) (memory : MemSta
   abbrev pub after : Sender protocol before core request → Ordered protocol before core request
   after found = record {
     caches = caches_after;
-    same_length = refl;
-    rows = rows_after;
+    taken = record { same_length = refl; rows = rows_after };
     act = third.act;
     memory = third.next;
     row = third.row;
@@ -214,8 +212,7 @@ module _ (old : Situation) (core block : ℕ) (there : core < old.shape.cores) (
                 payload = taken.sender.payload;
                 sent = taken.sender.sent;
                 next = next;
-                caches = taken.same_length;
-                rows = taken.rows;
+                taken = taken.taken;
                 memory = (record { action = taken.act; next = taken.memory }, taken.row, refl);
                 value = refl;
                 opened = refl;

@@ -1,5 +1,5 @@
 -- A move keeps the invariant of the machine.
-use Rattle.std.proofs.Common.{◌≡◌, ◌≢◌, ℕ, ◌<◌, true, false, eqb, List, [], ◌∷◌, ◌++◌, length, Option, Some, None, refl, inl, inr, ap, sym, ◌∙◌, subst, cond}
+use Rattle.std.proofs.Common.{◌≡◌, ◌≢◌, ℕ, ◌<◌, ◌≤◌, true, false, eqb, List, [], ◌∷◌, ◌++◌, length, Option, Some, None, refl, inl, inr, ap, sym, ◌∙◌, subst, cond}
 use Rattle.std.specs.Prelude.{option_to_list, slice_set, IfSome, All}
 use Rattle.std.proofs.lemmas.Bool.Decides.{eqb_tells}
 use Rattle.std.proofs.lemmas.List.{append-nil, length-set, get_or_past, get_or-set_same, get_or-set_other}
@@ -216,7 +216,7 @@ order_moves old core block q new g within o =
       as_many_queues = length-set old.queues core _;
       as_many_transactions = length-set old.transactions block o.next.transaction;
       others = λ b apart. next_other old block b o.next queues log apart;
-      row = ap (λ (x : Picture). length x.caches) here ∙ (o.caches ∙ cores);
+      row = ap (λ (x : Picture). length x.caches) here ∙ (o.taken.same_length ∙ cores);
       opened = λ t is_open. opened_block o.next.transaction _ t o.opened (ap (λ (x : Picture). x.transaction) (sym here) ∙ is_open);
       on = tt;
       logged = tt;
@@ -224,9 +224,9 @@ order_moves old core block q new g within o =
       follows = tt;
       accesses = λ c access waits.
           let now : (held_by o.next c).waiting ≡ Some access = ap (λ (x : Picture). (held_by x c).waiting) (sym here) ∙ waits in
-          elim (cases_lt c (length o.next.caches)) as (λ _. IsWord old.shape access.word) [
-            | inl inside ↦ g.accesses c block access (sym (ap (λ (x : Line). x.waiting) (o.rows c inside).2) ∙ now)
-            | inr past ↦ no_access old.shape nothing_held refl access (ap (λ (x : Line). x.waiting) (sym (get_or_past o.next.caches c nothing_held past)) ∙ now)
+          elim (cases_lt c (length before.caches)) as (λ _. IsWord old.shape access.word) [
+            | inl inside ↦ g.accesses c block access (sym (ap (λ (x : Line). x.waiting) (o.taken.rows c inside).2) ∙ now)
+            | inr past ↦ no_access old.shape nothing_held refl access (ap (λ (x : Line). x.waiting) (sym (get_or_past o.next.caches c nothing_held (subst (λ (n : ℕ). n ≤ c) (sym o.taken.same_length) past))) ∙ now)
           ];
     } in
     subst Invariant (sym o.after) (kept old block w.caches w.memory w.transactions queues entry g whole)

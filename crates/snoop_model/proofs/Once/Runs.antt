@@ -100,12 +100,12 @@ ask_once old c b word asking answer new entry g within a core block wanted =
 
 -- an Order leaves each operation waiting
 order_waiting : (old : Situation) (core block : ℕ) (q : Request) (new : Situation) (o : Orders old core block q new) (wanted : Access) (k : ℕ) → waits_so wanted (held_by o.next k).waiting ≡ waits_so wanted (held_by (picture_of old block) k).waiting
-order_waiting old core block q new o wanted k = elim (cases_lt k (length o.next.caches)) [
-  | inl inside ↦ ap (λ (x : Line). waits_so wanted x.waiting) (o.rows k inside).2
+order_waiting old core block q new o wanted k = elim (cases_lt k (length (picture_of old block).caches)) [
+  | inl inside ↦ ap (λ (x : Line). waits_so wanted x.waiting) (o.taken.rows k inside).2
   | inr past ↦
-      let long = o.caches in
-      let e : held_by o.next k ≡ nothing_held = get_or_past o.next.caches k nothing_held past in
-      let f : held_by (picture_of old block) k ≡ nothing_held = get_or_past (picture_of old block).caches k nothing_held (omega arith) in
+      let long = o.taken.same_length in
+      let e : held_by o.next k ≡ nothing_held = get_or_past o.next.caches k nothing_held (omega arith) in
+      let f : held_by (picture_of old block) k ≡ nothing_held = get_or_past (picture_of old block).caches k nothing_held past in
       ap (λ (x : Line). waits_so wanted x.waiting) (e ∙ sym f)
 ]
 

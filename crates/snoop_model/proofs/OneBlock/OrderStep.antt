@@ -23,8 +23,7 @@ use Rattle.snoop_model.specs.Pictures.Lines.{Line}
 use Rattle.snoop_model.specs.Pictures.Picture.{Picture, held_by}
 use Rattle.snoop_model.specs.Pictures.Situation.{Situation, picture_of}
 use Rattle.snoop_model.specs.Pictures.Sends.{sent_by, sent_by_memory, Sends, value_at, value_sent}
-use Rattle.snoop_model.specs.Pictures.Message.{TakesRows}
-use Rattle.snoop_model.specs.Moves.Move.{moves_to, TakesRow, Orders}
+use Rattle.snoop_model.specs.Moves.Move.{moves_to, TakesRow, TakesRows, Orders}
 use Rattle.snoop_model.specs.Pictures.Sound.{keeps, IsProper}
 use Rattle.snoop_model.specs.Invariant.Fits.{Claims, claims_of, is_clean, same, fits}
 use Rattle.snoop_model.specs.Invariant.Block.{BlockInvariant, talk_of, awaited, owns}
@@ -273,7 +272,6 @@ order_keeps s core block q new flat good in_row o =
     let p = s.protocol in
     let before : Picture = picture_of s block in
     let after : Picture = o.next in
-    let rows : TakesRows p core q before.caches after.caches = record { same_length = o.caches; rows = λ d d_in. o.rows d (subst (λ (n : ℕ). d < n) (sym o.caches) d_in) } in
     let l = look p flat before core q good in_row o.ready.0 o.ready.1 in
     let is_pl : o.payload ≡ l.pl = sent_payload p flat before core q l o.from o.payload o.sent.sends in
     let opened : Open = record { core = core; request = q; block = block; payload = o.payload; value = value_sent before o.from o.payload; from = o.from } in
@@ -285,9 +283,9 @@ order_keeps s core block q new flat good in_row o =
       owner = next_owner q core good.owner;
       owner_in = next_owner_in (is_put_m q) core good.owner (length before.caches) good.owner_in;
       is_owned = is_owned_next (is_put_m q) (owns good.owner core) good.claims.owned good.owner good.is_owned ∙ sym (same_is _ _ (end_of p flat before core q l OrderTests.owned_after OrderTests.owned_after_holds));
-      states = λ d d_in. rw o.opened (order_states p flat before core q after l rows opened refl refl d d_in);
-      kept = λ d d_in h. carried_kept (held_by before d) (held_by after d) flat (order_carries p flat before core q after l rows d d_in) (good.kept d d_in) h;
-      clean = λ d d_in h. o.value ∙ good.clean d d_in ((order_carries p flat before core q after l rows d d_in).cleans h);
+      states = λ d d_in. rw o.opened (order_states p flat before core q after l o.taken opened refl refl d d_in);
+      kept = λ d d_in h. carried_kept (held_by before d) (held_by after d) flat (order_carries p flat before core q after l o.taken d d_in) (good.kept d d_in) h;
+      clean = λ d d_in h. o.value ∙ good.clean d d_in ((order_carries p flat before core q after l o.taken d d_in).cleans h);
       fresh = λ h. o.value ∙ order_fresh p flat before core q l h;
       carried = λ x is_x carrying.
           let e : opened ≡ x = some_is after.transaction opened x o.opened is_x in
@@ -295,7 +293,7 @@ order_keeps s core block q new flat good in_row o =
           let v : value_sent before o.from o.payload ≡ flat = rw carry (sender_value p flat before core q l o.from o.payload o.sent.sends carry) in
           ap (λ (y : Open). y.value) (sym e) ∙ v;
       proper = λ d d_in.
-          let t = rows.rows d d_in in
+          let t = o.taken.rows d d_in in
           subst IsProper (sym t.2) (IsProper-order p (held_by before d) d core q t.0.action t.0.next (good.proper d d_in) t.1);
       requestor_in = λ x is_x. subst (λ (y : Open). y.core < length before.caches) (some_is after.transaction opened x o.opened is_x) in_row;
     }

@@ -131,9 +131,9 @@ ask_queued old c b word asking answer new entry g q within a =
 
 -- who waits after an Order: its core no longer, the others as before
 order_waits : (old : Situation) (c b : ℕ) (q : Request) (new : Situation) (o : Orders old c b q new) (k : ℕ) → waits (held_by o.next k).state ≡ cond (eqb k c) 0 (waits (held_by (picture_of old b) k).state)
-order_waits old c b q new o k = elim (cases_lt k (length o.next.caches)) [
+order_waits old c b q new o k = elim (cases_lt k (length (picture_of old b).caches)) [
   | inl inside ↦
-      let row = o.rows k inside in
+      let row = o.taken.rows k inside in
       let state : waits (held_by o.next k).state ≡ waits row.0.next = ap (λ (x : Line). waits x.state) row.2 in
       elim (eqb_tells k c) as (λ _. waits (held_by o.next k).state ≡ cond (eqb k c) 0 (waits (held_by (picture_of old b) k).state)) [
         | inl h ↦
@@ -143,9 +143,9 @@ order_waits old c b q new o k = elim (cases_lt k (length o.next.caches)) [
         | inr h ↦ rw h.0 (state ∙ same_waits row.0.next (held_by (picture_of old b) k).state (other-waits old.protocol (held_by (picture_of old b) k).state k c q row.0.action row.0.next h.1 row.1))
       ]
   | inr past ↦
-      let long = o.caches in
-      let e : waits (held_by o.next k).state ≡ 0 = ap (λ (x : Line). waits x.state) (get_or_past o.next.caches k nothing_held past) in
-      let f : waits (held_by (picture_of old b) k).state ≡ 0 = ap (λ (x : Line). waits x.state) (get_or_past (picture_of old b).caches k nothing_held (omega arith)) in
+      let long = o.taken.same_length in
+      let e : waits (held_by o.next k).state ≡ 0 = ap (λ (x : Line). waits x.state) (get_or_past o.next.caches k nothing_held (omega arith)) in
+      let f : waits (held_by (picture_of old b) k).state ≡ 0 = ap (λ (x : Line). waits x.state) (get_or_past (picture_of old b).caches k nothing_held past) in
       e ∙ (either_way (eqb k c) 0 ∙ ap (λ (n : ℕ). cond (eqb k c) 0 n) (sym f))
 ]
 

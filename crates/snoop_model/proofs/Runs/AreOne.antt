@@ -282,7 +282,7 @@ orders_one s core block q new new' a b =
     let before : Picture = picture_of s block in
     let from : b.from ≡ a.from = a.sent.alone b.from b.payload b.sent.sends in
     let payload : a.payload ≡ b.payload = sends_one p before core q a.from a.payload b.payload a.sent.sends (subst (λ (f : Option ℕ). Sends p before core q f b.payload) from b.sent.sends) in
-    let caches : a.next.caches ≡ b.next.caches = same_row a.next.caches b.next.caches (a.caches ∙ sym b.caches) (λ k h. row_one p (seen_by k core q) (held_by before k) (held_by a.next k) (held_by b.next k) (a.rows k h) (b.rows k (rw (← a.caches ∙ sym b.caches) h))) in
+    let caches : a.next.caches ≡ b.next.caches = same_row a.next.caches b.next.caches (a.taken.same_length ∙ sym b.taken.same_length) (λ k h. (let inside : k < length before.caches = rw (← a.taken.same_length) h in row_one p (seen_by k core q) (held_by before k) (held_by a.next k) (held_by b.next k) (a.taken.rows k inside) (b.taken.rows k inside))) in
     let memory : a.next.memory.state ≡ b.next.memory.state = a.memory.2 ∙ (ap (λ (row : MemCell). row.next) (same_some (sym a.memory.1 ∙ b.memory.1)) ∙ sym b.memory.2) in
     let opened : a.next.transaction ≡ b.next.transaction = a.opened ∙ (ap (λ f. opening before core block q f a.payload) (sym from) ∙ (ap (λ x. opening before core block q b.from x) payload ∙ sym b.opened)) in
     let next : a.next ≡ b.next = same_picture _ _ _ _ _ _ caches (same_memory _ _ _ _ memory (a.value ∙ sym b.value)) opened in

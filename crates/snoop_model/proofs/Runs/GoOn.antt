@@ -270,8 +270,7 @@ order_free s g core block q first ready =
               payload = line.payload;
               sent = line.sent;
               next = next;
-              caches = rows.1.0;
-              rows = λ k h. rows.1.1 k (rw (← rows.1.0) h);
+              taken = record { same_length = rows.1.0; rows = rows.1.1 };
               memory = line.ordered;
               value = refl;
               opened = refl;

@@ -87,6 +87,11 @@ pub record Hits (next : CacheState) (old new : Line) (word : ℕ) (asking : Op) 
 abbrev pub TakesRow : Protocol → CacheEvent → Line → Line → Type 0
 TakesRow protocol event old new = (row : CacheCell) × (cell_of protocol old.state event ≡ Some row) × (new ≡ moves_to row.next old)
 
+-- each core takes its row for a request
+pub record TakesRows (protocol : Protocol) (core : ℕ) (request : Request) (old new : List Line) : Type 0 where
+  pub same_length : length new ≡ length old
+  pub rows : (k : ℕ) → k < length old → TakesRow protocol (seen_by k core request) (held_at old k) (held_at new k)
+
 -- memory takes its row for an event
 abbrev pub TakesMemRow : Protocol → MemEvent → MemState → MemState → Type 0
 TakesMemRow protocol event old new = (row : MemCell) × (memory_cell_of protocol old event ≡ Some row) × (new ≡ row.next)
@@ -194,8 +199,7 @@ pub record Orders (old : Situation) (core block : ℕ) (request : Request) (new 
   pub payload : Payload
   pub sent : IsOnlySender old.protocol (picture_of old block) core request from payload
   pub next : Picture
-  pub caches : length next.caches ≡ length (picture_of old block).caches
-  pub rows : (k : ℕ) → k < length next.caches → TakesRow old.protocol (seen_by k core request) (held_by (picture_of old block) k) (held_by next k)
+  pub taken : TakesRows old.protocol core request (picture_of old block).caches next.caches
   pub memory : TakesMemRow old.protocol (at_memory request) (picture_of old block).memory.state next.memory.state
   pub value : next.memory.value ≡ (picture_of old block).memory.value
   pub opened : next.transaction ≡ Some (record { core = core; request = request; block = block; payload = payload; value = value_sent (picture_of old block) from payload; from = from })

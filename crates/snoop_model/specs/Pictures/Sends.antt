@@ -3,7 +3,9 @@
 use Rattle.std.specs.Prelude.{◌≡◌, ℕ, ◌<◌, length, Option, Some, None, unwrap_or, if◌then◌else◌}
 use Rattle.snoop_trace.specs.Words.{Data, zero_words}
 use Rattle.snoop_trace.specs.declared.protocol.Protocol.{Protocol}
+use Rattle.snoop_rules.specs.declared.names.CacheAction.{CacheAction}
 use Rattle.snoop_rules.specs.declared.names.CacheAction.TheVariants as action
+use Rattle.snoop_rules.specs.declared.names.MemAction.{MemAction}
 use Rattle.snoop_rules.specs.declared.names.MemAction.TheVariants as mem_action
 use Rattle.snoop_rules.specs.declared.names.Request.{Request}
 use Rattle.snoop_rules.specs.declared.names.Payload.{Payload}
@@ -14,15 +16,25 @@ use Rattle.snoop_rules.specs.MemoryCell.{memory_cell_of}
 use Rattle.snoop_rules.specs.Takers.{seen_by, at_memory, carries_value}
 use Rattle.snoop_model.specs.Pictures.Picture.{Picture, held_by}
 
--- the payload that a row of the cache table sends, if there is the row and it sends
+-- the payload of a cache's action, if it sends
+abbrev pub payload_sent : CacheAction → Option Payload
+payload_sent (action.Send payload target) = Some payload
+payload_sent _ = None
+
+-- the payload of memory's action, if it sends
+abbrev pub memory_payload : MemAction → Option Payload
+memory_payload (mem_action.Send payload) = Some payload
+memory_payload _ = None
+
+-- the payload that a core's row sends, if there is a row and it sends
 abbrev pub sent_by : Option CacheCell → Option Payload
 sent_by None = None
-sent_by (Some row) = elim row.action as (λ _. Option Payload) [ action.Send payload target ↦ Some payload | _ ↦ None ]
+sent_by (Some row) = payload_sent row.action
 
--- the same of the memory table
+-- the payload that memory's row sends, if there is a row and it sends
 abbrev pub sent_by_memory : Option MemCell → Option Payload
 sent_by_memory None = None
-sent_by_memory (Some row) = elim row.action as (λ _. Option Payload) [ mem_action.Send payload ↦ Some payload | _ ↦ None ]
+sent_by_memory (Some row) = memory_payload row.action
 
 -- the controller, memory or a core, sends this payload when the core's request is ordered
 abbrev pub Sends : Protocol → Picture → ℕ → Request → Option ℕ → Payload → Type 0
