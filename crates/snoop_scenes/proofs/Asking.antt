@@ -45,7 +45,7 @@ module _ (old : Situation) (core block word : ℕ) (asking : Op) (within : IsWit
 
   pub goes_on : (answer : Reply) (new : Situation) (entry : Option Item) → IsAbsent old core block asking answer new entry ⊎ Asks old core block word asking answer new entry
       → GoesFirst old (Ask core block word asking) (Ok answer) new
-  goes_on answer new entry move = (entry, (block, (tt, (refl, within, move, has_word))))
+  goes_on answer new entry move = (entry, (block, (tt, record { on_block = refl; within = within; moves = move; has_word = has_word })))
 
   abbrev pub absent : (asking ≡ op.Evict) × (state_of old core block ≡ state.I) → Played old (Ask core block word asking)
   absent is = record { outcome = Ok reply.Absent; new = old; goes = goes_on reply.Absent old None (inl (is.0, is.1, refl, refl, refl)) }

@@ -200,13 +200,12 @@ module _ (old : Situation) (core block : ℕ) (there : core < old.shape.cores) (
         block,
         (
           first,
-          (
-            request,
-            (
-              (there, within),
-              refl,
-              refl,
-              record {
+          record {
+            request = request;
+            within = (there, within);
+            answered = refl;
+            logged = refl;
+            orders = record {
                 ready = (waits, free);
                 from = taken.sender.from;
                 payload = taken.sender.payload;
@@ -217,9 +216,8 @@ module _ (old : Situation) (core block : ℕ) (there : core < old.shape.cores) (
                 value = refl;
                 opened = refl;
                 after = refl;
-              },
-            ),
-          ),
+            };
+          },
         ),
       ),
     )

@@ -144,26 +144,22 @@ module _ (old : Situation) (block : ℕ) (there : block < old.shape.blocks) (clo
       block,
       (
         tt,
-        (
-          closing,
-          (
-            came.did,
-            (
-              refl,
-              there,
-              refl,
-              refl,
-              record {
+        record {
+            closing = closing;
+            did = came.did;
+            on_block = refl;
+            within = there;
+            answered = refl;
+            logged = refl;
+            responds = record {
                 opened = opened;
                 next = next;
                 requestor = came.arrives;
                 memory = record { act = kept.act; settled = kept.settles; value = refl };
                 closed = refl;
                 after = refl;
-              },
-            ),
-          ),
-        ),
+            };
+        },
       ),
     ),
   )

@@ -313,9 +313,9 @@ respond_moves old block closing did new g within r =
 
 -- a move keeps the invariant
 pub move_keeps : (block : ℕ) (old : Situation) (step : Step) (answer : Reply) (new : Situation) (entry : Option Item) → Invariant old → MoveOn block old step answer new entry → Invariant new
-move_keeps block old (Ask core on word asking) answer new entry g m = elim m.2 as (λ _. Invariant new) [
+move_keeps block old (Ask core on word asking) answer new entry g m = elim m.moves as (λ _. Invariant new) [
   | inl idle ↦ subst Invariant (sym idle.3) g
-  | inr a ↦ ask_moves old core block word asking answer new entry g m.1 m.3 a
+  | inr a ↦ ask_moves old core block word asking answer new entry g m.within m.has_word a
 ]
-move_keeps block old (Order core) answer new entry g m = order_moves old core block m.0 new g m.1.0 m.1.3
-move_keeps block old (Respond on) answer new entry g m = respond_moves old block m.0 m.1.0 new g m.1.1.1 m.1.1.4
+move_keeps block old (Order core) answer new entry g m = order_moves old core block m.request new g m.within m.orders
+move_keeps block old (Respond on) answer new entry g m = respond_moves old block m.closing m.did new g m.within m.responds

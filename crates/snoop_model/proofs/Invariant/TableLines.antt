@@ -73,8 +73,8 @@ respond_is_by_table s g block closing did new within r =
 
 -- each move from a coherent situation is by the table
 moves_are_by_table : (s : Situation) → Invariant s → MovesAreByTable s
-moves_are_by_table s g block (Order core) answer new entry m = (m.0, (m.1.3.ready, order_is_by_table s g core block m.0 new m.1.0 m.1.3))
-moves_are_by_table s g block (Respond on) answer new entry m = respond_is_by_table s g block m.0 m.1.0 new m.1.1.1 m.1.1.4
+moves_are_by_table s g block (Order core) answer new entry m = (m.request, (m.orders.ready, order_is_by_table s g core block m.request new m.within m.orders))
+moves_are_by_table s g block (Respond on) answer new entry m = respond_is_by_table s g block m.closing m.did new m.within m.responds
 moves_are_by_table s g block (Ask core on word asking) answer new entry m = tt
 
 -- memory's row for the response leads to the line's last column
@@ -127,7 +127,7 @@ open_is_by_table s g lines block = go (picture_of s block).transaction refl (lin
           done = line.0;
           on_line = line.1;
           settled = λ answer new entry m.
-              let by = respond_is_by_table s g block m.0 m.1.0 new m.1.1.1 m.1.1.4 in
+              let by = respond_is_by_table s g block m.closing m.did new m.within m.responds in
               let same : by.closing ≡ o = cc in
               let settles : Settles s.protocol o.request o.payload (picture_of s block).memory.state by.settled.act (picture_of new block).memory.state = subst (λ (x : Open). Settles s.protocol x.request x.payload (picture_of s block).memory.state by.settled.act (picture_of new block).memory.state) same by.settled.settled in
               line_settles o.payload (picture_of s block).memory.state line.0 (picture_of new block).memory.state by.settled.act s.protocol o.request line.1.before _ line.1.line settles;

@@ -176,17 +176,17 @@ absent_once wanted word asking x y e = one_if_both x y (same_access wanted (reco
 
 -- a move
 pub move_once : (block : ℕ) (old : Situation) (step : Step) (answer : Reply) (new : Situation) (entry : Option Item) → Invariant old → MoveOn block old step answer new entry → (core b : ℕ) (wanted : Access) → tally new core b wanted ≡ tally old core b wanted + one_if (asks core b wanted step)
-move_once block old (Ask c on word asking) answer new entry g m core b wanted = elim m.2 as (λ _. tally new core b wanted ≡ tally old core b wanted + one_if (asks core b wanted (Ask c on word asking))) [
+move_once block old (Ask c on word asking) answer new entry g m core b wanted = elim m.moves as (λ _. tally new core b wanted ≡ tally old core b wanted + one_if (asks core b wanted (Ask c on word asking))) [
   | inl idle ↦
       let x : tally new core b wanted ≡ tally old core b wanted = ap (λ (s : Situation). tally s core b wanted) idle.3 in
       let y = absent_once wanted word asking (eqb c core) (eqb on b) idle.0 in
       omega arith
   | inr a ↦
       let P : ℕ → Type 0 = λ k. tally new core b wanted ≡ tally old core b wanted + one_if (asks core b wanted (Ask c k word asking)) in
-      subst P (sym m.0) (ask_once old c block word asking answer new entry g m.1 a core b wanted)
+      subst P (sym m.on_block) (ask_once old c block word asking answer new entry g m.within a core b wanted)
 ]
-move_once block old (Order c) answer new entry g m core b wanted = order_once old c block m.0 new g m.1.0 m.1.3 core b wanted
-move_once block old (Respond on) answer new entry g m core b wanted = respond_once old block m.0 m.1.0 new g m.1.1.1 m.1.1.4 core b wanted
+move_once block old (Order c) answer new entry g m core b wanted = order_once old c block m.request new g m.within m.orders core b wanted
+move_once block old (Respond on) answer new entry g m core b wanted = respond_once old block m.closing m.did new g m.within m.responds core b wanted
 
 -- a run, from any situation that keeps the invariant
 pub run_once : (steps : List Step) (outcomes : List (Result Reply Refused)) (old new : Situation) → Invariant old → RunFrom old steps outcomes new → OnceMore old steps outcomes new

@@ -201,12 +201,12 @@ respond_queued old b closing did new g q within r =
 
 -- a move keeps the queues
 pub move_queued : (block : ℕ) (old : Situation) (step : Step) (answer : Reply) (new : Situation) (entry : Option Item) → Invariant old → AreQueued old → MoveOn block old step answer new entry → AreQueued new
-move_queued block old (Ask core on word asking) answer new entry g q m = elim m.2 as (λ _. AreQueued new) [
+move_queued block old (Ask core on word asking) answer new entry g q m = elim m.moves as (λ _. AreQueued new) [
   | inl idle ↦ subst AreQueued (sym idle.3) q
-  | inr a ↦ ask_queued old core block word asking answer new entry g q m.1 a
+  | inr a ↦ ask_queued old core block word asking answer new entry g q m.within a
 ]
-move_queued block old (Order core) answer new entry g q m = order_queued old core block m.0 new g q m.1.0 m.1.3
-move_queued block old (Respond on) answer new entry g q m = respond_queued old block m.0 m.1.0 new g q m.1.1.1 m.1.1.4
+move_queued block old (Order core) answer new entry g q m = order_queued old core block m.request new g q m.within m.orders
+move_queued block old (Respond on) answer new entry g q m = respond_queued old block m.closing m.did new g q m.within m.responds
 
 goes_queued : (old : Situation) (step : Step) (outcome : Result Reply Refused) (new : Situation) → Invariant old → AreQueued old → Goes old step outcome new → AreQueued new
 goes_queued old step (Ok answer) new g q m = move_queued m.1.0 old step answer new m.0 g q m.1.1

@@ -152,7 +152,7 @@ asks_no_stall s core block word asking answer new entry (inr asks) stall =
 ask_parts : (s : Situation) (core block word : ℕ) (asking : Op) (answer : Reply) (new : Situation) (entry : Option Item) → FirstMove s (Ask core block word asking) answer new entry → IsWithin s core block × (IsAbsent s core block asking answer new entry ⊎ Asks s core block word asking answer new entry) × HasWord s.shape word asking
 ask_parts s core block word asking answer new entry move =
     let P : ℕ → Type 0 = λ b. IsWithin s core b × (IsAbsent s core b asking answer new entry ⊎ Asks s core b word asking answer new entry) × HasWord s.shape word asking in
-    subst P (sym move.1.1.0) (move.1.1.1, move.1.1.2, move.1.1.3)
+    subst P (sym move.1.1.on_block) (move.1.1.within, move.1.1.moves, move.1.1.has_word)
 
 not_refused : (s : Situation) → IsWellKept s → (step : Step) (answer : Reply) (new : Situation) (entry : Option Item) (cause : Refused) → FirstMove s step answer new entry → ¬ Refuses s step cause
 not_refused s kept (Ask core block word asking) answer new entry cause move refused =
@@ -168,27 +168,27 @@ not_refused s kept (Ask core block word asking) answer new entry cause move refu
     ]
 not_refused s kept (Order core) answer new entry cause move refused =
     let block : ℕ = move.0 in
-    let its = move.1.1.1 in
-    let in_cores : core < s.shape.cores = its.0.0 in
+    let its = move.1.1 in
+    let in_cores : core < s.shape.cores = its.within.0 in
     elim (order_cause s core cause refused) [
       | inl h ↦ let past : s.shape.cores ≤ core = h.1 in absurd (omega arith)
       | inr rest ↦ elim rest [
-        | inl h ↦ h.2 block move.1.1.0 its.3.ready.0
+        | inl h ↦ h.2 block its.request its.orders.ready.0
         | inr h ↦
             let same : h.0 ≡ block = same_some (sym h.1.2 ∙ move.1.0) in
             let taken : is_some (picture_of s block).transaction ≡ true = subst (λ (b : ℕ). is_some (picture_of s b).transaction ≡ true) same h.1.3 in
-            let free : is_some (picture_of s block).transaction ≡ false = ap is_some its.3.ready.1 in
+            let free : is_some (picture_of s block).transaction ≡ false = ap is_some its.orders.ready.1 in
             cc
       ]
     ]
 not_refused s kept (Respond block) answer new entry cause move refused =
-    let its = move.1.1.1.1 in
-    let same : block ≡ move.0 = its.0 in
-    let in_blocks : move.0 < s.shape.blocks = its.1 in
+    let its = move.1.1 in
+    let same : block ≡ move.0 = its.on_block in
+    let in_blocks : move.0 < s.shape.blocks = its.within in
     elim (respond_cause s block cause refused) [
       | inl h ↦ let past : s.shape.blocks ≤ block = h.1 in absurd (omega arith)
       | inr h ↦
-          let opened : (picture_of s block).transaction ≡ Some move.1.1.0 = subst (λ (b : ℕ). (picture_of s b).transaction ≡ Some move.1.1.0) (sym same) its.4.opened in
+          let opened : (picture_of s block).transaction ≡ Some its.closing = subst (λ (b : ℕ). (picture_of s b).transaction ≡ Some its.closing) (sym same) its.responds.opened in
           cc
     ]
 
@@ -350,19 +350,19 @@ move_one s (Ask core block word asking) answer answer' new new' entry entry' a b
     asks_or_absent s core block word asking answer answer' new new' entry entry' (ask_parts s core block word asking answer new entry a).1 (ask_parts s core block word asking answer' new' entry' b).1
 move_one s (Order core) answer answer' new new' entry entry' a b =
     let block : b.0 ≡ a.0 = same_some (sym b.1.0 ∙ a.1.0) in
-    let P : ℕ → Type 0 = λ on. Orders s core on b.1.1.0 new' in
-    let there : Orders s core a.0 b.1.1.0 new' = subst P block b.1.1.1.3 in
-    let q : b.1.1.0 ≡ a.1.1.0 = same_some (sym there.ready.0 ∙ a.1.1.1.3.ready.0) in
+    let P : ℕ → Type 0 = λ on. Orders s core on b.1.1.request new' in
+    let there : Orders s core a.0 b.1.1.request new' = subst P block b.1.1.orders in
+    let q : b.1.1.request ≡ a.1.1.request = same_some (sym there.ready.0 ∙ a.1.1.orders.ready.0) in
     let Q : Request → Type 0 = λ x. Orders s core a.0 x new' in (
-      a.1.1.1.1 ∙ (ap (λ (x : Request). reply.Ordered x) (sym q) ∙ sym b.1.1.1.1),
-      orders_one s core a.0 a.1.1.0 new new' a.1.1.1.3 (subst Q q there),
+      a.1.1.answered ∙ (ap (λ (x : Request). reply.Ordered x) (sym q) ∙ sym b.1.1.answered),
+      orders_one s core a.0 a.1.1.request new new' a.1.1.orders (subst Q q there),
     )
 move_one s (Respond block) answer answer' new new' entry entry' a b =
-    let P : ℕ → Type 0 = λ on. Responds s on a.1.1.0 a.1.1.1.0 new in
-    let Q : ℕ → Type 0 = λ on. Responds s on b.1.1.0 b.1.1.1.0 new' in
-    let same = responds_one s block a.1.1.0 b.1.1.0 a.1.1.1.0 b.1.1.1.0 new new' (subst P (sym a.1.1.1.1.0) a.1.1.1.1.4) (subst Q (sym b.1.1.1.1.0) b.1.1.1.1.4) in
+    let P : ℕ → Type 0 = λ on. Responds s on a.1.1.closing a.1.1.did new in
+    let Q : ℕ → Type 0 = λ on. Responds s on b.1.1.closing b.1.1.did new' in
+    let same = responds_one s block a.1.1.closing b.1.1.closing a.1.1.did b.1.1.did new new' (subst P (sym a.1.1.on_block) a.1.1.responds) (subst Q (sym b.1.1.on_block) b.1.1.responds) in
     let came : Open → Option Did → Reply = λ o did. reply.Came o.payload o.from did in (
-      a.1.1.1.1.2 ∙ (ap (λ o. came o a.1.1.1.0) same.0 ∙ (ap (λ d. came b.1.1.0 d) same.1 ∙ sym b.1.1.1.1.2)),
+      a.1.1.answered ∙ (ap (λ o. came o a.1.1.did) same.0 ∙ (ap (λ d. came b.1.1.closing d) same.1 ∙ sym b.1.1.answered)),
       same.2,
     )
 

@@ -130,18 +130,18 @@ module _ (s : Situation) (core block word : ℕ) (within : IsWithin s core block
         block,
         (
           tt,
-          (
-            refl,
-            within,
-            inr (record {
+          record {
+            on_block = refl;
+            within = within;
+            moves = inr (record {
               row = record { action = action.Hit; next = next };
               is_row = row;
               held = line;
               taken = (v, (record { before = ws; after = ws; kept = kept; performed = (refl, refl); held = refl }, refl, refl));
               after = refl;
-            }),
-            there,
-          ),
+            });
+            has_word = there;
+          },
         ),
       )
   hit (op.Store w) next row allowed there ws kept =
@@ -151,18 +151,18 @@ module _ (s : Situation) (core block word : ℕ) (within : IsWithin s core block
         block,
         (
           tt,
-          (
-            refl,
-            within,
-            inr (record {
+          record {
+            on_block = refl;
+            within = within;
+            moves = inr (record {
               row = record { action = action.Hit; next = next };
               is_row = row;
               held = line;
               taken = (w, (record { before = ws; after = slice_set ws word w; kept = kept; performed = (refl, refl); held = refl }, refl, refl));
               after = refl;
-            }),
-            there,
-          ),
+            });
+            has_word = there;
+          },
         ),
       )
   hit op.Evict next row allowed there ws kept = cc
@@ -174,11 +174,11 @@ module _ (s : Situation) (core block word : ℕ) (within : IsWithin s core block
   by_row asking (action.Issue r) next row allowed there kept =
       let line : Line = record { state = next; kept = kept_on next held.kept; waiting = kept_waiting word asking } in
       moved s (Ask core block word asking) (reply.Issued r) (after_ask s core block (action.Issue r) line None) None
-      (block, (tt, (refl, within, inr (record { row = record { action = action.Issue r; next = next }; is_row = row; held = line; taken = (refl, refl, refl); after = refl }), there)))
+      (block, (tt, record { on_block = refl; within = within; moves = inr (record { row = record { action = action.Issue r; next = next }; is_row = row; held = line; taken = (refl, refl, refl); after = refl }); has_word = there }))
   by_row asking action.Drop next row allowed there kept =
       let line : Line = moves_to next held in
       moved s (Ask core block word asking) reply.Gone (after_ask s core block action.Drop line None) None
-      (block, (tt, (refl, within, inr (record { row = record { action = action.Drop; next = next }; is_row = row; held = line; taken = (refl, refl, refl); after = refl }), there)))
+      (block, (tt, record { on_block = refl; within = within; moves = inr (record { row = record { action = action.Drop; next = next }; is_row = row; held = line; taken = (refl, refl, refl); after = refl }); has_word = there }))
   by_row asking action.None next row allowed there kept = cc
   by_row asking action.FillLoad next row allowed there kept = cc
   by_row asking action.FillStore next row allowed there kept = cc
@@ -192,7 +192,7 @@ ask_within s g core block word asking within there =
     elim (or_not (is_idle_evict line.state (asked asking))) as (λ _. LeadsOn s (Ask core block word asking)) [
       | inl idle ↦
           let is = idle_evict line.state asking idle in
-          moved s (Ask core block word asking) reply.Absent s None (block, (tt, (refl, within, inl (is.0, is.1, refl, refl, refl), there)))
+          moved s (Ask core block word asking) reply.Absent s None (block, (tt, record { on_block = refl; within = within; moves = inl (is.0, is.1, refl, refl, refl); has_word = there }))
       | inr busy ↦
           let good = g.blocks block within.1 in
           let row = ask_possible p s.shape.cores (flat_words s.log block) (picture_of s block) core asking good within.0 busy in
@@ -258,26 +258,24 @@ order_free s g core block q first ready =
       block,
       (
         first,
-        (
-          q,
-          (
-            waits_within s g core block q ready.0,
-            refl,
-            refl,
-            record {
-              ready = ready;
-              from = line.from;
-              payload = line.payload;
-              sent = line.sent;
-              next = next;
-              taken = record { same_length = rows.1.0; rows = rows.1.1 };
-              memory = line.ordered;
-              value = refl;
-              opened = refl;
-              after = refl;
-            },
-          ),
-        ),
+        record {
+          request = q;
+          within = waits_within s g core block q ready.0;
+          answered = refl;
+          logged = refl;
+          orders = record {
+            ready = ready;
+            from = line.from;
+            payload = line.payload;
+            sent = line.sent;
+            next = next;
+            taken = record { same_length = rows.1.0; rows = rows.1.1 };
+            memory = line.ordered;
+            value = refl;
+            opened = refl;
+            after = refl;
+          };
+        },
       ),
     )
 
@@ -444,26 +442,22 @@ respond_open s g block within o opened =
       block,
       (
         tt,
-        (
-          o,
-          (
-            caches.1.0,
-            (
-              refl,
-              within,
-              refl,
-              refl,
-              record {
-                opened = opened;
-                next = next;
-                requestor = caches.1.1;
-                memory = memory.1;
-                closed = refl;
-                after = refl;
-              },
-            ),
-          ),
-        ),
+        record {
+          closing = o;
+          did = caches.1.0;
+          on_block = refl;
+          within = within;
+          answered = refl;
+          logged = refl;
+          responds = record {
+            opened = opened;
+            next = next;
+            requestor = caches.1.1;
+            memory = memory.1;
+            closed = refl;
+            after = refl;
+          };
+        },
       ),
     )
 

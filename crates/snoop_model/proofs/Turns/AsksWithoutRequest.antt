@@ -34,7 +34,7 @@ none_some o b e f = cc
 
 -- the queues and the transactions are as before
 same_queues : (s t : Situation) (core block word : ℕ) (asking : Op) (answer : Reply) (entry : Option Item) → FirstMove s (Ask core block word asking) answer t entry → ((request : Request) → answer ≢ Issued request) → (t.queues ≡ s.queues) × (t.transactions ≡ s.transactions)
-same_queues s t core block word asking answer entry m other = by_kind m.1.1.2
+same_queues s t core block word asking answer entry m other = by_kind m.1.1.moves
   where
     by_act : (a : Asks s core m.0 word asking answer t entry) → (act : CacheAction) → a.row.action ≡ act → queues_after a.row.action s.queues core m.0 ≡ s.queues
     by_act a (action.Issue request) e =

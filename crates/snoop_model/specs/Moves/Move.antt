@@ -219,19 +219,36 @@ pub record Responds (old : Situation) (block : ℕ) (closing : Open) (did : Opti
     log = old.log ++ item.Came (came_of closing) did ∷ [];
   }
 
+-- an Ask of a core that there is, on this block, by a word that there is
+pub record AskMove (block : ℕ) (old : Situation) (core on word : ℕ) (asking : Op) (answer : Reply) (new : Situation) (entry : Option Item) : Type 0 where
+  pub on_block : on ≡ block
+  pub within : IsWithin old core block
+  pub moves : MovesAsk old core block word asking answer new entry
+  pub has_word : HasWord old.shape word asking
+
+-- an Order on this block: what is ordered is replied, and is the item
+pub record OrderMove (block : ℕ) (old : Situation) (core : ℕ) (answer : Reply) (new : Situation) (entry : Option Item) : Type 0 where
+  pub request : Request
+  pub within : IsWithin old core block
+  pub answered : answer ≡ reply.Ordered request
+  pub logged : entry ≡ Some (item.Sent (record { core = core; request = request; block = block }))
+  pub orders : Orders old core block request new
+
+-- a Respond on this block: the response, with what it performed, is replied, and is the item
+pub record RespondMove (block : ℕ) (old : Situation) (on : ℕ) (answer : Reply) (new : Situation) (entry : Option Item) : Type 0 where
+  pub closing : Open
+  pub did : Option Did
+  pub on_block : on ≡ block
+  pub within : block < old.shape.blocks
+  pub answered : answer ≡ reply.Came closing.payload closing.from did
+  pub logged : entry ≡ Some (item.Came (came_of closing) did)
+  pub responds : Responds old block closing did new
+
 -- the step, on this block, is answered by this reply, leads from old to new, and adds this item, if any
 abbrev pub MoveOn : ℕ → Situation → Step → Reply → Situation → Option Item → Type 0
-MoveOn block old (Ask core on word asking) answer new entry =
-    (on ≡ block) × IsWithin old core block × MovesAsk old core block word asking answer new entry × HasWord old.shape word asking
-MoveOn block old (Order core) answer new entry =
-    (request : Request) × (IsWithin old core block × (answer ≡ reply.Ordered request)
-    × (entry ≡ Some (item.Sent (record { core = core; request = request; block = block })))
-    × Orders old core block request new)
-MoveOn block old (Respond on) answer new entry =
-    (closing : Open) × ((did : Option Did) × ((on ≡ block) × (block < old.shape.blocks)
-    × (answer ≡ reply.Came closing.payload closing.from did)
-    × (entry ≡ Some (item.Came (came_of closing) did))
-    × Responds old block closing did new))
+MoveOn block old (Ask core on word asking) answer new entry = AskMove block old core on word asking answer new entry
+MoveOn block old (Order core) answer new entry = OrderMove block old core answer new entry
+MoveOn block old (Respond on) answer new entry = RespondMove block old on answer new entry
 
 -- a move, on any block where it is one
 abbrev pub Move : Situation → Step → Reply → Situation → Option Item → Type 0
