@@ -5,7 +5,6 @@ use Rattle.snoop_trace.specs.declared.protocol.Protocol.{Protocol}
 use Rattle.snoop_rules.specs.declared.names.MemState.{MemState}
 use Rattle.snoop_rules.specs.declared.names.MemEvent.{MemEvent}
 use Rattle.snoop_rules.specs.declared.names.MemAction.{MemAction}
-use Rattle.snoop_rules.specs.declared.names.MemCell.{MemCell}
 use Rattle.snoop_rules.specs.MemoryCell.{MemoryCell}
 
 -- a pair has one row at most

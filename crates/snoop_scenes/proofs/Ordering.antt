@@ -1,5 +1,5 @@
 -- An Order played, where there are two cores.
-use Rattle.std.proofs.Common.{◌≡◌, ℕ, zero, suc, ◌<◌, List, [], ◌∷◌, ◌++◌, length, Option, Some, None, Ok, Err, refl, ap, sym, ◌∙◌, subst, arith}
+use Rattle.std.proofs.Common.{◌≡◌, ℕ, zero, suc, ◌<◌, List, [], ◌∷◌, ◌++◌, Option, Some, None, Ok, Err, refl, ap, sym, ◌∙◌, subst, arith}
 use Rattle.std.specs.Prelude.{slice_get, is_some}
 use Rattle.std.proofs.Math.Dec.{ltb}
 use Rattle.std.proofs.lemmas.Bool.{ltb-true}
@@ -206,16 +206,16 @@ module _ (old : Situation) (core block : ℕ) (there : core < old.shape.cores) (
             answered = refl;
             logged = refl;
             orders = record {
-                ready = (waits, free);
-                from = taken.sender.from;
-                payload = taken.sender.payload;
-                sent = taken.sender.sent;
-                next = next;
-                taken = taken.taken;
-                memory = (record { action = taken.act; next = taken.memory }, taken.row, refl);
-                value = refl;
-                opened = refl;
-                after = refl;
+              ready = (waits, free);
+              from = taken.sender.from;
+              payload = taken.sender.payload;
+              sent = taken.sender.sent;
+              next = next;
+              taken = taken.taken;
+              memory = (record { action = taken.act; next = taken.memory }, taken.row, refl);
+              value = refl;
+              opened = refl;
+              after = refl;
             };
           },
         ),

@@ -145,20 +145,20 @@ module _ (old : Situation) (block : ℕ) (there : block < old.shape.blocks) (clo
       (
         tt,
         record {
-            closing = closing;
-            did = came.did;
-            on_block = refl;
-            within = there;
-            answered = refl;
-            logged = refl;
-            responds = record {
-                opened = opened;
-                next = next;
-                requestor = came.arrives;
-                memory = record { act = kept.act; settled = kept.settles; value = refl };
-                closed = refl;
-                after = refl;
-            };
+          closing = closing;
+          did = came.did;
+          on_block = refl;
+          within = there;
+          answered = refl;
+          logged = refl;
+          responds = record {
+            opened = opened;
+            next = next;
+            requestor = came.arrives;
+            memory = record { act = kept.act; settled = kept.settles; value = refl };
+            closed = refl;
+            after = refl;
+          };
         },
       ),
     ),

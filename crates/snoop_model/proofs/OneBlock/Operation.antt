@@ -1,5 +1,5 @@
 -- What a move's operation, if it has one, does to its block's words in flat memory.
-use Rattle.std.proofs.Common.{◌≡◌, List, ℕ, Bool, true, cond, Option, Some, None}
+use Rattle.std.proofs.Common.{◌≡◌, List, ℕ, true, cond, Option, Some, None}
 use Rattle.std.specs.Prelude.{⊤, slice_set}
 use Rattle.snoop_trace.specs.Words.{word_at}
 use Rattle.snoop_history.specs.declared.items.Did.{Did}

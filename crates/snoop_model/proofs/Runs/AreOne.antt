@@ -23,7 +23,7 @@ use Rattle.snoop_rules.specs.declared.names.CacheCell.{CacheCell}
 use Rattle.snoop_rules.specs.declared.names.MemCell.{MemCell}
 use Rattle.snoop_rules.specs.Cell.{cell_of}
 use Rattle.snoop_rules.specs.MemoryCell.{MemoryCell}
-use Rattle.snoop_rules.specs.Takers.{asked, at_memory, arrival_at_memory, takes_payload, seen_by}
+use Rattle.snoop_rules.specs.Takers.{asked, arrival_at_memory, takes_payload, seen_by}
 use Rattle.snoop_rules.proofs.Rows.{Cell-one}
 use Rattle.snoop_rules.proofs.MemRows.{MemoryCell-one}
 use Rattle.snoop_history.specs.declared.items.Did.{Did}
