@@ -56,11 +56,11 @@ arrives PutM closing protocol log old new did within a = ap (λ (l : List Line).
 arrives GetS closing protocol log old new did within f =
     ap (λ (l : List Line). waiting_request (held_at l closing.core).state) f.held
     ∙ (ap (λ (l : Line). waiting_request l.state) (get_or-set_same old closing.core f.line nothing_held within ∙ f.fills.held)
-    ∙ fill-waits protocol (held_at old closing.core).state f.fills.event f.fills.act f.fills.next f.asking.op f.fills.fill f.fills.row)
+    ∙ fill-waits protocol (held_at old closing.core).state f.fills.event f.fills.row.action f.fills.row.next f.asking.op f.fills.fill f.fills.is_row)
 arrives GetM closing protocol log old new did within f =
     ap (λ (l : List Line). waiting_request (held_at l closing.core).state) f.held
     ∙ (ap (λ (l : Line). waiting_request l.state) (get_or-set_same old closing.core f.line nothing_held within ∙ f.fills.held)
-    ∙ fill-waits protocol (held_at old closing.core).state f.fills.event f.fills.act f.fills.next f.asking.op f.fills.fill f.fills.row)
+    ∙ fill-waits protocol (held_at old closing.core).state f.fills.event f.fills.row.action f.fills.row.next f.asking.op f.fills.fill f.fills.is_row)
 
 closed_at : (s t : Situation) (core block word : ℕ) (asking : Op) (transaction closing : Open) (did : Option Did) → IsWellKept s → core < s.shape.cores → block < s.shape.blocks
     → waiting_request (state_of s core block) ≡ None → (picture_of s block).transaction ≡ Some transaction → transaction.core ≡ core → Responds s block closing did t → turn_of t core block word asking true ≡ None
@@ -88,6 +88,6 @@ pub closed_after : (s t : Situation) (core block word : ℕ) (asking : Op) (answ
     → waiting_request (state_of s core block) ≡ None → (picture_of s block).transaction ≡ Some transaction → transaction.core ≡ core → FirstMove s (Respond block) answer t entry → turn_of t core block word asking true ≡ None
 closed_after s t core block word asking answer entry transaction kept inside none there its move =
     let m = move.1.1 in
-    let here : block < s.shape.blocks = subst (λ (b : ℕ). b < s.shape.blocks) (sym m.1.1.0) m.1.1.1 in
-    let r : Responds s block m.0 m.1.0 t = subst (λ (b : ℕ). Responds s b m.0 m.1.0 t) (sym m.1.1.0) m.1.1.4 in
-    closed_at s t core block word asking transaction m.0 m.1.0 kept inside here none there its r
+    let here : block < s.shape.blocks = subst (λ (b : ℕ). b < s.shape.blocks) (sym m.on_block) m.within in
+    let r : Responds s block m.closing m.did t = subst (λ (b : ℕ). Responds s b m.closing m.did t) (sym m.on_block) m.responds in
+    closed_at s t core block word asking transaction m.closing m.did kept inside here none there its r

@@ -20,9 +20,9 @@ use Rattle.snoop_engine.specs.Written.{WritesFront, WritesLines}
 
 -- a step keeps the shape
 pub same_shape : (s t : Situation) (step : Step) (answer : Reply) (entry : Option Item) → FirstMove s step answer t entry → t.shape ≡ s.shape
-same_shape s t (Ask core on word asking) answer entry m = elim m.1.1.2 [ inl absent ↦ ap (λ (x : Situation). x.shape) absent.3 | inr asks ↦ ap (λ (x : Situation). x.shape) asks.after ]
-same_shape s t (Order core) answer entry m = ap (λ (x : Situation). x.shape) m.1.1.1.3.after
-same_shape s t (Respond on) answer entry m = ap (λ (x : Situation). x.shape) m.1.1.1.1.4.after
+same_shape s t (Ask core on word asking) answer entry m = elim m.1.1.moves [ inl absent ↦ ap (λ (x : Situation). x.shape) absent.3 | inr asks ↦ ap (λ (x : Situation). x.shape) asks.after ]
+same_shape s t (Order core) answer entry m = ap (λ (x : Situation). x.shape) m.1.1.orders.after
+same_shape s t (Respond on) answer entry m = ap (λ (x : Situation). x.shape) m.1.1.responds.after
 
 -- and so does a run
 pub run_shape : (steps : List Step) (outcomes : List (Result Reply Refused)) (old new : Situation) → FirstRunFrom old steps outcomes new → new.shape ≡ old.shape

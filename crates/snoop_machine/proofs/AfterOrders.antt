@@ -15,7 +15,7 @@ use Rattle.snoop_bus.specs.Traffic.{Traffic, Waiting, no_queue, waiting_of, head
 use Rattle.snoop_model.specs.Pictures.Lines.{Line}
 use Rattle.snoop_model.specs.Pictures.Picture.{held_at, nothing_held}
 use Rattle.snoop_model.specs.Pictures.Sound.{IsSound, IsProper, IsEachOnce, line_at}
-use Rattle.snoop_model.specs.Pictures.Message.{TakesRows}
+use Rattle.snoop_model.specs.Moves.Move.{TakesRows}
 use Rattle.snoop_model.proofs.Lines.EachRow.{row_of}
 use Rattle.snoop_model.proofs.Tables.Rows.{own-waits, other-waits, IsProper-order}
 use Rattle.snoop_machine.proofs.QueueViews.{blocks_of}
@@ -74,7 +74,7 @@ module _ (shape : Extent) (caches after : List (List Line)) (bus : Traffic) (p :
 
   waits_other : (k : ℕ) → (k ≡ core → ⊥) → waiting_request (line_at after k block).state ≡ waiting_request (line_at caches k block).state
   waits_other k ne = elim (cases_lt k (length (row_of caches block))) [
-    | inl lt ↦ let t = takes.rows k lt in ap (λ (x : Line). waiting_request x.state) t.1.1.1 ∙ other-waits p (line_at caches k block).state k core request t.0 t.1.0 ne t.1.1.0
+    | inl lt ↦ let t = takes.rows k lt in ap (λ (x : Line). waiting_request x.state) t.2 ∙ other-waits p (line_at caches k block).state k core request t.0.action t.0.next ne t.1
     | inr ge ↦ let same = takes.same_length in
         ap (λ (x : Line). waiting_request x.state) (get_or_past (row_of after block) k nothing_held (omega arith) ∙ sym (get_or_past (row_of caches block) k nothing_held ge))
   ]
@@ -83,14 +83,14 @@ module _ (shape : Extent) (caches after : List (List Line)) (bus : Traffic) (p :
   waits_own =
       let row = sound.row block in_blocks in
       let t = takes.rows core (omega arith) in
-      ap (λ (x : Line). waiting_request x.state) t.1.1.1 ∙ own-waits p (line_at caches core block).state core request t.0 t.1.0 t.1.1.0
+      ap (λ (x : Line). waiting_request x.state) t.2 ∙ own-waits p (line_at caches core block).state core request t.0.action t.0.next t.1
 
   proper_block : (k : ℕ) → IsProper (line_at after k block)
   proper_block k = elim (cases_lt k (length (row_of caches block))) [
     | inl lt ↦
         let t = takes.rows k lt in
         let P : Line → Type 0 = λ x. IsProper x in
-        subst P (sym t.1.1.1) (IsProper-order p (line_at caches k block) k core request t.0 t.1.0 (sound.proper k block) t.1.1.0)
+        subst P (sym t.2) (IsProper-order p (line_at caches k block) k core request t.0.action t.0.next (sound.proper k block) t.1)
     | inr ge ↦
         let same = takes.same_length in
         let P : Line → Type 0 = λ x. IsProper x in

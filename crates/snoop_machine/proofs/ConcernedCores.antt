@@ -2,6 +2,7 @@
 use Rattle.std.proofs.Common.{◌≡◌, ◌≢◌, ℕ, ◌<◌, List, length, true, false, None, Some, refl, sym, ap, ◌∙◌, subst, arith, inl, inr}
 use Rattle.std.proofs.lemmas.Bool.{eq-eqb, ne_eqb, cases_eq, cases_lt}
 use Rattle.std.proofs.lemmas.List.{get_or_past}
+use Rattle.std.proofs.lemmas.Option.{same_Some}
 use Rattle.snoop_trace.specs.declared.protocol.Protocol.{Protocol}
 use Rattle.snoop_trace.specs.declared.protocol.Protocol.TheVariants.{Msi, Mesi}
 use Rattle.snoop_rules.specs.declared.names.Request.{Request}
@@ -11,6 +12,7 @@ use Rattle.snoop_rules.specs.declared.names.CacheState.TheVariants as state
 use Rattle.snoop_rules.specs.declared.names.CacheEvent.{CacheEvent}
 use Rattle.snoop_rules.specs.declared.names.CacheAction.{CacheAction}
 use Rattle.snoop_rules.specs.declared.names.CacheAction.TheVariants as action
+use Rattle.snoop_rules.specs.declared.names.CacheCell.{CacheCell}
 use Rattle.snoop_rules.specs.Cell.{Cell}
 use Rattle.snoop_rules.specs.Waits.{waiting_request}
 use Rattle.snoop_rules.specs.Takers.{seen_by, own, other}
@@ -26,24 +28,24 @@ use Rattle.snoop_machine.proofs.ProperLines.{moves_to_same}
 
 still : (p : Protocol) (s : CacheState) (q : Request) → concerns q s ≡ false → HasRow p s (other q) → Cell p s (other q) action.None s
 unfolding is_owner
-still p state.I GetS h there = (refl, refl)
-still p state.IsAd GetS h there = (refl, refl)
-still p state.IsD GetS h there = absurd there.1.1
-still p state.ImAd GetS h there = (refl, refl)
-still p state.ImD GetS h there = absurd there.1.1
-still p state.S GetS h there = (refl, refl)
-still p state.SmAd GetS h there = (refl, refl)
-still p state.SmD GetS h there = absurd there.1.1
+still p state.I GetS h there = refl
+still p state.IsAd GetS h there = refl
+still p state.IsD GetS h there = (let e = there.1 in cc)
+still p state.ImAd GetS h there = refl
+still p state.ImD GetS h there = (let e = there.1 in cc)
+still p state.S GetS h there = refl
+still p state.SmAd GetS h there = refl
+still p state.SmD GetS h there = (let e = there.1 in cc)
 still p state.E GetS h there = cc
 still p state.M GetS h there = cc
 still p state.EiA GetS h there = cc
 still p state.MiA GetS h there = cc
-still p state.IiA GetS h there = (refl, refl)
-still p state.I GetM h there = (refl, refl)
-still p state.IsAd GetM h there = (refl, refl)
-still p state.IsD GetM h there = absurd there.1.1
-still p state.ImAd GetM h there = (refl, refl)
-still p state.ImD GetM h there = absurd there.1.1
+still p state.IiA GetS h there = refl
+still p state.I GetM h there = refl
+still p state.IsAd GetM h there = refl
+still p state.IsD GetM h there = (let e = there.1 in cc)
+still p state.ImAd GetM h there = refl
+still p state.ImD GetM h there = (let e = there.1 in cc)
 still p state.S GetM h there = cc
 still p state.SmAd GetM h there = cc
 still p state.SmD GetM h there = cc
@@ -51,22 +53,22 @@ still p state.E GetM h there = cc
 still p state.M GetM h there = cc
 still p state.EiA GetM h there = cc
 still p state.MiA GetM h there = cc
-still p state.IiA GetM h there = (refl, refl)
-still p state.I PutM h there = (refl, refl)
-still p state.IsAd PutM h there = (refl, refl)
-still p state.IsD PutM h there = absurd there.1.1
-still p state.ImAd PutM h there = (refl, refl)
-still p state.ImD PutM h there = absurd there.1.1
-still p state.S PutM h there = (refl, refl)
-still p state.SmAd PutM h there = (refl, refl)
-still p state.SmD PutM h there = absurd there.1.1
-still Msi state.E PutM h there = absurd there.1.1
-still Mesi state.E PutM h there = (refl, refl)
-still p state.M PutM h there = (refl, refl)
-still Msi state.EiA PutM h there = absurd there.1.1
-still Mesi state.EiA PutM h there = (refl, refl)
-still p state.MiA PutM h there = (refl, refl)
-still p state.IiA PutM h there = (refl, refl)
+still p state.IiA GetM h there = refl
+still p state.I PutM h there = refl
+still p state.IsAd PutM h there = refl
+still p state.IsD PutM h there = (let e = there.1 in cc)
+still p state.ImAd PutM h there = refl
+still p state.ImD PutM h there = (let e = there.1 in cc)
+still p state.S PutM h there = refl
+still p state.SmAd PutM h there = refl
+still p state.SmD PutM h there = (let e = there.1 in cc)
+still Msi state.E PutM h there = (let e = there.1 in cc)
+still Mesi state.E PutM h there = refl
+still p state.M PutM h there = refl
+still Msi state.EiA PutM h there = (let e = there.1 in cc)
+still Mesi state.EiA PutM h there = refl
+still p state.MiA PutM h there = refl
+still p state.IiA PutM h there = refl
 
 none_concerned : (q : Request) → concerns q state.I ≡ false
 unfolding is_owner
@@ -102,7 +104,7 @@ module _ (p : Protocol) (lines : List Line) (core : ℕ) (q : Request) (set : Li
 
     -- its line stays as it is
     pub TakesRow-passed : IsProper (held_at lines k) → TakesRow p (seen_by k core q) (held_at lines k) (held_at lines k)
-    TakesRow-passed proper = (action.None, ((held_at lines k).state, (Cell-passed, sym (moves_to_same (held_at lines k) proper))))
+    TakesRow-passed proper = (record { action = action.None; next = (held_at lines k).state }, Cell-passed, sym (moves_to_same (held_at lines k) proper))
 
 -- a core whose request waits is one that there is
 pub waits_within : (lines : List Line) (core : ℕ) (q : Request) → waiting_request (held_at lines core).state ≡ Some q → core < length lines
@@ -122,11 +124,11 @@ Cell-leaves p k core q act next row = elim (cases_eq k core) [
 ]
   where
     go_own : (q : Request) → Cell p state.I (own q) act next → next ≡ state.I
-    go_own GetS row = absurd row
-    go_own GetM row = absurd row
-    go_own PutM row = absurd row
+    go_own GetS row = cc
+    go_own GetM row = cc
+    go_own PutM row = cc
 
     go_other : (q : Request) → Cell p state.I (other q) act next → next ≡ state.I
-    go_other GetS row = row.1
-    go_other GetM row = row.1
-    go_other PutM row = row.1
+    go_other GetS row = sym (ap (λ (x : CacheCell). x.next) (same_Some _ _ row))
+    go_other GetM row = sym (ap (λ (x : CacheCell). x.next) (same_Some _ _ row))
+    go_other PutM row = sym (ap (λ (x : CacheCell). x.next) (same_Some _ _ row))

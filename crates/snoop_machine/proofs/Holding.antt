@@ -25,12 +25,12 @@ use Rattle.snoop_machine.specs.Following.{LosesLines, AddsLines}
 
 -- a core that leaves I on a block moves to I on none
 stays_out : (before : Standing) (new : Situation) (taking : Step) (core : ℕ) (answer : Reply) (entry : Option Item) → FirstMove before.situation taking answer new entry → NeedsLine before taking core → ¬ MovesToI before.situation new core
-stays_out before new (step.Ask asker block word asking) core answer entry m leaves moved = let old = before.situation in elim m.1.1.2 [
+stays_out before new (step.Ask asker block word asking) core answer entry m leaves moved = let old = before.situation in elim m.1.1.moves [
   | inl absent ↦ moved.1.0 (subst (λ (s : Situation). state_of s core moved.0 ≡ I) absent.3 moved.1.1)
   | inr asks ↦ elim (cases_eq moved.0 m.0) [
     | inl e ↦
         let there : state_of old core moved.0 ≡ I =
-        subst (λ (b : ℕ). state_of old core b ≡ I) (m.1.1.0 ∙ sym e) (subst (λ (k : ℕ). state_of old k block ≡ I) leaves.0 leaves.3) in
+        subst (λ (b : ℕ). state_of old core b ≡ I) (m.1.1.on_block ∙ sym e) (subst (λ (k : ℕ). state_of old k block ≡ I) leaves.0 leaves.3) in
         moved.1.0 there
     | inr ne ↦
         let other : row_of new.caches moved.0 ≡ row_of old.caches moved.0 =

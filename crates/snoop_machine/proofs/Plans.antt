@@ -129,23 +129,23 @@ performs-one word op.Evict a b v w m n e p q = absurd p
 module _ (s : Situation) (core block word : ℕ) (asking : Op) (answer : Reply) (new : Situation) (added : Option Item) where
   ask-adds : (way : Asked) → TakesAsk s.protocol (line_at s.caches core block) word asking way → MovesAsk s core block word asking answer new added → added ≡ entry_of_ask s.log core block word asking way
   ask-adds Absent t (inl absent) = absent.4
-  ask-adds Absent t (inr asks) = absurd (no_row s.protocol (state_of s core block) asking asks.act asks.next t.0 t.1 asks.row)
+  ask-adds Absent t (inr asks) = absurd (no_row s.protocol (state_of s core block) asking asks.row.action asks.row.next t.0 t.1 asks.is_row)
   ask-adds (Hit line value) t (inl absent) = absurd (no_row s.protocol (state_of s core block) asking action.Hit t.0 absent.0 absent.1 t.1.0)
   ask-adds (Hit line value) t (inr asks) =
-      let same = (Cell-one s.protocol (state_of s core block) (asked asking) asks.act action.Hit asks.next t.0 asks.row t.1.0).0 in
-      let P : CacheAction → Type 0 = λ a. Takes a asks.next s.log core block word asking (line_at s.caches core block) asks.held answer added in
-      let h : Takes action.Hit asks.next s.log core block word asking (line_at s.caches core block) asks.held answer added = subst P same asks.taken in
+      let same = (Cell-one s.protocol (state_of s core block) (asked asking) asks.row.action action.Hit asks.row.next t.0 asks.is_row t.1.0).0 in
+      let P : CacheAction → Type 0 = λ a. Takes a asks.row.next s.log core block word asking (line_at s.caches core block) asks.held answer added in
+      let h : Takes action.Hit asks.row.next s.log core block word asking (line_at s.caches core block) asks.held answer added = subst P same asks.taken in
       let its = performs-one word asking h.1.0.before t.1.1.before h.0 value h.1.0.after t.1.1.after (same_Some _ _ (sym h.1.0.kept ∙ t.1.1.kept)) h.1.0.performed t.1.1.performed in
       h.1.2 ∙ ap (λ (x : ℕ). let r : Option Item = Some (item.Did (next_did s.log core block word asking x true)) in r) its
   ask-adds (Issue request line) t (inl absent) = absurd (no_row s.protocol (state_of s core block) asking (action.Issue request) t.0 absent.0 absent.1 t.1.0)
   ask-adds (Issue request line) t (inr asks) =
-      let same = (Cell-one s.protocol (state_of s core block) (asked asking) asks.act (action.Issue request) asks.next t.0 asks.row t.1.0).0 in
-      let P : CacheAction → Type 0 = λ a. Takes a asks.next s.log core block word asking (line_at s.caches core block) asks.held answer added in
+      let same = (Cell-one s.protocol (state_of s core block) (asked asking) asks.row.action (action.Issue request) asks.row.next t.0 asks.is_row t.1.0).0 in
+      let P : CacheAction → Type 0 = λ a. Takes a asks.row.next s.log core block word asking (line_at s.caches core block) asks.held answer added in
       (subst P same asks.taken).2
   ask-adds (Drop line) t (inl absent) = absurd (no_row s.protocol (state_of s core block) asking action.Drop t.0 absent.0 absent.1 t.1.0)
   ask-adds (Drop line) t (inr asks) =
-      let same = (Cell-one s.protocol (state_of s core block) (asked asking) asks.act action.Drop asks.next t.0 asks.row t.1.0).0 in
-      let P : CacheAction → Type 0 = λ a. Takes a asks.next s.log core block word asking (line_at s.caches core block) asks.held answer added in
+      let same = (Cell-one s.protocol (state_of s core block) (asked asking) asks.row.action action.Drop asks.row.next t.0 asks.is_row t.1.0).0 in
+      let P : CacheAction → Type 0 = λ a. Takes a asks.row.next s.log core block word asking (line_at s.caches core block) asks.held answer added in
       (subst P same asks.taken).2
 
 fills_of : (q : Request) (closing : Open) (p : Protocol) (log : List Item) (old new : List Line) (did : Option Did) → q ≢ PutM → ArrivesFor q closing p log old new did → FillsRequestor closing p log old new did
@@ -171,32 +171,32 @@ fills-adds closing p log old new did filled f t =
 pub plan-adds : (s : Situation) (x : Plan) → IsPlan s x → (answer : Reply) (new : Situation) (added : Option Item) → FirstMove s (step_of x) answer new added → added ≡ entry_of s.log x
 plan-adds s (plan.Ask core block word asking way) h answer new added m =
     let P : ℕ → Type 0 = λ x. MovesAsk s core x word asking answer new added in
-    ask-adds s core block word asking answer new added way h.1 (subst P (sym m.1.1.0) m.1.1.2)
+    ask-adds s core block word asking answer new added way h.1 (subst P (sym m.1.1.on_block) m.1.1.moves)
 plan-adds s (plan.Order core request block message memory) h answer new added m =
     let same : m.0 ≡ block = same_Some _ _ (sym m.1.0 ∙ h.1.head.first) in
-    let orders = m.1.1.1.3 in
-    let W : ℕ → Type 0 = λ x. Waits s core x m.1.1.0 in
-    let its : m.1.1.0 ≡ request = same_Some _ _ (sym (subst W same orders.ready.0) ∙ h.1.head.waits) in
-    m.1.1.1.2 ∙ (ap (λ (b : ℕ). let r : Option Item = Some (item.Sent (record { core = core; request = m.1.1.0; block = b })) in r) same
+    let orders = m.1.1.orders in
+    let W : ℕ → Type 0 = λ x. Waits s core x m.1.1.request in
+    let its : m.1.1.request ≡ request = same_Some _ _ (sym (subst W same orders.ready.0) ∙ h.1.head.waits) in
+    m.1.1.logged ∙ (ap (λ (b : ℕ). let r : Option Item = Some (item.Sent (record { core = core; request = m.1.1.request; block = b })) in r) same
     ∙ ap (λ (q : Request). let r : Option Item = Some (item.Sent (record { core = core; request = q; block = block })) in r) its)
 plan-adds s (plan.Writeback block closing memory) h answer new added m =
-    let responds = m.1.1.1.1.4 in
-    let on : m.0 ≡ block = sym m.1.1.1.1.0 in
-    let P : ℕ → Type 0 = λ b. (picture_of s b).transaction ≡ Some m.1.1.0 in
-    let same : m.1.1.0 ≡ closing = same_Some _ _ (sym (subst P on responds.opened) ∙ h.1.opened) in
-    let none = none_of m.1.1.0.request m.1.1.0 s.protocol s.log (picture_of s m.0).caches responds.next.caches m.1.1.1.0 (ap (λ (o : Open). o.request) same ∙ h.2) responds.requestor in
-    m.1.1.1.1.3 ∙ (ap (λ (o : Open). let r : Option Item = Some (item.Came (came_of o) m.1.1.1.0) in r) same
+    let responds = m.1.1.responds in
+    let on : m.0 ≡ block = sym m.1.1.on_block in
+    let P : ℕ → Type 0 = λ b. (picture_of s b).transaction ≡ Some m.1.1.closing in
+    let same : m.1.1.closing ≡ closing = same_Some _ _ (sym (subst P on responds.opened) ∙ h.1.opened) in
+    let none = none_of m.1.1.closing.request m.1.1.closing s.protocol s.log (picture_of s m.0).caches responds.next.caches m.1.1.did (ap (λ (o : Open). o.request) same ∙ h.2) responds.requestor in
+    m.1.1.logged ∙ (ap (λ (o : Open). let r : Option Item = Some (item.Came (came_of o) m.1.1.did) in r) same
     ∙ ap (λ (d : Option Did). let r : Option Item = Some (item.Came (came_of closing) d) in r) none)
 plan-adds s (plan.Fill block closing memory filled) h answer new added m =
-    let responds = m.1.1.1.1.4 in
-    let on : m.0 ≡ block = sym m.1.1.1.1.0 in
-    let P : ℕ → Type 0 = λ b. (picture_of s b).transaction ≡ Some m.1.1.0 in
-    let same : m.1.1.0 ≡ closing = same_Some _ _ (sym (subst P on responds.opened) ∙ h.1.opened) in
-    let Q : Open → Type 0 = λ o. ArrivesFor o.request o s.protocol s.log (picture_of s m.0).caches responds.next.caches m.1.1.1.0 in
-    let fills = fills_of closing.request closing s.protocol s.log (picture_of s m.0).caches responds.next.caches m.1.1.1.0 h.2 (subst Q same responds.requestor) in
-    let R : ℕ → Type 0 = λ b. FillsRequestor closing s.protocol s.log (picture_of s b).caches responds.next.caches m.1.1.1.0 in
-    let did = fills-adds closing s.protocol s.log (picture_of s block).caches responds.next.caches m.1.1.1.0 filled (subst R on fills) h.3 in
-    m.1.1.1.1.3 ∙ (ap (λ (o : Open). let r : Option Item = Some (item.Came (came_of o) m.1.1.1.0) in r) same
+    let responds = m.1.1.responds in
+    let on : m.0 ≡ block = sym m.1.1.on_block in
+    let P : ℕ → Type 0 = λ b. (picture_of s b).transaction ≡ Some m.1.1.closing in
+    let same : m.1.1.closing ≡ closing = same_Some _ _ (sym (subst P on responds.opened) ∙ h.1.opened) in
+    let Q : Open → Type 0 = λ o. ArrivesFor o.request o s.protocol s.log (picture_of s m.0).caches responds.next.caches m.1.1.did in
+    let fills = fills_of closing.request closing s.protocol s.log (picture_of s m.0).caches responds.next.caches m.1.1.did h.2 (subst Q same responds.requestor) in
+    let R : ℕ → Type 0 = λ b. FillsRequestor closing s.protocol s.log (picture_of s b).caches responds.next.caches m.1.1.did in
+    let did = fills-adds closing s.protocol s.log (picture_of s block).caches responds.next.caches m.1.1.did filled (subst R on fills) h.3 in
+    m.1.1.logged ∙ (ap (λ (o : Open). let r : Option Item = Some (item.Came (came_of o) m.1.1.did) in r) same
     ∙ ap (λ (d : Option Did). let r : Option Item = Some (item.Came (came_of closing) d) in r) did)
 
 -- where the plan has room the step has it

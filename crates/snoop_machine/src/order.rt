@@ -7,7 +7,8 @@ ghost use Rattle.snoop_model.specs.Pictures.Picture.{held_at};
 ghost use Rattle.snoop_model.specs.Pictures.Sends.{value_sent};
 ghost use Rattle.snoop_model.specs.Moves.LookUps.{HasRow};
 ghost use Rattle.snoop_model.specs.Moves.SenderTable.{FollowsSenderTable};
-ghost use Rattle.snoop_model.specs.Pictures.Message.{free_picture, IsMessage, TakesRows, memory_message};
+ghost use Rattle.snoop_model.specs.Pictures.Message.{free_picture, IsMessage, memory_message};
+ghost use Rattle.snoop_model.specs.Moves.Move.{TakesRows};
 ghost use Rattle.snoop_machine.specs.Lines.{LinesGo};
 
 use crate::ask::moved_to;

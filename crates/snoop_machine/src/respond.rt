@@ -90,10 +90,8 @@ pub(crate) fn arrive<B: Block>(
     requires { IsTrue (takes_payload closing.now.request memory.state) → IsSomeAnd (arrival_at_memory closing.now.payload) (HasMemRow protocol memory.state) }
     ensures { ArrivesAtMemory closing.now protocol memory result }
 {
-    match (closing.request, memory.state) {
-        (Request::PutM, _)
-        | (_, MemState::IorSD | MemState::MD | MemState::ID | MemState::SD | MemState::EorMD) => {}
-        _ => return memory,
+    if !takes(closing.request, memory.state) {
+        return memory;
     }
     let event = match closing.payload {
         Payload::Data => MemEvent::Data,
@@ -108,6 +106,17 @@ pub(crate) fn arrive<B: Block>(
         state: cell.next,
         value: written(cell.action, closing.value, memory.value),
     }
+}
+
+/// Whether memory takes the message of a request's transaction.
+fn takes(request: Request, memory: MemState) -> bool
+    ensures { result ≡ takes_payload request memory }
+{
+    matches!(request, Request::PutM)
+        || matches!(
+            memory,
+            MemState::IorSD | MemState::MD | MemState::ID | MemState::SD | MemState::EorMD
+        )
 }
 
 /// Memory's words after an action, of those that came and those that it held.

@@ -1,7 +1,6 @@
 -- The steps of one block, and the invariant of its picture.
-pub mod Steps
+pub mod Operation
 pub mod Facts
-pub mod Moves
 pub mod AfterMoves
 pub mod OfBlocks
 pub mod AskStep

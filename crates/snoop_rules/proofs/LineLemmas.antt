@@ -12,19 +12,17 @@ use Rattle.snoop_rules.specs.Cell.{Cell}
 use Rattle.snoop_rules.specs.MemoryCell.{MemoryCell}
 use Rattle.snoop_rules.specs.Possible.{IsImpossible, IsMemImpossible}
 use Rattle.snoop_rules.specs.TableText.{cache_line, cache_line_at, memory_line, memory_line_at}
-use Rattle.snoop_rules.proofs.Rows.{cell_of-Cell, cell_of-impossible}
-use Rattle.snoop_rules.proofs.MemRows.{memory_cell_of-MemoryCell, memory_cell_of-impossible}
 
 -- a row has its line
 pub cache_line_at-row : (p : Protocol) (s : CacheState) (e : CacheEvent) (cell : CacheCell) → Cell p s e cell.action cell.next → cache_line_at p s e ≡ cache_line s e cell
-cache_line_at-row p s e cell h = ap (λ (o : Option CacheCell). option_map_or (cache_line s e) o []) (cell_of-Cell p s e cell.action cell.next h)
+cache_line_at-row p s e cell h = ap (λ (o : Option CacheCell). option_map_or (cache_line s e) o []) h
 
 pub memory_line_at-row : (p : Protocol) (s : MemState) (e : MemEvent) (cell : MemCell) → MemoryCell p s e cell.action cell.next → memory_line_at p s e ≡ memory_line s e cell
-memory_line_at-row p s e cell h = ap (λ (o : Option MemCell). option_map_or (memory_line s e) o []) (memory_cell_of-MemoryCell p s e cell.action cell.next h)
+memory_line_at-row p s e cell h = ap (λ (o : Option MemCell). option_map_or (memory_line s e) o []) h
 
 -- an impossible pair has none
 pub cache_line_at-none : (p : Protocol) (s : CacheState) (e : CacheEvent) → IsImpossible p s e → cache_line_at p s e ≡ []
-cache_line_at-none p s e h = ap (λ (o : Option CacheCell). option_map_or (cache_line s e) o []) (cell_of-impossible p s e h)
+cache_line_at-none p s e h = ap (λ (o : Option CacheCell). option_map_or (cache_line s e) o []) h
 
 pub memory_line_at-none : (p : Protocol) (s : MemState) (e : MemEvent) → IsMemImpossible p s e → memory_line_at p s e ≡ []
-memory_line_at-none p s e h = ap (λ (o : Option MemCell). option_map_or (memory_line s e) o []) (memory_cell_of-impossible p s e h)
+memory_line_at-none p s e h = ap (λ (o : Option MemCell). option_map_or (memory_line s e) o []) h

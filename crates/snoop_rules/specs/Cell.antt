@@ -1,7 +1,7 @@
 -- The cache table: a line for each row, and none where a pair of state and event is impossible.
 -- Source: "A Primer on Memory Consistency and Cache Coherence", 2nd edition, chapter 7 (MSI and MESI over an atomic bus).
 -- The eviction from E, with EI_A and NoDataE, is this project's profile.
-use Rattle.std.specs.Prelude.{◌≡◌, Option, Some, None, IsSomeAnd}
+use Rattle.std.specs.Prelude.{◌≡◌, Option, Some, None}
 use Rattle.snoop_trace.specs.declared.protocol.Protocol.{Protocol}
 use Rattle.snoop_trace.specs.declared.protocol.Protocol.TheVariants.{Mesi}
 use Rattle.snoop_rules.specs.declared.names.CacheState.{CacheState}
@@ -99,4 +99,4 @@ cell_of _ _ _ = None
 
 -- in this state the event is met by this action, and this state is next
 abbrev pub Cell : Protocol → CacheState → CacheEvent → CacheAction → CacheState → Type 0
-Cell protocol state event action next = IsSomeAnd (cell_of protocol state event) (λ cell. (action ≡ cell.action) × (next ≡ cell.next))
+Cell protocol state event action next = cell_of protocol state event ≡ Some (record { action = action; next = next })

@@ -1,7 +1,7 @@
 -- The memory tables: a line for each row, and none where a pair of state and event is impossible.
 -- Source: MSI's of "A Primer on Memory Consistency and Cache Coherence", 2nd edition, chapter 7;
 -- MESI's states and rows are this project's profile.
-use Rattle.std.specs.Prelude.{◌≡◌, Option, Some, None, IsSomeAnd}
+use Rattle.std.specs.Prelude.{◌≡◌, Option, Some, None}
 use Rattle.snoop_trace.specs.declared.protocol.Protocol.{Protocol}
 use Rattle.snoop_trace.specs.declared.protocol.Protocol.TheVariants.{Msi, Mesi}
 use Rattle.snoop_rules.specs.declared.names.MemState.{MemState}
@@ -44,4 +44,4 @@ memory_cell_of _ _ _ = None
 
 -- in this state the event is met by this action, and this state is next
 abbrev pub MemoryCell : Protocol → MemState → MemEvent → MemAction → MemState → Type 0
-MemoryCell protocol state event action next = IsSomeAnd (memory_cell_of protocol state event) (λ cell. (action ≡ cell.action) × (next ≡ cell.next))
+MemoryCell protocol state event action next = memory_cell_of protocol state event ≡ Some (record { action = action; next = next })

@@ -45,7 +45,7 @@ module _ (old : Situation) (core block word : ℕ) (asking : Op) (within : IsWit
 
   pub goes_on : (answer : Reply) (new : Situation) (entry : Option Item) → IsAbsent old core block asking answer new entry ⊎ Asks old core block word asking answer new entry
       → GoesFirst old (Ask core block word asking) (Ok answer) new
-  goes_on answer new entry move = (entry, (block, (tt, (refl, within, move, has_word))))
+  goes_on answer new entry move = (entry, (block, (tt, record { on_block = refl; within = within; moves = move; has_word = has_word })))
 
   abbrev pub absent : (asking ≡ op.Evict) × (state_of old core block ≡ state.I) → Played old (Ask core block word asking)
   absent is = record { outcome = Ok reply.Absent; new = old; goes = goes_on reply.Absent old None (inl (is.0, is.1, refl, refl, refl)) }
@@ -59,10 +59,9 @@ module _ (old : Situation) (core block word : ℕ) (asking : Op) (within : IsWit
         outcome = Ok (hit_reply asking done.value);
         new = leads old core block action.Hit held entry;
         goes = goes_on (hit_reply asking done.value) (leads old core block action.Hit held entry) entry (inr (record {
-          act = action.Hit;
-          next = next;
+          row = record { action = action.Hit; next = next };
+          is_row = row;
           held = held;
-          row = row;
           after = refl;
           taken = (done.value, (record { before = before; after = done.after; kept = kept; performed = done.performs; held = refl }, refl, refl));
         }));
@@ -79,7 +78,7 @@ module _ (old : Situation) (core block word : ℕ) (asking : Op) (within : IsWit
         outcome = Ok (reply.Issued request);
         new = leads old core block (action.Issue request) held None;
         goes = goes_on (reply.Issued request) (leads old core block (action.Issue request) held None) None
-            (inr (record { act = action.Issue request; next = next; held = held; row = row; taken = (refl, refl, refl); after = refl }));
+            (inr (record { row = record { action = action.Issue request; next = next }; is_row = row; held = held; taken = (refl, refl, refl); after = refl }));
       })
   by_row action.Drop next row =
       let held : Line = moves_to next line in
@@ -87,7 +86,7 @@ module _ (old : Situation) (core block word : ℕ) (asking : Op) (within : IsWit
         outcome = Ok reply.Gone;
         new = leads old core block action.Drop held None;
         goes = goes_on reply.Gone (leads old core block action.Drop held None) None
-            (inr (record { act = action.Drop; next = next; held = held; row = row; taken = (refl, refl, refl); after = refl }));
+            (inr (record { row = record { action = action.Drop; next = next }; is_row = row; held = held; taken = (refl, refl, refl); after = refl }));
       })
   by_row action.Stall next row = Some (record { outcome = Err (Stalled (state_of old core block)); new = old; goes = ((within, refl, (next, row), has_word), refl) })
   by_row _ next row = None

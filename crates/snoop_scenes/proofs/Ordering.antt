@@ -1,5 +1,5 @@
 -- An Order played, where there are two cores.
-use Rattle.std.proofs.Common.{◌≡◌, ℕ, zero, suc, ◌<◌, List, [], ◌∷◌, ◌++◌, length, Option, Some, None, Ok, Err, refl, ap, subst, arith}
+use Rattle.std.proofs.Common.{◌≡◌, ℕ, zero, suc, ◌<◌, List, [], ◌∷◌, ◌++◌, Option, Some, None, Ok, Err, refl, ap, sym, ◌∙◌, subst, arith}
 use Rattle.std.specs.Prelude.{slice_get, is_some}
 use Rattle.std.proofs.Math.Dec.{ltb}
 use Rattle.std.proofs.lemmas.Bool.{ltb-true}
@@ -17,8 +17,6 @@ use Rattle.snoop_rules.specs.Cell.{Cell}
 use Rattle.snoop_rules.specs.MemoryCell.{MemoryCell}
 use Rattle.snoop_rules.specs.Takers.{seen_by, at_memory}
 use Rattle.snoop_rules.specs.Waits.{waiting_request}
-use Rattle.snoop_rules.proofs.Rows.{Cell-one}
-use Rattle.snoop_rules.proofs.MemRows.{MemoryCell-one}
 use Rattle.snoop_history.specs.declared.items.Item.{Item}
 use Rattle.snoop_history.specs.declared.items.Item.TheVariants as item
 use Rattle.snoop_bus.specs.Traffic.{Open}
@@ -28,9 +26,10 @@ use Rattle.snoop_model.specs.declared.replies.Reply.TheVariants as reply
 use Rattle.snoop_model.specs.declared.replies.Refused.TheVariants.{BusTaken}
 use Rattle.snoop_model.specs.Pictures.Picture.{Picture, held_at, held_by}
 use Rattle.snoop_model.specs.Pictures.Situation.{Situation, picture_of, with_picture, state_of}
-use Rattle.snoop_model.specs.Pictures.Sends.{Sends, IsOnlySender, value_sent}
-use Rattle.snoop_model.specs.Moves.Move.{moves_to, TakesRow}
+use Rattle.snoop_model.specs.Pictures.Sends.{sent_by, sent_by_memory, Sends, IsOnlySender, value_sent}
+use Rattle.snoop_model.specs.Moves.Move.{moves_to, TakesRow, TakesRows}
 use Rattle.snoop_model.specs.Runs.Run.{GoesFirst}
+use Rattle.snoop_model.proofs.Lines.TheSender.{sending, sending_memory}
 use Rattle.snoop_scenes.proofs.Deciding.{if_true, if_some}
 use Rattle.snoop_scenes.proofs.Rows.{RowAt, row_at, MemoryRowAt, memory_row_at}
 use Rattle.snoop_scenes.proofs.Played.{Played}
@@ -69,8 +68,7 @@ pub record Sender (protocol : Protocol) (before : Picture) (core : ℕ) (request
 -- what an Order does to a block's picture: each controller takes its row
 pub record Ordered (protocol : Protocol) (before : Picture) (core : ℕ) (request : Request) : Type 0 where
   pub caches : List Line
-  pub same_length : length caches ≡ length before.caches
-  pub rows : (k : ℕ) → k < length caches → TakesRow protocol (seen_by k core request) (held_by before k) (held_at caches k)
+  pub taken : TakesRows protocol core request before.caches caches
   pub act : MemAction
   pub memory : MemState
   pub row : MemoryCell protocol before.memory.state (at_memory request) act memory
@@ -87,13 +85,13 @@ module _ (protocol : Protocol) (core : ℕ) (request : Request) (memory : MemSta
 
   -- a controller sends where its row does
   pub memory_says : (m : Payload) → Sent None m → third.act ≡ mem_action.Send m
-  memory_says m sent = (MemoryCell-one protocol memory (at_memory request) third.act (mem_action.Send m) third.next sent.0 third.row sent.1).0
+  memory_says m sent = sending_memory third.act third.next m (sym (ap sent_by_memory third.row) ∙ sent)
 
-  pub first_says : (m : Payload) (sent : Sent (Some 0) m) → first.act ≡ action.Send m sent.1.0
-  first_says m sent = (Cell-one protocol a.state (seen_by 0 core request) first.act (action.Send m sent.1.0) first.next sent.1.1.0 first.row sent.1.1.1).0
+  pub first_says : (m : Payload) → Sent (Some 0) m → (target : Target) × (first.act ≡ action.Send m target)
+  first_says m sent = sending first.act first.next m (sym (ap sent_by first.row) ∙ sent.1)
 
-  pub second_says : (m : Payload) (sent : Sent (Some 1) m) → second.act ≡ action.Send m sent.1.0
-  second_says m sent = (Cell-one protocol b.state (seen_by 1 core request) second.act (action.Send m sent.1.0) second.next sent.1.1.0 second.row sent.1.1.1).0
+  pub second_says : (m : Payload) → Sent (Some 1) m → (target : Target) × (second.act ≡ action.Send m target)
+  second_says m sent = sending second.act second.next m (sym (ap sent_by second.row) ∙ sent.1)
 
   -- what follows from memory's message, and from each core's, follows from any
   pub by_sender : (from : Option ℕ) → ((m : Payload) → Sent None m → None ≡ from) → ((m : Payload) → Sent (Some 0) m → Some 0 ≡ from)
@@ -109,8 +107,8 @@ module _ (protocol : Protocol) (core : ℕ) (request : Request) (memory : MemSta
     from = None;
     payload = payload;
     sent = record {
-      sends = (let P : MemAction → Type 0 = λ act. MemoryCell protocol memory (at_memory request) act third.next in (third.next, subst P is third.row));
-      alone = by_sender None (λ m sent. refl) (λ m sent. absurd (f m sent.1.0 (first_says m sent))) (λ m sent. absurd (s m sent.1.0 (second_says m sent)));
+      sends = (let P : MemAction → Type 0 = λ act. MemoryCell protocol memory (at_memory request) act third.next in ap sent_by_memory (subst P is third.row));
+      alone = by_sender None (λ m sent. refl) (λ m sent. absurd (let does = first_says m sent in f m does.0 does.1)) (λ m sent. absurd (let does = second_says m sent in s m does.0 does.1));
     };
   }
 
@@ -123,8 +121,8 @@ module _ (protocol : Protocol) (core : ℕ) (request : Request) (memory : MemSta
       sends = (
           let P : CacheAction → Type 0 = λ act. Cell protocol a.state (seen_by 0 core request) act first.next in
           let there : 0 < 2 = omega arith in
-          (there, (target, (first.next, subst P is first.row))));
-      alone = by_sender (Some 0) (λ m sent. absurd (q m (memory_says m sent))) (λ m sent. refl) (λ m sent. absurd (s m sent.1.0 (second_says m sent)));
+          (there, ap sent_by (subst P is first.row)));
+      alone = by_sender (Some 0) (λ m sent. absurd (q m (memory_says m sent))) (λ m sent. refl) (λ m sent. absurd (let does = second_says m sent in s m does.0 does.1));
     };
   }
 
@@ -137,8 +135,8 @@ module _ (protocol : Protocol) (core : ℕ) (request : Request) (memory : MemSta
       sends = (
           let P : CacheAction → Type 0 = λ act. Cell protocol b.state (seen_by 1 core request) act second.next in
           let there : 1 < 2 = omega arith in
-          (there, (target, (second.next, subst P is second.row))));
-      alone = by_sender (Some 1) (λ m sent. absurd (q m (memory_says m sent))) (λ m sent. absurd (f m sent.1.0 (first_says m sent))) (λ m sent. refl);
+          (there, ap sent_by (subst P is second.row)));
+      alone = by_sender (Some 1) (λ m sent. absurd (q m (memory_says m sent))) (λ m sent. absurd (let does = first_says m sent in f m does.0 does.1)) (λ m sent. refl);
     };
   }
 
@@ -153,15 +151,14 @@ module _ (protocol : Protocol) (core : ℕ) (request : Request) (memory : MemSta
 
   -- each core takes its row
   pub rows_after : (k : ℕ) → k < 2 → TakesRow protocol (seen_by k core request) (held_by before k) (held_at caches_after k)
-  rows_after zero below = (first.act, (first.next, (first.row, refl)))
-  rows_after (suc zero) below = (second.act, (second.next, (second.row, refl)))
+  rows_after zero below = (record { action = first.act; next = first.next }, first.row, refl)
+  rows_after (suc zero) below = (record { action = second.act; next = second.next }, second.row, refl)
   rows_after (suc (suc k)) below = let no : ⊥ = omega (arith, below) in absurd no
 
   abbrev pub after : Sender protocol before core request → Ordered protocol before core request
   after found = record {
     caches = caches_after;
-    same_length = refl;
-    rows = rows_after;
+    taken = record { same_length = refl; rows = rows_after };
     act = third.act;
     memory = third.next;
     row = third.row;
@@ -203,27 +200,24 @@ module _ (old : Situation) (core block : ℕ) (there : core < old.shape.cores) (
         block,
         (
           first,
-          (
-            request,
-            (
-              (there, within),
-              refl,
-              refl,
-              record {
-                ready = (waits, free);
-                from = taken.sender.from;
-                payload = taken.sender.payload;
-                sent = taken.sender.sent;
-                next = next;
-                caches = taken.same_length;
-                rows = taken.rows;
-                memory = (taken.act, taken.row);
-                value = refl;
-                opened = refl;
-                after = refl;
-              },
-            ),
-          ),
+          record {
+            request = request;
+            within = (there, within);
+            answered = refl;
+            logged = refl;
+            orders = record {
+              ready = (waits, free);
+              from = taken.sender.from;
+              payload = taken.sender.payload;
+              sent = taken.sender.sent;
+              next = next;
+              taken = taken.taken;
+              memory = (record { action = taken.act; next = taken.memory }, taken.row, refl);
+              value = refl;
+              opened = refl;
+              after = refl;
+            };
+          },
         ),
       ),
     )

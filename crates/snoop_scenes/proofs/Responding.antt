@@ -65,11 +65,10 @@ module _ (closing : Open) (protocol : Protocol) (log : List Item) (lines : List 
     value = done.value;
     fills = record {
       event = event;
-      act = found.act;
-      next = found.next;
+      row = record { action = found.act; next = found.next };
       after = done.after;
       arrives = arrives;
-      row = found.row;
+      is_row = found.row;
       waited = waited;
       fill = fill;
       performed = done.performs;
@@ -145,26 +144,22 @@ module _ (old : Situation) (block : ℕ) (there : block < old.shape.blocks) (clo
       block,
       (
         tt,
-        (
-          closing,
-          (
-            came.did,
-            (
-              refl,
-              there,
-              refl,
-              refl,
-              record {
-                opened = opened;
-                next = next;
-                requestor = came.arrives;
-                memory = record { act = kept.act; settled = kept.settles; value = refl };
-                closed = refl;
-                after = refl;
-              },
-            ),
-          ),
-        ),
+        record {
+          closing = closing;
+          did = came.did;
+          on_block = refl;
+          within = there;
+          answered = refl;
+          logged = refl;
+          responds = record {
+            opened = opened;
+            next = next;
+            requestor = came.arrives;
+            memory = record { act = kept.act; settled = kept.settles; value = refl };
+            closed = refl;
+            after = refl;
+          };
+        },
       ),
     ),
   )

@@ -9,8 +9,6 @@ use Rattle.snoop_rules.specs.declared.names.MemEvent.{MemEvent}
 use Rattle.snoop_rules.specs.declared.names.MemAction.{MemAction}
 use Rattle.snoop_rules.specs.Cell.{Cell, cell_of}
 use Rattle.snoop_rules.specs.MemoryCell.{MemoryCell, memory_cell_of}
-use Rattle.snoop_rules.proofs.Rows.{Cell-found}
-use Rattle.snoop_rules.proofs.MemRows.{MemoryCell-found}
 use Rattle.snoop_scenes.proofs.Deciding.{if_some}
 
 -- a cache's row
@@ -22,7 +20,7 @@ pub record RowAt (protocol : Protocol) (state : CacheState) (event : CacheEvent)
 abbrev pub row_at : (protocol : Protocol) (state : CacheState) (event : CacheEvent) → Option (RowAt protocol state event)
 row_at protocol state event =
     if_some (cell_of protocol state event) λ cell is.
-    Some (record { act = cell.action; next = cell.next; row = Cell-found protocol state event cell is })
+    Some (record { act = cell.action; next = cell.next; row = is })
 
 -- memory's row
 pub record MemoryRowAt (protocol : Protocol) (state : MemState) (event : MemEvent) : Type 0 where
@@ -33,4 +31,4 @@ pub record MemoryRowAt (protocol : Protocol) (state : MemState) (event : MemEven
 abbrev pub memory_row_at : (protocol : Protocol) (state : MemState) (event : MemEvent) → Option (MemoryRowAt protocol state event)
 memory_row_at protocol state event =
     if_some (memory_cell_of protocol state event) λ cell is.
-    Some (record { act = cell.action; next = cell.next; row = MemoryCell-found protocol state event cell is })
+    Some (record { act = cell.action; next = cell.next; row = is })

@@ -3,6 +3,7 @@ use Rattle.std.proofs.Common.{◌≡◌, ◌≢◌, ℕ, true, false, not, ◌||
 use Rattle.std.specs.Prelude.{◌<◌, slice_index_or, IfSome, IsSomeAnd}
 use Rattle.std.proofs.lemmas.Bool.{cases_lt, and_parts, eq-eqb}
 use Rattle.std.proofs.lemmas.List.{get_or_past}
+use Rattle.std.proofs.lemmas.Option.{same_Some}
 use Rattle.snoop_trace.specs.declared.step.Op.{Op}
 use Rattle.snoop_trace.specs.declared.step.Op.TheVariants as op
 use Rattle.snoop_trace.specs.declared.step.Step.{Step}
@@ -23,8 +24,6 @@ use Rattle.snoop_rules.specs.Possible.{MayLoad, MayStore}
 use Rattle.snoop_rules.specs.Takers.{asked, other as another, seen_by, at_memory, arrival, arrival_at_memory, carries_value}
 use Rattle.snoop_rules.specs.Waits.{waiting_request}
 use Rattle.snoop_rules.specs.Cell.{cell_of}
-use Rattle.snoop_rules.proofs.Rows.{cell_of-Cell, Cell-found}
-use Rattle.snoop_rules.proofs.MemRows.{MemoryCell-found}
 use Rattle.snoop_history.specs.History.{flat_words}
 use Rattle.snoop_history.specs.Totals.{is_put_m}
 use Rattle.snoop_bus.specs.Traffic.{Open}
@@ -41,11 +40,11 @@ use Rattle.snoop_model.specs.Invariant.Fits.{in_protocol, is_clean, is_owner, fi
 use Rattle.snoop_model.specs.Invariant.Block.{BlockInvariant, awaited, owns, talk_of}
 use Rattle.snoop_model.specs.Invariant.Invariant.{Invariant}
 use Rattle.snoop_model.proofs.Tables.Every.{given, given_at}
-use Rattle.snoop_model.proofs.OneBlock.Steps.{is_idle_evict, row_of, mem_row_of, Answerable}
+use Rattle.snoop_model.proofs.Tables.AskTests.{is_idle_evict}
+use Rattle.snoop_model.proofs.Tables.RespondTests.{memory_row_for, row_for}
 use Rattle.snoop_model.proofs.OneBlock.OrderStep.{seen_other}
-use Rattle.snoop_model.proofs.OneBlock.Moves.{sends_by_row, sends_by_cell}
 use Rattle.snoop_model.proofs.OneBlock.Facts.{one_writer, fits_is_owner, clash, or_not}
-use Rattle.snoop_model.proofs.OneBlock.Possible.{Possible, order_possible, ask_possible, respond_possible}
+use Rattle.snoop_model.proofs.OneBlock.Possible.{Answerable, Possible, order_possible, ask_possible, respond_possible}
 use Rattle.snoop_model.proofs.Tables.SenderLines.{led_line, sender_state}
 use Rattle.snoop_model.proofs.Tables.StateTests.{is_hit, hit_rule, owner_reads, brings_data, resting_rule}
 use Rattle.snoop_model.specs.Pictures.Sound.{keeps}
@@ -67,20 +66,20 @@ place s g core block = elim (cases_lt block s.shape.blocks) [
 
 -- a core that holds nothing may neither read nor write, and waits for nothing
 not_reader : (p : Protocol) → MayLoad p state.I → ⊥
-not_reader p may = let e : action.Hit ≡ action.Issue request.GetS = may.1.0 in cc
+not_reader p may = let e : action.Issue request.GetS ≡ action.Hit = ap (λ c. c.action) (same_Some _ _ may.1) in cc
 
 not_writer : (p : Protocol) → MayStore p state.I → ⊥
-not_writer p may = let e : action.Hit ≡ action.Issue request.GetM = may.1.0 in cc
+not_writer p may = let e : action.Issue request.GetM ≡ action.Hit = ap (λ c. c.action) (same_Some _ _ may.1) in cc
 
 may_load_reads : (p : Protocol) (s : CacheState) → MayLoad p s → keeps s ≡ true
 may_load_reads p s may =
     let t = and_parts (given (cell_of p s event.Load) (λ r. not (is_hit r.action) || keeps s)) (given (cell_of p s event.Store) (λ r. not (is_hit r.action) || is_owner s)) (hit_rule p s) in
-    given_at (cell_of p s event.Load) (λ r. not (is_hit r.action) || keeps s) (record { action = action.Hit; next = may.0 }) (cell_of-Cell p s event.Load action.Hit may.0 may.1) t.0
+    given_at (cell_of p s event.Load) (λ r. not (is_hit r.action) || keeps s) (record { action = action.Hit; next = may.0 }) may.1 t.0
 
 may_store_owns : (p : Protocol) (s : CacheState) → MayStore p s → is_owner s ≡ true
 may_store_owns p s may =
     let t = and_parts (given (cell_of p s event.Load) (λ r. not (is_hit r.action) || keeps s)) (given (cell_of p s event.Store) (λ r. not (is_hit r.action) || is_owner s)) (hit_rule p s) in
-    given_at (cell_of p s event.Store) (λ r. not (is_hit r.action) || is_owner s) (record { action = action.Hit; next = may.0 }) (cell_of-Cell p s event.Store action.Hit may.0 may.1) t.1
+    given_at (cell_of p s event.Store) (λ r. not (is_hit r.action) || is_owner s) (record { action = action.Hit; next = may.0 }) may.1 t.1
 
 -- beside a writer no other core is a reader or a writer
 pub has_one_writer : (s : Situation) → Invariant s → (block : ℕ) → OneWriter s.protocol (picture_of s block)
@@ -110,10 +109,10 @@ readers_current s g block core reads = elim (place s g core block) [
 -- an owner may write
 owner_stores : (p : Protocol) (s : CacheState) → in_protocol p s ≡ true → is_owner s ≡ true → MayStore p s
 unfolding in_protocol is_clean is_owner
-owner_stores _ state.M known owns = (state.M, (refl, refl))
-owner_stores _ state.MiA known owns = (state.MiA, (refl, refl))
-owner_stores Mesi state.E known owns = (state.M, (refl, refl))
-owner_stores Mesi state.EiA known owns = (state.MiA, (refl, refl))
+owner_stores _ state.M known owns = (state.M, refl)
+owner_stores _ state.MiA known owns = (state.MiA, refl)
+owner_stores Mesi state.E known owns = (state.M, refl)
+owner_stores Mesi state.EiA known owns = (state.MiA, refl)
 owner_stores Msi state.E known owns = cc
 owner_stores Msi state.EiA known owns = cc
 owner_stores _ _ known owns = cc
@@ -181,11 +180,12 @@ waits_within s g core block q waits = elim (place s g core block) [
       let h : ◌≡◌ {A = Option Request} None (Some q) = subst P nothing waits in cc
 ]
 
-possible_order : (s : Situation) → Invariant s → (core block : ℕ) (q : Request) → CanOrder s core block q → Possible s.protocol (length (picture_of s block).caches) (picture_of s block) core q
+possible_order : (s : Situation) → Invariant s → (core block : ℕ) (q : Request) → CanOrder s core block q → Possible s.protocol (picture_of s block) core q
 possible_order s g core block q ready =
     let within = waits_within s g core block q ready.0 in
-    let x = order_possible s.protocol s.shape.cores (flat_words s.log block) (picture_of s block) core q (g.blocks block within.1) within.0 ready.0 ready.1 in
-    subst (λ (n : ℕ). Possible s.protocol n (picture_of s block) core q) (sym (g.shaped.row block within.1)) x
+    let long = g.shaped.row block within.1 in
+    let good = subst (λ (n : ℕ). BlockInvariant s.protocol n (flat_words s.log block) (picture_of s block)) (sym long) (g.blocks block within.1) in
+    order_possible s.protocol (flat_words s.log block) (picture_of s block) core q good (subst (λ (n : ℕ). core < n) (sym long) within.0) ready.0 ready.1
 
 put_is : (q : Request) → q ≡ request.PutM → is_put_m q ≡ true
 put_is q e = ap is_put_m e
@@ -201,11 +201,8 @@ orders_follow_sender_table s g core block q ready =
       from = x.from;
       payload = x.payload;
       next = x.cell_of_memory.next;
-      sent = record {
-        sends = sends_by_cell p before core q x.from x.payload x.sender.sends;
-        alone = λ other message sends. x.sender.alone other message (sends_by_row p before core q other message sends);
-      };
-      ordered = (x.cell_of_memory.action, MemoryCell-found p before.memory.state _ x.cell_of_memory x.memory_row);
+      sent = x.sender;
+      ordered = (x.cell_of_memory, x.memory_row, refl);
       is_line = record {
         act = led.act;
         done = led.done;
@@ -224,22 +221,22 @@ idle_evict _ (op.Store v) h = cc
 idle_evict _ op.Evict h = cc
 
 nothing_asked : (p : Protocol) (o : Op) → (¬ ((o ≡ op.Evict) × (state.I ≡ state.I))) → HasRow p state.I (asked o)
-nothing_asked p op.Load busy = (action.Issue request.GetS, (state.IsAd, (refl, refl)))
-nothing_asked p (op.Store v) busy = (action.Issue request.GetM, (state.ImAd, (refl, refl)))
+nothing_asked p op.Load busy = (record { action = action.Issue request.GetS; next = state.IsAd }, refl)
+nothing_asked p (op.Store v) busy = (record { action = action.Issue request.GetM; next = state.ImAd }, refl)
 nothing_asked p op.Evict busy = absurd (busy (refl, refl))
 
 nothing_seen : (p : Protocol) (q : Request) → HasRow p state.I (another q)
-nothing_seen p request.GetS = (action.None, (state.I, (refl, refl)))
-nothing_seen p request.GetM = (action.None, (state.I, (refl, refl)))
-nothing_seen p request.PutM = (action.None, (state.I, (refl, refl)))
+nothing_seen p request.GetS = (record { action = action.None; next = state.I }, refl)
+nothing_seen p request.GetM = (record { action = action.None; next = state.I }, refl)
+nothing_seen p request.PutM = (record { action = action.None; next = state.I }, refl)
 
-has_row : (p : Protocol) (s : CacheState) (found : Option CacheEvent) → (r : _) × (row_of p s found ≡ Some r) → IsSomeAnd found (HasRow p s)
+has_row : (p : Protocol) (s : CacheState) (found : Option CacheEvent) → (r : _) × (row_for p s found ≡ Some r) → IsSomeAnd found (HasRow p s)
 has_row p s None row = let h = row.1 in cc
-has_row p s (Some e) row = (row.0.action, (row.0.next, Cell-found p s e row.0 row.1))
+has_row p s (Some e) row = row
 
-has_mem_row : (p : Protocol) (m : MemState) (found : Option MemEvent) → (r : _) × (mem_row_of p m found ≡ Some r) → IsSomeAnd found (HasMemRow p m)
+has_mem_row : (p : Protocol) (m : MemState) (found : Option MemEvent) → (r : _) × (memory_row_for p m found ≡ Some r) → IsSomeAnd found (HasMemRow p m)
 has_mem_row p m None row = let h = row.1 in cc
-has_mem_row p m (Some e) row = (row.0.action, (row.0.next, MemoryCell-found p m e row.0 row.1))
+has_mem_row p m (Some e) row = row
 
 -- a core has a row for what it is asked
 asked_row : (s : Situation) → Invariant s → (core block word : ℕ) (asking : Op) → (¬ ((asking ≡ op.Evict) × (state_of s core block ≡ state.I))) → HasRow s.protocol (state_of s core block) (asked asking)

@@ -12,8 +12,7 @@ use Rattle.snoop_history.specs.declared.items.Item.{Item}
 use Rattle.snoop_history.specs.History.{operation_of, flat, flat_words, Legal, Follows, IsNext, last_or}
 use Rattle.snoop_history.proofs.Pushed.{flat-push, stored_in}
 use Rattle.snoop_model.specs.Moves.Move.{next_did}
-use Rattle.snoop_model.proofs.OneBlock.Steps.{Loaded, Stored, flat_after, IsLawful}
-use Rattle.snoop_model.proofs.OneBlock.Moves.{done_of, made_of, did_in}
+use Rattle.snoop_model.proofs.OneBlock.Operation.{did_in, flat_after, IsLawful}
 use Rattle.snoop_model.proofs.Lists.Facts.{either_way}
 
 pub length_words : (log : List Item) (block : ℕ) → length (flat_words log block) ≡ 64
@@ -35,12 +34,12 @@ set_at ws w v k inside = elim (eqb_tells w k) as (λ _. word_at (slice_set ws w 
   | inr h ↦ rw h.0 (get_or-set_other ws w k v 0 (λ e. h.1 (sym e)))
 ]
 
-after_at : (ws : List ℕ) (load here : Bool) (w v k : ℕ) → k < length ws → word_at (cond here (flat_after ws (Some (cond load (Loaded w v) (Stored w v)))) ws) k ≡ cond (not load && (here && eqb w k)) v (word_at ws k)
+after_at : (ws : List ℕ) (load here : Bool) (w v k : ℕ) → k < length ws → word_at (cond here (cond load ws (slice_set ws w v)) ws) k ≡ cond (not load && (here && eqb w k)) v (word_at ws k)
 after_at ws true here w v k inside = elim here as (λ x. word_at (cond x ws ws) k ≡ word_at ws k) [ true ↦ refl | false ↦ refl ]
 after_at ws false true w v k inside = set_at ws w v k inside
 after_at ws false false w v k inside = refl
 
-length_after : (ws : List ℕ) (load here : Bool) (w v : ℕ) → length (cond here (flat_after ws (Some (cond load (Loaded w v) (Stored w v)))) ws) ≡ length ws
+length_after : (ws : List ℕ) (load here : Bool) (w v : ℕ) → length (cond here (cond load ws (slice_set ws w v)) ws) ≡ length ws
 length_after ws true true w v = refl
 length_after ws true false w v = refl
 length_after ws false true w v = length-set ws w v
@@ -52,7 +51,7 @@ IsOn block None = ⊤
 IsOn block (Some did) = did.block ≡ block
 
 words_pushed : (log : List Item) (entry : Item) (b : ℕ) (did : Option Did) → operation_of entry ≡ did → (block : ℕ) → IsOn block did
-    → flat_words (log ++ entry ∷ []) b ≡ cond (eqb block b) (flat_after (flat_words log b) (made_of did)) (flat_words log b)
+    → flat_words (log ++ entry ∷ []) b ≡ cond (eqb block b) (flat_after (flat_words log b) did) (flat_words log b)
 words_pushed log entry b None performs block on =
     ext_get_or 0 (flat_words (log ++ entry ∷ []) b) (flat_words log b) (length_words (log ++ entry ∷ []) b ∙ sym (length_words log b))
     (λ k h.
@@ -62,7 +61,7 @@ words_pushed log entry b None performs block on =
     ∙ either_way (eqb block b) (flat_words log b)
 words_pushed log entry b (Some did) performs block on =
     let ws : List ℕ = flat_words log b in
-    let after : List ℕ = cond (eqb did.block b) (flat_after ws (Some (done_of did))) ws in
+    let after : List ℕ = cond (eqb did.block b) (flat_after ws (Some did)) ws in
     let same : flat_words (log ++ entry ∷ []) b ≡ after =
     ext_get_or 0 (flat_words (log ++ entry ∷ []) b) after
     (length_words (log ++ entry ∷ []) b ∙ sym (length_after ws did.load (eqb did.block b) did.word did.value ∙ length_words log b))
@@ -74,10 +73,10 @@ words_pushed log entry b (Some did) performs block on =
     ∙ (stored_at (flat log b k) b k did
     ∙ (ap (λ (x : ℕ). cond (not did.load && (eqb did.block b && eqb did.word k)) did.value x) (sym (word_flat log b k inside))
     ∙ sym (after_at ws did.load (eqb did.block b) did.word did.value k (subst (λ (n : ℕ). k < n) (sym (length_words log b)) inside)))))) in
-    same ∙ ap (λ (x : ℕ). cond (eqb x b) (flat_after ws (Some (done_of did))) ws) on
+    same ∙ ap (λ (x : ℕ). cond (eqb x b) (flat_after ws (Some did)) ws) on
 
 -- flat memory after a move on a block
-pub flat_logged : (log : List Item) (entry : Option Item) (block b : ℕ) → IsOn block (did_in entry) → flat_words (log ++ option_to_list entry) b ≡ cond (eqb block b) (flat_after (flat_words log b) (made_of (did_in entry))) (flat_words log b)
+pub flat_logged : (log : List Item) (entry : Option Item) (block b : ℕ) → IsOn block (did_in entry) → flat_words (log ++ option_to_list entry) b ≡ cond (eqb block b) (flat_after (flat_words log b) (did_in entry)) (flat_words log b)
 flat_logged log None block b on = ap (λ (l : List Item). flat_words l b) (append-nil log) ∙ either_way (eqb block b) (flat_words log b)
 flat_logged log (Some entry) block b on = words_pushed log entry b (operation_of entry) refl block on
 
@@ -107,7 +106,7 @@ legal_logged log None legal follows = subst Legal (sym (append-nil log)) legal
 legal_logged log (Some entry) legal follows = legal_push log entry legal follows
 
 -- an operation on a word that there is, as it is performed, may come next, if its load gives the flat value
-pub next_lawful : (log : List Item) (core block word : ℕ) (asking : Op) (value : ℕ) (hit : Bool) → word < 64 → IsLawful (flat_words log block) (Some (done_of (next_did log core block word asking value hit))) → IsNext log (next_did log core block word asking value hit)
-next_lawful log core block word op.Load value hit inside lawful = record { numbered = refl; loaded = λ h. lawful ∙ word_flat log block word inside }
+pub next_lawful : (log : List Item) (core block word : ℕ) (asking : Op) (value : ℕ) (hit : Bool) → word < 64 → IsLawful (flat_words log block) (Some (next_did log core block word asking value hit)) → IsNext log (next_did log core block word asking value hit)
+next_lawful log core block word op.Load value hit inside lawful = record { numbered = refl; loaded = λ h. lawful h ∙ word_flat log block word inside }
 next_lawful log core block word (op.Store stored) value hit inside lawful = record { numbered = refl; loaded = λ h. cc }
 next_lawful log core block word op.Evict value hit inside lawful = record { numbered = refl; loaded = λ h. cc }

@@ -1,5 +1,5 @@
 -- A move keeps the invariant of the machine.
-use Rattle.std.proofs.Common.{◌≡◌, ◌≢◌, ℕ, ◌<◌, true, false, eqb, List, [], ◌∷◌, ◌++◌, length, Option, Some, None, refl, inl, inr, ap, sym, ◌∙◌, subst, cond}
+use Rattle.std.proofs.Common.{◌≡◌, ◌≢◌, ℕ, ◌<◌, ◌≤◌, true, false, eqb, List, [], ◌∷◌, ◌++◌, length, Option, Some, None, refl, inl, inr, ap, sym, ◌∙◌, subst, cond}
 use Rattle.std.specs.Prelude.{option_to_list, slice_set, IfSome, All}
 use Rattle.std.proofs.lemmas.Bool.Decides.{eqb_tells}
 use Rattle.std.proofs.lemmas.List.{append-nil, length-set, get_or_past, get_or-set_same, get_or-set_other}
@@ -32,9 +32,7 @@ use Rattle.snoop_model.specs.Pictures.Situation.{Situation, picture_of, with_pic
 use Rattle.snoop_model.specs.Moves.Move.{Takes, FillsRequestor, ArrivesFor, Asks, Orders, Responds, IsWithin, MoveOn, kept_waiting, queues_after, came_of}
 use Rattle.snoop_model.specs.Invariant.Block.{BlockInvariant}
 use Rattle.snoop_model.specs.Invariant.Invariant.{Invariant}
-use Rattle.snoop_model.proofs.OneBlock.Steps as one
-use Rattle.snoop_model.proofs.OneBlock.Steps.{IsLawful, flat_after}
-use Rattle.snoop_model.proofs.OneBlock.Moves.{made_of, did_in, asks_one, orders_one, responds_one}
+use Rattle.snoop_model.proofs.OneBlock.Operation.{did_in, flat_after, IsLawful}
 use Rattle.snoop_model.proofs.OneBlock.OfBlocks.{asked_picture, asked_other, next_picture, next_other}
 use Rattle.snoop_model.proofs.Invariant.FlatMemory.{IsOn, FollowsIn, flat_logged, legal_logged, next_lawful}
 use Rattle.snoop_model.proofs.OneBlock.AskStep.{ask_keeps}
@@ -71,7 +69,7 @@ pub record Keeps (old : Situation) (block : ℕ) (caches : List (List Line)) (me
   pub row : length (picture_of (changed old caches memory transactions queues entry) block).caches ≡ old.shape.cores
   pub opened : (o : Open) → (picture_of (changed old caches memory transactions queues entry) block).transaction ≡ Some o → o.block ≡ block
   pub on : IsOn block (did_in entry)
-  pub block_after : BlockInvariant old.protocol old.shape.cores (flat_after (flat_words old.log block) (made_of (did_in entry))) (picture_of (changed old caches memory transactions queues entry) block)
+  pub block_after : BlockInvariant old.protocol old.shape.cores (flat_after (flat_words old.log block) (did_in entry)) (picture_of (changed old caches memory transactions queues entry) block)
   pub follows : FollowsIn old.log entry
   pub accesses : (core : ℕ) (access : Access) → (held_by (picture_of (changed old caches memory transactions queues entry) block) core).waiting ≡ Some access → IsWord old.shape access.word
   pub logged : IfSome (did_in entry) (IsLogged old)
@@ -95,9 +93,9 @@ kept old block caches memory transactions queues entry g k =
         | inr h ↦ g.opened b o (ap (λ (x : Picture). x.transaction) (sym (k.others b h.1)) ∙ is_open)
       ];
       blocks = λ b b_in.
-          let v : flat_words new.log b ≡ cond (eqb block b) (flat_after (flat_words old.log b) (made_of (did_in entry))) (flat_words old.log b) = flat_logged old.log entry block b k.on in
-          subst (λ (x : List ℕ). BlockInvariant old.protocol old.shape.cores x (picture_of new b)) (sym v) (elim (eqb_tells block b) as (λ _. BlockInvariant old.protocol old.shape.cores (cond (eqb block b) (flat_after (flat_words old.log b) (made_of (did_in entry))) (flat_words old.log b)) (picture_of new b)) [
-            | inl h ↦ rw h.0 (subst (λ (x : ℕ). BlockInvariant old.protocol old.shape.cores (flat_after (flat_words old.log x) (made_of (did_in entry))) (picture_of new x)) h.1 k.block_after)
+          let v : flat_words new.log b ≡ cond (eqb block b) (flat_after (flat_words old.log b) (did_in entry)) (flat_words old.log b) = flat_logged old.log entry block b k.on in
+          subst (λ (x : List ℕ). BlockInvariant old.protocol old.shape.cores x (picture_of new b)) (sym v) (elim (eqb_tells block b) as (λ _. BlockInvariant old.protocol old.shape.cores (cond (eqb block b) (flat_after (flat_words old.log b) (did_in entry)) (flat_words old.log b)) (picture_of new b)) [
+            | inl h ↦ rw h.0 (subst (λ (x : ℕ). BlockInvariant old.protocol old.shape.cores (flat_after (flat_words old.log x) (did_in entry)) (picture_of new x)) h.1 k.block_after)
             | inr h ↦ rw h.0 (subst (λ (x : Picture). BlockInvariant old.protocol old.shape.cores (flat_words old.log b) x) (sym (k.others b (λ e. h.1 (sym e)))) (g.blocks b b_in))
           ]);
       legal = legal_logged old.log entry g.legal k.follows;
@@ -119,9 +117,9 @@ takes_on (action.Issue r) next log core block word asking old new answer entry t
 takes_on action.Drop next log core block word asking old new answer entry t = subst (λ (x : Option Item). IsOn block (did_in x)) (sym t.2) tt
 takes_on _ next log core block word asking old new answer entry t = absurd t
 
-takes_follows : (a : CacheAction) (next : CacheState) (log : List Item) (core block word : ℕ) (asking : Op) (old new : Line) (answer : Reply) (entry : Option Item) → Takes a next log core block word asking old new answer entry → (a ≡ action.Hit → word < 64) → IsLawful (flat_words log block) (made_of (did_in entry)) → FollowsIn log entry
+takes_follows : (a : CacheAction) (next : CacheState) (log : List Item) (core block word : ℕ) (asking : Op) (old new : Line) (answer : Reply) (entry : Option Item) → Takes a next log core block word asking old new answer entry → (a ≡ action.Hit → word < 64) → IsLawful (flat_words log block) (did_in entry) → FollowsIn log entry
 takes_follows action.Hit next log core block word asking old new answer entry t inside lawful =
-    subst (FollowsIn log) (sym t.1.2) (next_lawful log core block word asking t.0 true (inside refl) (subst (λ (x : Option Item). IsLawful (flat_words log block) (made_of (did_in x))) t.1.2 lawful))
+    subst (FollowsIn log) (sym t.1.2) (next_lawful log core block word asking t.0 true (inside refl) (subst (λ (x : Option Item). IsLawful (flat_words log block) (did_in x)) t.1.2 lawful))
 takes_follows (action.Issue r) next log core block word asking old new answer entry t inside lawful = subst (FollowsIn log) (sym t.2) tt
 takes_follows action.Drop next log core block word asking old new answer entry t inside lawful = subst (FollowsIn log) (sym t.2) tt
 takes_follows _ next log core block word asking old new answer entry t inside lawful = absurd t
@@ -171,29 +169,28 @@ ask_moves old core block word asking answer new entry g within there a =
     let after : Picture = record before { caches = slice_set before.caches core a.held } in
     let in_caches : block < length old.caches = subst (λ (n : ℕ). block < n) (sym g.shaped.rows) within.1 in
     let in_row : core < length before.caches = subst (λ (n : ℕ). core < n) (sym cores) within.0 in
-    let asks = asks_one old.protocol before core word asking a.act a.next a.held old.log block answer entry in_row a.row a.taken in
-    let k = ask_keeps old.protocol old.shape.cores (flat_words old.log block) before core word asking after (made_of (did_in entry)) (g.blocks block within.1) (subst (λ (n : ℕ). one.Asks old.protocol n before core word asking after (made_of (did_in entry))) cores asks) in
+    let k = ask_keeps old core block word asking answer new entry a old.shape.cores (flat_words old.log block) (g.blocks block within.1) within.0 in_row in
     let caches = slice_set old.caches block after.caches in
-    let queues = queues_after a.act old.queues core block in
+    let queues = queues_after a.row.action old.queues core block in
     let log = old.log ++ option_to_list entry in
     let here : picture_of (changed old caches old.memory old.transactions queues entry) block ≡ after = asked_picture old block after.caches queues log in_caches in
     let whole : Keeps old block caches old.memory old.transactions queues entry = record {
       as_many_rows = length-set old.caches block after.caches;
       as_much_memory = refl;
-      as_many_queues = as_many_after a.act old.queues core block;
+      as_many_queues = as_many_after a.row.action old.queues core block;
       as_many_transactions = refl;
       others = λ b apart. asked_other old block b after.caches queues log apart;
       row = ap (λ (x : Picture). length x.caches) here ∙ (length-set before.caches core a.held ∙ cores);
       opened = λ o is_open. g.opened block o is_open;
-      on = takes_on a.act a.next old.log core block word asking (held_by before core) a.held answer entry a.taken;
-      block_after = subst (λ (x : Picture). BlockInvariant old.protocol old.shape.cores (flat_after (flat_words old.log block) (made_of (did_in entry))) x) (sym here) k.0;
-      follows = takes_follows a.act a.next old.log core block word asking (held_by before core) a.held answer entry a.taken
-          (λ hit. (hit_word old a.next old.log core block word asking (held_by before core) a.held answer entry there (subst (λ (x : CacheAction). Takes x a.next old.log core block word asking (held_by before core) a.held answer entry) hit a.taken)).1) k.1;
-      logged = takes_logged old a.act a.next old.log core block word asking (held_by before core) a.held answer entry a.taken within there;
+      on = takes_on a.row.action a.row.next old.log core block word asking (held_by before core) a.held answer entry a.taken;
+      block_after = subst (λ (x : Picture). BlockInvariant old.protocol old.shape.cores (flat_after (flat_words old.log block) (did_in entry)) x) (sym here) k.0;
+      follows = takes_follows a.row.action a.row.next old.log core block word asking (held_by before core) a.held answer entry a.taken
+          (λ hit. (hit_word old a.row.next old.log core block word asking (held_by before core) a.held answer entry there (subst (λ (x : CacheAction). Takes x a.row.next old.log core block word asking (held_by before core) a.held answer entry) hit a.taken)).1) k.1;
+      logged = takes_logged old a.row.action a.row.next old.log core block word asking (held_by before core) a.held answer entry a.taken within there;
       accesses = λ c access waits.
           let now : (held_by after c).waiting ≡ Some access = ap (λ (x : Picture). (held_by x c).waiting) (sym here) ∙ waits in
           elim (eqb_tells c core) as (λ _. IsWord old.shape access.word) [
-            | inl h ↦ takes_access old a.act a.next old.log core block word asking (held_by before core) a.held answer entry a.taken there (g.accesses core block) access
+            | inl h ↦ takes_access old a.row.action a.row.next old.log core block word asking (held_by before core) a.held answer entry a.taken there (g.accesses core block) access
                 (ap (λ (x : Line). x.waiting) (sym (get_or-set_same before.caches core a.held nothing_held in_row)) ∙ subst (λ (x : ℕ). (held_by after x).waiting ≡ Some access) h.1 now)
             | inr h ↦ g.accesses c block access (ap (λ (x : Line). x.waiting) (sym (get_or-set_other before.caches core c a.held nothing_held h.1)) ∙ now)
           ];
@@ -206,8 +203,8 @@ order_moves old core block q new g within o =
     let cores : length before.caches ≡ old.shape.cores = g.shaped.row block within.1 in
     let in_row : core < length before.caches = subst (λ (n : ℕ). core < n) (sym cores) within.0 in
     let at : (n : ℕ) → n ≡ old.shape.blocks → block < n = λ n e. subst (λ (x : ℕ). block < x) (sym e) within.1 in
-    let orders = subst (λ (n : ℕ). one.Orders old.protocol n before core q o.next) cores (orders_one old core block q new o in_row) in
-    let k = order_keeps old.protocol old.shape.cores (flat_words old.log block) before core q o.next (g.blocks block within.1) orders in
+    let good : BlockInvariant old.protocol (length before.caches) (flat_words old.log block) before = subst (λ (n : ℕ). BlockInvariant old.protocol n (flat_words old.log block) before) (sym cores) (g.blocks block within.1) in
+    let k = subst (λ (n : ℕ). BlockInvariant old.protocol n (flat_words old.log block) o.next) cores (order_keeps old core block q new (flat_words old.log block) good in_row o) in
     let w = with_picture old block o.next in
     let entry : Option Item = Some (item.Sent (record { core = core; request = q; block = block })) in
     let queues = after_order old.queues core block in
@@ -219,7 +216,7 @@ order_moves old core block q new g within o =
       as_many_queues = length-set old.queues core _;
       as_many_transactions = length-set old.transactions block o.next.transaction;
       others = λ b apart. next_other old block b o.next queues log apart;
-      row = ap (λ (x : Picture). length x.caches) here ∙ (o.caches ∙ cores);
+      row = ap (λ (x : Picture). length x.caches) here ∙ (o.taken.same_length ∙ cores);
       opened = λ t is_open. opened_block o.next.transaction _ t o.opened (ap (λ (x : Picture). x.transaction) (sym here) ∙ is_open);
       on = tt;
       logged = tt;
@@ -227,9 +224,9 @@ order_moves old core block q new g within o =
       follows = tt;
       accesses = λ c access waits.
           let now : (held_by o.next c).waiting ≡ Some access = ap (λ (x : Picture). (held_by x c).waiting) (sym here) ∙ waits in
-          elim (cases_lt c (length o.next.caches)) as (λ _. IsWord old.shape access.word) [
-            | inl inside ↦ g.accesses c block access (sym (ap (λ (x : Line). x.waiting) (o.rows c inside).1.1.1) ∙ now)
-            | inr past ↦ no_access old.shape nothing_held refl access (ap (λ (x : Line). x.waiting) (sym (get_or_past o.next.caches c nothing_held past)) ∙ now)
+          elim (cases_lt c (length before.caches)) as (λ _. IsWord old.shape access.word) [
+            | inl inside ↦ g.accesses c block access (sym (ap (λ (x : Line). x.waiting) (o.taken.rows c inside).2) ∙ now)
+            | inr past ↦ no_access old.shape nothing_held refl access (ap (λ (x : Line). x.waiting) (sym (get_or_past o.next.caches c nothing_held (subst (λ (n : ℕ). n ≤ c) (sym o.taken.same_length) past))) ∙ now)
           ];
     } in
     subst Invariant (sym o.after) (kept old block w.caches w.memory w.transactions queues entry g whole)
@@ -251,12 +248,12 @@ arrives_on request.PutM block closing p log old new did placed a = subst (IsOn b
 arrives_on request.GetS block closing p log old new did placed a = fills_on block closing p log old new did placed a
 arrives_on request.GetM block closing p log old new did placed a = fills_on block closing p log old new did placed a
 
-fills_follow : (block : ℕ) (closing : Open) (p : Protocol) (log : List Item) (old new : List Line) (did : Option Did) → closing.block ≡ block → FillsRequestor closing p log old new did → ((access : Access) → (held_at old closing.core).waiting ≡ Some access → access.word < 64) → IsLawful (flat_words log block) (made_of did) → FollowsIn log (Some (item.Came (came_of closing) did))
+fills_follow : (block : ℕ) (closing : Open) (p : Protocol) (log : List Item) (old new : List Line) (did : Option Did) → closing.block ≡ block → FillsRequestor closing p log old new did → ((access : Access) → (held_at old closing.core).waiting ≡ Some access → access.word < 64) → IsLawful (flat_words log block) did → FollowsIn log (Some (item.Came (came_of closing) did))
 fills_follow block closing p log old new did placed f within lawful =
-    let here : IsLawful (flat_words log closing.block) (made_of did) = subst (λ (b : ℕ). IsLawful (flat_words log b) (made_of did)) (sym placed) lawful in
-    subst (λ (x : Option Did). FollowsIn log (Some (item.Came (came_of closing) x))) (sym f.logged) (next_lawful log closing.core closing.block f.asking.word f.asking.op f.value false (within f.asking f.fills.waited) (subst (λ (x : Option Did). IsLawful (flat_words log closing.block) (made_of x)) f.logged here))
+    let here : IsLawful (flat_words log closing.block) did = subst (λ (b : ℕ). IsLawful (flat_words log b) did) (sym placed) lawful in
+    subst (λ (x : Option Did). FollowsIn log (Some (item.Came (came_of closing) x))) (sym f.logged) (next_lawful log closing.core closing.block f.asking.word f.asking.op f.value false (within f.asking f.fills.waited) (subst (λ (x : Option Did). IsLawful (flat_words log closing.block) x) f.logged here))
 
-arrives_follow : (q : Request) (block : ℕ) (closing : Open) (p : Protocol) (log : List Item) (old new : List Line) (did : Option Did) → closing.block ≡ block → ArrivesFor q closing p log old new did → ((access : Access) → (held_at old closing.core).waiting ≡ Some access → access.word < 64) → IsLawful (flat_words log block) (made_of did) → FollowsIn log (Some (item.Came (came_of closing) did))
+arrives_follow : (q : Request) (block : ℕ) (closing : Open) (p : Protocol) (log : List Item) (old new : List Line) (did : Option Did) → closing.block ≡ block → ArrivesFor q closing p log old new did → ((access : Access) → (held_at old closing.core).waiting ≡ Some access → access.word < 64) → IsLawful (flat_words log block) did → FollowsIn log (Some (item.Came (came_of closing) did))
 arrives_follow request.PutM block closing p log old new did placed a within lawful = subst (λ (x : Option Did). FollowsIn log (Some (item.Came (came_of closing) x))) (sym a.1) tt
 arrives_follow request.GetS block closing p log old new did placed a within lawful = fills_follow block closing p log old new did placed a within lawful
 arrives_follow request.GetM block closing p log old new did placed a within lawful = fills_follow block closing p log old new did placed a within lawful
@@ -289,8 +286,7 @@ respond_moves old block closing did new g within r =
     let placed : closing.block ≡ block = g.opened block closing r.opened in
     let in_row : closing.core < length before.caches = subst (λ (n : ℕ). closing.core < n) (sym cores) ((g.blocks block within).requestor_in closing r.opened) in
     let at : (n : ℕ) → n ≡ old.shape.blocks → block < n = λ n e. subst (λ (x : ℕ). block < x) (sym e) within in
-    let responds = subst (λ (n : ℕ). one.Responds old.protocol n before r.next (made_of did)) cores (responds_one old block closing did new r in_row) in
-    let k = respond_keeps old.protocol old.shape.cores (flat_words old.log block) before r.next (made_of did) (g.blocks block within) responds in
+    let k = respond_keeps old block closing did new r old.shape.cores (flat_words old.log block) (g.blocks block within) in_row in
     let w = with_picture old block r.next in
     let entry : Option Item = Some (item.Came (came_of closing) did) in
     let log = old.log ++ option_to_list entry in
@@ -304,7 +300,7 @@ respond_moves old block closing did new g within r =
       row = ap (λ (x : Picture). length x.caches) here ∙ (arrives_length closing.request closing old.protocol old.log before.caches r.next.caches did r.requestor ∙ cores);
       opened = λ t is_open. absurd (none_open r.next.transaction t r.closed (ap (λ (x : Picture). x.transaction) (sym here) ∙ is_open));
       on = arrives_on closing.request block closing old.protocol old.log before.caches r.next.caches did placed r.requestor;
-      block_after = subst (λ (x : Picture). BlockInvariant old.protocol old.shape.cores (flat_after (flat_words old.log block) (made_of did)) x) (sym here) k.0;
+      block_after = subst (λ (x : Picture). BlockInvariant old.protocol old.shape.cores (flat_after (flat_words old.log block) did) x) (sym here) k.0;
       follows = arrives_follow closing.request block closing old.protocol old.log before.caches r.next.caches did placed r.requestor (λ access waits. (g.accesses closing.core block access waits).1) k.1;
       logged = arrives_logged old closing.request closing old.protocol old.log before.caches r.next.caches did
           ((g.blocks block within).requestor_in closing r.opened, subst (λ (b : ℕ). b < old.shape.blocks) (sym placed) within) r.requestor (g.accesses closing.core block);
@@ -317,9 +313,9 @@ respond_moves old block closing did new g within r =
 
 -- a move keeps the invariant
 pub move_keeps : (block : ℕ) (old : Situation) (step : Step) (answer : Reply) (new : Situation) (entry : Option Item) → Invariant old → MoveOn block old step answer new entry → Invariant new
-move_keeps block old (Ask core on word asking) answer new entry g m = elim m.2 as (λ _. Invariant new) [
+move_keeps block old (Ask core on word asking) answer new entry g m = elim m.moves as (λ _. Invariant new) [
   | inl idle ↦ subst Invariant (sym idle.3) g
-  | inr a ↦ ask_moves old core block word asking answer new entry g m.1 m.3 a
+  | inr a ↦ ask_moves old core block word asking answer new entry g m.within m.has_word a
 ]
-move_keeps block old (Order core) answer new entry g m = order_moves old core block m.0 new g m.1.0 m.1.3
-move_keeps block old (Respond on) answer new entry g m = respond_moves old block m.0 m.1.0 new g m.1.1.1 m.1.1.4
+move_keeps block old (Order core) answer new entry g m = order_moves old core block m.request new g m.within m.orders
+move_keeps block old (Respond on) answer new entry g m = respond_moves old block m.closing m.did new g m.within m.responds

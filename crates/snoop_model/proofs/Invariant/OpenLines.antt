@@ -56,12 +56,12 @@ respond_on_lines old block closing did new g lines within r b =
 
 -- a move keeps the lines: an Ask changes neither memory nor a transaction
 pub move_on_lines : (block : ℕ) (old : Situation) (step : Step) (answer : Reply) (new : Situation) (entry : Option Item) → Invariant old → AreOnLines old → MoveOn block old step answer new entry → AreOnLines new
-move_on_lines block old (Ask core on word asking) answer new entry g lines m = elim m.2 as (λ _. AreOnLines new) [
+move_on_lines block old (Ask core on word asking) answer new entry g lines m = elim m.moves as (λ _. AreOnLines new) [
   | inl idle ↦ subst AreOnLines (sym idle.3) lines
   | inr a ↦ subst AreOnLines (sym a.after) lines
 ]
-move_on_lines block old (Order core) answer new entry g lines m = order_on_lines old core block m.0 new g lines m.1.0 m.1.3
-move_on_lines block old (Respond on) answer new entry g lines m = respond_on_lines old block m.0 m.1.0 new g lines m.1.1.1 m.1.1.4
+move_on_lines block old (Order core) answer new entry g lines m = order_on_lines old core block m.request new g lines m.within m.orders
+move_on_lines block old (Respond on) answer new entry g lines m = respond_on_lines old block m.closing m.did new g lines m.within m.responds
 
 goes_on_lines : (old : Situation) (step : Step) (outcome : Result Reply Refused) (new : Situation) → Invariant old → AreOnLines old → Goes old step outcome new → AreOnLines new
 goes_on_lines old step (Ok answer) new g lines m = move_on_lines m.1.0 old step answer new m.0 g lines m.1.1

@@ -1,6 +1,7 @@
 -- Each Order that is taken is a line of the table of senders, and each Respond settles memory by the line of its transaction.
 use Rattle.std.proofs.Common.{◌≡◌, ℕ, ◌<◌, ◌++◌, ◌∷◌, [], length, Option, Some, None, refl, inl, inr, sym, ◌∙◌, ap, subst}
 use Rattle.std.specs.Prelude.{IfSome}
+use Rattle.std.proofs.lemmas.Option.{same_Some}
 use Rattle.snoop_trace.specs.declared.step.Step.TheVariants.{Ask, Order, Respond}
 use Rattle.snoop_trace.specs.declared.protocol.Protocol.{Protocol}
 use Rattle.snoop_trace.specs.declared.protocol.Protocol.TheVariants as protocol
@@ -12,9 +13,8 @@ use Rattle.snoop_rules.specs.declared.names.Request.{Request}
 use Rattle.snoop_rules.specs.declared.names.Request.TheVariants as request
 use Rattle.snoop_rules.specs.declared.names.Payload.{Payload}
 use Rattle.snoop_rules.specs.declared.names.Payload.TheVariants as payload
+use Rattle.snoop_rules.specs.declared.names.MemCell.{MemCell}
 use Rattle.snoop_rules.specs.WhoSends.{Goes, SentAs}
-use Rattle.snoop_rules.specs.Takers.{at_memory}
-use Rattle.snoop_rules.proofs.MemRows.{MemoryCell-one}
 use Rattle.snoop_history.specs.declared.items.Did.{Did}
 use Rattle.snoop_history.specs.declared.items.Item.TheVariants as item
 use Rattle.snoop_bus.specs.Traffic.{Open}
@@ -47,7 +47,7 @@ order_is_by_table s g core block q new within o =
     let there : picture_of new block ≡ o.next =
     ap (λ (x : Situation). picture_of x block) o.after
     ∙ next_picture s block o.next (after_order s.queues core block) (s.log ++ item.Sent (record { core = core; request = q; block = block }) ∷ []) lists.0 lists.1 lists.2 in
-    let memory : f.next ≡ (picture_of new block).memory.state = (MemoryCell-one p before.memory.state (at_memory q) f.ordered.0 o.memory.0 f.next o.next.memory.state f.ordered.1 o.memory.1).1 ∙ sym (ap (λ (x : Picture). x.memory.state) there) in
+    let memory : f.next ≡ (picture_of new block).memory.state = (f.ordered.2 ∙ (ap (λ (row : MemCell). row.next) (same_Some _ _ (sym f.ordered.1 ∙ o.memory.1)) ∙ sym o.memory.2)) ∙ sym (ap (λ (x : Picture). x.memory.state) there) in
     record {
       from = o.from;
       payload = o.payload;
@@ -72,8 +72,8 @@ respond_is_by_table s g block closing did new within r =
 
 -- each move from a coherent situation is by the table
 moves_are_by_table : (s : Situation) → Invariant s → MovesAreByTable s
-moves_are_by_table s g block (Order core) answer new entry m = (m.0, (m.1.3.ready, order_is_by_table s g core block m.0 new m.1.0 m.1.3))
-moves_are_by_table s g block (Respond on) answer new entry m = respond_is_by_table s g block m.0 m.1.0 new m.1.1.1 m.1.1.4
+moves_are_by_table s g block (Order core) answer new entry m = (m.request, (m.orders.ready, order_is_by_table s g core block m.request new m.within m.orders))
+moves_are_by_table s g block (Respond on) answer new entry m = respond_is_by_table s g block m.closing m.did new m.within m.responds
 moves_are_by_table s g block (Ask core on word asking) answer new entry m = tt
 
 -- memory's row for the response leads to the line's last column
@@ -81,29 +81,33 @@ module _ (sent : Payload) (next done new : MemState) (act : MemAction) where
   goes : (p : Protocol) (q : Request) (with_sent : Payload) (with_next with_done : MemState) → Goes with_sent with_next with_done sent next done → (Settles p q with_sent with_next act new → new ≡ with_done) → Settles p q sent next act new → new ≡ done
   goes p q with_sent with_next with_done g h = rw (g.0, g.1, g.2) h
 
+  -- a row that memory takes leads to its next state
+  taken : {row : MemCell} → ◌≡◌ {A = Option MemCell} (Some row) (Some (record { action = act; next = new })) → new ≡ row.next
+  taken is = sym (ap (λ (x : MemCell). x.next) (same_Some _ _ is))
+
   line_settles : (p : Protocol) (q : Request) (before : MemState) (sender : Option CacheState) → SentAs p q before sender sent next done → Settles p q sent next act new → new ≡ done
   line_settles protocol.Msi request.GetS mem.IorS sender l = goes protocol.Msi request.GetS payload.Data mem.IorS mem.IorS l.1 (λ s. s.1)
-  line_settles protocol.Msi request.GetS mem.M sender l = goes protocol.Msi request.GetS payload.Data mem.IorSD mem.IorS l.1 (λ s. s.1)
+  line_settles protocol.Msi request.GetS mem.M sender l = goes protocol.Msi request.GetS payload.Data mem.IorSD mem.IorS l.1 taken
   line_settles protocol.Msi request.GetM mem.IorS sender l = goes protocol.Msi request.GetM payload.Data mem.M mem.M l.1 (λ s. s.1)
   line_settles protocol.Msi request.GetM mem.M sender l = goes protocol.Msi request.GetM payload.Data mem.M mem.M l.1 (λ s. s.1)
-  line_settles protocol.Msi request.PutM mem.IorS sender l = goes protocol.Msi request.PutM payload.NoData mem.IorSD mem.IorS l.1 (λ s. s.1)
+  line_settles protocol.Msi request.PutM mem.IorS sender l = goes protocol.Msi request.PutM payload.NoData mem.IorSD mem.IorS l.1 taken
   line_settles protocol.Msi request.PutM mem.M sender l = elim l [
-    | inl a ↦ goes protocol.Msi request.PutM payload.Data mem.MD mem.IorS a.1 (λ s. s.1)
-    | inr a ↦ goes protocol.Msi request.PutM payload.NoData mem.MD mem.M a.1 (λ s. s.1)
+    | inl a ↦ goes protocol.Msi request.PutM payload.Data mem.MD mem.IorS a.1 taken
+    | inr a ↦ goes protocol.Msi request.PutM payload.NoData mem.MD mem.M a.1 taken
   ]
   line_settles protocol.Mesi request.GetS mem.I sender l = goes protocol.Mesi request.GetS payload.DataE mem.EorM mem.EorM l.1 (λ s. s.1)
   line_settles protocol.Mesi request.GetS mem.S sender l = goes protocol.Mesi request.GetS payload.Data mem.S mem.S l.1 (λ s. s.1)
-  line_settles protocol.Mesi request.GetS mem.EorM sender l = goes protocol.Mesi request.GetS payload.Data mem.SD mem.S l.1 (λ s. s.1)
+  line_settles protocol.Mesi request.GetS mem.EorM sender l = goes protocol.Mesi request.GetS payload.Data mem.SD mem.S l.1 taken
   line_settles protocol.Mesi request.GetM mem.I sender l = goes protocol.Mesi request.GetM payload.Data mem.EorM mem.EorM l.1 (λ s. s.1)
   line_settles protocol.Mesi request.GetM mem.S sender l = goes protocol.Mesi request.GetM payload.Data mem.EorM mem.EorM l.1 (λ s. s.1)
   line_settles protocol.Mesi request.GetM mem.EorM sender l = goes protocol.Mesi request.GetM payload.Data mem.EorM mem.EorM l.1 (λ s. s.1)
-  line_settles protocol.Mesi request.PutM mem.I sender l = goes protocol.Mesi request.PutM payload.NoData mem.ID mem.I l.1 (λ s. s.1)
-  line_settles protocol.Mesi request.PutM mem.S sender l = goes protocol.Mesi request.PutM payload.NoData mem.SD mem.S l.1 (λ s. s.1)
+  line_settles protocol.Mesi request.PutM mem.I sender l = goes protocol.Mesi request.PutM payload.NoData mem.ID mem.I l.1 taken
+  line_settles protocol.Mesi request.PutM mem.S sender l = goes protocol.Mesi request.PutM payload.NoData mem.SD mem.S l.1 taken
   line_settles protocol.Mesi request.PutM mem.EorM sender l = elim l [
-    | inl a ↦ goes protocol.Mesi request.PutM payload.Data mem.EorMD mem.I a.1 (λ s. s.1)
+    | inl a ↦ goes protocol.Mesi request.PutM payload.Data mem.EorMD mem.I a.1 taken
     | inr a ↦ elim a [
-      | inl b ↦ goes protocol.Mesi request.PutM payload.NoDataE mem.EorMD mem.I b.1 (λ s. s.1)
-      | inr b ↦ goes protocol.Mesi request.PutM payload.NoData mem.EorMD mem.EorM b.1 (λ s. s.1)
+      | inl b ↦ goes protocol.Mesi request.PutM payload.NoDataE mem.EorMD mem.I b.1 taken
+      | inr b ↦ goes protocol.Mesi request.PutM payload.NoData mem.EorMD mem.EorM b.1 taken
     ]
   ]
   line_settles _ _ _ sender l = absurd l
@@ -122,7 +126,7 @@ open_is_by_table s g lines block = go (picture_of s block).transaction refl (lin
           done = line.0;
           on_line = line.1;
           settled = λ answer new entry m.
-              let by = respond_is_by_table s g block m.0 m.1.0 new m.1.1.1 m.1.1.4 in
+              let by = respond_is_by_table s g block m.closing m.did new m.within m.responds in
               let same : by.closing ≡ o = cc in
               let settles : Settles s.protocol o.request o.payload (picture_of s block).memory.state by.settled.act (picture_of new block).memory.state = subst (λ (x : Open). Settles s.protocol x.request x.payload (picture_of s block).memory.state by.settled.act (picture_of new block).memory.state) same by.settled.settled in
               line_settles o.payload (picture_of s block).memory.state line.0 (picture_of new block).memory.state by.settled.act s.protocol o.request line.1.before _ line.1.line settles;

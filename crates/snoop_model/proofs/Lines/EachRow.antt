@@ -35,7 +35,7 @@ Taking-more protocol requestor request old new after n act next in_row taking ce
     let was : held_at new n ≡ held_at old n = taking.left n (omega arith) in
     let P : Line → Type 0 = λ x. Cell protocol x.state (seen_by n requestor request) act next in
     let at_n : TakesRow protocol (seen_by n requestor request) (held_at old n) (held_at after n) =
-    (act, (next, (subst P was cell, here ∙ ap (moves_to next) was))) in
+    (record { action = act; next = next }, subst P was cell, here ∙ ap (moves_to next) was) in
     record {
       same_length = ap length wrote ∙ (length-set new n line ∙ taking.same_length);
       taken = λ k h. elim (cases_eq k n) [

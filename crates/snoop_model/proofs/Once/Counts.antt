@@ -9,7 +9,7 @@ use Rattle.snoop_history.specs.History.{operation_of, answers_of}
 use Rattle.snoop_history.proofs.Pushed.{answers_of-push, of_core}
 use Rattle.snoop_model.specs.declared.line.Access.{Access}
 use Rattle.snoop_model.specs.Runs.Once.{same_access, did_access, did_it, one_if}
-use Rattle.snoop_model.proofs.OneBlock.Moves.{did_in}
+use Rattle.snoop_model.proofs.OneBlock.Operation.{did_in}
 
 pub one_if_cond : (b : Bool) → cond b 1 0 ≡ one_if b
 one_if_cond true = refl

@@ -31,7 +31,7 @@ use Rattle.snoop_model.specs.Moves.Move.{Takes, FillsRequestor, ArrivesFor, Asks
 use Rattle.snoop_model.specs.Runs.Run.{RunFrom, Run}
 use Rattle.snoop_model.specs.Runs.Once.{same_access, did_it, one_if, waits_for, tally, asks, taken, times_asked, OnceMore, Once}
 use Rattle.snoop_model.specs.Invariant.Invariant.{Invariant}
-use Rattle.snoop_model.proofs.OneBlock.Moves.{did_in}
+use Rattle.snoop_model.proofs.OneBlock.Operation.{did_in}
 use Rattle.snoop_model.proofs.OneBlock.AfterMoves.{ask_line, ask_other_core, ask_other_block, order_here, order_other_block, respond_here, respond_other_block}
 use Rattle.snoop_model.proofs.Once.Counts.{did_so, IsBy, none_either, one_if_cond, count_logged}
 use Rattle.snoop_model.proofs.Once.Asks.{waits_so, line_once, performed_so, no_evict}
@@ -86,26 +86,26 @@ pub ask_once : (old : Situation) (c b word : ℕ) (asking : Op) (answer : Reply)
 ask_once old c b word asking answer new entry g within a core block wanted =
     let before : Picture = picture_of old b in
     let line : held_by (picture_of new b) c ≡ a.held = ask_line old c b word asking answer new entry g within a in
-    let once = line_once old.protocol a.act a.next old.log c b word asking (held_by before c) a.held answer entry ((g.blocks b within.1).proper c within.0) a.row a.taken wanted in
+    let once = line_once old.protocol a.row.action a.row.next old.log c b word asking (held_by before c) a.held answer entry ((g.blocks b within.1).proper c within.0) a.is_row a.taken wanted in
     let balances : Balances old new c b wanted (did_so wanted (did_in entry)) (one_if (same_access wanted (record { word = word; op = asking }))) = record {
       here = subst (λ (x : Line). waits_so wanted x.waiting + did_so wanted (did_in entry) ≡ waits_for old c b wanted + one_if (same_access wanted (record { word = word; op = asking }))) (sym line) once;
       cores = λ k apart. ap (λ (x : Line). waits_so wanted x.waiting) (ask_other_core old c b word asking answer new entry g within a k apart);
       blocks = ask_other_block old c b word asking answer new entry g within a;
     } in
     let logged : new.log ≡ old.log ++ option_to_list entry = ap (λ (s : Situation). s.log) a.after in
-    let by = takes_by a.act a.next old.log c b word asking (held_by before c) a.held answer entry a.taken in
+    let by = takes_by a.row.action a.row.next old.log c b word asking (held_by before c) a.held answer entry a.taken in
     let x = tallied old new c b entry wanted (one_if (same_access wanted (record { word = word; op = asking }))) logged by balances core block in
     let y = one_if_both (eqb c core) (eqb b block) (same_access wanted (record { word = word; op = asking })) in
     omega arith
 
 -- an Order leaves each operation waiting
 order_waiting : (old : Situation) (core block : ℕ) (q : Request) (new : Situation) (o : Orders old core block q new) (wanted : Access) (k : ℕ) → waits_so wanted (held_by o.next k).waiting ≡ waits_so wanted (held_by (picture_of old block) k).waiting
-order_waiting old core block q new o wanted k = elim (cases_lt k (length o.next.caches)) [
-  | inl inside ↦ ap (λ (x : Line). waits_so wanted x.waiting) (o.rows k inside).1.1.1
+order_waiting old core block q new o wanted k = elim (cases_lt k (length (picture_of old block).caches)) [
+  | inl inside ↦ ap (λ (x : Line). waits_so wanted x.waiting) (o.taken.rows k inside).2
   | inr past ↦
-      let long = o.caches in
-      let e : held_by o.next k ≡ nothing_held = get_or_past o.next.caches k nothing_held past in
-      let f : held_by (picture_of old block) k ≡ nothing_held = get_or_past (picture_of old block).caches k nothing_held (omega arith) in
+      let long = o.taken.same_length in
+      let e : held_by o.next k ≡ nothing_held = get_or_past o.next.caches k nothing_held (omega arith) in
+      let f : held_by (picture_of old block) k ≡ nothing_held = get_or_past (picture_of old block).caches k nothing_held past in
       ap (λ (x : Line). waits_so wanted x.waiting) (e ∙ sym f)
 ]
 
@@ -176,17 +176,17 @@ absent_once wanted word asking x y e = one_if_both x y (same_access wanted (reco
 
 -- a move
 pub move_once : (block : ℕ) (old : Situation) (step : Step) (answer : Reply) (new : Situation) (entry : Option Item) → Invariant old → MoveOn block old step answer new entry → (core b : ℕ) (wanted : Access) → tally new core b wanted ≡ tally old core b wanted + one_if (asks core b wanted step)
-move_once block old (Ask c on word asking) answer new entry g m core b wanted = elim m.2 as (λ _. tally new core b wanted ≡ tally old core b wanted + one_if (asks core b wanted (Ask c on word asking))) [
+move_once block old (Ask c on word asking) answer new entry g m core b wanted = elim m.moves as (λ _. tally new core b wanted ≡ tally old core b wanted + one_if (asks core b wanted (Ask c on word asking))) [
   | inl idle ↦
       let x : tally new core b wanted ≡ tally old core b wanted = ap (λ (s : Situation). tally s core b wanted) idle.3 in
       let y = absent_once wanted word asking (eqb c core) (eqb on b) idle.0 in
       omega arith
   | inr a ↦
       let P : ℕ → Type 0 = λ k. tally new core b wanted ≡ tally old core b wanted + one_if (asks core b wanted (Ask c k word asking)) in
-      subst P (sym m.0) (ask_once old c block word asking answer new entry g m.1 a core b wanted)
+      subst P (sym m.on_block) (ask_once old c block word asking answer new entry g m.within a core b wanted)
 ]
-move_once block old (Order c) answer new entry g m core b wanted = order_once old c block m.0 new g m.1.0 m.1.3 core b wanted
-move_once block old (Respond on) answer new entry g m core b wanted = respond_once old block m.0 m.1.0 new g m.1.1.1 m.1.1.4 core b wanted
+move_once block old (Order c) answer new entry g m core b wanted = order_once old c block m.request new g m.within m.orders core b wanted
+move_once block old (Respond on) answer new entry g m core b wanted = respond_once old block m.closing m.did new g m.within m.responds core b wanted
 
 -- a run, from any situation that keeps the invariant
 pub run_once : (steps : List Step) (outcomes : List (Result Reply Refused)) (old new : Situation) → Invariant old → RunFrom old steps outcomes new → OnceMore old steps outcomes new

@@ -22,7 +22,7 @@ in_list blocks b n e within = subst (λ (x : ℕ). b < x) (sym e) within
 
 module _ (old : Situation) (c b word : ℕ) (asking : Op) (answer : Reply) (new : Situation) (entry : Option Item) (g : Invariant old) (within : IsWithin old c b) (a : Asks old c b word asking answer new entry) where
   pub ask_here : picture_of new b ≡ record (picture_of old b) { caches = slice_set (picture_of old b).caches c a.held }
-  ask_here = ap (λ (s : Situation). picture_of s b) a.after ∙ asked_picture old b (slice_set (picture_of old b).caches c a.held) (queues_after a.act old.queues c b) (old.log ++ option_to_list entry) (in_list old.shape.blocks b (length old.caches) g.shaped.rows within.1)
+  ask_here = ap (λ (s : Situation). picture_of s b) a.after ∙ asked_picture old b (slice_set (picture_of old b).caches c a.held) (queues_after a.row.action old.queues c b) (old.log ++ option_to_list entry) (in_list old.shape.blocks b (length old.caches) g.shaped.rows within.1)
 
   pub ask_line : held_by (picture_of new b) c ≡ a.held
   ask_line = ap (λ (x : Picture). held_by x c) ask_here ∙ get_or-set_same (picture_of old b).caches c a.held nothing_held (in_list old.shape.cores c (length (picture_of old b).caches) (g.shaped.row b within.1) within.0)
@@ -31,7 +31,7 @@ module _ (old : Situation) (c b word : ℕ) (asking : Op) (answer : Reply) (new 
   ask_other_core k apart = ap (λ (x : Picture). held_by x k) ask_here ∙ get_or-set_other (picture_of old b).caches c k a.held nothing_held apart
 
   pub ask_other_block : (k : ℕ) → k ≢ b → picture_of new k ≡ picture_of old k
-  ask_other_block k apart = ap (λ (s : Situation). picture_of s k) a.after ∙ asked_other old b k (slice_set (picture_of old b).caches c a.held) (queues_after a.act old.queues c b) (old.log ++ option_to_list entry) apart
+  ask_other_block k apart = ap (λ (s : Situation). picture_of s k) a.after ∙ asked_other old b k (slice_set (picture_of old b).caches c a.held) (queues_after a.row.action old.queues c b) (old.log ++ option_to_list entry) apart
 
 module _ (old : Situation) (c b : ℕ) (q : Request) (new : Situation) (g : Invariant old) (within : IsWithin old c b) (o : Orders old c b q new) where
   sent : List Item

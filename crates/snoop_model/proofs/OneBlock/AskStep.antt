@@ -1,7 +1,9 @@
 -- An Ask keeps the invariant, and a load that it performs gives the flat value.
-use Rattle.std.proofs.Common.{◌≡◌, ◌≢◌, ◌<◌, ◌&&◌, ◌||◌, ◌⊎◌, ◌∙◌, ℕ, List, Bool, true, false, not, Option, Some, refl, inl, inr, ap, sym, subst}
+use Rattle.std.proofs.Common.{◌≡◌, ◌≢◌, ◌<◌, ◌&&◌, ◌||◌, ◌⊎◌, ◌∙◌, ℕ, List, Bool, true, false, not, length, Option, Some, refl, inl, inr, ap, sym, subst}
 use Rattle.std.proofs.lemmas.Bool.Decides.{eqb_tells}
 use Rattle.std.proofs.lemmas.Bool.{and_parts}
+use Rattle.std.proofs.lemmas.List.{get_or-set_same, get_or-set_other}
+use Rattle.std.proofs.lemmas.Option.{same_Some}
 use Rattle.std.specs.Prelude.{slice_set}
 use Rattle.snoop_trace.specs.Words.{word_at}
 use Rattle.snoop_trace.specs.declared.step.Op.{Op}
@@ -12,187 +14,188 @@ use Rattle.snoop_rules.specs.declared.names.CacheAction.{CacheAction}
 use Rattle.snoop_rules.specs.declared.names.CacheAction.TheVariants as action
 use Rattle.snoop_rules.specs.Takers.{asked}
 use Rattle.snoop_rules.specs.Cell.{Cell}
-use Rattle.snoop_rules.proofs.Rows.{Cell-found}
-use Rattle.snoop_bus.specs.Traffic.{Open}
+use Rattle.snoop_history.specs.declared.items.Did.{Did}
+use Rattle.snoop_history.specs.declared.items.Item.{Item}
+use Rattle.snoop_model.specs.declared.replies.Reply.{Reply}
 use Rattle.snoop_model.specs.Pictures.Lines.{Line}
-use Rattle.snoop_model.specs.Pictures.Picture.{Picture, held_by}
+use Rattle.snoop_model.specs.Pictures.Picture.{Picture, held_by, nothing_held}
+use Rattle.snoop_model.specs.Pictures.Situation.{Situation, picture_of}
 use Rattle.snoop_model.specs.Pictures.Sound.{keeps, IsProper}
-use Rattle.snoop_model.specs.Invariant.Fits.{claims_of, is_clean, fits}
-use Rattle.snoop_model.specs.Invariant.Block.{BlockInvariant, talk_of, awaited, owns}
-use Rattle.snoop_model.proofs.OneBlock.Steps.{Done, flat_after, IsLawful, Performs, Asks}
-use Rattle.snoop_model.proofs.OneBlock.Facts.{implied, Carried, carried_kept, carried_same, not_true, clash, owned_alone, others_blind, owner_owned, owns_one, calm_carries}
+use Rattle.snoop_model.specs.Moves.Move.{Takes, Asks}
+use Rattle.snoop_model.specs.Invariant.Fits.{is_clean, fits}
+use Rattle.snoop_model.specs.Invariant.Block.{BlockInvariant, awaited, owns}
+use Rattle.snoop_model.proofs.OneBlock.Operation.{did_in, flat_after, IsLawful}
+use Rattle.snoop_model.proofs.OneBlock.Facts.{implied, Carried, carried_by, came_to, carried_kept, carried_same, not_true, clash, owned_alone, others_blind, owner_owned, owns_one, calm_carries}
 use Rattle.snoop_model.proofs.Tables.Rows.{IsProper-issue, IsProper-hit, IsProper-drop}
 use Rattle.snoop_model.proofs.Tables.AskTests.{ask_rule, is_stall, is_store}
 use Rattle.snoop_model.proofs.Tables.StateTests.{is_hit, carries, clean_reads, kept_reader}
 use Rattle.snoop_model.proofs.Tables.AskTests
 
 -- an Ask that stores nothing: the flat value stays, what the core holds carries over, and a load gives the flat value
-pub record Quietly (flat : List ℕ) (old new : Line) (next : CacheState) (made : Option Done) : Type 0 where
+pub record Quietly (flat : List ℕ) (old new : Line) (next : CacheState) (did : Option Did) : Type 0 where
   pub state : new.state ≡ next
   pub carried : Carried old new
-  pub same_flat : flat_after flat made ≡ flat
-  pub lawful : IsLawful flat made
+  pub same_flat : flat_after flat did ≡ flat
+  pub lawful : IsLawful flat did
 
 -- an Ask that stores a value
-pub record Storing (flat : List ℕ) (old new : Line) (next : CacheState) (made : Option Done) : Type 0 where
+pub record Storing (flat : List ℕ) (old new : Line) (next : CacheState) (did : Option Did) : Type 0 where
   pub state : new.state ≡ next
   pub value : List ℕ
-  pub new_flat : flat_after flat made ≡ value
+  pub new_flat : flat_after flat did ≡ value
   pub kept : new.kept ≡ Some value
-  pub lawful : IsLawful flat made
+  pub lawful : IsLawful flat did
 
 -- what an Ask does, by its row
-ask_cases : (flat : List ℕ) (a : CacheAction) (word : ℕ) (o : Op) (next : CacheState) (old new : Line) (made : Option Done) → (keeps old.state ≡ true → old.kept ≡ Some flat) → (is_hit a ≡ true → keeps old.state ≡ true) → ((is_stall a || ((is_hit a && is_store (asked o)) || carries old.state next)) ≡ true) → Performs a word o next old new made → (Quietly flat old new next made) ⊎ ((is_hit a && is_store (asked o) ≡ true) × Storing flat old new next made)
-ask_cases flat action.Hit word op.Load next old new made was reads carry did =
-    let parts = and_parts (not (keeps next) || keeps old.state) (not (is_clean next) || is_clean old.state) carry in
-    let v_is : Some did.0 ≡ Some flat = sym did.1 ∙ was (reads refl) in
-    let v_flat : did.0 ≡ flat = cc in
-    inl (record {
-      state = ap (λ (x : Line). x.state) did.2;
-      carried = record {
-        reads = λ h. (reads refl, ap (λ (x : Line). x.kept) did.2 ∙ sym did.1);
-        cleans = λ h. implied (is_clean next) (is_clean old.state) parts.1 (ap (λ (x : Line). is_clean x.state) (sym did.2) ∙ h);
-      };
-      same_flat = rw did.3 refl;
-      lawful = rw did.3 (ap (λ (ws : List ℕ). word_at ws word) v_flat);
-    })
-ask_cases flat action.Hit word (op.Store v) next old new made was reads carry did =
-    let w_is : Some did.0 ≡ Some flat = sym did.1 ∙ was (reads refl) in
-    let w_flat : did.0 ≡ flat = cc in
-    inr (refl, record { state = ap (λ (x : Line). x.state) did.2; value = slice_set flat word v; new_flat = rw did.3 refl; kept = ap (λ (x : Line). x.kept) did.2 ∙ ap (λ (ws : List ℕ). Some (slice_set ws word v)) w_flat; lawful = rw did.3 tt })
-ask_cases flat (action.Issue r) word o next old new made was reads carry did =
-    let parts = and_parts (not (keeps next) || keeps old.state) (not (is_clean next) || is_clean old.state) carry in
-    inl (record {
-      state = ap (λ (x : Line). x.state) did.0;
-      carried = record {
-        reads = λ h.
-            let e : keeps next ≡ true = ap (λ (x : Line). keeps x.state) (sym did.0) ∙ h in
-            (implied (keeps next) (keeps old.state) parts.0 e, ap (λ (x : Line). x.kept) did.0 ∙ kept_reader next old.kept e);
-        cleans = λ h. implied (is_clean next) (is_clean old.state) parts.1 (ap (λ (x : Line). is_clean x.state) (sym did.0) ∙ h);
-      };
-      same_flat = rw did.1 refl;
-      lawful = rw did.1 tt;
-    })
-ask_cases flat action.Drop word o next old new made was reads carry did =
-    let parts = and_parts (not (keeps next) || keeps old.state) (not (is_clean next) || is_clean old.state) carry in
-    inl (record {
-      state = ap (λ (x : Line). x.state) did.0;
-      carried = record {
-        reads = λ h.
-            let e : keeps next ≡ true = ap (λ (x : Line). keeps x.state) (sym did.0) ∙ h in
-            (implied (keeps next) (keeps old.state) parts.0 e, ap (λ (x : Line). x.kept) did.0 ∙ kept_reader next old.kept e);
-        cleans = λ h. implied (is_clean next) (is_clean old.state) parts.1 (ap (λ (x : Line). is_clean x.state) (sym did.0) ∙ h);
-      };
-      same_flat = rw did.1 refl;
-      lawful = rw did.1 tt;
-    })
-ask_cases flat action.Hit word op.Evict next old new made was reads carry did = absurd did
-ask_cases flat action.None word o next old new made was reads carry did = absurd did
-ask_cases flat action.Stall word o next old new made was reads carry did = absurd did
-ask_cases flat action.FillLoad word o next old new made was reads carry did = absurd did
-ask_cases flat action.FillStore word o next old new made was reads carry did = absurd did
-ask_cases flat (action.Send pl t) word o next old new made was reads carry did = absurd did
+module _ (flat : List ℕ) (next : CacheState) (log : List Item) (core block word : ℕ) (old new : Line) (answer : Reply) (entry : Option Item) (was : keeps old.state ≡ true → old.kept ≡ Some flat) where
+  ask_cases : (a : CacheAction) (o : Op) → (is_hit a ≡ true → keeps old.state ≡ true) → (is_stall a || ((is_hit a && is_store (asked o)) || carries old.state next)) ≡ true → Takes a next log core block word o old new answer entry
+      → Quietly flat old new next (did_in entry) ⊎ ((is_hit a && is_store (asked o) ≡ true) × Storing flat old new next (did_in entry))
+  ask_cases action.Hit op.Load reads carry took =
+      let h = took.1.0 in
+      let same : h.before ≡ flat = same_Some _ _ (sym h.kept ∙ was (reads refl)) in
+      let state : new.state ≡ next = ap (λ (x : Line). x.state) h.held in
+      let kept : new.kept ≡ old.kept = ap (λ (x : Line). x.kept) h.held ∙ (ap (λ (ws : List ℕ). Some ws) h.performed.1 ∙ sym h.kept) in
+      inl (record { state = state; carried = carried_by old new next state (λ e. kept) carry; same_flat = rw took.1.2 refl; lawful = rw took.1.2 (λ e. h.performed.0 ∙ ap (λ (ws : List ℕ). word_at ws word) same) })
+  ask_cases action.Hit (op.Store v) reads carry took =
+      let h = took.1.0 in
+      let same : h.before ≡ flat = same_Some _ _ (sym h.kept ∙ was (reads refl)) in
+      inr (
+        refl,
+        record {
+          state = ap (λ (x : Line). x.state) h.held;
+          value = slice_set flat word v;
+          new_flat = rw took.1.2 (ap (λ (x : ℕ). slice_set flat word x) h.performed.0);
+          kept = ap (λ (x : Line). x.kept) h.held ∙ (ap (λ (ws : List ℕ). Some ws) h.performed.1 ∙ ap (λ (ws : List ℕ). Some (slice_set ws word v)) same);
+          lawful = rw took.1.2 (λ e. cc);
+        },
+      )
+  ask_cases (action.Issue r) o reads carry took =
+      let state : new.state ≡ next = ap (λ (x : Line). x.state) took.0 in
+      inl (record { state = state; carried = carried_by old new next state (λ e. ap (λ (x : Line). x.kept) took.0 ∙ kept_reader next old.kept e) carry; same_flat = rw took.2 refl; lawful = rw took.2 tt })
+  ask_cases action.Drop o reads carry took =
+      inl (record { state = ap (λ (x : Line). x.state) took.0; carried = came_to old new next took.0 carry; same_flat = rw took.2 refl; lawful = rw took.2 tt })
+  ask_cases action.Hit op.Evict reads carry took = absurd took.1.0.performed
+  ask_cases action.None o reads carry took = absurd took
+  ask_cases action.Stall o reads carry took = absurd took
+  ask_cases action.FillLoad o reads carry took = absurd took
+  ask_cases action.FillStore o reads carry took = absurd took
+  ask_cases (action.Send sent target) o reads carry took = absurd took
 
-not_stall : (a : CacheAction) (word : ℕ) (o : Op) (next : CacheState) (old new : Line) (made : Option Done) → Performs a word o next old new made → is_stall a ≡ false
-not_stall action.Stall word o next old new made did = absurd did
-not_stall action.None word o next old new made did = refl
-not_stall action.Hit word o next old new made did = refl
-not_stall (action.Issue r) word o next old new made did = refl
-not_stall action.Drop word o next old new made did = refl
-not_stall action.FillLoad word o next old new made did = refl
-not_stall action.FillStore word o next old new made did = refl
-not_stall (action.Send pl t) word o next old new made did = refl
+  not_stall : (a : CacheAction) (o : Op) → Takes a next log core block word o old new answer entry → is_stall a ≡ false
+  not_stall action.Stall o took = absurd took
+  not_stall action.None o took = refl
+  not_stall action.Hit o took = refl
+  not_stall (action.Issue r) o took = refl
+  not_stall action.Drop o took = refl
+  not_stall action.FillLoad o took = refl
+  not_stall action.FillStore o took = refl
+  not_stall (action.Send sent target) o took = refl
+
+  -- what an Ask leaves is proper
+  line_proper : (p : Protocol) (a : CacheAction) (o : Op) → IsProper old → Cell p old.state (asked o) a next → Takes a next log core block word o old new answer entry → IsProper new
+  line_proper p action.Hit o proper row took = subst IsProper (sym took.1.0.held) (IsProper-hit p old (asked o) next took.1.0.after proper row)
+  line_proper p (action.Issue r) o proper row took = subst IsProper (sym took.0) (IsProper-issue p old word o r next proper row)
+  line_proper p action.Drop o proper row took = subst IsProper (sym took.0) (IsProper-drop p old (asked o) next proper row)
+  line_proper p action.None o proper row took = absurd took
+  line_proper p action.Stall o proper row took = absurd took
+  line_proper p action.FillLoad o proper row took = absurd took
+  line_proper p action.FillStore o proper row took = absurd took
+  line_proper p (action.Send sent target) o proper row took = absurd took
 
 pub right_of : (a b : Bool) → (a || b) ≡ true → a ≡ false → b ≡ true
 right_of true b h e = cc
 right_of false b h e = h
 
--- the states after an Ask
-ask_states : (p : Protocol) (n : ℕ) (flat : List ℕ) (before : Picture) (c word : ℕ) (o : Op) (after : Picture) (made : Option Done) (g : BlockInvariant p n flat before) (a : Asks p n before c word o after made) → (held_by after c).state ≡ a.row.next → (d : ℕ) → d < n → fits p g.claims.shared (owns g.owner d) (awaited after.transaction d) (held_by after d).state ≡ true
-ask_states p n flat before c word o after made g a state d d_in =
-    let waits : awaited after.transaction d ≡ awaited before.transaction d = ap (λ (t : Option Open). awaited t d) a.transaction in
-    elim (eqb_tells d c) as (λ _. fits p g.claims.shared (owns g.owner d) (awaited after.transaction d) (held_by after d).state ≡ true) [
-      | inl h ↦
-          let fit_c = ask_rule AskTests.ask_fits AskTests.ask_fits_holds p g.claims.shared (owns g.owner c) (awaited before.transaction c) (held_by before c).state o a.row (g.states c a.asker_in) a.is_row in
-          let fit : fits p g.claims.shared (owns g.owner c) (awaited before.transaction c) a.row.next ≡ true = right_of (is_stall a.row.action) _ fit_c (not_stall a.row.action word o a.row.next (held_by before c) (held_by after c) made a.performs) in
-          rw (waits, h.1, state) fit
-      | inr h ↦ rw (waits, a.others d d_in h.1) (g.states d d_in)
-    ]
+module _ (s : Situation) (core block word : ℕ) (asking : Op) (answer : Reply) (new : Situation) (entry : Option Item) (asks : Asks s core block word asking answer new entry)
+    (n : ℕ) (flat : List ℕ) (g : BlockInvariant s.protocol n flat (picture_of s block)) (asker_in : core < n) (in_row : core < length (picture_of s block).caches) where
+  abbrev before : Picture
+  before = picture_of s block
 
--- what an Ask leaves is proper
-line_proper : (p : Protocol) (a : CacheAction) (word : ℕ) (o : Op) (next : CacheState) (old new : Line) (made : Option Done) → IsProper old → Cell p old.state (asked o) a next → Performs a word o next old new made → IsProper new
-line_proper p action.Hit word op.Load next old new made was row did = subst IsProper (sym did.2) (IsProper-hit p old (asked op.Load) next did.0 was row)
-line_proper p action.Hit word (op.Store v) next old new made was row did = subst IsProper (sym did.2) (IsProper-hit p old (asked (op.Store v)) next (slice_set did.0 word v) was row)
-line_proper p (action.Issue r) word o next old new made was row did = subst IsProper (sym did.0) (IsProper-issue p old word o r next was row)
-line_proper p action.Drop word o next old new made was row did = subst IsProper (sym did.0) (IsProper-drop p old (asked o) next was row)
-line_proper p action.Hit word op.Evict next old new made was row did = absurd did
-line_proper p action.None word o next old new made was row did = absurd did
-line_proper p action.Stall word o next old new made was row did = absurd did
-line_proper p action.FillLoad word o next old new made was row did = absurd did
-line_proper p action.FillStore word o next old new made was row did = absurd did
-line_proper p (action.Send pl t) word o next old new made was row did = absurd did
+  abbrev after : Picture
+  after = record before { caches = slice_set before.caches core asks.held }
 
-ask_proper : (p : Protocol) (n : ℕ) (flat : List ℕ) (before : Picture) (c word : ℕ) (o : Op) (after : Picture) (made : Option Done) → BlockInvariant p n flat before → Asks p n before c word o after made → (d : ℕ) → d < n → IsProper (held_by after d)
-ask_proper p n flat before c word o after made g a d d_in = elim (eqb_tells d c) as (λ _. IsProper (held_by after d)) [
-  | inl h ↦ subst (λ (x : ℕ). IsProper (held_by after x)) (sym h.1) (line_proper p a.row.action word o a.row.next (held_by before c) (held_by after c) made (g.proper c a.asker_in) (Cell-found p (held_by before c).state (asked o) a.row a.is_row) a.performs)
-  | inr h ↦ subst IsProper (sym (a.others d d_in h.1)) (g.proper d d_in)
-]
+  here : held_by after core ≡ asks.held
+  here = get_or-set_same before.caches core asks.held nothing_held in_row
 
--- an Ask keeps the invariant of a picture, and a load that it performs gives the flat value
-pub ask_keeps : (p : Protocol) (n : ℕ) (flat : List ℕ) (before : Picture) (c word : ℕ) (o : Op) (after : Picture) (made : Option Done) → BlockInvariant p n flat before → Asks p n before c word o after made → BlockInvariant p n (flat_after flat made) after × IsLawful flat made
-ask_keeps p n flat before c word o after made g a =
-    let fit = g.states c a.asker_in in
-    let hit_reads = ask_rule AskTests.ask_hit_reads AskTests.ask_hit_reads_holds p g.claims.shared (owns g.owner c) (awaited before.transaction c) (held_by before c).state o a.row fit a.is_row in
-    let carry = ask_rule AskTests.ask_carries AskTests.ask_carries_holds p g.claims.shared (owns g.owner c) (awaited before.transaction c) (held_by before c).state o a.row fit a.is_row in
-    let stores = ask_rule AskTests.ask_store_owns AskTests.ask_store_owns_holds p g.claims.shared (owns g.owner c) (awaited before.transaction c) (held_by before c).state o a.row fit a.is_row in
-    let line : claims_of p after.memory.state (talk_of after.transaction) ≡ Some g.claims = rw (a.memory, a.transaction) g.is_claims in
-    elim (ask_cases flat a.row.action word o a.row.next (held_by before c) (held_by after c) made (g.kept c a.asker_in) (implied (is_hit a.row.action) (keeps (held_by before c).state) hit_reads) carry a.performs) as (λ _. BlockInvariant p n (flat_after flat made) after × IsLawful flat made) [
-      | inl k ↦
-          let carried : (d : ℕ) → d < n → Carried (held_by before d) (held_by after d) = λ d d_in. elim (eqb_tells d c) as (λ _. Carried (held_by before d) (held_by after d)) [
-            | inl h ↦ subst (λ (x : ℕ). Carried (held_by before x) (held_by after x)) (sym h.1) k.carried
-            | inr h ↦ carried_same (held_by before d) (held_by after d) (a.others d d_in h.1)
-          ] in
-          let good : BlockInvariant p n flat after = record {
-            claims = g.claims;
-            is_claims = line;
-            owner = g.owner;
-            owner_in = g.owner_in;
-            is_owned = g.is_owned;
-            states = ask_states p n flat before c word o after made g a k.state;
-            kept = λ d d_in h. carried_kept (held_by before d) (held_by after d) flat (carried d d_in) (g.kept d d_in) h;
-            clean = λ d d_in h. a.value ∙ g.clean d d_in ((carried d d_in).cleans h);
-            fresh = λ h. a.value ∙ g.fresh h;
-            carried = λ x is_x. g.carried x (sym a.transaction ∙ is_x);
-            requestor_in = λ x is_x. g.requestor_in x (sym a.transaction ∙ is_x);
-            proper = ask_proper p n flat before c word o after made g a;
-          } in
-          (rw k.same_flat good, k.lawful)
-      | inr k ↦
-          let s = k.1 in
-          let owning_and = implied (is_hit a.row.action && is_store (asked o)) (owns g.owner c && not (is_clean a.row.next)) stores k.0 in
-          let owning = and_parts (owns g.owner c) (not (is_clean a.row.next)) owning_and in
-          let owned = owner_owned p n flat before g c owning.0 in
-          let alone = owned_alone p n flat before g owned in
-          let blind : (d : ℕ) → d < n → d ≢ c → keeps (held_by after d).state ≡ false = λ d d_in apart. ap (λ (x : Line). keeps x.state) (a.others d d_in apart) ∙ others_blind p n flat before g owned d d_in (owns_one g.owner c d owning.0 apart) in
-          let good : BlockInvariant p n s.value after = record {
-            claims = g.claims;
-            is_claims = line;
-            owner = g.owner;
-            owner_in = g.owner_in;
-            is_owned = g.is_owned;
-            states = ask_states p n flat before c word o after made g a s.state;
-            kept = λ d d_in h. elim (eqb_tells d c) as (λ _. (held_by after d).kept ≡ Some s.value) [
-              | inl e ↦ ap (λ (x : ℕ). (held_by after x).kept) e.1 ∙ s.kept
-              | inr e ↦ absurd (clash (keeps (held_by after d).state) h (blind d d_in e.1))
-            ];
-            clean = λ d d_in h. elim (eqb_tells d c) as (λ _. after.memory.value ≡ s.value) [
-              | inl e ↦ absurd (clash (is_clean a.row.next) (ap is_clean (sym s.state) ∙ (ap (λ (x : ℕ). is_clean (held_by after x).state) (sym e.1) ∙ h)) (not_true (is_clean a.row.next) owning.1))
-              | inr e ↦ absurd (clash (keeps (held_by after d).state) (clean_reads (held_by after d).state h) (blind d d_in e.1))
-            ];
-            fresh = λ h. absurd (clash g.claims.fresh h alone.unfresh);
-            carried = λ x is_x carrying. absurd (calm_carries before.transaction x alone.calm (sym a.transaction ∙ is_x) carrying);
-            requestor_in = λ x is_x. g.requestor_in x (sym a.transaction ∙ is_x);
-            proper = ask_proper p n flat before c word o after made g a;
-          } in
-          (rw s.new_flat good, s.lawful)
-    ]
+  others : (d : ℕ) → d ≢ core → held_by after d ≡ held_by before d
+  others d apart = get_or-set_other before.caches core d asks.held nothing_held apart
+
+  took : Takes asks.row.action asks.row.next s.log core block word asking (held_by before core) (held_by after core) answer entry
+  took = subst (λ (x : Line). Takes asks.row.action asks.row.next s.log core block word asking (held_by before core) x answer entry) (sym here) asks.taken
+
+  -- a test of an Ask's row holds here
+  rule : (k : AskTests.AskTest) → AskTests.asks k ≡ true → k s.protocol g.claims.shared (owns g.owner core) (awaited before.transaction core) (held_by before core).state (asked asking) asks.row ≡ true
+  rule k h = ask_rule k h s.protocol g.claims.shared (owns g.owner core) (awaited before.transaction core) (held_by before core).state asking asks.row (g.states core asker_in) asks.is_row
+
+  -- the states after an Ask
+  ask_states : (held_by after core).state ≡ asks.row.next → (d : ℕ) → d < n → fits s.protocol g.claims.shared (owns g.owner d) (awaited before.transaction d) (held_by after d).state ≡ true
+  ask_states state d d_in = elim (eqb_tells d core) as (λ _. fits s.protocol g.claims.shared (owns g.owner d) (awaited before.transaction d) (held_by after d).state ≡ true) [
+    | inl h ↦
+        let fit : fits s.protocol g.claims.shared (owns g.owner core) (awaited before.transaction core) asks.row.next ≡ true =
+        right_of (is_stall asks.row.action) _ (rule AskTests.ask_fits AskTests.ask_fits_holds) (not_stall flat asks.row.next s.log core block word (held_by before core) (held_by after core) answer entry (g.kept core asker_in) asks.row.action asking took) in
+        rw (h.1, state) fit
+    | inr h ↦ rw (others d h.1) (g.states d d_in)
+  ]
+
+  ask_proper : (d : ℕ) → d < n → IsProper (held_by after d)
+  ask_proper d d_in = elim (eqb_tells d core) as (λ _. IsProper (held_by after d)) [
+    | inl h ↦ subst (λ (x : ℕ). IsProper (held_by after x)) (sym h.1) (line_proper flat asks.row.next s.log core block word (held_by before core) (held_by after core) answer entry (g.kept core asker_in) s.protocol asks.row.action asking (g.proper core asker_in) asks.is_row took)
+    | inr h ↦ subst IsProper (sym (others d h.1)) (g.proper d d_in)
+  ]
+
+  -- an Ask keeps the invariant of a picture, and a load that it performs gives the flat value
+  pub ask_keeps : BlockInvariant s.protocol n (flat_after flat (did_in entry)) (record (picture_of s block) { caches = slice_set (picture_of s block).caches core asks.held }) × IsLawful flat (did_in entry)
+  ask_keeps =
+      let hit_reads = rule AskTests.ask_hit_reads AskTests.ask_hit_reads_holds in
+      let carry = rule AskTests.ask_carries AskTests.ask_carries_holds in
+      let stores = rule AskTests.ask_store_owns AskTests.ask_store_owns_holds in
+      elim (ask_cases flat asks.row.next s.log core block word (held_by before core) (held_by after core) answer entry (g.kept core asker_in) asks.row.action asking (implied (is_hit asks.row.action) (keeps (held_by before core).state) hit_reads) carry took) as (λ _. BlockInvariant s.protocol n (flat_after flat (did_in entry)) after × IsLawful flat (did_in entry)) [
+        | inl k ↦
+            let carried : (d : ℕ) → Carried (held_by before d) (held_by after d) = λ d. elim (eqb_tells d core) as (λ _. Carried (held_by before d) (held_by after d)) [
+              | inl h ↦ subst (λ (x : ℕ). Carried (held_by before x) (held_by after x)) (sym h.1) k.carried
+              | inr h ↦ carried_same (held_by before d) (held_by after d) (others d h.1)
+            ] in
+            let good : BlockInvariant s.protocol n flat after = record {
+              claims = g.claims;
+              is_claims = g.is_claims;
+              owner = g.owner;
+              owner_in = g.owner_in;
+              is_owned = g.is_owned;
+              states = ask_states k.state;
+              kept = λ d d_in h. carried_kept (held_by before d) (held_by after d) flat (carried d) (g.kept d d_in) h;
+              clean = λ d d_in h. g.clean d d_in ((carried d).cleans h);
+              fresh = g.fresh;
+              carried = g.carried;
+              requestor_in = g.requestor_in;
+              proper = ask_proper;
+            } in
+            (rw k.same_flat good, k.lawful)
+        | inr k ↦
+            let stored = k.1 in
+            let owning_and = implied (is_hit asks.row.action && is_store (asked asking)) (owns g.owner core && not (is_clean asks.row.next)) stores k.0 in
+            let owning = and_parts (owns g.owner core) (not (is_clean asks.row.next)) owning_and in
+            let owned = owner_owned s.protocol n flat before g core owning.0 in
+            let alone = owned_alone s.protocol n flat before g owned in
+            let blind : (d : ℕ) → d < n → d ≢ core → keeps (held_by after d).state ≡ false = λ d d_in apart. ap (λ (x : Line). keeps x.state) (others d apart) ∙ others_blind s.protocol n flat before g owned d d_in (owns_one g.owner core d owning.0 apart) in
+            let good : BlockInvariant s.protocol n stored.value after = record {
+              claims = g.claims;
+              is_claims = g.is_claims;
+              owner = g.owner;
+              owner_in = g.owner_in;
+              is_owned = g.is_owned;
+              states = ask_states stored.state;
+              kept = λ d d_in h. elim (eqb_tells d core) as (λ _. (held_by after d).kept ≡ Some stored.value) [
+                | inl e ↦ ap (λ (x : ℕ). (held_by after x).kept) e.1 ∙ stored.kept
+                | inr e ↦ absurd (clash (keeps (held_by after d).state) h (blind d d_in e.1))
+              ];
+              clean = λ d d_in h. elim (eqb_tells d core) as (λ _. before.memory.value ≡ stored.value) [
+                | inl e ↦ absurd (clash (is_clean asks.row.next) (ap is_clean (sym stored.state) ∙ (ap (λ (x : ℕ). is_clean (held_by after x).state) (sym e.1) ∙ h)) (not_true (is_clean asks.row.next) owning.1))
+                | inr e ↦ absurd (clash (keeps (held_by after d).state) (clean_reads (held_by after d).state h) (blind d d_in e.1))
+              ];
+              fresh = λ h. absurd (clash g.claims.fresh h alone.unfresh);
+              carried = λ x is_x carrying. absurd (calm_carries before.transaction x alone.calm is_x carrying);
+              requestor_in = g.requestor_in;
+              proper = ask_proper;
+            } in
+            (rw stored.new_flat good, stored.lawful)
+      ]

@@ -11,11 +11,12 @@ use Rattle.snoop_history.specs.Totals.{is_put_m}
 use Rattle.snoop_bus.specs.Traffic.{Open}
 use Rattle.snoop_model.specs.Pictures.Lines.{Line}
 use Rattle.snoop_model.specs.Pictures.Picture.{Picture, held_by}
+use Rattle.snoop_model.specs.Moves.Move.{moves_to}
 use Rattle.snoop_model.specs.Invariant.Fits.{is_owner, is_clean, fits}
 use Rattle.snoop_model.specs.Invariant.Block.{BlockInvariant, talk_of, awaited, owns}
 use Rattle.snoop_model.proofs.Tables.Every.{same_is}
 use Rattle.snoop_model.proofs.Tables.RespondTests.{writes}
-use Rattle.snoop_model.proofs.Tables.StateTests.{alone_rule, calm_talk, is_calm, owned_rule}
+use Rattle.snoop_model.proofs.Tables.StateTests.{alone_rule, calm_talk, carries, is_calm, kept_reader, owned_rule}
 use Rattle.snoop_model.specs.Pictures.Sound.{keeps}
 
 pub or_true : (b : Bool) → (b || true) ≡ true
@@ -76,6 +77,19 @@ carried_kept old new flat k was h = (k.reads h).1 ∙ was (k.reads h).0
 
 pub carried_same : (old new : Line) → new ≡ old → Carried old new
 carried_same old new e = record { reads = λ h. (ap (λ (x : Line). keeps x.state) (sym e) ∙ h, ap (λ (x : Line). x.kept) e); cleans = λ h. ap (λ (x : Line). is_clean x.state) (sym e) ∙ h }
+
+-- a row that makes no reader of a core lets its words carry over
+pub carried_by : (old new : Line) (next : CacheState) → new.state ≡ next → (keeps next ≡ true → new.kept ≡ old.kept) → carries old.state next ≡ true → Carried old new
+carried_by old new next state kept carry =
+    let parts = and_parts (not (keeps next) || keeps old.state) (not (is_clean next) || is_clean old.state) carry in
+    record {
+      reads = λ h. (let e : keeps next ≡ true = ap keeps (sym state) ∙ h in (implied (keeps next) (keeps old.state) parts.0 e, kept e));
+      cleans = λ h. implied (is_clean next) (is_clean old.state) parts.1 (ap is_clean (sym state) ∙ h);
+    }
+
+-- so does a move to the row's next state
+pub came_to : (old new : Line) (next : CacheState) → new ≡ moves_to next old → carries old.state next ≡ true → Carried old new
+came_to old new next comes carry = carried_by old new next (ap (λ (x : Line). x.state) comes) (λ e. ap (λ (x : Line). x.kept) comes ∙ kept_reader next old.kept e) carry
 
 pub not_true : (b : Bool) → not b ≡ true → b ≡ false
 not_true true h = cc

@@ -1,12 +1,11 @@
 -- An Order keeps the invariant.
-use Rattle.std.proofs.Common.{◌≡◌, ◌≢◌, ◌<◌, ◌&&◌, ◌||◌, ◌∙◌, ℕ, List, Bool, true, false, not, cond, eqb, Option, Some, None, refl, inl, inr, ap, sym, subst}
+use Rattle.std.proofs.Common.{◌≡◌, ◌≢◌, ◌<◌, ◌&&◌, ◌||◌, ◌∙◌, ℕ, length, List, Bool, true, false, not, cond, eqb, Option, Some, None, refl, inl, inr, ap, sym, subst}
 use Rattle.std.specs.Prelude.{is_some, unwrap_or}
 use Rattle.std.proofs.lemmas.Bool.Decides.{eqb_tells}
 use Rattle.std.proofs.Math.Bool.{and-true, and-false}
 use Rattle.std.proofs.lemmas.Bool.{eq-eqb, and_parts}
 use Rattle.snoop_trace.specs.Words.{zero_words}
 use Rattle.snoop_trace.specs.declared.protocol.Protocol.{Protocol}
-use Rattle.snoop_rules.specs.declared.names.CacheState.{CacheState}
 use Rattle.snoop_rules.specs.declared.names.CacheEvent.{CacheEvent}
 use Rattle.snoop_rules.specs.declared.names.Request.{Request}
 use Rattle.snoop_rules.specs.declared.names.Payload.{Payload}
@@ -17,28 +16,27 @@ use Rattle.snoop_rules.specs.declared.names.CacheCell.{CacheCell}
 use Rattle.snoop_rules.specs.declared.names.MemCell.{MemCell}
 use Rattle.snoop_rules.specs.Cell.{cell_of}
 use Rattle.snoop_rules.specs.MemoryCell.{memory_cell_of}
-use Rattle.snoop_rules.proofs.Rows.{Cell-found}
 use Rattle.snoop_history.specs.Totals.{is_put_m, is_data}
 use Rattle.snoop_bus.specs.Traffic.{Open}
 use Rattle.snoop_model.specs.Pictures.Lines.{Line}
 use Rattle.snoop_model.specs.Pictures.Picture.{Picture, held_by}
-use Rattle.snoop_model.specs.Pictures.Sends.{value_at, value_sent}
-use Rattle.snoop_model.specs.Moves.Move.{moves_to}
+use Rattle.snoop_model.specs.Pictures.Situation.{Situation, picture_of}
+use Rattle.snoop_model.specs.Pictures.Sends.{sent_by, sent_by_memory, Sends, value_at, value_sent}
+use Rattle.snoop_model.specs.Moves.Move.{moves_to, TakesRow, TakesRows, Orders}
 use Rattle.snoop_model.specs.Pictures.Sound.{keeps, IsProper}
 use Rattle.snoop_model.specs.Invariant.Fits.{Claims, claims_of, is_clean, same, fits}
 use Rattle.snoop_model.specs.Invariant.Block.{BlockInvariant, talk_of, awaited, owns}
 use Rattle.snoop_model.proofs.Tables.Every.{given_at, same_is, some_of}
-use Rattle.snoop_model.proofs.OneBlock.Steps.{sent_by, sent_by_memory, Sends, Takes, message, Orders}
-use Rattle.snoop_model.proofs.OneBlock.Facts.{some_is, not_eqb, or_not, either_of, some_true, owns_owned, owns_apart, fits_is_owner, implied, Carried, carried_kept}
+use Rattle.snoop_model.proofs.OneBlock.Facts.{some_is, not_eqb, or_not, either_of, some_true, owns_owned, owns_apart, fits_is_owner, implied, Carried, came_to, carried_kept}
 use Rattle.snoop_model.proofs.Tables.Rows.{IsProper-order}
 use Rattle.snoop_model.proofs.Tables.OrderTests.{end_rule, or_else, order_rule, other_rule, payload_of}
-use Rattle.snoop_model.proofs.Tables.StateTests.{carries, kept_reader, owner_reads}
+use Rattle.snoop_model.proofs.Tables.StateTests.{owner_reads}
 use Rattle.snoop_model.proofs.Tables.OrderTests
 
 -- all that an Order looks up of a picture that keeps its invariant
-pub record Looked (p : Protocol) (n : ℕ) (flat : List ℕ) (before : Picture) (c : ℕ) (q : Request) : Type 0 where
-  pub good : BlockInvariant p n flat before
-  pub requestor_in : c < n
+pub record Looked (p : Protocol) (flat : List ℕ) (before : Picture) (c : ℕ) (q : Request) : Type 0 where
+  pub good : BlockInvariant p (length before.caches) flat before
+  pub requestor_in : c < length before.caches
   pub waits : waiting_request (held_by before c).state ≡ Some q
   pub calm : before.transaction ≡ None
   pub quiet : claims_of p before.memory.state None ≡ Some good.claims
@@ -53,8 +51,8 @@ pub record Looked (p : Protocol) (n : ℕ) (flat : List ℕ) (before : Picture) 
   pub next : Claims
   pub is_next : claims_of p mc.next (Some (q, pl)) ≡ Some next
 
-pub look : (p : Protocol) (n : ℕ) (flat : List ℕ) (before : Picture) (c : ℕ) (q : Request) → BlockInvariant p n flat before → c < n → waiting_request (held_by before c).state ≡ Some q → before.transaction ≡ None → Looked p n flat before c q
-look p n flat before c q good c_in waits calm =
+pub look : (p : Protocol) (flat : List ℕ) (before : Picture) (c : ℕ) (q : Request) → BlockInvariant p (length before.caches) flat before → c < length before.caches → waiting_request (held_by before c).state ≡ Some q → before.transaction ≡ None → Looked p flat before c q
+look p flat before c q good c_in waits calm =
     let st = good.claims in
     let ow = owns good.owner c in
     let sr = (held_by before c).state in
@@ -92,25 +90,25 @@ look p n flat before c q good c_in waits calm =
     }
 
 -- a test of an Order's end holds there
-pub end_of : (p : Protocol) (n : ℕ) (flat : List ℕ) (before : Picture) (c : ℕ) (q : Request) (l : Looked p n flat before c q) (k : OrderTests.EndTest) → OrderTests.orders (OrderTests.end_case k) ≡ true → k p before.memory.state l.good.claims (held_by before c).state (owns l.good.owner c) q l.mc l.oc l.pl l.next ≡ true
-end_of p n flat before c q l k h = end_rule k h p before.memory.state l.good.claims (held_by before c).state (owns l.good.owner c) q l.mc l.oc l.pl l.next l.quiet l.requestor_fits l.owned l.waits l.is_mc l.is_oc l.is_pl l.is_next
+pub end_of : (p : Protocol) (flat : List ℕ) (before : Picture) (c : ℕ) (q : Request) (l : Looked p flat before c q) (k : OrderTests.EndTest) → OrderTests.orders (OrderTests.end_case k) ≡ true → k p before.memory.state l.good.claims (held_by before c).state (owns l.good.owner c) q l.mc l.oc l.pl l.next ≡ true
+end_of p flat before c q l k h = end_rule k h p before.memory.state l.good.claims (held_by before c).state (owns l.good.owner c) q l.mc l.oc l.pl l.next l.quiet l.requestor_fits l.owned l.waits l.is_mc l.is_oc l.is_pl l.is_next
 
 -- a test of another core holds there
-pub other_of : (p : Protocol) (n : ℕ) (flat : List ℕ) (before : Picture) (c : ℕ) (q : Request) (l : Looked p n flat before c q) (k : OrderTests.OtherTest) → OrderTests.orders (OrderTests.end_case (OrderTests.other_case k)) ≡ true → (d : ℕ) → d < n → d ≢ c → (xc : CacheCell) → cell_of p (held_by before d).state (other q) ≡ Some xc → k p before.memory.state l.good.claims (held_by before c).state (owns l.good.owner c) q l.mc l.oc l.pl l.next (held_by before d).state (owns l.good.owner d) xc ≡ true
-other_of p n flat before c q l k h d d_in apart xc is_xc =
+pub other_of : (p : Protocol) (flat : List ℕ) (before : Picture) (c : ℕ) (q : Request) (l : Looked p flat before c q) (k : OrderTests.OtherTest) → OrderTests.orders (OrderTests.end_case (OrderTests.other_case k)) ≡ true → (d : ℕ) → d < length before.caches → d ≢ c → (xc : CacheCell) → cell_of p (held_by before d).state (other q) ≡ Some xc → k p before.memory.state l.good.claims (held_by before c).state (owns l.good.owner c) q l.mc l.oc l.pl l.next (held_by before d).state (owns l.good.owner d) xc ≡ true
+other_of p flat before c q l k h d d_in apart xc is_xc =
     let st = l.good.claims in
     let fit : fits p st.shared (owns l.good.owner d) None (held_by before d).state ≡ true = ap (λ (t : Option Open). fits p st.shared (owns l.good.owner d) (awaited t d) (held_by before d).state) (sym l.calm) ∙ l.good.states d d_in in
-    other_rule k p before.memory.state st (held_by before c).state (owns l.good.owner c) q l.mc l.oc l.pl l.next (end_of p n flat before c q l (OrderTests.other_case k) h) (held_by before d).state (owns l.good.owner d) xc fit (owns_apart l.good.owner c d apart) (owns_owned l.good.owner d st.owned l.good.is_owned) is_xc
+    other_rule k p before.memory.state st (held_by before c).state (owns l.good.owner c) q l.mc l.oc l.pl l.next (end_of p flat before c q l (OrderTests.other_case k) h) (held_by before d).state (owns l.good.owner d) xc fit (owns_apart l.good.owner c d apart) (owns_owned l.good.owner d st.owned l.good.is_owned) is_xc
 
 -- each other core has its row
-pub other_cell : (p : Protocol) (n : ℕ) (flat : List ℕ) (before : Picture) (c : ℕ) (q : Request) (l : Looked p n flat before c q) (d : ℕ) → d < n → (xc : CacheCell) × (cell_of p (held_by before d).state (other q) ≡ Some xc)
-other_cell p n flat before c q l d d_in =
+pub other_cell : (p : Protocol) (flat : List ℕ) (before : Picture) (c : ℕ) (q : Request) (l : Looked p flat before c q) (d : ℕ) → d < length before.caches → (xc : CacheCell) × (cell_of p (held_by before d).state (other q) ≡ Some xc)
+other_cell p flat before c q l d d_in =
     let st = l.good.claims in
     let fit : fits p st.shared (owns l.good.owner d) None (held_by before d).state ≡ true = ap (λ (t : Option Open). fits p st.shared (owns l.good.owner d) (awaited t d) (held_by before d).state) (sym l.calm) ∙ l.good.states d d_in in
     some_of _ (OrderTests.other_row p q (held_by before d).state st.shared (owns l.good.owner d) fit)
 
 -- the row that a core takes is the one that its event names
-pub takes_row : (p : Protocol) (e f : CacheEvent) (old new : Line) (r : CacheCell) → e ≡ f → cell_of p old.state f ≡ Some r → Takes p e old new → new ≡ moves_to r.next old
+pub takes_row : (p : Protocol) (e f : CacheEvent) (old new : Line) (r : CacheCell) → e ≡ f → cell_of p old.state f ≡ Some r → TakesRow p e old new → new ≡ moves_to r.next old
 takes_row p e f old new r is_event is_row took =
     let same_cell : cell_of p old.state e ≡ Some r = ap (λ (x : CacheEvent). cell_of p old.state x) is_event ∙ is_row in
     let is_r : took.0 ≡ r = some_is (cell_of p old.state e) took.0 r took.1 same_cell in
@@ -140,21 +138,21 @@ payload_of_requestor : (a b : Option Payload) (pl sent : Payload) → or_else a 
 payload_of_requestor None b pl sent e f = cc
 payload_of_requestor (Some x) b pl sent e f = cc
 
-pub sent_payload : (p : Protocol) (n : ℕ) (flat : List ℕ) (before : Picture) (c : ℕ) (q : Request) (l : Looked p n flat before c q) (from : Option ℕ) (sent : Payload) → Sends p n before c q from sent → sent ≡ l.pl
-sent_payload p n flat before c q l None sent sends =
+pub sent_payload : (p : Protocol) (flat : List ℕ) (before : Picture) (c : ℕ) (q : Request) (l : Looked p flat before c q) (from : Option ℕ) (sent : Payload) → Sends p before c q from sent → sent ≡ l.pl
+sent_payload p flat before c q l None sent sends =
     let e : sent_by_memory (Some l.mc) ≡ Some sent = ap sent_by_memory (sym l.is_mc) ∙ sends in
-    payload_of_memory (sent_by (Some l.oc)) (sent_by_memory (Some l.mc)) (is_put_m q) l.good.claims.owned l.pl sent (end_of p n flat before c q l OrderTests.requestor_sends OrderTests.requestor_sends_holds) (end_of p n flat before c q l OrderTests.memory_sends OrderTests.memory_sends_holds) l.is_pl e
-sent_payload p n flat before c q l (Some d) sent sends =
+    payload_of_memory (sent_by (Some l.oc)) (sent_by_memory (Some l.mc)) (is_put_m q) l.good.claims.owned l.pl sent (end_of p flat before c q l OrderTests.requestor_sends OrderTests.requestor_sends_holds) (end_of p flat before c q l OrderTests.memory_sends OrderTests.memory_sends_holds) l.is_pl e
+sent_payload p flat before c q l (Some d) sent sends =
     elim (eqb_tells d c) as (λ _. sent ≡ l.pl) [
       | inl h ↦
           let row : cell_of p (held_by before d).state (seen_by d c q) ≡ Some l.oc = subst (λ (x : ℕ). cell_of p (held_by before x).state (seen_by x c q) ≡ Some l.oc) (sym h.1) (ap (λ (e : CacheEvent). cell_of p (held_by before c).state e) (seen_own c q) ∙ l.is_oc) in
           let e : sent_by (Some l.oc) ≡ Some sent = ap sent_by (sym row) ∙ sends.1 in
           payload_of_requestor (sent_by (Some l.oc)) (sent_by_memory (Some l.mc)) l.pl sent l.is_pl e
       | inr h ↦
-          let x = other_cell p n flat before c q l d sends.0 in
+          let x = other_cell p flat before c q l d sends.0 in
           let row : cell_of p (held_by before d).state (seen_by d c q) ≡ Some x.0 = ap (λ (e : CacheEvent). cell_of p (held_by before d).state e) (seen_other d c q h.1) ∙ x.1 in
           let e : sent_by (Some x.0) ≡ Some sent = ap sent_by (sym row) ∙ sends.1 in
-          let t = other_of p n flat before c q l OrderTests.other_sends_data OrderTests.other_sends_data_holds d sends.0 h.1 x.0 x.1 in
+          let t = other_of p flat before c q l OrderTests.other_sends_data OrderTests.other_sends_data_holds d sends.0 h.1 x.0 x.1 in
           let both : (is_data sent && is_data l.pl) ≡ true = given_at (sent_by (Some x.0)) (λ (y : Payload). is_data y && is_data l.pl) sent e t in
           let parts = and_parts (is_data sent) (is_data l.pl) both in
           data_is sent parts.0 ∙ sym (data_is l.pl parts.1)
@@ -184,56 +182,43 @@ owns_next_other true (Some o) c d apart = elim (eqb_tells c o) as (λ _. owns (c
 owns_next_other false owner c d apart = sym (and-false (owns owner d))
 
 -- the states after an Order
-requestor_after : (p : Protocol) (n : ℕ) (flat : List ℕ) (before : Picture) (c : ℕ) (q : Request) (after : Picture) (l : Looked p n flat before c q) → Orders p n before c q after → held_by after c ≡ moves_to l.oc.next (held_by before c)
-requestor_after p n flat before c q after l o = takes_row p (seen_by c c q) (own q) (held_by before c) (held_by after c) l.oc (seen_own c q) l.is_oc (o.taken c l.requestor_in)
+requestor_after : (p : Protocol) (flat : List ℕ) (before : Picture) (c : ℕ) (q : Request) (after : Picture) (l : Looked p flat before c q) → TakesRows p c q before.caches after.caches → held_by after c ≡ moves_to l.oc.next (held_by before c)
+requestor_after p flat before c q after l o = takes_row p (seen_by c c q) (own q) (held_by before c) (held_by after c) l.oc (seen_own c q) l.is_oc (o.rows c l.requestor_in)
 
-other_after : (p : Protocol) (n : ℕ) (flat : List ℕ) (before : Picture) (c : ℕ) (q : Request) (after : Picture) (l : Looked p n flat before c q) → Orders p n before c q after → (d : ℕ) → d < n → d ≢ c → (xc : CacheCell) → cell_of p (held_by before d).state (other q) ≡ Some xc → held_by after d ≡ moves_to xc.next (held_by before d)
-other_after p n flat before c q after l o d d_in apart xc is_xc = takes_row p (seen_by d c q) (other q) (held_by before d) (held_by after d) xc (seen_other d c q apart) is_xc (o.taken d d_in)
+other_after : (p : Protocol) (flat : List ℕ) (before : Picture) (c : ℕ) (q : Request) (after : Picture) (l : Looked p flat before c q) → TakesRows p c q before.caches after.caches → (d : ℕ) → d < length before.caches → d ≢ c → (xc : CacheCell) → cell_of p (held_by before d).state (other q) ≡ Some xc → held_by after d ≡ moves_to xc.next (held_by before d)
+other_after p flat before c q after l o d d_in apart xc is_xc = takes_row p (seen_by d c q) (other q) (held_by before d) (held_by after d) xc (seen_other d c q apart) is_xc (o.rows d d_in)
 
--- a row that makes no reader of a core lets its values carry over
-pub came_to : (old new : Line) (next : CacheState) → new ≡ moves_to next old → carries old.state next ≡ true → Carried old new
-came_to old new next comes carries_over =
-    let parts = and_parts (not (keeps next) || keeps old.state) (not (is_clean next) || is_clean old.state) carries_over in
-    record {
-      reads = λ h.
-          let e : keeps next ≡ true = ap (λ (x : Line). keeps x.state) (sym comes) ∙ h in
-          (implied (keeps next) (keeps old.state) parts.0 e, ap (λ (x : Line). x.kept) comes ∙ kept_reader next old.kept e);
-      cleans = λ h.
-          let e : is_clean next ≡ true = ap (λ (x : Line). is_clean x.state) (sym comes) ∙ h in
-          implied (is_clean next) (is_clean old.state) parts.1 e;
-    }
-
-pub order_carries : (p : Protocol) (n : ℕ) (flat : List ℕ) (before : Picture) (c : ℕ) (q : Request) (after : Picture) (l : Looked p n flat before c q) → Orders p n before c q after → (d : ℕ) → d < n → Carried (held_by before d) (held_by after d)
-order_carries p n flat before c q after l o d d_in =
+pub order_carries : (p : Protocol) (flat : List ℕ) (before : Picture) (c : ℕ) (q : Request) (after : Picture) (l : Looked p flat before c q) → TakesRows p c q before.caches after.caches → (d : ℕ) → d < length before.caches → Carried (held_by before d) (held_by after d)
+order_carries p flat before c q after l o d d_in =
     elim (eqb_tells d c) as (λ _. Carried (held_by before d) (held_by after d)) [
-      | inl h ↦ subst (λ (x : ℕ). Carried (held_by before x) (held_by after x)) (sym h.1) (came_to (held_by before c) (held_by after c) l.oc.next (requestor_after p n flat before c q after l o) (end_of p n flat before c q l OrderTests.requestor_carries OrderTests.requestor_carries_holds))
+      | inl h ↦ subst (λ (x : ℕ). Carried (held_by before x) (held_by after x)) (sym h.1) (came_to (held_by before c) (held_by after c) l.oc.next (requestor_after p flat before c q after l o) (end_of p flat before c q l OrderTests.requestor_carries OrderTests.requestor_carries_holds))
       | inr h ↦
-          let x = other_cell p n flat before c q l d d_in in
-          came_to (held_by before d) (held_by after d) x.0.next (other_after p n flat before c q after l o d d_in h.1 x.0 x.1) (other_of p n flat before c q l OrderTests.other_carries OrderTests.other_carries_holds d d_in h.1 x.0 x.1)
+          let x = other_cell p flat before c q l d d_in in
+          came_to (held_by before d) (held_by after d) x.0.next (other_after p flat before c q after l o d d_in h.1 x.0 x.1) (other_of p flat before c q l OrderTests.other_carries OrderTests.other_carries_holds d d_in h.1 x.0 x.1)
     ]
 
-pub order_states : (p : Protocol) (n : ℕ) (flat : List ℕ) (before : Picture) (c : ℕ) (q : Request) (after : Picture) (l : Looked p n flat before c q) → Orders p n before c q after → (opened : Open) → opened.core ≡ c → opened.request ≡ q → (d : ℕ) → d < n → fits p l.next.shared (owns (next_owner q c l.good.owner) d) (awaited (Some opened) d) (held_by after d).state ≡ true
-order_states p n flat before c q after l o opened is_core is_request d d_in =
+pub order_states : (p : Protocol) (flat : List ℕ) (before : Picture) (c : ℕ) (q : Request) (after : Picture) (l : Looked p flat before c q) → TakesRows p c q before.caches after.caches → (opened : Open) → opened.core ≡ c → opened.request ≡ q → (d : ℕ) → d < length before.caches → fits p l.next.shared (owns (next_owner q c l.good.owner) d) (awaited (Some opened) d) (held_by after d).state ≡ true
+order_states p flat before c q after l o opened is_core is_request d d_in =
     elim (eqb_tells d c) as (λ _. fits p l.next.shared (owns (next_owner q c l.good.owner) d) (awaited (Some opened) d) (held_by after d).state ≡ true) [
       | inl h ↦
-          let fit : fits p l.next.shared false (Some q) l.oc.next ≡ true = end_of p n flat before c q l OrderTests.requestor_fits OrderTests.requestor_fits_holds in
-          let state : (held_by after d).state ≡ l.oc.next = ap (λ (x : ℕ). (held_by after x).state) h.1 ∙ ap (λ (x : Line). x.state) (requestor_after p n flat before c q after l o) in
+          let fit : fits p l.next.shared false (Some q) l.oc.next ≡ true = end_of p flat before c q l OrderTests.requestor_fits OrderTests.requestor_fits_holds in
+          let state : (held_by after d).state ≡ l.oc.next = ap (λ (x : ℕ). (held_by after x).state) h.1 ∙ ap (λ (x : Line). x.state) (requestor_after p flat before c q after l o) in
           let owning : owns (next_owner q c l.good.owner) d ≡ false = ap (owns (next_owner q c l.good.owner)) h.1 ∙ owns_next_self (is_put_m q) l.good.owner c in
           let awaiting : awaited (Some opened) d ≡ Some q = rw (is_core, h.0, is_request) refl in
           rw (state, owning, awaiting) fit
       | inr h ↦
-          let x = other_cell p n flat before c q l d d_in in
-          let fit : fits p l.next.shared (owns l.good.owner d && is_put_m q) None x.0.next ≡ true = other_of p n flat before c q l OrderTests.other_fits OrderTests.other_fits_holds d d_in h.1 x.0 x.1 in
-          let state : (held_by after d).state ≡ x.0.next = ap (λ (y : Line). y.state) (other_after p n flat before c q after l o d d_in h.1 x.0 x.1) in
+          let x = other_cell p flat before c q l d d_in in
+          let fit : fits p l.next.shared (owns l.good.owner d && is_put_m q) None x.0.next ≡ true = other_of p flat before c q l OrderTests.other_fits OrderTests.other_fits_holds d d_in h.1 x.0 x.1 in
+          let state : (held_by after d).state ≡ x.0.next = ap (λ (y : Line). y.state) (other_after p flat before c q after l o d d_in h.1 x.0 x.1) in
           let owning : owns (next_owner q c l.good.owner) d ≡ (owns l.good.owner d && is_put_m q) = owns_next_other (is_put_m q) l.good.owner c d h.1 in
           let awaiting : awaited (Some opened) d ≡ None = rw (is_core, h.0) refl in
           rw (state, owning, awaiting) fit
     ]
 
 -- a clean owner's value is memory's
-order_fresh : (p : Protocol) (n : ℕ) (flat : List ℕ) (before : Picture) (c : ℕ) (q : Request) (l : Looked p n flat before c q) → l.next.fresh ≡ true → before.memory.value ≡ flat
-order_fresh p n flat before c q l h =
-    let t = end_of p n flat before c q l OrderTests.fresh_after OrderTests.fresh_after_holds in
+order_fresh : (p : Protocol) (flat : List ℕ) (before : Picture) (c : ℕ) (q : Request) (l : Looked p flat before c q) → l.next.fresh ≡ true → before.memory.value ≡ flat
+order_fresh p flat before c q l h =
+    let t = end_of p flat before c q l OrderTests.fresh_after OrderTests.fresh_after_holds in
     let e : (l.good.claims.fresh || is_clean (held_by before c).state) ≡ true = implied l.next.fresh (l.good.claims.fresh || is_clean (held_by before c).state) t h in
     elim (either_of l.good.claims.fresh (is_clean (held_by before c).state) e) as (λ _. before.memory.value ≡ flat) [
       | inl f ↦ l.good.fresh f
@@ -241,28 +226,28 @@ order_fresh p n flat before c q l h =
     ]
 
 -- the value that a sender can send is the block's
-pub sender_value : (p : Protocol) (n : ℕ) (flat : List ℕ) (before : Picture) (c : ℕ) (q : Request) (l : Looked p n flat before c q) (from : Option ℕ) (sent : Payload) → Sends p n before c q from sent → carries_value sent ≡ true → value_at before from ≡ flat
-sender_value p n flat before c q l None sent sends carrying =
+pub sender_value : (p : Protocol) (flat : List ℕ) (before : Picture) (c : ℕ) (q : Request) (l : Looked p flat before c q) (from : Option ℕ) (sent : Payload) → Sends p before c q from sent → carries_value sent ≡ true → value_at before from ≡ flat
+sender_value p flat before c q l None sent sends carrying =
     let e : sent_by_memory (Some l.mc) ≡ Some sent = ap sent_by_memory (sym l.is_mc) ∙ sends in
-    let t = end_of p n flat before c q l OrderTests.memory_sends_fresh OrderTests.memory_sends_fresh_holds in
+    let t = end_of p flat before c q l OrderTests.memory_sends_fresh OrderTests.memory_sends_fresh_holds in
     l.good.fresh (implied (is_some (sent_by_memory (Some l.mc))) l.good.claims.fresh t (some_true (sent_by_memory (Some l.mc)) sent e))
-sender_value p n flat before c q l (Some d) sent sends carrying =
+sender_value p flat before c q l (Some d) sent sends carrying =
     let reads : keeps (held_by before d).state ≡ true =
     elim (eqb_tells d c) as (λ _. keeps (held_by before d).state ≡ true) [
       | inl h ↦
           let row : cell_of p (held_by before d).state (seen_by d c q) ≡ Some l.oc = subst (λ (x : ℕ). cell_of p (held_by before x).state (seen_by x c q) ≡ Some l.oc) (sym h.1) (ap (λ (e : CacheEvent). cell_of p (held_by before c).state e) (seen_own c q) ∙ l.is_oc) in
           let e : sent_by (Some l.oc) ≡ Some sent = ap sent_by (sym row) ∙ sends.1 in
-          let t = same_is (is_some (sent_by (Some l.oc))) (is_put_m q) (end_of p n flat before c q l OrderTests.requestor_sends OrderTests.requestor_sends_holds) in
+          let t = same_is (is_some (sent_by (Some l.oc))) (is_put_m q) (end_of p flat before c q l OrderTests.requestor_sends OrderTests.requestor_sends_holds) in
           let put : is_put_m q ≡ true = sym t ∙ some_true (sent_by (Some l.oc)) sent e in
-          let carry : carries_value l.pl ≡ true = ap carries_value (sym (sent_payload p n flat before c q l (Some d) sent sends)) ∙ carrying in
-          let r = end_of p n flat before c q l OrderTests.requestor_reads OrderTests.requestor_reads_holds in
+          let carry : carries_value l.pl ≡ true = ap carries_value (sym (sent_payload p flat before c q l (Some d) sent sends)) ∙ carrying in
+          let r = end_of p flat before c q l OrderTests.requestor_reads OrderTests.requestor_reads_holds in
           let reads_c : keeps (held_by before c).state ≡ true = implied (is_put_m q && carries_value l.pl) (keeps (held_by before c).state) r (rw (put, carry) refl) in
           rw h.1 reads_c
       | inr h ↦
-          let x = other_cell p n flat before c q l d sends.0 in
+          let x = other_cell p flat before c q l d sends.0 in
           let row : cell_of p (held_by before d).state (seen_by d c q) ≡ Some x.0 = ap (λ (e : CacheEvent). cell_of p (held_by before d).state e) (seen_other d c q h.1) ∙ x.1 in
           let e : sent_by (Some x.0) ≡ Some sent = ap sent_by (sym row) ∙ sends.1 in
-          let t = same_is (is_some (sent_by (Some x.0))) (owns l.good.owner d && not (is_put_m q)) (other_of p n flat before c q l OrderTests.other_sends OrderTests.other_sends_holds d sends.0 h.1 x.0 x.1) in
+          let t = same_is (is_some (sent_by (Some x.0))) (owns l.good.owner d && not (is_put_m q)) (other_of p flat before c q l OrderTests.other_sends OrderTests.other_sends_holds d sends.0 h.1 x.0 x.1) in
           let both : (owns l.good.owner d && not (is_put_m q)) ≡ true = sym t ∙ some_true (sent_by (Some x.0)) sent e in
           let owning : owns l.good.owner d ≡ true = (and_parts (owns l.good.owner d) (not (is_put_m q)) both).0 in
           let fit = l.good.states d sends.0 in
@@ -279,31 +264,35 @@ next_owner_in true c (Some k) n was o e = elim (or_not (eqb c k)) as (λ _. o < 
 next_owner_in false c owner n was o e = cc
 
 -- an Order keeps the invariant of a picture
-pub order_keeps : (p : Protocol) (n : ℕ) (flat : List ℕ) (before : Picture) (c : ℕ) (q : Request) (after : Picture) → BlockInvariant p n flat before → Orders p n before c q after → BlockInvariant p n flat after
+pub order_keeps : (s : Situation) (core block : ℕ) (q : Request) (new : Situation) (flat : List ℕ) → BlockInvariant s.protocol (length (picture_of s block).caches) flat (picture_of s block) → core < length (picture_of s block).caches
+    → (o : Orders s core block q new) → BlockInvariant s.protocol (length (picture_of s block).caches) flat o.next
 unfolding look
-order_keeps p n flat before c q after good o =
-    let l = look p n flat before c q good o.requestor_in o.waits o.calm in
-    let is_mc : o.cell_of_memory ≡ l.mc = some_is (memory_cell_of p before.memory.state (at_memory q)) o.cell_of_memory l.mc o.is_memory_row l.is_mc in
-    let is_pl : o.payload ≡ l.pl = sent_payload p n flat before c q l o.from o.payload o.sends in
-    let opened = message o.block c q o.payload (value_sent before o.from o.payload) o.from in
-    let memory : after.memory.state ≡ l.mc.next = o.memory ∙ ap (λ (m : MemCell). m.next) is_mc in
+order_keeps s core block q new flat good in_row o =
+    let p = s.protocol in
+    let before : Picture = picture_of s block in
+    let after : Picture = o.next in
+    let l = look p flat before core q good in_row o.ready.0 o.ready.1 in
+    let is_pl : o.payload ≡ l.pl = sent_payload p flat before core q l o.from o.payload o.sent.sends in
+    let opened : Open = record { core = core; request = q; block = block; payload = o.payload; value = value_sent before o.from o.payload; from = o.from } in
+    let is_mc : o.memory.0 ≡ l.mc = some_is (memory_cell_of p before.memory.state (at_memory q)) o.memory.0 l.mc o.memory.1 l.is_mc in
+    let memory : after.memory.state ≡ l.mc.next = o.memory.2 ∙ ap (λ (m : MemCell). m.next) is_mc in
     record {
       claims = l.next;
-      is_claims = rw (o.opens, memory, is_pl) l.is_next;
-      owner = next_owner q c good.owner;
-      owner_in = next_owner_in (is_put_m q) c good.owner n good.owner_in;
-      is_owned = is_owned_next (is_put_m q) (owns good.owner c) good.claims.owned good.owner good.is_owned ∙ sym (same_is _ _ (end_of p n flat before c q l OrderTests.owned_after OrderTests.owned_after_holds));
-      states = λ d d_in. rw o.opens (order_states p n flat before c q after l o opened refl refl d d_in);
-      kept = λ d d_in h. carried_kept (held_by before d) (held_by after d) flat (order_carries p n flat before c q after l o d d_in) (good.kept d d_in) h;
-      clean = λ d d_in h. o.value ∙ good.clean d d_in ((order_carries p n flat before c q after l o d d_in).cleans h);
-      fresh = λ h. o.value ∙ order_fresh p n flat before c q l h;
+      is_claims = rw (o.opened, memory, is_pl) l.is_next;
+      owner = next_owner q core good.owner;
+      owner_in = next_owner_in (is_put_m q) core good.owner (length before.caches) good.owner_in;
+      is_owned = is_owned_next (is_put_m q) (owns good.owner core) good.claims.owned good.owner good.is_owned ∙ sym (same_is _ _ (end_of p flat before core q l OrderTests.owned_after OrderTests.owned_after_holds));
+      states = λ d d_in. rw o.opened (order_states p flat before core q after l o.taken opened refl refl d d_in);
+      kept = λ d d_in h. carried_kept (held_by before d) (held_by after d) flat (order_carries p flat before core q after l o.taken d d_in) (good.kept d d_in) h;
+      clean = λ d d_in h. o.value ∙ good.clean d d_in ((order_carries p flat before core q after l o.taken d d_in).cleans h);
+      fresh = λ h. o.value ∙ order_fresh p flat before core q l h;
       carried = λ x is_x carrying.
-          let e : opened ≡ x = some_is after.transaction opened x o.opens is_x in
+          let e : opened ≡ x = some_is after.transaction opened x o.opened is_x in
           let carry : carries_value o.payload ≡ true = ap (λ (y : Open). carries_value y.payload) e ∙ carrying in
-          let v : value_sent before o.from o.payload ≡ flat = rw carry (sender_value p n flat before c q l o.from o.payload o.sends carry) in
+          let v : value_sent before o.from o.payload ≡ flat = rw carry (sender_value p flat before core q l o.from o.payload o.sent.sends carry) in
           ap (λ (y : Open). y.value) (sym e) ∙ v;
       proper = λ d d_in.
-          let t = o.taken d d_in in
-          subst IsProper (sym t.2) (IsProper-order p (held_by before d) d c q t.0.action t.0.next (good.proper d d_in) (Cell-found p (held_by before d).state (seen_by d c q) t.0 t.1));
-      requestor_in = λ x is_x. subst (λ (y : Open). y.core < n) (some_is after.transaction opened x o.opens is_x) o.requestor_in;
+          let t = o.taken.rows d d_in in
+          subst IsProper (sym t.2) (IsProper-order p (held_by before d) d core q t.0.action t.0.next (good.proper d d_in) t.1);
+      requestor_in = λ x is_x. subst (λ (y : Open). y.core < length before.caches) (some_is after.transaction opened x o.opened is_x) in_row;
     }

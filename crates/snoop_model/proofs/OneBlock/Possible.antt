@@ -1,5 +1,5 @@
 -- Each step finds its rows, and an Order exactly one sender.
-use Rattle.std.proofs.Common.{◌≡◌, ◌≢◌, ◌<◌, ◌&&◌, ◌⊎◌, ◌∙◌, ℕ, List, Bool, true, false, not, cond, Option, Some, None, refl, inl, inr, ap, sym, subst}
+use Rattle.std.proofs.Common.{◌≡◌, ◌≢◌, ◌<◌, ◌&&◌, ◌⊎◌, ◌∙◌, ℕ, length, List, Bool, true, false, not, cond, Option, Some, None, refl, inl, inr, ap, sym, subst}
 use Rattle.std.specs.Prelude.{is_some}
 use Rattle.std.proofs.lemmas.Bool.Decides.{eqb_tells}
 use Rattle.std.proofs.lemmas.Bool.{eq-eqb, and_parts}
@@ -19,75 +19,75 @@ use Rattle.snoop_rules.proofs.Every.{all_states-at}
 use Rattle.snoop_history.specs.Totals.{is_put_m}
 use Rattle.snoop_bus.specs.Traffic.{Open}
 use Rattle.snoop_model.specs.Pictures.Picture.{Picture, held_by}
+use Rattle.snoop_model.specs.Pictures.Sends.{sent_by, sent_by_memory, Sends, IsOnlySender}
 use Rattle.snoop_model.specs.Invariant.Fits.{claims_of, in_protocol, fits}
 use Rattle.snoop_model.specs.Invariant.Block.{BlockInvariant, talk_of, awaited, owns}
 use Rattle.snoop_model.proofs.Tables.Every.{either-at, same_is, some_of, when_at}
-use Rattle.snoop_model.proofs.OneBlock.Steps.{sent_by, sent_by_memory, Sends, IsOnlySender, row_of, mem_row_of, is_idle_evict, Answerable}
 use Rattle.snoop_model.proofs.Tables.SenderTests.{Memory, Core, Requestor, follows_sender_table, sender_as}
 use Rattle.snoop_model.proofs.OneBlock.Facts.{not_eqb, or_not, some_true, implied, not_true, clash, owner_is, none_of}
 use Rattle.snoop_model.proofs.OneBlock.OrderStep.{Looked, look, end_of, other_of, other_cell, sent_payload, seen_own, seen_other}
 use Rattle.snoop_model.proofs.OneBlock.AskStep.{right_of}
-use Rattle.snoop_model.proofs.Tables.AskTests.{ask_row}
+use Rattle.snoop_model.proofs.Tables.AskTests.{ask_row, is_idle_evict}
 use Rattle.snoop_model.proofs.Tables.OrderTests.{order_rule}
-use Rattle.snoop_model.proofs.Tables.RespondTests.{respond_rule}
+use Rattle.snoop_model.proofs.Tables.RespondTests.{memory_row_for, respond_rule, row_for}
 use Rattle.snoop_model.proofs.Tables.OrderTests
 use Rattle.snoop_model.proofs.Tables.RespondTests
 
-pub record Possible (p : Protocol) (n : ℕ) (before : Picture) (c : ℕ) (q : Request) : Type 0 where
-  pub rows : (d : ℕ) → d < n → (r : CacheCell) × (cell_of p (held_by before d).state (seen_by d c q) ≡ Some r)
+pub record Possible (p : Protocol) (before : Picture) (c : ℕ) (q : Request) : Type 0 where
+  pub rows : (d : ℕ) → d < length before.caches → (r : CacheCell) × (cell_of p (held_by before d).state (seen_by d c q) ≡ Some r)
   pub cell_of_memory : MemCell
   pub memory_row : memory_cell_of p before.memory.state (at_memory q) ≡ Some cell_of_memory
   pub from : Option ℕ
   pub payload : Payload
-  pub sender : IsOnlySender p n before c q from payload
+  pub sender : IsOnlySender p before c q from payload
   pub writeback : is_put_m q ≡ true → from ≡ Some c
   pub order_line : follows_sender_table p q before.memory.state (sender_as before c from) payload cell_of_memory.next ≡ true
 
-possible_rows : (p : Protocol) (n : ℕ) (flat : List ℕ) (before : Picture) (c : ℕ) (q : Request) (l : Looked p n flat before c q) (d : ℕ) → d < n → (r : CacheCell) × (cell_of p (held_by before d).state (seen_by d c q) ≡ Some r)
-possible_rows p n flat before c q l d d_in = elim (eqb_tells d c) as (λ _. (r : CacheCell) × (cell_of p (held_by before d).state (seen_by d c q) ≡ Some r)) [
+possible_rows : (p : Protocol) (flat : List ℕ) (before : Picture) (c : ℕ) (q : Request) (l : Looked p flat before c q) (d : ℕ) → d < length before.caches → (r : CacheCell) × (cell_of p (held_by before d).state (seen_by d c q) ≡ Some r)
+possible_rows p flat before c q l d d_in = elim (eqb_tells d c) as (λ _. (r : CacheCell) × (cell_of p (held_by before d).state (seen_by d c q) ≡ Some r)) [
   | inl h ↦ (l.oc, subst (λ (x : ℕ). cell_of p (held_by before x).state (seen_by x c q) ≡ Some l.oc) (sym h.1) (ap (λ (e : CacheEvent). cell_of p (held_by before c).state e) (seen_own c q) ∙ l.is_oc))
   | inr h ↦
-      let x = other_cell p n flat before c q l d d_in in
+      let x = other_cell p flat before c q l d d_in in
       (x.0, ap (λ (e : CacheEvent). cell_of p (held_by before d).state e) (seen_other d c q h.1) ∙ x.1)
 ]
 
 -- each controller sends exactly where it is meant to
-pub record Roles (p : Protocol) (n : ℕ) (flat : List ℕ) (before : Picture) (c : ℕ) (q : Request) (l : Looked p n flat before c q) : Type 0 where
+pub record Roles (p : Protocol) (flat : List ℕ) (before : Picture) (c : ℕ) (q : Request) (l : Looked p flat before c q) : Type 0 where
   pub memory : is_some (sent_by_memory (Some l.mc)) ≡ (not (is_put_m q) && not l.good.claims.owned)
   pub requestor : is_some (sent_by (Some l.oc)) ≡ is_put_m q
   pub puts : owns l.good.owner c ≡ true → is_put_m q ≡ true
-  pub others : (d : ℕ) → d < n → d ≢ c → (xc : CacheCell) → cell_of p (held_by before d).state (other q) ≡ Some xc → is_some (sent_by (Some xc)) ≡ (owns l.good.owner d && not (is_put_m q))
+  pub others : (d : ℕ) → d < length before.caches → d ≢ c → (xc : CacheCell) → cell_of p (held_by before d).state (other q) ≡ Some xc → is_some (sent_by (Some xc)) ≡ (owns l.good.owner d && not (is_put_m q))
 
-roles : (p : Protocol) (n : ℕ) (flat : List ℕ) (before : Picture) (c : ℕ) (q : Request) (l : Looked p n flat before c q) → Roles p n flat before c q l
-roles p n flat before c q l = record {
-  memory = same_is _ _ (end_of p n flat before c q l OrderTests.memory_sends OrderTests.memory_sends_holds);
-  requestor = same_is _ _ (end_of p n flat before c q l OrderTests.requestor_sends OrderTests.requestor_sends_holds);
+roles : (p : Protocol) (flat : List ℕ) (before : Picture) (c : ℕ) (q : Request) (l : Looked p flat before c q) → Roles p flat before c q l
+roles p flat before c q l = record {
+  memory = same_is _ _ (end_of p flat before c q l OrderTests.memory_sends OrderTests.memory_sends_holds);
+  requestor = same_is _ _ (end_of p flat before c q l OrderTests.requestor_sends OrderTests.requestor_sends_holds);
   puts = implied (owns l.good.owner c) (is_put_m q) (order_rule OrderTests.owner_only_puts OrderTests.owner_only_puts_holds p before.memory.state l.good.claims (held_by before c).state (owns l.good.owner c) q l.quiet l.requestor_fits l.owned l.waits);
-  others = λ d d_in apart xc is_xc. same_is _ _ (other_of p n flat before c q l OrderTests.other_sends OrderTests.other_sends_holds d d_in apart xc is_xc);
+  others = λ d d_in apart xc is_xc. same_is _ _ (other_of p flat before c q l OrderTests.other_sends OrderTests.other_sends_holds d d_in apart xc is_xc);
 }
 
 -- the row of a core that is d
-own_row : (p : Protocol) (n : ℕ) (flat : List ℕ) (before : Picture) (c : ℕ) (q : Request) (l : Looked p n flat before c q) (d : ℕ) → d ≡ c → cell_of p (held_by before d).state (seen_by d c q) ≡ Some l.oc
-own_row p n flat before c q l d e = subst (λ (x : ℕ). cell_of p (held_by before x).state (seen_by x c q) ≡ Some l.oc) (sym e) (ap (λ (x : CacheEvent). cell_of p (held_by before c).state x) (seen_own c q) ∙ l.is_oc)
+own_row : (p : Protocol) (flat : List ℕ) (before : Picture) (c : ℕ) (q : Request) (l : Looked p flat before c q) (d : ℕ) → d ≡ c → cell_of p (held_by before d).state (seen_by d c q) ≡ Some l.oc
+own_row p flat before c q l d e = subst (λ (x : ℕ). cell_of p (held_by before x).state (seen_by x c q) ≡ Some l.oc) (sym e) (ap (λ (x : CacheEvent). cell_of p (held_by before c).state x) (seen_own c q) ∙ l.is_oc)
 
 -- who sends: the requestor of a PutM, else memory where no core owns, else the owner
 abbrev pub meant : Request → ℕ → Option ℕ → Option ℕ
 meant q c owner = cond (is_put_m q) (Some c) owner
 
-only : (p : Protocol) (n : ℕ) (flat : List ℕ) (before : Picture) (c : ℕ) (q : Request) (l : Looked p n flat before c q) → Roles p n flat before c q l → (another : Option ℕ) (sent : Payload) → Sends p n before c q another sent → another ≡ meant q c l.good.owner
-only p n flat before c q l roles None sent sends =
+only : (p : Protocol) (flat : List ℕ) (before : Picture) (c : ℕ) (q : Request) (l : Looked p flat before c q) → Roles p flat before c q l → (another : Option ℕ) (sent : Payload) → Sends p before c q another sent → another ≡ meant q c l.good.owner
+only p flat before c q l roles None sent sends =
     let e : is_some (sent_by_memory (Some l.mc)) ≡ true = some_true (sent_by_memory (Some l.mc)) sent (ap sent_by_memory (sym l.is_mc) ∙ sends) in
     let h = and_parts (not (is_put_m q)) (not l.good.claims.owned) (sym roles.memory ∙ e) in
     let no_put = not_true (is_put_m q) h.0 in
     let no_owner : is_some l.good.owner ≡ false = l.good.is_owned ∙ not_true l.good.claims.owned h.1 in
     sym (rw no_put (none_of l.good.owner no_owner))
-only p n flat before c q l roles (Some d) sent sends = elim (eqb_tells d c) as (λ _. Some d ≡ meant q c l.good.owner) [
+only p flat before c q l roles (Some d) sent sends = elim (eqb_tells d c) as (λ _. Some d ≡ meant q c l.good.owner) [
   | inl h ↦
-      let e : is_some (sent_by (Some l.oc)) ≡ true = some_true (sent_by (Some l.oc)) sent (ap sent_by (sym (own_row p n flat before c q l d h.1)) ∙ sends.1) in
+      let e : is_some (sent_by (Some l.oc)) ≡ true = some_true (sent_by (Some l.oc)) sent (ap sent_by (sym (own_row p flat before c q l d h.1)) ∙ sends.1) in
       let put : is_put_m q ≡ true = sym roles.requestor ∙ e in
       rw put (ap (λ (x : ℕ). Some x) h.1)
   | inr h ↦
-      let x = other_cell p n flat before c q l d sends.0 in
+      let x = other_cell p flat before c q l d sends.0 in
       let row : cell_of p (held_by before d).state (seen_by d c q) ≡ Some x.0 = ap (λ (e : CacheEvent). cell_of p (held_by before d).state e) (seen_other d c q h.1) ∙ x.1 in
       let e : is_some (sent_by (Some x.0)) ≡ true = some_true (sent_by (Some x.0)) sent (ap sent_by (sym row) ∙ sends.1) in
       let both = and_parts (owns l.good.owner d) (not (is_put_m q)) (sym (roles.others d sends.0 h.1 x.0 x.1) ∙ e) in
@@ -95,49 +95,49 @@ only p n flat before c q l roles (Some d) sent sends = elim (eqb_tells d c) as (
 ]
 
 -- the sender sends, and its line is in the table
-pub record Sent (p : Protocol) (n : ℕ) (flat : List ℕ) (before : Picture) (c : ℕ) (q : Request) (l : Looked p n flat before c q) : Type 0 where
+pub record Sent (p : Protocol) (flat : List ℕ) (before : Picture) (c : ℕ) (q : Request) (l : Looked p flat before c q) : Type 0 where
   pub payload : Payload
-  pub sends : Sends p n before c q (meant q c l.good.owner) payload
+  pub sends : Sends p before c q (meant q c l.good.owner) payload
   pub order_line : follows_sender_table p q before.memory.state (sender_as before c (meant q c l.good.owner)) l.pl l.mc.next ≡ true
 
-sent_put : (p : Protocol) (n : ℕ) (flat : List ℕ) (before : Picture) (c : ℕ) (q : Request) (l : Looked p n flat before c q) → Roles p n flat before c q l → is_put_m q ≡ true → Sent p n flat before c q l
-sent_put p n flat before c q l roles put =
+sent_put : (p : Protocol) (flat : List ℕ) (before : Picture) (c : ℕ) (q : Request) (l : Looked p flat before c q) → Roles p flat before c q l → is_put_m q ≡ true → Sent p flat before c q l
+sent_put p flat before c q l roles put =
     let x = some_of (sent_by (Some l.oc)) (roles.requestor ∙ put) in
-    let row = own_row p n flat before c q l c refl in
-    let line : follows_sender_table p q before.memory.state (Requestor (held_by before c).state) l.pl l.mc.next ≡ true = implied (is_put_m q) _ (end_of p n flat before c q l OrderTests.order_line_of_put OrderTests.order_line_of_put_holds) put in
+    let row = own_row p flat before c q l c refl in
+    let line : follows_sender_table p q before.memory.state (Requestor (held_by before c).state) l.pl l.mc.next ≡ true = implied (is_put_m q) _ (end_of p flat before c q l OrderTests.order_line_of_put OrderTests.order_line_of_put_holds) put in
     let who : meant q c l.good.owner ≡ Some c = rw put refl in
     record {
       payload = x.0;
-      sends = subst (λ (w : Option ℕ). Sends p n before c q w x.0) (sym who) (l.requestor_in, ap sent_by row ∙ x.1);
+      sends = subst (λ (w : Option ℕ). Sends p before c q w x.0) (sym who) (l.requestor_in, ap sent_by row ∙ x.1);
       order_line = subst (λ (w : Option ℕ). follows_sender_table p q before.memory.state (sender_as before c w) l.pl l.mc.next ≡ true) (sym who) (rw (eq-eqb c c refl) line);
     }
 
-sent_memory : (p : Protocol) (n : ℕ) (flat : List ℕ) (before : Picture) (c : ℕ) (q : Request) (l : Looked p n flat before c q) → Roles p n flat before c q l → is_put_m q ≡ false → l.good.claims.owned ≡ false → Sent p n flat before c q l
-sent_memory p n flat before c q l roles no_put unowned =
+sent_memory : (p : Protocol) (flat : List ℕ) (before : Picture) (c : ℕ) (q : Request) (l : Looked p flat before c q) → Roles p flat before c q l → is_put_m q ≡ false → l.good.claims.owned ≡ false → Sent p flat before c q l
+sent_memory p flat before c q l roles no_put unowned =
     let e : is_some (sent_by_memory (Some l.mc)) ≡ true = roles.memory ∙ rw (no_put, unowned) refl in
     let x = some_of (sent_by_memory (Some l.mc)) e in
-    let line : follows_sender_table p q before.memory.state Memory l.pl l.mc.next ≡ true = implied (is_some (sent_by_memory (Some l.mc))) _ (end_of p n flat before c q l OrderTests.order_line_of_memory OrderTests.order_line_of_memory_holds) e in
+    let line : follows_sender_table p q before.memory.state Memory l.pl l.mc.next ≡ true = implied (is_some (sent_by_memory (Some l.mc))) _ (end_of p flat before c q l OrderTests.order_line_of_memory OrderTests.order_line_of_memory_holds) e in
     let who : meant q c l.good.owner ≡ None = rw no_put (none_of l.good.owner (l.good.is_owned ∙ unowned)) in
     record {
       payload = x.0;
-      sends = subst (λ (w : Option ℕ). Sends p n before c q w x.0) (sym who) (ap sent_by_memory l.is_mc ∙ x.1);
+      sends = subst (λ (w : Option ℕ). Sends p before c q w x.0) (sym who) (ap sent_by_memory l.is_mc ∙ x.1);
       order_line = subst (λ (w : Option ℕ). follows_sender_table p q before.memory.state (sender_as before c w) l.pl l.mc.next ≡ true) (sym who) line;
     }
 
-sent_owner : (p : Protocol) (n : ℕ) (flat : List ℕ) (before : Picture) (c : ℕ) (q : Request) (l : Looked p n flat before c q) → Roles p n flat before c q l → is_put_m q ≡ false → (d : ℕ) → l.good.owner ≡ Some d → Sent p n flat before c q l
-sent_owner p n flat before c q l roles no_put d is_d =
+sent_owner : (p : Protocol) (flat : List ℕ) (before : Picture) (c : ℕ) (q : Request) (l : Looked p flat before c q) → Roles p flat before c q l → is_put_m q ≡ false → (d : ℕ) → l.good.owner ≡ Some d → Sent p flat before c q l
+sent_owner p flat before c q l roles no_put d is_d =
     let d_in = l.good.owner_in d is_d in
     let owning : owns l.good.owner d ≡ true = rw is_d (eq-eqb d d refl) in
     let apart : d ≢ c = λ e. clash (is_put_m q) (roles.puts (ap (owns l.good.owner) (sym e) ∙ owning)) no_put in
-    let xc = other_cell p n flat before c q l d d_in in
+    let xc = other_cell p flat before c q l d d_in in
     let e : is_some (sent_by (Some xc.0)) ≡ true = roles.others d d_in apart xc.0 xc.1 ∙ rw (owning, no_put) refl in
     let x = some_of (sent_by (Some xc.0)) e in
     let row : cell_of p (held_by before d).state (seen_by d c q) ≡ Some xc.0 = ap (λ (v : CacheEvent). cell_of p (held_by before d).state v) (seen_other d c q apart) ∙ xc.1 in
-    let line : follows_sender_table p q before.memory.state (Core (held_by before d).state) l.pl l.mc.next ≡ true = implied (is_some (sent_by (Some xc.0))) _ (other_of p n flat before c q l OrderTests.order_line_of_core OrderTests.order_line_of_core_holds d d_in apart xc.0 xc.1) e in
+    let line : follows_sender_table p q before.memory.state (Core (held_by before d).state) l.pl l.mc.next ≡ true = implied (is_some (sent_by (Some xc.0))) _ (other_of p flat before c q l OrderTests.order_line_of_core OrderTests.order_line_of_core_holds d d_in apart xc.0 xc.1) e in
     let who : meant q c l.good.owner ≡ Some d = rw no_put is_d in
     record {
       payload = x.0;
-      sends = subst (λ (w : Option ℕ). Sends p n before c q w x.0) (sym who) (d_in, ap sent_by row ∙ x.1);
+      sends = subst (λ (w : Option ℕ). Sends p before c q w x.0) (sym who) (d_in, ap sent_by row ∙ x.1);
       order_line = subst (λ (w : Option ℕ). follows_sender_table p q before.memory.state (sender_as before c w) l.pl l.mc.next ≡ true) (sym who) (rw (not_eqb d c apart) line);
     }
 
@@ -145,29 +145,29 @@ some_or_none : (o : Option ℕ) → (o ≡ None) ⊎ ((d : ℕ) × (o ≡ Some d
 some_or_none None = inl refl
 some_or_none (Some d) = inr (d, refl)
 
-sent : (p : Protocol) (n : ℕ) (flat : List ℕ) (before : Picture) (c : ℕ) (q : Request) (l : Looked p n flat before c q) → Roles p n flat before c q l → Sent p n flat before c q l
-sent p n flat before c q l roles = elim (or_not (is_put_m q)) as (λ _. Sent p n flat before c q l) [
-  | inl put ↦ sent_put p n flat before c q l roles put
-  | inr no_put ↦ elim (some_or_none l.good.owner) as (λ _. Sent p n flat before c q l) [
-    | inl none ↦ sent_memory p n flat before c q l roles no_put (sym l.good.is_owned ∙ rw none refl)
-    | inr some ↦ sent_owner p n flat before c q l roles no_put some.0 some.1
+sent : (p : Protocol) (flat : List ℕ) (before : Picture) (c : ℕ) (q : Request) (l : Looked p flat before c q) → Roles p flat before c q l → Sent p flat before c q l
+sent p flat before c q l roles = elim (or_not (is_put_m q)) as (λ _. Sent p flat before c q l) [
+  | inl put ↦ sent_put p flat before c q l roles put
+  | inr no_put ↦ elim (some_or_none l.good.owner) as (λ _. Sent p flat before c q l) [
+    | inl none ↦ sent_memory p flat before c q l roles no_put (sym l.good.is_owned ∙ rw none refl)
+    | inr some ↦ sent_owner p flat before c q l roles no_put some.0 some.1
   ]
 ]
 
 -- an Order finds all its rows and exactly one sender, and is a line of the table of Orders
-pub order_possible : (p : Protocol) (n : ℕ) (flat : List ℕ) (before : Picture) (c : ℕ) (q : Request) → BlockInvariant p n flat before → c < n → waiting_request (held_by before c).state ≡ Some q → before.transaction ≡ None → Possible p n before c q
-order_possible p n flat before c q good c_in waits calm =
-    let l = look p n flat before c q good c_in waits calm in
-    let r = roles p n flat before c q l in
-    let s = sent p n flat before c q l r in
-    let same_payload : s.payload ≡ l.pl = sent_payload p n flat before c q l (meant q c l.good.owner) s.payload s.sends in
+pub order_possible : (p : Protocol) (flat : List ℕ) (before : Picture) (c : ℕ) (q : Request) → BlockInvariant p (length before.caches) flat before → c < length before.caches → waiting_request (held_by before c).state ≡ Some q → before.transaction ≡ None → Possible p before c q
+order_possible p flat before c q good c_in waits calm =
+    let l = look p flat before c q good c_in waits calm in
+    let r = roles p flat before c q l in
+    let s = sent p flat before c q l r in
+    let same_payload : s.payload ≡ l.pl = sent_payload p flat before c q l (meant q c l.good.owner) s.payload s.sends in
     record {
-      rows = possible_rows p n flat before c q l;
+      rows = possible_rows p flat before c q l;
       cell_of_memory = l.mc;
       memory_row = l.is_mc;
       from = meant q c l.good.owner;
       payload = s.payload;
-      sender = record { sends = s.sends; alone = only p n flat before c q l r };
+      sender = record { sends = s.sends; alone = only p flat before c q l r };
       writeback = λ put. rw put refl;
       order_line = subst (λ (x : Payload). follows_sender_table p q before.memory.state (sender_as before c (meant q c l.good.owner)) x l.mc.next ≡ true) (sym same_payload) s.order_line;
     }
@@ -183,6 +183,11 @@ ask_possible p n flat before c o good c_in busy =
     let h = when_at _ _ (fits_protocol p good.claims.shared (owns good.owner c) (awaited before.transaction c) (held_by before c).state fit) (ask_row p (held_by before c).state o) in
     some_of (cell_of p (held_by before c).state (asked o)) (right_of (is_idle_evict (held_by before c).state (asked o)) _ h busy)
 
+-- a Respond finds its rows
+pub record Answerable (p : Protocol) (before : Picture) (o : Open) : Type 0 where
+  pub memory : takes_payload o.request before.memory.state ≡ true → (row : MemCell) × (memory_row_for p before.memory.state (arrival_at_memory o.payload) ≡ Some row)
+  pub requestor : is_put_m o.request ≡ false → (row : CacheCell) × (row_for p (held_by before o.core).state (arrival o.payload) ≡ Some row)
+
 pub respond_possible : (p : Protocol) (n : ℕ) (flat : List ℕ) (before : Picture) (o : Open) → BlockInvariant p n flat before → before.transaction ≡ Some o → Answerable p before o
 respond_possible p n flat before o good was_open =
     let c = o.core in
@@ -194,9 +199,9 @@ respond_possible p n flat before o good was_open =
     record {
       memory = λ h.
           let t = respond_rule RespondTests.has_memory_arrival RespondTests.has_memory_arrival_holds p before.memory.state o.request o.payload good.claims is_claims in
-          some_of (mem_row_of p before.memory.state (arrival_at_memory o.payload)) (implied (takes_payload o.request before.memory.state) _ t h);
+          some_of (memory_row_for p before.memory.state (arrival_at_memory o.payload)) (implied (takes_payload o.request before.memory.state) _ t h);
       requestor = λ no_put.
           let get : not (is_put_m o.request) ≡ true = rw no_put refl in
           let test_first = when_at _ _ get (respond_rule RespondTests.has_arrival RespondTests.has_arrival_holds p before.memory.state o.request o.payload good.claims is_claims) in
-          some_of (row_of p s (arrival o.payload)) (when_at _ _ fit (either-at _ (all_states-at _ test_first s) ow));
+          some_of (row_for p s (arrival o.payload)) (when_at _ _ fit (either-at _ (all_states-at _ test_first s) ow));
     }

@@ -1,14 +1,14 @@
 -- A Respond keeps the invariant, and a load that it performs gives the flat value.
-use Rattle.std.proofs.Common.{◌≡◌, ◌≢◌, ◌<◌, ◌&&◌, ◌||◌, ◌∙◌, ℕ, List, Bool, true, false, not, cond, eqb, Option, Some, None, refl, inl, inr, ap, sym, subst}
+use Rattle.std.proofs.Common.{◌≡◌, ◌≢◌, ◌<◌, ◌&&◌, ◌||◌, ◌∙◌, ℕ, length, List, Bool, true, false, not, cond, eqb, Option, Some, None, refl, inl, inr, ap, sym, subst}
 use Rattle.std.specs.Prelude.{is_some}
 use Rattle.std.proofs.lemmas.Bool.Decides.{eqb_tells}
 use Rattle.std.proofs.lemmas.Bool.{eq-eqb, and_parts}
-use Rattle.std.specs.Prelude.{slice_set}
+use Rattle.std.specs.Prelude.{slice_set, MatchBool, IsSomeAnd}
+use Rattle.std.proofs.lemmas.List.{get_or-set_same, get_or-set_other}
 use Rattle.snoop_trace.specs.Words.{word_at}
+use Rattle.snoop_trace.specs.declared.step.Op.{Op}
 use Rattle.snoop_trace.specs.declared.step.Op.TheVariants as op
 use Rattle.snoop_trace.specs.declared.protocol.Protocol.{Protocol}
-use Rattle.snoop_rules.specs.declared.names.CacheState.{CacheState}
-use Rattle.snoop_rules.specs.declared.names.CacheEvent.{CacheEvent}
 use Rattle.snoop_rules.specs.declared.names.CacheAction.{CacheAction}
 use Rattle.snoop_rules.specs.declared.names.CacheAction.TheVariants as action
 use Rattle.snoop_rules.specs.declared.names.MemState.{MemState}
@@ -21,35 +21,36 @@ use Rattle.snoop_rules.specs.declared.names.Payload.{Payload}
 use Rattle.snoop_rules.specs.Takers.{arrival, arrival_at_memory, takes_payload, carries_value}
 use Rattle.snoop_rules.specs.declared.names.CacheCell.{CacheCell}
 use Rattle.snoop_rules.specs.declared.names.MemCell.{MemCell}
-use Rattle.snoop_rules.specs.Cell.{Cell}
+use Rattle.snoop_rules.specs.MemoryCell.{MemoryCell, memory_cell_of}
 use Rattle.snoop_rules.proofs.Every.{all_states-at}
-use Rattle.snoop_rules.proofs.Rows.{Cell-found}
+use Rattle.snoop_history.specs.declared.items.Did.{Did}
+use Rattle.snoop_history.specs.declared.items.Item.{Item}
 use Rattle.snoop_history.specs.Totals.{is_put_m, is_get_m}
 use Rattle.snoop_bus.specs.Traffic.{Open}
 use Rattle.snoop_model.specs.Pictures.Lines.{Line}
-use Rattle.snoop_model.specs.Pictures.Picture.{Picture, held_by}
-use Rattle.snoop_model.specs.Moves.Move.{written}
+use Rattle.snoop_model.specs.declared.line.Access.{Access}
+use Rattle.snoop_model.specs.Pictures.Picture.{Picture, held_at, held_by, nothing_held}
+use Rattle.snoop_model.specs.Pictures.Situation.{Situation, picture_of}
+use Rattle.snoop_model.specs.Moves.Move.{Performs, IsFillFor, Fills, FillsRequestor, ArrivesFor, ArrivesAtMemory, Responds, next_did, written}
 use Rattle.snoop_model.specs.Pictures.Sound.{keeps, IsProper}
 use Rattle.snoop_model.specs.Invariant.Fits.{Claims, claims_of, is_clean, fits}
 use Rattle.snoop_model.specs.Invariant.Block.{BlockInvariant, talk_of, awaited, owns}
 use Rattle.snoop_model.proofs.Tables.Every.{either-at, given, given_at, same_is, some_of, when_at}
-use Rattle.snoop_model.proofs.OneBlock.Steps.{Done, flat_after, IsLawful, row_of, mem_row_of, MemoryTakes, Fills, RequestorTakes, Responds}
+use Rattle.snoop_model.proofs.OneBlock.Operation.{flat_after, IsLawful}
 use Rattle.snoop_model.proofs.Tables.SenderTests.{after_respond, next_memory, next_of}
 use Rattle.snoop_model.proofs.OneBlock.Facts.{not_eqb, or_not, either_of, owns_owned, implied, carried_kept, carried_same, not_true, clash}
 use Rattle.snoop_model.proofs.OneBlock.AskStep.{right_of}
 use Rattle.snoop_model.proofs.Tables.Rows.{IsProper-fill}
-use Rattle.snoop_model.proofs.Tables.RespondTests.{after_rule, fills_store, gains, respond_rule, writes}
+use Rattle.snoop_model.proofs.Tables.RespondTests.{after_rule, fills_store, gains, memory_row_for, respond_rule, row_for, writes}
 use Rattle.snoop_model.proofs.Tables.StateTests.{clean_reads, fits_calm, is_calm}
 use Rattle.snoop_model.proofs.Tables.RespondTests
 
-next_at : (p : Protocol) (m : MemState) (e : Option MemEvent) → next_memory p m e ≡ next_of (mem_row_of p m e)
-next_at p m None = refl
-next_at p m (Some e) = refl
-
 -- memory's next state is the tables'
-memory_after : (b : Bool) (p : Protocol) (before : Picture) (opened : Open) (after : Picture) → MemoryTakes b p before opened after → cond b (next_memory p before.memory.state (arrival_at_memory opened.payload)) (Some before.memory.state) ≡ Some after.memory.state
-memory_after true p before opened after t = next_at p before.memory.state (arrival_at_memory opened.payload) ∙ (ap next_of t.1 ∙ ap (λ (m : MemState). Some m) (sym t.2))
-memory_after false p before opened after t = ap (λ (m : MemState). Some m) (sym t.0)
+memory_after : (b : Bool) (p : Protocol) (m next : MemState) (found : Option MemEvent) (act : MemAction) → MatchBool b (IsSomeAnd found (λ event. MemoryCell p m event act next)) ((act ≡ mem_action.None) × (next ≡ m))
+    → cond b (next_memory p m found) (Some m) ≡ Some next
+memory_after true p m next None act settled = absurd settled
+memory_after true p m next (Some event) act settled = ap next_of settled
+memory_after false p m next found act settled = ap (λ (x : MemState). Some x) (sym settled.1)
 
 written_flat : (a : MemAction) (v old flat : List ℕ) → (writes a ≡ true → v ≡ flat) → old ≡ flat → written a v old ≡ flat
 written_flat mem_action.Write v old flat h e = h refl
@@ -62,18 +63,22 @@ written_now mem_action.None v old flat h e = cc
 written_now (mem_action.Send pl) v old flat h e = cc
 
 -- what memory had of the flat value it keeps
-value_stays : (b : Bool) (p : Protocol) (before : Picture) (opened : Open) (after : Picture) (flat : List ℕ) → MemoryTakes b p before opened after → (not b || given (mem_row_of p before.memory.state (arrival_at_memory opened.payload)) (λ r. not (writes r.action) || carries_value opened.payload)) ≡ true → (carries_value opened.payload ≡ true → opened.value ≡ flat) → before.memory.value ≡ flat → after.memory.value ≡ flat
-value_stays true p before opened after flat t test carried e =
-    let h = given_at (mem_row_of p before.memory.state (arrival_at_memory opened.payload)) (λ r. not (writes r.action) || carries_value opened.payload) t.0 t.1 test in
-    t.3 ∙ written_flat t.0.action opened.value before.memory.value flat (λ w. carried (implied (writes t.0.action) (carries_value opened.payload) h w)) e
-value_stays false p before opened after flat t test carried e = t.1 ∙ e
+value_stays : (b : Bool) (p : Protocol) (m next : MemState) (found : Option MemEvent) (act : MemAction) (carrying : Bool) (v old new flat : List ℕ) → MatchBool b (IsSomeAnd found (λ event. MemoryCell p m event act next)) ((act ≡ mem_action.None) × (next ≡ m)) → new ≡ written act v old
+    → (not b || given (memory_row_for p m found) (λ r. not (writes r.action) || carrying)) ≡ true → (carrying ≡ true → v ≡ flat) → old ≡ flat → new ≡ flat
+value_stays true p m next None act carrying v old new flat settled wrote test carried e = absurd settled
+value_stays true p m next (Some event) act carrying v old new flat settled wrote test carried e =
+    let h = given_at (memory_cell_of p m event) (λ r. not (writes r.action) || carrying) (record { action = act; next = next }) settled test in
+    wrote ∙ written_flat act v old flat (λ w. carried (implied (writes act) carrying h w)) e
+value_stays false p m next found act carrying v old new flat settled wrote test carried e = wrote ∙ (ap (λ (a : MemAction). written a v old) settled.0 ∙ e)
 
-value_written : (b : Bool) (p : Protocol) (before : Picture) (opened : Open) (after : Picture) (flat : List ℕ) → MemoryTakes b p before opened after → (b && carries_value opened.payload && given (mem_row_of p before.memory.state (arrival_at_memory opened.payload)) (λ r. writes r.action)) ≡ true → (carries_value opened.payload ≡ true → opened.value ≡ flat) → after.memory.value ≡ flat
-value_written true p before opened after flat t test carried =
-    let parts = and_parts (carries_value opened.payload) (given (mem_row_of p before.memory.state (arrival_at_memory opened.payload)) (λ r. writes r.action)) test in
-    let w : writes t.0.action ≡ true = given_at (mem_row_of p before.memory.state (arrival_at_memory opened.payload)) (λ r. writes r.action) t.0 t.1 parts.1 in
-    t.3 ∙ written_now t.0.action opened.value before.memory.value flat w (carried parts.0)
-value_written false p before opened after flat t test carried = cc
+value_written : (b : Bool) (p : Protocol) (m next : MemState) (found : Option MemEvent) (act : MemAction) (carrying : Bool) (v old new flat : List ℕ) → MatchBool b (IsSomeAnd found (λ event. MemoryCell p m event act next)) ((act ≡ mem_action.None) × (next ≡ m)) → new ≡ written act v old
+    → (b && carrying && given (memory_row_for p m found) (λ r. writes r.action)) ≡ true → (carrying ≡ true → v ≡ flat) → new ≡ flat
+value_written true p m next None act carrying v old new flat settled wrote test carried = absurd settled
+value_written true p m next (Some event) act carrying v old new flat settled wrote test carried =
+    let parts = and_parts carrying (given (memory_cell_of p m event) (λ r. writes r.action)) test in
+    let w : writes act ≡ true = given_at (memory_cell_of p m event) (λ r. writes r.action) (record { action = act; next = next }) settled parts.1 in
+    wrote ∙ written_now act v old flat w (carried parts.0)
+value_written false p m next found act carrying v old new flat settled wrote test carried = cc
 
 -- what a Respond looks up of a picture that keeps its invariant
 pub record Found (p : Protocol) (n : ℕ) (flat : List ℕ) (before after : Picture) (opened : Open) (g : BlockInvariant p n flat before) : Type 0 where
@@ -87,20 +92,19 @@ pub record Found (p : Protocol) (n : ℕ) (flat : List ℕ) (before after : Pict
   pub requestor_in : opened.core < n
   pub owned : next.owned ≡ (g.claims.owned || gains opened.request opened.payload)
 
-find : (p : Protocol) (n : ℕ) (flat : List ℕ) (before after : Picture) (made : Option Done) (g : BlockInvariant p n flat before) (r : Responds p n before after made) → Found p n flat before after r.opened g
-find p n flat before after made g r =
-    let o = r.opened in
+find : (p : Protocol) (n : ℕ) (flat : List ℕ) (before after : Picture) (o : Open) (g : BlockInvariant p n flat before) → before.transaction ≡ Some o → ArrivesAtMemory o p before.memory after.memory → Found p n flat before after o g
+find p n flat before after o g was_open arrives =
     let q = o.request in
     let pl = o.payload in
     let m = before.memory.state in
-    let is_claims : claims_of p m (Some (q, pl)) ≡ Some g.claims = ap (λ (t : Option Open). claims_of p m (talk_of t)) (sym r.was_open) ∙ g.is_claims in
-    let is_memory : after_respond p q m pl ≡ Some after.memory.state = memory_after (takes_payload q m) p before o after r.memory in
+    let is_claims : claims_of p m (Some (q, pl)) ≡ Some g.claims = ap (λ (t : Option Open). claims_of p m (talk_of t)) (sym was_open) ∙ g.is_claims in
+    let is_memory : after_respond p q m pl ≡ Some after.memory.state = memory_after (takes_payload q m) p m after.memory.state (arrival_at_memory pl) arrives.act arrives.settled in
     let h1 = respond_rule RespondTests.has_line_after RespondTests.has_line_after_holds p m q pl g.claims is_claims in
     let some_next : (a : Claims) × (claims_of p after.memory.state None ≡ Some a) = some_of (claims_of p after.memory.state None) (given_at _ _ after.memory.state is_memory h1) in
-    let carried : carries_value pl ≡ true → o.value ≡ flat = g.carried o r.was_open in
-    let stays : before.memory.value ≡ flat → after.memory.value ≡ flat = value_stays (takes_payload q m) p before o after flat r.memory (respond_rule RespondTests.write_carries RespondTests.write_carries_holds p m q pl g.claims is_claims) carried in
+    let carried : carries_value pl ≡ true → o.value ≡ flat = g.carried o was_open in
+    let stays : before.memory.value ≡ flat → after.memory.value ≡ flat = value_stays (takes_payload q m) p m after.memory.state (arrival_at_memory pl) arrives.act (carries_value pl) o.value before.memory.value after.memory.value flat arrives.settled arrives.value (respond_rule RespondTests.write_carries RespondTests.write_carries_holds p m q pl g.claims is_claims) carried in
     let fresh_test = after_rule RespondTests.fresh_respond RespondTests.fresh_respond_holds p m q pl g.claims after.memory.state some_next.0 is_claims is_memory some_next.1 in
-    let written_test = takes_payload q m && carries_value pl && given (mem_row_of p m (arrival_at_memory pl)) (λ (x : MemCell). writes x.action) in
+    let written_test = takes_payload q m && carries_value pl && given (memory_row_for p m (arrival_at_memory pl)) (λ (x : MemCell). writes x.action) in
     record {
       is_claims = is_claims;
       is_memory = is_memory;
@@ -112,10 +116,10 @@ find p n flat before after made g r =
           let h2 = and_parts (not (is_get_m q)) (g.claims.fresh || written_test) (implied some_next.0.fresh (not (is_get_m q) && (g.claims.fresh || written_test)) fresh_test h) in
           let v : after.memory.value ≡ flat = elim (either_of g.claims.fresh written_test h2.1) as (λ _. after.memory.value ≡ flat) [
             | inl f ↦ stays (g.fresh f)
-            | inr w ↦ value_written (takes_payload q m) p before o after flat r.memory w carried
+            | inr w ↦ value_written (takes_payload q m) p m after.memory.state (arrival_at_memory pl) arrives.act (carries_value pl) o.value before.memory.value after.memory.value flat arrives.settled arrives.value w carried
           ] in
           (not_true (is_get_m q) h2.0, v);
-      requestor_in = g.requestor_in o r.was_open;
+      requestor_in = g.requestor_in o was_open;
       owned = same_is _ _ (after_rule RespondTests.gain_owned RespondTests.gain_owned_holds p m q pl g.claims after.memory.state some_next.0 is_claims is_memory some_next.1);
     }
 
@@ -153,29 +157,27 @@ put_calm : (o : Open) (d : ℕ) → is_put_m o.request ≡ true → is_calm (awa
 put_calm o d h = elim (or_not (eqb d o.core)) as (λ _. is_calm (cond (eqb d o.core) (Some o.request) None) ≡ true) [ inl e ↦ rw e h | inr e ↦ rw e refl ]
 
 -- a PutM's end
-respond_put : (p : Protocol) (n : ℕ) (flat : List ℕ) (before after : Picture) (made : Option Done) (g : BlockInvariant p n flat before) (r : Responds p n before after made) → is_put_m r.opened.request ≡ true → ((d : ℕ) → d < n → held_by after d ≡ held_by before d) → made ≡ None → BlockInvariant p n (flat_after flat made) after × IsLawful flat made
-respond_put p n flat before after made g r put same_held nothing =
-    let f = find p n flat before after made g r in
-    let o = r.opened in
+respond_put : (p : Protocol) (n : ℕ) (flat : List ℕ) (before after : Picture) (o : Open) (g : BlockInvariant p n flat before) → before.transaction ≡ Some o → ArrivesAtMemory o p before.memory after.memory → after.transaction ≡ None → is_put_m o.request ≡ true → ((d : ℕ) → held_by after d ≡ held_by before d) → BlockInvariant p n flat after
+respond_put p n flat before after o g was_open arrives closes put same_held =
+    let f = find p n flat before after o g was_open arrives in
     let gained : gains o.request o.payload ≡ false = put_gains o.request o.payload put in
-    let calm : (d : ℕ) → is_calm (awaited before.transaction d) ≡ true = λ d. rw r.was_open (put_calm o d put) in
-    let good : BlockInvariant p n flat after = record {
+    let calm : (d : ℕ) → is_calm (awaited before.transaction d) ≡ true = λ d. rw was_open (put_calm o d put) in
+    record {
       claims = f.next;
-      is_claims = ap (λ (t : Option Open). claims_of p after.memory.state (talk_of t)) r.closes ∙ f.is_next;
+      is_claims = ap (λ (t : Option Open). claims_of p after.memory.state (talk_of t)) closes ∙ f.is_next;
       owner = g.owner;
       owner_in = g.owner_in;
       is_owned = g.is_owned ∙ (or_false_is g.claims.owned ∙ (ap (λ (b : Bool). g.claims.owned || b) (sym gained) ∙ sym f.owned));
       states = λ d d_in.
           let fit = fits_calm p g.claims.shared (owns g.owner d) (awaited before.transaction d) (held_by before d).state (calm d) (g.states d d_in) in
-          ap (λ (t : Option Open). fits p f.next.shared (owns g.owner d) (awaited t d) (held_by after d).state) r.closes ∙ (ap (λ (x : Line). fits p f.next.shared (owns g.owner d) None x.state) (same_held d d_in) ∙ stays_fits p n flat before after o g f d d_in fit);
-      kept = λ d d_in h. carried_kept (held_by before d) (held_by after d) flat (carried_same (held_by before d) (held_by after d) (same_held d d_in)) (g.kept d d_in) h;
-      clean = λ d d_in h. f.stays (g.clean d d_in ((carried_same (held_by before d) (held_by after d) (same_held d d_in)).cleans h));
+          ap (λ (t : Option Open). fits p f.next.shared (owns g.owner d) (awaited t d) (held_by after d).state) closes ∙ (ap (λ (x : Line). fits p f.next.shared (owns g.owner d) None x.state) (same_held d) ∙ stays_fits p n flat before after o g f d d_in fit);
+      kept = λ d d_in h. carried_kept (held_by before d) (held_by after d) flat (carried_same (held_by before d) (held_by after d) (same_held d)) (g.kept d d_in) h;
+      clean = λ d d_in h. f.stays (g.clean d d_in ((carried_same (held_by before d) (held_by after d) (same_held d)).cleans h));
       fresh = λ h. (f.refreshed h).1;
-      carried = λ x is_x. absurd (none_some x (sym r.closes ∙ is_x));
-      requestor_in = λ x is_x. absurd (none_some x (sym r.closes ∙ is_x));
-      proper = λ d d_in. subst IsProper (sym (same_held d d_in)) (g.proper d d_in);
-    } in
-    (rw nothing good, rw nothing tt)
+      carried = λ x is_x. absurd (none_some x (sym closes ∙ is_x));
+      requestor_in = λ x is_x. absurd (none_some x (sym closes ∙ is_x));
+      proper = λ d d_in. subst IsProper (sym (same_held d)) (g.proper d d_in);
+    }
 
 -- who owns after a GetS or a GetM is answered
 abbrev pub answered_owner : Bool → ℕ → Option ℕ → Option ℕ
@@ -207,7 +209,7 @@ pub record Arrives (p : Protocol) (n : ℕ) (flat : List ℕ) (before after : Pi
   pub clean : is_clean row.next ≡ true → (g.claims.fresh ≡ true) × (is_get_m o.request ≡ false)
   pub fills : fills_store row.action ≡ is_get_m o.request
 
-arrive : (p : Protocol) (n : ℕ) (flat : List ℕ) (before after : Picture) (o : Open) (g : BlockInvariant p n flat before) (f : Found p n flat before after o g) (row : CacheCell) → before.transaction ≡ Some o → is_put_m o.request ≡ false → row_of p (held_by before o.core).state (arrival o.payload) ≡ Some row → Arrives p n flat before after o g f row
+arrive : (p : Protocol) (n : ℕ) (flat : List ℕ) (before after : Picture) (o : Open) (g : BlockInvariant p n flat before) (f : Found p n flat before after o g) (row : CacheCell) → before.transaction ≡ Some o → is_put_m o.request ≡ false → row_for p (held_by before o.core).state (arrival o.payload) ≡ Some row → Arrives p n flat before after o g f row
 arrive p n flat before after o g f row was_open no_put is_row =
     let c = o.core in
     let s = (held_by before c).state in
@@ -231,106 +233,100 @@ arrive p n flat before after o g f row was_open no_put is_row =
     }
 
 -- what a fill leaves: the state, the kept value, and the flat value
-pub record Filled (flat : List ℕ) (row : CacheCell) (v : List ℕ) (new : Line) (made : Option Done) : Type 0 where
+pub record Filled (flat : List ℕ) (row : CacheCell) (new : Line) (did : Option Did) : Type 0 where
   pub state : new.state ≡ row.next
-  pub kept : new.kept ≡ Some (flat_after flat made)
-  pub lawful : IsLawful flat made
-  pub load_keeps : fills_store row.action ≡ false → flat_after flat made ≡ flat
+  pub kept : new.kept ≡ Some (flat_after flat did)
+  pub lawful : IsLawful flat did
+  pub load_keeps : fills_store row.action ≡ false → flat_after flat did ≡ flat
 
-fill : (flat : List ℕ) (a : CacheAction) (next : CacheState) (v : List ℕ) (old new : Line) (made : Option Done) → v ≡ flat → Fills a next v old new made → Filled flat (record { action = a; next = next }) v new made
-fill flat action.FillLoad next v old new made v_flat did = record {
-  state = ap (λ (x : Line). x.state) did.1;
-  kept = ap (λ (x : Line). x.kept) did.1 ∙ rw did.2 (ap (λ (x : List ℕ). Some x) v_flat);
-  lawful = rw did.2 (ap (λ (x : List ℕ). word_at x did.0) v_flat);
-  load_keeps = λ h. rw did.2 refl;
-}
-fill flat action.FillStore next v old new made v_flat did = record {
-  state = ap (λ (x : Line). x.state) did.3;
-  kept = ap (λ (x : Line). x.kept) did.3 ∙ rw did.4 (ap (λ (x : List ℕ). Some (slice_set x did.0 did.1)) v_flat);
-  lawful = rw did.4 tt;
-  load_keeps = λ h. cc;
-}
-fill flat action.None next v old new made v_flat did = absurd did
-fill flat action.Hit next v old new made v_flat did = absurd did
-fill flat action.Stall next v old new made v_flat did = absurd did
-fill flat (action.Issue r) next v old new made v_flat did = absurd did
-fill flat action.Drop next v old new made v_flat did = absurd did
-fill flat (action.Send pl t) next v old new made v_flat did = absurd did
+-- the words that the operation leaves are those in flat memory after it
+module _ (flat : List ℕ) (log : List Item) (core block word value : ℕ) (came after : List ℕ) where
+  abbrev done : Op → Option Did
+  done asking = Some (next_did log core block word asking value false)
 
--- what a fill leaves is proper
-fill_proper : (p : Protocol) (s : CacheState) (e : CacheEvent) (a : CacheAction) (next : CacheState) (v : List ℕ) (old new : Line) (made : Option Done) → Cell p s e a next → Fills a next v old new made → IsProper new
-fill_proper p s e action.FillLoad next v old new made row did = subst IsProper (sym did.1) (IsProper-fill p s e action.FillLoad next op.Load v tt row)
-fill_proper p s e action.FillStore next v old new made row did = subst IsProper (sym did.3) (IsProper-fill p s e action.FillStore next (op.Store did.1) (slice_set v did.0 did.1) tt row)
-fill_proper p s e action.None next v old new made row did = absurd did
-fill_proper p s e action.Hit next v old new made row did = absurd did
-fill_proper p s e action.Stall next v old new made row did = absurd did
-fill_proper p s e (action.Issue r) next v old new made row did = absurd did
-fill_proper p s e action.Drop next v old new made row did = absurd did
-fill_proper p s e (action.Send pl t) next v old new made row did = absurd did
+  filled_words : (a : CacheAction) (asking : Op) → came ≡ flat → IsFillFor a asking → Performs word asking came value after → (after ≡ flat_after flat (done asking)) × IsLawful flat (done asking) × (fills_store a ≡ false → flat_after flat (done asking) ≡ flat)
+  filled_words action.FillLoad op.Load same fill did = (did.1 ∙ same, λ h. did.0 ∙ ap (λ (ws : List ℕ). word_at ws word) same, λ h. refl)
+  filled_words action.FillStore (op.Store stored) same fill did = (did.1 ∙ (ap (λ (ws : List ℕ). slice_set ws word stored) same ∙ ap (λ (v : ℕ). slice_set flat word v) (sym did.0)), λ h. cc, λ h. cc)
+  filled_words _ _ same fill did = absurd fill
 
-arrival_proper : (p : Protocol) (s : CacheState) (e : Option CacheEvent) (row : CacheCell) (v : List ℕ) (old new : Line) (made : Option Done) → row_of p s e ≡ Some row → Fills row.action row.next v old new made → IsProper new
-arrival_proper p s None row v old new made is_row did = cc
-arrival_proper p s (Some e) row v old new made is_row did = fill_proper p s e row.action row.next v old new made (Cell-found p s e row is_row) did
+fill : (flat : List ℕ) (p : Protocol) (o : Open) (log : List Item) (old new : Line) (asking : Access) (value : ℕ) (did : Option Did) (f : Fills o p old new asking value) → o.value ≡ flat → did ≡ Some (next_did log o.core o.block asking.word asking.op value false) → Filled flat f.row new did
+fill flat p o log old new asking value did f same logged =
+    let words = filled_words flat log o.core o.block asking.word value o.value f.after f.row.action asking.op same f.fill f.performed in
+    rw logged (record { state = ap (λ (x : Line). x.state) f.held; kept = ap (λ (x : Line). x.kept) f.held ∙ ap (λ (ws : List ℕ). Some ws) words.0; lawful = words.1; load_keeps = words.2 })
 
 -- the end of a GetS or a GetM
-respond_get : (p : Protocol) (n : ℕ) (flat : List ℕ) (before after : Picture) (made : Option Done) (g : BlockInvariant p n flat before) (r : Responds p n before after made) → is_put_m r.opened.request ≡ false → (row : CacheCell) → row_of p (held_by before r.opened.core).state (arrival r.opened.payload) ≡ Some row → Fills row.action row.next r.opened.value (held_by before r.opened.core) (held_by after r.opened.core) made → ((d : ℕ) → d < n → d ≢ r.opened.core → held_by after d ≡ held_by before d) → BlockInvariant p n (flat_after flat made) after × IsLawful flat made
-respond_get p n flat before after made g r no_put row is_row fills others =
-    let f = find p n flat before after made g r in
-    let o = r.opened in
+respond_get : (p : Protocol) (n : ℕ) (flat : List ℕ) (before after : Picture) (o : Open) (g : BlockInvariant p n flat before) → before.transaction ≡ Some o → ArrivesAtMemory o p before.memory after.memory → after.transaction ≡ None → is_put_m o.request ≡ false
+    → (log : List Item) (asking : Access) (value : ℕ) (did : Option Did) → Fills o p (held_by before o.core) (held_by after o.core) asking value → did ≡ Some (next_did log o.core o.block asking.word asking.op value false)
+    → ((d : ℕ) → d ≢ o.core → held_by after d ≡ held_by before d) → BlockInvariant p n (flat_after flat did) after × IsLawful flat did
+respond_get p n flat before after o g was_open arrives closes no_put log asking value did fills logged others =
+    let f = find p n flat before after o g was_open arrives in
     let c = o.core in
     let gained = gains o.request o.payload in
-    let a = arrive p n flat before after o g f row r.was_open no_put is_row in
+    let a = arrive p n flat before after o g f fills.row was_open no_put (ap (row_for p (held_by before c).state) fills.arrives ∙ fills.is_row) in
     let carries : carries_value o.payload ≡ true = right_of (is_put_m o.request) (carries_value o.payload) (respond_rule RespondTests.data_of_get RespondTests.data_of_get_holds p before.memory.state o.request o.payload g.claims f.is_claims) no_put in
-    let l = fill flat row.action row.next o.value (held_by before c) (held_by after c) made (f.carried carries) fills in
+    let l = fill flat p o log (held_by before c) (held_by after c) asking value did fills (f.carried carries) logged in
     let fit : (d : ℕ) → d < n → d ≢ c → fits p g.claims.shared (owns g.owner d) None (held_by before d).state ≡ true = λ d d_in apart.
-    let waits : awaited before.transaction d ≡ None = ap (λ (t : Option Open). awaited t d) r.was_open ∙ rw (not_eqb d c apart) refl in
+    let waits : awaited before.transaction d ≡ None = ap (λ (t : Option Open). awaited t d) was_open ∙ rw (not_eqb d c apart) refl in
     ap (λ (w : Option Request). fits p g.claims.shared (owns g.owner d) w (held_by before d).state) (sym waits) ∙ g.states d d_in in
     let alone = after_rule RespondTests.gain_alone RespondTests.gain_alone_holds p before.memory.state o.request o.payload g.claims after.memory.state f.next f.is_claims f.is_memory f.is_next in
     -- the flat value is as before, or no other core may read and memory isn't fresh
-    let same_flat : is_get_m o.request ≡ false → flat_after flat made ≡ flat = λ h. l.load_keeps (a.fills ∙ h) in
-    let good : BlockInvariant p n (flat_after flat made) after = record {
+    let same_flat : is_get_m o.request ≡ false → flat_after flat did ≡ flat = λ h. l.load_keeps (a.fills ∙ h) in
+    let good : BlockInvariant p n (flat_after flat did) after = record {
       claims = f.next;
-      is_claims = ap (λ (t : Option Open). claims_of p after.memory.state (talk_of t)) r.closes ∙ f.is_next;
+      is_claims = ap (λ (t : Option Open). claims_of p after.memory.state (talk_of t)) closes ∙ f.is_next;
       owner = answered_owner gained c g.owner;
       owner_in = answered_in gained c g.owner n f.requestor_in g.owner_in;
       is_owned = answered_owned gained g.claims.owned c g.owner g.is_owned ∙ sym f.owned;
-      states = λ d d_in. ap (λ (t : Option Open). fits p f.next.shared (owns (answered_owner gained c g.owner) d) (awaited t d) (held_by after d).state) r.closes ∙ elim (eqb_tells d c) as (λ _. fits p f.next.shared (owns (answered_owner gained c g.owner) d) None (held_by after d).state ≡ true) [
+      states = λ d d_in. ap (λ (t : Option Open). fits p f.next.shared (owns (answered_owner gained c g.owner) d) (awaited t d) (held_by after d).state) closes ∙ elim (eqb_tells d c) as (λ _. fits p f.next.shared (owns (answered_owner gained c g.owner) d) None (held_by after d).state ≡ true) [
         | inl h ↦ ap (λ (x : ℕ). fits p f.next.shared (owns (answered_owner gained c g.owner) x) None (held_by after x).state) h.1 ∙ (ap (λ (b : Bool). fits p f.next.shared b None (held_by after c).state) (owns_answered_self gained c g.owner a.not_owner) ∙ (ap (fits p f.next.shared gained None) l.state ∙ a.fit))
-        | inr h ↦ ap (λ (b : Bool). fits p f.next.shared b None (held_by after d).state) (owns_answered_other gained g.claims.owned c d g.owner h.1 g.is_owned alone) ∙ (ap (λ (x : Line). fits p f.next.shared (owns g.owner d) None x.state) (others d d_in h.1) ∙ stays_fits p n flat before after o g f d d_in (fit d d_in h.1))
+        | inr h ↦ ap (λ (b : Bool). fits p f.next.shared b None (held_by after d).state) (owns_answered_other gained g.claims.owned c d g.owner h.1 g.is_owned alone) ∙ (ap (λ (x : Line). fits p f.next.shared (owns g.owner d) None x.state) (others d h.1) ∙ stays_fits p n flat before after o g f d d_in (fit d d_in h.1))
       ];
-      kept = λ d d_in h. elim (eqb_tells d c) as (λ _. (held_by after d).kept ≡ Some (flat_after flat made)) [
+      kept = λ d d_in h. elim (eqb_tells d c) as (λ _. (held_by after d).kept ≡ Some (flat_after flat did)) [
         | inl e ↦ ap (λ (x : ℕ). (held_by after x).kept) e.1 ∙ l.kept
-        | inr e ↦ elim (or_not (is_get_m o.request)) as (λ _. (held_by after d).kept ≡ Some (flat_after flat made)) [
-          | inl m ↦ absurd (clash (keeps (held_by before d).state) (ap (λ (x : Line). keeps x.state) (sym (others d d_in e.1)) ∙ h) (stays_blind p n flat before after o g f m d d_in (fit d d_in e.1)))
-          | inr m ↦ carried_kept (held_by before d) (held_by after d) flat (carried_same (held_by before d) (held_by after d) (others d d_in e.1)) (g.kept d d_in) h ∙ ap (λ (x : List ℕ). Some x) (sym (same_flat m))
+        | inr e ↦ elim (or_not (is_get_m o.request)) as (λ _. (held_by after d).kept ≡ Some (flat_after flat did)) [
+          | inl m ↦ absurd (clash (keeps (held_by before d).state) (ap (λ (x : Line). keeps x.state) (sym (others d e.1)) ∙ h) (stays_blind p n flat before after o g f m d d_in (fit d d_in e.1)))
+          | inr m ↦ carried_kept (held_by before d) (held_by after d) flat (carried_same (held_by before d) (held_by after d) (others d e.1)) (g.kept d d_in) h ∙ ap (λ (x : List ℕ). Some x) (sym (same_flat m))
         ]
       ];
-      clean = λ d d_in h. elim (eqb_tells d c) as (λ _. after.memory.value ≡ flat_after flat made) [
+      clean = λ d d_in h. elim (eqb_tells d c) as (λ _. after.memory.value ≡ flat_after flat did) [
         | inl e ↦
             let k = a.clean (ap is_clean (sym l.state) ∙ (ap (λ (x : ℕ). is_clean (held_by after x).state) (sym e.1) ∙ h)) in
             f.stays (g.fresh k.0) ∙ sym (same_flat k.1)
         | inr e ↦
-            let was : is_clean (held_by before d).state ≡ true = ap (λ (x : Line). is_clean x.state) (sym (others d d_in e.1)) ∙ h in
-            elim (or_not (is_get_m o.request)) as (λ _. after.memory.value ≡ flat_after flat made) [
+            let was : is_clean (held_by before d).state ≡ true = ap (λ (x : Line). is_clean x.state) (sym (others d e.1)) ∙ h in
+            elim (or_not (is_get_m o.request)) as (λ _. after.memory.value ≡ flat_after flat did) [
               | inl m ↦ absurd (clash (keeps (held_by before d).state) (clean_reads (held_by before d).state was) (stays_blind p n flat before after o g f m d d_in (fit d d_in e.1)))
               | inr m ↦ f.stays (g.clean d d_in was) ∙ sym (same_flat m)
             ]
       ];
       fresh = λ h. (f.refreshed h).1 ∙ sym (same_flat (f.refreshed h).0);
-      carried = λ x is_x. absurd (none_some x (sym r.closes ∙ is_x));
-      requestor_in = λ x is_x. absurd (none_some x (sym r.closes ∙ is_x));
+      carried = λ x is_x. absurd (none_some x (sym closes ∙ is_x));
+      requestor_in = λ x is_x. absurd (none_some x (sym closes ∙ is_x));
       proper = λ d d_in. elim (eqb_tells d c) as (λ _. IsProper (held_by after d)) [
-        | inl h ↦ subst (λ (x : ℕ). IsProper (held_by after x)) (sym h.1) (arrival_proper p (held_by before c).state (arrival o.payload) row o.value (held_by before c) (held_by after c) made is_row fills)
-        | inr h ↦ subst IsProper (sym (others d d_in h.1)) (g.proper d d_in)
+        | inl h ↦ subst (λ (x : ℕ). IsProper (held_by after x)) (sym h.1) (subst IsProper (sym fills.held) (IsProper-fill p (held_by before c).state fills.event fills.row.action fills.row.next asking.op fills.after fills.fill fills.is_row))
+        | inr h ↦ subst IsProper (sym (others d h.1)) (g.proper d d_in)
       ];
     } in
     (good, l.lawful)
 
 -- a Respond keeps the invariant of a picture, and a load that it performs gives the flat value
-pub respond_keeps : (p : Protocol) (n : ℕ) (flat : List ℕ) (before after : Picture) (made : Option Done) → BlockInvariant p n flat before → Responds p n before after made → BlockInvariant p n (flat_after flat made) after × IsLawful flat made
-respond_keeps p n flat before after made g r =
-    let step : (b : Bool) → is_put_m r.opened.request ≡ b → RequestorTakes b p n before r.opened after made → BlockInvariant p n (flat_after flat made) after × IsLawful flat made = λ b. elim b as (λ x. is_put_m r.opened.request ≡ x → RequestorTakes x p n before r.opened after made → BlockInvariant p n (flat_after flat made) after × IsLawful flat made) [
-      | true ↦ λ e t. respond_put p n flat before after made g r e t.0 t.1
-      | false ↦ λ e t. respond_get p n flat before after made g r e t.0 t.1 t.2 t.3
-    ] in
-    step (is_put_m r.opened.request) refl r.requestor
+module _ (s : Situation) (block : ℕ) (closing : Open) (did : Option Did) (new : Situation) (r : Responds s block closing did new) (n : ℕ) (flat : List ℕ) (g : BlockInvariant s.protocol n flat (picture_of s block)) (in_row : closing.core < length (picture_of s block).caches) where
+  abbrev before : Picture
+  before = picture_of s block
+
+  answered : is_put_m closing.request ≡ false → FillsRequestor closing s.protocol s.log before.caches r.next.caches did → BlockInvariant s.protocol n (flat_after flat did) r.next × IsLawful flat did
+  answered no_put f =
+      let here : held_by r.next closing.core ≡ f.line = ap (λ (x : List Line). held_at x closing.core) f.held ∙ get_or-set_same before.caches closing.core f.line nothing_held in_row in
+      let fills : Fills closing s.protocol (held_by before closing.core) (held_by r.next closing.core) f.asking f.value = subst (λ (x : Line). Fills closing s.protocol (held_by before closing.core) x f.asking f.value) (sym here) f.fills in
+      respond_get s.protocol n flat before r.next closing g r.opened r.memory r.closed no_put s.log f.asking f.value did fills f.logged
+      (λ d apart. ap (λ (x : List Line). held_at x d) f.held ∙ get_or-set_other before.caches closing.core d f.line nothing_held apart)
+
+  by_request : (q : Request) → closing.request ≡ q → ArrivesFor q closing s.protocol s.log before.caches r.next.caches did → BlockInvariant s.protocol n (flat_after flat did) r.next × IsLawful flat did
+  by_request request.PutM is a =
+      let good = respond_put s.protocol n flat before r.next closing g r.opened r.memory r.closed (ap is_put_m is) (λ d. ap (λ (x : List Line). held_at x d) a.0) in
+      rw a.1 (good, tt)
+  by_request request.GetS is a = answered (ap is_put_m is) a
+  by_request request.GetM is a = answered (ap is_put_m is) a
+
+  pub respond_keeps : BlockInvariant s.protocol n (flat_after flat did) r.next × IsLawful flat did
+  respond_keeps = by_request closing.request refl r.requestor

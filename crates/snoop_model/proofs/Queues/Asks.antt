@@ -176,4 +176,4 @@ module _ (s : Situation) (kept : IsWellKept s) (core block word : ℕ) (asking :
 pub kept_asks : (s t : Situation) (core block word : ℕ) (asking : Op) (answer : Reply) (entry : Option Item) → IsWellKept s → IsWithin s core block → Asks s core block word asking answer t entry → IsWellKept t
 kept_asks s t core block word asking answer entry kept within asks =
     let P : Situation → Type 0 = λ x. IsWellKept x in
-    subst P (sym asks.after) (kept_taken s kept core block word asking within.0 within.1 asks.held asks.next answer entry _ asks.act asks.row asks.taken)
+    subst P (sym asks.after) (kept_taken s kept core block word asking within.0 within.1 asks.held asks.row.next answer entry _ asks.row.action asks.is_row asks.taken)

@@ -24,14 +24,14 @@ use Rattle.snoop_model.proofs.Queues.Orders.{kept_orders}
 use Rattle.snoop_model.proofs.Queues.Responds.{kept_responds}
 
 pub keeps_well : KeepsWell
-keeps_well s t (Ask core on word asking) answer entry kept move = elim move.1.1.2 [
+keeps_well s t (Ask core on word asking) answer entry kept move = elim move.1.1.moves [
   | inl absent ↦ (let P : Situation → Type 0 = λ x. IsWellKept x in subst P (sym absent.3) kept)
-  | inr asks ↦ kept_asks s t core move.0 word asking answer entry kept move.1.1.1 asks
+  | inr asks ↦ kept_asks s t core move.0 word asking answer entry kept move.1.1.within asks
 ]
 keeps_well s t (Order core) answer entry kept move =
-    kept_orders s t kept core move.0 move.1.1.0 move.1.1.1.0.0 move.1.1.1.0.1 move.1.1.1.3
+    kept_orders s t kept core move.0 move.1.1.request move.1.1.within.0 move.1.1.within.1 move.1.1.orders
 keeps_well s t (Respond on) answer entry kept move =
-    kept_responds s t kept move.0 move.1.1.0 move.1.1.1.0 move.1.1.1.1.1 move.1.1.1.1.4
+    kept_responds s t kept move.0 move.1.1.closing move.1.1.did move.1.1.within move.1.1.responds
 
 module _ (protocol : Protocol) (shape : Extent) where
   line_is : (k b : ℕ) → held_by (picture_of (reset protocol shape) b) k ≡ nothing_held

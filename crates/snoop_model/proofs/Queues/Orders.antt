@@ -72,27 +72,27 @@ module _ (s t : Situation) (kept : IsWellKept s) (core block : ℕ) (request : R
   open_elsewhere b ne = ap (λ (x : Situation). (picture_of x b).transaction) orders.after ∙ get_or-set_other s.transactions block b orders.next.transaction None ne
 
   -- a core that there is takes its row, and past them nothing is held
-  row_or_past : (k : ℕ) → (k < length orders.next.caches) ⊎ ((held_by (picture_of t block) k ≡ nothing_held) × (held_by (picture_of s block) k ≡ nothing_held))
-  row_or_past k = elim (cases_lt k (length orders.next.caches)) [
+  row_or_past : (k : ℕ) → (k < length (picture_of s block).caches) ⊎ ((held_by (picture_of t block) k ≡ nothing_held) × (held_by (picture_of s block) k ≡ nothing_held))
+  row_or_past k = elim (cases_lt k (length (picture_of s block).caches)) [
     | inl lt ↦ inl lt
     | inr ge ↦
-        (let same = orders.caches in
-        inr (line_here k ∙ get_or_past orders.next.caches k nothing_held ge, get_or_past (picture_of s block).caches k nothing_held (omega arith)))
+        (let same = orders.taken.same_length in
+        inr (line_here k ∙ get_or_past orders.next.caches k nothing_held (omega arith), get_or_past (picture_of s block).caches k nothing_held ge))
   ]
 
   waits_other : (k : ℕ) → (k ≡ core → ⊥) → waiting_request (state_of t k block) ≡ waiting_request (state_of s k block)
   waits_other k ne = elim (row_or_past k) [
     | inl lt ↦
-        (let row = orders.rows k lt in
-        ap (λ (x : Line). waiting_request x.state) (line_here k ∙ row.1.1.1) ∙ other-waits s.protocol (state_of s k block) k core request row.0 row.1.0 ne row.1.1.0)
+        (let row = orders.taken.rows k lt in
+        ap (λ (x : Line). waiting_request x.state) (line_here k ∙ row.2) ∙ other-waits s.protocol (state_of s k block) k core request row.0.action row.0.next ne row.1)
     | inr past ↦ ap (λ (x : Line). waiting_request x.state) (past.0 ∙ sym past.1)
   ]
 
   own_row : TakesRow s.protocol (seen_by core core request) (held_by (picture_of s block) core) (held_by orders.next core)
-  own_row = orders.rows core (let a = orders.caches in let b = kept.shaped.row block has_block in omega arith)
+  own_row = orders.taken.rows core (let b = kept.shaped.row block has_block in omega arith)
 
   waits_own : waiting_request (state_of t core block) ≡ None
-  waits_own = ap (λ (x : Line). waiting_request x.state) (line_here core ∙ own_row.1.1.1) ∙ own-waits s.protocol (state_of s core block) core request own_row.0 own_row.1.0 own_row.1.1.0
+  waits_own = ap (λ (x : Line). waiting_request x.state) (line_here core ∙ own_row.2) ∙ own-waits s.protocol (state_of s core block) core request own_row.0.action own_row.0.next own_row.1
 
   -- a wait elsewhere, or of another core, is as it was
   waits_same : (k b : ℕ) → ((k ≡ core) × (b ≡ block)) ⊎ (waiting_request (state_of t k b) ≡ waiting_request (state_of s k b))
@@ -131,15 +131,15 @@ module _ (s t : Situation) (kept : IsWellKept s) (core block : ℕ) (request : R
   awaits_here : (k : ℕ) (q : Request) → awaited_request (state_of t k block) ≡ Some q → HasOpen t k block q
   awaits_here k q h = elim (cases_eq k core) [
     | inl e ↦
-        (let here : awaited_request own_row.1.0 ≡ Some q =
-        ap (λ (x : Line). awaited_request x.state) (sym (line_here core ∙ own_row.1.1.1)) ∙ (ap (λ j. awaited_request (state_of t j block)) (sym e) ∙ h) in
-        let its : q ≡ request = awaited-own s.protocol (state_of s core block) core request q own_row.0 own_row.1.0 own_row.1.1.0 here in
+        (let here : awaited_request own_row.0.next ≡ Some q =
+        ap (λ (x : Line). awaited_request x.state) (sym (line_here core ∙ own_row.2)) ∙ (ap (λ j. awaited_request (state_of t j block)) (sym e) ∙ h) in
+        let its : q ≡ request = awaited-own s.protocol (state_of s core block) core request q own_row.0.action own_row.0.next own_row.1 here in
         (_, (open_here ∙ orders.opened, sym e, sym its)))
     | inr ne ↦
         (let none : awaited_request (state_of t k block) ≡ None = elim (row_or_past k) [
           | inl lt ↦
-              (let row = orders.rows k lt in
-              ap (λ (x : Line). awaited_request x.state) (line_here k ∙ row.1.1.1) ∙ awaited-other s.protocol (state_of s k block) k core request row.0 row.1.0 ne row.1.1.0)
+              (let row = orders.taken.rows k lt in
+              ap (λ (x : Line). awaited_request x.state) (line_here k ∙ row.2) ∙ awaited-other s.protocol (state_of s k block) k core request row.0.action row.0.next ne row.1)
           | inr past ↦ ap (λ (x : Line). awaited_request x.state) past.0
         ] in
         let clash : ◌≡◌ {A = Option Request} None (Some q) = sym none ∙ h in
@@ -149,10 +149,10 @@ module _ (s t : Situation) (kept : IsWellKept s) (core block : ℕ) (request : R
   missed_here : (k : ℕ) (access : Access) → (held_by (picture_of t block) k).waiting ≡ Some access → has_missed (state_of t k block) ≡ true
   missed_here k access h = elim (row_or_past k) [
     | inl lt ↦
-        (let row = orders.rows k lt in
-        let is = line_here k ∙ row.1.1.1 in
+        (let row = orders.taken.rows k lt in
+        let is = line_here k ∙ row.2 in
         ap (λ (x : Line). has_missed x.state) is
-        ∙ missed-ordered s.protocol (state_of s k block) k core request row.0 row.1.0 row.1.1.0 (kept.operations k block access (sym (ap (λ (x : Line). x.waiting) is) ∙ h)))
+        ∙ missed-ordered s.protocol (state_of s k block) k core request row.0.action row.0.next row.1 (kept.operations k block access (sym (ap (λ (x : Line). x.waiting) is) ∙ h)))
     | inr past ↦ (let clash : ◌≡◌ {A = Option Access} None (Some access) = sym (ap (λ (x : Line). x.waiting) past.0) ∙ h in cc)
   ]
 
@@ -161,7 +161,7 @@ module _ (s t : Situation) (kept : IsWellKept s) (core block : ℕ) (request : R
     shaped = record {
       rows = ap (λ (x : Situation). length x.caches) orders.after ∙ (length-set s.caches block orders.next.caches ∙ (kept.shaped.rows ∙ ap (λ (x : Situation). x.shape.blocks) (sym orders.after)));
       row = λ b h. elim (cases_eq b block) [
-        | inl e ↦ rw e (ap length new_row ∙ (orders.caches ∙ (kept.shaped.row block has_block ∙ ap (λ (x : Situation). x.shape.cores) (sym orders.after))))
+        | inl e ↦ rw e (ap length new_row ∙ (orders.taken.same_length ∙ (kept.shaped.row block has_block ∙ ap (λ (x : Situation). x.shape.cores) (sym orders.after))))
         | inr ne ↦
             (let P : Situation → Type 0 = λ x. b < x.shape.blocks in
             ap (λ (x : Situation). length (slice_index_or x.caches b [])) orders.after

@@ -39,7 +39,7 @@ module _ (closing : Open) (p : Protocol) (log : List Item) (old new : List Line)
   fills_waits k = elim (filled_or_same k) [
     | inl e ↦
         ap (λ (x : Line). waiting_request x.state) (e.1 ∙ fills.fills.held)
-        ∙ (fill-waits p (held_at old closing.core).state fills.fills.event fills.fills.act fills.fills.next fills.asking.op fills.fills.fill fills.fills.row ∙ ap (λ j. waiting_request (held_at old j).state) (sym e.0))
+        ∙ (fill-waits p (held_at old closing.core).state fills.fills.event fills.fills.row.action fills.fills.row.next fills.asking.op fills.fills.fill fills.fills.is_row ∙ ap (λ j. waiting_request (held_at old j).state) (sym e.0))
     | inr e ↦ ap (λ (x : Line). waiting_request x.state) e
   ]
 
@@ -49,7 +49,7 @@ module _ (closing : Open) (p : Protocol) (log : List Item) (old new : List Line)
     | inl lt ↦
         ap (λ l. awaited_request (held_at l closing.core).state) fills.held
         ∙ (ap (λ (x : Line). awaited_request x.state) (get_or-set_same old closing.core fills.line nothing_held lt ∙ fills.fills.held)
-        ∙ awaited-filled p (held_at old closing.core).state closing.payload fills.fills.event fills.fills.act fills.fills.next fills.fills.arrives fills.fills.row)
+        ∙ awaited-filled p (held_at old closing.core).state closing.payload fills.fills.event fills.fills.row.action fills.fills.row.next fills.fills.arrives fills.fills.is_row)
     | inr ge ↦
         (let long = length-set old closing.core fills.line in
         let same : length new ≡ length old = ap length fills.held ∙ long in

@@ -114,12 +114,12 @@ issued old new c b q within queues was is others core block =
 
 ask_queued : (old : Situation) (c b word : ℕ) (asking : Op) (answer : Reply) (new : Situation) (entry : Option Item) → Invariant old → AreQueued old → IsWithin old c b → Asks old c b word asking answer new entry → AreQueued new
 ask_queued old c b word asking answer new entry g q within a =
-    let queues : new.queues ≡ queues_after a.act old.queues c b = ap (λ (s : Situation). s.queues) a.after in
+    let queues : new.queues ≡ queues_after a.row.action old.queues c b = ap (λ (s : Situation). s.queues) a.after in
     let in_queues : c < length old.queues = subst (λ (n : ℕ). c < n) (sym g.shaped.queues) within.0 in
     let line = ask_line old c b word asking answer new entry g within a in
     let others = λ (core block : ℕ). others_waits old new c b core block (ask_other_core old c b word asking answer new entry g within a) (ask_other_block old c b word asking answer new entry g within a) in
     let here : (x : ℕ) → waits a.held.state ≡ x → waits (state_of new c b) ≡ x = λ x e. ap (λ (y : Line). waits y.state) line ∙ e in
-    elim (ask_waits old.protocol a.act a.next old.log c b word asking (held_by (picture_of old b) c) a.held answer entry old.queues a.row a.taken) [
+    elim (ask_waits old.protocol a.row.action a.row.next old.log c b word asking (held_by (picture_of old b) c) a.held answer entry old.queues a.is_row a.taken) [
       | inl i ↦ issued old new c b q in_queues (queues ∙ i.0) i.1.0 (here 1 i.1.1) others
       | inr i ↦ left_alone old new q (queues ∙ i.0) (λ core block. elim (others core block) [
         | inr e ↦ e
@@ -131,21 +131,21 @@ ask_queued old c b word asking answer new entry g q within a =
 
 -- who waits after an Order: its core no longer, the others as before
 order_waits : (old : Situation) (c b : ℕ) (q : Request) (new : Situation) (o : Orders old c b q new) (k : ℕ) → waits (held_by o.next k).state ≡ cond (eqb k c) 0 (waits (held_by (picture_of old b) k).state)
-order_waits old c b q new o k = elim (cases_lt k (length o.next.caches)) [
+order_waits old c b q new o k = elim (cases_lt k (length (picture_of old b).caches)) [
   | inl inside ↦
-      let row = o.rows k inside in
-      let state : waits (held_by o.next k).state ≡ waits row.1.0 = ap (λ (x : Line). waits x.state) row.1.1.1 in
+      let row = o.taken.rows k inside in
+      let state : waits (held_by o.next k).state ≡ waits row.0.next = ap (λ (x : Line). waits x.state) row.2 in
       elim (eqb_tells k c) as (λ _. waits (held_by o.next k).state ≡ cond (eqb k c) 0 (waits (held_by (picture_of old b) k).state)) [
         | inl h ↦
-            let P : ℕ → Type 0 = λ x. Cell old.protocol (held_by (picture_of old b) x).state (seen_by x c q) row.0 row.1.0 in
-            let own = own-waits old.protocol (held_by (picture_of old b) c).state c q row.0 row.1.0 (subst P h.1 row.1.1.0) in
+            let P : ℕ → Type 0 = λ x. Cell old.protocol (held_by (picture_of old b) x).state (seen_by x c q) row.0.action row.0.next in
+            let own = own-waits old.protocol (held_by (picture_of old b) c).state c q row.0.action row.0.next (subst P h.1 row.1) in
             rw h.0 (state ∙ ap (λ (x : Option Request). one_if (is_some x)) own)
-        | inr h ↦ rw h.0 (state ∙ same_waits row.1.0 (held_by (picture_of old b) k).state (other-waits old.protocol (held_by (picture_of old b) k).state k c q row.0 row.1.0 h.1 row.1.1.0))
+        | inr h ↦ rw h.0 (state ∙ same_waits row.0.next (held_by (picture_of old b) k).state (other-waits old.protocol (held_by (picture_of old b) k).state k c q row.0.action row.0.next h.1 row.1))
       ]
   | inr past ↦
-      let long = o.caches in
-      let e : waits (held_by o.next k).state ≡ 0 = ap (λ (x : Line). waits x.state) (get_or_past o.next.caches k nothing_held past) in
-      let f : waits (held_by (picture_of old b) k).state ≡ 0 = ap (λ (x : Line). waits x.state) (get_or_past (picture_of old b).caches k nothing_held (omega arith)) in
+      let long = o.taken.same_length in
+      let e : waits (held_by o.next k).state ≡ 0 = ap (λ (x : Line). waits x.state) (get_or_past o.next.caches k nothing_held (omega arith)) in
+      let f : waits (held_by (picture_of old b) k).state ≡ 0 = ap (λ (x : Line). waits x.state) (get_or_past (picture_of old b).caches k nothing_held past) in
       e ∙ (either_way (eqb k c) 0 ∙ ap (λ (n : ℕ). cond (eqb k c) 0 n) (sym f))
 ]
 
@@ -180,7 +180,7 @@ fills_waits closing p log old new did inside f k =
           let P : ℕ → Type 0 = λ x. waits (held_at (slice_set old closing.core f.line) x).state ≡ waits (held_at old x).state in
           let here : waits (held_at (slice_set old closing.core f.line) closing.core).state ≡ waits (held_at old closing.core).state =
           ap (λ (x : Line). waits x.state) (get_or-set_same old closing.core f.line nothing_held inside ∙ f.fills.held)
-          ∙ same_waits f.fills.next (held_at old closing.core).state (fill-waits p (held_at old closing.core).state f.fills.event f.fills.act f.fills.next f.asking.op f.fills.fill f.fills.row) in
+          ∙ same_waits f.fills.row.next (held_at old closing.core).state (fill-waits p (held_at old closing.core).state f.fills.event f.fills.row.action f.fills.row.next f.asking.op f.fills.fill f.fills.is_row) in
           ap (λ (x : Line). waits x.state) now ∙ subst P (sym h.1) here
     ]
 
@@ -201,12 +201,12 @@ respond_queued old b closing did new g q within r =
 
 -- a move keeps the queues
 pub move_queued : (block : ℕ) (old : Situation) (step : Step) (answer : Reply) (new : Situation) (entry : Option Item) → Invariant old → AreQueued old → MoveOn block old step answer new entry → AreQueued new
-move_queued block old (Ask core on word asking) answer new entry g q m = elim m.2 as (λ _. AreQueued new) [
+move_queued block old (Ask core on word asking) answer new entry g q m = elim m.moves as (λ _. AreQueued new) [
   | inl idle ↦ subst AreQueued (sym idle.3) q
-  | inr a ↦ ask_queued old core block word asking answer new entry g q m.1 a
+  | inr a ↦ ask_queued old core block word asking answer new entry g q m.within a
 ]
-move_queued block old (Order core) answer new entry g q m = order_queued old core block m.0 new g q m.1.0 m.1.3
-move_queued block old (Respond on) answer new entry g q m = respond_queued old block m.0 m.1.0 new g q m.1.1.1 m.1.1.4
+move_queued block old (Order core) answer new entry g q m = order_queued old core block m.request new g q m.within m.orders
+move_queued block old (Respond on) answer new entry g q m = respond_queued old block m.closing m.did new g q m.within m.responds
 
 goes_queued : (old : Situation) (step : Step) (outcome : Result Reply Refused) (new : Situation) → Invariant old → AreQueued old → Goes old step outcome new → AreQueued new
 goes_queued old step (Ok answer) new g q m = move_queued m.1.0 old step answer new m.0 g q m.1.1

@@ -19,9 +19,11 @@ use Rattle.snoop_rules.specs.declared.names.MemState.{MemState}
 use Rattle.snoop_rules.specs.declared.names.Request.{Request}
 use Rattle.snoop_rules.specs.declared.names.Request.TheVariants as request
 use Rattle.snoop_rules.specs.declared.names.Payload.{Payload}
-use Rattle.snoop_rules.specs.Cell.{Cell}
+use Rattle.snoop_rules.specs.declared.names.CacheCell.{CacheCell}
+use Rattle.snoop_rules.specs.declared.names.MemCell.{MemCell}
+use Rattle.snoop_rules.specs.Cell.{cell_of}
 use Rattle.snoop_rules.specs.MemoryCell.{MemoryCell}
-use Rattle.snoop_rules.specs.Takers.{asked, at_memory, arrival_at_memory, takes_payload, seen_by}
+use Rattle.snoop_rules.specs.Takers.{asked, arrival_at_memory, takes_payload, seen_by}
 use Rattle.snoop_rules.proofs.Rows.{Cell-one}
 use Rattle.snoop_rules.proofs.MemRows.{MemoryCell-one}
 use Rattle.snoop_history.specs.declared.items.Did.{Did}
@@ -142,15 +144,15 @@ one_cause s kept (Respond block) c d h k = respond_causes s block c d (respond_c
 asks_no_stall : (s : Situation) (core block word : ℕ) (asking : Op) (answer : Reply) (new : Situation) (entry : Option Item) → IsAbsent s core block asking answer new entry ⊎ Asks s core block word asking answer new entry → ¬ IsStall s core block asking
 asks_no_stall s core block word asking answer new entry (inl absent) stall = no_row s.protocol (state_of s core block) asking action.Stall stall.0 absent.0 absent.1 stall.1
 asks_no_stall s core block word asking answer new entry (inr asks) stall =
-    let same = (Cell-one s.protocol (state_of s core block) (asked asking) asks.act action.Stall asks.next stall.0 asks.row stall.1).0 in
-    let P : CacheAction → Type 0 = λ act. Takes act asks.next s.log core block word asking (held_by (picture_of s block) core) asks.held answer entry in
+    let same = (Cell-one s.protocol (state_of s core block) (asked asking) asks.row.action action.Stall asks.row.next stall.0 asks.is_row stall.1).0 in
+    let P : CacheAction → Type 0 = λ act. Takes act asks.row.next s.log core block word asking (held_by (picture_of s block) core) asks.held answer entry in
     subst P same asks.taken
 
 -- the parts of an Ask's move
 ask_parts : (s : Situation) (core block word : ℕ) (asking : Op) (answer : Reply) (new : Situation) (entry : Option Item) → FirstMove s (Ask core block word asking) answer new entry → IsWithin s core block × (IsAbsent s core block asking answer new entry ⊎ Asks s core block word asking answer new entry) × HasWord s.shape word asking
 ask_parts s core block word asking answer new entry move =
     let P : ℕ → Type 0 = λ b. IsWithin s core b × (IsAbsent s core b asking answer new entry ⊎ Asks s core b word asking answer new entry) × HasWord s.shape word asking in
-    subst P (sym move.1.1.0) (move.1.1.1, move.1.1.2, move.1.1.3)
+    subst P (sym move.1.1.on_block) (move.1.1.within, move.1.1.moves, move.1.1.has_word)
 
 not_refused : (s : Situation) → IsWellKept s → (step : Step) (answer : Reply) (new : Situation) (entry : Option Item) (cause : Refused) → FirstMove s step answer new entry → ¬ Refuses s step cause
 not_refused s kept (Ask core block word asking) answer new entry cause move refused =
@@ -166,27 +168,27 @@ not_refused s kept (Ask core block word asking) answer new entry cause move refu
     ]
 not_refused s kept (Order core) answer new entry cause move refused =
     let block : ℕ = move.0 in
-    let its = move.1.1.1 in
-    let in_cores : core < s.shape.cores = its.0.0 in
+    let its = move.1.1 in
+    let in_cores : core < s.shape.cores = its.within.0 in
     elim (order_cause s core cause refused) [
       | inl h ↦ let past : s.shape.cores ≤ core = h.1 in absurd (omega arith)
       | inr rest ↦ elim rest [
-        | inl h ↦ h.2 block move.1.1.0 its.3.ready.0
+        | inl h ↦ h.2 block its.request its.orders.ready.0
         | inr h ↦
             let same : h.0 ≡ block = same_some (sym h.1.2 ∙ move.1.0) in
             let taken : is_some (picture_of s block).transaction ≡ true = subst (λ (b : ℕ). is_some (picture_of s b).transaction ≡ true) same h.1.3 in
-            let free : is_some (picture_of s block).transaction ≡ false = ap is_some its.3.ready.1 in
+            let free : is_some (picture_of s block).transaction ≡ false = ap is_some its.orders.ready.1 in
             cc
       ]
     ]
 not_refused s kept (Respond block) answer new entry cause move refused =
-    let its = move.1.1.1.1 in
-    let same : block ≡ move.0 = its.0 in
-    let in_blocks : move.0 < s.shape.blocks = its.1 in
+    let its = move.1.1 in
+    let same : block ≡ move.0 = its.on_block in
+    let in_blocks : move.0 < s.shape.blocks = its.within in
     elim (respond_cause s block cause refused) [
       | inl h ↦ let past : s.shape.blocks ≤ block = h.1 in absurd (omega arith)
       | inr h ↦
-          let opened : (picture_of s block).transaction ≡ Some move.1.1.0 = subst (λ (b : ℕ). (picture_of s b).transaction ≡ Some move.1.1.0) (sym same) its.4.opened in
+          let opened : (picture_of s block).transaction ≡ Some its.closing = subst (λ (b : ℕ). (picture_of s b).transaction ≡ Some its.closing) (sym same) its.responds.opened in
           cc
     ]
 
@@ -242,27 +244,24 @@ SameMove answer new answer' new' = (answer ≡ answer') × (new ≡ new')
 
 asks_one : (s : Situation) (core block word : ℕ) (asking : Op) (answer answer' : Reply) (new new' : Situation) (entry entry' : Option Item) → Asks s core block word asking answer new entry → Asks s core block word asking answer' new' entry' → SameMove answer new answer' new'
 asks_one s core block word asking answer answer' new new' entry entry' a b =
-    let row = Cell-one s.protocol (state_of s core block) (asked asking) a.act b.act a.next b.next a.row b.row in
     let old : Line = held_by (picture_of s block) core in
-    let P : CacheAction → Type 0 = λ act. Takes act b.next s.log core block word asking old b.held answer' entry' in
-    let Q : CacheState → Type 0 = λ next. Takes a.act next s.log core block word asking old b.held answer' entry' in
-    let taken : Takes a.act a.next s.log core block word asking old b.held answer' entry' = subst Q (sym row.1) (subst P (sym row.0) b.taken) in
-    let same = takes_one a.act a.next s.log core block word asking old a.held b.held answer answer' entry entry' a.taken taken in (
+    let row : a.row ≡ b.row = same_some (sym a.is_row ∙ b.is_row) in
+    let taken : Takes a.row.action a.row.next s.log core block word asking old b.held answer' entry' = subst (λ (x : CacheCell). Takes x.action x.next s.log core block word asking old b.held answer' entry') (sym row) b.taken in
+    let same = takes_one a.row.action a.row.next s.log core block word asking old a.held b.held answer answer' entry entry' a.taken taken in (
       same.1,
-      a.after ∙ (ap (λ act. asked_after s core block act a.held entry) row.0 ∙ (ap (λ held. asked_after s core block b.act held entry) same.0 ∙ (ap (λ e. asked_after s core block b.act b.held e) same.2 ∙ sym b.after))),
+      a.after ∙ (ap (λ (x : CacheCell). asked_after s core block x.action a.held entry) row ∙ (ap (λ held. asked_after s core block b.row.action held entry) same.0 ∙ (ap (λ e. asked_after s core block b.row.action b.held e) same.2 ∙ sym b.after))),
     )
 
 asks_or_absent : (s : Situation) (core block word : ℕ) (asking : Op) (answer answer' : Reply) (new new' : Situation) (entry entry' : Option Item) → IsAbsent s core block asking answer new entry ⊎ Asks s core block word asking answer new entry → IsAbsent s core block asking answer' new' entry' ⊎ Asks s core block word asking answer' new' entry' → SameMove answer new answer' new'
 asks_or_absent s core block word asking answer answer' new new' entry entry' (inl a) (inl b) = (a.2 ∙ sym b.2, a.3 ∙ sym b.3)
-asks_or_absent s core block word asking answer answer' new new' entry entry' (inl a) (inr b) = absurd (no_row s.protocol (state_of s core block) asking b.act b.next a.0 a.1 b.row)
-asks_or_absent s core block word asking answer answer' new new' entry entry' (inr a) (inl b) = absurd (no_row s.protocol (state_of s core block) asking a.act a.next b.0 b.1 a.row)
+asks_or_absent s core block word asking answer answer' new new' entry entry' (inl a) (inr b) = absurd (no_row s.protocol (state_of s core block) asking b.row.action b.row.next a.0 a.1 b.is_row)
+asks_or_absent s core block word asking answer answer' new new' entry entry' (inr a) (inl b) = absurd (no_row s.protocol (state_of s core block) asking a.row.action a.row.next b.0 b.1 a.is_row)
 asks_or_absent s core block word asking answer answer' new new' entry entry' (inr a) (inr b) = asks_one s core block word asking answer answer' new new' entry entry' a b
 
 -- a controller's row leads to one line
 row_one : (p : Protocol) (e : CacheEvent) (old new new' : Line) → TakesRow p e old new → TakesRow p e old new' → new ≡ new'
 row_one p e old new new' a b =
-    let row = Cell-one p old.state e a.0 b.0 a.1.0 b.1.0 a.1.1.0 b.1.1.0 in
-    a.1.1.1 ∙ (ap (λ next. moves_to next old) row.1 ∙ sym b.1.1.1)
+    a.2 ∙ (ap (λ (row : CacheCell). moves_to row.next old) (same_some (sym a.1 ∙ b.1)) ∙ sym b.2)
 
 -- lists of lines that are equal at each place
 same_row : (xs ys : List Line) → length xs ≡ length ys → ((k : ℕ) → k < length xs → held_at xs k ≡ held_at ys k) → xs ≡ ys
@@ -270,10 +269,8 @@ same_row xs ys long each = same_lists xs ys long (λ k d h. get_or_default xs k 
 
 -- a sender sends one payload
 pub sends_one : (p : Protocol) (before : Picture) (core : ℕ) (q : Request) (from : Option ℕ) (payload payload' : Payload) → Sends p before core q from payload → Sends p before core q from payload' → payload ≡ payload'
-sends_one p before core q None payload payload' a b =
-    let same : mem_action.Send payload ≡ mem_action.Send payload' = (MemoryCell-one p before.memory.state (at_memory q) (mem_action.Send payload) (mem_action.Send payload') a.0 b.0 a.1 b.1).0 in cc
-sends_one p before core q (Some d) payload payload' a b =
-    let same : action.Send payload a.1.0 ≡ action.Send payload' b.1.0 = (Cell-one p (held_by before d).state (seen_by d core q) (action.Send payload a.1.0) (action.Send payload' b.1.0) a.1.1.0 b.1.1.0 a.1.1.1 b.1.1.1).0 in cc
+sends_one p before core q None payload payload' a b = same_some (sym a ∙ b)
+sends_one p before core q (Some d) payload payload' a b = same_some (sym a.1 ∙ b.1)
 
 -- the transaction that an Order opens
 abbrev opening : Picture → ℕ → ℕ → Request → Option ℕ → Payload → Option Open
@@ -285,8 +282,8 @@ orders_one s core block q new new' a b =
     let before : Picture = picture_of s block in
     let from : b.from ≡ a.from = a.sent.alone b.from b.payload b.sent.sends in
     let payload : a.payload ≡ b.payload = sends_one p before core q a.from a.payload b.payload a.sent.sends (subst (λ (f : Option ℕ). Sends p before core q f b.payload) from b.sent.sends) in
-    let caches : a.next.caches ≡ b.next.caches = same_row a.next.caches b.next.caches (a.caches ∙ sym b.caches) (λ k h. row_one p (seen_by k core q) (held_by before k) (held_by a.next k) (held_by b.next k) (a.rows k h) (b.rows k (rw (← a.caches ∙ sym b.caches) h))) in
-    let memory : a.next.memory.state ≡ b.next.memory.state = (MemoryCell-one p before.memory.state (at_memory q) a.memory.0 b.memory.0 a.next.memory.state b.next.memory.state a.memory.1 b.memory.1).1 in
+    let caches : a.next.caches ≡ b.next.caches = same_row a.next.caches b.next.caches (a.taken.same_length ∙ sym b.taken.same_length) (λ k h. (let inside : k < length before.caches = rw (← a.taken.same_length) h in row_one p (seen_by k core q) (held_by before k) (held_by a.next k) (held_by b.next k) (a.taken.rows k inside) (b.taken.rows k inside))) in
+    let memory : a.next.memory.state ≡ b.next.memory.state = a.memory.2 ∙ (ap (λ (row : MemCell). row.next) (same_some (sym a.memory.1 ∙ b.memory.1)) ∙ sym b.memory.2) in
     let opened : a.next.transaction ≡ b.next.transaction = a.opened ∙ (ap (λ f. opening before core block q f a.payload) (sym from) ∙ (ap (λ x. opening before core block q b.from x) payload ∙ sym b.opened)) in
     let next : a.next ≡ b.next = same_picture _ _ _ _ _ _ caches (same_memory _ _ _ _ memory (a.value ∙ sym b.value)) opened in
     let then : Picture → Situation = λ x. record (with_picture s block x) { queues = after_order s.queues core block; log = s.log ++ item.Sent (record { core = core; request = q; block = block }) ∷ [] } in
@@ -310,13 +307,13 @@ fills_one o p log old new new' did did' a b =
     let f = a.fills in
     let g = b.fills in
     let event : g.event ≡ f.event = same_some (sym g.arrives ∙ f.arrives) in
-    let row : Cell p state f.event g.act g.next = subst (λ (e : CacheEvent). Cell p state e g.act g.next) event g.row in
-    let next : g.next ≡ f.next = (Cell-one p state f.event g.act f.act g.next f.next row f.row).1 in
+    let row : g.row ≡ f.row = same_some (sym g.is_row ∙ (ap (λ (e : CacheEvent). cell_of p state e) event ∙ f.is_row)) in
+    let next : g.row.next ≡ f.row.next = ap (λ (x : CacheCell). x.next) row in
     let asking : b.asking ≡ a.asking = same_some (sym g.waited ∙ f.waited) in
     let performed : Performs a.asking.word a.asking.op o.value b.value g.after = subst (λ (x : Access). Performs x.word x.op o.value b.value g.after) asking g.performed in
     let logged : did' ≡ Some (next_did log o.core o.block a.asking.word a.asking.op b.value false) = b.logged ∙ ap (λ (x : Access). let d : Option Did = Some (next_did log o.core o.block x.word x.op b.value false) in d) asking in
-    let held : b.line ≡ record { state = f.next; kept = Some g.after; waiting = None } = g.held ∙ ap (λ (x : CacheState). let l : Line = record { state = x; kept = Some g.after; waiting = None } in l) next in
-    fill_ends o log old new new' did did' a.asking.word a.asking.op a.value b.value f.after g.after f.next f.performed performed a.logged logged (a.held ∙ ap (slice_set old o.core) f.held) (b.held ∙ ap (slice_set old o.core) held)
+    let held : b.line ≡ record { state = f.row.next; kept = Some g.after; waiting = None } = g.held ∙ ap (λ (x : CacheState). let l : Line = record { state = x; kept = Some g.after; waiting = None } in l) next in
+    fill_ends o log old new new' did did' a.asking.word a.asking.op a.value b.value f.after g.after f.row.next f.performed performed a.logged logged (a.held ∙ ap (slice_set old o.core) f.held) (b.held ∙ ap (slice_set old o.core) held)
 
 arrives_one : (q : Request) (o : Open) (p : Protocol) (log : List Item) (old new new' : List Line) (did did' : Option Did) → ArrivesFor q o p log old new did → ArrivesFor q o p log old new' did' → (new ≡ new') × (did ≡ did')
 arrives_one request.PutM o p log old new new' did did' a b = (a.0 ∙ sym b.0, a.1 ∙ sym b.1)
@@ -353,19 +350,19 @@ move_one s (Ask core block word asking) answer answer' new new' entry entry' a b
     asks_or_absent s core block word asking answer answer' new new' entry entry' (ask_parts s core block word asking answer new entry a).1 (ask_parts s core block word asking answer' new' entry' b).1
 move_one s (Order core) answer answer' new new' entry entry' a b =
     let block : b.0 ≡ a.0 = same_some (sym b.1.0 ∙ a.1.0) in
-    let P : ℕ → Type 0 = λ on. Orders s core on b.1.1.0 new' in
-    let there : Orders s core a.0 b.1.1.0 new' = subst P block b.1.1.1.3 in
-    let q : b.1.1.0 ≡ a.1.1.0 = same_some (sym there.ready.0 ∙ a.1.1.1.3.ready.0) in
+    let P : ℕ → Type 0 = λ on. Orders s core on b.1.1.request new' in
+    let there : Orders s core a.0 b.1.1.request new' = subst P block b.1.1.orders in
+    let q : b.1.1.request ≡ a.1.1.request = same_some (sym there.ready.0 ∙ a.1.1.orders.ready.0) in
     let Q : Request → Type 0 = λ x. Orders s core a.0 x new' in (
-      a.1.1.1.1 ∙ (ap (λ (x : Request). reply.Ordered x) (sym q) ∙ sym b.1.1.1.1),
-      orders_one s core a.0 a.1.1.0 new new' a.1.1.1.3 (subst Q q there),
+      a.1.1.answered ∙ (ap (λ (x : Request). reply.Ordered x) (sym q) ∙ sym b.1.1.answered),
+      orders_one s core a.0 a.1.1.request new new' a.1.1.orders (subst Q q there),
     )
 move_one s (Respond block) answer answer' new new' entry entry' a b =
-    let P : ℕ → Type 0 = λ on. Responds s on a.1.1.0 a.1.1.1.0 new in
-    let Q : ℕ → Type 0 = λ on. Responds s on b.1.1.0 b.1.1.1.0 new' in
-    let same = responds_one s block a.1.1.0 b.1.1.0 a.1.1.1.0 b.1.1.1.0 new new' (subst P (sym a.1.1.1.1.0) a.1.1.1.1.4) (subst Q (sym b.1.1.1.1.0) b.1.1.1.1.4) in
+    let P : ℕ → Type 0 = λ on. Responds s on a.1.1.closing a.1.1.did new in
+    let Q : ℕ → Type 0 = λ on. Responds s on b.1.1.closing b.1.1.did new' in
+    let same = responds_one s block a.1.1.closing b.1.1.closing a.1.1.did b.1.1.did new new' (subst P (sym a.1.1.on_block) a.1.1.responds) (subst Q (sym b.1.1.on_block) b.1.1.responds) in
     let came : Open → Option Did → Reply = λ o did. reply.Came o.payload o.from did in (
-      a.1.1.1.1.2 ∙ (ap (λ o. came o a.1.1.1.0) same.0 ∙ (ap (λ d. came b.1.1.0 d) same.1 ∙ sym b.1.1.1.1.2)),
+      a.1.1.answered ∙ (ap (λ o. came o a.1.1.did) same.0 ∙ (ap (λ d. came b.1.1.closing d) same.1 ∙ sym b.1.1.answered)),
       same.2,
     )
 

@@ -24,8 +24,7 @@ use Rattle.snoop_rules.specs.Takers.{asked, seen_by, arrival, arrival_at_memory,
 use Rattle.snoop_rules.specs.declared.names.CacheCell.{CacheCell}
 use Rattle.snoop_rules.specs.declared.names.MemCell.{MemCell}
 use Rattle.snoop_rules.proofs.Every.{all_protocols, all_states, all_events}
-use Rattle.snoop_rules.proofs.Rows.{each_row, each_row-at, Cell-found}
-use Rattle.snoop_rules.proofs.MemRows.{MemoryCell-found}
+use Rattle.snoop_rules.proofs.Rows.{each_row, each_row-at}
 use Rattle.snoop_history.specs.declared.items.Did.{Did}
 use Rattle.snoop_history.specs.declared.items.Item.{Item}
 use Rattle.snoop_history.specs.declared.items.Item.TheVariants as item
@@ -49,12 +48,13 @@ use Rattle.snoop_model.specs.Invariant.WellKept.{IsWellKept}
 use Rattle.snoop_model.specs.Turns.TurnRule.{KeepsWell}
 use Rattle.snoop_model.specs.Invariant.Invariant.{Invariant}
 use Rattle.snoop_model.proofs.Tables.Rows.{same_request, same_request-true}
-use Rattle.snoop_model.proofs.OneBlock.Steps.{Answerable, is_idle_evict, row_of, mem_row_of}
+use Rattle.snoop_model.proofs.Tables.AskTests.{is_idle_evict}
+use Rattle.snoop_model.proofs.Tables.RespondTests.{memory_row_for, row_for}
 use Rattle.snoop_model.specs.Moves.LookUps.{HasRow}
 use Rattle.snoop_model.proofs.Invariant.Coherence.{orders_follow_sender_table, finds_rows, idle_evict, waits_within}
 use Rattle.snoop_model.proofs.OneBlock.Facts.{or_not}
 use Rattle.snoop_model.proofs.Invariant.Steps.{first_keeps}
-use Rattle.snoop_model.proofs.OneBlock.Possible.{ask_possible, respond_possible}
+use Rattle.snoop_model.proofs.OneBlock.Possible.{Answerable, ask_possible, respond_possible}
 
 -- the step leads from here to some situation, with some outcome
 abbrev pub LeadsOn : Situation → Step → Type 0
@@ -130,19 +130,18 @@ module _ (s : Situation) (core block word : ℕ) (within : IsWithin s core block
         block,
         (
           tt,
-          (
-            refl,
-            within,
-            inr (record {
-              act = action.Hit;
-              next = next;
+          record {
+            on_block = refl;
+            within = within;
+            moves = inr (record {
+              row = record { action = action.Hit; next = next };
+              is_row = row;
               held = line;
-              row = row;
               taken = (v, (record { before = ws; after = ws; kept = kept; performed = (refl, refl); held = refl }, refl, refl));
               after = refl;
-            }),
-            there,
-          ),
+            });
+            has_word = there;
+          },
         ),
       )
   hit (op.Store w) next row allowed there ws kept =
@@ -152,19 +151,18 @@ module _ (s : Situation) (core block word : ℕ) (within : IsWithin s core block
         block,
         (
           tt,
-          (
-            refl,
-            within,
-            inr (record {
-              act = action.Hit;
-              next = next;
+          record {
+            on_block = refl;
+            within = within;
+            moves = inr (record {
+              row = record { action = action.Hit; next = next };
+              is_row = row;
               held = line;
-              row = row;
               taken = (w, (record { before = ws; after = slice_set ws word w; kept = kept; performed = (refl, refl); held = refl }, refl, refl));
               after = refl;
-            }),
-            there,
-          ),
+            });
+            has_word = there;
+          },
         ),
       )
   hit op.Evict next row allowed there ws kept = cc
@@ -176,11 +174,11 @@ module _ (s : Situation) (core block word : ℕ) (within : IsWithin s core block
   by_row asking (action.Issue r) next row allowed there kept =
       let line : Line = record { state = next; kept = kept_on next held.kept; waiting = kept_waiting word asking } in
       moved s (Ask core block word asking) (reply.Issued r) (after_ask s core block (action.Issue r) line None) None
-      (block, (tt, (refl, within, inr (record { act = action.Issue r; next = next; held = line; row = row; taken = (refl, refl, refl); after = refl }), there)))
+      (block, (tt, record { on_block = refl; within = within; moves = inr (record { row = record { action = action.Issue r; next = next }; is_row = row; held = line; taken = (refl, refl, refl); after = refl }); has_word = there }))
   by_row asking action.Drop next row allowed there kept =
       let line : Line = moves_to next held in
       moved s (Ask core block word asking) reply.Gone (after_ask s core block action.Drop line None) None
-      (block, (tt, (refl, within, inr (record { act = action.Drop; next = next; held = line; row = row; taken = (refl, refl, refl); after = refl }), there)))
+      (block, (tt, record { on_block = refl; within = within; moves = inr (record { row = record { action = action.Drop; next = next }; is_row = row; held = line; taken = (refl, refl, refl); after = refl }); has_word = there }))
   by_row asking action.None next row allowed there kept = cc
   by_row asking action.FillLoad next row allowed there kept = cc
   by_row asking action.FillStore next row allowed there kept = cc
@@ -194,13 +192,12 @@ ask_within s g core block word asking within there =
     elim (or_not (is_idle_evict line.state (asked asking))) as (λ _. LeadsOn s (Ask core block word asking)) [
       | inl idle ↦
           let is = idle_evict line.state asking idle in
-          moved s (Ask core block word asking) reply.Absent s None (block, (tt, (refl, within, inl (is.0, is.1, refl, refl, refl), there)))
+          moved s (Ask core block word asking) reply.Absent s None (block, (tt, record { on_block = refl; within = within; moves = inl (is.0, is.1, refl, refl, refl); has_word = there }))
       | inr busy ↦
           let good = g.blocks block within.1 in
           let row = ask_possible p s.shape.cores (flat_words s.log block) (picture_of s block) core asking good within.0 busy in
-          let cell = Cell-found p line.state (asked asking) row.0 row.1 in
-          let rule = ask_rule p line.state asking row.0.action row.0.next cell in
-          by_row s core block word within asking row.0.action row.0.next cell rule.0 there
+          let rule = ask_rule p line.state asking row.0.action row.0.next row.1 in
+          by_row s core block word within asking row.0.action row.0.next row.1 rule.0 there
           (λ is_hit. some_kept line.kept ((good.proper core within.0).kept ∙ right_if (hits row.0.action) (keeps line.state) is_hit rule.1))
     ]
 
@@ -252,7 +249,7 @@ order_free s g core block q first ready =
     let before : Picture = picture_of s block in
     let finds : (k : ℕ) → HasRow p (held_by before k).state (seen_by k core q) = λ k. (finds_rows s g (Order core)).cache k block (Some (seen_by k core q)) (q, (ready, refl)) in
     let line = orders_follow_sender_table s g core block q ready in
-    let rows = lines_at (λ k x. TakesRow p (seen_by k core q) (held_by before k) x) (length before.caches) (λ k h. (let row = finds k in (moves_to row.1.0 (held_by before k), (row.0, (row.1.0, (row.1.1, refl)))))) in
+    let rows = lines_at (λ k x. TakesRow p (seen_by k core q) (held_by before k) x) (length before.caches) (λ k h. (let row = finds k in (moves_to row.0.next (held_by before k), (row.0, row.1, refl)))) in
     let opened : Open = record { core = core; request = q; block = block; payload = line.payload; value = value_sent before line.from line.payload; from = line.from } in
     let next : Picture = record { caches = rows.0; memory = record { state = line.next; value = before.memory.value }; transaction = Some opened } in
     let sent : Item = item.Sent (record { core = core; request = q; block = block }) in
@@ -261,27 +258,24 @@ order_free s g core block q first ready =
       block,
       (
         first,
-        (
-          q,
-          (
-            waits_within s g core block q ready.0,
-            refl,
-            refl,
-            record {
-              ready = ready;
-              from = line.from;
-              payload = line.payload;
-              sent = line.sent;
-              next = next;
-              caches = rows.1.0;
-              rows = λ k h. rows.1.1 k (rw (← rows.1.0) h);
-              memory = line.ordered;
-              value = refl;
-              opened = refl;
-              after = refl;
-            },
-          ),
-        ),
+        record {
+          request = q;
+          within = waits_within s g core block q ready.0;
+          answered = refl;
+          logged = refl;
+          orders = record {
+            ready = ready;
+            from = line.from;
+            payload = line.payload;
+            sent = line.sent;
+            next = next;
+            taken = record { same_length = rows.1.0; rows = rows.1.1 };
+            memory = line.ordered;
+            value = refl;
+            opened = refl;
+            after = refl;
+          };
+        },
       ),
     )
 
@@ -374,7 +368,7 @@ module _ (p : Protocol) (log : List Item) (old : List Line) (o : Open) where
             line = record { state = next; kept = Some o.value; waiting = None };
             asking = record { word = waits.0; op = op.Load };
             value = v;
-            fills = record { event = e; act = action.FillLoad; next = next; after = o.value; arrives = arrives; row = row; waited = waits.1; fill = tt; performed = (refl, refl); held = refl };
+            fills = record { event = e; row = record { action = action.FillLoad; next = next }; after = o.value; arrives = arrives; is_row = row; waited = waits.1; fill = tt; performed = (refl, refl); held = refl };
             held = refl;
             logged = refl;
           },
@@ -391,7 +385,7 @@ module _ (p : Protocol) (log : List Item) (old : List Line) (o : Open) where
             line = record { state = next; kept = Some after; waiting = None };
             asking = record { word = waits.0; op = op.Store waits.1.0 };
             value = waits.1.0;
-            fills = record { event = e; act = action.FillStore; next = next; after = after; arrives = arrives; row = row; waited = waits.1.1; fill = tt; performed = (refl, refl); held = refl };
+            fills = record { event = e; row = record { action = action.FillStore; next = next }; after = after; arrives = arrives; is_row = row; waited = waits.1.1; fill = tt; performed = (refl, refl); held = refl };
             held = refl;
             logged = refl;
           },
@@ -404,15 +398,14 @@ module _ (p : Protocol) (log : List Item) (old : List Line) (o : Open) where
   fill e arrives action.Drop next row fits proper = cc
   fill e arrives (action.Send payload target) next row fits proper = cc
 
-  fill_found : (found : Option CacheEvent) → arrival o.payload ≡ found → (row : CacheCell) → row_of p (held_at old o.core).state found ≡ Some row → IsProper (held_at old o.core)
+  fill_found : (found : Option CacheEvent) → arrival o.payload ≡ found → (row : CacheCell) → row_for p (held_at old o.core).state found ≡ Some row → IsProper (held_at old o.core)
       → (new : List Line) × ((did : Option Did) × FillsRequestor o p log old new did)
   fill_found None arrives row is proper = cc
   fill_found (Some e) arrives row is proper =
-      let cell = Cell-found p (held_at old o.core).state e row is in
-      let test = each_row-at data_test data_test_holds p (held_at old o.core).state e row.action row.next cell in
-      fill e arrives row.action row.next cell (right_if (is_data e) _ (arrives_as_data o.payload e arrives) test) proper
+      let test = each_row-at data_test data_test_holds p (held_at old o.core).state e row.action row.next is in
+      fill e arrives row.action row.next is (right_if (is_data e) _ (arrives_as_data o.payload e arrives) test) proper
 
-  brings : (q : Request) → (is_put_m q ≡ false → (r : CacheCell) × (row_of p (held_at old o.core).state (arrival o.payload) ≡ Some r)) → IsProper (held_at old o.core) → Brings p log old o q
+  brings : (q : Request) → (is_put_m q ≡ false → (r : CacheCell) × (row_for p (held_at old o.core).state (arrival o.payload) ≡ Some r)) → IsProper (held_at old o.core) → Brings p log old o q
   brings request.PutM row proper = (old, (None, (refl, refl)))
   brings request.GetS row proper = fill_found (arrival o.payload) refl (row refl).0 (row refl).1 proper
   brings request.GetM row proper = fill_found (arrival o.payload) refl (row refl).0 (row refl).1 proper
@@ -421,14 +414,14 @@ module _ (p : Protocol) (log : List Item) (old : List Line) (o : Open) where
 abbrev BringsToMemory : Protocol → Picture → Open → Type 0
 BringsToMemory p before o = (next : MemLine) × ArrivesAtMemory o p before.memory next
 
-memory_found : (p : Protocol) (before : Picture) (o : Open) → takes_payload o.request before.memory.state ≡ true → (found : Option MemEvent) → arrival_at_memory o.payload ≡ found → (row : MemCell) → mem_row_of p before.memory.state found ≡ Some row → BringsToMemory p before o
+memory_found : (p : Protocol) (before : Picture) (o : Open) → takes_payload o.request before.memory.state ≡ true → (found : Option MemEvent) → arrival_at_memory o.payload ≡ found → (row : MemCell) → memory_row_for p before.memory.state found ≡ Some row → BringsToMemory p before o
 memory_found p before o waits None arrives row is = cc
 memory_found p before o waits (Some e) arrives row is = (
   record { state = row.next; value = written row.action o.value before.memory.value },
-  record { act = row.action; settled = rw (waits, arrives) (MemoryCell-found p before.memory.state e row is); value = refl },
+  record { act = row.action; settled = rw (waits, arrives) is; value = refl },
 )
 
-brings_to_memory : (p : Protocol) (before : Picture) (o : Open) → (takes_payload o.request before.memory.state ≡ true → (r : MemCell) × (mem_row_of p before.memory.state (arrival_at_memory o.payload) ≡ Some r)) → BringsToMemory p before o
+brings_to_memory : (p : Protocol) (before : Picture) (o : Open) → (takes_payload o.request before.memory.state ≡ true → (r : MemCell) × (memory_row_for p before.memory.state (arrival_at_memory o.payload) ≡ Some r)) → BringsToMemory p before o
 brings_to_memory p before o row = elim (or_not (takes_payload o.request before.memory.state)) as (λ _. BringsToMemory p before o) [
   | inl waits ↦ memory_found p before o waits (arrival_at_memory o.payload) refl (row waits).0 (row waits).1
   | inr idle ↦ (before.memory, record { act = mem_action.None; settled = rw idle (refl, refl); value = refl })
@@ -449,26 +442,22 @@ respond_open s g block within o opened =
       block,
       (
         tt,
-        (
-          o,
-          (
-            caches.1.0,
-            (
-              refl,
-              within,
-              refl,
-              refl,
-              record {
-                opened = opened;
-                next = next;
-                requestor = caches.1.1;
-                memory = memory.1;
-                closed = refl;
-                after = refl;
-              },
-            ),
-          ),
-        ),
+        record {
+          closing = o;
+          did = caches.1.0;
+          on_block = refl;
+          within = within;
+          answered = refl;
+          logged = refl;
+          responds = record {
+            opened = opened;
+            next = next;
+            requestor = caches.1.1;
+            memory = memory.1;
+            closed = refl;
+            after = refl;
+          };
+        },
       ),
     )
 

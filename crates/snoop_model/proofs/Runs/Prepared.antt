@@ -13,14 +13,14 @@ use Rattle.snoop_model.specs.Moves.Prepared.{IsPrepared}
 
 -- a move adds its item to the log
 pub move-log : (old new : Situation) (step : Step) (answer : Reply) (added : Option Item) → FirstMove old step answer new added → new.log ≡ old.log ++ option_to_list added
-move-log old new (Ask core block word asking) answer added m = elim m.1.1.2 [
+move-log old new (Ask core block word asking) answer added m = elim m.1.1.moves [
   | inl absent ↦ ap (λ (s : Situation). s.log) absent.3 ∙ (sym (append-nil old.log) ∙ ap (λ (e : Option Item). old.log ++ option_to_list e) (sym absent.4))
   | inr asks ↦ ap (λ (s : Situation). s.log) asks.after
 ]
 move-log old new (Order core) answer added m =
-    ap (λ (s : Situation). s.log) m.1.1.1.3.after ∙ ap (λ (e : Option Item). old.log ++ option_to_list e) (sym m.1.1.1.2)
+    ap (λ (s : Situation). s.log) m.1.1.orders.after ∙ ap (λ (e : Option Item). old.log ++ option_to_list e) (sym m.1.1.logged)
 move-log old new (Respond block) answer added m =
-    ap (λ (s : Situation). s.log) m.1.1.1.1.4.after ∙ ap (λ (e : Option Item). old.log ++ option_to_list e) (sym m.1.1.1.1.3)
+    ap (λ (s : Situation). s.log) m.1.1.responds.after ∙ ap (λ (e : Option Item). old.log ++ option_to_list e) (sym m.1.1.logged)
 
 -- a prepared step, taken, adds the item that was reported
 pub prepared-log : (before : Standing) (new : Situation) (step : Step) (answer : Reply) (added entry : Option Item)

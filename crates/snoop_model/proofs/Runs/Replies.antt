@@ -84,13 +84,13 @@ absent_reply : (core block word : ℕ) (asking : Op) (answer : Reply) → asking
 absent_reply core block word asking answer e is = rw (e, is) tt
 
 pub move_replies : (old new : Situation) (step : Step) (answer : Reply) (entry : Option Item) → FirstMove old step answer new entry → IsReplyTo step answer
-move_replies old new (Ask core on word asking) answer entry m = elim m.1.1.2 [
+move_replies old new (Ask core on word asking) answer entry m = elim m.1.1.moves [
   | inl absent ↦ absent_reply core on word asking answer absent.0 absent.2
-  | inr a ↦ taken_reply old.protocol a.next old.log core on word asking (held_by (picture_of old m.0) core) a.held answer entry a.act a.row
-      (let P : ℕ → Type 0 = λ b. Takes a.act a.next old.log core b word asking (held_by (picture_of old m.0) core) a.held answer entry in subst P (sym m.1.1.0) a.taken)
+  | inr a ↦ taken_reply old.protocol a.row.next old.log core on word asking (held_by (picture_of old m.0) core) a.held answer entry a.row.action a.is_row
+      (let P : ℕ → Type 0 = λ b. Takes a.row.action a.row.next old.log core b word asking (held_by (picture_of old m.0) core) a.held answer entry in subst P (sym m.1.1.on_block) a.taken)
 ]
-move_replies old new (Order core) answer entry m = subst (λ (r : Reply). IsReplyTo (Order core) r) (sym m.1.1.1.1) tt
-move_replies old new (Respond on) answer entry m = subst (λ (r : Reply). IsReplyTo (Respond on) r) (sym m.1.1.1.1.2) tt
+move_replies old new (Order core) answer entry m = subst (λ (r : Reply). IsReplyTo (Order core) r) (sym m.1.1.answered) tt
+move_replies old new (Respond on) answer entry m = subst (λ (r : Reply). IsReplyTo (Respond on) r) (sym m.1.1.answered) tt
 
 -- an item that stands in the log of a load that hit
 hit_logs : (p : Protocol) (next : CacheState) (log : List Item) (core block word : ℕ) (asking : Op) (old new : Line) (value : ℕ) (entry : Option Item) (a : CacheAction)
@@ -105,21 +105,21 @@ hit_logs p next log core block word asking old new value entry action.Drop t = l
 hit_logs p next log core block word asking old new value entry _ t = absurd t
 
 pub load_hit : (old new : Situation) (step : Step) (value : ℕ) (entry : Option Item) → FirstMove old step (reply.Hit value) new entry → IsLoadHit step value old.log new.log
-load_hit old new (Ask core on word asking) value entry m = elim m.1.1.2 [
+load_hit old new (Ask core on word asking) value entry m = elim m.1.1.moves [
   | inl absent ↦ (let e = absent.2 in cc)
   | inr a ↦
-      let h = hit_logs old.protocol a.next old.log core m.0 word asking (held_by (picture_of old m.0) core) a.held value entry a.act a.taken in
+      let h = hit_logs old.protocol a.row.next old.log core m.0 word asking (held_by (picture_of old m.0) core) a.held value entry a.row.action a.taken in
       let grown : new.log ≡ old.log ++ option_to_list entry = move-log old new (Ask core on word asking) (reply.Hit value) entry m in
       record {
         core = core;
         block = m.0;
         word = word;
-        asked = ap (λ (b : ℕ). Ask core b word asking) m.1.1.0 ∙ ap (λ (o : Op). Ask core m.0 word o) h.0;
+        asked = ap (λ (b : ℕ). Ask core b word asking) m.1.1.on_block ∙ ap (λ (o : Op). Ask core m.0 word o) h.0;
         logged = grown ∙ ap (λ (e : Option Item). old.log ++ option_to_list e) h.1;
       }
 ]
-load_hit old new (Order core) value entry m = let e = m.1.1.1.1 in cc
-load_hit old new (Respond on) value entry m = let e = m.1.1.1.1.2 in cc
+load_hit old new (Order core) value entry m = let e = m.1.1.answered in cc
+load_hit old new (Respond on) value entry m = let e = m.1.1.answered in cc
 
 -- a step, taken or refused
 pub step_replies : (old new : Situation) (step : Step) (result : Result Reply Refused) → IfOk result (λ reply. (entry : Option Item) × FirstMove old step reply new entry) → IfOk result (λ reply. IsReplyTo step reply)

@@ -22,12 +22,12 @@ same_alike : (old new : Situation) → new ≡ old → IsAlike old new
 same_alike old new same = (ap (λ (s : Situation). s.protocol) same, ap (λ (s : Situation). s.shape) same)
 
 on_stays : (block : ℕ) (old new : Situation) (step : Step) (answer : Reply) (entry : Option Item) → MoveOn block old step answer new entry → IsAlike old new
-on_stays block old new (Ask core on word asking) answer entry m = elim m.2 [
+on_stays block old new (Ask core on word asking) answer entry m = elim m.moves [
   | inl absent ↦ same_alike old new absent.3
   | inr asks ↦ (ap (λ (s : Situation). s.protocol) asks.after, ap (λ (s : Situation). s.shape) asks.after)
 ]
-on_stays block old new (Order core) answer entry m = (ap (λ (s : Situation). s.protocol) m.1.3.after, ap (λ (s : Situation). s.shape) m.1.3.after)
-on_stays block old new (Respond on) answer entry m = (ap (λ (s : Situation). s.protocol) m.1.1.4.after, ap (λ (s : Situation). s.shape) m.1.1.4.after)
+on_stays block old new (Order core) answer entry m = (ap (λ (s : Situation). s.protocol) m.orders.after, ap (λ (s : Situation). s.shape) m.orders.after)
+on_stays block old new (Respond on) answer entry m = (ap (λ (s : Situation). s.protocol) m.responds.after, ap (λ (s : Situation). s.shape) m.responds.after)
 
 move_stays : (old new : Situation) (step : Step) (answer : Reply) (entry : Option Item) → FirstMove old step answer new entry → IsAlike old new
 move_stays old new step answer entry m = on_stays m.0 old new step answer entry m.1.1

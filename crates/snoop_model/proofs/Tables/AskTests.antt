@@ -4,6 +4,7 @@ use Rattle.std.specs.Prelude.{is_some}
 use Rattle.snoop_trace.specs.declared.step.Op.{Op}
 use Rattle.snoop_trace.specs.declared.protocol.Protocol.{Protocol}
 use Rattle.snoop_rules.specs.declared.names.CacheState.{CacheState}
+use Rattle.snoop_rules.specs.declared.names.CacheState.TheVariants as state
 use Rattle.snoop_rules.specs.declared.names.CacheEvent.{CacheEvent}
 use Rattle.snoop_rules.specs.declared.names.CacheEvent.TheVariants as event
 use Rattle.snoop_rules.specs.declared.names.CacheAction.{CacheAction}
@@ -15,7 +16,6 @@ use Rattle.snoop_rules.specs.Cell.{cell_of}
 use Rattle.snoop_rules.proofs.Every.{all_protocols, all_protocols-at, all_states, all_states-at, all_memories, all_requests, all_payloads}
 use Rattle.snoop_model.specs.Invariant.Fits.{claims_of, is_owner, is_sharer, is_clean, wait_fits, in_protocol, same, fits}
 use Rattle.snoop_model.proofs.Tables.Every.{either, either-at, when, when_at, given, given_at, all_asks, all_asks-at, all_waits, all_waits-at}
-use Rattle.snoop_model.proofs.OneBlock.Steps.{is_idle_evict}
 use Rattle.snoop_model.proofs.Tables.StateTests.{is_hit, carries}
 use Rattle.snoop_model.specs.Pictures.Sound.{keeps}
 
@@ -70,6 +70,11 @@ ask_store_owns p shared ow w s e r = not (is_hit r.action && is_store e) || (ow 
 pub ask_store_owns_holds : asks ask_store_owns ≡ true
 unfolding asks ask_case all_protocols all_memories all_states all_requests all_payloads all_asks all_waits either given when claims_of fits is_owner is_sharer is_clean wait_fits in_protocol same
 ask_store_owns_holds = refl
+
+-- an Evict in I, which the machine answers with no row
+abbrev pub is_idle_evict : CacheState → CacheEvent → Bool
+is_idle_evict state.I event.Evict = true
+is_idle_evict _ _ = false
 
 -- there is a row for each Ask of a core in the protocol but for an Evict in I
 abbrev pub has_ask_row : Protocol → CacheState → CacheEvent → Bool

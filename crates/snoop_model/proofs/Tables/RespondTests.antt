@@ -1,24 +1,39 @@
 -- Tests of the rows of a Respond, computed over the whole tables.
-use Rattle.std.proofs.Common.{◌≡◌, ◌&&◌, ◌||◌, Bool, true, false, not, Some, None, refl}
+use Rattle.std.proofs.Common.{◌≡◌, ◌&&◌, ◌||◌, Bool, true, false, not, Option, Some, None, refl}
 use Rattle.std.specs.Prelude.{is_some}
 use Rattle.snoop_trace.specs.declared.protocol.Protocol.{Protocol}
+use Rattle.snoop_rules.specs.declared.names.CacheState.{CacheState}
+use Rattle.snoop_rules.specs.declared.names.CacheEvent.{CacheEvent}
 use Rattle.snoop_rules.specs.declared.names.CacheAction.{CacheAction}
 use Rattle.snoop_rules.specs.declared.names.CacheAction.TheVariants as action
 use Rattle.snoop_rules.specs.declared.names.MemState.{MemState}
+use Rattle.snoop_rules.specs.declared.names.MemEvent.{MemEvent}
 use Rattle.snoop_rules.specs.declared.names.MemAction.{MemAction}
 use Rattle.snoop_rules.specs.declared.names.MemAction.TheVariants as mem_action
 use Rattle.snoop_rules.specs.declared.names.Request.{Request}
 use Rattle.snoop_rules.specs.declared.names.Request.TheVariants as request
 use Rattle.snoop_rules.specs.declared.names.Payload.{Payload}
 use Rattle.snoop_rules.specs.declared.names.Payload.TheVariants as payload
+use Rattle.snoop_rules.specs.declared.names.CacheCell.{CacheCell}
+use Rattle.snoop_rules.specs.declared.names.MemCell.{MemCell}
+use Rattle.snoop_rules.specs.Cell.{cell_of}
+use Rattle.snoop_rules.specs.MemoryCell.{memory_cell_of}
 use Rattle.snoop_rules.specs.Takers.{arrival, arrival_at_memory, takes_payload, carries_value}
 use Rattle.snoop_rules.proofs.Every.{all_protocols, all_protocols-at, all_states, all_memories, all_memories-at, all_requests, all_requests-at, all_payloads, all_payloads-at}
 use Rattle.snoop_history.specs.Totals.{is_put_m, is_get_m}
 use Rattle.snoop_model.specs.Invariant.Fits.{Claims, claims_of, is_owner, is_sharer, is_clean, wait_fits, in_protocol, same, fits}
 use Rattle.snoop_model.proofs.Tables.Every.{either, when, given, given_at, all_asks, all_waits}
-use Rattle.snoop_model.proofs.OneBlock.Steps.{row_of, mem_row_of}
 use Rattle.snoop_model.proofs.Tables.SenderTests.{after_respond}
 use Rattle.snoop_model.specs.Pictures.Sound.{keeps}
+
+-- the row for an event, if there are both
+abbrev pub row_for : Protocol → CacheState → Option CacheEvent → Option CacheCell
+row_for p s None = None
+row_for p s (Some e) = cell_of p s e
+
+abbrev pub memory_row_for : Protocol → MemState → Option MemEvent → Option MemCell
+memory_row_for p m None = None
+memory_row_for p m (Some e) = memory_cell_of p m e
 
 -- a Respond: the line before it and after it
 abbrev pub RespondTest : Type 0
@@ -69,14 +84,14 @@ unfolding responds respond_case all_protocols all_memories all_states all_reques
 has_line_after_holds = refl
 
 abbrev pub write_carries : RespondTest
-write_carries p m q pl st = not (takes_payload q m) || given (mem_row_of p m (arrival_at_memory pl)) (λ r. not (writes r.action) || carries_value pl)
+write_carries p m q pl st = not (takes_payload q m) || given (memory_row_for p m (arrival_at_memory pl)) (λ r. not (writes r.action) || carries_value pl)
 
 pub write_carries_holds : responds write_carries ≡ true
 unfolding responds respond_case all_protocols all_memories all_states all_requests all_payloads all_asks all_waits either given when claims_of fits is_owner is_sharer is_clean wait_fits in_protocol same
 write_carries_holds = refl
 
 abbrev pub has_arrival : RespondTest
-has_arrival p m q pl st = when (not (is_put_m q)) (λ _. all_states (λ s. either (λ ow. when (fits p st.shared ow (Some q) s) (λ _. is_some (row_of p s (arrival pl))))))
+has_arrival p m q pl st = when (not (is_put_m q)) (λ _. all_states (λ s. either (λ ow. when (fits p st.shared ow (Some q) s) (λ _. is_some (row_for p s (arrival pl))))))
 
 pub has_arrival_holds : responds has_arrival ≡ true
 unfolding responds respond_case all_protocols all_memories all_states all_requests all_payloads all_asks all_waits either given when claims_of fits is_owner is_sharer is_clean wait_fits in_protocol same
@@ -104,14 +119,14 @@ unfolding responds respond_case all_protocols all_memories all_states all_reques
 gain_alone_holds = refl
 
 abbrev pub fresh_respond : AfterTest
-fresh_respond p m q pl st m2 st2 = not st2.fresh || (not (is_get_m q) && (st.fresh || (takes_payload q m && carries_value pl && given (mem_row_of p m (arrival_at_memory pl)) (λ r. writes r.action))))
+fresh_respond p m q pl st m2 st2 = not st2.fresh || (not (is_get_m q) && (st.fresh || (takes_payload q m && carries_value pl && given (memory_row_for p m (arrival_at_memory pl)) (λ r. writes r.action))))
 
 pub fresh_respond_holds : responds (after_case fresh_respond) ≡ true
 unfolding responds respond_case all_protocols all_memories all_states all_requests all_payloads all_asks all_waits either given when claims_of fits is_owner is_sharer is_clean wait_fits in_protocol same
 fresh_respond_holds = refl
 
 abbrev pub arrival_fits : AfterTest
-arrival_fits p m q pl st m2 st2 = when (not (is_put_m q)) (λ _. all_states (λ s. either (λ ow. when (fits p st.shared ow (Some q) s) (λ _. given (row_of p s (arrival pl)) (λ r. not ow && (fits p st2.shared (gains q pl) None r.next && (not (is_clean r.next) || (st.fresh && not (is_get_m q)))))))))
+arrival_fits p m q pl st m2 st2 = when (not (is_put_m q)) (λ _. all_states (λ s. either (λ ow. when (fits p st.shared ow (Some q) s) (λ _. given (row_for p s (arrival pl)) (λ r. not ow && (fits p st2.shared (gains q pl) None r.next && (not (is_clean r.next) || (st.fresh && not (is_get_m q)))))))))
 
 pub arrival_fits_holds : responds (after_case arrival_fits) ≡ true
 unfolding responds respond_case all_protocols all_memories all_states all_requests all_payloads all_asks all_waits either given when claims_of fits is_owner is_sharer is_clean wait_fits in_protocol same
@@ -132,14 +147,14 @@ unfolding responds respond_case all_protocols all_memories all_states all_reques
 stay_alone_holds = refl
 
 abbrev pub arrival_fills : RespondTest
-arrival_fills p m q pl st = when (not (is_put_m q)) (λ _. all_states (λ s. either (λ ow. when (fits p st.shared ow (Some q) s) (λ _. given (row_of p s (arrival pl)) (λ r. same (fills_store r.action) (is_get_m q))))))
+arrival_fills p m q pl st = when (not (is_put_m q)) (λ _. all_states (λ s. either (λ ow. when (fits p st.shared ow (Some q) s) (λ _. given (row_for p s (arrival pl)) (λ r. same (fills_store r.action) (is_get_m q))))))
 
 pub arrival_fills_holds : responds arrival_fills ≡ true
 unfolding responds respond_case all_protocols all_memories all_states all_requests all_payloads all_asks all_waits either given when claims_of fits is_owner is_sharer is_clean wait_fits in_protocol same
 arrival_fills_holds = refl
 
 abbrev pub has_memory_arrival : RespondTest
-has_memory_arrival p m q pl st = not (takes_payload q m) || is_some (mem_row_of p m (arrival_at_memory pl))
+has_memory_arrival p m q pl st = not (takes_payload q m) || is_some (memory_row_for p m (arrival_at_memory pl))
 
 pub has_memory_arrival_holds : responds has_memory_arrival ≡ true
 unfolding responds respond_case all_protocols all_memories all_states all_requests all_payloads all_asks all_waits either given when claims_of fits is_owner is_sharer is_clean wait_fits in_protocol same

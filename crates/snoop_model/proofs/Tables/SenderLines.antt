@@ -19,7 +19,6 @@ use Rattle.snoop_rules.specs.Takers.{arrival_at_memory, takes_payload}
 use Rattle.snoop_rules.specs.WhoSends.{SentAs}
 use Rattle.snoop_rules.specs.declared.names.MemCell.{MemCell}
 use Rattle.snoop_rules.specs.MemoryCell.{memory_cell_of}
-use Rattle.snoop_rules.proofs.MemRows.{MemoryCell-found}
 use Rattle.snoop_model.specs.Pictures.Picture.{Picture, held_by}
 use Rattle.snoop_model.specs.Moves.Move.{Settles}
 use Rattle.snoop_model.proofs.Tables.SenderTests.{Sender, Memory, Core, Requestor, is_sender_line, follows_sender_table, sender_as, is_some_and, after_respond, next_memory, next_of}
@@ -79,7 +78,7 @@ memory_settles p m (Some event) done h = go (memory_cell_of p m event) refl h
     go None is k = cc
     go (Some row) is k =
         let e : row.next ≡ done = cc in
-        (row.action, rw (← e) (MemoryCell-found p m event row is))
+        (row.action, rw (← e) is)
 
 settles_by : (b : Bool) (p : Protocol) (m : MemState) (sent : Payload) (done : MemState) → cond b (next_memory p m (arrival_at_memory sent)) (Some m) ≡ Some done
     → (act : MemAction) × MatchBool b (IsSomeAnd (arrival_at_memory sent) (λ event. MemoryCell p m event act done)) ((act ≡ mem_action.None) × (done ≡ m))

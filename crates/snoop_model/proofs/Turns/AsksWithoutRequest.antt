@@ -34,11 +34,11 @@ none_some o b e f = cc
 
 -- the queues and the transactions are as before
 same_queues : (s t : Situation) (core block word : ℕ) (asking : Op) (answer : Reply) (entry : Option Item) → FirstMove s (Ask core block word asking) answer t entry → ((request : Request) → answer ≢ Issued request) → (t.queues ≡ s.queues) × (t.transactions ≡ s.transactions)
-same_queues s t core block word asking answer entry m other = by_kind m.1.1.2
+same_queues s t core block word asking answer entry m other = by_kind m.1.1.moves
   where
-    by_act : (a : Asks s core m.0 word asking answer t entry) → (act : CacheAction) → a.act ≡ act → queues_after a.act s.queues core m.0 ≡ s.queues
+    by_act : (a : Asks s core m.0 word asking answer t entry) → (act : CacheAction) → a.row.action ≡ act → queues_after a.row.action s.queues core m.0 ≡ s.queues
     by_act a (action.Issue request) e =
-        let P : CacheAction → Type 0 = λ x. Takes x a.next s.log core m.0 word asking (held_by (picture_of s m.0) core) a.held answer entry in
+        let P : CacheAction → Type 0 = λ x. Takes x a.row.next s.log core m.0 word asking (held_by (picture_of s m.0) core) a.held answer entry in
         let taken = subst P e a.taken in
         absurd (other request taken.1)
     by_act a action.Hit e = rw e refl
@@ -47,7 +47,7 @@ same_queues s t core block word asking answer entry m other = by_kind m.1.1.2
 
     by_kind : IsAbsent s core m.0 asking answer t entry ⊎ Asks s core m.0 word asking answer t entry → (t.queues ≡ s.queues) × (t.transactions ≡ s.transactions)
     by_kind (inl absent) = (ap (λ (x : Situation). x.queues) absent.3, ap (λ (x : Situation). x.transactions) absent.3)
-    by_kind (inr a) = (ap (λ (x : Situation). x.queues) a.after ∙ by_act a a.act refl, ap (λ (x : Situation). x.transactions) a.after)
+    by_kind (inr a) = (ap (λ (x : Situation). x.queues) a.after ∙ by_act a a.row.action refl, ap (λ (x : Situation). x.transactions) a.after)
 
 pub asked_once : AskedOnce
 asked_once s t under_way core block word asking answer entry serving idle kept m other =

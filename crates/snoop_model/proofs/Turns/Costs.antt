@@ -26,17 +26,17 @@ abbrev owes : List (List ℕ) → List (Option Open) → ℕ
 owes lines transactions = 2 * sum_by length lines + count_by is_some transactions
 
 pub pays : Pays
-pays s t (Ask core on word asking) answer entry move = elim move.1.1.2 [
+pays s t (Ask core on word asking) answer entry move = elim move.1.1.moves [
   | inl absent ↦ let e : owed t ≡ owed s = ap (λ (x : Situation). owed x) absent.3 in omega arith
   | inr asks ↦
-      let e : owed t ≡ owes (queues_after asks.act s.queues core move.0) s.transactions = ap (λ (x : Situation). owed x) asks.after in
-      omega (arith, e, sum_asked asks.act s.queues core move.0)
+      let e : owed t ≡ owes (queues_after asks.row.action s.queues core move.0) s.transactions = ap (λ (x : Situation). owed x) asks.after in
+      omega (arith, e, sum_asked asks.row.action s.queues core move.0)
 ]
 pays s t (Order core) answer entry move =
-    let orders = move.1.1.1.3 in
+    let orders = move.1.1.orders in
     let e : owed t ≡ owes (after_order s.queues core move.0) (slice_set s.transactions move.0 orders.next.transaction) = ap (λ (x : Situation). owed x) orders.after in
     omega (arith, e, sum_ordered s.queues core move.0 move.1.0, count_opened s.transactions move.0 orders.next.transaction)
 pays s t (Respond on) answer entry move =
-    let responds = move.1.1.1.1.4 in
+    let responds = move.1.1.responds in
     let e : owed t ≡ owes s.queues (slice_set s.transactions move.0 responds.next.transaction) = ap (λ (x : Situation). owed x) responds.after in
-    omega (arith, e, count_closed s.transactions move.0 responds.next.transaction move.1.1.0 responds.opened responds.closed)
+    omega (arith, e, count_closed s.transactions move.0 responds.next.transaction move.1.1.closing responds.opened responds.closed)

@@ -131,18 +131,18 @@ module _ (s : Situation) (before after : ℕ → Option ℕ) (serving : IsServin
 pub serves_on : ServesOn
 serves_on s t before after (Ask core on word asking) answer entry serving move extends its =
     let P : Situation → Type 0 = λ x. IsServing after x in
-    elim move.1.1.2 [
+    elim move.1.1.moves [
       | inl absent ↦ subst P (sym absent.3) (record { waits = still_waits s before after serving extends; opened = still_opened s before after serving extends })
       | inr asks ↦
           let Q : ℕ → Type 0 = λ b. after core ≡ Some b in
           subst P (sym asks.after) (record {
-            waits = asked_waits s before after serving extends asks.act core move.0 (subst Q move.1.1.0 its);
+            waits = asked_waits s before after serving extends asks.row.action core move.0 (subst Q move.1.1.on_block its);
             opened = still_opened s before after serving extends;
           })
     ]
 serves_on s t before after (Order core) answer entry serving move extends its =
     let P : Situation → Type 0 = λ x. IsServing after x in
-    let orders = move.1.1.1.3 in
+    let orders = move.1.1.orders in
     let here : after core ≡ Some move.0 = extends core move.0 (all_first (λ b. before core ≡ Some b) (queue_of s.queues core) move.0 (serving.waits core) move.1.0) in
     subst P (sym orders.after) (record {
       waits = all_ordered (λ c b. after c ≡ Some b) s.queues core move.0 (still_waits s before after serving extends);
@@ -153,7 +153,7 @@ serves_on s t before after (Order core) answer entry serving move extends its =
     })
 serves_on s t before after (Respond on) answer entry serving move extends its =
     let P : Situation → Type 0 = λ x. IsServing after x in
-    let responds = move.1.1.1.1.4 in
+    let responds = move.1.1.responds in
     subst P (sym responds.after) (record {
       waits = still_waits s before after serving extends;
       opened = set_opened s before after serving extends move.0 responds.next.transaction

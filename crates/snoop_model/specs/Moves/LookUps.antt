@@ -8,25 +8,25 @@ use Rattle.snoop_trace.specs.declared.protocol.Protocol.{Protocol}
 use Rattle.snoop_rules.specs.declared.names.CacheState.{CacheState}
 use Rattle.snoop_rules.specs.declared.names.CacheState.TheVariants as state
 use Rattle.snoop_rules.specs.declared.names.CacheEvent.{CacheEvent}
-use Rattle.snoop_rules.specs.declared.names.CacheAction.{CacheAction}
+use Rattle.snoop_rules.specs.declared.names.CacheCell.{CacheCell}
 use Rattle.snoop_rules.specs.declared.names.MemState.{MemState}
 use Rattle.snoop_rules.specs.declared.names.MemEvent.{MemEvent}
-use Rattle.snoop_rules.specs.declared.names.MemAction.{MemAction}
+use Rattle.snoop_rules.specs.declared.names.MemCell.{MemCell}
 use Rattle.snoop_rules.specs.declared.names.Request.{Request}
 use Rattle.snoop_rules.specs.declared.names.Request.TheVariants.{PutM}
-use Rattle.snoop_rules.specs.Cell.{Cell}
-use Rattle.snoop_rules.specs.MemoryCell.{MemoryCell}
+use Rattle.snoop_rules.specs.Cell.{cell_of}
+use Rattle.snoop_rules.specs.MemoryCell.{memory_cell_of}
 use Rattle.snoop_rules.specs.Takers.{asked, seen_by, at_memory, arrival, arrival_at_memory, takes_payload}
 use Rattle.snoop_bus.specs.Traffic.{Open}
 use Rattle.snoop_model.specs.Pictures.Situation.{Situation, picture_of, state_of, CanOrder}
 
 -- the cache table has a row for the pair
 abbrev pub HasRow : Protocol → CacheState → CacheEvent → Type 0
-HasRow protocol state event = (act : CacheAction) × ((next : CacheState) × Cell protocol state event act next)
+HasRow protocol state event = (row : CacheCell) × (cell_of protocol state event ≡ Some row)
 
 -- the memory table has a row for the pair
 abbrev pub HasMemRow : Protocol → MemState → MemEvent → Type 0
-HasMemRow protocol memory event = (act : MemAction) × ((next : MemState) × MemoryCell protocol memory event act next)
+HasMemRow protocol memory event = (row : MemCell) × (memory_cell_of protocol memory event ≡ Some row)
 
 -- at the step the core looks up its row for this event on the block: at an Ask the asker for its operation, but not for an Evict in I; at an Order of a free block each core for the request;
 -- and at a Respond the requestor for its payload, but not at a PutM. A payload that is for memory alone is no event, and has no row

@@ -19,8 +19,10 @@ use Rattle.snoop_rules.specs.declared.names.MemAction.TheVariants as mem_action
 use Rattle.snoop_rules.specs.declared.names.Request.{Request}
 use Rattle.snoop_rules.specs.declared.names.Request.TheVariants.{GetS, GetM, PutM}
 use Rattle.snoop_rules.specs.declared.names.Payload.{Payload}
-use Rattle.snoop_rules.specs.Cell.{Cell}
-use Rattle.snoop_rules.specs.MemoryCell.{MemoryCell}
+use Rattle.snoop_rules.specs.declared.names.CacheCell.{CacheCell}
+use Rattle.snoop_rules.specs.declared.names.MemCell.{MemCell}
+use Rattle.snoop_rules.specs.Cell.{cell_of}
+use Rattle.snoop_rules.specs.MemoryCell.{MemoryCell, memory_cell_of}
 use Rattle.snoop_rules.specs.Takers.{asked, seen_by, at_memory, arrival, arrival_at_memory, takes_payload}
 use Rattle.snoop_history.specs.declared.items.Did.{Did}
 use Rattle.snoop_history.specs.declared.items.Came.{Came}
@@ -83,11 +85,16 @@ pub record Hits (next : CacheState) (old new : Line) (word : ℕ) (asking : Op) 
 
 -- a core takes its row for a request, its own or another's
 abbrev pub TakesRow : Protocol → CacheEvent → Line → Line → Type 0
-TakesRow protocol event old new = (act : CacheAction) × ((next : CacheState) × (Cell protocol old.state event act next × (new ≡ moves_to next old)))
+TakesRow protocol event old new = (row : CacheCell) × (cell_of protocol old.state event ≡ Some row) × (new ≡ moves_to row.next old)
+
+-- each core takes its row for a request
+pub record TakesRows (protocol : Protocol) (core : ℕ) (request : Request) (old new : List Line) : Type 0 where
+  pub same_length : length new ≡ length old
+  pub rows : (k : ℕ) → k < length old → TakesRow protocol (seen_by k core request) (held_at old k) (held_at new k)
 
 -- memory takes its row for an event
 abbrev pub TakesMemRow : Protocol → MemEvent → MemState → MemState → Type 0
-TakesMemRow protocol event old new = (act : MemAction) × MemoryCell protocol old event act new
+TakesMemRow protocol event old new = (row : MemCell) × (memory_cell_of protocol old event ≡ Some row) × (new ≡ row.next)
 
 -- a fill is for the operation that waits
 abbrev pub IsFillFor : CacheAction → Op → Type 0
@@ -98,15 +105,14 @@ IsFillFor _ _ = ⊥
 -- the data reaches the requestor's line, and the operation that waits there is performed with it
 pub record Fills (closing : Open) (protocol : Protocol) (old new : Line) (asking : Access) (value : ℕ) : Type 0 where
   pub event : CacheEvent
-  pub act : CacheAction
-  pub next : CacheState
+  pub row : CacheCell
   pub after : Data
   pub arrives : arrival closing.payload ≡ Some event
-  pub row : Cell protocol old.state event act next
+  pub is_row : cell_of protocol old.state event ≡ Some row
   pub waited : old.waiting ≡ Some asking
-  pub fill : IsFillFor act asking.op
+  pub fill : IsFillFor row.action asking.op
   pub performed : Performs asking.word asking.op closing.value value after
-  pub held : new ≡ record { state = next; kept = Some after; waiting = None }
+  pub held : new ≡ record { state = row.next; kept = Some after; waiting = None }
 
 -- the same, on the requestor's line among all lines, and the operation as the history will have it
 pub record FillsRequestor (closing : Open) (protocol : Protocol) (log : List Item) (old new : List Line) (did : Option Did) : Type 0 where
@@ -172,14 +178,13 @@ queues_after _ queues core block = queues
 
 -- an Ask that takes a row: that one core takes it
 pub record Asks (old : Situation) (core block word : ℕ) (asking : Op) (answer : Reply) (new : Situation) (entry : Option Item) : Type 0 where
-  pub act : CacheAction
-  pub next : CacheState
+  pub row : CacheCell
+  pub is_row : cell_of old.protocol (state_of old core block) (asked asking) ≡ Some row
   pub held : Line
-  pub row : Cell old.protocol (state_of old core block) (asked asking) act next
-  pub taken : Takes act next old.log core block word asking (held_by (picture_of old block) core) held answer entry
+  pub taken : Takes row.action row.next old.log core block word asking (held_by (picture_of old block) core) held answer entry
   pub after : new ≡ record old {
     caches = slice_set old.caches block (slice_set (picture_of old block).caches core held);
-    queues = queues_after act old.queues core block;
+    queues = queues_after row.action old.queues core block;
     log = old.log ++ option_to_list entry;
   }
 
@@ -194,8 +199,7 @@ pub record Orders (old : Situation) (core block : ℕ) (request : Request) (new 
   pub payload : Payload
   pub sent : IsOnlySender old.protocol (picture_of old block) core request from payload
   pub next : Picture
-  pub caches : length next.caches ≡ length (picture_of old block).caches
-  pub rows : (k : ℕ) → k < length next.caches → TakesRow old.protocol (seen_by k core request) (held_by (picture_of old block) k) (held_by next k)
+  pub taken : TakesRows old.protocol core request (picture_of old block).caches next.caches
   pub memory : TakesMemRow old.protocol (at_memory request) (picture_of old block).memory.state next.memory.state
   pub value : next.memory.value ≡ (picture_of old block).memory.value
   pub opened : next.transaction ≡ Some (record { core = core; request = request; block = block; payload = payload; value = value_sent (picture_of old block) from payload; from = from })
@@ -215,19 +219,36 @@ pub record Responds (old : Situation) (block : ℕ) (closing : Open) (did : Opti
     log = old.log ++ item.Came (came_of closing) did ∷ [];
   }
 
+-- an Ask of a core that there is, on this block, by a word that there is
+pub record AskMove (block : ℕ) (old : Situation) (core on word : ℕ) (asking : Op) (answer : Reply) (new : Situation) (entry : Option Item) : Type 0 where
+  pub on_block : on ≡ block
+  pub within : IsWithin old core block
+  pub moves : MovesAsk old core block word asking answer new entry
+  pub has_word : HasWord old.shape word asking
+
+-- an Order on this block: what is ordered is replied, and is the item
+pub record OrderMove (block : ℕ) (old : Situation) (core : ℕ) (answer : Reply) (new : Situation) (entry : Option Item) : Type 0 where
+  pub request : Request
+  pub within : IsWithin old core block
+  pub answered : answer ≡ reply.Ordered request
+  pub logged : entry ≡ Some (item.Sent (record { core = core; request = request; block = block }))
+  pub orders : Orders old core block request new
+
+-- a Respond on this block: the response, with what it performed, is replied, and is the item
+pub record RespondMove (block : ℕ) (old : Situation) (on : ℕ) (answer : Reply) (new : Situation) (entry : Option Item) : Type 0 where
+  pub closing : Open
+  pub did : Option Did
+  pub on_block : on ≡ block
+  pub within : block < old.shape.blocks
+  pub answered : answer ≡ reply.Came closing.payload closing.from did
+  pub logged : entry ≡ Some (item.Came (came_of closing) did)
+  pub responds : Responds old block closing did new
+
 -- the step, on this block, is answered by this reply, leads from old to new, and adds this item, if any
 abbrev pub MoveOn : ℕ → Situation → Step → Reply → Situation → Option Item → Type 0
-MoveOn block old (Ask core on word asking) answer new entry =
-    (on ≡ block) × IsWithin old core block × MovesAsk old core block word asking answer new entry × HasWord old.shape word asking
-MoveOn block old (Order core) answer new entry =
-    (request : Request) × (IsWithin old core block × (answer ≡ reply.Ordered request)
-    × (entry ≡ Some (item.Sent (record { core = core; request = request; block = block })))
-    × Orders old core block request new)
-MoveOn block old (Respond on) answer new entry =
-    (closing : Open) × ((did : Option Did) × ((on ≡ block) × (block < old.shape.blocks)
-    × (answer ≡ reply.Came closing.payload closing.from did)
-    × (entry ≡ Some (item.Came (came_of closing) did))
-    × Responds old block closing did new))
+MoveOn block old (Ask core on word asking) answer new entry = AskMove block old core on word asking answer new entry
+MoveOn block old (Order core) answer new entry = OrderMove block old core answer new entry
+MoveOn block old (Respond on) answer new entry = RespondMove block old on answer new entry
 
 -- a move, on any block where it is one
 abbrev pub Move : Situation → Step → Reply → Situation → Option Item → Type 0

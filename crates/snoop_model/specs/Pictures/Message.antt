@@ -1,4 +1,4 @@
--- The look-up of the sender at an Order, and the rows that the cores take.
+-- The look-up of the sender at an Order.
 -- Source: this project's profile.
 use Rattle.std.specs.Prelude.{◌≡◌, ℕ, ◌<◌, List, length, Option, Some, None, if◌then◌else◌}
 use Rattle.snoop_trace.specs.Words.{Data, zero_words}
@@ -8,9 +8,8 @@ use Rattle.snoop_rules.specs.Takers.{seen_by, carries_value}
 use Rattle.snoop_rules.specs.declared.names.MemAction.{MemAction}
 use Rattle.snoop_rules.specs.declared.names.MemAction.TheVariants as mem_action
 use Rattle.snoop_model.specs.Pictures.Lines.{Line, MemLine, Message}
-use Rattle.snoop_model.specs.Pictures.Picture.{Picture, held_at, held_by}
+use Rattle.snoop_model.specs.Pictures.Picture.{Picture, held_by}
 use Rattle.snoop_model.specs.Pictures.Sends.{IsOnlySender, value_sent}
-use Rattle.snoop_model.specs.Moves.Move.{TakesRow}
 use Rattle.snoop_model.specs.Moves.LookUps.{HasRow}
 
 -- a block on which no transaction is open
@@ -22,11 +21,6 @@ pub record IsMessage (protocol : Protocol) (before : Picture) (core : ℕ) (requ
   pub rows : (k : ℕ) → k < length before.caches → HasRow protocol (held_by before k).state (seen_by k core request)
   pub only : IsOnlySender protocol before core request message.from message.payload
   pub value : message.value ≡ value_sent before message.from message.payload
-
--- each core takes its row for the request
-pub record TakesRows (protocol : Protocol) (core : ℕ) (request : Request) (old new : List Line) : Type 0 where
-  pub same_length : length new ≡ length old
-  pub rows : (k : ℕ) → k < length old → TakesRow protocol (seen_by k core request) (held_at old k) (held_at new k)
 
 -- the message that memory sends by an action
 abbrev pub memory_message : MemAction → Data → Option Message

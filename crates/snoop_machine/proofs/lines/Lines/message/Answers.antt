@@ -1,10 +1,11 @@
-use Rattle.std.proofs.Common.{◌<◌, length, arith, sym, ap, ◌∙◌, subst, Some}
+use Rattle.std.proofs.Common.{◌≡◌, ◌<◌, length, arith, sym, ap, ◌∙◌, subst, Option, Some, None}
 use Rattle.std.specs.Prelude.{unwrap_or, if◌then◌else◌}
 use Rattle.snoop_trace.specs.Words.{zero_words}
 use Rattle.snoop_rules.specs.declared.names.CacheState.{CacheState}
 use Rattle.snoop_rules.specs.declared.names.CacheEvent.{CacheEvent}
 use Rattle.snoop_rules.specs.declared.names.CacheAction.{CacheAction}
 use Rattle.snoop_rules.specs.declared.names.MemEvent.{MemEvent}
+use Rattle.snoop_rules.specs.declared.names.CacheCell.{CacheCell}
 use Rattle.snoop_rules.specs.Cell.{Cell}
 use Rattle.snoop_rules.specs.MemoryCell.{MemoryCell}
 use Rattle.snoop_rules.specs.Possible.{IsImpossible}
@@ -12,6 +13,7 @@ use Rattle.snoop_rules.specs.Takers.{seen_by, carries_value}
 use Rattle.snoop_model.specs.Pictures.Lines.{Line}
 use Rattle.snoop_model.specs.Pictures.Picture.{held_at}
 use Rattle.snoop_model.specs.Pictures.Message.{free_picture}
+use Rattle.snoop_model.specs.Pictures.Sends.{sent_by}
 use Rattle.snoop_model.proofs.Lines.TheSender.{Silent-none, Silent-more, Silent-past, Silent-all, IsMessage-sent, IsMessage-memory}
 use Rattle.snoop_model.proofs.Lines.EachRow.{row_of}
 use Rattle.snoop_machine.proofs.ConcernedCores.{concerned_within, waits_within, Cell-passed}
@@ -49,7 +51,8 @@ unreachable-requires-in_default-cache_cell g c =
     let Q : CacheState → Type 0 = λ state. IsImpossible c.args.protocol state (seen_by core c.args.requestor c.args.request) in
     let none = subst Q (ap (λ (line : Line). line.state) c.get-line.ensures.line) (subst P c.event_seen.ensures c.in_default-cache_cell.ensures.impossible) in
     let there = c.requires.rows core (within_row g (goal.at.unreachable-requires-in_default-cache_cell g c).In-Some-next) in
-    none there.0 there.1.0 there.1.1
+    let clash : ◌≡◌ {A = Option CacheCell} None (Some there.0) = sym none ∙ there.1 in
+    cc
 
 pub returns-in-Send : goal.returns-in-Send
 returns-in-Send g c =
@@ -58,7 +61,7 @@ returns-in-Send g c =
     let core = c.in-Some-next.core in
     let P : CacheAction → Type 0 = λ act. Cell c.args.protocol (held_at (row_of c.args.self.now.rows c.args.block) core).state (seen_by core c.args.requestor c.args.request) act c.in-Some-cache_cell.cell.next in
     IsMessage-sent c.args.protocol before c.args.requestor c.args.request c.requires.rows c.requires.line (record { payload = c.in-Send.payload; value = c.words_for.result; from = Some core })
-    (within_row g (goal.at.returns-in-Send g c).In-Some-next, (c.in-Send.field-1, (c.in-Some-cache_cell.cell.next, subst P c.in-Send.is (row g d))))
+    (within_row g (goal.at.returns-in-Send g c).In-Some-next, ap sent_by (subst P c.in-Send.is (row g d)))
     (c.words_for.ensures ∙ ap (λ (line : Line). if carries_value c.in-Send.payload then unwrap_or line.kept zero_words else zero_words) c.get-line.ensures.line)
 
 pub loop-core-init : goal.loop-core-init

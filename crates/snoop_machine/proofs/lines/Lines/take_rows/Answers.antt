@@ -1,11 +1,12 @@
-use Rattle.std.proofs.Common.{◌≡◌, ◌<◌, List, [], length, arith, ◌+◌, true≢false, sym, ap, ◌∙◌, subst, inl}
+use Rattle.std.proofs.Common.{◌≡◌, ◌<◌, List, [], Option, Some, None, length, arith, ◌+◌, true≢false, sym, ap, ◌∙◌, subst, inl}
 use Rattle.std.specs.Prelude.{slice_set, slice_index_or}
 use Rattle.std.proofs.lemmas.Grind.{common_steps}
 use Rattle.std.proofs.lemmas.List.{set-get_or, set-set, length-set}
 use Rattle.snoop_rules.specs.declared.names.CacheEvent.{CacheEvent}
 use Rattle.snoop_rules.specs.declared.names.CacheState.{CacheState}
 use Rattle.snoop_rules.specs.declared.names.CacheState.TheVariants.{I}
-use Rattle.snoop_rules.specs.Cell.{Cell}
+use Rattle.snoop_rules.specs.declared.names.CacheCell.{CacheCell}
+use Rattle.snoop_rules.specs.Cell.{Cell, cell_of}
 use Rattle.snoop_rules.specs.Takers.{seen_by}
 use Rattle.snoop_model.specs.Pictures.Lines.{Line}
 use Rattle.snoop_model.specs.Pictures.Picture.{held_at, nothing_held}
@@ -61,10 +62,12 @@ unreachable-requires g c =
     let row = row_of c.loop-core.self.rows c.args.block in
     let there : HasRow c.args.protocol (held_at old n).state (seen_by n c.args.requestor c.args.request) = c.requires.rows n (within_row g d) in
     let same : held_at row n ≡ held_at old n = (so_far g d).left n (omega arith) in
-    let P : Line → Type 0 = λ x. Cell c.args.protocol x.state (seen_by n c.args.requestor c.args.request) there.0 there.1.0 in
-    let Q : CacheEvent → Type 0 = λ event. Cell c.args.protocol (held_at row n).state event there.0 there.1.0 in
-    let R : Line → Type 0 = λ line. Cell c.args.protocol line.state c.event_seen-event.result there.0 there.1.0 in
-    absurd (c.in_default-cache_cell.ensures.impossible there.0 there.1.0 (subst R (sym c.get-line.ensures.line) (subst Q (sym c.event_seen-event.ensures) (subst P (sym same) there.1.1))))
+    let P : Line → Type 0 = λ x. cell_of c.args.protocol x.state (seen_by n c.args.requestor c.args.request) ≡ Some there.0 in
+    let Q : CacheEvent → Type 0 = λ event. cell_of c.args.protocol (held_at row n).state event ≡ Some there.0 in
+    let R : Line → Type 0 = λ line. cell_of c.args.protocol line.state c.event_seen-event.result ≡ Some there.0 in
+    let found = subst R (sym c.get-line.ensures.line) (subst Q (sym c.event_seen-event.ensures) (subst P (sym same) there.1)) in
+    let clash : ◌≡◌ {A = Option CacheCell} None (Some there.0) = sym c.in_default-cache_cell.ensures.impossible ∙ found in
+    cc
 
 -- the row of the core that is looked at
 row : (g : Over) (c : In-Some-cache_cell g) → Cell c.args.protocol (line_at c.loop-core.self.rows c.in-Some.core c.args.block).state (seen_by c.in-Some.core c.args.requestor c.args.request) c.in-Some-cache_cell.cell.action c.in-Some-cache_cell.cell.next

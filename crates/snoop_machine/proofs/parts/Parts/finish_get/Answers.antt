@@ -35,9 +35,9 @@ invariant_of-self g c =
     let T : Standing → Type 0 = λ x. Fills c.args.closing x.situation.protocol (line_at x.situation.caches core block) filled.line filled.access filled.value in
     let f : Fills c.args.closing m.protocol (line_at m.lines.rows core block) filled.line filled.access filled.value = subst T (sym c.self.view_is) c.requires.filled in
     let I : Line → Type 0 = λ x. IsProper x in
-    let proper : IsProper filled.line = subst I (sym f.held) (IsProper-fill m.protocol (line_at m.lines.rows core block).state f.event f.act f.next filled.access.op f.after f.fill f.row) in
+    let proper : IsProper filled.line = subst I (sym f.held) (IsProper-fill m.protocol (line_at m.lines.rows core block).state f.event f.row.action f.row.next filled.access.op f.after f.fill f.is_row) in
     let same : waiting_request filled.line.state ≡ waiting_request (line_at m.lines.rows core block).state =
-    ap (λ (x : Line). waiting_request x.state) f.held ∙ fill-waits m.protocol (line_at m.lines.rows core block).state f.event f.act f.next filled.access.op f.fill f.row in
+    ap (λ (x : Line). waiting_request x.state) f.held ∙ fill-waits m.protocol (line_at m.lines.rows core block).state f.event f.row.action f.row.next filled.access.op f.fill f.is_row in
     let in_blocks : block < m.shape.blocks = subst Q (sym c.self.view_is) c.requires.block in
     let placed_sound = IsSound-line m.shape m.lines.rows m.bus c.self.invariant.sound core block filled.line (subst P (sym c.self.view_is) c.requires.core) in_blocks proper same in
     let S : List (List Line) → Type 0 = λ caches. IsSound m.shape caches c.finish.new.self in
@@ -95,7 +95,7 @@ set-requires-clause-proper g c =
     let S : Standing → Type 0 = λ x. Fills c.args.closing x.situation.protocol (line_at x.situation.caches c.args.closing.core c.args.block) c.args.filled.line c.args.filled.access c.args.filled.value in
     let m = (fields c.self.inside.protocol c.self.inside.shape c.self.inside.lines c.self.inside.memory c.self.inside.bus c.self.inside.log) in
     let its : Fills c.args.closing m.protocol (line_at m.lines.rows c.args.closing.core c.args.block) c.args.filled.line c.args.filled.access c.args.filled.value = subst S (sym c.self.view_is) c.requires.filled in
-    subst I (sym its.held) (IsProper-fill m.protocol (line_at m.lines.rows c.args.closing.core c.args.block).state its.event its.act its.next c.args.filled.access.op its.after its.fill its.row)
+    subst I (sym its.held) (IsProper-fill m.protocol (line_at m.lines.rows c.args.closing.core c.args.block).state its.event its.row.action its.row.next c.args.filled.access.op its.after its.fill its.is_row)
 
 pub returns-clause-lines : goal.returns-clause-lines
 returns-clause-lines g c =

@@ -2,6 +2,7 @@ use Rattle.std.proofs.Common.{◌≡◌, ◌<◌, Option, Some, None, refl, sym,
 use Rattle.std.specs.Prelude.{ℕ, length, slice_index_or, is_some}
 use Rattle.snoop_trace.specs.declared.step.Step.TheVariants.{Order}
 use Rattle.snoop_rules.specs.declared.names.MemEvent.{MemEvent}
+use Rattle.snoop_rules.specs.declared.names.MemCell.{MemCell}
 use Rattle.snoop_rules.specs.MemoryCell.{MemoryCell}
 use Rattle.snoop_rules.specs.Possible.{IsMemImpossible}
 use Rattle.snoop_rules.specs.Takers.{at_memory, seen_by}
@@ -48,7 +49,7 @@ memory_row : (g : Over) (c : In-Some-mem_cell g) → TakesMemRow c.args.self.now
 memory_row g c =
     let P : MemEvent → Type 0 = λ e. MemoryCell c.self.inside.protocol c.get_or-memory.result.state e c.in-Some-mem_cell.cell.action c.in-Some-mem_cell.cell.next in
     let Q : Picture → Type 0 = λ p. TakesMemRow c.self.inside.protocol (at_memory c.in-Some.request) p.memory.state c.in-Some-mem_cell.cell.next in
-    rw (← protocol g c) (subst Q (picture g c) (c.in-Some-mem_cell.cell.action, subst P c.event_at_memory.ensures c.in-Some-mem_cell.ensures.row))
+    rw (← protocol g c) (subst Q (picture g c) (c.in-Some-mem_cell.cell, subst P c.event_at_memory.ensures c.in-Some-mem_cell.ensures.row, refl))
 
 free_here : (g : Over) (c : In-Some-mem_cell g) → (picture_of c.args.self.now.situation c.in-Some.block).transaction ≡ None
 free_here g c =
@@ -108,4 +109,5 @@ unreachable-requires g c =
     let R : Standing → Type 0 = λ x. IsMemImpossible x.situation.protocol (picture_of x.situation block).memory.state (at_memory request) in
     let none : IsMemImpossible s.protocol (picture_of s block).memory.state (at_memory request) = subst R c.self.view_is (subst Q held (subst P c.event_at_memory.ensures c.in_default-mem_cell.ensures.impossible)) in
     let line = orders_follow_sender_table s c.requires.inductive c.args.core block request (head.waits, free) in
-    none line.ordered.0 line.next line.ordered.1
+    let clash : ◌≡◌ {A = Option MemCell} None (Some line.ordered.0) = sym none ∙ line.ordered.1 in
+    cc

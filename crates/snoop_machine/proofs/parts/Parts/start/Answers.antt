@@ -114,15 +114,13 @@ returns-clause-ordered g c =
       memory = record { state = c.args.memory; value = (picture_of old block).memory.value };
       transaction = Some (record { core = core; request = request; block = block; payload = message.payload; value = value_sent (picture_of old block) message.from message.payload; from = message.from });
     } in
-    let long = c.take_rows.ensures.taken.same_length in
     subst G is (record {
       ready = (subst W (sym is) c.requires.head.waits, subst F (sym is) c.requires.free);
       from = message.from;
       payload = message.payload;
       sent = sent.only;
       next = next;
-      caches = c.take_rows.ensures.taken.same_length;
-      rows = λ k lt. c.take_rows.ensures.taken.rows k (omega arith);
+      taken = c.take_rows.ensures.taken;
       memory = subst N (sym is) c.requires.memory;
       value = refl;
       opened = refl;

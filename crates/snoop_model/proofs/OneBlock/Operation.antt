@@ -1,0 +1,20 @@
+-- What a move's operation, if it has one, does to its block's words in flat memory.
+use Rattle.std.proofs.Common.{◌≡◌, List, ℕ, true, cond, Option, Some, None}
+use Rattle.std.specs.Prelude.{⊤, slice_set}
+use Rattle.snoop_trace.specs.Words.{word_at}
+use Rattle.snoop_history.specs.declared.items.Did.{Did}
+use Rattle.snoop_history.specs.declared.items.Item.{Item}
+use Rattle.snoop_history.specs.History.{operation_of}
+
+abbrev pub did_in : Option Item → Option Did
+did_in None = None
+did_in (Some entry) = operation_of entry
+
+abbrev pub flat_after : List ℕ → Option Did → List ℕ
+flat_after flat None = flat
+flat_after flat (Some did) = cond did.load flat (slice_set flat did.word did.value)
+
+-- a load gives flat memory's value
+abbrev pub IsLawful : List ℕ → Option Did → Type 0
+IsLawful flat None = ⊤
+IsLawful flat (Some did) = did.load ≡ true → did.value ≡ word_at flat did.word
