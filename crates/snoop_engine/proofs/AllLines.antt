@@ -152,7 +152,7 @@ pub cores_listed : (s new : Situation) (step : Step) (answer : Reply) → Invari
     → (DoesNothing step (state_of s core block) → ⊥) → Contains (taken_by s step) (Core core block (Some event) (state_of s core block))
 cores_listed s new (Ask asker on word asking) answer g goes core block event first looks held =
     let m = goes.1 in
-    let within : IsWithin s asker on = subst (λ (b : ℕ). IsWithin s asker b) (sym m.1.1.0) m.1.1.1 in
+    let within : IsWithin s asker on = subst (λ (b : ℕ). IsWithin s asker b) (sym m.1.1.on_block) m.1.1.within in
     let P : ℕ → ℕ → CacheEvent → Type 0 = λ c b e. Contains (of_ask s asker on asking) (Core c b (Some e) (state_of s c b)) in
     let apart : (asking ≡ op.Evict) × (state_of s asker on ≡ I) → ⊥ =
     subst (λ (b : ℕ). (asking ≡ op.Evict) × (state_of s asker b ≡ I) → ⊥) looks.1 (subst (λ (c : ℕ). (asking ≡ op.Evict) × (state_of s c block ≡ I) → ⊥) looks.0 looks.2) in
@@ -161,14 +161,14 @@ cores_listed s new (Ask asker on word asking) answer g goes core block event fir
 cores_listed s new (Order requestor) answer g goes core block event first looks held =
     let m = goes.1 in
     let same : m.0 ≡ block = same_Some _ _ (sym m.1.0 ∙ first) in
-    let y : block < s.shape.blocks = subst (λ (b : ℕ). b < s.shape.blocks) same m.1.1.1.0.1 in
+    let y : block < s.shape.blocks = subst (λ (b : ℕ). b < s.shape.blocks) same m.1.1.within.1 in
     let request : Request = looks.0 in
     let line : ℕ → CacheEvent → Taken = λ c e. Core c block (Some e) (state_of s c block) in
     subst (λ (e : CacheEvent). Contains (taken_by s (Order requestor)) (line core e)) (sym (same_Some _ _ looks.1.1))
     (order_lines s g requestor block request (line core (seen_by core requestor request)) first looks.1.0.0 (holder_listed s g requestor core block request y held))
 cores_listed s new (Respond on) answer g goes core block event first looks held =
     let m = goes.1.1.1 in
-    let y : on < s.shape.blocks = subst (λ (b : ℕ). b < s.shape.blocks) (sym m.1.1.0) m.1.1.1 in
+    let y : on < s.shape.blocks = subst (λ (b : ℕ). b < s.shape.blocks) (sym m.on_block) m.within in
     let closing : Open = looks.0 in
     let P : ℕ → ℕ → Type 0 = λ c b. Contains (taken_by s (Respond on)) (Core c b (Some event) (state_of s c b)) in
     let opened : (picture_of s on).transaction ≡ Some closing = subst (λ (b : ℕ). (picture_of s b).transaction ≡ Some closing) looks.1.0 looks.1.1 in
@@ -184,13 +184,13 @@ memory_rows_listed s new (Ask asker on word asking) answer g goes block event fi
 memory_rows_listed s new (Order requestor) answer g goes block event first looks =
     let m = goes.1 in
     let same : m.0 ≡ block = same_Some _ _ (sym m.1.0 ∙ first) in
-    let y : block < s.shape.blocks = subst (λ (b : ℕ). b < s.shape.blocks) same m.1.1.1.0.1 in
+    let y : block < s.shape.blocks = subst (λ (b : ℕ). b < s.shape.blocks) same m.1.1.within.1 in
     let request : Request = looks.0 in
     subst (λ (e : MemEvent). Contains (taken_by s (Order requestor)) (Memory block e (picture_of s block).memory.state)) (sym (same_Some _ _ looks.1.1))
     (order_lines s g requestor block request _ first looks.1.0.0 (request_at_memory s g requestor block request y))
 memory_rows_listed s new (Respond on) answer g goes block event first looks =
     let m = goes.1.1.1 in
-    let y : on < s.shape.blocks = subst (λ (b : ℕ). b < s.shape.blocks) (sym m.1.1.0) m.1.1.1 in
+    let y : on < s.shape.blocks = subst (λ (b : ℕ). b < s.shape.blocks) (sym m.on_block) m.within in
     let closing : Open = looks.0 in
     let opened : (picture_of s on).transaction ≡ Some closing = subst (λ (b : ℕ). (picture_of s b).transaction ≡ Some closing) looks.1.0 looks.1.1 in
     let takes : takes_payload closing.request (picture_of s on).memory.state ≡ true = subst (λ (b : ℕ). takes_payload closing.request (picture_of s b).memory.state ≡ true) looks.1.0 looks.1.2 in

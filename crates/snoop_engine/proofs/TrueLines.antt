@@ -29,8 +29,7 @@ use Rattle.snoop_rules.specs.Cell.{Cell}
 use Rattle.snoop_rules.specs.MemoryCell.{MemoryCell}
 use Rattle.snoop_rules.specs.Takers.{arrival, arrival_at_memory, asked, at_memory, seen_by, takes_payload}
 use Rattle.snoop_rules.proofs.Every.{all_protocols, all_states, all_events}
-use Rattle.snoop_rules.proofs.Rows.{cell_of-Cell, each_row, each_row-at}
-use Rattle.snoop_rules.proofs.MemRows.{memory_cell_of-MemoryCell}
+use Rattle.snoop_rules.proofs.Rows.{each_row, each_row-at}
 use Rattle.snoop_history.specs.declared.items.Did.{Did}
 use Rattle.snoop_history.specs.declared.items.Item.{Item}
 use Rattle.snoop_bus.specs.Traffic.{Open}
@@ -107,8 +106,8 @@ stall_stays p s e n h = stays_same n s (each_row-at stall_test stall_test_holds 
 asked_event : (p : Protocol) (asking : Op) (s : CacheState) (a : CacheAction) (n : CacheState) → Cell p s (asked asking) a n → event_asked asking s ≡ Some (asked asking)
 asked_event p op.Load s a n h = refl
 asked_event p (op.Store v) s a n h = refl
-asked_event Msi op.Evict I a n h = absurd h
-asked_event Mesi op.Evict I a n h = absurd h
+asked_event Msi op.Evict I a n h = cc
+asked_event Mesi op.Evict I a n h = cc
 asked_event p op.Evict IsAd a n h = refl
 asked_event p op.Evict IsD a n h = refl
 asked_event p op.Evict ImAd a n h = refl
@@ -170,7 +169,7 @@ module _ (old new : Situation) (step : Step) (outcome : Result Reply Refused) wh
   row_true : (core block : ℕ) (event : CacheEvent) (act : CacheAction) (next : CacheState) → Cell old.protocol (state_of old core block) event act next → state_of new core block ≡ next
       → IsTrue here (Core core block (Some event) (state_of old core block))
   row_true core block event act next row is =
-      (refl, (act, cell_of-Cell old.protocol (state_of old core block) event act next row ∙ ap (λ (s : CacheState). let c : Option CacheCell = Some (record { action = act; next = s }) in c) (sym is)))
+      (refl, (act, row ∙ ap (λ (s : CacheState). let c : Option CacheCell = Some (record { action = act; next = s }) in c) (sym is)))
 
   -- a core's line with no event
   idle_true : (core block : ℕ) → new ≡ old → IsTrue here (Core core block None (state_of old core block))
@@ -196,33 +195,34 @@ module _ (old new : Situation) (step : Step) (outcome : Result Reply Refused) wh
   memory_true block event row =
       let s : MemState = (picture_of old block).memory.state in
       all_if (IsTrue here) (nat_lt block old.shape.blocks) s (λ before. Memory block event before ∷ [])
-      (all_one (IsTrue here) (Memory block event s) (refl, (row.0, memory_cell_of-MemoryCell old.protocol s event row.0 (picture_of new block).memory.state row.1)))
+      (all_one (IsTrue here) (Memory block event s) (refl, row))
 
   -- the lines of a move
   ask_true : (core block word : ℕ) (asking : Op) (answer : Reply) (entry : Option Item) → Invariant old → IsWithin old core block → MovesAsk old core block word asking answer new entry → All (IsTrue here) (of_ask old core block asking)
   ask_true core block word asking answer entry g within moves = elim moves [
     | inl absent ↦ absent_true core block asking absent.0 absent.1 absent.3
     | inr a ↦
-        let is : state_of new core block ≡ a.next =
-        ap (λ (l : Line). l.state) (ask_line old core block word asking answer new entry g within a) ∙ taken_state a.act a.next old.log core block word asking (held_by (picture_of old block) core) a.held answer entry a.taken in
-        asked_true core block asking a.act a.next a.row is
+        let is : state_of new core block ≡ a.row.next =
+        ap (λ (l : Line). l.state) (ask_line old core block word asking answer new entry g within a) ∙ taken_state a.row.action a.row.next old.log core block word asking (held_by (picture_of old block) core) a.held answer entry a.taken in
+        asked_true core block asking a.row.action a.row.next a.is_row is
   ]
 
   order_true : (core block : ℕ) (request : Request) → Invariant old → IsWithin old core block → Orders old core block request new → All (IsTrue here) (of_request old core block request)
   order_true core block request g within o =
       let now : picture_of new block ≡ o.next = order_here old core block request new g within o in
       let wide = g.shaped.row block within.1 in
-      let long = o.caches in
       let holder : (k : ℕ) → k < 0 + old.shape.cores → All (IsTrue here) (of_holder old core block request k) = λ k k_in.
-      (let row = o.rows k (omega arith) in
+      (let row = o.taken.rows k (omega arith) in
       let s : CacheState = state_of old k block in
-      let is : state_of new k block ≡ row.1.0 = ap (λ (p : Picture). (held_by p k).state) now ∙ ap (λ (l : Line). l.state) row.1.1.1 in
+      let is : state_of new k block ≡ row.0.next = ap (λ (p : Picture). (held_by p k).state) now ∙ ap (λ (l : Line). l.state) row.2 in
       all_if (IsTrue here) (nat_lt k old.shape.cores && nat_lt block old.shape.blocks) s (λ before. unless_i before (Core k block (Some (seen_by k core request)) before))
-      (all_unless_i (IsTrue here) s _ (row_true k block (seen_by k core request) row.0 row.1.0 row.1.1.0 is))) in
+      (all_unless_i (IsTrue here) s _ (row_true k block (seen_by k core request) row.0.action row.0.next row.1 is))) in
       All-append (IsTrue here) (flat_map (of_holder old core block request) (range_with_len 0 old.shape.cores)) (of_memory old block (at_memory request))
       (all_range (IsTrue here) (of_holder old core block request) 0 old.shape.cores holder)
       (memory_true block (at_memory request)
-      (o.memory.0, subst (λ (p : Picture). MemoryCell old.protocol (picture_of old block).memory.state (at_memory request) o.memory.0 p.memory.state) (sym now) o.memory.1))
+      (let row = o.memory in
+      let done : (picture_of new block).memory.state ≡ row.0.next = ap (λ (p : Picture). p.memory.state) now ∙ row.2 in
+      (row.0.action, subst (λ (m : MemState). MemoryCell old.protocol (picture_of old block).memory.state (at_memory request) row.0.action m) (sym done) row.1)))
 
   -- the requestor's line at a Respond
   filled_true : (block : ℕ) (closing : Open) (did : Option Did) (next : Picture) → closing.core < length (picture_of old block).caches → picture_of new block ≡ next
@@ -230,13 +230,13 @@ module _ (old new : Situation) (step : Step) (outcome : Result Reply Refused) wh
   filled_true block closing did next within now f =
       let core : ℕ = closing.core in
       let s : CacheState = state_of old core block in
-      let is : state_of new core block ≡ f.fills.next =
+      let is : state_of new core block ≡ f.fills.row.next =
       ap (λ (p : Picture). (held_by p core).state) now
       ∙ (ap (λ (l : List Line). (held_at l core).state) f.held
       ∙ (ap (λ (l : Line). l.state) (get_or-set_same (picture_of old block).caches core f.line nothing_held within) ∙ ap (λ (l : Line). l.state) f.fills.held)) in
       let line : All (IsTrue here) (of_core old core block (Some f.fills.event)) =
       all_if (IsTrue here) (nat_lt core old.shape.cores && nat_lt block old.shape.blocks) s (λ before. Core core block (Some f.fills.event) before ∷ [])
-      (all_one (IsTrue here) (Core core block (Some f.fills.event) s) (row_true core block f.fills.event f.fills.act f.fills.next f.fills.row is)) in
+      (all_one (IsTrue here) (Core core block (Some f.fills.event) s) (row_true core block f.fills.event f.fills.row.action f.fills.row.next f.fills.is_row is)) in
       subst (λ (e : Option CacheEvent). All (IsTrue here) (of_arrival old core block e)) (sym f.fills.arrives) line
 
   requestor_true : (request : Request) (block : ℕ) (closing : Open) (did : Option Did) (next : Picture) → closing.core < length (picture_of old block).caches → picture_of new block ≡ next
@@ -303,25 +303,25 @@ step_true old new step (Err cause) steady goes = refused_true old new step (Err 
 step_true old new (Ask core block word asking) (Ok answer) steady goes =
     let m = goes.1 in
     let P : ℕ → Type 0 = λ b. IsWithin old core b × MovesAsk old core b word asking answer new goes.0 in
-    let moved : P block = subst P (sym m.1.1.0) (m.1.1.1, m.1.1.2) in
+    let moved : P block = subst P (sym m.1.1.on_block) (m.1.1.within, m.1.1.moves) in
     ask_true old new (Ask core block word asking) (Ok answer) core block word asking answer goes.0 steady.0 moved.0 moved.1
 step_true old new (Order core) (Ok answer) steady goes =
     let m = goes.1 in
     let block = m.0 in
-    let move = m.1.1.1 in
-    let request : Request = m.1.1.0 in
+    let move = m.1.1 in
+    let request : Request = move.request in
     let frame : Frame = here old new (Order core) (Ok answer) in
-    let lines : All (IsTrue frame) (of_request old core block request) = order_true old new (Order core) (Ok answer) core block request steady.0 move.0 move.3 in
-    let waiting : All (IsTrue frame) (of_order old core block) = subst (λ (w : Option Request). All (IsTrue frame) (option_map_or (of_request old core block) w [])) (sym move.3.ready.0) lines in
+    let lines : All (IsTrue frame) (of_request old core block request) = order_true old new (Order core) (Ok answer) core block request steady.0 move.within move.orders in
+    let waiting : All (IsTrue frame) (of_order old core block) = subst (λ (w : Option Request). All (IsTrue frame) (option_map_or (of_request old core block) w [])) (sym move.orders.ready.0) lines in
     subst (λ (b : Option ℕ). All (IsTrue frame) (option_map_or (of_order old core) b [])) (sym m.1.0) waiting
 step_true old new (Respond block) (Ok answer) steady goes =
     let m = goes.1 in
     let move = m.1.1 in
-    let closing : Open = move.0 in
-    let did : Option Did = move.1.0 in
+    let closing : Open = move.closing in
+    let did : Option Did = move.did in
     let frame : Frame = here old new (Respond block) (Ok answer) in
     let P : ℕ → Type 0 = λ b. (b < old.shape.blocks) × Responds old b closing did new in
-    let moved : P block = subst P (sym move.1.1.0) (move.1.1.1, move.1.1.4) in
+    let moved : P block = subst P (sym move.on_block) (move.within, move.responds) in
     subst (λ (t : Option Open). All (IsTrue frame) (option_map_or (of_respond old block) t [])) (sym moved.1.opened)
     (respond_true old new (Respond block) (Ok answer) block closing did steady.0 moved.0 moved.1)
 
