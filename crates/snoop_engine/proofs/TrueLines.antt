@@ -325,6 +325,16 @@ step_true old new (Respond block) (Ok answer) steady goes =
     subst (λ (t : Option Open). All (IsTrue frame) (option_map_or (of_respond old block) t [])) (sym moved.1.opened)
     (respond_true old new (Respond block) (Ok answer) block closing did steady.0 moved.0 moved.1)
 
+-- a step keeps the protocol
+same_protocol : (old new : Situation) (step : Step) (outcome : Result Reply Refused) → GoesFirst old step outcome new → new.protocol ≡ old.protocol
+same_protocol old new step (Err cause) goes = ap (λ (s : Situation). s.protocol) goes.1
+same_protocol old new (Ask core block word asking) (Ok answer) goes = elim goes.1.1.1.2 [
+  | inl absent ↦ ap (λ (s : Situation). s.protocol) absent.3
+  | inr a ↦ ap (λ (s : Situation). s.protocol) a.after
+]
+same_protocol old new (Order core) (Ok answer) goes = ap (λ (s : Situation). s.protocol) goes.1.1.1.1.3.after
+same_protocol old new (Respond block) (Ok answer) goes = ap (λ (s : Situation). s.protocol) goes.1.1.1.1.1.4.after
+
 -- none is left out
 step_whole : (old new : Situation) (step : Step) (outcome : Result Reply Refused) → IsSteady old → GoesFirst old step outcome new → IsOk outcome → HasAllLines (here old new step outcome)
 step_whole old new step (Ok answer) steady goes ok = record {
@@ -338,7 +348,7 @@ frames_show : (frames : List Frame) (old new : Situation) → IsSteady old → F
 frames_show [] old new steady run = All-nil ShowsRows
 frames_show (f ∷ fs) old new steady run =
     let from : IsSteady f.before = subst IsSteady (sym run.0.before) steady in
-    All-cons ShowsRows f fs (record { true = step_true f.before f.after f.step f.outcome from run.0.goes; all = step_whole f.before f.after f.step f.outcome from run.0.goes })
+    All-cons ShowsRows f fs (record { stays = same_protocol f.before f.after f.step f.outcome run.0.goes; true = step_true f.before f.after f.step f.outcome from run.0.goes; all = step_whole f.before f.after f.step f.outcome from run.0.goes })
     (frames_show fs f.after new (steady_on keeps_well f.before f.step f.outcome f.after from run.0.goes) run.1)
 
 -- the frames of a run from reset
