@@ -225,6 +225,7 @@ impl<B: Block> Parts<B> {
     }
 
     /// What the core holds of the block.
+    #[inline(always)]
     fn line(&self, core: u32, block: u32) -> Line<Kept<B>>
         requires core { core < self.now.situation.shape.cores }
         requires block { block < self.now.situation.shape.blocks }

@@ -31,6 +31,9 @@ pub fn push_byte(out: &mut Vec<u8>, byte: u8) -> Result<(), NoMemory>
 pub fn push_decimal(out: &mut Vec<u8>, number: u64) -> Result<(), NoMemory>
     ensures ok { OnOk result (out.new.items ≡ out.old.items ++ decimal number) }
 {
+    if number < 10 {
+        return push_byte(out, b'0' + number as u8);
+    }
     let mut digits = Buffer::new();
     push_text(out, digits.format(number))
 }
