@@ -1,6 +1,6 @@
 -- A Respond played.
 use Rattle.std.proofs.Common.{◌≡◌, ℕ, ◌<◌, Bool, true, false, List, [], ◌∷◌, ◌++◌, Option, Some, None, Ok, refl}
-use Rattle.std.specs.Prelude.{slice_set, MatchBool, IsSomeAnd}
+use Rattle.std.specs.Prelude.{slice_set}
 use Rattle.snoop_trace.specs.declared.step.Op.{Op}
 use Rattle.snoop_trace.specs.declared.step.Op.TheVariants as op
 use Rattle.snoop_trace.specs.declared.step.Step.TheVariants.{Respond}
@@ -13,7 +13,6 @@ use Rattle.snoop_rules.specs.declared.names.MemState.{MemState}
 use Rattle.snoop_rules.specs.declared.names.MemAction.{MemAction}
 use Rattle.snoop_rules.specs.declared.names.MemAction.TheVariants as mem_action
 use Rattle.snoop_rules.specs.declared.names.Payload.{Payload}
-use Rattle.snoop_rules.specs.MemoryCell.{MemoryCell}
 use Rattle.snoop_rules.specs.declared.names.Request.{Request}
 use Rattle.snoop_rules.specs.declared.names.Request.TheVariants.{GetS, GetM, PutM}
 use Rattle.snoop_rules.specs.Takers.{arrival, arrival_at_memory, takes_payload}
@@ -29,6 +28,7 @@ use Rattle.snoop_model.specs.Pictures.Picture.{Picture, held_at}
 use Rattle.snoop_model.specs.Pictures.Situation.{Situation, picture_of, with_picture}
 use Rattle.snoop_model.specs.Moves.Move.{next_did, IsFillFor, FillsRequestor, ArrivesFor, written, came_of}
 use Rattle.snoop_model.specs.Runs.Run.{GoesFirst}
+use Rattle.snoop_model.proofs.Tables.RespondTests.{SettlesIf}
 use Rattle.snoop_scenes.proofs.Deciding.{if_some}
 use Rattle.snoop_scenes.proofs.Rows.{RowAt, row_at, memory_row_at}
 use Rattle.snoop_scenes.proofs.Played.{Played, Performed, performed}
@@ -102,11 +102,6 @@ arrived PutM closing protocol log lines = Some (record { new = lines; did = None
 arrived GetS closing protocol log lines = if_some (filled closing protocol log lines) λ f is. Some (record { new = f.new; did = f.did; arrives = f.fills })
 arrived GetM closing protocol log lines = if_some (filled closing protocol log lines) λ f is. Some (record { new = f.new; did = f.did; arrives = f.fills })
 
--- what memory does with the payload where it takes it, and where it doesn't
-abbrev pub SettlesIf : Bool → Payload → Protocol → MemState → MemAction → MemState → Type 0
-SettlesIf takes payload protocol old act new =
-    MatchBool takes (IsSomeAnd (arrival_at_memory payload) (λ event. MemoryCell protocol old event act new)) ((act ≡ mem_action.None) × (new ≡ old))
-
 -- a block with no transaction
 abbrev pub closed_picture : List Line → MemState → List ℕ → Picture
 closed_picture caches memory value = record { caches = caches; memory = record { state = memory; value = value }; transaction = None }
@@ -115,7 +110,7 @@ closed_picture caches memory value = record { caches = caches; memory = record {
 pub record Remembered (takes : Bool) (payload : Payload) (protocol : Protocol) (old : MemState) : Type 0 where
   pub act : MemAction
   pub memory : MemState
-  pub settles : SettlesIf takes payload protocol old act memory
+  pub settles : SettlesIf takes protocol (arrival_at_memory payload) old act memory
 
 abbrev pub remembered : (takes : Bool) (payload : Payload) (protocol : Protocol) (old : MemState) → Option (Remembered takes payload protocol old)
 remembered false payload protocol old = Some (record { act = mem_action.None; memory = old; settles = (refl, refl) })

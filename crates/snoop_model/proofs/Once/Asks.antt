@@ -42,14 +42,14 @@ issue_idle p s e q n row =
     same_request-true (missed_request s) None t
 
 -- only an Evict drops a line
-abbrev is_evict : CacheEvent → Bool
+abbrev pub is_evict : CacheEvent → Bool
 is_evict event.Evict = true
 is_evict _ = false
 
 abbrev drop_test : Protocol → CacheState → CacheEvent → CacheCell → Bool
 drop_test p s e row = elim row.action [ action.Drop ↦ is_evict e | _ ↦ true ]
 
-drop_evicts : (p : Protocol) (s : CacheState) (e : CacheEvent) (n : CacheState) → Cell p s e action.Drop n → is_evict e ≡ true
+pub drop_evicts : (p : Protocol) (s : CacheState) (e : CacheEvent) (n : CacheState) → Cell p s e action.Drop n → is_evict e ≡ true
 unfolding each_row all_protocols all_states all_events
 drop_evicts p s e n row =
     let t : is_evict e ≡ true = each_row-at drop_test refl p s e action.Drop n row in

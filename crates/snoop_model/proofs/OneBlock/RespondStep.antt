@@ -3,7 +3,7 @@ use Rattle.std.proofs.Common.{◌≡◌, ◌≢◌, ◌<◌, ◌&&◌, ◌||◌,
 use Rattle.std.specs.Prelude.{is_some}
 use Rattle.std.proofs.lemmas.Bool.Decides.{eqb_tells}
 use Rattle.std.proofs.lemmas.Bool.{eq-eqb, and_parts}
-use Rattle.std.specs.Prelude.{slice_set, MatchBool, IsSomeAnd}
+use Rattle.std.specs.Prelude.{slice_set}
 use Rattle.std.proofs.lemmas.List.{get_or-set_same, get_or-set_other}
 use Rattle.snoop_trace.specs.Words.{word_at}
 use Rattle.snoop_trace.specs.declared.step.Op.{Op}
@@ -21,7 +21,7 @@ use Rattle.snoop_rules.specs.declared.names.Payload.{Payload}
 use Rattle.snoop_rules.specs.Takers.{arrival, arrival_at_memory, takes_payload, carries_value}
 use Rattle.snoop_rules.specs.declared.names.CacheCell.{CacheCell}
 use Rattle.snoop_rules.specs.declared.names.MemCell.{MemCell}
-use Rattle.snoop_rules.specs.MemoryCell.{MemoryCell, memory_cell_of}
+use Rattle.snoop_rules.specs.MemoryCell.{memory_cell_of}
 use Rattle.snoop_rules.proofs.Every.{all_states-at}
 use Rattle.snoop_history.specs.declared.items.Did.{Did}
 use Rattle.snoop_history.specs.declared.items.Item.{Item}
@@ -41,12 +41,12 @@ use Rattle.snoop_model.proofs.Tables.SenderTests.{after_respond, next_memory, ne
 use Rattle.snoop_model.proofs.OneBlock.Facts.{not_eqb, or_not, either_of, owns_owned, implied, carried_kept, carried_same, not_true, clash}
 use Rattle.snoop_model.proofs.OneBlock.AskStep.{right_of}
 use Rattle.snoop_model.proofs.Tables.Rows.{IsProper-fill}
-use Rattle.snoop_model.proofs.Tables.RespondTests.{after_rule, fills_store, gains, memory_row_for, respond_rule, row_for, writes}
+use Rattle.snoop_model.proofs.Tables.RespondTests.{SettlesIf, after_rule, fills_store, gains, memory_row_for, respond_rule, row_for, writes}
 use Rattle.snoop_model.proofs.Tables.StateTests.{clean_reads, fits_calm, is_calm}
 use Rattle.snoop_model.proofs.Tables.RespondTests
 
 -- memory's next state is the tables'
-memory_after : (b : Bool) (p : Protocol) (m next : MemState) (found : Option MemEvent) (act : MemAction) → MatchBool b (IsSomeAnd found (λ event. MemoryCell p m event act next)) ((act ≡ mem_action.None) × (next ≡ m))
+memory_after : (b : Bool) (p : Protocol) (m next : MemState) (found : Option MemEvent) (act : MemAction) → SettlesIf b p found m act next
     → cond b (next_memory p m found) (Some m) ≡ Some next
 memory_after true p m next None act settled = absurd settled
 memory_after true p m next (Some event) act settled = ap next_of settled
@@ -63,7 +63,7 @@ written_now mem_action.None v old flat h e = cc
 written_now (mem_action.Send pl) v old flat h e = cc
 
 -- what memory had of the flat value it keeps
-value_stays : (b : Bool) (p : Protocol) (m next : MemState) (found : Option MemEvent) (act : MemAction) (carrying : Bool) (v old new flat : List ℕ) → MatchBool b (IsSomeAnd found (λ event. MemoryCell p m event act next)) ((act ≡ mem_action.None) × (next ≡ m)) → new ≡ written act v old
+value_stays : (b : Bool) (p : Protocol) (m next : MemState) (found : Option MemEvent) (act : MemAction) (carrying : Bool) (v old new flat : List ℕ) → SettlesIf b p found m act next → new ≡ written act v old
     → (not b || given (memory_row_for p m found) (λ r. not (writes r.action) || carrying)) ≡ true → (carrying ≡ true → v ≡ flat) → old ≡ flat → new ≡ flat
 value_stays true p m next None act carrying v old new flat settled wrote test carried e = absurd settled
 value_stays true p m next (Some event) act carrying v old new flat settled wrote test carried e =
@@ -71,7 +71,7 @@ value_stays true p m next (Some event) act carrying v old new flat settled wrote
     wrote ∙ written_flat act v old flat (λ w. carried (implied (writes act) carrying h w)) e
 value_stays false p m next found act carrying v old new flat settled wrote test carried e = wrote ∙ (ap (λ (a : MemAction). written a v old) settled.0 ∙ e)
 
-value_written : (b : Bool) (p : Protocol) (m next : MemState) (found : Option MemEvent) (act : MemAction) (carrying : Bool) (v old new flat : List ℕ) → MatchBool b (IsSomeAnd found (λ event. MemoryCell p m event act next)) ((act ≡ mem_action.None) × (next ≡ m)) → new ≡ written act v old
+value_written : (b : Bool) (p : Protocol) (m next : MemState) (found : Option MemEvent) (act : MemAction) (carrying : Bool) (v old new flat : List ℕ) → SettlesIf b p found m act next → new ≡ written act v old
     → (b && carrying && given (memory_row_for p m found) (λ r. writes r.action)) ≡ true → (carrying ≡ true → v ≡ flat) → new ≡ flat
 value_written true p m next None act carrying v old new flat settled wrote test carried = absurd settled
 value_written true p m next (Some event) act carrying v old new flat settled wrote test carried =

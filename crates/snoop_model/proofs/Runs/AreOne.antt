@@ -1,6 +1,6 @@
 -- The run of some steps is the only one: a step has one outcome, and leads to one situation.
 use Rattle.std.proofs.Common.{◌≡◌, ℕ, ◌<◌, ◌≤◌, Bool, true, false, List, [], ◌∷◌, ◌++◌, length, Option, Some, None, refl, ◌⊎◌, inl, inr, ap, sym, ◌∙◌, subst, arith}
-use Rattle.std.specs.Prelude.{IsSome, IsSomeAnd, Result, Ok, Err, MatchBool, is_some, option_to_list, slice_get, slice_set}
+use Rattle.std.specs.Prelude.{IsSome, Result, Ok, Err, is_some, option_to_list, slice_get, slice_set}
 use Rattle.std.proofs.lemmas.List.{same_lists, get_or_default}
 use Rattle.snoop_trace.specs.Words.{HasWord, word_at}
 use Rattle.snoop_trace.specs.declared.step.Op.{Op}
@@ -14,7 +14,6 @@ use Rattle.snoop_rules.specs.declared.names.CacheAction.{CacheAction}
 use Rattle.snoop_rules.specs.declared.names.CacheAction.TheVariants as action
 use Rattle.snoop_rules.specs.declared.names.MemEvent.{MemEvent}
 use Rattle.snoop_rules.specs.declared.names.MemAction.{MemAction}
-use Rattle.snoop_rules.specs.declared.names.MemAction.TheVariants as mem_action
 use Rattle.snoop_rules.specs.declared.names.MemState.{MemState}
 use Rattle.snoop_rules.specs.declared.names.Request.{Request}
 use Rattle.snoop_rules.specs.declared.names.Request.TheVariants as request
@@ -22,7 +21,6 @@ use Rattle.snoop_rules.specs.declared.names.Payload.{Payload}
 use Rattle.snoop_rules.specs.declared.names.CacheCell.{CacheCell}
 use Rattle.snoop_rules.specs.declared.names.MemCell.{MemCell}
 use Rattle.snoop_rules.specs.Cell.{cell_of}
-use Rattle.snoop_rules.specs.MemoryCell.{MemoryCell}
 use Rattle.snoop_rules.specs.Takers.{asked, arrival_at_memory, takes_payload, seen_by}
 use Rattle.snoop_rules.proofs.Rows.{Cell-one}
 use Rattle.snoop_rules.proofs.MemRows.{MemoryCell-one}
@@ -47,6 +45,7 @@ use Rattle.snoop_model.specs.Runs.Run.{GoesFirst, FirstRunFrom}
 use Rattle.snoop_model.specs.Invariant.WellKept.{IsWellKept}
 use Rattle.snoop_model.specs.Turns.TurnRule.{KeepsWell}
 use Rattle.snoop_model.proofs.Tables.EvictInI.{no_row}
+use Rattle.snoop_model.proofs.Tables.RespondTests.{SettlesIf}
 use Rattle.snoop_model.proofs.OneBlock.OfBlocks.{same_picture, same_memory}
 use Rattle.snoop_model.proofs.Runs.GoOn.{IsSteady, first_in, steady_on}
 
@@ -321,8 +320,7 @@ arrives_one request.GetS o p log old new new' did did' a b = fills_one o p log o
 arrives_one request.GetM o p log old new new' did did' a b = fills_one o p log old new new' did did' a b
 
 memory_one : (takes : Bool) (p : Protocol) (m : MemState) (found : Option MemEvent) (a b : MemAction) (n n' : MemState)
-    → MatchBool takes (IsSomeAnd found (λ e. MemoryCell p m e a n)) ((a ≡ mem_action.None) × (n ≡ m)) → MatchBool takes (IsSomeAnd found (λ e. MemoryCell p m e b n')) ((b ≡ mem_action.None) × (n' ≡ m))
-    → (a ≡ b) × (n ≡ n')
+    → SettlesIf takes p found m a n → SettlesIf takes p found m b n' → (a ≡ b) × (n ≡ n')
 memory_one true p m None a b n n' x y = absurd x
 memory_one true p m (Some e) a b n n' x y = MemoryCell-one p m e a b n n' x y
 memory_one false p m found a b n n' x y = (x.0 ∙ sym y.0, x.1 ∙ sym y.1)

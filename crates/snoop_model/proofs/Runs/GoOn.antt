@@ -52,7 +52,7 @@ use Rattle.snoop_model.proofs.Tables.AskTests.{is_idle_evict}
 use Rattle.snoop_model.proofs.Tables.RespondTests.{memory_row_for, row_for}
 use Rattle.snoop_model.specs.Moves.LookUps.{HasRow}
 use Rattle.snoop_model.proofs.Invariant.Coherence.{orders_follow_sender_table, finds_rows, idle_evict, waits_within}
-use Rattle.snoop_model.proofs.OneBlock.Facts.{or_not}
+use Rattle.snoop_model.proofs.OneBlock.Facts.{implied, or_not}
 use Rattle.snoop_model.proofs.Invariant.Steps.{first_keeps}
 use Rattle.snoop_model.proofs.OneBlock.Possible.{Answerable, ask_possible, respond_possible}
 
@@ -94,14 +94,10 @@ asked_is op.Load = refl
 asked_is (op.Store v) = refl
 asked_is op.Evict = refl
 
-right_if : (a b : Bool) → a ≡ true → (not a || b) ≡ true → b ≡ true
-right_if true b h t = t
-right_if false b h t = cc
-
 ask_rule : (p : Protocol) (s : CacheState) (o : Op) (act : CacheAction) (next : CacheState) → Cell p s (asked o) act next → (is_asked act (asked o) ≡ true) × ((not (hits act) || keeps s) ≡ true)
 ask_rule p s o act next row =
     let test = each_row-at ask_test ask_test_holds p s (asked o) act next row in
-    and_parts _ _ (right_if (is_ask (asked o)) _ (asked_is o) test)
+    and_parts _ _ (implied (is_ask (asked o)) _ test (asked_is o))
 
 -- the situation after an Ask
 after_ask : Situation → ℕ → ℕ → CacheAction → Line → Option Item → Situation
@@ -198,7 +194,7 @@ ask_within s g core block word asking within there =
           let row = ask_possible p s.shape.cores (flat_words s.log block) (picture_of s block) core asking good within.0 busy in
           let rule = ask_rule p line.state asking row.0.action row.0.next row.1 in
           by_row s core block word within asking row.0.action row.0.next row.1 rule.0 there
-          (λ is_hit. some_kept line.kept ((good.proper core within.0).kept ∙ right_if (hits row.0.action) (keeps line.state) is_hit rule.1))
+          (λ is_hit. some_kept line.kept ((good.proper core within.0).kept ∙ implied (hits row.0.action) (keeps line.state) rule.1 is_hit))
     ]
 
 -- a word is one that there is, or not
@@ -403,7 +399,7 @@ module _ (p : Protocol) (log : List Item) (old : List Line) (o : Open) where
   fill_found None arrives row is proper = cc
   fill_found (Some e) arrives row is proper =
       let test = each_row-at data_test data_test_holds p (held_at old o.core).state e row.action row.next is in
-      fill e arrives row.action row.next is (right_if (is_data e) _ (arrives_as_data o.payload e arrives) test) proper
+      fill e arrives row.action row.next is (implied (is_data e) _ test (arrives_as_data o.payload e arrives)) proper
 
   brings : (q : Request) → (is_put_m q ≡ false → (r : CacheCell) × (row_for p (held_at old o.core).state (arrival o.payload) ≡ Some r)) → IsProper (held_at old o.core) → Brings p log old o q
   brings request.PutM row proper = (old, (None, (refl, refl)))

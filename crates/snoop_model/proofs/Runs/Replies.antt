@@ -28,6 +28,7 @@ use Rattle.snoop_model.specs.Pictures.Picture.{held_by}
 use Rattle.snoop_model.specs.Pictures.Situation.{Situation, picture_of}
 use Rattle.snoop_model.specs.Moves.Move.{FirstMove, Takes, Performs, hit_reply, next_did}
 use Rattle.snoop_model.specs.Moves.Replies.{IsReplyTo, IsLoadHit}
+use Rattle.snoop_model.proofs.Once.Asks.{is_evict, drop_evicts}
 use Rattle.snoop_model.proofs.Runs.Prepared.{move-log}
 
 -- an issue is of the request that serves the operation
@@ -37,20 +38,12 @@ serves event.Store request.GetM = true
 serves event.Evict request.PutM = true
 serves _ _ = false
 
-abbrev gives_up : CacheEvent → Bool
-gives_up event.Evict = true
-gives_up _ = false
-
 abbrev reply_test : Protocol → CacheState → CacheEvent → CacheCell → Bool
-reply_test p s e row = elim row.action [ action.Issue q ↦ serves e q | action.Drop ↦ gives_up e | _ ↦ true ]
+reply_test p s e row = elim row.action [ action.Issue q ↦ serves e q | _ ↦ true ]
 
 issue_serves : (p : Protocol) (s : CacheState) (e : CacheEvent) (q : Request) (n : CacheState) → Cell p s e (action.Issue q) n → serves e q ≡ true
 unfolding each_row all_protocols all_states all_events
 issue_serves p s e q n row = let t : serves e q ≡ true = each_row-at reply_test refl p s e (action.Issue q) n row in t
-
-drop_gives_up : (p : Protocol) (s : CacheState) (e : CacheEvent) (n : CacheState) → Cell p s e action.Drop n → gives_up e ≡ true
-unfolding each_row all_protocols all_states all_events
-drop_gives_up p s e n row = let t : gives_up e ≡ true = each_row-at reply_test refl p s e action.Drop n row in t
 
 issued_reply : (core block word : ℕ) (asking : Op) (q : Request) → serves (asked asking) q ≡ true → IsReplyTo (Ask core block word asking) (reply.Issued q)
 issued_reply core block word op.Load request.GetS h = tt
@@ -63,7 +56,7 @@ issued_reply core block word op.Evict request.PutM h = tt
 issued_reply core block word op.Evict request.GetS h = cc
 issued_reply core block word op.Evict request.GetM h = cc
 
-gone_reply : (core block word : ℕ) (asking : Op) → gives_up (asked asking) ≡ true → IsReplyTo (Ask core block word asking) reply.Gone
+gone_reply : (core block word : ℕ) (asking : Op) → is_evict (asked asking) ≡ true → IsReplyTo (Ask core block word asking) reply.Gone
 gone_reply core block word op.Evict h = tt
 gone_reply core block word op.Load h = cc
 gone_reply core block word (op.Store v) h = cc
@@ -77,7 +70,7 @@ module _ (p : Protocol) (next : CacheState) (log : List Item) (core block word :
   taken_reply : (a : CacheAction) → Cell p old.state (asked asking) a next → Takes a next log core block word asking old new answer entry → IsReplyTo (Ask core block word asking) answer
   taken_reply action.Hit row t = subst (λ (r : Reply). IsReplyTo (Ask core block word asking) r) (sym t.1.1) (performed_reply core block word asking t.1.0.before t.0 t.1.0.after t.1.0.performed)
   taken_reply (action.Issue q) row t = subst (λ (r : Reply). IsReplyTo (Ask core block word asking) r) (sym t.1) (issued_reply core block word asking q (issue_serves p old.state (asked asking) q next row))
-  taken_reply action.Drop row t = subst (λ (r : Reply). IsReplyTo (Ask core block word asking) r) (sym t.1) (gone_reply core block word asking (drop_gives_up p old.state (asked asking) next row))
+  taken_reply action.Drop row t = subst (λ (r : Reply). IsReplyTo (Ask core block word asking) r) (sym t.1) (gone_reply core block word asking (drop_evicts p old.state (asked asking) next row))
   taken_reply _ row t = absurd t
 
 absent_reply : (core block word : ℕ) (asking : Op) (answer : Reply) → asking ≡ op.Evict → answer ≡ reply.Absent → IsReplyTo (Ask core block word asking) answer

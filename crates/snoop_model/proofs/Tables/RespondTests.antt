@@ -1,6 +1,6 @@
 -- Tests of the rows of a Respond, computed over the whole tables.
 use Rattle.std.proofs.Common.{◌≡◌, ◌&&◌, ◌||◌, Bool, true, false, not, Option, Some, None, refl}
-use Rattle.std.specs.Prelude.{is_some}
+use Rattle.std.specs.Prelude.{is_some, MatchBool, IsSomeAnd}
 use Rattle.snoop_trace.specs.declared.protocol.Protocol.{Protocol}
 use Rattle.snoop_rules.specs.declared.names.CacheState.{CacheState}
 use Rattle.snoop_rules.specs.declared.names.CacheEvent.{CacheEvent}
@@ -17,7 +17,7 @@ use Rattle.snoop_rules.specs.declared.names.Payload.TheVariants as payload
 use Rattle.snoop_rules.specs.declared.names.CacheCell.{CacheCell}
 use Rattle.snoop_rules.specs.declared.names.MemCell.{MemCell}
 use Rattle.snoop_rules.specs.Cell.{cell_of}
-use Rattle.snoop_rules.specs.MemoryCell.{memory_cell_of}
+use Rattle.snoop_rules.specs.MemoryCell.{MemoryCell, memory_cell_of}
 use Rattle.snoop_rules.specs.Takers.{arrival, arrival_at_memory, takes_payload, carries_value}
 use Rattle.snoop_rules.proofs.Every.{all_protocols, all_protocols-at, all_states, all_memories, all_memories-at, all_requests, all_requests-at, all_payloads, all_payloads-at}
 use Rattle.snoop_history.specs.Totals.{is_put_m, is_get_m}
@@ -34,6 +34,10 @@ row_for p s (Some e) = cell_of p s e
 abbrev pub memory_row_for : Protocol → MemState → Option MemEvent → Option MemCell
 memory_row_for p m None = None
 memory_row_for p m (Some e) = memory_cell_of p m e
+
+-- memory takes its row for a message, or stays as it is
+abbrev pub SettlesIf : Bool → Protocol → Option MemEvent → MemState → MemAction → MemState → Type 0
+SettlesIf takes p found old act new = MatchBool takes (IsSomeAnd found (λ event. MemoryCell p old event act new)) ((act ≡ mem_action.None) × (new ≡ old))
 
 -- a Respond: the line before it and after it
 abbrev pub RespondTest : Type 0

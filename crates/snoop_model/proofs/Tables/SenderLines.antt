@@ -1,6 +1,6 @@
 -- The table of senders as a test is the table of the definitions.
 use Rattle.std.proofs.Common.{◌≡◌, ℕ, Bool, true, false, cond, eqb, Option, Some, None, refl, inl, inr}
-use Rattle.std.specs.Prelude.{option_map, MatchBool, IsSomeAnd}
+use Rattle.std.specs.Prelude.{option_map, IsSomeAnd}
 use Rattle.snoop_trace.specs.declared.protocol.Protocol.{Protocol}
 use Rattle.snoop_trace.specs.declared.protocol.Protocol.TheVariants as protocol
 use Rattle.snoop_rules.specs.declared.names.CacheState.{CacheState}
@@ -21,6 +21,7 @@ use Rattle.snoop_rules.specs.declared.names.MemCell.{MemCell}
 use Rattle.snoop_rules.specs.MemoryCell.{memory_cell_of}
 use Rattle.snoop_model.specs.Pictures.Picture.{Picture, held_by}
 use Rattle.snoop_model.specs.Moves.Move.{Settles}
+use Rattle.snoop_model.proofs.Tables.RespondTests.{SettlesIf}
 use Rattle.snoop_model.proofs.Tables.SenderTests.{Sender, Memory, Core, Requestor, is_sender_line, follows_sender_table, sender_as, is_some_and, after_respond, next_memory, next_of}
 
 -- the sender's state, if it is a core
@@ -81,7 +82,7 @@ memory_settles p m (Some event) done h = go (memory_cell_of p m event) refl h
         (row.action, rw (← e) is)
 
 settles_by : (b : Bool) (p : Protocol) (m : MemState) (sent : Payload) (done : MemState) → cond b (next_memory p m (arrival_at_memory sent)) (Some m) ≡ Some done
-    → (act : MemAction) × MatchBool b (IsSomeAnd (arrival_at_memory sent) (λ event. MemoryCell p m event act done)) ((act ≡ mem_action.None) × (done ≡ m))
+    → (act : MemAction) × SettlesIf b p (arrival_at_memory sent) m act done
 settles_by true p m sent done h = memory_settles p m (arrival_at_memory sent) done h
 settles_by false p m sent done h = let same : done ≡ m = cc in (mem_action.None, (refl, same))
 
