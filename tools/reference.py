@@ -474,10 +474,11 @@ def states_csv(options, text):
 
 
 def held(machine, core, block):
-    """What a core holds of a block: its state, the values that it keeps, and a mark where its request waits to be ordered."""
+    """What a core holds of a block: its state, the values that it keeps, and where its request waits to be ordered a mark and its place."""
     state, kept, _ = machine.line[core, block]
     values = "" if kept is None else "=" + shown_values(kept, "/")
-    return state + values + "!" * (block in machine.queues[core])
+    queue = machine.queues[core]
+    return state + values + (f"!{queue.index(block) + 1}" if block in queue else "")
 
 
 def shown(machine, block):
@@ -492,6 +493,12 @@ def shown(machine, block):
     return ",".join(cells + [transaction]) + "|"
 
 
+def oldest(machine, core):
+    """A mark where a request of the core waits, and the oldest one with its block."""
+    queue = machine.queues[core]
+    return f"!{WAITING[machine.line[core, queue[0]].state]}:{queue[0]}" if queue else ""
+
+
 def getters(options, text):
     """All that is seen of a machine after each step, a line each; at the end the counts and values of its history."""
     lines = Lines(options, lambda line: None)
@@ -499,7 +506,7 @@ def getters(options, text):
     cores, blocks = range(options.cores), range(options.blocks)
     for kind, numbers in records(options, text):
         lines.take(kind, numbers)
-        counts = [str(sum(machine.line[core, block].state != "I" for block in blocks)) + "!" * bool(machine.queues[core]) + "," for core in cores]
+        counts = [str(sum(machine.line[core, block].state != "I" for block in blocks)) + oldest(machine, core) + "," for core in cores]
         print("".join([shown(machine, block) for block in blocks] + counts))
     dids = [item if isinstance(item, Did) else item.did for item in machine.items if not isinstance(item, Sent)]
     performed = [sum(did is not None and did.core == core for did in dids) for core in cores]
