@@ -456,12 +456,13 @@ def fields_of_controller(machine, block, controller):
 
 def states_csv(options, text):
     """A line for each controller that takes a row of its table at a step, and one for a step at which none does."""
+    given = records(options, text)
     out = csv.writer(sys.stdout, lineterminator="\n")
     out.writerow("step record reply block controller event before action after value place".split())
     written = []
     lines = Lines(options, written.append)
     machine = lines.machine
-    for number, (kind, numbers) in enumerate(records(options, text), 1):
+    for number, (kind, numbers) in enumerate(given, 1):
         met = [(*one, fields_of_controller(machine, *one[:2])[0]) for one in controllers(machine, kind, lines.place, numbers)]
         lines.take(kind, numbers)
         record, reply = written.pop().split(": ", 1)
