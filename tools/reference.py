@@ -456,12 +456,13 @@ def fields_of_controller(machine, block, controller):
 
 def states_csv(options, text):
     """A line for each controller that takes a row of its table at a step, and one for a step at which none does."""
+    given = records(options, text)
     out = csv.writer(sys.stdout, lineterminator="\n")
     out.writerow("step record reply block controller event before action after value place".split())
     written = []
     lines = Lines(options, written.append)
     machine = lines.machine
-    for number, (kind, numbers) in enumerate(records(options, text), 1):
+    for number, (kind, numbers) in enumerate(given, 1):
         met = [(*one, fields_of_controller(machine, *one[:2])[0]) for one in controllers(machine, kind, lines.place, numbers)]
         lines.take(kind, numbers)
         record, reply = written.pop().split(": ", 1)
@@ -474,10 +475,11 @@ def states_csv(options, text):
 
 
 def held(machine, core, block):
-    """What a core holds of a block: its state, the values that it keeps, and a mark where its request waits to be ordered."""
+    """What a core holds of a block: its state, the values that it keeps, and where its request waits to be ordered a mark and its place."""
     state, kept, _ = machine.line[core, block]
     values = "" if kept is None else "=" + shown_values(kept, "/")
-    return state + values + "!" * (block in machine.queues[core])
+    queue = machine.queues[core]
+    return state + values + (f"!{queue.index(block) + 1}" if block in queue else "")
 
 
 def shown(machine, block):
@@ -492,6 +494,12 @@ def shown(machine, block):
     return ",".join(cells + [transaction]) + "|"
 
 
+def oldest(machine, core):
+    """A mark where a request of the core waits, and the oldest one with its block."""
+    queue = machine.queues[core]
+    return f"!{WAITING[machine.line[core, queue[0]].state]}:{queue[0]}" if queue else ""
+
+
 def getters(options, text):
     """All that is seen of a machine after each step, a line each; at the end the counts and values of its history."""
     lines = Lines(options, lambda line: None)
@@ -499,7 +507,7 @@ def getters(options, text):
     cores, blocks = range(options.cores), range(options.blocks)
     for kind, numbers in records(options, text):
         lines.take(kind, numbers)
-        counts = [str(sum(machine.line[core, block].state != "I" for block in blocks)) + "!" * bool(machine.queues[core]) + "," for core in cores]
+        counts = [str(sum(machine.line[core, block].state != "I" for block in blocks)) + oldest(machine, core) + "," for core in cores]
         print("".join([shown(machine, block) for block in blocks] + counts))
     dids = [item if isinstance(item, Did) else item.did for item in machine.items if not isinstance(item, Sent)]
     performed = [sum(did is not None and did.core == core for did in dids) for core in cores]

@@ -40,7 +40,7 @@ fn push_value(out: &mut String, word: u32, value: Option<u64>) -> Result<()> {
     Ok(())
 }
 
-/// Appends what the core holds of the block: its state, the values that it keeps, and a mark where its request waits.
+/// Appends what the core holds of the block: its state, the values that it keeps, and where its request waits a mark and its place.
 fn push_held(out: &mut String, machine: &Machine, core: u32, block: u32) -> Result<()> {
     let state = machine.state(core, block).context("no such line")?;
     write!(out, "{state}")?;
@@ -53,6 +53,9 @@ fn push_held(out: &mut String, machine: &Machine, core: u32, block: u32) -> Resu
     }
     if machine.waits_on(core, block) {
         out.push('!')?;
+    }
+    if let Some(place) = machine.place(core, block) {
+        write!(out, "{place}")?;
     }
     Ok(())
 }
@@ -99,7 +102,8 @@ fn push_block(out: &mut String, machine: &Machine, block: u32) -> Result<()> {
     Ok(())
 }
 
-/// Appends the line of a machine: each block, then how many lines each core has, with a mark where a request of the core waits.
+/// Appends the line of a machine: each block, then how many lines each core has, with a mark where a request of the core waits, and
+/// the oldest one.
 fn push_machine(out: &mut String, machine: &Machine) -> Result<()> {
     for block in 0..machine.shape().blocks() {
         push_block(out, machine, block)?;
@@ -107,7 +111,11 @@ fn push_machine(out: &mut String, machine: &Machine) -> Result<()> {
     for core in 0..machine.shape().cores() {
         let lines = machine.lines(core).context("no such core")?;
         let mark = if machine.waiting(core) { "!" } else { "" };
-        write!(out, "{lines}{mark},")?;
+        write!(out, "{lines}{mark}")?;
+        if let Some((request, block)) = machine.head(core) {
+            write!(out, "{request}:{block}")?;
+        }
+        out.push(',')?;
     }
     out.push('\n')?;
     Ok(())
