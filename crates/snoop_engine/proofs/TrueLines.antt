@@ -328,12 +328,12 @@ step_true old new (Respond block) (Ok answer) steady goes =
 -- a step keeps the protocol
 same_protocol : (old new : Situation) (step : Step) (outcome : Result Reply Refused) → GoesFirst old step outcome new → new.protocol ≡ old.protocol
 same_protocol old new step (Err cause) goes = ap (λ (s : Situation). s.protocol) goes.1
-same_protocol old new (Ask core block word asking) (Ok answer) goes = elim goes.1.1.1.2 [
+same_protocol old new (Ask core block word asking) (Ok answer) goes = elim goes.1.1.1.moves [
   | inl absent ↦ ap (λ (s : Situation). s.protocol) absent.3
   | inr a ↦ ap (λ (s : Situation). s.protocol) a.after
 ]
-same_protocol old new (Order core) (Ok answer) goes = ap (λ (s : Situation). s.protocol) goes.1.1.1.1.3.after
-same_protocol old new (Respond block) (Ok answer) goes = ap (λ (s : Situation). s.protocol) goes.1.1.1.1.1.4.after
+same_protocol old new (Order core) (Ok answer) goes = ap (λ (s : Situation). s.protocol) goes.1.1.1.orders.after
+same_protocol old new (Respond block) (Ok answer) goes = ap (λ (s : Situation). s.protocol) goes.1.1.1.responds.after
 
 -- none is left out
 step_whole : (old new : Situation) (step : Step) (outcome : Result Reply Refused) → IsSteady old → GoesFirst old step outcome new → IsOk outcome → HasAllLines (here old new step outcome)
