@@ -31,6 +31,11 @@ impl Gate for Meet {
     }
 }
 
+/// A core stores its value and loads it.
+static OWN_FIVE: [(bool, u64); 2] = [(false, 5), (true, 5)];
+
+static OWN_SIX: [(bool, u64); 2] = [(false, 6), (true, 6)];
+
 #[test]
 fn each_core_waits_for_the_other(rt: HostRuntime) -> Result<(), Fail> {
     let rows = [
@@ -47,13 +52,18 @@ fn each_core_waits_for_the_other(rt: HostRuntime) -> Result<(), Fail> {
         };
         let ran = all_ran(&scene.run(&rt, rt.alloc(), rows.as_slice(), &gate));
         let shown = scene.shown(&rt, rt.alloc());
+        let answered = scene.was_answered(0, &OWN_FIVE) && scene.was_answered(1, &OWN_SIX);
         scene.end(&rt);
         let expected = Shown {
             steps: 8,
             counts: [2, 2, 2, 0, 0, 2, 0, 2, 0, 0, 0, 0],
             values: [Some(5), None, Some(6)],
         };
-        assert_eq!(rt; (ran, shown), (true, Some(expected)), "core {held} is held");
+        assert_eq!(rt;
+            (ran && answered, shown),
+            (true, Some(expected)),
+            "core {held} is held"
+        );
     }
     Ok(())
 }

@@ -3,6 +3,7 @@
 use crate::cores::scene::{Scene, ask_rows, row, work};
 use snoop_cores::{Free, GatherFault, Gathered, RunFault, SeatFault, Stop, Turn, Work, gather};
 use snoop_history::{Came, Did, Item, Log, Sent};
+use snoop_machine::{Machine, run_steps};
 use snoop_rules::{Payload, Request};
 use snoop_trace::{Op, Row, Step};
 use std::alloc::Global;
@@ -154,13 +155,23 @@ fn stores_of(log: &Log, core: u32) -> usize {
     count
 }
 
-/// Whether a gathering has the steps and the items of the handover, and how many stores of core 0.
+/// Whether a fresh machine takes all gathered steps, to an equal log.
+fn takes_all_again(alloc: Global, gathered: &Gathered) -> bool {
+    let Ok(mut machine) = Machine::reset(alloc, gathered.protocol, gathered.shape) else {
+        return false;
+    };
+    run_steps(&mut machine, &gathered.steps) == gathered.steps.len()
+        && machine.log().equals(&gathered.log)
+}
+
+/// Whether a gathering has the steps and the items of the handover, which a fresh machine gives too, and how many stores of core 0.
 fn handed_over<R: Wait>(scene: &Scene, rt: &R, alloc: Global) -> Option<(bool, bool, usize)> {
     let gathered = gathers(scene, rt, alloc)?;
     let (steps, log) = (gathered.steps.as_slice(), &gathered.log);
     Some((
         steps == HANDOVER.as_slice(),
-        has_items(log, &HANDED_OVER),
+        has_items(log, &HANDED_OVER)
+            && (takes_all_again(alloc, &gathered) || takes_all_again(alloc, &gathered)),
         stores_of(log, 0),
     ))
 }

@@ -93,6 +93,18 @@ impl Scene {
         run_seats(rt, alloc, self.seats.as_mut_slice(), rows, gate)
     }
 
+    /// Whether the core's seat was answered these operations: of each, whether it is a load, and its value.
+    pub fn was_answered(&self, core: u32, expected: &[(bool, u64)]) -> bool {
+        let Some(seat) = self.seats.get(core as usize) else {
+            return false;
+        };
+        let answers = seat.answers();
+        answers.len() == expected.len()
+            && answers.iter().zip(expected).all(|(did, (load, value))| {
+                did.core == core && did.load == *load && did.value == *value
+            })
+    }
+
     /// The value that the core's seat reads.
     pub fn seated(&mut self, core: u32, block: u32, word: u32) -> Option<Result<u64, ViewFault>> {
         Some(self.seats.get_mut(core as usize)?.value(block, word))
