@@ -10,6 +10,7 @@ text is reported as the program reports it (a line on standard error, status 1, 
   states   a Markdown table with a row for each step: its line, the state of one block (--block) in each core that ever holds it,
            memory's state and memory's value (its values, where the block has several words)
            with --as csv a line for each controller that takes a row of its table, as `snoop states --as csv`
+  counts   with --by row how often each row of the tables is taken, as `snoop counts --by row`
   getters  all that a machine's getters answer after each step, as crates/snoop_getters prints it
   storm    makes a text of random steps, or with --rows of random rows
   crowd    the output of a long text, or a text of many rows, as a rule writes it, without the machine below
@@ -20,12 +21,14 @@ text is reported as the program reports it (a line on standard error, status 1, 
     tools/reference.py run --serial < examples/producer_and_consumer.rows
     tools/reference.py states --protocol mesi < examples/silent_upgrade.steps
     tools/reference.py states --block 1 < examples/two_blocks_open.steps
+    tools/reference.py counts --by row < examples/upgrade_race.steps
     tools/reference.py getters --protocol mesi --cores 2 --blocks 1 < examples/silent_upgrade.steps
     tools/reference.py storm --cores 8 --blocks 3 --count 1000 > storm.steps
     tools/reference.py crowd all_cores_store | sed -n 's/: .*//p' | ./snoop steps --cores 256
     tools/reference.py table --protocol mesi --which memory
 """
 import argparse
+import collections
 import csv
 import os
 import pathlib
@@ -474,6 +477,24 @@ def states_csv(options, text):
             out.writerow([number, record, reply, block, name, event, before, action, after, values, at])
 
 
+def counts(options, text):
+    """A line for each row of the tables, but those of a core in I at another core's request, with how often it is taken."""
+    given = records(options, text)
+    taken = collections.Counter()
+    lines = Lines(options, lambda line: None)
+    for kind, numbers in given:
+        met = [(controller, event, fields_of_controller(lines.machine, block, controller)[0])
+               for block, controller, event in controllers(lines.machine, kind, lines.place, numbers) if event]
+        taken.update(("memory" if controller == "memory" else "cache", state, event) for controller, event, state in met)
+        lines.take(kind, numbers)
+    out = csv.writer(sys.stdout, lineterminator="\n")
+    out.writerow("controller state event action next count".split())
+    for controller, table in zip(("cache", "memory"), rows()[options.protocol]):
+        for row in table:
+            if not (controller == "cache" and row[0] == "I" and row[1].startswith("Other")):
+                out.writerow([controller, *row, taken[controller, row[0], row[1]]])
+
+
 def held(machine, core, block):
     """What a core holds of a block: its state, the values that it keeps, and where its request waits to be ordered a mark and its place."""
     state, kept, _ = machine.line[core, block]
@@ -637,7 +658,7 @@ def table(options):
 
 def main():
     parser = argparse.ArgumentParser(description=__doc__, formatter_class=argparse.RawDescriptionHelpFormatter)
-    parser.add_argument("command", choices=("steps", "run", "states", "getters", "storm", "crowd", "table"))
+    parser.add_argument("command", choices=("steps", "run", "states", "counts", "getters", "storm", "crowd", "table"))
     parser.add_argument("name", nargs="?", choices=tuple(CROWDS), help="crowd: which one")
     parser.add_argument("--protocol", type=str.lower, choices=("msi", "mesi"), default="msi", help="default msi")
     parser.add_argument("--cores", type=int, default=2, help="how many cores, 1 to 256 (default 2)")
@@ -648,6 +669,7 @@ def main():
     parser.add_argument("--rows", action="store_true", help="storm: rows in place of steps")
     parser.add_argument("--block", type=int, default=0, metavar="N", help="states: the number of the block (default 0)")
     parser.add_argument("--as", dest="form", choices=("csv",), help="states: as `snoop states --as csv` (default a table in Markdown)")
+    parser.add_argument("--by", choices=("row",), help="counts: what each line counts")
     parser.add_argument("--which", choices=("cache", "memory"), default="cache", help="table: whose table (default cache)")
     parser.add_argument("--count", type=int, default=1000, help="storm: how many steps; crowd: how many blocks or rows, where that is open (default 1000)")
     parser.add_argument("--seed", type=int, default=1, help="storm: where the generator begins (default 1)")
@@ -660,11 +682,13 @@ def main():
         parser.error("`crowd` takes a name, and no other command does")
     if options.serial and options.command != "run":
         parser.error("only `run` takes --serial")
+    if (options.command == "counts") != (options.by is not None):
+        parser.error("`counts` takes --by, and no other command does")
     try:
         if options.command in ("storm", "crowd", "table"):
             {"storm": storm, "crowd": crowd, "table": table}[options.command](options)
         else:
-            {"steps": steps, "run": run_serial if options.serial else run, "states": states_csv if options.form else states, "getters": getters}[options.command](options, sys.stdin.buffer.read())
+            {"steps": steps, "run": run_serial if options.serial else run, "states": states_csv if options.form else states, "counts": counts, "getters": getters}[options.command](options, sys.stdin.buffer.read())
         sys.stdout.flush()
     except BrokenPipeError:  # the reader has gone; nothing is left to flush at the end
         os.dup2(os.open(os.devnull, os.O_WRONLY), sys.stdout.fileno())

@@ -16,3 +16,5 @@ pub mod Inside
 pub mod TextLemmas
 pub mod AllLines
 pub mod TrueLines
+pub mod TallyLemmas
+pub mod CountedLemmas

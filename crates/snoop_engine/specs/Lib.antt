@@ -17,3 +17,7 @@ pub mod Taken
 pub mod States
 pub mod TrueLines
 pub mod SimulatedStates
+pub mod Numbers
+pub mod Counts
+pub mod Tallies
+pub mod SimulatedCounts

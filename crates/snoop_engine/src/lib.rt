@@ -1,6 +1,8 @@
 //! The engine of the commands `steps` and `run`: a text of steps or of rows in, the lines of its simulation and its report out.
 #![tactic(auto)]
 
+mod counts;
+mod counts_text;
 mod deal;
 mod driver;
 mod events;
@@ -14,7 +16,9 @@ mod states;
 mod steps;
 mod taken;
 mod taken_text;
+mod tally;
 
+pub use counts::simulate_counts;
 pub use fault::SimFault;
 pub use run::simulate_run;
 pub use serial::simulate_serial;

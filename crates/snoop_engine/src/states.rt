@@ -1,19 +1,17 @@
 //! The command `states`: the steps of a text, and the states that each controller went through.
-ghost use Rattle.std.specs.Prelude.{◌≡◌, ◌≢◌, ◌++◌, [], true, Err, IfOk, OnOk, OnErr};
+ghost use Rattle.std.specs.Prelude.{◌≡◌, ◌≢◌, ◌++◌, true, Err, IfOk, OnOk, OnErr};
 ghost use Rattle.std.specs.List.{flat_map};
 ghost use Rattle.snoop_trace.specs.Output.{BlamesWriter};
 ghost use Rattle.snoop_trace.specs.Text.{BlamesReader};
 ghost use Rattle.snoop_trace.specs.declared.fault.TextFault.{TextFault};
 ghost use Rattle.snoop_trace.specs.declared.fault.TextFault.TheVariants as text_fault;
-ghost use Rattle.snoop_model.specs.Runs.Run.{GoesFirst};
 ghost use Rattle.snoop_engine.specs.Frames.{Frame, IsFrameFrom};
 ghost use Rattle.snoop_engine.specs.SimulatedStates.{BeginsStates, ReportsStates, SimulatesStates, WritesStates, WritesStatesFront};
 ghost use Rattle.snoop_engine.specs.States.{frame_text, header_text, step_fields, taken_text};
-ghost use Rattle.snoop_engine.specs.Taken.{lines_of};
 
 use crate::fault::SimFault;
 use crate::packed::StepQueue;
-use crate::taken::{Taken, add_refused, add_taken};
+use crate::taken::{Taken, take_step};
 use crate::taken_text::{push_step_fields, push_taken};
 use snoop_machine::laws::runs_go_on;
 use snoop_machine::{Machine, Refused, Reply};
@@ -118,29 +116,6 @@ fn push_frame(
     let mut lines = Vec::new(alloc);
     let outcome = take_step(&mut lines, machine, step)?;
     push_lines(chunk, shape, number, machine, step, outcome, &lines)
-}
-
-/// Takes one step, and adds what there is to say of it to the lines, which are empty.
-fn take_step(
-    lines: &mut Vec<Taken>,
-    machine: &mut Machine,
-    step: Step,
-) -> Result<Result<Reply, Refused>, NoMemory>
-    requires { lines.old.items ≡ [] }
-    ensures goes { IfOk result (λ outcome. GoesFirst machine.old.situation step outcome machine.new.situation) }
-    ensures lines { IfOk result (λ outcome. lines.new.items ≡ lines_of machine.old.situation step outcome) }
-{
-    add_taken(lines, machine, step)?;
-    let outcome = machine.step(step);
-    match outcome {
-        Ok(_) => {}
-        Err(Refused::NoMemory) => return Err(NoMemory),
-        Err(cause) => {
-            lines.clear();
-            add_refused(lines, machine, step, cause)?;
-        }
-    }
-    Ok(outcome)
 }
 
 /// Appends the lines of a step, as the machine is after it.

@@ -1,13 +1,14 @@
 //! Which rows of the tables the controllers take at a step.
-ghost use Rattle.std.specs.Prelude.{◌≡◌, ◌++◌, ◌∷◌, [], OnOk, Option, Some, None};
+ghost use Rattle.std.specs.Prelude.{◌≡◌, ◌++◌, ◌∷◌, [], IfOk, OnOk, Option, Some, None};
 ghost use Rattle.std.specs.List.{flat_map, range_with_len};
-ghost use Rattle.snoop_engine.specs.Taken.{memory_at, of_arrival, of_arrival_at_memory, of_ask, of_core, of_holder, of_memory, of_request, of_requestor, of_respond, refused_by, state_at, taken_by, of_waiting_memory, unless_i};
+ghost use Rattle.snoop_model.specs.Runs.Run.{GoesFirst};
+ghost use Rattle.snoop_engine.specs.Taken.{lines_of, memory_at, of_arrival, of_arrival_at_memory, of_ask, of_core, of_holder, of_memory, of_request, of_requestor, of_respond, refused_by, state_at, taken_by, of_waiting_memory, unless_i};
 
 use crate::events::{
     arrival, arrival_at_memory, event_asked, event_at_memory, event_seen, takes_payload,
 };
 use snoop_bus::Open;
-use snoop_machine::{Machine, Refused};
+use snoop_machine::{Machine, Refused, Reply};
 use snoop_rules::{CacheEvent, CacheState, MemEvent, MemState, Request};
 use snoop_trace::{NoMemory, Op, Step};
 
@@ -318,4 +319,27 @@ pub(crate) fn add_refused(
         (Step::Respond { block }, Refused::NoTransaction) => add(lines, nobody(None, Some(block))),
         _ => add(lines, nobody(None, None)),
     }
+}
+
+/// Takes one step, and adds what there is to say of it to the lines, which are empty.
+pub(crate) fn take_step(
+    lines: &mut Vec<Taken>,
+    machine: &mut Machine,
+    step: Step,
+) -> Result<Result<Reply, Refused>, NoMemory>
+    requires { lines.old.items ≡ [] }
+    ensures goes { IfOk result (λ outcome. GoesFirst machine.old.situation step outcome machine.new.situation) }
+    ensures lines { IfOk result (λ outcome. lines.new.items ≡ lines_of machine.old.situation step outcome) }
+{
+    add_taken(lines, machine, step)?;
+    let outcome = machine.step(step);
+    match outcome {
+        Ok(_) => {}
+        Err(Refused::NoMemory) => return Err(NoMemory),
+        Err(cause) => {
+            lines.clear();
+            add_refused(lines, machine, step, cause)?;
+        }
+    }
+    Ok(outcome)
 }

@@ -12,26 +12,26 @@ use Rattle.snoop_engine.specs.declared.fault.SimFault.TheVariants.{NoMemory}
 use Rattle.snoop_sim.specs.declared.failure.Failure.{Failure}
 use Rattle.snoop_sim.specs.declared.failure.Failure.TheVariants.{CommandLine, NoCommand, NotUtf8, Shape, Simulation, Threads as ThreadsFailure}
 use Rattle.snoop_sim.specs.declared.options.Task.{Task}
-use Rattle.snoop_sim.specs.declared.options.Task.TheVariants.{Help, Steps, Run, Serial, Threads, States, Table}
+use Rattle.snoop_sim.specs.declared.options.Task.TheVariants.{Help, Steps, Run, Serial, Threads, States, Counts, Table}
 
 -- `clap` says what it finds in the words of such a command line
-is_simple_snoop : (steps run threads states forms table tables : Names) → is_simple (snoop_app steps run threads states forms table tables) ≡ true
+is_simple_snoop : (steps run threads states forms counts groupings table tables : Names) → is_simple (snoop_app steps run threads states forms counts groupings table tables) ≡ true
 unfolding clap_on_literals
-is_simple_snoop steps run threads states forms table tables = refl
+is_simple_snoop steps run threads states forms counts groupings table tables = refl
 
 -- and of which kinds its errors are
-is_free_snoop : (steps run threads states forms table tables : Names) → is_simple_and_free (snoop_app steps run threads states forms table tables) ≡ true
+is_free_snoop : (steps run threads states forms counts groupings table tables : Names) → is_simple_and_free (snoop_app steps run threads states forms counts groupings table tables) ≡ true
 unfolding clap_on_literals
-is_free_snoop steps run threads states forms table tables = refl
+is_free_snoop steps run threads states forms counts groupings table tables = refl
 
 pub is_free : (app : App) → IsSnoop app → is_simple_and_free app ≡ true
-is_free app (steps, run, threads, states, forms, table, tables, _, _, _, _, _, _, _, is) = ap is_simple_and_free is ∙ is_free_snoop steps run threads states forms table tables
+is_free app (steps, run, threads, states, forms, counts, groupings, table, tables, _, _, _, _, _, _, _, _, _, is) = ap is_simple_and_free is ∙ is_free_snoop steps run threads states forms counts groupings table tables
 
 -- so the command that was found is the one that the words name
 pub command_named : (app : App) (words : List Text) (matches : ArgMatches) → IsSnoop app → HasMatchesOf app words matches
     → subcommand_rows_of matches ≡ subcommand_of app words
-command_named app words matches (steps, run, threads, states, forms, table, tables, _, _, _, _, _, _, _, is) has =
-    (has (ap is_simple is ∙ is_simple_snoop steps run threads states forms table tables)).1
+command_named app words matches (steps, run, threads, states, forms, counts, groupings, table, tables, _, _, _, _, _, _, _, _, _, is) has =
+    (has (ap is_simple is ∙ is_simple_snoop steps run threads states forms counts groupings table tables)).1
 
 -- the words ask for the task of that command
 pub asked : (app : App) (words : List Text) (command : Option (Text × List Row)) (task : Task) → IsSnoop app → fault_of app words ≡ []
@@ -43,6 +43,7 @@ asked app words (Some command) (Run protocol shape) snoop well named has = (app,
 asked app words (Some command) (Serial protocol shape) snoop well named has = (app, snoop, (well, subst (λ c. HasTask c (Serial protocol shape)) named has))
 asked app words (Some command) (Threads protocol shape) snoop well named has = (app, snoop, (well, subst (λ c. HasTask c (Threads protocol shape)) named has))
 asked app words (Some command) (States protocol shape) snoop well named has = (app, snoop, (well, subst (λ c. HasTask c (States protocol shape)) named has))
+asked app words (Some command) (Counts protocol shape) snoop well named has = (app, snoop, (well, subst (λ c. HasTask c (Counts protocol shape)) named has))
 asked app words (Some command) (Table protocol which) snoop well named has = (app, snoop, (well, subst (λ c. HasTask c (Table protocol which)) named has))
 
 -- and are refused where it has none

@@ -3,3 +3,4 @@ pub mod OptionLemmas
 pub mod CommandLineLemmas
 pub mod AskedLemmas
 pub mod ReadLemmas
+pub mod StatusLemmas

@@ -12,7 +12,7 @@ use Rattle.snoop_engine.specs.declared.fault.SimFault.TheVariants.{NoMemory}
 use Rattle.snoop_sim.specs.declared.failure.Failure.{Failure}
 use Rattle.snoop_sim.specs.declared.failure.Failure.TheVariants.{CommandLine, NoCommand, Shape, Simulation}
 use Rattle.snoop_sim.specs.declared.options.Task.{Task}
-use Rattle.snoop_sim.specs.declared.options.Task.TheVariants.{Help, Steps, Run, Serial, Threads, States, Table}
+use Rattle.snoop_sim.specs.declared.options.Task.TheVariants.{Help, Steps, Run, Serial, Threads, States, Counts, Table}
 
 -- the protocol and the shape that the options name
 abbrev pub Sets : List Row → Protocol → Extent → Type 0
@@ -26,6 +26,7 @@ IsTaskOf (name, options) (Run protocol shape) = (name ≡ codes "run") × (asks_
 IsTaskOf (name, options) (Serial protocol shape) = (name ≡ codes "run") × (asks_serial (first_of (codes "serial") options) ≡ true) × Sets options protocol shape
 IsTaskOf (name, options) (Threads protocol shape) = (name ≡ codes "threads") × Sets options protocol shape
 IsTaskOf (name, options) (States protocol shape) = (name ≡ codes "states") × Sets options protocol shape
+IsTaskOf (name, options) (Counts protocol shape) = (name ≡ codes "counts") × Sets options protocol shape
 IsTaskOf (name, options) (Table protocol which) = (name ≡ codes "table") × (protocol ≡ protocol_named (first_of (codes "protocol") options)) × (which ≡ which_named (first_of (codes "which") options))
 
 -- the command that was named has this task
@@ -33,16 +34,16 @@ abbrev pub HasTask : Option (Text × List Row) → Task → Type 0
 HasTask None task = ⊥
 HasTask (Some command) task = IsTaskOf command task
 
--- none of the five commands was named
+-- none of the six commands was named
 abbrev pub NamesNone : Option (Text × List Row) → Type 0
 NamesNone None = ⊤
-NamesNone (Some (name, options)) = (name ≢ codes "steps") × (name ≢ codes "run") × (name ≢ codes "threads") × (name ≢ codes "states") × (name ≢ codes "table")
+NamesNone (Some (name, options)) = (name ≢ codes "steps") × (name ≢ codes "run") × (name ≢ codes "threads") × (name ≢ codes "states") × (name ≢ codes "counts") × (name ≢ codes "table")
 
 -- a command over a machine, which has a shape
 abbrev pub HasShape : Text → Type 0
-HasShape name = (name ≡ codes "steps") ⊎ (name ≡ codes "run") ⊎ (name ≡ codes "threads") ⊎ (name ≡ codes "states")
+HasShape name = (name ≡ codes "steps") ⊎ (name ≡ codes "run") ⊎ (name ≡ codes "threads") ⊎ (name ≡ codes "states") ⊎ (name ≡ codes "counts")
 
--- the command that was named has no task: it is none of the five, or its shape is refused
+-- the command that was named has no task: it is none of the six, or its shape is refused
 abbrev pub HasNoTask : Option (Text × List Row) → Failure → Type 0
 HasNoTask command NoCommand = NamesNone command
 HasNoTask (Some (name, options)) (Shape fault) = HasShape name × IsShapeOf options (Err fault)

@@ -33,6 +33,10 @@ IsTables names = map (λ name. name.now) names.now ≡ codes "cache" ∷ codes "
 abbrev pub IsForms : Names → Type 0
 IsForms names = map (λ name. name.now) names.now ≡ codes "csv" ∷ []
 
+-- those of `--by`
+abbrev pub IsGroupings : Names → Type 0
+IsGroupings names = map (λ name. name.now) names.now ≡ codes "row" ∷ []
+
 -- a protocol, in either case
 abbrev pub protocol_rule : Names → Rule
 protocol_rule protocols = record (option_rule (codes "protocol") (codes "msi") (parser.Names protocols)) { ignore_case = true }
@@ -60,6 +64,14 @@ form_rule forms = record (new_rule (codes "as")) { long = Some (codes "as"); par
 abbrev pub states_app : Names → Names → App
 states_app protocols forms = with_rule (simulation_app (codes "states") protocols) (form_rule forms)
 
+-- the option `--by`, which has to be there
+abbrev pub grouping_rule : Names → Rule
+grouping_rule groupings = record (new_rule (codes "by")) { long = Some (codes "by"); parser = Some (parser.Names groupings); required = true }
+
+-- the command that writes the counts of a run: it has that option too
+abbrev pub counts_app : Names → Names → App
+counts_app protocols groupings = with_rule (simulation_app (codes "counts") protocols) (grouping_rule groupings)
+
 -- the command that writes a table
 abbrev pub table_app : Names → Names → App
 table_app protocols tables =
@@ -69,17 +81,17 @@ table_app protocols tables =
 abbrev pub top_app : App
 top_app = let new = new_app (codes "snoop") in record new { top = record new.top { has_version = true; subcommand_required = true } }
 
--- the program with its five commands
-abbrev pub snoop_app : Names → Names → Names → Names → Names → Names → Names → App
-snoop_app steps run threads states forms table tables =
-    with_subcommand (with_subcommand (with_subcommand (with_subcommand (with_subcommand top_app
-    (simulation_app (codes "steps") steps).top) (run_app run).top) (simulation_app (codes "threads") threads).top) (states_app states forms).top) (table_app table tables).top
+-- the program with its six commands
+abbrev pub snoop_app : Names → Names → Names → Names → Names → Names → Names → Names → Names → App
+snoop_app steps run threads states forms counts groupings table tables =
+    with_subcommand (with_subcommand (with_subcommand (with_subcommand (with_subcommand (with_subcommand top_app
+    (simulation_app (codes "steps") steps).top) (run_app run).top) (simulation_app (codes "threads") threads).top) (states_app states forms).top) (counts_app counts groupings).top) (table_app table tables).top
 
 -- `clap`'s description of it
 abbrev pub IsSnoop : App → Type 0
-IsSnoop app = (steps run threads states forms table tables : Names)
-    × IsProtocols steps × IsProtocols run × IsProtocols threads × IsProtocols states × IsForms forms × IsProtocols table × IsTables tables
-    × (app ≡ snoop_app steps run threads states forms table tables)
+IsSnoop app = (steps run threads states forms counts groupings table tables : Names)
+    × IsProtocols steps × IsProtocols run × IsProtocols threads × IsProtocols states × IsForms forms × IsProtocols counts × IsGroupings groupings × IsProtocols table × IsTables tables
+    × (app ≡ snoop_app steps run threads states forms counts groupings table tables)
 
 -- no option of the command is one of its subcommands' too
 abbrev pub IsLocal : Command → Type 0

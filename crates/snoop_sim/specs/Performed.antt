@@ -8,6 +8,7 @@ use Rattle.snoop_rules.specs.TableText.{table_text}
 use Rattle.clap.specs.Words.{Text}
 use Rattle.snoop_sim.specs.Asked.{Asks, Refuses}
 use Rattle.snoop_engine.specs.Simulated.{Simulates}
+use Rattle.snoop_engine.specs.SimulatedCounts.{SimulatesCounts}
 use Rattle.snoop_engine.specs.SimulatedRun.{SimulatesRun}
 use Rattle.snoop_engine.specs.SimulatedSerial.{SimulatesSerial}
 use Rattle.snoop_engine.specs.SimulatedStates.{SimulatesStates}
@@ -20,7 +21,7 @@ use Rattle.snoop_sim.specs.declared.fault.ThreadsFault.TheVariants.{Text as Rows
 use Rattle.snoop_sim.specs.declared.failure.Failure.{Failure}
 use Rattle.snoop_sim.specs.declared.failure.Failure.TheVariants.{Simulation, Threads as ThreadsFailure}
 use Rattle.snoop_sim.specs.declared.options.Task.{Task}
-use Rattle.snoop_sim.specs.declared.options.Task.TheVariants.{Help, Steps, Run, Serial, Threads, States, Table}
+use Rattle.snoop_sim.specs.declared.options.Task.TheVariants.{Help, Steps, Run, Serial, Threads, States, Counts, Table}
 
 -- a text was written whole; or, out of memory, nothing; or, where a write failed, a beginning; there was none to refuse
 abbrev pub Writes : List ℕ → Result (Unit {0}) SimFault → Option (List ℕ) → Option (List ℕ) → Type 0
@@ -42,6 +43,7 @@ Performs (Run protocol shape) input ending old new = EndsAs Simulation ending (�
 Performs (Serial protocol shape) input ending old new = EndsAs Simulation ending (λ done. SimulatesSerial protocol shape input done old new)
 Performs (Threads protocol shape) input ending old new = EndsAs ThreadsFailure ending (λ done. SimulatesThreads protocol shape input done old new)
 Performs (States protocol shape) input ending old new = EndsAs Simulation ending (λ done. SimulatesStates protocol shape input done old new)
+Performs (Counts protocol shape) input ending old new = EndsAs Simulation ending (λ done. SimulatesCounts protocol shape input done old new)
 Performs (Table protocol which) input ending old new = EndsAs Simulation ending (λ done. Writes (table_text protocol which) done old new)
 
 -- the task that the words ask for was performed; or nothing was begun for them, and nothing written

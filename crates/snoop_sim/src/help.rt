@@ -163,6 +163,27 @@ A refused step has one line, where only a stall has a row."
     more
 );
 
+pub(crate) static COUNTS: &str = help!(
+    "Reads standard input: `snoop counts --by row < FILE`. Each line is a step:"
+    asks
+    "
+  O,core                the bus orders the core's oldest request
+  R,address             the response for the block of the address comes"
+    numbers
+    "
+Example: printf 'L,0,0\\nO,0\\nR,0\\n' | snoop counts --by row
+
+The first line of output names the fields. Then each row of the cache table and of the
+memory table has a line (see `snoop table`):
+  controller                    cache or memory
+  state, event, action, next    the row
+  count                         how often it was taken, by all cores together; 0 if never
+A stall counts too. The rows of a core in I at another core's request do nothing, and
+are left out."
+    faults "L, S, E, O or R" "L and E take 2 numbers, S 3, O and R 1"
+    more
+);
+
 pub(crate) static TABLE: &str = "\
 No input is read. Each line of output is a cell of the table: state, event, action
 and next state, with commas between.

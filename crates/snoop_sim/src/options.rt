@@ -2,7 +2,7 @@
 ghost use Rattle.std.specs.Prelude.{◌≡◌, IfErr, IfOk, codes, false, map, string_bytes};
 ghost use Rattle.clap.specs.Words.{app_of, first_of, found_of, one_of, rows_of, rule_of, subcommand_rows_of};
 ghost use Rattle.snoop_sim.specs.Asked.{Asks, HasNoTask, HasTask, Refuses};
-ghost use Rattle.snoop_sim.specs.CommandLine.{IsForms, IsLocal, IsProtocols, IsSnoop, IsTables, Names, form_rule, number_rule, protocol_rule, serial_rule, simulation_app, table_app};
+ghost use Rattle.snoop_sim.specs.CommandLine.{IsForms, IsGroupings, IsLocal, IsProtocols, IsSnoop, IsTables, Names, form_rule, grouping_rule, number_rule, protocol_rule, serial_rule, simulation_app, table_app};
 ghost use Rattle.snoop_sim.specs.Options.{IsNumberOf, IsShapeOf, asks_serial, protocol_named, which_named};
 
 use crate::failure::Failure;
@@ -22,12 +22,15 @@ pub(crate) enum Task {
     Serial(Protocol, Shape),
     Threads(Protocol, Shape),
     States(Protocol, Shape),
+    Counts(Protocol, Shape),
     Table(Protocol, Which),
 }
 
 static PROTOCOLS: [&str; 2] = ["msi", "mesi"];
 
 static FORMS: [&str; 1] = ["csv"];
+
+static GROUPINGS: [&str; 1] = ["row"];
 
 static TABLES: [&str; 2] = ["cache", "memory"];
 
@@ -55,6 +58,7 @@ fn task_of(matches: &ArgMatches) -> Result<Task, Failure>
         Some(("run", options)) => Ok(Task::Run(protocol_in(options), shape_in(options)?)),
         Some(("threads", options)) => Ok(Task::Threads(protocol_in(options), shape_in(options)?)),
         Some(("states", options)) => Ok(Task::States(protocol_in(options), shape_in(options)?)),
+        Some(("counts", options)) => Ok(Task::Counts(protocol_in(options), shape_in(options)?)),
         Some(("steps", options)) => Ok(Task::Steps(protocol_in(options), shape_in(options)?)),
         _ => Err(Failure::NoCommand),
     }
@@ -96,6 +100,13 @@ fn grammar<'a>(alloc: Global) -> Result<Command<'a>, AllocError>
             help::STATES,
         )?
         .arg(form(alloc))?)?
+        .subcommand(simulation(
+            alloc,
+            "counts",
+            "Read steps; write how often each row of the tables was taken",
+            help::COUNTS,
+        )?
+        .arg(grouping(alloc))?)?
         .subcommand(table(alloc)?)
 }
 
@@ -175,6 +186,16 @@ fn form<'a>(alloc: Global) -> Arg<'a>
         .long("as")
         .help("The form of the output")
         .value_parser(ValueParser::Names(FORMS.as_slice()))
+        .required(true)
+}
+
+fn grouping<'a>(alloc: Global) -> Arg<'a>
+    ensures { (result.global ≡ false) × ((groupings : Names) × IsGroupings groupings × (rule_of result ≡ grouping_rule groupings)) }
+{
+    Arg::new(alloc, "by")
+        .long("by")
+        .help("What each line counts")
+        .value_parser(ValueParser::Names(GROUPINGS.as_slice()))
         .required(true)
 }
 

@@ -9,7 +9,9 @@ ghost use Rattle.snoop_sim.specs.Performed.{Ends, IsFailedRead, Leaves, Performs
 use crate::failure::Failure;
 use crate::options::{Task, task_in};
 use crate::threads::simulate_threads;
-use snoop_engine::{SimFault, simulate_run, simulate_serial, simulate_states, simulate_steps};
+use snoop_engine::{
+    SimFault, simulate_counts, simulate_run, simulate_serial, simulate_states, simulate_steps,
+};
 use snoop_rules::write_table;
 use snoop_trace::streams::{Sink, Source, write_whole};
 use std::alloc::Global;
@@ -110,6 +112,9 @@ fn perform_task<T: Threads + Wait + Sync, R: Source, W: Sink>(
         }
         Task::States(protocol, shape) => {
             simulate_states(alloc, reader, writer, protocol, shape).map_err(Failure::Simulation)
+        }
+        Task::Counts(protocol, shape) => {
+            simulate_counts(alloc, reader, writer, protocol, shape).map_err(Failure::Simulation)
         }
         Task::Table(protocol, which) => write_table(alloc, writer, protocol, which)
             .map_err(SimFault::from)

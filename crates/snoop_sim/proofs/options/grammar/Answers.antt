@@ -2,7 +2,7 @@ use Rattle.std.proofs.Common.{ap, codes}
 use Rattle.std.proofs.lemmas.Result.{IfOk-weaker}
 use Rattle.clap.specs.Words.{new_app}
 use Rattle.clap.specs.Simple.{app_of_fields}
-use Rattle.snoop_sim.specs.CommandLine.{form_rule, run_app, serial_rule, simulation_app, states_app, table_app, top_app}
+use Rattle.snoop_sim.specs.CommandLine.{counts_app, form_rule, grouping_rule, run_app, serial_rule, simulation_app, states_app, table_app, top_app}
 use Rattle.snoop_sim.proofs.CommandLineLemmas.{Describes, DescribesOption, adds_command, adds_option, keeps_description, requires_command, sets_version}
 use Rattle.snoop_sim.proofs.options.grammar.Goals as goal
 
@@ -22,9 +22,13 @@ returns c =
     let plain : Describes c.in_ok-simulation-4.field-0 (simulation_app (codes "states") c.in_ok-simulation-4.ensures.1.0) = record { local = c.in_ok-simulation-4.ensures.0; is = c.in_ok-simulation-4.ensures.1.2 } in
     let form : DescribesOption c.form.result (form_rule c.form.ensures.1.0) = record { local = c.form.ensures.0; is = c.form.ensures.1.2 } in
     let states : Describes c.in_ok-arg-2.field-0 (states_app c.in_ok-simulation-4.ensures.1.0 c.form.ensures.1.0) = adds_option _ _ c.in_ok-arg-2.field-0 _ _ plain form c.in_ok-arg-2.ensures in
+    let all : Describes c.in_ok-simulation-5.field-0 (simulation_app (codes "counts") c.in_ok-simulation-5.ensures.1.0) = record { local = c.in_ok-simulation-5.ensures.0; is = c.in_ok-simulation-5.ensures.1.2 } in
+    let grouping : DescribesOption c.grouping.result (grouping_rule c.grouping.ensures.1.0) = record { local = c.grouping.ensures.0; is = c.grouping.ensures.1.2 } in
+    let counts : Describes c.in_ok-arg-3.field-0 (counts_app c.in_ok-simulation-5.ensures.1.0 c.grouping.ensures.1.0) = adds_option _ _ c.in_ok-arg-3.field-0 _ _ all grouping c.in_ok-arg-3.ensures in
     let table : Describes c.in_ok-table.field-0 (table_app c.in_ok-table.ensures.1.0 c.in_ok-table.ensures.1.1) = record { local = c.in_ok-table.ensures.0; is = c.in_ok-table.ensures.1.4 } in
     let one = adds_command _ _ c.in_ok-subcommand.field-0 _ _ start steps c.in_ok-subcommand.ensures in
     let two = adds_command _ _ c.in_ok-subcommand-2.field-0 _ _ one run c.in_ok-subcommand-2.ensures in
     let three = adds_command _ _ c.in_ok-subcommand-3.field-0 _ _ two threads c.in_ok-subcommand-3.ensures in
     let four = adds_command _ _ c.in_ok-subcommand-4.field-0 _ _ three states c.in_ok-subcommand-4.ensures in
-    IfOk-weaker c.subcommand-5.result _ _ (λ command adds. let five = adds_command _ _ command _ _ four table adds in (_, _, _, _, _, _, _, c.in_ok-simulation.ensures.1.1, c.in_ok-simulation-2.ensures.1.1, c.in_ok-simulation-3.ensures.1.1, c.in_ok-simulation-4.ensures.1.1, c.form.ensures.1.1, c.in_ok-table.ensures.1.2, c.in_ok-table.ensures.1.3, five.is)) c.subcommand-5.ensures
+    let five = adds_command _ _ c.in_ok-subcommand-5.field-0 _ _ four counts c.in_ok-subcommand-5.ensures in
+    IfOk-weaker c.subcommand-6.result _ _ (λ command adds. let six = adds_command _ _ command _ _ five table adds in (_, _, _, _, _, _, _, _, _, c.in_ok-simulation.ensures.1.1, c.in_ok-simulation-2.ensures.1.1, c.in_ok-simulation-3.ensures.1.1, c.in_ok-simulation-4.ensures.1.1, c.form.ensures.1.1, c.in_ok-simulation-5.ensures.1.1, c.grouping.ensures.1.1, c.in_ok-table.ensures.1.2, c.in_ok-table.ensures.1.3, six.is)) c.subcommand-6.ensures

@@ -1,0 +1,185 @@
+-- Counters, one of which goes up.
+use Rattle.std.proofs.Common.{◌≡◌, ℕ, ◌+◌, ◌*◌, ◌<◌, Bool, true, false, ◌&&◌, List, [], ◌∷◌, ◌++◌, cond, filter, length, length-append, get_or, set, replicate, refl, sym, ap, ◌∙◌, inl, inr, ◌⊎◌, arith}
+use Rattle.std.specs.Prelude.{◌==◌, nat_eq, ◌≢◌, Option, Some, None}
+use Rattle.std.proofs.lemmas.Bool.{cases_eq, eq-eqb, eqb-true}
+use Rattle.std.proofs.lemmas.Bool.Decides.{nat_tests}
+use Rattle.std.proofs.lemmas.Grind.{common_steps}
+use Rattle.std.proofs.lemmas.List.{length-replicate, length-set, get_or-replicate, get_or-set_other, get_or-set_same}
+use Rattle.std.proofs.lemmas.List.Elements.{filter-append}
+use Rattle.snoop_rules.specs.declared.names.CacheState.{CacheState}
+use Rattle.snoop_rules.specs.declared.names.CacheState.TheVariants as state
+use Rattle.snoop_rules.specs.declared.names.CacheEvent.{CacheEvent}
+use Rattle.snoop_rules.specs.declared.names.CacheEvent.TheVariants as event
+use Rattle.snoop_rules.specs.declared.names.MemState.{MemState}
+use Rattle.snoop_rules.specs.declared.names.MemState.TheVariants as mem_state
+use Rattle.snoop_rules.specs.declared.names.MemEvent.{MemEvent}
+use Rattle.snoop_rules.specs.declared.names.MemEvent.TheVariants as mem_event
+use Rattle.snoop_history.specs.Totals.{capped}
+use Rattle.snoop_engine.specs.Numbers.{event_number, memory_event_number, memory_state_number, state_number}
+use Rattle.snoop_engine.specs.Counts.{takes_memory_row, takes_row}
+use Rattle.snoop_engine.specs.Tallies.{Tallies, core_place, memory_place}
+use Rattle.snoop_engine.specs.declared.taken.Taken.{Taken}
+use Rattle.snoop_engine.specs.declared.taken.Taken.TheVariants.{Core, Memory, Nobody}
+
+-- the numbers are within the tables
+state_within : (s : CacheState) → state_number s < 13
+state_within state.I = omega arith
+state_within state.IsAd = omega arith
+state_within state.IsD = omega arith
+state_within state.ImAd = omega arith
+state_within state.ImD = omega arith
+state_within state.S = omega arith
+state_within state.SmAd = omega arith
+state_within state.SmD = omega arith
+state_within state.E = omega arith
+state_within state.M = omega arith
+state_within state.EiA = omega arith
+state_within state.MiA = omega arith
+state_within state.IiA = omega arith
+
+event_within : (e : CacheEvent) → event_number e < 11
+event_within event.Load = omega arith
+event_within event.Store = omega arith
+event_within event.Evict = omega arith
+event_within event.OwnGetS = omega arith
+event_within event.OwnGetM = omega arith
+event_within event.OwnPutM = omega arith
+event_within event.OtherGetS = omega arith
+event_within event.OtherGetM = omega arith
+event_within event.OtherPutM = omega arith
+event_within event.Data = omega arith
+event_within event.DataE = omega arith
+
+memory_state_within : (s : MemState) → memory_state_number s < 10
+memory_state_within mem_state.IorS = omega arith
+memory_state_within mem_state.M = omega arith
+memory_state_within mem_state.IorSD = omega arith
+memory_state_within mem_state.MD = omega arith
+memory_state_within mem_state.I = omega arith
+memory_state_within mem_state.S = omega arith
+memory_state_within mem_state.EorM = omega arith
+memory_state_within mem_state.ID = omega arith
+memory_state_within mem_state.SD = omega arith
+memory_state_within mem_state.EorMD = omega arith
+
+memory_event_within : (e : MemEvent) → memory_event_number e < 6
+memory_event_within mem_event.GetS = omega arith
+memory_event_within mem_event.GetM = omega arith
+memory_event_within mem_event.PutM = omega arith
+memory_event_within mem_event.Data = omega arith
+memory_event_within mem_event.NoData = omega arith
+memory_event_within mem_event.NoDataE = omega arith
+
+core_below : (s : CacheState) (e : CacheEvent) → core_place s e < 143
+core_below s e = let a = state_within s in let b = event_within e in omega arith
+
+memory_below : (s : MemState) (e : MemEvent) → memory_place s e < 203
+memory_below s e = let a = memory_state_within s in let b = memory_event_within e in omega arith
+
+-- nothing is counted yet
+pub tallies_none : Tallies (replicate 203 0) []
+tallies_none =
+    let none : ℕ = 0 in
+    record {
+      long = length-replicate 203 none;
+      cores = λ s e. let lt = core_below s e in get_or-replicate 203 (core_place s e) none none (omega arith);
+      memory = λ s e. get_or-replicate 203 (memory_place s e) none none (memory_below s e);
+    }
+
+not_equal : (a b : ℕ) → (a ≡ b → ⊥) → (a == b) ≡ false
+not_equal a b ne = grind (arith, common_steps, nat_tests)
+
+-- two pairs of numbers are the same exactly if their places in rows of this width are
+same_pair_of_11 : (a b c d : ℕ) → b < 11 → d < 11 → (a == c && b == d) ≡ (a * 11 + b == c * 11 + d)
+same_pair_of_11 a b c d x y = elim (cases_eq a c) [
+  | inl e ↦ elim (cases_eq b d) [
+    | inl f ↦ rw (eq-eqb a c e, eq-eqb b d f) (sym (eq-eqb (a * 11 + b) (c * 11 + d) (omega arith)))
+    | inr f ↦ rw (eq-eqb a c e, not_equal b d f) (sym (not_equal (a * 11 + b) (c * 11 + d) (λ q. f (omega arith))))
+  ]
+  | inr e ↦ rw (not_equal a c e) (sym (not_equal (a * 11 + b) (c * 11 + d) (λ q. e (omega arith))))
+]
+
+same_pair_of_6 : (a b c d : ℕ) → b < 6 → d < 6 → (a == c && b == d) ≡ (143 + a * 6 + b == 143 + c * 6 + d)
+same_pair_of_6 a b c d x y = elim (cases_eq a c) [
+  | inl e ↦ elim (cases_eq b d) [
+    | inl f ↦ rw (eq-eqb a c e, eq-eqb b d f) (sym (eq-eqb (143 + a * 6 + b) (143 + c * 6 + d) (omega arith)))
+    | inr f ↦ rw (eq-eqb a c e, not_equal b d f) (sym (not_equal (143 + a * 6 + b) (143 + c * 6 + d) (λ q. f (omega arith))))
+  ]
+  | inr e ↦ rw (not_equal a c e) (sym (not_equal (143 + a * 6 + b) (143 + c * 6 + d) (λ q. e (omega arith))))
+]
+
+-- one line more, of which the test says whether its counter is the one here
+module _ (p : Taken → Bool) (lines : List Taken) (line : Taken) where
+  one_if : (b : Bool) → p line ≡ b → length (filter p (line ∷ [])) ≡ cond b 1 0
+  one_if true e = rw e refl
+  one_if false e = rw e refl
+
+  one_more : (b : Bool) → p line ≡ b → length (filter p (lines ++ line ∷ [])) ≡ length (filter p lines) + cond b 1 0
+  one_more b e =
+      ap length (filter-append p lines (line ∷ [])) ∙ length-append (filter p lines) (filter p (line ∷ [])) ∙ ap (λ n. length (filter p lines) + n) (one_if b e)
+
+  counted_more : (counters new : List ℕ) (place here : ℕ) → place < length counters → new ≡ set counters place (capped (get_or counters place 0 + 1))
+      → p line ≡ (place == here) → get_or counters here 0 ≡ capped (length (filter p lines)) → get_or new here 0 ≡ capped (length (filter p (lines ++ line ∷ [])))
+  counted_more counters new place here lt is test before = elim (cases_eq place here) [
+    | inl e ↦
+        let n = one_more true (test ∙ eq-eqb place here e) in
+        let old : get_or counters place 0 ≡ capped (length (filter p lines)) = ap (λ k. get_or counters k 0) e ∙ before in
+        let now : get_or new here 0 ≡ capped (get_or counters place 0 + 1) =
+        ap (λ l. get_or l here 0) is ∙ ap (λ k. get_or (set counters place (capped (get_or counters place 0 + 1))) k 0) (sym e) ∙ get_or-set_same counters place (capped (get_or counters place 0 + 1)) 0 lt in
+        omega (arith, n, old, now)
+    | inr e ↦
+        let n = one_more false (test ∙ not_equal place here e) in
+        let now : get_or new here 0 ≡ get_or counters here 0 =
+        ap (λ l. get_or l here 0) is ∙ get_or-set_other counters place here (capped (get_or counters place 0 + 1)) 0 (λ q. e (sym q)) in
+        omega (arith, n, before, now)
+  ]
+
+-- a core's row is counted
+pub tallies_core : (lines : List Taken) (core block : ℕ) (met : CacheEvent) (at : CacheState) (counters new : List ℕ) → new ≡ set counters (core_place at met) (capped (get_or counters (core_place at met) 0 + 1))
+    → Tallies counters lines → Tallies new (lines ++ Core core block (Some met) at ∷ [])
+tallies_core lines core block met at counters new is far =
+    let line : Taken = Core core block (Some met) at in
+    let below = core_below at met in
+    let long = far.long in
+    let lt : core_place at met < length counters = omega arith in
+    record {
+      long = ap length is ∙ length-set counters (core_place at met) (capped (get_or counters (core_place at met) 0 + 1)) ∙ far.long;
+      cores = λ s e. counted_more (takes_row s e) lines line counters new (core_place at met) (core_place s e) lt is
+          (same_pair_of_11 (state_number at) (event_number met) (state_number s) (event_number e) (event_within met) (event_within e)) (far.cores s e);
+      memory = λ s e. counted_more (takes_memory_row s e) lines line counters new (core_place at met) (memory_place s e) lt is
+          (sym (not_equal (core_place at met) (memory_place s e) (λ q. omega arith))) (far.memory s e);
+    }
+
+-- a row of memory's is counted
+pub tallies_memory : (lines : List Taken) (block : ℕ) (met : MemEvent) (at : MemState) (counters new : List ℕ) → new ≡ set counters (memory_place at met) (capped (get_or counters (memory_place at met) 0 + 1))
+    → Tallies counters lines → Tallies new (lines ++ Memory block met at ∷ [])
+tallies_memory lines block met at counters new is far =
+    let line : Taken = Memory block met at in
+    let below = memory_below at met in
+    let long = far.long in
+    let lt : memory_place at met < length counters = omega arith in
+    record {
+      long = ap length is ∙ length-set counters (memory_place at met) (capped (get_or counters (memory_place at met) 0 + 1)) ∙ far.long;
+      cores = λ s e. let other = core_below s e in counted_more (takes_row s e) lines line counters new (memory_place at met) (core_place s e) lt is
+          (sym (not_equal (memory_place at met) (core_place s e) (λ q. omega arith))) (far.cores s e);
+      memory = λ s e. counted_more (takes_memory_row s e) lines line counters new (memory_place at met) (memory_place s e) lt is
+          (same_pair_of_6 (memory_state_number at) (memory_event_number met) (memory_state_number s) (memory_event_number e) (memory_event_within met) (memory_event_within e)) (far.memory s e);
+    }
+
+-- a line without a row is not counted
+not_counted : (p : Taken → Bool) (lines : List Taken) (line : Taken) → p line ≡ false → capped (length (filter p lines)) ≡ capped (length (filter p (lines ++ line ∷ [])))
+not_counted p lines line none = let n = one_more p lines line false none in omega (arith, n)
+
+pub tallies_no_event : (lines : List Taken) (core block : ℕ) (at : CacheState) (counters : List ℕ) → Tallies counters lines → Tallies counters (lines ++ Core core block None at ∷ [])
+tallies_no_event lines core block at counters far = record {
+  long = far.long;
+  cores = λ s e. far.cores s e ∙ not_counted (takes_row s e) lines (Core core block None at) refl;
+  memory = λ s e. far.memory s e ∙ not_counted (takes_memory_row s e) lines (Core core block None at) refl;
+}
+
+pub tallies_nobody : (lines : List Taken) (core block : Option ℕ) (counters : List ℕ) → Tallies counters lines → Tallies counters (lines ++ Nobody core block ∷ [])
+tallies_nobody lines core block counters far = record {
+  long = far.long;
+  cores = λ s e. far.cores s e ∙ not_counted (takes_row s e) lines (Nobody core block) refl;
+  memory = λ s e. far.memory s e ∙ not_counted (takes_memory_row s e) lines (Nobody core block) refl;
+}

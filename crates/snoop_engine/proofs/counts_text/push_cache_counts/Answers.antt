@@ -1,0 +1,17 @@
+use Rattle.std.specs.List.{flat_map}
+use Rattle.snoop_rules.specs.declared.names.CacheState.TheVariants.{I}
+use Rattle.snoop_rules.specs.TableOrder.{cache_events, cache_states}
+use Rattle.snoop_engine.specs.Counts.{cache_count_at, cache_counts}
+use Rattle.snoop_engine.specs.Tallies.{counts_in}
+use Rattle.snoop_rules.proofs.TextLemmas.{piece_more, pieces_all}
+use Rattle.snoop_engine.proofs.counts_text.push_cache_counts.Goals as goal
+
+pub loop-state-preserved : goal.loop-state-preserved
+loop-state-preserved c =
+    piece_more (λ state. flat_map (cache_count_at c.args.protocol (counts_in c.args.tally.now.counters) state) cache_events) cache_states c.loop-state.state-index I c.args.out.now.items c.loop-state.out.items c.push_cache_rows.new.out.items
+    c.loop-state-test.true c.loop-state.invariant c.in_ok-push_cache_rows.ensures
+
+pub returns : goal.returns
+unfolding cache_counts
+returns c =
+    pieces_all (λ state. flat_map (cache_count_at c.args.protocol (counts_in c.args.tally.now.counters) state) cache_events) cache_states c.loop-state.state-index c.args.out.now.items c.loop-state.out.items c.loop-state-test.false c.loop-state.invariant

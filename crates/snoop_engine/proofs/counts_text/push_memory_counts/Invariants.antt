@@ -1,0 +1,10 @@
+use Rattle.std.proofs.Common.{◌≡◌, ◌++◌, take}
+use Rattle.std.specs.List.{flat_map}
+use Rattle.snoop_rules.specs.TableOrder.{memory_events, memory_states}
+use Rattle.snoop_engine.specs.Counts.{memory_count_at}
+use Rattle.snoop_engine.specs.Tallies.{memory_counts_in}
+use Rattle.snoop_engine.proofs.counts_text.push_memory_counts.Given as goal
+
+-- the lines so far
+abbrev pub invariant-loop-state : goal.invariant-loop-state
+invariant-loop-state l = l.out.items ≡ l.fn.out.items ++ flat_map (λ state. flat_map (memory_count_at l.protocol (memory_counts_in l.tally.counters) state) memory_events) (take l.state-index memory_states)

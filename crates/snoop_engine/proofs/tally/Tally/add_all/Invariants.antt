@@ -1,0 +1,8 @@
+use Rattle.std.proofs.Common.{List, ◌++◌, take}
+use Rattle.snoop_engine.specs.Tallies.{Tallies}
+use Rattle.snoop_engine.specs.declared.taken.Taken.{Taken}
+use Rattle.snoop_engine.proofs.tally.Tally.add_all.Given as goal
+
+-- the lines so far are counted
+abbrev pub invariant-loop-line : goal.invariant-loop-line
+invariant-loop-line l = (lines : List Taken) → Tallies l.fn.self.counters lines → Tallies l.self.counters (lines ++ take l.line-index l.more)

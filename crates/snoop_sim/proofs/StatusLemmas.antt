@@ -1,0 +1,43 @@
+-- The statuses that the program ends with are below 6.
+use Rattle.std.proofs.Common.{ℕ, ◌<◌, arith}
+use Rattle.snoop_trace.specs.declared.fault.TextFault.TheVariants as text
+use Rattle.snoop_trace.specs.declared.fault.WriteFault.TheVariants as write
+use Rattle.snoop_cores.specs.declared.fault.MakeFault.TheVariants as make
+use Rattle.snoop_cores.specs.declared.fault.RunFault.TheVariants as run
+use Rattle.snoop_cores.specs.declared.fault.SeatFault.TheVariants as seat
+use Rattle.snoop_cores.specs.declared.fault.GatherFault.TheVariants as gathering
+use Rattle.snoop_engine.specs.declared.fault.SimFault.{SimFault}
+use Rattle.snoop_engine.specs.declared.fault.SimFault.TheVariants.{Text, NoMemory, Write}
+use Rattle.snoop_sim.specs.declared.failure.Failure.{Failure}
+use Rattle.snoop_sim.specs.declared.failure.Failure.TheVariants.{CommandLine, NoCommand, NotUtf8, Shape, Simulation, Threads}
+use Rattle.snoop_sim.specs.declared.fault.ThreadsFault.{ThreadsFault}
+use Rattle.snoop_sim.specs.declared.fault.ThreadsFault.TheVariants as threads
+use Rattle.snoop_sim.specs.Status.{status_of, status_of_fault, status_of_threads}
+
+fault_known : (fault : SimFault) → status_of_fault fault < 6
+fault_known (Text text.NoMemory) = omega arith
+fault_known (Text _) = omega arith
+fault_known NoMemory = omega arith
+fault_known Write = omega arith
+
+threads_known : (fault : ThreadsFault) → status_of_threads fault < 6
+threads_known (threads.Text text.NoMemory) = omega arith
+threads_known (threads.Text _) = omega arith
+threads_known (threads.Make make.NoMemory) = omega arith
+threads_known (threads.Make _) = omega arith
+threads_known (threads.Run run.NoMemory) = omega arith
+threads_known (threads.Run _) = omega arith
+threads_known (threads.Seat seat.NoMemory) = omega arith
+threads_known (threads.Seat _) = omega arith
+threads_known (threads.Gather gathering.NoMemory) = omega arith
+threads_known (threads.Gather _) = omega arith
+threads_known (threads.Write write.NoMemory) = omega arith
+threads_known (threads.Write write.Write) = omega arith
+
+pub status_known : (failure : Failure) → status_of failure < 6
+status_known (CommandLine error) = omega arith
+status_known NoCommand = omega arith
+status_known NotUtf8 = omega arith
+status_known (Shape fault) = omega arith
+status_known (Simulation fault) = fault_known fault
+status_known (Threads fault) = threads_known fault
