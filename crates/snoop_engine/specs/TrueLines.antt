@@ -42,7 +42,7 @@ pub record HasAllLines (frame : Frame) : Type 0 where
   pub memory : (block : ℕ) (event : MemEvent) → TakesFirst frame.before frame.step block → ConsultsMemory frame.before frame.step block (Some event)
       → Contains (taken_by frame.before frame.step) (Memory block event (picture_of frame.before block).memory.state)
 
--- the lines of the frame are exactly the rows that its controllers take, and the protocol stays
+-- each line of the frame is true of its controller, no row of a step that is taken is left out, and the protocol stays
 pub record ShowsRows (frame : Frame) : Type 0 where
   pub stays : frame.after.protocol ≡ frame.before.protocol
   pub true : All (IsTrue frame) (lines_of frame.before frame.step frame.outcome)

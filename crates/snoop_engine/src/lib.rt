@@ -1,4 +1,5 @@
-//! The engine of the commands `steps` and `run`: a text of steps or of rows in, the lines of its simulation and its report out.
+//! The engines of the commands `steps`, `run`, `states` and `counts`: a text of steps or of rows in; out come the lines of its
+//! simulation and its report, its states, or how often each row of the tables was taken.
 #![tactic(auto)]
 
 mod counts;

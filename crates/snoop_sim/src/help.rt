@@ -45,6 +45,11 @@ lines are not counted):
   NoCore     the core is --cores or above
   NoBlock    the address is --blocks times --block-bytes (256 by default) or above"] $($rest)*)
     };
+    (@ [$($text:literal)*] heading $($rest:tt)*) => {
+        help!(@ [$($text)* "
+  OtherShape the heading V,2,protocol,cores,blocks,block-bytes,words has other options
+  BadVersion a first line with V has another number than 2 there"] $($rest)*)
+    };
     (@ [$($text:literal)*] more $($rest:tt)*) => {
         help!(@ [$($text)* "
 
@@ -98,9 +103,7 @@ Example: printf 'L,0,0\\nO,0\\nR,0\\n' | snoop steps"
     "
 All counts 0? A text without O and R is for `snoop run`."
     faults "L, S, E, O or R" "L and E take 2 numbers, S 3, O and R 1"
-    "
-  OtherShape the heading V,2,protocol,cores,blocks,block-bytes,words has other options
-  BadVersion a first line with V has another number than 2 there"
+    heading
     more
 );
 
@@ -153,13 +156,15 @@ Example: printf 'L,0,0\\nO,0\\nR,0\\n' | snoop states --as csv
 The first line of output names the fields. Then each step has a line for each
 controller that takes a row of its table (see `snoop table`): at an Order of each
 core that is not in I, and of memory.
-  step, record, reply    its number, its text, and the machine's reply
+  step, record, reply    its number, its text, and the reply (see `snoop steps --help`)
   block, controller      whose row it is: core 0, or memory
   event, before, action, after    the row, with the state before and after
   value                  the values that are kept after it
-  place                  the place of the block in the core's queue after it
-A refused step has one line, where only a stall has a row."
+  place                  the place of the block in the core's queue after it, from 1
+A step without a row (absent, or refused but for a stall) has one line, with no event
+and no action. A text without O and R is for `snoop run`."
     faults "L, S, E, O or R" "L and E take 2 numbers, S 3, O and R 1"
+    heading
     more
 );
 
@@ -181,6 +186,7 @@ memory table has a line (see `snoop table`):
 A stall counts too. The rows of a core in I at another core's request do nothing, and
 are left out."
     faults "L, S, E, O or R" "L and E take 2 numbers, S 3, O and R 1"
+    heading
     more
 );
 

@@ -1,4 +1,5 @@
-//! The commands of the program `snoop`: a text of steps or of rows in; the lines of its simulation and its report out, or the steps that threads took.
+//! The commands of the program `snoop`: a text of steps or of rows in; out come the lines of its simulation and its report, its
+//! states, how often each row of the tables was taken, or the steps that threads took.
 #![tactic(auto)]
 
 mod failure;
