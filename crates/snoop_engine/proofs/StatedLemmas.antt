@@ -13,12 +13,12 @@ use Rattle.snoop_trace.proofs.OutputLemmas.{appends_none}
 use Rattle.snoop_model.specs.Pictures.Situation.{Situation, reset}
 use Rattle.snoop_model.specs.Runs.Run.{RunsGoOn, TheRun}
 use Rattle.snoop_engine.specs.Fault.{written}
-use Rattle.snoop_engine.specs.Frames.{Frame, FramesFrom, IsFrameFrom, outcomes_of, steps_of}
+use Rattle.snoop_engine.specs.Frames.{AreFrames, Frame, FramesFrom, IsFrameFrom, outcomes_of, steps_of}
 use Rattle.snoop_engine.specs.Simulated.{Reads}
 use Rattle.snoop_engine.specs.SimulatedStates.{BeginsStates, ReportsStates, SimulatesStates, WritesStates, WritesStatesFront}
 use Rattle.snoop_engine.specs.States.{frame_text, frame_texts, header_text, states_text}
 use Rattle.snoop_engine.specs.declared.fault.SimFault.{SimFault}
-use Rattle.snoop_engine.proofs.TrueLines.{lines_true}
+use Rattle.snoop_engine.proofs.TrueLines.{lines_fit}
 use Rattle.snoop_engine.proofs.FrameLemmas.{are_the_run, framed, frames_on, states_text_more, states_text_on, steps_counted, steps_of_on}
 
 -- the first of the steps were taken, the others are left; the lines of the first were written or stand in the chunk
@@ -96,7 +96,15 @@ pub reports_states : (protocol : Protocol) (shape : Extent) (steps : List Step) 
     → from ≡ reset protocol shape → WritesStates shape from steps to a b → ReportsStates protocol shape steps a b
 reports_states protocol shape steps from to a b start far =
     let run : FramesFrom (reset protocol shape) far.frames to = subst (λ (s : Situation). FramesFrom s far.frames to) start far.run in
-    record { frames = far.frames; final = to; run = record { whole = far.whole; run = run }; rows = lines_true protocol shape far.frames to run; output = far.lines }
+    let are : AreFrames protocol shape steps far.frames to = record { whole = far.whole; run = run } in
+    record {
+      frames = far.frames;
+      final = to;
+      run = are;
+      taken = are_the_run protocol shape steps far.frames to are;
+      rows = lines_fit protocol shape far.frames to run;
+      output = far.lines;
+    }
 
 -- the lines were cut
 pub begins_states : RunsGoOn → (protocol : Protocol) (shape : Extent) (steps : List Step) (from : Situation) (a b : Option (List ℕ))
@@ -108,13 +116,16 @@ begins_states go_on protocol shape steps from a b start far =
     let more = framed far.rest further.0 far.to further.1.0 further.1.1 in
     let lines : List ℕ = states_text shape far.frames in
     let later : List ℕ = frame_texts shape (1 + length far.frames) more.0 in
+    let are : AreFrames protocol shape steps (far.frames ++ more.0) further.1.0 = record {
+      whole = steps_of_on far.frames more.0 ∙ ap (λ (l : List Step). steps_of far.frames ++ l) more.1.0 ∙ sym far.whole;
+      run = frames_on far.frames more.0 (reset protocol shape) far.to further.1.0 run more.1.1;
+    } in
     record {
       frames = far.frames ++ more.0;
       final = further.1.0;
-      run = record {
-        whole = steps_of_on far.frames more.0 ∙ ap (λ (l : List Step). steps_of far.frames ++ l) more.1.0 ∙ sym far.whole;
-        run = frames_on far.frames more.0 (reset protocol shape) far.to further.1.0 run more.1.1;
-      };
+      run = are;
+      taken = are_the_run protocol shape steps (far.frames ++ more.0) further.1.0 are;
+      rows = lines_fit protocol shape (far.frames ++ more.0) further.1.0 are.run;
       output = record {
         front = far.lines.front;
         rest = far.lines.rest ++ later;

@@ -7,18 +7,20 @@ use Rattle.snoop_trace.specs.Output.{AppendsFront}
 use Rattle.snoop_trace.specs.declared.step.Step.{Step}
 use Rattle.snoop_trace.specs.declared.protocol.Protocol.{Protocol}
 use Rattle.snoop_model.specs.Pictures.Situation.{Situation}
-use Rattle.snoop_engine.specs.Frames.{AreFrames, Frame, FramesFrom, steps_of}
+use Rattle.snoop_model.specs.Runs.Run.{TheRun}
+use Rattle.snoop_engine.specs.Frames.{AreFrames, Frame, FramesFrom, outcomes_of, steps_of}
 use Rattle.snoop_engine.specs.Simulated.{Reads}
 use Rattle.snoop_engine.specs.States.{states_text}
 use Rattle.snoop_engine.specs.TrueLines.{ShowsRows}
 use Rattle.snoop_engine.specs.declared.fault.SimFault.{SimFault}
 use Rattle.snoop_engine.specs.declared.fault.SimFault.TheVariants.{Text, NoMemory, Write}
 
--- the writer got the states of the run of the steps, and its lines are the rows that the controllers take
+-- the writer got the states of the run of these steps
 pub record ReportsStates (protocol : Protocol) (shape : Extent) (steps : List Step) (old new : Option (List ℕ)) : Type 0 where
   pub frames : List Frame
   pub final : Situation
   pub run : AreFrames protocol shape steps frames final
+  pub taken : TheRun protocol shape steps (outcomes_of frames) final
   pub rows : All ShowsRows frames
   pub output : Appends old new (states_text shape frames)
 
@@ -27,6 +29,8 @@ pub record BeginsStates (protocol : Protocol) (shape : Extent) (steps : List Ste
   pub frames : List Frame
   pub final : Situation
   pub run : AreFrames protocol shape steps frames final
+  pub taken : TheRun protocol shape steps (outcomes_of frames) final
+  pub rows : All ShowsRows frames
   pub output : AppendsFront old new (states_text shape frames)
 
 -- all the steps were taken, and the writer got their states

@@ -19,16 +19,33 @@ use Rattle.snoop_engine.specs.Taken.{lines_of, taken_by}
 use Rattle.snoop_engine.specs.declared.taken.Taken.{Taken}
 use Rattle.snoop_engine.specs.declared.taken.Taken.TheVariants.{Core, Memory, Nobody}
 
--- a line is true of its controller: it has the state before the step, and where an event is met the table's row for it leads to the state after the step
-abbrev pub IsTrue : Frame → Taken → Type 0
-IsTrue frame (Core core block None before) = (before ≡ state_of frame.before core block) × (state_of frame.after core block ≡ before)
-IsTrue frame (Core core block (Some event) before) =
-    (before ≡ state_of frame.before core block)
-    × ((act : CacheAction) × (cell_of frame.before.protocol before event ≡ Some (record { action = act; next = state_of frame.after core block })))
-IsTrue frame (Memory block event before) =
-    (before ≡ (picture_of frame.before block).memory.state)
-    × ((act : MemAction) × (memory_cell_of frame.before.protocol before event ≡ Some (record { action = act; next = (picture_of frame.after block).memory.state })))
-IsTrue frame (Nobody core block) = ⊤
+-- at the step the core looks up its row for the event on the block, in the state that it has before; and the row leads to the state that it has after
+pub record TakesCoreRow (frame : Frame) (core block : ℕ) (event : CacheEvent) (before : CacheState) : Type 0 where
+  pub first : TakesFirst frame.before frame.step block
+  pub looks : ConsultsCache frame.before frame.step core block (Some event)
+  pub held : before ≡ state_of frame.before core block
+  pub action : CacheAction
+  pub row : cell_of frame.before.protocol before event ≡ Some (record { action = action; next = state_of frame.after core block })
+
+-- at the step memory looks up its row for the event on the block, in the state that it has before; and the row leads to the state that it has after
+pub record TakesMemoryRow (frame : Frame) (block : ℕ) (event : MemEvent) (before : MemState) : Type 0 where
+  pub first : TakesFirst frame.before frame.step block
+  pub looks : ConsultsMemory frame.before frame.step block (Some event)
+  pub held : before ≡ (picture_of frame.before block).memory.state
+  pub action : MemAction
+  pub row : memory_cell_of frame.before.protocol before event ≡ Some (record { action = action; next = (picture_of frame.after block).memory.state })
+
+-- the core has this state before the step, and after it
+pub record StaysIn (frame : Frame) (core block : ℕ) (state : CacheState) : Type 0 where
+  pub before : state ≡ state_of frame.before core block
+  pub after : state ≡ state_of frame.after core block
+
+-- a line with an event is a row that its controller takes at the step; a core without an event stays in its state; and a line of no controller says nothing of states
+abbrev pub FitsStep : Frame → Taken → Type 0
+FitsStep frame (Core core block None before) = StaysIn frame core block before
+FitsStep frame (Core core block (Some event) before) = TakesCoreRow frame core block event before
+FitsStep frame (Memory block event before) = TakesMemoryRow frame block event before
+FitsStep frame (Nobody core block) = ⊤
 
 -- at an Order a core in I takes a row that does nothing
 abbrev pub DoesNothing : Step → CacheState → Type 0
@@ -45,5 +62,5 @@ pub record HasAllLines (frame : Frame) : Type 0 where
 -- the lines of the frame are exactly the rows that its controllers take, and the protocol stays
 pub record ShowsRows (frame : Frame) : Type 0 where
   pub stays : frame.after.protocol ≡ frame.before.protocol
-  pub true : All (IsTrue frame) (lines_of frame.before frame.step frame.outcome)
+  pub fit : All (FitsStep frame) (lines_of frame.before frame.step frame.outcome)
   pub all : IsOk frame.outcome → HasAllLines frame
