@@ -9,6 +9,7 @@ use Rattle.snoop_rules.specs.declared.names.CacheState.{CacheState}
 use Rattle.snoop_rules.specs.declared.names.CacheState.TheVariants.{I}
 use Rattle.snoop_rules.specs.declared.names.MemAction.{MemAction}
 use Rattle.snoop_rules.specs.declared.names.MemEvent.{MemEvent}
+use Rattle.snoop_rules.specs.declared.names.MemState.{MemState}
 use Rattle.snoop_rules.specs.Cell.{cell_of}
 use Rattle.snoop_rules.specs.MemoryCell.{memory_cell_of}
 use Rattle.snoop_model.specs.Pictures.Situation.{picture_of, state_of}
