@@ -3,8 +3,11 @@
 use crate::cores::scene::{Scene, Shown, all_ran, row};
 use snoop_cores::{Gate, Late, Stop};
 use snoop_trace::Op;
+use std::alloc::Global;
+use std::sync::Wait;
 use std::sync::atomic::{AtomicU64, Ordering};
 use std::test::Fail;
+use std::thread::Threads;
 
 // Holds this core's first row until the other core has reached its own.
 #[derive(Drop)]
@@ -31,29 +34,42 @@ impl Gate for Meet {
     }
 }
 
-#[test]
-fn each_core_waits_for_the_other(rt: HostRuntime) -> Result<(), Fail> {
+fn wait_for_the_other<R: Threads + Wait + Sync>(
+    scene: &mut Scene,
+    rt: &R,
+    alloc: Global,
+    held: u32,
+) -> Result<(), Fail> {
     let rows = [
         row(0, Op::Store(5), 0),
         row(0, Op::Load, 0),
         row(1, Op::Store(6), 64),
         row(1, Op::Load, 64),
     ];
+    let gate = Meet {
+        held,
+        came: AtomicU64::new(0),
+    };
+    let expected = Shown {
+        steps: 8,
+        counts: [2, 2, 2, 0, 0, 2, 0, 2, 0, 0, 0, 0],
+        values: [Some(5), None, Some(6)],
+    };
+    if !all_ran(&scene.run(rt, alloc, rows.as_slice(), &gate))
+        || scene.shown(rt, alloc) != Some(expected)
+    {
+        Err(held)?
+    }
+    Ok(())
+}
+
+#[test]
+fn each_core_waits_for_the_other(rt: HostRuntime) -> Result<(), Fail> {
     for held in 0..2 {
         let mut scene = Scene::new(&rt, rt.alloc(), 2)?;
-        let gate = Meet {
-            held,
-            came: AtomicU64::new(0),
-        };
-        let ran = all_ran(&scene.run(&rt, rt.alloc(), rows.as_slice(), &gate));
-        let shown = scene.shown(&rt, rt.alloc());
+        let waited = wait_for_the_other(&mut scene, &rt, rt.alloc(), held);
         scene.end(&rt);
-        let expected = Shown {
-            steps: 8,
-            counts: [2, 2, 2, 0, 0, 2, 0, 2, 0, 0, 0, 0],
-            values: [Some(5), None, Some(6)],
-        };
-        assert_eq!(rt; (ran, shown), (true, Some(expected)), "core {held} is held");
+        waited?;
     }
     Ok(())
 }
@@ -68,9 +84,11 @@ impl Gate for First {
     }
 }
 
-#[test]
-fn a_late_gate_stops_cores_at_their_rows(rt: HostRuntime) -> Result<(), Fail> {
-    let mut scene = Scene::new(&rt, rt.alloc(), 3)?;
+fn run_late<R: Threads + Wait + Sync>(
+    scene: &mut Scene,
+    rt: &R,
+    alloc: Global,
+) -> Result<(), Fail> {
     let rows = [
         row(0, Op::Store(5), 0),
         row(1, Op::Load, 64),
@@ -78,17 +96,23 @@ fn a_late_gate_stops_cores_at_their_rows(rt: HostRuntime) -> Result<(), Fail> {
         row(2, Op::Load, 64),
         row(1, Op::Evict, 64),
     ];
-    let stops = scene.run(&rt, rt.alloc(), rows.as_slice(), &First);
-    let shown = scene.shown(&rt, rt.alloc());
-    scene.end(&rt);
-    let (Ok(stops), Some(shown)) = (stops, shown) else {
-        return Err(Fail::from("rows or a gathering"));
-    };
+    let stops = scene.run(rt, alloc, rows.as_slice(), &First)?;
     let late = Some(Stop::Late(1));
+    if stops.as_slice() != [late, late, None].as_slice() {
+        Err("where cores stop")?
+    }
+    let shown = scene.shown(rt, alloc).ok_or("a gathering")?;
     let [loads, _, stores, ..] = shown.counts;
-    assert_eq!(rt;
-        (stops.as_slice(), loads, stores),
-        ([late, late, None].as_slice(), 2, 1)
-    );
+    if loads != 2 || stores != 1 {
+        Err("loads and stores")?
+    }
     Ok(())
+}
+
+#[test]
+fn a_late_gate_stops_cores_at_their_rows(rt: HostRuntime) -> Result<(), Fail> {
+    let mut scene = Scene::new(&rt, rt.alloc(), 3)?;
+    let ran = run_late(&mut scene, &rt, rt.alloc());
+    scene.end(&rt);
+    ran
 }

@@ -120,12 +120,9 @@ fn goes_on<R: Threads + Wait + Sync>(
     };
     let gathered = scene.refusal(rt, alloc, scene.seats.as_slice());
     let busy = SeatFault::Busy(STORE_5);
-    if (loaded, stop, gathered)
-        != (
-            Some(Err(busy)),
-            Some(Stop::Fault(0, busy)),
-            Some(GatherFault::Pending { core: 0 }),
-        )
+    if loaded != Some(Err(busy))
+        || stop != Some(Stop::Fault(0, busy))
+        || gathered != Some(GatherFault::Pending { core: 0 })
     {
         return None;
     }
@@ -154,46 +151,65 @@ fn stores_of(log: &Log, core: u32) -> usize {
     count
 }
 
-/// Whether a gathering has the steps and the items of the handover, and how many stores of core 0.
-fn handed_over<R: Wait>(scene: &Scene, rt: &R, alloc: Global) -> Option<(bool, bool, usize)> {
-    let gathered = gathers(scene, rt, alloc)?;
-    let (steps, log) = (gathered.steps.as_slice(), &gathered.log);
-    Some((
-        steps == HANDOVER.as_slice(),
-        has_items(log, &HANDED_OVER),
-        stores_of(log, 0),
-    ))
+/// Whether a gathering has the steps and the items of the handover, with one store of core 0.
+fn is_handed_over<R: Wait>(scene: &Scene, rt: &R, alloc: Global) -> bool {
+    let Some(gathered) = gathers(scene, rt, alloc) else {
+        return false;
+    };
+    let log = &gathered.log;
+    gathered.steps.as_slice() == HANDOVER.as_slice()
+        && has_items(log, &HANDED_OVER)
+        && stores_of(log, 0) == 1
+}
+
+/// Core 0's store, again where it was out of memory.
+fn store_at_last<R: Threads + Wait + Sync>(
+    scene: &mut Scene,
+    rt: &R,
+    alloc: Global,
+) -> Option<Result<Turn, SeatFault>> {
+    let stored = scene.call(rt, 0, STORE_5);
+    if stored == Some(Err(SeatFault::NoMemory)) {
+        return goes_on(scene, rt, alloc);
+    }
+    stored
+}
+
+fn hand_over<R: Threads + Wait + Sync>(
+    scene: &mut Scene,
+    rt: &R,
+    alloc: Global,
+) -> Result<(), Fail> {
+    if store_at_last(scene, rt, alloc) != Some(Ok(Turn::Stored)) {
+        Err("core 0's store")?
+    }
+    if scene.seated(0, 0, 0) != Some(Ok(5))
+        || scene.counted() != Some([0, 0, 1, 0, 0, 1, 0, 1, 0, 0, 0, 0])
+    {
+        Err("what is seen of the store")?
+    }
+    if scene.call_at_last(rt, 1, work(Op::Load)) != Some(Ok(Turn::Loaded(5))) {
+        Err("core 1's load")?
+    }
+    if scene.watched(0, 0) != Some(Ok(5))
+        || scene.counted() != Some([1, 0, 1, 0, 1, 1, 0, 1, 1, 0, 0, 0])
+    {
+        Err("what is seen of the load")?
+    }
+    Ok(())
 }
 
 #[test]
 fn a_pending_store_is_handed_over_once(rt: HostRuntime) -> Result<(), Fail> {
     let mut scene = Scene::new(&rt, rt.alloc(), 2)?;
-    let mut stored = scene.call(&rt, 0, STORE_5);
-    if stored == Some(Err(SeatFault::NoMemory)) {
-        stored = goes_on(&mut scene, &rt, rt.alloc());
-    }
-    let own = scene.seated(0, 0, 0);
-    let before = scene.counted();
-    let loaded = scene.call_at_last(&rt, 1, work(Op::Load));
-    let after = scene.counted();
-    let value = scene.watched(0, 0);
-    let first = handed_over(&scene, &rt, rt.alloc());
-    let second = handed_over(&scene, &rt, rt.alloc());
+    let handed_over = hand_over(&mut scene, &rt, rt.alloc());
+    let first = is_handed_over(&scene, &rt, rt.alloc());
+    let second = is_handed_over(&scene, &rt, rt.alloc());
     scene.end(&rt);
-    assert_eq!(rt;
-        (stored, loaded),
-        (Some(Ok(Turn::Stored)), Some(Ok(Turn::Loaded(5))))
-    );
-    assert_eq!(rt; (own, value), (Some(Ok(5)), Some(Ok(5))));
-    assert_eq!(rt;
-        (before, after),
-        (
-            Some([0, 0, 1, 0, 0, 1, 0, 1, 0, 0, 0, 0]),
-            Some([1, 0, 1, 0, 1, 1, 0, 1, 1, 0, 0, 0]),
-        )
-    );
-    let handed = Some((true, true, 1));
-    assert_eq!(rt; (first, second), (handed, handed));
+    handed_over?;
+    if !first || !second {
+        Err("a gathering")?
+    }
     Ok(())
 }
 
@@ -223,53 +239,72 @@ fn is_in_order(
     orders.iter().any(|(order, left)| rest == Some(order.as_slice()) && value == Some(*left))
 }
 
-/// Whether a gathering has one of the orders, after those of so many loads, and how many stores of each core.
+/// Whether a gathering has one of the orders, after those of so many loads, and one store of each core.
 fn ends_in<R: Wait>(
     scene: &Scene,
     rt: &R,
     alloc: Global,
     loads: usize,
     orders: &[([Step; 6], u64)],
-) -> Option<(bool, usize, usize)> {
-    let gathered = gathers(scene, rt, alloc)?;
+) -> bool {
+    let Some(gathered) = gathers(scene, rt, alloc) else {
+        return false;
+    };
     let log = &gathered.log;
-    Some((
-        is_in_order(gathered.steps.as_slice(), loads, log.flat(0, 0), orders),
-        stores_of(log, 0),
-        stores_of(log, 1),
-    ))
+    is_in_order(gathered.steps.as_slice(), loads, log.flat(0, 0), orders)
+        && stores_of(log, 0) == 1
+        && stores_of(log, 1) == 1
 }
 
-#[test]
-fn another_store_ends_an_open_transaction(rt: HostRuntime) -> Result<(), Fail> {
+/// Core 1's loads of block 1, so many.
+fn load_first<R: Wait>(scene: &mut Scene, rt: &R, count: usize) -> bool {
     let unrelated = Work {
         block: 1,
         word: 0,
         op: Op::Load,
     };
-    let (whole, stopped) = ORDERS.as_slice().split_at(1);
-    // So many loads come first: the growths of the stores fall at other steps.
-    for count in 0..5usize {
-        let mut scene = Scene::new(&rt, rt.alloc(), 2)?;
-        let mut loaded = true;
-        for _ in 0..count {
-            loaded = loaded && scene.call_at_last(&rt, 1, unrelated) == Some(Ok(Turn::Loaded(0)));
+    for _ in 0..count {
+        if scene.call_at_last(rt, 1, unrelated) != Some(Ok(Turn::Loaded(0))) {
+            return false;
         }
-        let first = scene.call(&rt, 0, STORE_5);
-        let other = scene.call_at_last(&rt, 1, work(Op::Store(6)));
-        let (stored, orders) = if first == Some(Err(SeatFault::NoMemory)) {
-            (goes_on(&mut scene, &rt, rt.alloc()), stopped)
-        } else {
-            (first, whole)
-        };
-        let ended = ends_in(&scene, &rt, rt.alloc(), count, orders);
+    }
+    true
+}
+
+/// Both cores store, after so many loads.
+fn store_both<R: Threads + Wait + Sync>(
+    scene: &mut Scene,
+    rt: &R,
+    alloc: Global,
+    loads: usize,
+) -> Result<(), Fail> {
+    if !load_first(scene, rt, loads) {
+        Err("loads")?
+    }
+    let (whole, stopped) = ORDERS.as_slice().split_at(1);
+    let first = scene.call(rt, 0, STORE_5);
+    if scene.call_at_last(rt, 1, work(Op::Store(6))) != Some(Ok(Turn::Stored)) {
+        Err("core 1's store")?
+    }
+    let (stored, orders) = if first == Some(Err(SeatFault::NoMemory)) {
+        (goes_on(scene, rt, alloc), stopped)
+    } else {
+        (first, whole)
+    };
+    if stored != Some(Ok(Turn::Stored)) || !ends_in(scene, rt, alloc, loads, orders) {
+        Err(loads)?
+    }
+    Ok(())
+}
+
+#[test]
+fn another_store_ends_an_open_transaction(rt: HostRuntime) -> Result<(), Fail> {
+    // So many loads come first: the growths of the stores fall at other steps.
+    for loads in 0..5usize {
+        let mut scene = Scene::new(&rt, rt.alloc(), 2)?;
+        let stored = store_both(&mut scene, &rt, rt.alloc(), loads);
         scene.end(&rt);
-        assert_eq!(rt;
-            (loaded, stored, other),
-            (true, Some(Ok(Turn::Stored)), Some(Ok(Turn::Stored))),
-            "after {count} loads"
-        );
-        assert_eq!(rt; ended, Some((true, 1, 1)), "after {count} loads");
+        stored?;
     }
     Ok(())
 }
@@ -344,16 +379,14 @@ fn run_rows<R: Threads + Wait + Sync>(
     true
 }
 
-/// Whether a gathering asks for the rows of both cores, and how many loads and stores it has.
-fn asked<R: Wait>(scene: &Scene, rt: &R, alloc: Global, rows: &[Row]) -> Option<(bool, u64, u64)> {
-    let gathered = gathers(scene, rt, alloc)?;
+/// Whether a gathering asks for the rows of both cores, and has three loads and three stores.
+fn are_asked<R: Wait>(scene: &Scene, rt: &R, alloc: Global, rows: &[Row]) -> bool {
+    let Some(gathered) = gathers(scene, rt, alloc) else {
+        return false;
+    };
     let steps = gathered.steps.as_slice();
     let totals = gathered.log.totals();
-    Some((
-        ask_rows(steps, rows, 0) && ask_rows(steps, rows, 1),
-        totals.loads,
-        totals.stores,
-    ))
+    ask_rows(steps, rows, 0) && ask_rows(steps, rows, 1) && totals.loads == 3 && totals.stores == 3
 }
 
 #[test]
@@ -371,8 +404,10 @@ fn rows_go_on_where_they_stopped(rt: HostRuntime) -> Result<(), Fail> {
     let rows = rows.as_slice();
     let mut scene = Scene::new(&rt, rt.alloc(), 2)?;
     let ran = run_rows(&mut scene, &rt, rt.alloc(), rows);
-    let asked = asked(&scene, &rt, rt.alloc(), rows);
+    let asked = are_asked(&scene, &rt, rt.alloc(), rows);
     scene.end(&rt);
-    assert_eq!(rt; (ran, asked), (true, Some((true, 3, 3))));
+    if !ran || !asked {
+        Err("rows")?
+    }
     Ok(())
 }

@@ -3,8 +3,11 @@
 use crate::cores::scene::{Scene, all_ran, counts, row};
 use snoop_cores::{Free, Watch, run_seats};
 use snoop_trace::{Op, Row};
+use std::alloc::Global;
+use std::sync::Wait;
 use std::test::Fail;
 use std::thread;
+use std::thread::Threads;
 
 // Reads the counts until so many stores are seen, and at least so often from the first store on; whether each reading was answered and
 // no count fell.
@@ -30,27 +33,44 @@ fn never_falls(watch: &mut Watch, times: u32, stores: u64) -> bool {
     false
 }
 
-#[test]
-fn counts_never_fall_beside_two_cores_that_store(rt: HostRuntime) -> Result<(), Fail> {
-    let mut rows: Vec<Row> = Vec::new(rt.alloc());
-    for value in 0..100u64 {
+/// So many stores of both cores, in turn.
+fn stores_of(alloc: Global, each: u64) -> Result<Vec<Row>, Fail> {
+    let mut rows = Vec::new(alloc);
+    for value in 0..each {
         rows.push(row(0, Op::Store(value), 0))?;
         rows.push(row(1, Op::Store(value), 0))?;
     }
-    let mut scene = Scene::new(&rt, rt.alloc(), 2)?;
+    Ok(rows)
+}
+
+fn read_beside<R: Threads + Wait + Sync>(
+    scene: &mut Scene,
+    rt: &R,
+    alloc: Global,
+    rows: &[Row],
+) -> Result<(), Fail> {
     let seats = scene.seats.as_mut_slice();
     let watches = scene.watches.as_mut_slice();
-    let (stops, risen) = thread::join(
-        &rt,
-        || run_seats(&rt, rt.alloc(), seats, rows.as_slice(), &Free),
+    let (ran, risen) = thread::join(
+        rt,
+        || all_ran(&run_seats(rt, alloc, seats, rows, &Free)),
         || match watches.get_mut(0) {
             Some(watch) => never_falls(watch, 1_000, 200),
             None => false,
         },
     );
-    let shown = scene.shown(&rt, rt.alloc());
-    scene.end(&rt);
-    let stores = shown.map(|shown| shown.counts[2]);
-    assert_eq!(rt; (all_ran(&stops), risen, stores), (true, true, Some(200)));
+    let shown = scene.shown(rt, alloc).ok_or("a gathering")?;
+    if !ran || !risen || shown.counts[2] != 200 {
+        Err("rows, counts or stores")?
+    }
     Ok(())
+}
+
+#[test]
+fn counts_never_fall_beside_two_cores_that_store(rt: HostRuntime) -> Result<(), Fail> {
+    let rows = stores_of(rt.alloc(), 100)?;
+    let mut scene = Scene::new(&rt, rt.alloc(), 2)?;
+    let read = read_beside(&mut scene, &rt, rt.alloc(), rows.as_slice());
+    scene.end(&rt);
+    read
 }

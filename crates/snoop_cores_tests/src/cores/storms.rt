@@ -9,7 +9,6 @@ use snoop_machine::{Machine, run_steps};
 use snoop_rules::Protocol;
 use snoop_trace::{Op, Row, Shape, write_steps};
 use std::alloc::Global;
-use std::process::Abort;
 use std::sync::Wait;
 use std::sync::atomic::{AtomicU64, Ordering};
 use std::test::Fail;
@@ -89,30 +88,58 @@ fn perform<R: Threads + Wait + Sync>(
     }
 }
 
-/// Whether the gathered steps, written as a text and simulated, end with the report of the gathered log.
-fn ends_with_report(
-    alloc: Global,
-    protocol: Protocol,
-    shape: Shape,
-    gathered: &Gathered,
-) -> Result<bool, Fail> {
+/// The gathered steps, written as a text and simulated.
+fn simulated(alloc: Global, gathered: &Gathered) -> Result<Vec<u8>, Fail> {
+    let (protocol, shape) = (gathered.protocol, gathered.shape);
     let mut text = Vec::new(alloc);
-    write_steps(
-        alloc,
-        &mut text,
-        gathered.protocol,
-        gathered.shape,
-        gathered.steps.as_slice(),
-    )?;
+    write_steps(alloc, &mut text, protocol, shape, gathered.steps.as_slice())?;
     let mut output = Vec::new(alloc);
     simulate_steps(alloc, &mut text.as_slice(), &mut output, protocol, shape)?;
+    Ok(output)
+}
+
+/// Whether the simulation ends with the report of the gathered log.
+fn ends_with_report(alloc: Global, gathered: &Gathered) -> Result<bool, Fail> {
+    let output = simulated(alloc, gathered)?;
     let mut report = Vec::new(alloc);
     write_report(alloc, &mut report, &gathered.log)?;
     Ok(output.as_slice().ends_with(report.as_slice()))
 }
 
+/// Whether a fresh machine takes all the gathered steps, to an equal log.
+fn is_replayed(alloc: Global, gathered: &Gathered) -> Result<bool, Fail> {
+    let steps = gathered.steps.as_slice();
+    let mut fresh = Machine::reset(alloc, gathered.protocol, gathered.shape)?;
+    Ok(run_steps(&mut fresh, steps) == steps.len() && fresh.log().equals(&gathered.log))
+}
+
+/// Compares what was gathered with the rows, with a fresh machine and with a simulation.
+fn look_at(
+    alloc: Global,
+    protocol: Protocol,
+    gathered: &Gathered,
+    cores: u32,
+    rows: &[Row],
+) -> Result<(), Fail> {
+    if gathered.protocol != protocol || gathered.shape != Shape::new(cores, 4, 64)? {
+        Err("its protocol and shape")?
+    }
+    if !ends_with_report(alloc, gathered)? {
+        Err("a report")?
+    }
+    if !is_replayed(alloc, gathered)? {
+        Err("a log")?
+    }
+    for core in 0..cores {
+        if !ask_rows(gathered.steps.as_slice(), rows, core) {
+            Err(core)?
+        }
+    }
+    Ok(())
+}
+
 /// A storm under each protocol.
-fn storm<R: Threads + Wait + Sync + Abort>(
+fn storm<R: Threads + Wait + Sync>(
     rt: &R,
     alloc: Global,
     cores: u32,
@@ -120,19 +147,8 @@ fn storm<R: Threads + Wait + Sync + Abort>(
     in_step: u32,
 ) -> Result<(), Fail> {
     for protocol in [Protocol::Msi, Protocol::Mesi] {
-        let shape = Shape::new(cores, 4, 64)?;
         let gathered = perform(rt, alloc, protocol, cores, rows, in_step)?;
-        assert!(rt; ends_with_report(alloc, protocol, shape, &gathered)?);
-        let steps = gathered.steps.as_slice();
-        let mut fresh = Machine::reset(alloc, protocol, shape)?;
-        let taken = run_steps(&mut fresh, steps);
-        assert!(rt;
-            taken == steps.len() && fresh.log().equals(&gathered.log),
-            "of {cores} cores"
-        );
-        for core in 0..cores {
-            assert!(rt; ask_rows(steps, rows, core), "core {core} of {cores}");
-        }
+        look_at(alloc, protocol, &gathered, cores, rows)?;
     }
     Ok(())
 }
