@@ -24,11 +24,6 @@ fn ends_in<R: Wait>(rt: &R, bench: &mut Bench, turn: Turn) -> bool {
     }
 }
 
-// Whether it has taken the store's steps.
-fn has_stored(bench: &Bench) -> bool {
-    bench.steps().len() == 3 && bench.log().len() == 2 && bench.log().flat(0, 0) == Some(5)
-}
-
 fn bench_at_last(alloc: Global, shape: Shape) -> Result<Bench, NoMemory> {
     match Bench::new(alloc, Protocol::Msi, shape, 1) {
         Ok(bench) => Ok(bench),
@@ -42,7 +37,9 @@ fn a_turn_out_of_memory_is_taken_again(rt: HostRuntime) -> Result<(), Fail> {
     let is_well = ends_in(&rt, &mut bench, Turn::Going)
         && ends_in(&rt, &mut bench, Turn::Going)
         && ends_in(&rt, &mut bench, Turn::Stored)
-        && has_stored(&bench);
+        && bench.steps().len() == 3
+        && bench.log().len() == 2
+        && bench.log().flat(0, 0) == Some(5);
     bench.end(&rt);
     if !is_well {
         Err("a turn")?

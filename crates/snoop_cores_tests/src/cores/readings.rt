@@ -33,16 +33,6 @@ fn never_falls(watch: &mut Watch, times: u32, stores: u64) -> bool {
     false
 }
 
-/// So many stores of both cores, in turn.
-fn stores_of(alloc: Global, each: u64) -> Result<Vec<Row>, Fail> {
-    let mut rows = Vec::new(alloc);
-    for value in 0..each {
-        rows.push(row(0, Op::Store(value), 0))?;
-        rows.push(row(1, Op::Store(value), 0))?;
-    }
-    Ok(rows)
-}
-
 fn read_beside<R: Threads + Wait + Sync>(
     scene: &mut Scene,
     rt: &R,
@@ -68,7 +58,11 @@ fn read_beside<R: Threads + Wait + Sync>(
 
 #[test]
 fn counts_never_fall_beside_two_cores_that_store(rt: HostRuntime) -> Result<(), Fail> {
-    let rows = stores_of(rt.alloc(), 100)?;
+    let mut rows: Vec<Row> = Vec::new(rt.alloc());
+    for value in 0..100u64 {
+        rows.push(row(0, Op::Store(value), 0))?;
+        rows.push(row(1, Op::Store(value), 0))?;
+    }
     let mut scene = Scene::new(&rt, rt.alloc(), 2)?;
     let read = read_beside(&mut scene, &rt, rt.alloc(), rows.as_slice());
     scene.end(&rt);

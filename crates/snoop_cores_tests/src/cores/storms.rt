@@ -88,19 +88,13 @@ fn perform<R: Threads + Wait + Sync>(
     }
 }
 
-/// The gathered steps, written as a text and simulated.
-fn simulated(alloc: Global, gathered: &Gathered) -> Result<Vec<u8>, Fail> {
+/// Whether the gathered steps, written as a text and simulated, end with the report of the gathered log.
+fn ends_with_report(alloc: Global, gathered: &Gathered) -> Result<bool, Fail> {
     let (protocol, shape) = (gathered.protocol, gathered.shape);
     let mut text = Vec::new(alloc);
     write_steps(alloc, &mut text, protocol, shape, gathered.steps.as_slice())?;
     let mut output = Vec::new(alloc);
     simulate_steps(alloc, &mut text.as_slice(), &mut output, protocol, shape)?;
-    Ok(output)
-}
-
-/// Whether the simulation ends with the report of the gathered log.
-fn ends_with_report(alloc: Global, gathered: &Gathered) -> Result<bool, Fail> {
-    let output = simulated(alloc, gathered)?;
     let mut report = Vec::new(alloc);
     write_report(alloc, &mut report, &gathered.log)?;
     Ok(output.as_slice().ends_with(report.as_slice()))

@@ -1,6 +1,6 @@
 //! Rows that wait for all cores: each seat has a thread of its own.
 
-use crate::cores::scene::{Scene, row};
+use crate::cores::scene::{Scene, all_ran, row};
 use snoop_cores::{Gate, Late, run_seats};
 use snoop_trace::{Op, Row};
 use std::alloc::Global;
@@ -78,17 +78,15 @@ fn run_together<R: Threads + Wait + Sync>(rt: &R, alloc: Global, cores: u32) -> 
     let gate = Together::new(cores);
     let mut scene = Scene::new(rt, alloc, cores)?;
     let stops = run_seats(rt, alloc, &mut scene.seats, &rows, &gate);
-    let totals = scene
-        .gathered(rt, alloc)
-        .map(|gathered| gathered.log.totals());
+    let gathered = scene.gathered(rt, alloc);
     scene.end(rt);
-    let ran = stops.is_ok_and(|stops| stops.iter().all(|stop| stop.is_none()));
-    let (Some(totals), true) = (totals, ran) else {
-        return Err(Fail::from("a seat stopped"));
-    };
+    if !all_ran(&stops) {
+        Err("a seat stopped")?
+    }
+    let totals = gathered.ok_or("a gathering")?.log.totals();
     let done = u64::from(cores);
-    if (totals.loads, totals.stores) != (done, done) {
-        return Err(Fail::from("loads and stores"));
+    if totals.loads != done || totals.stores != done {
+        Err("loads and stores")?
     }
     Ok(())
 }

@@ -14,8 +14,8 @@ fn of_word(word: u32, op: Op) -> Work {
     Work { word, ..work(op) }
 }
 
-/// Both seats store, each to a word of its own, and load the other's; word 2 there is not.
-fn call_both<R: Wait>(scene: &mut Scene, rt: &R) -> Result<(), Fail> {
+/// Both seats store, each to a word of its own, and load the other's; word 2 there is not. Then all words are read.
+fn call_both<R: Wait>(scene: &mut Scene, rt: &R, alloc: Global) -> Result<(), Fail> {
     for (core, work, answer) in [
         (0, of_word(0, Op::Store(7)), Ok(Turn::Stored)),
         (1, of_word(1, Op::Store(9)), Ok(Turn::Stored)),
@@ -28,7 +28,7 @@ fn call_both<R: Wait>(scene: &mut Scene, rt: &R) -> Result<(), Fail> {
             Err(core)?
         }
     }
-    Ok(())
+    read_all(scene, rt, alloc)
 }
 
 /// What is read of the words afterwards.
@@ -50,17 +50,12 @@ fn read_all<R: Wait>(scene: &mut Scene, rt: &R, alloc: Global) -> Result<(), Fai
     Ok(())
 }
 
-fn call_and_read<R: Wait>(scene: &mut Scene, rt: &R, alloc: Global) -> Result<(), Fail> {
-    call_both(scene, rt)?;
-    read_all(scene, rt, alloc)
-}
-
 #[test]
 fn two_seats_store_to_two_words_of_a_block(rt: HostRuntime) -> Result<(), Fail> {
     let shape = Shape::with_words(2, 4, 64, 2)?;
     let made = Scene::in_shape(&rt, rt.alloc(), Protocol::Msi, shape);
     let mut scene = made.ok_or("a shared machine")?;
-    let done = call_and_read(&mut scene, &rt, rt.alloc());
+    let done = call_both(&mut scene, &rt, rt.alloc());
     scene.end(&rt);
     done
 }

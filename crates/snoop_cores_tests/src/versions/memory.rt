@@ -109,20 +109,27 @@ fn reads(reader: &mut VersionReader, value: u64, totals: Totals, last: Option<Di
 }
 
 // What the three items count.
-fn totals_of_all() -> Totals {
-    Totals {
-        loads: 1,
-        load_hits: 1,
-        stores: 1,
-        store_hits: 1,
-        get_m: 1,
-        ..Totals::default()
-    }
-}
+const TOTALS: Totals = Totals {
+    loads: 1,
+    load_hits: 1,
+    stores: 1,
+    store_hits: 1,
+    get_s: 0,
+    get_m: 1,
+    put_m: 0,
+    from_memory: 0,
+    from_caches: 0,
+    writebacks: 0,
+    clean: 0,
+    stale: 0,
+};
 
 fn reader_at_last(writer: &VersionWriter, shape: Shape) -> Option<VersionReader> {
     let readers = writer.readers().ok()?;
-    readers.reader(shape).or_else(|| readers.reader(shape))
+    match readers.reader(shape) {
+        Some(reader) => Some(reader),
+        None => readers.reader(shape),
+    }
 }
 
 fn log_at_last(alloc: Global, shape: Shape) -> Result<Log, NoMemory>
@@ -154,7 +161,7 @@ fn an_item_out_of_memory_is_published_later(rt: HostRuntime) -> Result<(), Fail>
     if let Some(reader) = &mut reader {
         is_well = reads(reader, 0, Totals::default(), None)
             && add_all(&rt, &mut log, &mut writer)
-            && reads(reader, 7, totals_of_all(), Some(LOADED));
+            && reads(reader, 7, TOTALS, Some(LOADED));
     }
     writer.end(&rt);
     if !is_well {
