@@ -1,10 +1,10 @@
 //! Rows of one thread: on a bench, by seats, and as steps of a machine alone.
 
 use crate::crew::Crew;
-use crate::pace::{ROUNDS, nanos_each, ratio};
+use crate::pace::{ROUNDS, hundredths, nanos_each};
 use crate::storm::rows;
 use anyhow::{Context, Result};
-use snoop_cores::{Bench, Seat, Turn, Work, gather};
+use snoop_cores::{AdvanceFault, Bench, Seat, SeatFault, Turn, Work, gather};
 use snoop_machine::{Machine, run_steps};
 use snoop_rules::Protocol;
 use snoop_trace::{Op, Row, Shape, Step};
@@ -17,38 +17,43 @@ use std::time::{Duration, Instant};
 /// A work takes so many turns at most where no other core is at work.
 const TURNS: u32 = 3;
 
-/// The block of the row's address.
-fn block_of(shape: Shape, row: &Row) -> Result<u32> {
-    shape.block_of(row.address).context("a row has no block")
+/// The work of the row, of word 0 of its block.
+fn work_of(shape: Shape, row: &Row) -> Result<Work> {
+    let block = shape.block_of(row.address).context("a row has no block")?;
+    Ok(Work {
+        block,
+        word: 0,
+        op: row.op,
+    })
 }
 
-/// Performs the row by the seat of its core.
-fn perform<R: Wait>(rt: &R, seats: &mut [Seat], shape: Shape, row: &Row) -> Result<()> {
-    let block = block_of(shape, row)?;
-    let seat = seats
-        .get_mut(row.core as usize)
-        .context("a row has no seat")?;
-    match row.op {
+fn perform<R: Wait>(rt: &R, seat: &mut Seat, work: Work) -> Result<(), SeatFault> {
+    match work.op {
         Op::Load => {
-            seat.load(rt, block, 0)?;
+            seat.load(rt, work.block, work.word)?;
         }
-        Op::Store(value) => seat.store(rt, block, 0, value)?,
+        Op::Store(value) => seat.store(rt, work.block, work.word, value)?,
         Op::Evict => {
-            seat.evict(rt, block)?;
+            seat.evict(rt, work.block)?;
         }
     }
     Ok(())
 }
 
-/// Takes turns of the row's core until the row is done.
-fn advance<R: Wait>(rt: &R, bench: &mut Bench, row: &Row) -> Result<()> {
-    let work = Work {
-        block: block_of(bench.shape(), row)?,
-        word: 0,
-        op: row.op,
-    };
+/// Performs the row by the seat of its core.
+fn perform_row<R: Wait>(rt: &R, seats: &mut [Seat], shape: Shape, row: &Row) -> Result<()> {
+    let work = work_of(shape, row)?;
+    let seat = seats
+        .get_mut(row.core as usize)
+        .context("a row has no seat")?;
+    perform(rt, seat, work)?;
+    Ok(())
+}
+
+/// Takes turns of the core until its work is done.
+fn advance<R: Wait>(rt: &R, bench: &mut Bench, core: u32, work: Work) -> Result<(), AdvanceFault> {
     for _ in 0..TURNS {
-        if bench.advance(rt, row.core, work)? != Turn::Going {
+        if bench.advance(rt, core, work)? != Turn::Going {
             break;
         }
     }
@@ -58,7 +63,8 @@ fn advance<R: Wait>(rt: &R, bench: &mut Bench, row: &Row) -> Result<()> {
 fn time_turns<R: Wait + Clock>(rt: &R, bench: &mut Bench, rows: &[Row]) -> Result<Duration> {
     let start = Instant::now(rt)?;
     for row in rows {
-        advance(rt, bench, row)?;
+        let work = work_of(bench.shape(), row)?;
+        advance(rt, bench, row.core, work)?;
     }
     Ok(start.elapsed(rt)?)
 }
@@ -83,7 +89,7 @@ fn time_rows<R: Wait + Clock>(
 ) -> Result<Duration> {
     let start = Instant::now(rt)?;
     for row in rows {
-        perform(rt, seats, shape, row)?;
+        perform_row(rt, seats, shape, row)?;
     }
     Ok(start.elapsed(rt)?)
 }
@@ -120,12 +126,30 @@ fn time_machine<R: Clock>(rt: &R, alloc: Global, shape: Shape, steps: &[Step]) -
     Ok(start.elapsed(rt)?)
 }
 
-/// The least times of each way to do the rows.
+/// The times of each way to do the rows.
 #[derive(Clone, Copy)]
 struct Times {
     seats: Duration,
     bench: Duration,
     machine: Duration,
+}
+
+/// A round of each way, and how many steps the seats take.
+fn time_round<R: Wait + Clock>(
+    rt: &R,
+    alloc: Global,
+    shape: Shape,
+    rows: &[Row],
+) -> Result<(Times, u64)> {
+    let (seats, steps) = time_seats(rt, alloc, shape, rows)?;
+    let bench = time_bench(rt, alloc, shape, rows)?;
+    let machine = time_machine(rt, alloc, shape, &steps)?;
+    let times = Times {
+        seats,
+        bench,
+        machine,
+    };
+    Ok((times, steps.len() as u64))
 }
 
 /// The least times of some rounds, and how many steps the seats take.
@@ -135,20 +159,15 @@ fn time_all<R: Wait + Clock>(
     shape: Shape,
     rows: &[Row],
 ) -> Result<(Times, u64)> {
-    let mut least = Times {
-        seats: Duration::MAX,
-        bench: Duration::MAX,
-        machine: Duration::MAX,
-    };
-    let mut number = 0;
-    for _ in 0..ROUNDS {
-        let (seats, steps) = time_seats(rt, alloc, shape, rows)?;
-        number = steps.len() as u64;
+    let (mut least, mut number) = time_round(rt, alloc, shape, rows)?;
+    for _ in 1..ROUNDS {
+        let (times, steps) = time_round(rt, alloc, shape, rows)?;
         least = Times {
-            seats: least.seats.min(seats),
-            bench: least.bench.min(time_bench(rt, alloc, shape, rows)?),
-            machine: least.machine.min(time_machine(rt, alloc, shape, &steps)?),
+            seats: least.seats.min(times.seats),
+            bench: least.bench.min(times.bench),
+            machine: least.machine.min(times.machine),
         };
+        number = steps;
     }
     Ok((least, number))
 }
@@ -158,13 +177,24 @@ fn print_counts<R: Print>(rt: &R, cores: u32, rows: u64, steps: u64) -> io::Resu
     println!(rt; "rows {rows} steps {steps}")
 }
 
-fn print_times<R: Eprint>(rt: &R, cores: u32, number: u64, times: Times) -> io::Result<()> {
+fn print_nanos<R: Eprint>(rt: &R, cores: u32, number: u64, times: Times) -> io::Result<()> {
     eprint!(rt; "cores {cores} in one thread, nanoseconds a step: ")?;
     eprint!(rt; "seats {}, ", nanos_each(number, times.seats))?;
     eprint!(rt; "bench {}, ", nanos_each(number, times.bench))?;
-    eprint!(rt; "machine {}; ", nanos_each(number, times.machine))?;
-    eprint!(rt; "ratios {:.2} ", ratio(times.seats, times.machine))?;
-    eprintln!(rt; "and {:.2}", ratio(times.bench, times.machine))
+    eprint!(rt; "machine {}; ", nanos_each(number, times.machine))
+}
+
+fn print_ratio<R: Eprint>(rt: &R, hundredths: u128) -> io::Result<()> {
+    eprint!(rt; "{}.{:02}", hundredths / 100, hundredths % 100)
+}
+
+fn print_times<R: Eprint>(rt: &R, cores: u32, number: u64, times: Times) -> io::Result<()> {
+    print_nanos(rt, cores, number, times)?;
+    eprint!(rt; "ratios ")?;
+    print_ratio(rt, hundredths(times.seats, times.machine))?;
+    eprint!(rt; " and ")?;
+    print_ratio(rt, hundredths(times.bench, times.machine))?;
+    eprintln!(rt)
 }
 
 /// Prints how many steps one thread takes for so many rows of this shape, and how long: by seats, on a bench that no lock guards,

@@ -90,6 +90,28 @@ fn time_simulation<R: Clock>(
     Ok((start.elapsed(rt)?, output.inner.bytes))
 }
 
+fn text_of(alloc: Global, shape: Shape, steps: &[Step]) -> Result<Vec<u8>> {
+    let mut text = Vec::new(alloc);
+    write_steps(alloc, &mut text, Protocol::Msi, shape, steps)?;
+    Ok(text)
+}
+
+/// Measures the reading of a text, the steps that it has, and its simulation.
+fn measure_text<R: Clock + Print + Eprint>(
+    rt: &R,
+    alloc: Global,
+    shape: Shape,
+    text: &[u8],
+) -> Result<()> {
+    let (read, steps) = time_reading(rt, alloc, shape, text)?;
+    let (stepped, taken) = time_steps(rt, alloc, shape, &steps)?;
+    let (simulated, bytes) = time_simulation(rt, alloc, shape, text)?;
+    print_counts(rt, steps.len(), taken)?;
+    print_bytes(rt, text.len(), bytes)?;
+    print_times(rt, read, stepped, simulated)?;
+    Ok(())
+}
+
 /// Measures a simulation of so many steps.
 fn measure_steps<R: Clock + Print + Eprint>(
     rt: &R,
@@ -97,16 +119,9 @@ fn measure_steps<R: Clock + Print + Eprint>(
     count: u64,
     shape: Shape,
 ) -> Result<()> {
-    let mut text = Vec::new(alloc);
     let storm = storm::storm(alloc, count, shape)?;
-    write_steps(alloc, &mut text, Protocol::Msi, shape, &storm)?;
-    let (read, steps) = time_reading(rt, alloc, shape, &text)?;
-    let (stepped, taken) = time_steps(rt, alloc, shape, &steps)?;
-    let (simulated, bytes) = time_simulation(rt, alloc, shape, &text)?;
-    print_counts(rt, steps.len(), taken)?;
-    print_bytes(rt, text.len(), bytes)?;
-    print_times(rt, read, stepped, simulated)?;
-    Ok(())
+    let text = text_of(alloc, shape, &storm)?;
+    measure_text(rt, alloc, shape, &text)
 }
 
 fn print_counts<R: Print>(rt: &R, steps: usize, taken: usize) -> io::Result<()> {
@@ -128,13 +143,32 @@ fn print_times<R: Eprint>(
     eprintln!(rt; "simulated {simulated:?}")
 }
 
+/// What the words ask for: steps, a shape, and rows where threads are measured too.
+#[derive(Clone, Copy)]
+struct Asked {
+    steps: u64,
+    shape: Shape,
+    rows: Option<u64>,
+}
+
+fn read_words(words: &[String]) -> Result<Asked> {
+    let steps = number(words, 1)? as u64;
+    let shape = Shape::new(number(words, 2)?, number(words, 3)?, 64)?;
+    let rows = if words.len() > 4 {
+        Some(number(words, 4)? as u64)
+    } else {
+        None
+    };
+    Ok(Asked { steps, shape, rows })
+}
+
 fn main(rt: HostRuntime) -> Result<()> {
     let alloc = rt.alloc();
     let words: Vec<String> = std::env::args(&rt)?.collect(alloc)?;
-    let shape = Shape::new(number(&words, 2)?, number(&words, 3)?, 64)?;
-    measure_steps(&rt, alloc, number(&words, 1)? as u64, shape)?;
-    if words.len() > 4 {
-        measure_threads(&rt, alloc, number(&words, 4)? as u64, shape.blocks())?;
+    let Asked { steps, shape, rows } = read_words(&words)?;
+    measure_steps(&rt, alloc, steps, shape)?;
+    match rows {
+        Some(rows) => measure_threads(&rt, alloc, rows, shape.blocks()),
+        None => Ok(()),
     }
-    Ok(())
 }

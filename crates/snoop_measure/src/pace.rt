@@ -15,7 +15,11 @@ pub fn nanos_each(count: u64, time: Duration) -> u128 {
     time.as_nanos() / (count as u128).max(1)
 }
 
-/// How many times as long the first takes.
-pub fn ratio(time: Duration, other: Duration) -> f64 {
-    time.as_secs_f64() / other.as_secs_f64()
+/// How many times as long the first takes, in hundredths, rounded.
+pub fn hundredths(time: Duration, other: Duration) -> u128 {
+    let other = other.as_nanos().max(1);
+    time.as_nanos()
+        .saturating_mul(100)
+        .saturating_add(other / 2)
+        / other
 }
