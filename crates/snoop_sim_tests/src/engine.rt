@@ -8,7 +8,6 @@ use snoop_trace::streams::{Sink, Source};
 use snoop_trace::{Shape, TextFault, WriteFault};
 use std::alloc::Global;
 use std::sync::Wait;
-use std::test::Fail;
 use std::thread::Threads;
 
 /// Steps: core 0 stores, and core 1 loads from the last byte of the same block.
@@ -75,7 +74,7 @@ const ALONE: &str = "S,0,0,4\nE,0,0\nL,0,0\n";
 const ALONE_STEPS: &str = "V,2,msi,2,4,64,1\nS,0,0,4\nO,0\nR,0\nE,0,0\nO,0\nR,0\nL,0,0\nO,0\nR,0\n";
 
 /// One of the simulations.
-#[derive(Clone, Copy, Debug, PartialEq, Eq)]
+#[derive(Clone, Copy)]
 pub enum Engine {
     Steps,
     Run,
@@ -104,7 +103,7 @@ impl Engine {
         }
     }
 
-    /// How the simulation ends, with 2 cores and 4 blocks.
+    /// How the simulation ends.
     pub fn simulate<T: Threads + Wait + Sync, R: Source, W: Sink>(
         self,
         rt: &T,
@@ -112,21 +111,21 @@ impl Engine {
         reader: &mut R,
         writer: &mut W,
         protocol: Protocol,
-    ) -> Result<Ended, Fail> {
-        let shape = Shape::new(2, 4, 64)?;
-        Ok(match self {
+        shape: Shape,
+    ) -> Ended {
+        match self {
             Engine::Steps => steps_ended(simulate_steps(alloc, reader, writer, protocol, shape)),
             Engine::Run => steps_ended(simulate_run(alloc, reader, writer, protocol, shape)),
             Engine::Serial => steps_ended(simulate_serial(alloc, reader, writer, protocol, shape)),
             Engine::Threads => threads_ended(simulate_threads(
                 rt, alloc, reader, writer, protocol, shape,
             )),
-        })
+        }
     }
 }
 
 /// How a simulation ends.
-#[derive(Clone, Copy, Debug, PartialEq, Eq)]
+#[derive(Clone, Copy, PartialEq, Eq)]
 pub enum Ended {
     Done,
     Text(TextFault),

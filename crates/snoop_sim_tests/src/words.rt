@@ -17,7 +17,9 @@ fn refused_words(rt: HostRuntime) -> Result<(), Fail> {
         let mut errors = FailingWriter::new(rt.alloc(), calls, 100, Fault::Refuses);
         let answered = refuse_words(io::Error::from(kind), &mut errors);
         let is_reported = errors.held.as_slice() == reported.as_bytes() && errors.calls_after == 0;
-        assert!(rt; answered == status && is_reported, "{reported}");
+        if answered != status || !is_reported {
+            Err(reported)?
+        }
     }
     Ok(())
 }
