@@ -31,7 +31,7 @@ import argparse
 import os
 import sys
 
-from reading import counts, getters, made, pictures, runs, states
+from reading import counts, getters, lint, made, pictures, runs, states
 from reading.texts import Faulty, Refused
 
 
@@ -46,13 +46,15 @@ def reading(options):
             return {"text": states.as_text, "csv": states.as_csv, "markdown": states.as_markdown}[options.form or "text"]
         case "counts":
             return {"row": counts.by_row, "core": counts.by_core, "block": counts.by_block}[options.by]
+        case "lint":
+            return lint.lint
         case "getters":
             return getters.getters
 
 
 def main():
     parser = argparse.ArgumentParser(description=__doc__, formatter_class=argparse.RawDescriptionHelpFormatter)
-    parser.add_argument("command", choices=("steps", "run", "states", "counts", "getters", "storm", "crowd", "table"))
+    parser.add_argument("command", choices=("steps", "run", "states", "counts", "lint", "getters", "storm", "crowd", "table"))
     parser.add_argument("name", nargs="?", choices=tuple(made.CROWDS), help="crowd: which one")
     parser.add_argument("--protocol", type=str.lower, choices=("msi", "mesi"), default="msi", help="default msi")
     parser.add_argument("--cores", type=int, default=2, help="how many cores, 1 to 256 (default 2)")
@@ -67,6 +69,8 @@ def main():
     parser.add_argument("--to", dest="last", type=int, default=2**64 - 1, metavar="N", help="states: the number of the last one")
     parser.add_argument("--by", choices=("row", "core", "block"), help="counts: what each line counts")
     parser.add_argument("--top", type=int, metavar="N", help="counts --by block: the blocks of most requests, so many of them")
+    parser.add_argument("--of", choices=("steps", "rows"), default="steps", help="lint: what the text is (default steps)")
+    parser.add_argument("--most", type=int, default=20, metavar="N", help="lint: how many faults are shown (default 20)")
     parser.add_argument("--which", choices=("cache", "memory"), default="cache", help="table: whose table (default cache)")
     parser.add_argument("--count", type=int, default=1000, help="storm: how many steps; crowd: how many blocks or rows, where that is open (default 1000)")
     parser.add_argument("--seed", type=int, default=1, help="storm: where the generator begins (default 1)")
