@@ -31,7 +31,7 @@ import argparse
 import os
 import sys
 
-from reading import counts, getters, lint, made, pictures, runs, states
+from reading import counts, drawing, getters, lint, made, pictures, runs, states
 from reading.texts import Faulty, Refused
 
 
@@ -48,13 +48,15 @@ def reading(options):
             return {"row": counts.by_row, "core": counts.by_core, "block": counts.by_block}[options.by]
         case "lint":
             return lint.lint
+        case "draw":
+            return {"text": drawing.as_text}[options.form or "text"]
         case "getters":
             return getters.getters
 
 
 def main():
     parser = argparse.ArgumentParser(description=__doc__, formatter_class=argparse.RawDescriptionHelpFormatter)
-    parser.add_argument("command", choices=("steps", "run", "states", "counts", "lint", "getters", "storm", "crowd", "table"))
+    parser.add_argument("command", choices=("steps", "run", "states", "counts", "draw", "lint", "getters", "storm", "crowd", "table"))
     parser.add_argument("name", nargs="?", choices=tuple(made.CROWDS), help="crowd: which one")
     parser.add_argument("--protocol", type=str.lower, choices=("msi", "mesi"), default="msi", help="default msi")
     parser.add_argument("--cores", type=int, default=2, help="how many cores, 1 to 256 (default 2)")
@@ -63,7 +65,8 @@ def main():
     parser.add_argument("--words", type=int, default=1, help="words of a block, a power of two up to 64; several have 8 bytes or more each (default 1)")
     parser.add_argument("--serial", action="store_true", help="run: each row is served whole before the next one of the text is asked")
     parser.add_argument("--rows", action="store_true", help="storm: rows in place of steps")
-    parser.add_argument("--as", dest="form", choices=("text", "csv", "markdown"), help="states: the form (default text)")
+    parser.add_argument("--as", dest="form", choices=("text", "csv", "markdown", "svg"), help="states, draw: the form (default text)")
+    parser.add_argument("--ascii", action="store_true", help="draw: in ASCII")
     parser.add_argument("--block", type=int, metavar="N", help="states: this block alone (in Markdown block 0, if none is chosen)")
     parser.add_argument("--from", dest="first", type=int, default=1, metavar="N", help="states: the number of the first step that is shown (default 1)")
     parser.add_argument("--to", dest="last", type=int, default=2**64 - 1, metavar="N", help="states: the number of the last one")
