@@ -18,10 +18,14 @@ import sys
 from types import SimpleNamespace
 
 import reference
+from reading.texts import FIELDS
 
 PROGRAM = os.environ.get("SNOOP", pathlib.Path(__file__).resolve().parent.parent / "crates" / "snoop" / "out" / "snoop")
 SHAPES = [(1, 1, 1, 1), (2, 4, 64, 1), (2, 4, 64, 1), (2, 4, 64, 1), (3, 2, 4096, 1), (4, 16, 1, 1), (256, 4, 64, 1), (1, 300, 2, 1),
           (2, 4, 64, 8), (2, 4, 64, 2), (3, 2, 4096, 64), (4, 16, 16, 2), (2, 4, 512, 64)]
+# What is asked of a text of steps, and of one of rows.
+VIEWS = {"steps": ["steps", "steps", "states", "states --as csv", "counts --by row", "counts --by core", "counts --by block", "draw", "lint"],
+         "run": ["run", "run --serial", "lint --of rows"]}
 LINE_ENDS = [b"\n", b"\n", b"\n", b"\r\n", b"\r", b"\n\n", b"\r\n\r\n"]
 HOSTILE = [b"", b" ", b"-1", b"+1", b"0x", b"0X1", b"0xg", b"1.0", b"1e3", b"\xff", b"\xc3\xa9", b"\x00", b"18446744073709551615",
            b"18446744073709551616", b"0xffffffffffffffff", b"0x10000000000000000", b"0" * 40 + b"1", b"99999999999999999999999999", b"4294967296"]
@@ -41,7 +45,7 @@ def record(chance, options, kinds):
     """A record without faults."""
     kind = chance.choice(kinds)
     numbers = {"core": options.cores, "address": options.blocks * options.block_bytes, "value": 2**64}
-    parts = [kind.encode()] + [spelled(chance, chance.randrange(numbers[name])) for name in reference.FIELDS[kind]]
+    parts = [kind.encode()] + [spelled(chance, chance.randrange(numbers[name])) for name in FIELDS[kind]]
     return [quoted(chance, part) for part in parts]
 
 
@@ -129,22 +133,26 @@ def text(chance, options):
     return made
 
 
-def by_reference(options, given):
+def words_of(options, view):
+    """The words of a command line."""
+    shape = {"protocol": options.protocol, "cores": options.cores, "blocks": options.blocks, "block-bytes": options.block_bytes, "words": options.words}
+    return [*view.split(), *(word for name, value in shape.items() for word in (f"--{name}", str(value)))]
+
+
+def by_reference(words, given):
     """What the second reading answers: status, output, errors."""
-    output = io.StringIO()
-    try:
-        with contextlib.redirect_stdout(output):
-            {"steps": reference.states_csv if options.states else reference.steps, "run": reference.run_serial if options.serial else reference.run}[options.command](options, given)
-    except reference.Faulty as fault:
-        return 1, b"", f"snoop: {fault}\n".encode()
-    return 0, output.getvalue().encode(), b""
+    output, errors, status = io.StringIO(), io.StringIO(), 0
+    with contextlib.redirect_stdout(output), contextlib.redirect_stderr(errors):
+        try:
+            reference.answer(reference.asked(words), lambda: given)
+        except SystemExit as ended:
+            status = ended.code
+    return status, output.getvalue().encode(), errors.getvalue().encode()
 
 
-def by_program(options, given):
+def by_program(words, given):
     """What the program answers."""
-    words = [PROGRAM, "states" if options.states else options.command, "--protocol", options.protocol, "--cores", str(options.cores), "--blocks", str(options.blocks),
-             "--block-bytes", str(options.block_bytes), "--words", str(options.words)] + ["--serial"] * options.serial + ["--as", "csv"] * options.states
-    done = subprocess.run(words, input=given, capture_output=True, check=False)
+    done = subprocess.run([PROGRAM, *words], input=given, capture_output=True, check=False)
     return done.returncode, done.stdout, done.stderr
 
 
@@ -160,19 +168,18 @@ def main():
         cores, blocks, block_bytes, words = chance.choice(SHAPES)
         options = SimpleNamespace(command=chance.choice(["steps", "steps", "steps", "run"] if asked.headings else ["steps", "run"]), protocol=chance.choice(["msi", "mesi"]),
                                   cores=cores, blocks=blocks, block_bytes=block_bytes, words=words, headings=asked.headings)
-        options.serial = options.command == "run" and chance.random() < 0.5
-        options.states = options.command == "steps" and chance.random() < 0.3
+        words = words_of(options, chance.choice(VIEWS[options.command]))
         given = text(chance, options)
-        expected = by_reference(options, given)
+        expected = by_reference(words, given)
         refused += expected[0] == 1
-        found = by_program(options, given)
-        if found == expected and found[0] == 1 and options.command == "run":
+        found = by_program(words, given)
+        if found == expected and found[0] == 1 and words[0] == "run":
             # Threads refuse the same rows.
-            options.command, options.serial = "threads", False
-            found = by_program(options, given)
+            words = words_of(options, "threads")
+            found = by_program(words, given)
         if found != expected:
             different += 1
-            print(f"{vars(options)}\n  text {given!r}\n  expected {expected}\n  found {found}")
+            print(f"{' '.join(words)}\n  text {given!r}\n  expected {expected}\n  found {found}")
     print(f"{asked.count} texts, {refused} of them refused, {different} answered differently")
     sys.exit(different > 0 or refused in (0, asked.count))
 
