@@ -35,7 +35,7 @@ def bad_kind(place, record, of_rows):
         (re.search(rb"[^\x09\x20-\x7e]", field), "this is no plain text"),
         (len(record) == 1 and re.search(rb"[ \t;]", field), "commas stand between the fields"),
         (re.search(rb"\A[ \t]|[ \t]\Z", field), "blanks are not taken away"),
-        (place == 1 and field, "a text has no line of names"))
+        (place == 1 and field and (len(record) == 1 or number(record[1]) is None), "a text has no line of names"))
 
 
 def bad_fields(record, names):
