@@ -50,11 +50,13 @@ def digits_of_values(given):
 
 
 def check_choice(options):
-    """Refuses a block outside the shape, and a range without a step."""
+    """Refuses a block outside the shape, a range without a step, and the first blocks where no blocks are counted."""
     if options.block is not None and not options.block < options.blocks:
         raise Refused("BadBlock")
     if not 1 <= options.first <= options.last:
         raise Refused("BadRange")
+    if options.top is not None and options.by != "block":
+        raise Refused("BadTop")
 
 
 def is_shown(options, step):
