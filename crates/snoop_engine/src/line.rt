@@ -59,6 +59,7 @@ fn push_came(
     push_performed(out, did)
 }
 
+#[inline(always)]
 fn push_reply(out: &mut Vec<u8>, reply: Reply) -> Result<(), NoMemory>
     ensures ok { OnOk result (out.new.items ≡ out.old.items ++ reply_text reply) }
 {
@@ -73,6 +74,7 @@ fn push_reply(out: &mut Vec<u8>, reply: Reply) -> Result<(), NoMemory>
     }
 }
 
+#[inline(always)]
 fn push_refusal(out: &mut Vec<u8>, cause: Refused) -> Result<(), NoMemory>
     ensures ok { OnOk result (out.new.items ≡ out.old.items ++ (codes "refused " ++ refusal_text cause)) }
 {
@@ -88,6 +90,7 @@ fn push_refusal(out: &mut Vec<u8>, cause: Refused) -> Result<(), NoMemory>
 }
 
 /// Appends what the machine answered.
+#[inline(always)]
 pub(crate) fn push_outcome(
     out: &mut Vec<u8>,
     outcome: Result<Reply, Refused>,
@@ -110,7 +113,8 @@ pub(crate) fn push_line(
     ensures ok { OnOk result (out.new.items ≡ out.old.items ++ line_text shape step outcome) }
 {
     push_step(out, shape, step)?;
-    push_text(out, ": ")?;
+    push_byte(out, b':')?;
+    push_byte(out, b' ')?;
     push_outcome(out, outcome)?;
     push_byte(out, b'\n')
 }
