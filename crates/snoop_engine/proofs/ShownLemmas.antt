@@ -40,9 +40,9 @@ module _ (protocol : Protocol) (shape : Extent) (heading : List ℕ) (shows : Li
   text_on : (frames more : List Frame) (final : Situation)
       → view_text heading shows ending (frames ++ more) final ≡ (heading ++ shown shows [] frames) ++ (shown shows frames more ++ ending (frames ++ more) final)
   text_on frames more final =
-      ap (λ (t : List ℕ). heading ++ (t ++ ending (frames ++ more) final)) (shown_on shows [] frames more)
-      ∙ ap (λ (t : List ℕ). heading ++ t) (append_assoc (shown shows [] frames) (shown shows frames more) (ending (frames ++ more) final))
-      ∙ sym (append_assoc heading (shown shows [] frames) (shown shows frames more ++ ending (frames ++ more) final))
+      ap (λ (t : List ℕ). (heading ++ t) ++ ending (frames ++ more) final) (shown_on shows [] frames more)
+      ∙ ap (λ (t : List ℕ). t ++ ending (frames ++ more) final) (sym (append_assoc heading (shown shows [] frames) (shown shows frames more)))
+      ∙ append_assoc (heading ++ shown shows [] frames) (shown shows frames more) (ending (frames ++ more) final)
 
   -- some frames were shown, and the run goes on
   begins_on : RunsGoOn → (frames : List Frame) (left : List Step) (to : Situation) (a b : Option (List ℕ)) → steps ≡ steps_of frames ++ left → FramesFrom (reset protocol shape) frames to
@@ -99,7 +99,7 @@ showing_none protocol shape heading shows seen headed steps from a empty chunk s
 module _ (protocol : Protocol) (shape : Extent) (heading : List ℕ) (shows : Protocol → Extent → List Frame → Frame → List ℕ) (seen : Protocol → Extent → List Frame → Type 0) (steps left : List Step) (to : Situation)
     (a b : Option (List ℕ)) (chunk : List ℕ) (far : Showing protocol shape heading (shows protocol shape) (seen protocol shape) steps left to a b chunk) where
   -- what the view does with a step
-  Sees : (Protocol → Extent → List Frame → Type 0) → Seen → Situation → List ℕ → Protocol → Extent → Type 0
+  abbrev pub Sees : (Protocol → Extent → List Frame → Type 0) → Seen → Situation → List ℕ → Protocol → Extent → Type 0
   Sees after_it what after grown p s =
       (frames : List Frame) (before : Situation) → seen p s frames → IsNext p s frames before what after
       → after_it p s (frames ++ frame_seen before what after ∷ []) × (grown ≡ chunk ++ shows p s frames (frame_seen before what after))
@@ -152,7 +152,7 @@ module _ (protocol : Protocol) (shape : Extent) (heading : List ℕ) (shows : Pr
       (λ rest. gathers_cut a b c chunk (heading ++ shown (shows protocol shape) [] far.frames) rest far.lines cut)
 
   -- what the view does at the end
-  Ends : (Protocol → Extent → List Frame → Situation → List ℕ) → List ℕ → Protocol → Extent → Type 0
+  abbrev pub Ends : (Protocol → Extent → List Frame → Situation → List ℕ) → List ℕ → Protocol → Extent → Type 0
   Ends ending grown p s = (frames : List Frame) → seen p s frames → FramesFrom (reset p s) frames to → grown ≡ chunk ++ ending p s frames to
 
   module _ (ending : Protocol → Extent → List Frame → Situation → List ℕ) (grown : List ℕ) (over : left ≡ []) (ends : Ends ending grown to.protocol to.shape) where
@@ -163,9 +163,7 @@ module _ (protocol : Protocol) (shape : Extent) (heading : List ℕ) (shows : Pr
         here far.frames far.has_seen far.run
 
     all_lines : Gathers a b grown (view_text heading (shows protocol shape) (ending protocol shape) far.frames to)
-    all_lines =
-        subst (λ (t : List ℕ). Gathers a b grown t) (append_assoc heading (shown (shows protocol shape) [] far.frames) (ending protocol shape far.frames to))
-        (gathers_more a b chunk grown (heading ++ shown (shows protocol shape) [] far.frames) (ending protocol shape far.frames to) far.lines ended)
+    all_lines = gathers_more a b chunk grown (heading ++ shown (shows protocol shape) [] far.frames) (ending protocol shape far.frames to) far.lines ended
 
     are : AreFrames protocol shape steps far.frames to
     are = record { whole = sym (far.whole ∙ ap (λ (t : List Step). steps_of far.frames ++ t) over ∙ append-nil (steps_of far.frames)); run = far.run }

@@ -16,5 +16,5 @@ frames_numbered shape before (f ∷ fs) =
 pub states_view : (shape : Extent) (frames : List Frame) (final : Situation)
     → view_text header_text (λ (fs : List Frame) (f : Frame). frame_text shape (1 + length fs) f) (λ (fs : List Frame) (s : Situation). []) frames final ≡ states_text shape frames
 states_view shape frames final =
-    ap (λ (t : List ℕ). header_text ++ t)
-    (append-nil (shown (λ (fs : List Frame) (f : Frame). frame_text shape (1 + length fs) f) [] frames) ∙ frames_numbered shape [] frames)
+    append-nil (header_text ++ shown (λ (fs : List Frame) (f : Frame). frame_text shape (1 + length fs) f) [] frames)
+    ∙ ap (λ (t : List ℕ). header_text ++ t) (frames_numbered shape [] frames)

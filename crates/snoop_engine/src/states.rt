@@ -75,7 +75,7 @@ impl View for States {
 
 /// Appends the lines of a step, as the machine is after it.
 fn push_lines(out: &mut Vec<u8>, machine: &Machine, seen: Seen<'_>) -> Result<(), NoMemory>
-    ensures { OnOk result (out.new.items ≡ out.old.items ++ flat_map (λ taken. step_fields machine.now.situation.shape seen.number seen.step seen.outcome ++ taken_text machine.now.situation taken) seen.lines.now) }
+    ensures { OnOk result (out.new.items ≡ out.old.items ++ flat_map (λ taken. step_fields machine.now.situation.shape seen.entry.number seen.entry.step seen.entry.outcome ++ taken_text machine.now.situation taken) seen.entry.lines.now) }
 {
     let shape = machine.shape();
     for taken in seen.lines {
