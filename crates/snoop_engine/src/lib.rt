@@ -1,5 +1,6 @@
 //! The engines of the commands `steps`, `run`, `states` and `counts`: a text of steps or of rows in; out come the lines of its
-//! simulation and its report, its states, or how often each row of the tables was taken.
+//! simulation and its report, its states, or how often each row of the tables was taken. What is written of a run besides its
+//! lines and its report is a `View`.
 #![tactic(auto)]
 
 mod counts;
@@ -25,6 +26,7 @@ mod view;
 
 pub use counts::simulate_counts;
 pub use fault::SimFault;
+pub use line::push_outcome;
 pub use run::simulate_run;
 pub use seen::Seen;
 pub use serial::simulate_serial;

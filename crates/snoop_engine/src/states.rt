@@ -64,7 +64,12 @@ impl View for States {
         )
     }
 
-    fn see(&mut self, out: &mut Vec<u8>, machine: &Machine, seen: Seen<'_>) -> Result<(), NoMemory> {
+    fn see(
+        &mut self,
+        out: &mut Vec<u8>,
+        machine: &Machine,
+        seen: Seen<'_>,
+    ) -> Result<(), NoMemory> {
         push_lines(out, machine, seen)
     }
 

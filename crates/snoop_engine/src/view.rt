@@ -37,7 +37,7 @@ pub trait View {
             → has_seen first machine.now.situation.protocol machine.now.situation.shape frames self.old
             → IsNext machine.now.situation.protocol machine.now.situation.shape frames before seen.entry machine.now.situation
             → OnOk result (has_seen first machine.now.situation.protocol machine.now.situation.shape (frames ++ frame_seen before seen.entry machine.now.situation ∷ []) self.new
-                × (out.new.items ≡ out.old.items ++ shows first machine.now.situation.protocol machine.now.situation.shape frames (frame_seen before seen.entry machine.now.situation))) };
+            × (out.new.items ≡ out.old.items ++ shows first machine.now.situation.protocol machine.now.situation.shape frames (frame_seen before seen.entry machine.now.situation))) };
 
     /// Ends the run: the machine is where the steps have led.
     fn end(&mut self, out: &mut Vec<u8>, machine: &Machine) -> Result<(), NoMemory>

@@ -1,6 +1,5 @@
 use Rattle.std.proofs.Common.{rules, ◌≡◌, ◌∙◌, ap, Err, Ok}
 use Rattle.std.proofs.lemmas.Result.{err_from_is_err_and}
-use Rattle.snoop_engine.specs.Views.{view_text}
 use Rattle.snoop_engine.proofs.ShownLemmas.{simulates_view_front}
 use Rattle.snoop_engine.proofs.show.simulate_view.Goals as goal
 

@@ -9,5 +9,5 @@ pub returns : goal.returns
 returns c first frames has run =
     on_ok_weaker c.push_counts.result
     (λ e. e ∙ ap (λ p. c.args.out.now.items ++ counts_text p (counts_in c.args.self.now.counters) (memory_counts_in c.args.self.now.counters)) c.protocol.ensures
-        ∙ ap (λ (t : List ℕ). c.args.out.now.items ++ t) (text_of_frames c.args.machine.now.situation.protocol frames c.args.self.now.counters has))
+    ∙ ap (λ (t : List ℕ). c.args.out.now.items ++ t) (text_of_frames c.args.machine.now.situation.protocol frames c.args.self.now.counters has))
     c.push_counts.ensures
