@@ -94,6 +94,7 @@ pub fn push_outcome(out: &mut Vec<u8>, outcome: Result<Reply, Refused>) -> Resul
 }
 
 /// Appends the line of a step and what the machine answered.
+#[inline(always)]
 pub(crate) fn push_line(
     out: &mut Vec<u8>,
     shape: Shape,
