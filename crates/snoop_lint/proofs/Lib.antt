@@ -1,0 +1,4 @@
+pub mod FindingLemmas
+pub mod TallyLemmas
+pub mod LookedLemmas
+pub mod LineLemmas

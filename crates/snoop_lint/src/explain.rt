@@ -1,0 +1,387 @@
+//! What is said of a faulty record.
+ghost use Rattle.std.specs.Prelude.{◌≡◌, ◌++◌, OnOk};
+ghost use Rattle.csv.specs.Records.{fields_of};
+ghost use Rattle.snoop_lint.specs.Explained as spec;
+ghost use Rattle.snoop_lint.specs.Findings.{heads};
+
+use crate::fields::{address_named, core_named, field, is_number, letter, number_at};
+use crate::form::Form;
+use crate::hints::{kind_hint, number_hint};
+use crate::shown::push_shown;
+use csv::ByteRecord;
+use snoop_trace::streams::{push_decimal, push_text};
+use snoop_trace::{NoMemory, Protocol, Shape, TextFault, kind_of};
+
+/// Appends the line of a faulty record, which begins on this line of the text.
+#[tactic(auto, unfolding(crate::specs::Explained::finding_line))]
+pub(crate) fn push_finding(
+    out: &mut Vec<u8>,
+    form: Form,
+    protocol: Protocol,
+    shape: Shape,
+    line: u64,
+    n: u64,
+    fields: &ByteRecord,
+    fault: TextFault,
+) -> Result<(), NoMemory>
+    ensures { OnOk result (out.new.items ≡ out.old.items
+        ++ spec.finding_line form protocol shape line (record { number = n; fields = fields_of fields.now; fault = fault })) }
+{
+    push_text(out, "record ")?;
+    push_decimal(out, n)?;
+    push_text(out, ", line ")?;
+    push_decimal(out, line)?;
+    push_text(out, ": ")?;
+    push_text(out, word(fault))?;
+    push_text(out, ": ")?;
+    push_explained(out, form, protocol, shape, n, fields, fault)?;
+    push_text(out, "\n")
+}
+
+fn word(fault: TextFault) -> &'static str
+    ensures { result.now ≡ spec.word fault }
+{
+    match fault {
+        TextFault::BadKind(_) => "BadKind",
+        TextFault::BadFields(_) => "BadFields",
+        TextFault::BadNumber(_) => "BadNumber",
+        TextFault::NoCore(_) => "NoCore",
+        TextFault::NoBlock(_) => "NoBlock",
+        TextFault::Read => "Read",
+        TextFault::NoMemory => "NoMemory",
+        TextFault::OtherShape(_) => "OtherShape",
+        TextFault::BadVersion(_) => "BadVersion",
+    }
+}
+
+// Appends what is said of record n, by its fault.
+#[tactic(auto, unfolding(crate::specs::Explained::explained))]
+fn push_explained(
+    out: &mut Vec<u8>,
+    form: Form,
+    protocol: Protocol,
+    shape: Shape,
+    n: u64,
+    fields: &ByteRecord,
+    fault: TextFault,
+) -> Result<(), NoMemory>
+    ensures { OnOk result (out.new.items ≡ out.old.items ++ spec.explained form protocol shape n (fields_of fields.now) fault) }
+{
+    match fault {
+        TextFault::BadKind(_) if heads(form, n, fields) => push_bad_protocol(out, fields),
+        TextFault::BadKind(_) => push_bad_kind(out, form, n, fields),
+        TextFault::BadFields(_) => push_bad_fields(out, fields),
+        TextFault::BadNumber(_) => push_bad_number(out, fields),
+        TextFault::NoCore(_) => push_no_core(out, shape, core_named(fields)),
+        TextFault::NoBlock(_) => push_no_block(out, shape, address_named(fields)),
+        TextFault::OtherShape(_) => push_other_shape(out, protocol, shape, fields),
+        TextFault::BadVersion(_) => push_bad_version(out, fields),
+        TextFault::Read | TextFault::NoMemory => Ok(()),
+    }
+}
+
+/// Whether record n is the heading of a text of steps.
+pub(crate) fn heads(form: Form, n: u64, fields: &ByteRecord) -> bool
+    ensures { result ≡ heads form n (fields_of fields.now) }
+{
+    match form {
+        Form::Steps => n == 1 && is_heading(fields),
+        Form::Rows => false,
+    }
+}
+
+fn is_heading(fields: &ByteRecord) -> bool
+    ensures { result ≡ is_heading (fields_of fields.now) }
+{
+    kind_of(fields) == Some(b'V')
+}
+
+#[tactic(auto, unfolding(crate::specs::Explained::bad_kind))]
+fn push_bad_kind(
+    out: &mut Vec<u8>,
+    form: Form,
+    n: u64,
+    fields: &ByteRecord,
+) -> Result<(), NoMemory>
+    ensures { OnOk result (out.new.items ≡ out.old.items ++ spec.bad_kind form n (fields_of fields.now)) }
+{
+    let kind = field(fields, 0);
+    push_shown(out, kind)?;
+    push_text(out, " is no kind of record (")?;
+    push_text(out, kinds(form))?;
+    push_text(out, ")")?;
+    push_text(out, kind_hint(form, n, fields.len() == 1, kind))
+}
+
+fn kinds(form: Form) -> &'static str
+    ensures { result.now ≡ spec.kinds form }
+{
+    match form {
+        Form::Steps => "L, S, E, O, R",
+        Form::Rows => "L, S, E",
+    }
+}
+
+#[tactic(auto, unfolding(crate::specs::Explained::bad_protocol))]
+fn push_bad_protocol(out: &mut Vec<u8>, fields: &ByteRecord) -> Result<(), NoMemory>
+    ensures { OnOk result (out.new.items ≡ out.old.items ++ spec.bad_protocol (fields_of fields.now)) }
+{
+    push_shown(out, field(fields, 2))?;
+    push_text(out, " is no protocol (msi, mesi)")
+}
+
+#[tactic(auto, unfolding(crate::specs::Explained::bad_fields))]
+fn push_bad_fields(out: &mut Vec<u8>, fields: &ByteRecord) -> Result<(), NoMemory>
+    ensures { OnOk result (out.new.items ≡ out.old.items ++ spec.bad_fields (fields_of fields.now)) }
+{
+    let kind = letter(fields);
+    push_text(out, field_names(kind))?;
+    push_text(out, ", and this record has ")?;
+    push_decimal(out, fields.len() as u64)?;
+    if has_comma_more(field_count(kind), fields) {
+        push_text(out, "; a comma stands at the end")?;
+    }
+    Ok(())
+}
+
+fn field_count(kind: u8) -> usize
+    ensures { result ≡ spec.field_count kind }
+{
+    match kind {
+        b'L' => 3,
+        b'S' => 4,
+        b'E' => 3,
+        b'O' => 2,
+        b'R' => 2,
+        _ => 7,
+    }
+}
+
+fn field_names(kind: u8) -> &'static str
+    ensures { result.now ≡ spec.field_names kind }
+{
+    match kind {
+        b'L' => "L has 3 fields (L,core,address)",
+        b'S' => "S has 4 fields (S,core,address,value)",
+        b'E' => "E has 3 fields (E,core,address)",
+        b'O' => "O has 2 fields (O,core)",
+        b'R' => "R has 2 fields (R,address)",
+        _ => "V has 7 fields (V,2,protocol,cores,blocks,block_bytes,words)",
+    }
+}
+
+fn has_comma_more(count: usize, fields: &ByteRecord) -> bool
+    requires { count < 8 }
+    ensures { result ≡ spec.has_comma_more count (fields_of fields.now) }
+{
+    fields.len() == count + 1 && field(fields, count).is_empty()
+}
+
+#[tactic(auto, unfolding(crate::specs::Explained::bad_number))]
+fn push_bad_number(out: &mut Vec<u8>, fields: &ByteRecord) -> Result<(), NoMemory>
+    ensures { OnOk result (out.new.items ≡ out.old.items ++ spec.bad_number (fields_of fields.now)) }
+{
+    let kind = letter(fields);
+    if kind == b'V' {
+        let i = heading_place(fields);
+        push_no_number(out, heading_name(i), field(fields, i))
+    } else {
+        let i = step_place(fields);
+        push_no_number(out, step_name(kind, i), field(fields, i))
+    }
+}
+
+fn heading_place(fields: &ByteRecord) -> usize
+    ensures { result ≡ spec.heading_place (fields_of fields.now) }
+{
+    if !is_number(fields, 1) {
+        1
+    } else if !is_number(fields, 3) {
+        3
+    } else if !is_number(fields, 4) {
+        4
+    } else if !is_number(fields, 5) {
+        5
+    } else {
+        6
+    }
+}
+
+fn step_place(fields: &ByteRecord) -> usize
+    ensures { result ≡ spec.step_place (fields_of fields.now) }
+{
+    if !is_number(fields, 1) {
+        1
+    } else if !is_number(fields, 2) {
+        2
+    } else {
+        3
+    }
+}
+
+fn heading_name(i: usize) -> &'static str
+    ensures { result.now ≡ spec.heading_name i }
+{
+    match i {
+        1 => "version",
+        3 => "cores",
+        4 => "blocks",
+        5 => "block_bytes",
+        _ => "words",
+    }
+}
+
+fn step_name(kind: u8, i: usize) -> &'static str
+    ensures { result.now ≡ spec.step_name kind i }
+{
+    if kind == b'R' {
+        return "address";
+    }
+    match i {
+        1 => "core",
+        2 => "address",
+        _ => "value",
+    }
+}
+
+#[tactic(auto, unfolding(crate::specs::Explained::no_number))]
+fn push_no_number(out: &mut Vec<u8>, name: &str, field: &[u8]) -> Result<(), NoMemory>
+    ensures { OnOk result (out.new.items ≡ out.old.items ++ spec.no_number name.now field.now) }
+{
+    push_text(out, name)?;
+    push_text(out, " ")?;
+    push_shown(out, field)?;
+    push_text(out, " is no number")?;
+    push_text(out, number_hint(field))
+}
+
+#[tactic(auto, unfolding(crate::specs::Explained::no_core))]
+fn push_no_core(out: &mut Vec<u8>, shape: Shape, core: u64) -> Result<(), NoMemory>
+    ensures { OnOk result (out.new.items ≡ out.old.items ++ spec.no_core shape core) }
+{
+    push_text(out, "core ")?;
+    push_decimal(out, core)?;
+    push_text(out, " is not there: --cores ")?;
+    push_decimal(out, shape.cores() as u64)?;
+    push_text(out, " has cores 0 to ")?;
+    push_decimal(out, (shape.cores() - 1) as u64)?;
+    push_more_cores(out, core)
+}
+
+fn push_more_cores(out: &mut Vec<u8>, core: u64) -> Result<(), NoMemory>
+    ensures { OnOk result (out.new.items ≡ out.old.items ++ spec.more_cores core) }
+{
+    if core < 256 {
+        push_text(out, "; --cores ")?;
+        push_decimal(out, core + 1)?;
+        push_text(out, " has it")
+    } else {
+        push_text(out, "; no machine has more than 256 cores")
+    }
+}
+
+#[tactic(auto, unfolding(crate::specs::Explained::no_block))]
+fn push_no_block(out: &mut Vec<u8>, shape: Shape, address: u64) -> Result<(), NoMemory>
+    ensures { OnOk result (out.new.items ≡ out.old.items ++ spec.no_block shape address) }
+{
+    push_text(out, "address ")?;
+    push_decimal(out, address)?;
+    push_text(out, " is outside ")?;
+    push_memory(out, shape)?;
+    push_more_blocks(out, address / shape.block_bytes() as u64)
+}
+
+fn push_memory(out: &mut Vec<u8>, shape: Shape) -> Result<(), NoMemory>
+    ensures { OnOk result (out.new.items ≡ out.old.items ++ spec.memory shape) }
+{
+    let bytes = shape.blocks() as u64 * shape.block_bytes() as u64;
+    push_text(out, "the memory of ")?;
+    push_decimal(out, shape.blocks() as u64)?;
+    push_text(out, " blocks of ")?;
+    push_decimal(out, shape.block_bytes() as u64)?;
+    push_text(out, " bytes (0 to ")?;
+    push_decimal(out, bytes.saturating_sub(1))?;
+    push_text(out, ")")
+}
+
+fn push_more_blocks(out: &mut Vec<u8>, block: u64) -> Result<(), NoMemory>
+    ensures { OnOk result (out.new.items ≡ out.old.items ++ spec.more_blocks block) }
+{
+    if block < 65536 {
+        push_text(out, "; --blocks ")?;
+        push_decimal(out, block + 1)?;
+        push_text(out, " has room for it")
+    } else {
+        push_text(out, "; no machine has more than 65536 blocks: number the blocks anew")
+    }
+}
+
+#[tactic(auto, unfolding(crate::specs::Explained::bad_version))]
+fn push_bad_version(out: &mut Vec<u8>, fields: &ByteRecord) -> Result<(), NoMemory>
+    ensures { OnOk result (out.new.items ≡ out.old.items ++ spec.bad_version (fields_of fields.now)) }
+{
+    push_text(out, "version ")?;
+    push_decimal(out, number_at(fields, 1))?;
+    push_text(out, " is not known; it has to be 2")
+}
+
+#[tactic(auto, unfolding(crate::specs::Explained::other_shape))]
+fn push_other_shape(
+    out: &mut Vec<u8>,
+    protocol: Protocol,
+    shape: Shape,
+    fields: &ByteRecord,
+) -> Result<(), NoMemory>
+    ensures { OnOk result (out.new.items ≡ out.old.items ++ spec.other_shape protocol shape (fields_of fields.now)) }
+{
+    push_text(out, "the heading is for ")?;
+    push_options(
+        out,
+        field(fields, 2),
+        number_at(fields, 3),
+        number_at(fields, 4),
+        number_at(fields, 5),
+        number_at(fields, 6),
+    )?;
+    push_text(out, ", and the options are ")?;
+    push_options(
+        out,
+        protocol.name().as_bytes(),
+        shape.cores() as u64,
+        shape.blocks() as u64,
+        shape.block_bytes() as u64,
+        shape.words() as u64,
+    )
+}
+
+#[tactic(auto, unfolding(crate::specs::Explained::options))]
+fn push_options(
+    out: &mut Vec<u8>,
+    protocol: &[u8],
+    cores: u64,
+    blocks: u64,
+    bytes: u64,
+    words: u64,
+) -> Result<(), NoMemory>
+    ensures { OnOk result (out.new.items ≡ out.old.items ++ spec.options protocol.now cores blocks bytes words) }
+{
+    push_text(out, "--protocol ")?;
+    push_bytes(out, protocol)?;
+    push_option(out, " --cores ", cores)?;
+    push_option(out, " --blocks ", blocks)?;
+    push_option(out, " --block-bytes ", bytes)?;
+    push_option(out, " --words ", words)
+}
+
+fn push_option(out: &mut Vec<u8>, name: &str, number: u64) -> Result<(), NoMemory>
+    ensures { OnOk result (out.new.items ≡ out.old.items ++ (name.now ++ decimal number)) }
+{
+    push_text(out, name)?;
+    push_decimal(out, number)
+}
+
+fn push_bytes(out: &mut Vec<u8>, bytes: &[u8]) -> Result<(), NoMemory>
+    ensures { OnOk result (out.new.items ≡ out.old.items ++ bytes.now) }
+{
+    out.extend_from_slice(bytes).map_err(|_| NoMemory)
+}
