@@ -9,7 +9,6 @@ use Rattle.snoop_trace.specs.Grammar.{◌>>=◌, row_in, step_in}
 use Rattle.snoop_trace.specs.Heading.{heading_as, heading_for, is_heading}
 use Rattle.snoop_trace.specs.Text.{entries_from, entries_in, records_of}
 use Rattle.snoop_trace.specs.declared.fault.TextFault.{TextFault}
-use Rattle.snoop_trace.specs.declared.heading.Heading.{Heading}
 use Rattle.snoop_trace.specs.declared.protocol.Protocol.{Protocol}
 use Rattle.snoop_lint.specs.declared.form.Form.{Form}
 use Rattle.snoop_lint.specs.declared.form.Form.TheVariants.{Steps, Rows}

@@ -1,4 +1,6 @@
+pub mod PieceLemmas
 pub mod FindingLemmas
 pub mod TallyLemmas
 pub mod LookedLemmas
 pub mod LineLemmas
+pub mod LintedLemmas

@@ -1,6 +1,6 @@
 -- The lines on which records begin, one byte further.
 use Rattle.std.proofs.Common.{◌≡◌, ℕ, ◌+◌, ◌<◌, ◌≤◌, ◌++◌, List, [], ◌∷◌, drop, get_or, length, Option, Some, None, refl, sym, ap, ◌∙◌, arith, append_assoc, append-nil}
-use Rattle.std.specs.Prelude.{zero, suc, slice_get, if◌then◌else◌}
+use Rattle.std.specs.Prelude.{Bool, true, false, zero, suc, slice_get, if◌then◌else◌}
 use Rattle.std.proofs.lemmas.List.{drop_all, drop_more}
 use Rattle.csv.specs.Machine.{step}
 use Rattle.csv.specs.Reading.{default_config}
@@ -40,3 +40,8 @@ pub lines_all : (text found : List ℕ) (s : State) (line i : ℕ) → length te
     → found ≡ lines_from st.StartRecord 1 text
 unfolding lines_from
 lines_all text found s line i h far = sym (append-nil found) ∙ ap (λ (t : List ℕ). found ++ lines_from s line t) (sym (drop_all i text h)) ∙ far
+
+-- no more lines than bytes
+pub next_few : (line i below : ℕ) (ends : Bool) → line ≤ i + 1 → below ≡ (if ends then line + 1 else line) → below ≤ i + 1 + 1
+next_few line i below true h e = omega arith
+next_few line i below false h e = omega arith

@@ -68,9 +68,9 @@ pub record Looked (form : Form) (most : ℕ) (protocol : Protocol) (shape : Exte
   pub out_is : out ≡ old ++ first_lines form most protocol shape lines rows
   pub tally_is : tally ≡ tally_of form protocol shape rows
 
-none_taken : {X : Type 0} (n : ℕ) → take n ([] {A = X}) ≡ []
-none_taken zero = refl
-none_taken (suc n) = refl
+none_taken : (n : ℕ) (fs : List Finding) → fs ≡ [] → take n fs ≡ []
+none_taken zero fs e = refl
+none_taken (suc n) fs e = rw e refl
 
 -- no record was read yet
 pub looked_none : (form : Form) (most : ℕ) (protocol : Protocol) (shape : Extent) (lines xs : List ℕ) (s : State) (left : Option (List ℕ)) (old : List ℕ) (tally : Tally)
@@ -85,7 +85,7 @@ looked_none form most protocol shape lines xs s left old tally at begins none =
       at = at;
       reached = (sym begins, refl);
       count = refl;
-      out_is = sym (ap (λ (fs : List Finding). old ++ flat_map (line_at form protocol shape lines) fs) (none_taken most) ∙ append-nil old);
+      out_is = sym (ap (λ (fs : List Finding). old ++ flat_map (line_at form protocol shape lines) fs) (none_taken most [] refl) ∙ append-nil old);
       tally_is = none;
     }
 

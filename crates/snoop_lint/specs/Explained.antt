@@ -1,6 +1,6 @@
 -- What is said of a faulty record.
 -- Source: this project's profile.
-use Rattle.std.specs.Prelude.{ℕ, ◌+◌, ◌-◌, ◌*◌, ◌/◌, ◌==◌, ◌&&◌, not, List, [], ◌∷◌, ◌++◌, codes, length, nat_lt, if◌then◌else◌}
+use Rattle.std.specs.Prelude.{ℕ, ◌+◌, ◌-◌, ◌*◌, ◌/◌, ◌==◌, ◌&&◌, not, Bool, List, [], ◌∷◌, ◌++◌, codes, length, nat_lt, if◌then◌else◌}
 use Rattle.std.specs.Fmt.{decimal}
 use Rattle.snoop_trace.specs.Extent.{Extent}
 use Rattle.snoop_trace.specs.Protocol.{protocol_name}
@@ -12,7 +12,7 @@ use Rattle.snoop_lint.specs.declared.form.Form.TheVariants.{Steps, Rows}
 use Rattle.snoop_lint.specs.Fields.{address_named, core_named, field, is_number, letter, number_at}
 use Rattle.snoop_lint.specs.Findings.{Finding, heads}
 use Rattle.snoop_lint.specs.Hints.{is_empty, kind_hint, number_hint}
-use Rattle.snoop_lint.specs.Shown.{shown}
+use Rattle.snoop_lint.specs.Shown.{labelled, shown}
 
 -- the kinds of record that a text may have
 abbrev pub kinds : Form → List ℕ
@@ -29,7 +29,7 @@ unfoldable pub bad_protocol : List (List ℕ) → List ℕ
 bad_protocol fields = shown (field fields 2) ++ codes " is no protocol (msi, mesi)"
 
 -- how many fields a kind of record has, by its letter
-abbrev pub field_count : ℕ → ℕ
+unfoldable pub field_count : ℕ → ℕ
 field_count kind =
     if kind == 76 then 3
     else if kind == 83 then 4
@@ -39,7 +39,7 @@ field_count kind =
     else 7
 
 -- the same in words, and the fields
-abbrev pub field_names : ℕ → List ℕ
+unfoldable pub field_names : ℕ → List ℕ
 field_names kind =
     if kind == 76 then codes "L has 3 fields (L,core,address)"
     else if kind == 83 then codes "S has 4 fields (S,core,address,value)"
@@ -48,18 +48,21 @@ field_names kind =
     else if kind == 82 then codes "R has 2 fields (R,address)"
     else codes "V has 7 fields (V,2,protocol,cores,blocks,block_bytes,words)"
 
--- a record has an empty field more than it should, at its end
+-- a record has so many fields and one more, which is empty
 abbrev pub has_comma_more : ℕ → List (List ℕ) → Bool
 has_comma_more count fields = (length fields == count + 1) && is_empty (field fields count)
+
+-- of a record with an empty field more than its kind has
+unfoldable pub comma_hint : ℕ → List (List ℕ) → List ℕ
+comma_hint kind fields = if has_comma_more (field_count kind) fields then codes "; a comma stands at the end" else []
 
 -- of a record with too many fields or too few
 unfoldable pub bad_fields : List (List ℕ) → List ℕ
 bad_fields fields =
-    field_names (letter fields) ++ codes ", and this record has " ++ decimal (length fields)
-    ++ (if has_comma_more (field_count (letter fields)) fields then codes "; a comma stands at the end" else [])
+    field_names (letter fields) ++ labelled (codes ", and this record has ") (length fields) ++ comma_hint (letter fields) fields
 
 -- the place of the first field of a heading that ought to be a number and is none
-abbrev pub heading_place : List (List ℕ) → ℕ
+unfoldable pub heading_place : List (List ℕ) → ℕ
 heading_place fields =
     if not (is_number fields 1) then 1
     else if not (is_number fields 3) then 3
@@ -68,11 +71,11 @@ heading_place fields =
     else 6
 
 -- the same of a step or a row
-abbrev pub step_place : List (List ℕ) → ℕ
+unfoldable pub step_place : List (List ℕ) → ℕ
 step_place fields = if not (is_number fields 1) then 1 else if not (is_number fields 2) then 2 else 3
 
 -- what a field of a heading is called
-abbrev pub heading_name : ℕ → List ℕ
+unfoldable pub heading_name : ℕ → List ℕ
 heading_name i =
     if i == 1 then codes "version"
     else if i == 3 then codes "cores"
@@ -81,7 +84,7 @@ heading_name i =
     else codes "words"
 
 -- what a field of a step or a row is called, by the letter of its kind
-abbrev pub step_name : ℕ → ℕ → List ℕ
+unfoldable pub step_name : ℕ → ℕ → List ℕ
 step_name kind i =
     if kind == 82 then codes "address"
     else if i == 1 then codes "core"
@@ -99,47 +102,48 @@ bad_number fields =
     else no_number (step_name (letter fields) (step_place fields)) (field fields (step_place fields))
 
 -- the fewest cores that have a core
-abbrev pub more_cores : ℕ → List ℕ
-more_cores core = if nat_lt core 256 then codes "; --cores " ++ decimal (core + 1) ++ codes " has it" else codes "; no machine has more than 256 cores"
+unfoldable pub more_cores : ℕ → List ℕ
+more_cores core = if nat_lt core 256 then labelled (codes "; --cores ") (core + 1) ++ codes " has it" else codes "; no machine has more than 256 cores"
 
 -- of a core that is not there
 unfoldable pub no_core : Extent → ℕ → List ℕ
 no_core shape core =
-    codes "core " ++ decimal core ++ codes " is not there: --cores " ++ decimal shape.cores ++ codes " has cores 0 to " ++ decimal (shape.cores - 1) ++ more_cores core
+    labelled (codes "core ") core ++ labelled (codes " is not there: --cores ") shape.cores ++ labelled (codes " has cores 0 to ") (shape.cores - 1) ++ more_cores core
 
 -- the fewest blocks that have a block
-abbrev pub more_blocks : ℕ → List ℕ
+unfoldable pub more_blocks : ℕ → List ℕ
 more_blocks block =
-    if nat_lt block 65536 then codes "; --blocks " ++ decimal (block + 1) ++ codes " has room for it"
+    if nat_lt block 65536 then labelled (codes "; --blocks ") (block + 1) ++ codes " has room for it"
     else codes "; no machine has more than 65536 blocks: number the blocks anew"
 
 -- the memory of a shape
-abbrev pub memory : Extent → List ℕ
+unfoldable pub memory : Extent → List ℕ
 memory shape =
-    codes "the memory of " ++ decimal shape.blocks ++ codes " blocks of " ++ decimal shape.block_bytes ++ codes " bytes (0 to " ++ decimal (shape.blocks * shape.block_bytes - 1) ++ codes ")"
+    labelled (codes "the memory of ") shape.blocks ++ labelled (codes " blocks of ") shape.block_bytes
+    ++ labelled (codes " bytes (0 to ") (shape.blocks * shape.block_bytes - 1) ++ codes ")"
 
 -- of an address that lies in no block
 unfoldable pub no_block : Extent → ℕ → List ℕ
-no_block shape address = codes "address " ++ decimal address ++ codes " is outside " ++ memory shape ++ more_blocks (address / shape.block_bytes)
+no_block shape address = labelled (codes "address ") address ++ codes " is outside " ++ memory shape ++ more_blocks (address / shape.block_bytes)
 
 -- of a heading of another version
 unfoldable pub bad_version : List (List ℕ) → List ℕ
-bad_version fields = codes "version " ++ decimal (number_at fields 1) ++ codes " is not known; it has to be 2"
+bad_version fields = labelled (codes "version ") (number_at fields 1) ++ codes " is not known; it has to be 2"
 
--- a protocol and the numbers of a shape, as options
-unfoldable pub options : List ℕ → ℕ → ℕ → ℕ → ℕ → List ℕ
-options protocol cores blocks bytes words =
-    codes "--protocol " ++ protocol ++ codes " --cores " ++ decimal cores ++ codes " --blocks " ++ decimal blocks
-    ++ codes " --block-bytes " ++ decimal bytes ++ codes " --words " ++ decimal words
+-- a text, and then a protocol and the numbers of a shape, as options
+unfoldable pub options : List ℕ → List ℕ → ℕ → ℕ → ℕ → ℕ → List ℕ
+options text protocol cores blocks bytes words =
+    text ++ protocol ++ labelled (codes " --cores ") cores ++ labelled (codes " --blocks ") blocks
+    ++ labelled (codes " --block-bytes ") bytes ++ labelled (codes " --words ") words
 
 -- of a heading for another protocol or another shape
 unfoldable pub other_shape : Protocol → Extent → List (List ℕ) → List ℕ
 other_shape protocol shape fields =
-    codes "the heading is for " ++ options (field fields 2) (number_at fields 3) (number_at fields 4) (number_at fields 5) (number_at fields 6)
-    ++ codes ", and the options are " ++ options (protocol_name protocol) shape.cores shape.blocks shape.block_bytes shape.words
+    options (codes "the heading is for --protocol ") (field fields 2) (number_at fields 3) (number_at fields 4) (number_at fields 5) (number_at fields 6)
+    ++ options (codes ", and the options are --protocol ") (protocol_name protocol) shape.cores shape.blocks shape.block_bytes shape.words
 
 -- the name of a fault
-abbrev pub word : TextFault → List ℕ
+unfoldable pub word : TextFault → List ℕ
 word (BadKind n) = codes "BadKind"
 word (BadFields n) = codes "BadFields"
 word (BadNumber n) = codes "BadNumber"
@@ -165,5 +169,5 @@ explained form protocol shape n fields (BadVersion m) = bad_version fields
 -- the line of a faulty record
 unfoldable pub finding_line : Form → Protocol → Extent → ℕ → Finding → List ℕ
 finding_line form protocol shape line found =
-    codes "record " ++ decimal found.number ++ codes ", line " ++ decimal line ++ codes ": " ++ word found.fault ++ codes ": "
+    labelled (codes "record ") found.number ++ labelled (codes ", line ") line ++ codes ": " ++ word found.fault ++ codes ": "
     ++ explained form protocol shape found.number found.fields found.fault ++ codes "\n"

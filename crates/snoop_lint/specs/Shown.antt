@@ -12,9 +12,13 @@ shown_byte byte =
     else if nat_lt 31 byte && nat_lt byte 127 then byte ∷ []
     else 92 ∷ 120 ∷ digit_char (byte / 16) ∷ digit_char (byte % 16) ∷ []
 
+-- a text, and then a number
+unfoldable pub labelled : List ℕ → ℕ → List ℕ
+labelled text number = text ++ decimal number
+
 -- how many bytes are not shown, if there are any
-abbrev pub not_shown : ℕ → List ℕ
-not_shown len = if nat_lt 40 len then codes " and " ++ decimal (len - 40) ++ codes " more bytes" else []
+unfoldable pub not_shown : ℕ → List ℕ
+not_shown len = if nat_lt 40 len then labelled (codes " and ") (len - 40) ++ codes " more bytes" else []
 
 -- a field between quotes, its first 40 bytes at most
 unfoldable pub shown : List ℕ → List ℕ

@@ -1,15 +1,16 @@
 //! What is said of a faulty record.
-ghost use Rattle.std.specs.Prelude.{◌≡◌, ◌++◌, OnOk};
+ghost use Rattle.std.specs.Prelude.{◌≡◌, ◌<◌, ◌++◌, OnOk};
 ghost use Rattle.csv.specs.Records.{fields_of};
+ghost use Rattle.snoop_trace.specs.Heading.{is_heading};
 ghost use Rattle.snoop_lint.specs.Explained as spec;
 ghost use Rattle.snoop_lint.specs.Findings.{heads};
 
 use crate::fields::{address_named, core_named, field, is_number, letter, number_at};
 use crate::form::Form;
 use crate::hints::{kind_hint, number_hint};
-use crate::shown::push_shown;
+use crate::shown::{push_labelled, push_shown};
 use csv::ByteRecord;
-use snoop_trace::streams::{push_decimal, push_text};
+use snoop_trace::streams::push_text;
 use snoop_trace::{NoMemory, Protocol, Shape, TextFault, kind_of};
 
 /// Appends the line of a faulty record, which begins on this line of the text.
@@ -27,10 +28,8 @@ pub(crate) fn push_finding(
     ensures { OnOk result (out.new.items ≡ out.old.items
         ++ spec.finding_line form protocol shape line (record { number = n; fields = fields_of fields.now; fault = fault })) }
 {
-    push_text(out, "record ")?;
-    push_decimal(out, n)?;
-    push_text(out, ", line ")?;
-    push_decimal(out, line)?;
+    push_labelled(out, "record ", n)?;
+    push_labelled(out, ", line ", line)?;
     push_text(out, ": ")?;
     push_text(out, word(fault))?;
     push_text(out, ": ")?;
@@ -38,6 +37,7 @@ pub(crate) fn push_finding(
     push_text(out, "\n")
 }
 
+#[tactic(auto, unfolding(crate::specs::Explained::word))]
 fn word(fault: TextFault) -> &'static str
     ensures { result.now ≡ spec.word fault }
 {
@@ -97,12 +97,7 @@ fn is_heading(fields: &ByteRecord) -> bool
 }
 
 #[tactic(auto, unfolding(crate::specs::Explained::bad_kind))]
-fn push_bad_kind(
-    out: &mut Vec<u8>,
-    form: Form,
-    n: u64,
-    fields: &ByteRecord,
-) -> Result<(), NoMemory>
+fn push_bad_kind(out: &mut Vec<u8>, form: Form, n: u64, fields: &ByteRecord) -> Result<(), NoMemory>
     ensures { OnOk result (out.new.items ≡ out.old.items ++ spec.bad_kind form n (fields_of fields.now)) }
 {
     let kind = field(fields, 0);
@@ -136,16 +131,25 @@ fn push_bad_fields(out: &mut Vec<u8>, fields: &ByteRecord) -> Result<(), NoMemor
 {
     let kind = letter(fields);
     push_text(out, field_names(kind))?;
-    push_text(out, ", and this record has ")?;
-    push_decimal(out, fields.len() as u64)?;
-    if has_comma_more(field_count(kind), fields) {
-        push_text(out, "; a comma stands at the end")?;
-    }
-    Ok(())
+    push_labelled(out, ", and this record has ", fields.len() as u64)?;
+    push_text(out, comma_hint(kind, fields))
 }
 
+#[tactic(auto, unfolding(crate::specs::Explained::comma_hint))]
+fn comma_hint(kind: u8, fields: &ByteRecord) -> &'static str
+    ensures { result.now ≡ spec.comma_hint kind (fields_of fields.now) }
+{
+    if has_comma_more(field_count(kind), fields) {
+        "; a comma stands at the end"
+    } else {
+        ""
+    }
+}
+
+#[tactic(auto, unfolding(crate::specs::Explained::field_count))]
 fn field_count(kind: u8) -> usize
-    ensures { result ≡ spec.field_count kind }
+    ensures value { result ≡ spec.field_count kind }
+    ensures few { result < 8 }
 {
     match kind {
         b'L' => 3,
@@ -157,6 +161,7 @@ fn field_count(kind: u8) -> usize
     }
 }
 
+#[tactic(auto, unfolding(crate::specs::Explained::field_names))]
 fn field_names(kind: u8) -> &'static str
     ensures { result.now ≡ spec.field_names kind }
 {
@@ -191,6 +196,7 @@ fn push_bad_number(out: &mut Vec<u8>, fields: &ByteRecord) -> Result<(), NoMemor
     }
 }
 
+#[tactic(auto, unfolding(crate::specs::Explained::heading_place))]
 fn heading_place(fields: &ByteRecord) -> usize
     ensures { result ≡ spec.heading_place (fields_of fields.now) }
 {
@@ -207,6 +213,7 @@ fn heading_place(fields: &ByteRecord) -> usize
     }
 }
 
+#[tactic(auto, unfolding(crate::specs::Explained::step_place))]
 fn step_place(fields: &ByteRecord) -> usize
     ensures { result ≡ spec.step_place (fields_of fields.now) }
 {
@@ -219,6 +226,7 @@ fn step_place(fields: &ByteRecord) -> usize
     }
 }
 
+#[tactic(auto, unfolding(crate::specs::Explained::heading_name))]
 fn heading_name(i: usize) -> &'static str
     ensures { result.now ≡ spec.heading_name i }
 {
@@ -231,6 +239,7 @@ fn heading_name(i: usize) -> &'static str
     }
 }
 
+#[tactic(auto, unfolding(crate::specs::Explained::step_name))]
 fn step_name(kind: u8, i: usize) -> &'static str
     ensures { result.now ≡ spec.step_name kind i }
 {
@@ -259,21 +268,18 @@ fn push_no_number(out: &mut Vec<u8>, name: &str, field: &[u8]) -> Result<(), NoM
 fn push_no_core(out: &mut Vec<u8>, shape: Shape, core: u64) -> Result<(), NoMemory>
     ensures { OnOk result (out.new.items ≡ out.old.items ++ spec.no_core shape core) }
 {
-    push_text(out, "core ")?;
-    push_decimal(out, core)?;
-    push_text(out, " is not there: --cores ")?;
-    push_decimal(out, shape.cores() as u64)?;
-    push_text(out, " has cores 0 to ")?;
-    push_decimal(out, (shape.cores() - 1) as u64)?;
+    push_labelled(out, "core ", core)?;
+    push_labelled(out, " is not there: --cores ", shape.cores() as u64)?;
+    push_labelled(out, " has cores 0 to ", (shape.cores() - 1) as u64)?;
     push_more_cores(out, core)
 }
 
+#[tactic(auto, unfolding(crate::specs::Explained::more_cores))]
 fn push_more_cores(out: &mut Vec<u8>, core: u64) -> Result<(), NoMemory>
     ensures { OnOk result (out.new.items ≡ out.old.items ++ spec.more_cores core) }
 {
     if core < 256 {
-        push_text(out, "; --cores ")?;
-        push_decimal(out, core + 1)?;
+        push_labelled(out, "; --cores ", core + 1)?;
         push_text(out, " has it")
     } else {
         push_text(out, "; no machine has more than 256 cores")
@@ -284,35 +290,35 @@ fn push_more_cores(out: &mut Vec<u8>, core: u64) -> Result<(), NoMemory>
 fn push_no_block(out: &mut Vec<u8>, shape: Shape, address: u64) -> Result<(), NoMemory>
     ensures { OnOk result (out.new.items ≡ out.old.items ++ spec.no_block shape address) }
 {
-    push_text(out, "address ")?;
-    push_decimal(out, address)?;
+    push_labelled(out, "address ", address)?;
     push_text(out, " is outside ")?;
     push_memory(out, shape)?;
     push_more_blocks(out, address / shape.block_bytes() as u64)
 }
 
+#[tactic(auto, unfolding(crate::specs::Explained::memory))]
 fn push_memory(out: &mut Vec<u8>, shape: Shape) -> Result<(), NoMemory>
     ensures { OnOk result (out.new.items ≡ out.old.items ++ spec.memory shape) }
 {
     let bytes = shape.blocks() as u64 * shape.block_bytes() as u64;
-    push_text(out, "the memory of ")?;
-    push_decimal(out, shape.blocks() as u64)?;
-    push_text(out, " blocks of ")?;
-    push_decimal(out, shape.block_bytes() as u64)?;
-    push_text(out, " bytes (0 to ")?;
-    push_decimal(out, bytes.saturating_sub(1))?;
+    push_labelled(out, "the memory of ", shape.blocks() as u64)?;
+    push_labelled(out, " blocks of ", shape.block_bytes() as u64)?;
+    push_labelled(out, " bytes (0 to ", bytes.saturating_sub(1))?;
     push_text(out, ")")
 }
 
+#[tactic(auto, unfolding(crate::specs::Explained::more_blocks))]
 fn push_more_blocks(out: &mut Vec<u8>, block: u64) -> Result<(), NoMemory>
     ensures { OnOk result (out.new.items ≡ out.old.items ++ spec.more_blocks block) }
 {
     if block < 65536 {
-        push_text(out, "; --blocks ")?;
-        push_decimal(out, block + 1)?;
+        push_labelled(out, "; --blocks ", block + 1)?;
         push_text(out, " has room for it")
     } else {
-        push_text(out, "; no machine has more than 65536 blocks: number the blocks anew")
+        push_text(
+            out,
+            "; no machine has more than 65536 blocks: number the blocks anew",
+        )
     }
 }
 
@@ -320,8 +326,7 @@ fn push_more_blocks(out: &mut Vec<u8>, block: u64) -> Result<(), NoMemory>
 fn push_bad_version(out: &mut Vec<u8>, fields: &ByteRecord) -> Result<(), NoMemory>
     ensures { OnOk result (out.new.items ≡ out.old.items ++ spec.bad_version (fields_of fields.now)) }
 {
-    push_text(out, "version ")?;
-    push_decimal(out, number_at(fields, 1))?;
+    push_labelled(out, "version ", number_at(fields, 1))?;
     push_text(out, " is not known; it has to be 2")
 }
 
@@ -334,18 +339,18 @@ fn push_other_shape(
 ) -> Result<(), NoMemory>
     ensures { OnOk result (out.new.items ≡ out.old.items ++ spec.other_shape protocol shape (fields_of fields.now)) }
 {
-    push_text(out, "the heading is for ")?;
     push_options(
         out,
+        "the heading is for --protocol ",
         field(fields, 2),
         number_at(fields, 3),
         number_at(fields, 4),
         number_at(fields, 5),
         number_at(fields, 6),
     )?;
-    push_text(out, ", and the options are ")?;
     push_options(
         out,
+        ", and the options are --protocol ",
         protocol.name().as_bytes(),
         shape.cores() as u64,
         shape.blocks() as u64,
@@ -357,27 +362,21 @@ fn push_other_shape(
 #[tactic(auto, unfolding(crate::specs::Explained::options))]
 fn push_options(
     out: &mut Vec<u8>,
+    text: &str,
     protocol: &[u8],
     cores: u64,
     blocks: u64,
     bytes: u64,
     words: u64,
 ) -> Result<(), NoMemory>
-    ensures { OnOk result (out.new.items ≡ out.old.items ++ spec.options protocol.now cores blocks bytes words) }
+    ensures { OnOk result (out.new.items ≡ out.old.items ++ spec.options text.now protocol.now cores blocks bytes words) }
 {
-    push_text(out, "--protocol ")?;
+    push_text(out, text)?;
     push_bytes(out, protocol)?;
-    push_option(out, " --cores ", cores)?;
-    push_option(out, " --blocks ", blocks)?;
-    push_option(out, " --block-bytes ", bytes)?;
-    push_option(out, " --words ", words)
-}
-
-fn push_option(out: &mut Vec<u8>, name: &str, number: u64) -> Result<(), NoMemory>
-    ensures { OnOk result (out.new.items ≡ out.old.items ++ (name.now ++ decimal number)) }
-{
-    push_text(out, name)?;
-    push_decimal(out, number)
+    push_labelled(out, " --cores ", cores)?;
+    push_labelled(out, " --blocks ", blocks)?;
+    push_labelled(out, " --block-bytes ", bytes)?;
+    push_labelled(out, " --words ", words)
 }
 
 fn push_bytes(out: &mut Vec<u8>, bytes: &[u8]) -> Result<(), NoMemory>

@@ -1,5 +1,6 @@
 //! What may be behind a fault, as the field looks.
-ghost use Rattle.std.specs.Prelude.{◌≡◌};
+ghost use Rattle.std.specs.Prelude.{◌≡◌, ◌≤◌, ◌||◌};
+ghost use Rattle.std.specs.Char.{is_digit};
 ghost use Rattle.std.specs.List.{list_all, list_any};
 ghost use Rattle.snoop_lint.specs.Hints as spec;
 

@@ -146,7 +146,11 @@ fn next_line(line: u64, byte: u8, next: Option<u8>) -> u64
     requires { line < 2 ^ 64 - 1 }
     ensures { result ≡ (if spec.ends_line byte next then line + 1 else line) }
 {
-    if ends_line(byte, next) { line + 1 } else { line }
+    if ends_line(byte, next) {
+        line + 1
+    } else {
+        line
+    }
 }
 
 fn byte_at(text: &[u8], i: usize) -> Option<u8>

@@ -74,7 +74,16 @@ fn report_of(
 {
     let lines = record_lines(alloc, text)?;
     let mut report = Vec::new(alloc);
-    let tally = look(alloc, &mut report, form, most, protocol, shape, &lines, text)?;
+    let tally = look(
+        alloc,
+        &mut report,
+        form,
+        most,
+        protocol,
+        shape,
+        &lines,
+        text,
+    )?;
     push_summary(&mut report, form, most, tally)?;
     Ok(report)
 }
@@ -103,7 +112,17 @@ fn look(
         if !next_record(&mut records, &mut fields)? {
             return Ok(tally);
         }
-        tally = look_at(out, form, most, protocol, shape, lines, tally, i + 1, &fields)?;
+        tally = look_at(
+            out,
+            form,
+            most,
+            protocol,
+            shape,
+            lines,
+            tally,
+            i + 1,
+            &fields,
+        )?;
     }
     // No text has so many records.
     Err(NoMemory)
@@ -141,7 +160,18 @@ fn look_at(
     ensures line { OnOk result (out.new.items ≡ out.old.items ++ line_if_room form most protocol shape lines.now tally.faults n (fields_of fields.now)) }
 {
     let fault = fault_at(form, protocol, shape, n, fields);
-    push_line_if_room(out, form, most, protocol, shape, lines, tally.faults, n, fields, fault)?;
+    push_line_if_room(
+        out,
+        form,
+        most,
+        protocol,
+        shape,
+        lines,
+        tally.faults,
+        n,
+        fields,
+        fault,
+    )?;
     Ok(tally.with_record(form, shape, n, fields, fault))
 }
 
@@ -162,7 +192,16 @@ fn push_line_if_room(
 {
     match fault {
         Some(fault) if faults < most => {
-            push_finding(out, form, protocol, shape, line_of(lines, n), n, fields, fault)
+            push_finding(
+                out,
+                form,
+                protocol,
+                shape,
+                line_of(lines, n),
+                n,
+                fields,
+                fault,
+            )
         }
         _ => Ok(()),
     }

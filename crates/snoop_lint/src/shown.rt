@@ -1,5 +1,5 @@
 //! How a field of a text is shown.
-ghost use Rattle.std.specs.Prelude.{◌≡◌, ◌++◌, ◌<◌, OnOk, length};
+ghost use Rattle.std.specs.Prelude.{◌≡◌, ◌++◌, ◌<◌, OnOk, take};
 ghost use Rattle.std.specs.Char.{digit_char};
 ghost use Rattle.std.specs.List.{flat_map};
 ghost use Rattle.snoop_lint.specs.Shown as spec;
@@ -24,7 +24,11 @@ pub(crate) fn push_shown(out: &mut Vec<u8>, field: &[u8]) -> Result<(), NoMemory
 fn front(field: &[u8]) -> &[u8]
     ensures { result.now ≡ take 40 field.now }
 {
-    if field.len() > MOST { &field[..MOST] } else { field }
+    if field.len() > MOST {
+        &field[..MOST]
+    } else {
+        field
+    }
 }
 
 fn push_bytes(out: &mut Vec<u8>, bytes: &[u8]) -> Result<(), NoMemory>
@@ -54,16 +58,30 @@ fn hex_digit(digit: u8) -> u8
     requires { digit < 16 }
     ensures { result ≡ digit_char digit }
 {
-    if digit < 10 { b'0' + digit } else { b'a' - 10 + digit }
+    if digit < 10 {
+        b'0' + digit
+    } else {
+        b'a' - 10 + digit
+    }
 }
 
+#[tactic(auto, unfolding(crate::specs::Shown::not_shown))]
 fn push_not_shown(out: &mut Vec<u8>, len: usize) -> Result<(), NoMemory>
     ensures { OnOk result (out.new.items ≡ out.old.items ++ spec.not_shown len) }
 {
-    if len <= MOST {
-        return Ok(());
+    if len > MOST {
+        push_labelled(out, " and ", (len - MOST) as u64)?;
+        push_text(out, " more bytes")
+    } else {
+        Ok(())
     }
-    push_text(out, " and ")?;
-    push_decimal(out, (len - MOST) as u64)?;
-    push_text(out, " more bytes")
+}
+
+/// Appends a text, and then a number.
+#[tactic(auto, unfolding(crate::specs::Shown::labelled))]
+pub(crate) fn push_labelled(out: &mut Vec<u8>, text: &str, number: u64) -> Result<(), NoMemory>
+    ensures { OnOk result (out.new.items ≡ out.old.items ++ spec.labelled text.now number) }
+{
+    push_text(out, text)?;
+    push_decimal(out, number)
 }

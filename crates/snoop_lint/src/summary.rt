@@ -1,13 +1,15 @@
 //! What is said of a whole text.
-ghost use Rattle.std.specs.Prelude.{◌≡◌, ◌++◌, OnOk};
+ghost use Rattle.std.specs.Prelude.{◌≡◌, ◌<◌, ◌++◌, true, OnOk};
 ghost use Rattle.snoop_lint.specs.Summary as spec;
 
 use crate::form::Form;
+use crate::shown::push_labelled;
 use crate::tally::Tally;
 use snoop_trace::NoMemory;
 use snoop_trace::streams::{push_decimal, push_text};
 
 /// Appends what is said of a whole text, by what was counted in it.
+#[tactic(auto, unfolding(crate::specs::Summary::summary))]
 pub(crate) fn push_summary(
     out: &mut Vec<u8>,
     form: Form,
@@ -32,6 +34,7 @@ fn push_count_line(out: &mut Vec<u8>, most: u64, tally: Tally) -> Result<(), NoM
     push_text(out, "\n")
 }
 
+#[tactic(auto, unfolding(crate::specs::Summary::fault_count))]
 fn push_fault_count(out: &mut Vec<u8>, faults: u64) -> Result<(), NoMemory>
     ensures { OnOk result (out.new.items ≡ out.old.items ++ spec.fault_count faults) }
 {
@@ -42,6 +45,7 @@ fn push_fault_count(out: &mut Vec<u8>, faults: u64) -> Result<(), NoMemory>
     }
 }
 
+#[tactic(auto, unfolding(crate::specs::Summary::counted))]
 fn push_counted(out: &mut Vec<u8>, count: u64, thing: &str) -> Result<(), NoMemory>
     ensures { OnOk result (out.new.items ≡ out.old.items ++ spec.counted count thing.now) }
 {
@@ -51,31 +55,32 @@ fn push_counted(out: &mut Vec<u8>, count: u64, thing: &str) -> Result<(), NoMemo
     push_text(out, if count == 1 { "" } else { "s" })
 }
 
+#[tactic(auto, unfolding(crate::specs::Summary::shown_count))]
 fn push_shown_count(out: &mut Vec<u8>, most: u64, faults: u64) -> Result<(), NoMemory>
     ensures { OnOk result (out.new.items ≡ out.old.items ++ spec.shown_count most faults) }
 {
-    if faults <= most {
-        return Ok(());
+    if most < faults {
+        push_labelled(out, ", ", most)?;
+        push_text(out, " shown")
+    } else {
+        Ok(())
     }
-    push_text(out, ", ")?;
-    push_decimal(out, most)?;
-    push_text(out, " shown")
 }
 
 #[tactic(auto, unfolding(crate::specs::Summary::needs_line))]
 fn push_needs_line(out: &mut Vec<u8>, tally: Tally) -> Result<(), NoMemory>
     ensures { OnOk result (out.new.items ≡ out.old.items ++ spec.needs_line tally) }
 {
-    if !is_mendable(tally) {
-        return Ok(());
+    if is_mendable(tally) {
+        push_labelled(out, "needs --cores ", tally.core + 1)?;
+        push_labelled(out, " --blocks ", tally.block + 1)?;
+        push_text(out, "\n")
+    } else {
+        Ok(())
     }
-    push_text(out, "needs --cores ")?;
-    push_decimal(out, tally.core + 1)?;
-    push_text(out, " --blocks ")?;
-    push_decimal(out, tally.block + 1)?;
-    push_text(out, "\n")
 }
 
+#[tactic(auto, unfolding(crate::specs::Summary::is_mendable))]
 fn is_mendable(tally: Tally) -> bool
     ensures value { result ≡ spec.is_mendable tally }
     ensures core { result ≡ true → tally.core < 256 }
@@ -88,6 +93,7 @@ fn is_mendable(tally: Tally) -> bool
         && tally.block < 65536
 }
 
+#[tactic(auto, unfolding(crate::specs::Summary::slip_line))]
 fn slip_line(form: Form, tally: Tally) -> &'static str
     ensures { result.now ≡ spec.slip_line form tally }
 {

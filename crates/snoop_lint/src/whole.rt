@@ -1,5 +1,5 @@
 //! A text, read to its end.
-ghost use Rattle.std.specs.Prelude.{◌≡◌, ◌≢◌, true, Err, IfOk, IfSome};
+ghost use Rattle.std.specs.Prelude.{◌≡◌, ◌≢◌, ◌++◌, true, Err, IfOk, IfSome, OnOk};
 ghost use Rattle.snoop_trace.specs.Text.{BlamesReader};
 
 use crate::fault::LintFault;
@@ -13,6 +13,7 @@ const PART: usize = 8192;
 /// All bytes that a reader has left.
 pub(crate) fn read_whole<R: Source>(alloc: Global, reader: &mut R) -> Result<Vec<u8>, LintFault>
     ensures read { IfOk result (λ text. IfSome (R.remaining reader.old) (λ bytes. text.items ≡ bytes)) }
+    ensures not_write { result ≢ Err LintFault.Write }
     ensures never_blamed { R.never_fails ≡ true → result ≢ Err LintFault.Read }
     ensures blamed { BlamesReader (R.failed reader.old) (R.failed reader.new) (result ≡ Err LintFault.Read) }
 {

@@ -6,24 +6,25 @@ use std::alloc::Global;
 use std::test::Fail;
 
 /// What is written of a text under MSI, for 2 cores and 4 blocks of 64 bytes, is this.
-fn expect(
-    alloc: Global,
-    form: Form,
-    most: u64,
-    text: &[u8],
-    expected: &str,
-) -> Result<(), Fail> {
+fn expect(alloc: Global, form: Form, most: u64, text: &[u8], expected: &str) -> Result<(), Fail> {
     let shape = Shape::new(2, 4, 64)?;
     let mut output = Vec::new(alloc);
-    lint_text(alloc, &mut &*text, &mut output, form, most, Protocol::Msi, shape)?;
+    lint_text(
+        alloc,
+        &mut &*text,
+        &mut output,
+        form,
+        most,
+        Protocol::Msi,
+        shape,
+    )?;
     if output.as_slice() != expected.as_bytes() {
         Err(output)?
     }
     Ok(())
 }
 
-const FAULTS: &[u8] =
-    b"V,2,msi,2,4,64,1\n\r\nl,0,0\nL,0\nS,0, 0,1\nO,2\nR,256\nV,2,msi,2,4,64,1\n";
+const FAULTS: &[u8] = b"V,2,msi,2,4,64,1\n\r\nl,0,0\nL,0\nS,0, 0,1\nO,2\nR,256\nV,2,msi,2,4,64,1\n";
 
 const FAULTS_OUTPUT: &str = "\
 record 2, line 3: BadKind: 'l' is no kind of record (L, S, E, O, R); kinds are capital letters
@@ -81,7 +82,13 @@ record 1, line 1: OtherShape: the heading is for --protocol mesi --cores 2 --blo
 
 #[test]
 fn a_heading_for_mesi(rt: HostRuntime) -> Result<(), Fail> {
-    expect(rt.alloc(), Form::Steps, 1, b"V,2,mesi,2,4,64,1\n", HEADING_OUTPUT)
+    expect(
+        rt.alloc(),
+        Form::Steps,
+        1,
+        b"V,2,mesi,2,4,64,1\n",
+        HEADING_OUTPUT,
+    )
 }
 
 #[test]

@@ -5,13 +5,12 @@ ghost use Rattle.snoop_trace.specs.Faults as spec;
 ghost use Rattle.snoop_trace.specs.Grammar.{letter_of, number};
 
 use crate::fault::TextFault;
-use crate::fields;
 use crate::heading::Heading;
-use crate::number;
 use crate::protocol::Protocol;
 use crate::record::Entry;
 use crate::shape::Shape;
 use crate::step::{Row, Step};
+use crate::{fields, number};
 use csv::ByteRecord;
 
 /// Why record n of a text of steps for the protocol and the shape is refused, where no record before it is; None where it is taken.
