@@ -19,10 +19,14 @@ abbrev pub kinds : Form → List ℕ
 kinds Steps = codes "L, S, E, O, R"
 kinds Rows = codes "L, S, E"
 
+-- record n may be a line of names: it is the first, and its second field is no number
+abbrev pub may_be_names : ℕ → List (List ℕ) → Bool
+may_be_names n fields = (n == 1) && not (is_number fields 1)
+
 -- of a first field that is no kind of record
 unfoldable pub bad_kind : Form → ℕ → List (List ℕ) → List ℕ
 bad_kind form n fields =
-    shown (field fields 0) ++ codes " is no kind of record (" ++ kinds form ++ codes ")" ++ kind_hint form n (length fields == 1) (field fields 0)
+    shown (field fields 0) ++ codes " is no kind of record (" ++ kinds form ++ codes ")" ++ kind_hint form (may_be_names n fields) (length fields == 1) (field fields 0)
 
 -- of a heading's third field that is no protocol
 unfoldable pub bad_protocol : List (List ℕ) → List ℕ

@@ -46,16 +46,16 @@ abbrev pub elsewhere : Form → List ℕ
 elsewhere Steps = codes "; a heading stands in record 1 alone"
 elsewhere Rows = codes "; it is for snoop steps"
 
--- why a field may be no kind of record; `alone`: the record has no other field
-unfoldable pub kind_hint : Form → ℕ → Bool → List ℕ → List ℕ
-kind_hint form n alone field =
+-- why a field may be no kind of record; `alone`: the record has no other field; `names`: it may be a line of names
+unfoldable pub kind_hint : Form → Bool → Bool → List ℕ → List ℕ
+kind_hint form names alone field =
     if is_elsewhere form field then elsewhere form
     else if is_letter_of (codes "lseor") field then codes "; kinds are capital letters"
     else if starts_with nat_eq field (codes "#") then codes "; a text has no comments"
     else if list_any is_foreign field then codes "; this is no plain text"
     else if alone && (has 32 field || has 9 field || has 59 field) then codes "; commas stand between the fields"
     else if is_padded field then codes "; blanks are not taken away"
-    else if (n == 1) && not (is_empty field) then codes "; a text has no line of names"
+    else if names && not (is_empty field) then codes "; a text has no line of names"
     else []
 
 -- why a field may be no number

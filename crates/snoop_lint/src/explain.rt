@@ -105,7 +105,17 @@ fn push_bad_kind(out: &mut Vec<u8>, form: Form, n: u64, fields: &ByteRecord) -> 
     push_text(out, " is no kind of record (")?;
     push_text(out, kinds(form))?;
     push_text(out, ")")?;
-    push_text(out, kind_hint(form, n, fields.len() == 1, kind))
+    push_text(
+        out,
+        kind_hint(form, may_be_names(n, fields), fields.len() == 1, kind),
+    )
+}
+
+/// Whether record n may be a line of names: it is the first, and its second field is no number.
+fn may_be_names(n: u64, fields: &ByteRecord) -> bool
+    ensures { result ≡ spec.may_be_names n (fields_of fields.now) }
+{
+    n == 1 && !is_number(fields, 1)
 }
 
 fn kinds(form: Form) -> &'static str

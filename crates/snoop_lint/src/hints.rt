@@ -6,10 +6,10 @@ ghost use Rattle.snoop_lint.specs.Hints as spec;
 
 use crate::form::Form;
 
-/// Why a field may be no kind of record; `alone`: the record has no other field.
+/// Why a field may be no kind of record; `alone`: the record has no other field; `names`: it may be a line of names.
 #[tactic(auto, unfolding(crate::specs::Hints::kind_hint))]
-pub(crate) fn kind_hint(form: Form, n: u64, alone: bool, field: &[u8]) -> &'static str
-    ensures { result.now ≡ spec.kind_hint form n alone field.now }
+pub(crate) fn kind_hint(form: Form, names: bool, alone: bool, field: &[u8]) -> &'static str
+    ensures { result.now ≡ spec.kind_hint form names alone field.now }
 {
     if is_elsewhere(form, field) {
         elsewhere(form)
@@ -23,7 +23,7 @@ pub(crate) fn kind_hint(form: Form, n: u64, alone: bool, field: &[u8]) -> &'stat
         "; commas stand between the fields"
     } else if is_padded(field) {
         "; blanks are not taken away"
-    } else if n == 1 && !field.is_empty() {
+    } else if names && !field.is_empty() {
         "; a text has no line of names"
     } else {
         ""
