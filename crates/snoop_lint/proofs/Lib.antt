@@ -4,3 +4,5 @@ pub mod TallyLemmas
 pub mod LookedLemmas
 pub mod LineLemmas
 pub mod LintedLemmas
+pub mod BoundLemmas
+pub mod FewestLemmas

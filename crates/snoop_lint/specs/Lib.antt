@@ -9,3 +9,4 @@ pub mod Tallies
 pub mod Summary
 pub mod Linted
 pub mod Looked
+pub mod Fewest

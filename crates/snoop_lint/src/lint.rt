@@ -1,14 +1,16 @@
 //! The command `lint`: what is wrong with a text.
-ghost use Rattle.std.specs.Prelude.{◌≡◌, ◌≢◌, ◌++◌, ◌-◌, ◌<◌, ◌^◌, ◌⊎◌, ℕ, List, true, Err, IfOk, OnOk};
+ghost use Rattle.std.specs.Prelude.{◌≡◌, ◌≢◌, ◌+◌, ◌++◌, ◌-◌, ◌<◌, ◌^◌, ◌⊎◌, ℕ, List, true, Err, IfOk, OnOk};
 ghost use Rattle.csv.specs.Reading.{ReadRecord, reader_state, source_of};
 ghost use Rattle.csv.specs.Records.{fields_of};
 ghost use Rattle.snoop_trace.specs.Output.{BlamesWriter};
 ghost use Rattle.snoop_trace.specs.Progress.{IsPlain};
 ghost use Rattle.snoop_trace.specs.Text.{BlamesReader, records_of};
+ghost use Rattle.snoop_lint.specs.Fewest.{AreFewest};
 ghost use Rattle.snoop_lint.specs.Findings as found;
 ghost use Rattle.snoop_lint.specs.Lines as line;
 ghost use Rattle.snoop_lint.specs.Linted.{Lints, first_lines, lint_of};
 ghost use Rattle.snoop_lint.specs.Looked.{line_if_room};
+ghost use Rattle.snoop_lint.specs.Summary.{is_mendable};
 ghost use Rattle.snoop_lint.specs.Tallies.{one_more, tally_of};
 
 use crate::explain::push_finding;
@@ -42,6 +44,9 @@ pub fn lint_text<R: Source, W: Sink>(
     ensures does { Lints form most protocol shape (R.remaining reader.old) result (W.contents writer.old) (W.contents writer.new) }
     // The first fault is the one by which reading refuses the text, and there is none where reading takes it.
     ensures first { (bytes : List ℕ) → found.first_fault (found.findings form protocol shape (records_of bytes)) ≡ found.refusal form protocol shape bytes }
+    // Where more cores and blocks mend all faults, those that are named are the fewest.
+    ensures fewest { (bytes : List ℕ) → is_mendable (tally_of form protocol shape (records_of bytes)) ≡ true
+        → AreFewest form protocol shape bytes ((tally_of form protocol shape (records_of bytes)).core + 1) ((tally_of form protocol shape (records_of bytes)).block + 1) }
     // Where the text was not read, or not looked at, the writer is as it was.
     ensures unwritten { (result ≡ Err LintFault.Read) ⊎ (result ≡ Err LintFault.NoMemory) → writer.new ≡ writer.old }
 

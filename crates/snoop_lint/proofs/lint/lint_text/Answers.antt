@@ -1,5 +1,6 @@
 use Rattle.std.proofs.Common.{◌∙◌, ap, sym, Err}
 use Rattle.std.proofs.lemmas.Result.{err_from_is_err_and}
+use Rattle.snoop_lint.proofs.FewestLemmas.{fewest}
 use Rattle.snoop_lint.proofs.FindingLemmas.{first_is_refusal}
 use Rattle.snoop_lint.proofs.LintedLemmas.{not_written, unread}
 use Rattle.snoop_lint.proofs.lint.lint_text.Goals as goal
@@ -31,3 +32,15 @@ pub returns-in_err-text-clause-blamed : goal.returns-in_err-text-clause-blamed
 returns-in_err-text-clause-blamed g c =
     let p = err_from_is_err_and c.from_residual.result c.from_residual.ensures.1 in
     λ none. (λ written. absurd (not_written c.from_residual.result p.0 p.1 (λ e. c.in_err-text.ensures.not_write (ap (λ f. Err f) (sym p.2 ∙ e))) written), λ other. none)
+
+pub returns-in_err-text-clause-fewest : goal.returns-in_err-text-clause-fewest
+returns-in_err-text-clause-fewest g c = fewest c.args.form c.args.protocol c.args.shape
+
+pub returns-in_err-report-clause-fewest : goal.returns-in_err-report-clause-fewest
+returns-in_err-report-clause-fewest g c = fewest c.args.form c.args.protocol c.args.shape
+
+pub returns-in-Ok-clause-fewest : goal.returns-in-Ok-clause-fewest
+returns-in-Ok-clause-fewest g c = fewest c.args.form c.args.protocol c.args.shape
+
+pub returns-clause-fewest : goal.returns-clause-fewest
+returns-clause-fewest g c = fewest c.args.form c.args.protocol c.args.shape
