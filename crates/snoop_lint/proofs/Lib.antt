@@ -6,3 +6,4 @@ pub mod LineLemmas
 pub mod LintedLemmas
 pub mod BoundLemmas
 pub mod FewestLemmas
+pub mod EachLine

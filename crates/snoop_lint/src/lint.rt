@@ -1,5 +1,5 @@
 //! The command `lint`: what is wrong with a text.
-ghost use Rattle.std.specs.Prelude.{◌≡◌, ◌≢◌, ◌+◌, ◌++◌, ◌-◌, ◌<◌, ◌^◌, ◌⊎◌, ℕ, List, true, Err, IfOk, OnOk};
+ghost use Rattle.std.specs.Prelude.{◌≡◌, ◌≢◌, ◌+◌, ◌++◌, ◌-◌, ◌<◌, ◌^◌, ◌⊎◌, ℕ, List, true, Err, IfOk, OnOk, length};
 ghost use Rattle.csv.specs.Reading.{ReadRecord, reader_state, source_of};
 ghost use Rattle.csv.specs.Records.{fields_of};
 ghost use Rattle.snoop_trace.specs.Output.{BlamesWriter};
@@ -44,6 +44,8 @@ pub fn lint_text<R: Source, W: Sink>(
     ensures does { Lints form most protocol shape (R.remaining reader.old) result (W.contents writer.old) (W.contents writer.new) }
     // The first fault is the one by which reading refuses the text, and there is none where reading takes it.
     ensures first { (bytes : List ℕ) → found.first_fault (found.findings form protocol shape (records_of bytes)) ≡ found.refusal form protocol shape bytes }
+    // Each record has a line on which it begins.
+    ensures lines { (bytes : List ℕ) → length (line.record_lines bytes) ≡ length (records_of bytes) }
     // Where more cores and blocks mend all faults, those that are named are the fewest.
     ensures fewest { (bytes : List ℕ) → is_mendable (tally_of form protocol shape (records_of bytes)) ≡ true
         → AreFewest form protocol shape bytes ((tally_of form protocol shape (records_of bytes)).core + 1) ((tally_of form protocol shape (records_of bytes)).block + 1) }

@@ -2,6 +2,8 @@
 #![tactic(auto)]
 
 #[cfg(test)]
+mod failures;
+#[cfg(test)]
 mod outputs;
 #[cfg(test)]
 mod records;

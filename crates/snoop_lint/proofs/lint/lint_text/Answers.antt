@@ -1,5 +1,6 @@
 use Rattle.std.proofs.Common.{◌∙◌, ap, sym, Err}
 use Rattle.std.proofs.lemmas.Result.{err_from_is_err_and}
+use Rattle.snoop_lint.proofs.EachLine.{as_many_lines}
 use Rattle.snoop_lint.proofs.FewestLemmas.{fewest}
 use Rattle.snoop_lint.proofs.FindingLemmas.{first_is_refusal}
 use Rattle.snoop_lint.proofs.LintedLemmas.{not_written, unread}
@@ -44,3 +45,15 @@ returns-in-Ok-clause-fewest g c = fewest c.args.form c.args.protocol c.args.shap
 
 pub returns-clause-fewest : goal.returns-clause-fewest
 returns-clause-fewest g c = fewest c.args.form c.args.protocol c.args.shape
+
+pub returns-in_err-text-clause-lines : goal.returns-in_err-text-clause-lines
+returns-in_err-text-clause-lines g c = as_many_lines
+
+pub returns-in_err-report-clause-lines : goal.returns-in_err-report-clause-lines
+returns-in_err-report-clause-lines g c = as_many_lines
+
+pub returns-in-Ok-clause-lines : goal.returns-in-Ok-clause-lines
+returns-in-Ok-clause-lines g c = as_many_lines
+
+pub returns-clause-lines : goal.returns-clause-lines
+returns-clause-lines g c = as_many_lines
