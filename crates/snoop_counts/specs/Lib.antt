@@ -1,0 +1,4 @@
+pub mod Counted
+pub mod Tally
+pub mod CoreTable
+pub mod Views
