@@ -1,1 +1,2 @@
 pub mod TallyLemmas
+pub mod RowLemmas

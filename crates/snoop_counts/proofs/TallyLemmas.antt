@@ -1,10 +1,10 @@
 -- Rows of counters, and how they go up.
-use Rattle.std.proofs.Common.{◌≡◌, ℕ, ◌+◌, ◌<◌, ◌≤◌, Bool, true, false, cond, List, [], ◌∷◌, ◌++◌, filter, length, length-append, get_or, get_or-set_other, get_or-set_same, set, map, take, zero, suc, refl, sym, ap, subst, append_assoc, ◌∙◌, inl, inr, arith}
+use Rattle.std.proofs.Common.{◌≡◌, ℕ, ◌+◌, ◌<◌, ◌≤◌, Bool, true, false, cond, List, [], ◌∷◌, ◌++◌, filter, length, length-append, get_or, get_or-set_other, get_or-set_same, set, map, take, zero, suc, refl, sym, ap, append_assoc, ◌∙◌, inl, inr, arith}
 use Rattle.std.specs.Prelude.{◌≢◌, ◌&&◌, Option, Some, None, replicate, slice_get, if◌then◌else◌}
 use Rattle.std.specs.List.{range_with_len}
 use Rattle.std.specs.Option.{option_map_or}
 use Rattle.std.proofs.lemmas.Bool.{cases_eq, cases_lt, eq-eqb, ne_eqb}
-use Rattle.std.proofs.lemmas.List.{get_or-map, get_or-replicate, map_more, get_or_past, length-replicate, length-set}
+use Rattle.std.proofs.lemmas.List.{get_or-map, get_or-replicate, map_more, length-replicate, length-set, take_all}
 use Rattle.std.proofs.lemmas.List.Elements.{filter-append}
 use Rattle.std.proofs.lemmas.List.FromFn.{get_or-range_with_len}
 use Rattle.std.proofs.lemmas.Option.{get_or_from_slice_get, none-some, slice_get-get_or, slice_get_within}
@@ -244,18 +244,24 @@ tallies_none whose n = record {
       ap (λ (row : Counters). counter_in row c) (get_or-replicate n s empty_row empty_row lt) ∙ get_or-replicate 25 (number c) 0 0 below;
 }
 
--- one more item is counted
-pub tallies_item : (whose : Subjects) (seen : List Happening) (items : List Item) (place : ℕ) (entry : Item) (rows : List Counters) → slice_get items place ≡ Some entry
-    → Tallies whose rows ((seen ++ map happening.Item (take place items)) ++ happening.Item entry ∷ []) → Tallies whose rows (seen ++ map happening.Item (take (place + 1) items))
-tallies_item whose seen items place entry rows is far =
-    let lt : place < length items = slice_get_within items place entry is in
-    let one : get_or items place entry ≡ entry = get_or_from_slice_get items place entry entry is in
-    let more : map happening.Item (take (place + 1) items) ≡ map happening.Item (take place items) ++ happening.Item entry ∷ [] =
-    map_more happening.Item items place entry lt ∙ ap (λ (e : Item). map happening.Item (take place items) ++ happening.Item e ∷ []) one in
-    subst (Tallies whose rows) (append_assoc seen (map happening.Item (take place items)) (happening.Item entry ∷ []) ∙ ap (λ (l : List Happening). seen ++ l) (sym more)) far
-
 -- an item that there is, is found
-pub found : (items : List Item) (place : ℕ) → place < length items → slice_get items place ≡ None → ⊥
+pub found : {X : Type 0} (items : List X) (place : ℕ) → place < length items → slice_get items place ≡ None → ⊥
 found [] place lt none = omega arith
 found (entry ∷ items) zero lt none = none-some entry (sym none)
 found (entry ∷ items) (suc place) lt none = found items place (omega arith) none
+
+-- one more element of a list
+pub mapped_more : {X : Type 0} (f : X → Happening) (seen : List Happening) (xs : List X) (i : ℕ) (d : X) → i < length xs
+    → (seen ++ map f (take i xs)) ++ f (get_or xs i d) ∷ [] ≡ seen ++ map f (take (i + 1) xs)
+mapped_more f seen xs i d lt = append_assoc seen (map f (take i xs)) (f (get_or xs i d) ∷ []) ∙ ap (λ (l : List Happening). seen ++ l) (sym (map_more f xs i d lt))
+
+-- at the end of the list
+pub mapped_all : {X : Type 0} (f : X → Happening) (seen : List Happening) (xs : List X) (i : ℕ) → length xs ≤ i → seen ++ map f (take i xs) ≡ seen ++ map f xs
+mapped_all f seen xs i over = ap (λ l. seen ++ map f l) (take_all i xs over)
+
+-- one item more
+pub item_more : (seen : List Happening) (items : List Item) (place : ℕ) (entry : Item) → slice_get items place ≡ Some entry
+    → (seen ++ map happening.Item (take place items)) ++ happening.Item entry ∷ [] ≡ seen ++ map happening.Item (take (place + 1) items)
+item_more seen items place entry is =
+    ap (λ (e : Item). (seen ++ map happening.Item (take place items)) ++ happening.Item e ∷ []) (sym (get_or_from_slice_get items place entry entry is))
+    ∙ mapped_more happening.Item seen items place entry (slice_get_within items place entry is)

@@ -1,14 +1,15 @@
 -- Counters, a row of them for each core or block, and what they have counted.
 -- Source: this project's profile.
-use Rattle.std.specs.Prelude.{◌≡◌, ◌<◌, ℕ, ◌+◌, List, [], ◌∷◌, length, replicate, set, slice_get, slice_index, slice_index_or, slice_set, if◌then◌else◌}
+use Rattle.std.specs.Prelude.{◌≡◌, ◌<◌, ℕ, ◌+◌, true, false, List, [], ◌∷◌, length, Option, Some, None, replicate, set, slice_get, slice_index, slice_index_or, slice_set, if◌then◌else◌}
 use Rattle.std.specs.Option.{option_map_or}
 use Rattle.snoop_history.specs.Totals.{capped}
-use Rattle.snoop_counts.specs.Counted.{counted_of, counts, subject_of}
+use Rattle.snoop_counts.specs.Counted.{counted_of, counts, is_named, subject_of}
 use Rattle.snoop_counts.specs.declared.count.Count.{Count}
 use Rattle.snoop_counts.specs.declared.count.Count.TheVariants as count
 use Rattle.snoop_counts.specs.declared.count.Happening.{Happening}
 use Rattle.snoop_counts.specs.declared.count.Subjects.{Subjects}
 use Rattle.snoop_counts.specs.declared.tally.Counters.{Counters}
+use Rattle.snoop_counts.specs.declared.tally.Tally.{Tally}
 
 -- the place of a count among the counters of a row
 abbrev pub number : Count → ℕ
@@ -73,3 +74,14 @@ row_at rows subject = slice_index_or rows subject empty_row
 pub record Tallies (whose : Subjects) (rows : List Counters) (seen : List Happening) : Type 0 where
   pub long : (subject : ℕ) → subject < length rows → length (row_at rows subject).counters ≡ 25
   pub counted : (subject : ℕ) (counted : Count) → subject < length rows → counter_in (row_at rows subject) counted ≡ counted_of whose seen subject counted
+
+-- the tally is of these subjects, of which there are so many, and has counted what has happened
+pub record HasCounted (whose : Subjects) (many : ℕ) (seen : List Happening) (tally : Tally) : Type 0 where
+  pub subjects : tally.subjects ≡ whose
+  pub rows : length tally.rows ≡ many
+  pub counted : Tallies whose tally.rows seen
+
+-- the counters of a subject, or none where no line names it
+abbrev pub IsRowOf : Subjects → List Happening → ℕ → Option Counters → Type 0
+IsRowOf whose seen subject None = is_named whose seen subject ≡ false
+IsRowOf whose seen subject (Some row) = (is_named whose seen subject ≡ true) × ((counted : Count) → counter_in row counted ≡ counted_of whose seen subject counted)

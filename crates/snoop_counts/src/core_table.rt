@@ -1,7 +1,7 @@
 //! The counts of each core, as a table.
-ghost use Rattle.std.specs.Prelude.{◌≡◌, ◌<◌, ◌++◌, List, OnOk, length};
+ghost use Rattle.std.specs.Prelude.{◌≡◌, ◌<◌, ◌++◌, ℕ, List, OnOk};
 ghost use Rattle.snoop_counts.specs.CoreTable.{core_line, core_table, count_fields};
-ghost use Rattle.snoop_counts.specs.Tally.{Tallies, counter_in};
+ghost use Rattle.snoop_counts.specs.Tally.{HasCounted, counter_in};
 ghost use Rattle.snoop_counts.specs.declared.count.Happening.{Happening};
 ghost use Rattle.snoop_counts.specs.declared.count.Subjects.TheVariants.{Cores};
 
@@ -50,22 +50,22 @@ pub(crate) fn push_counts(out: &mut Vec<u8>, row: &Counters, counts: &[Count]) -
 
 // Appends the line of a core, if it has one.
 fn push_core(out: &mut Vec<u8>, tally: &Tally, core: u32) -> Result<(), NoMemory>
-    ensures { (seen : List Happening) → Tallies Cores tally.now.rows seen → core < length tally.now.rows
+    ensures { (cores : ℕ) (seen : List Happening) → HasCounted Cores cores seen tally.now → core < cores
         → OnOk result (out.new.items ≡ out.old.items ++ core_line seen core) }
 {
-    match tally.row(core) {
-        Some(row) if row.of(Count::Lines) > 0 => {
+    match tally.named(core) {
+        None => Ok(()),
+        Some(row) => {
             push_decimal(out, core as u64)?;
             push_counts(out, &row, &CORE_COUNTS)?;
             push_byte(out, b'\n')
         }
-        _ => Ok(()),
     }
 }
 
 /// Appends the table of so many cores.
 pub(crate) fn push_core_table(out: &mut Vec<u8>, tally: &Tally, cores: u32) -> Result<(), NoMemory>
-    ensures { (seen : List Happening) → Tallies Cores tally.now.rows seen → length tally.now.rows ≡ cores
+    ensures { (seen : List Happening) → HasCounted Cores cores seen tally.now
         → OnOk result (out.new.items ≡ out.old.items ++ core_table cores seen) }
 {
     push_text(

@@ -1,10 +1,9 @@
 //! Counters, a row of them for each core or block.
-ghost use Rattle.std.specs.Prelude.{◌≡◌, ◌++◌, ◌∷◌, [], List, IfOk, length, map, slice_get, replicate};
-ghost use Rattle.snoop_history.specs.declared.items.Item.{Item};
-ghost use Rattle.snoop_engine.specs.declared.taken.Taken.{Taken as Line};
-ghost use Rattle.snoop_counts.specs.Tally.{Tallies, counter_in, raised, raised_by, raised_row};
+ghost use Rattle.std.specs.Prelude.{◌≡◌, ◌<◌, ◌++◌, ◌∷◌, [], ℕ, List, IfOk, map};
+ghost use Rattle.snoop_counts.specs.Tally.{HasCounted, IsRowOf, counter_in, raised, raised_by, raised_row};
 ghost use Rattle.snoop_counts.specs.declared.count.Happening.{Happening};
 ghost use Rattle.snoop_counts.specs.declared.count.Happening.TheVariants as happening;
+ghost use Rattle.snoop_counts.specs.declared.count.Subjects.{Subjects};
 
 use crate::count::{Count, Happening, Subjects};
 use crate::counted::{counts, subject_of};
@@ -77,9 +76,7 @@ pub(crate) struct Tally {
 impl Tally {
     /// Nothing is counted yet, for so many subjects.
     pub(crate) fn new(alloc: Global, subjects: Subjects, count: u32) -> Result<Self, NoMemory>
-        ensures whose { IfOk result (λ tally. tally.subjects ≡ subjects) }
-        ensures many { IfOk result (λ tally. length tally.rows ≡ count) }
-        ensures none { IfOk result (λ tally. Tallies tally.subjects tally.rows []) }
+        ensures { IfOk result (HasCounted subjects count []) }
     {
         let empty = Counters { counters: [0; 25] };
         match BlockTable::new(alloc, count, empty) {
@@ -88,11 +85,13 @@ impl Tally {
         }
     }
 
-    /// The counters of a subject, or `None` where there is no such one.
-    pub(crate) fn row(&self, subject: u32) -> Option<Counters>
-        ensures { result ≡ slice_get self.now.rows subject }
+    /// The counters of a subject, if a line names it.
+    pub(crate) fn named(&self, subject: u32) -> Option<Counters>
+        ensures { (whose : Subjects) (many : ℕ) (seen : List Happening) → HasCounted whose many seen self.now → subject < many → IsRowOf whose seen subject result }
     {
-        self.rows.get(subject)
+        self.rows
+            .get(subject)
+            .filter(|row| row.of(Count::Lines) > 0)
     }
 
     // Counts one more for the subject.
@@ -119,9 +118,7 @@ impl Tally {
 
     /// Counts what has happened.
     pub(crate) fn add(&mut self, happening: Happening)
-        ensures whose { self.new.subjects ≡ self.old.subjects }
-        ensures many { length self.new.rows ≡ length self.old.rows }
-        ensures counted { (seen : List Happening) → Tallies self.old.subjects self.old.rows seen → Tallies self.new.subjects self.new.rows (seen ++ happening ∷ []) }
+        ensures { (whose : Subjects) (many : ℕ) (seen : List Happening) → HasCounted whose many seen self.old → HasCounted whose many (seen ++ happening ∷ []) self.new }
     {
         for count in &COUNTS {
             self.count(*count, happening);
@@ -130,9 +127,7 @@ impl Tally {
 
     /// Counts the lines of a step.
     pub(crate) fn add_lines(&mut self, step: Step, outcome: Result<Reply, Refused>, lines: &[Taken])
-        ensures whose { self.new.subjects ≡ self.old.subjects }
-        ensures many { length self.new.rows ≡ length self.old.rows }
-        ensures counted { (seen : List Happening) → Tallies self.old.subjects self.old.rows seen → Tallies self.new.subjects self.new.rows (seen ++ map (happening.Line step outcome) lines.now) }
+        ensures { (whose : Subjects) (many : ℕ) (seen : List Happening) → HasCounted whose many seen self.old → HasCounted whose many (seen ++ map (happening.Line step outcome) lines.now) self.new }
     {
         for line in lines {
             self.add(Happening::Line {
@@ -145,9 +140,7 @@ impl Tally {
 
     /// Counts the items of a history.
     pub(crate) fn add_items(&mut self, log: &Log)
-        ensures whose { self.new.subjects ≡ self.old.subjects }
-        ensures many { length self.new.rows ≡ length self.old.rows }
-        ensures counted { (seen : List Happening) → Tallies self.old.subjects self.old.rows seen → Tallies self.new.subjects self.new.rows (seen ++ map happening.Item log.now.items) }
+        ensures { (whose : Subjects) (many : ℕ) (seen : List Happening) → HasCounted whose many seen self.old → HasCounted whose many (seen ++ map happening.Item log.now.items) self.new }
     {
         for place in 0..log.len() {
             if let Some(item) = log.item(place) {

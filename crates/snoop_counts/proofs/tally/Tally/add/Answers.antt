@@ -1,5 +1,5 @@
-use Rattle.std.proofs.Common.{◌≡◌, ◌+◌, List, [], ◌∷◌, ◌++◌, get_or, refl, sym, ap, subst, ◌∙◌}
-use Rattle.snoop_counts.specs.Tally.{Tallies, all_counts, raised_by}
+use Rattle.std.proofs.Common.{◌≡◌, ◌+◌, List, get_or, refl, sym, ap, subst, ◌∙◌}
+use Rattle.snoop_counts.specs.Tally.{all_counts, raised_by}
 use Rattle.snoop_counts.specs.declared.count.Count.TheVariants.{Loads}
 use Rattle.snoop_counts.specs.declared.count.Subjects.{Subjects}
 use Rattle.snoop_counts.specs.declared.tally.Counters.{Counters}
@@ -22,9 +22,13 @@ loop-count-preserved c =
     subst (λ (new : List Counters). Raises whose c.args.happening c.args.self.now.rows new (i + 1)) is
     (raises_more whose c.args.happening c.args.self.now.rows rows i far.1 c.loop-count-test.true))
 
-pub returns-clause-counted : goal.returns-clause-counted
-returns-clause-counted c seen before =
-    let whose = c.args.self.now.subjects in
+pub returns : goal.returns
+returns c whose many seen before =
     let far = c.loop-count.invariant in
-    subst (λ (w : Subjects). Tallies w c.loop-count.self.rows (seen ++ c.args.happening ∷ [])) (sym far.0)
-    (tallies_more whose seen c.args.happening c.args.self.now.rows c.loop-count.self.rows c.loop-count.count-index c.loop-count-test.false far.1 before)
+    let old = c.args.self.now in
+    record {
+      subjects = far.0 ∙ before.subjects;
+      rows = far.1.many ∙ before.rows;
+      counted = tallies_more whose seen c.args.happening old.rows c.loop-count.self.rows c.loop-count.count-index c.loop-count-test.false
+          (subst (λ (w : Subjects). Raises w c.args.happening old.rows c.loop-count.self.rows c.loop-count.count-index) before.subjects far.1) before.counted;
+    }
