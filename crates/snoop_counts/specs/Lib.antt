@@ -2,3 +2,4 @@ pub mod Counted
 pub mod Tally
 pub mod CoreTable
 pub mod Views
+pub mod Sharers

@@ -3,5 +3,6 @@
 
 mod count;
 mod counted;
+mod core_set;
 mod core_table;
 mod tally;
