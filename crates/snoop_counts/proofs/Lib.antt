@@ -1,2 +1,3 @@
 pub mod TallyLemmas
 pub mod RowLemmas
+pub mod ViewLemmas

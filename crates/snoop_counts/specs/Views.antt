@@ -1,18 +1,12 @@
 -- What the views of counts have counted of a run.
 -- Source: this project's profile.
-use Rattle.std.specs.Prelude.{◌≡◌, ℕ, List, length, Option, IsSomeAnd}
+use Rattle.std.specs.Prelude.{ℕ, List, Option, IsSomeAnd}
 use Rattle.snoop_engine.specs.Frames.{Frame}
 use Rattle.snoop_counts.specs.Counted.{seen_in_all}
-use Rattle.snoop_counts.specs.Tally.{Tallies}
+use Rattle.snoop_counts.specs.Tally.{HasCounted}
 use Rattle.snoop_counts.specs.declared.count.Subjects.{Subjects}
 use Rattle.snoop_counts.specs.declared.tally.Tally.{Tally}
 
--- the lines of these frames are counted, for so many subjects
-pub record HasCounted (whose : Subjects) (many : ℕ) (frames : List Frame) (tally : Tally) : Type 0 where
-  pub subjects : tally.subjects ≡ whose
-  pub many : length tally.rows ≡ many
-  pub counted : Tallies whose tally.rows (seen_in_all frames)
-
 -- the run has begun, and the lines of these frames are counted
 abbrev pub HasBegun : Subjects → ℕ → List Frame → Option Tally → Type 0
-HasBegun whose many frames tally = IsSomeAnd tally (HasCounted whose many frames)
+HasBegun whose many frames tally = IsSomeAnd tally (HasCounted whose many (seen_in_all frames))

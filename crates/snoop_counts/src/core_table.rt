@@ -38,7 +38,11 @@ static CORE_COUNTS: [Count; 23] = [
 ];
 
 /// Appends the fields of the counts, a comma before each.
-pub(crate) fn push_counts(out: &mut Vec<u8>, row: &Counters, counts: &[Count]) -> Result<(), NoMemory>
+pub(crate) fn push_counts(
+    out: &mut Vec<u8>,
+    row: &Counters,
+    counts: &[Count],
+) -> Result<(), NoMemory>
     ensures { OnOk result (out.new.items ≡ out.old.items ++ count_fields counts.now (counter_in row.now)) }
 {
     for count in counts {

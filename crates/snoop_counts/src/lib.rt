@@ -1,8 +1,11 @@
 //! The views of the command `counts`: how often something happened to each core, or to each block, in a run.
 #![tactic(auto)]
 
-mod count;
-mod counted;
+mod by_core;
 mod core_set;
 mod core_table;
+mod count;
+mod counted;
 mod tally;
+
+pub use by_core::simulate_counts_by_core;

@@ -17,10 +17,11 @@ loop-count-preserved c =
     let i = c.loop-count.count-index in
     let rows = c.loop-count.self.rows in
     let is : raised_by whose (get_or all_counts i Loads) c.args.happening rows ≡ c.count.new.self.rows =
-    sym (ap (λ (t : Tally). t.rows) c.count.ensures ∙ ap (λ (w : Subjects). raised_by w (get_or all_counts i Loads) c.args.happening rows) far.0) in
-    (ap (λ (t : Tally). t.subjects) c.count.ensures ∙ far.0,
-    subst (λ (new : List Counters). Raises whose c.args.happening c.args.self.now.rows new (i + 1)) is
-    (raises_more whose c.args.happening c.args.self.now.rows rows i far.1 c.loop-count-test.true))
+    sym (ap (λ (t : Tally). t.rows) c.count.ensures ∙ ap (λ (w : Subjects). raised_by w (get_or all_counts i Loads) c.args.happening rows) far.0) in (
+      ap (λ (t : Tally). t.subjects) c.count.ensures ∙ far.0,
+      subst (λ (new : List Counters). Raises whose c.args.happening c.args.self.now.rows new (i + 1)) is
+          (raises_more whose c.args.happening c.args.self.now.rows rows i far.1 c.loop-count-test.true),
+    )
 
 pub returns : goal.returns
 returns c whose many seen before =
