@@ -1,3 +1,4 @@
 pub mod TallyLemmas
 pub mod RowLemmas
 pub mod ViewLemmas
+pub mod SharerLemmas

@@ -3,3 +3,4 @@ pub mod Tally
 pub mod CoreTable
 pub mod Views
 pub mod Sharers
+pub mod ByBlock

@@ -6,6 +6,7 @@ mod core_set;
 mod core_table;
 mod count;
 mod counted;
+mod sharers;
 mod tally;
 
 pub use by_core::simulate_counts_by_core;
