@@ -1,8 +1,8 @@
 -- The counts of each block, as a text of fields.
 -- Source: the fields and their form are this project's profile.
-use Rattle.std.specs.Prelude.{ℕ, ◌+◌, ◌*◌, ◌&&◌, Bool, List, [], ◌∷◌, ◌++◌, codes, filter, length, nat_lt, take, Option, Some, None, if◌then◌else◌}
+use Rattle.std.specs.Prelude.{ℕ, ◌+◌, List, [], ◌∷◌, ◌++◌, codes, filter, fold, insert, length, map, nat_le, take, take_while, Option, Some, None}
 use Rattle.std.specs.Fmt.{decimal}
-use Rattle.std.specs.List.{flat_map, list_any, range_with_len}
+use Rattle.std.specs.List.{flat_map, range_with_len}
 use Rattle.snoop_trace.specs.Extent.{Extent}
 use Rattle.snoop_trace.specs.Output.{address_of}
 use Rattle.snoop_history.specs.Totals.{capped}
@@ -11,6 +11,7 @@ use Rattle.snoop_engine.specs.Frames.{Frame}
 use Rattle.snoop_counts.specs.CoreTable.{count_fields}
 use Rattle.snoop_counts.specs.Counted.{counted_of, happenings, is_named}
 use Rattle.snoop_counts.specs.Sharers.{is_shared_by}
+use Rattle.snoop_counts.specs.declared.ranking.Ranked.{Ranked}
 use Rattle.snoop_counts.specs.declared.count.Count.{Count}
 use Rattle.snoop_counts.specs.declared.count.Count.TheVariants as count
 use Rattle.snoop_counts.specs.declared.count.Happening.{Happening}
@@ -44,28 +45,27 @@ block_line shape seen block =
 abbrev pub blocks_named : ℕ → List Happening → List ℕ
 blocks_named blocks seen = filter (is_named Blocks seen) (range_with_len 0 blocks)
 
--- how many requests for the block were ordered
-abbrev pub requests_of : List Happening → ℕ → ℕ
-requests_of seen block = capped (counted_of Blocks seen block count.GetS + counted_of Blocks seen block count.GetM + counted_of Blocks seen block count.PutM)
+-- a block, and how many requests for it were ordered
+abbrev pub with_requests : List Happening → ℕ → Ranked
+with_requests seen block =
+    record { block = block; requests = capped (counted_of Blocks seen block count.GetS + counted_of Blocks seen block count.GetM + counted_of Blocks seen block count.PutM) }
 
--- a block before the first that has no more requests
-abbrev pub placed : (ℕ → ℕ) → ℕ → List ℕ → List ℕ
-placed requests block [] = block ∷ []
-placed requests block (next ∷ blocks) = if nat_lt (requests block) (requests next) then next ∷ placed requests block blocks else block ∷ next ∷ blocks
+-- a block after those at the front that have as many requests or more
+abbrev pub placed : List Ranked → Ranked → List Ranked
+placed blocks next = insert blocks (length (take_while (λ other. nat_le next.requests other.requests) blocks)) next
 
--- the blocks of most requests first, and of equals the one that stands first
-abbrev pub ranked : (ℕ → ℕ) → List ℕ → List ℕ
-ranked requests [] = []
-ranked requests (block ∷ blocks) = placed requests block (ranked requests blocks)
+-- the blocks of most requests first, and of equals the one that comes first
+abbrev pub ranked : List Ranked → List Ranked
+ranked blocks = fold placed [] blocks
 
 -- the blocks that the table has: all that are named, or so many of those with most requests
-abbrev pub blocks_shown : Option ℕ → ℕ → List Happening → List ℕ
-blocks_shown None blocks seen = blocks_named blocks seen
-blocks_shown (Some most) blocks seen = take most (ranked (requests_of seen) (blocks_named blocks seen))
+abbrev pub blocks_shown : Option ℕ → List Ranked → List Ranked
+blocks_shown None named = named
+blocks_shown (Some most) named = take most (ranked named)
 
 -- the table
 abbrev pub block_table : Extent → Option ℕ → List Happening → List ℕ
-block_table shape top seen = block_header ++ flat_map (block_line shape seen) (blocks_shown top shape.blocks seen)
+block_table shape top seen = block_header ++ flat_map (λ shown. block_line shape seen shown.block) (blocks_shown top (map (with_requests seen) (blocks_named shape.blocks seen)))
 
 -- the table of a run
 abbrev pub counts_by_block : Extent → Option ℕ → List Frame → Situation → List ℕ

@@ -4,3 +4,4 @@ pub mod CoreTable
 pub mod Views
 pub mod Sharers
 pub mod ByBlock
+pub mod BlockTally

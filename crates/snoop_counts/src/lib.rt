@@ -1,11 +1,14 @@
 //! The views of the command `counts`: how often something happened to each core, or to each block, in a run.
 #![tactic(auto)]
 
+mod block_table;
+mod block_tally;
 mod by_core;
 mod core_set;
 mod core_table;
 mod count;
 mod counted;
+mod ranking;
 mod sharers;
 mod tally;
 
