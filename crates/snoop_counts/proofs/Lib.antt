@@ -2,3 +2,4 @@ pub mod TallyLemmas
 pub mod RowLemmas
 pub mod ViewLemmas
 pub mod SharerLemmas
+pub mod BlockLemmas

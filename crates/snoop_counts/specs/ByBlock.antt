@@ -1,6 +1,6 @@
 -- The counts of each block, as a text of fields.
 -- Source: the fields and their form are this project's profile.
-use Rattle.std.specs.Prelude.{ℕ, ◌+◌, List, [], ◌∷◌, ◌++◌, codes, filter, fold, insert, length, map, nat_le, take, take_while, Option, Some, None}
+use Rattle.std.specs.Prelude.{ℕ, ◌+◌, List, [], ◌∷◌, ◌++◌, codes, filter, fold, insert, length, map, nat_lt, position, take, unwrap_or, Option, Some, None}
 use Rattle.std.specs.Fmt.{decimal}
 use Rattle.std.specs.List.{flat_map, range_with_len}
 use Rattle.snoop_trace.specs.Extent.{Extent}
@@ -50,9 +50,9 @@ abbrev pub with_requests : List Happening → ℕ → Ranked
 with_requests seen block =
     record { block = block; requests = capped (counted_of Blocks seen block count.GetS + counted_of Blocks seen block count.GetM + counted_of Blocks seen block count.PutM) }
 
--- a block after those at the front that have as many requests or more
+-- a block before the first that has fewer requests, or last
 abbrev pub placed : List Ranked → Ranked → List Ranked
-placed blocks next = insert blocks (length (take_while (λ other. nat_le next.requests other.requests) blocks)) next
+placed blocks next = insert blocks (unwrap_or (position (λ other. nat_lt other.requests next.requests) blocks) (length blocks)) next
 
 -- the blocks of most requests first, and of equals the one that comes first
 abbrev pub ranked : List Ranked → List Ranked

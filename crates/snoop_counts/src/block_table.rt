@@ -49,7 +49,12 @@ fn address_of(shape: Shape, block: u32) -> u64
 }
 
 // Appends how many cores a line of the block names, how many loaded of it, and how many stored in it.
-fn push_sharing(out: &mut Vec<u8>, tally: &BlockTally, cores: u32, block: u32) -> Result<(), NoMemory>
+fn push_sharing(
+    out: &mut Vec<u8>,
+    tally: &BlockTally,
+    cores: u32,
+    block: u32,
+) -> Result<(), NoMemory>
     requires { cores ≤ 256 }
     ensures { (blocks : ℕ) (seen : List Happening) → CountsBlocks blocks seen tally.now → block < blocks
         → OnOk result (out.new.items ≡ out.old.items ++ sharing_fields cores seen block) }
@@ -63,7 +68,12 @@ fn push_sharing(out: &mut Vec<u8>, tally: &BlockTally, cores: u32, block: u32) -
 }
 
 // Appends the line of a block that a line of a step names.
-fn push_block(out: &mut Vec<u8>, shape: Shape, tally: &BlockTally, block: u32) -> Result<(), NoMemory>
+fn push_block(
+    out: &mut Vec<u8>,
+    shape: Shape,
+    tally: &BlockTally,
+    block: u32,
+) -> Result<(), NoMemory>
     ensures { (seen : List Happening) → CountsBlocks shape.blocks seen tally.now → block < shape.blocks → is_named Blocks seen block ≡ true
         → OnOk result (out.new.items ≡ out.old.items ++ block_line shape seen block) }
 {
@@ -109,7 +119,11 @@ fn blocks_named(alloc: Global, tally: &BlockTally, blocks: u32) -> Result<Vec<Ra
 }
 
 // The blocks that the table has, of those that are named.
-fn blocks_shown(alloc: Global, named: Vec<Ranked>, top: Option<u32>) -> Result<Vec<Ranked>, NoMemory>
+fn blocks_shown(
+    alloc: Global,
+    named: Vec<Ranked>,
+    top: Option<u32>,
+) -> Result<Vec<Ranked>, NoMemory>
     ensures { IfOk result (λ list. list.items ≡ blocks_shown top named.items) }
 {
     match top {
@@ -123,7 +137,12 @@ fn blocks_shown(alloc: Global, named: Vec<Ranked>, top: Option<u32>) -> Result<V
 }
 
 // Appends the lines of the blocks.
-fn push_blocks(out: &mut Vec<u8>, shape: Shape, tally: &BlockTally, blocks: &[Ranked]) -> Result<(), NoMemory>
+fn push_blocks(
+    out: &mut Vec<u8>,
+    shape: Shape,
+    tally: &BlockTally,
+    blocks: &[Ranked],
+) -> Result<(), NoMemory>
     ensures { (seen : List Happening) → CountsBlocks shape.blocks seen tally.now → All (λ shown. (shown.block < shape.blocks) × (is_named Blocks seen shown.block ≡ true)) blocks.now
         → OnOk result (out.new.items ≡ out.old.items ++ flat_map (λ shown. block_line shape seen shown.block) blocks.now) }
 {

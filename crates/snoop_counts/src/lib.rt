@@ -3,6 +3,7 @@
 
 mod block_table;
 mod block_tally;
+mod by_block;
 mod by_core;
 mod core_set;
 mod core_table;
@@ -12,4 +13,5 @@ mod ranking;
 mod sharers;
 mod tally;
 
+pub use by_block::simulate_counts_by_block;
 pub use by_core::simulate_counts_by_core;

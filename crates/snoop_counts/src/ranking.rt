@@ -1,5 +1,5 @@
 //! Blocks by how many requests for them were ordered.
-ghost use Rattle.std.specs.Prelude.{◌≡◌, ◌+◌, List, IfOk, OnOk};
+ghost use Rattle.std.specs.Prelude.{◌≡◌, ◌≤◌, ◌+◌, IfOk, OnOk, length, nat_lt, position, unwrap_or};
 ghost use Rattle.snoop_history.specs.Totals.{capped};
 ghost use Rattle.snoop_counts.specs.ByBlock.{placed, ranked};
 ghost use Rattle.snoop_counts.specs.Tally.{counter_in};
@@ -26,14 +26,22 @@ pub(crate) fn requests(row: &Counters) -> u64
         .saturating_add(row.of(Count::PutM))
 }
 
-// Puts the block after those at the front that have as many requests or more.
+// The place of the first that has fewer requests, or the end.
+fn place_of(ranked: &[Ranked], next: Ranked) -> usize
+    ensures value { result ≡ unwrap_or (position (λ other. nat_lt other.requests next.requests) ranked.now) (length ranked.now) }
+    ensures within { result ≤ length ranked.now }
+{
+    ranked
+        .iter()
+        .position(|other| other.requests < next.requests)
+        .unwrap_or(ranked.len())
+}
+
+// Puts the block before the first that has fewer requests, or last.
 fn place(ranked: &mut Vec<Ranked>, next: Ranked) -> Result<(), NoMemory>
     ensures { OnOk result (ranked.new.items ≡ placed ranked.old.items next) }
 {
-    let place = ranked
-        .iter()
-        .take_while(|other| next.requests <= other.requests)
-        .count();
+    let place = place_of(ranked, next);
     match ranked.insert(place, next) {
         Ok(()) => Ok(()),
         Err(_) => Err(NoMemory),
