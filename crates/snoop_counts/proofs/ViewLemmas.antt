@@ -7,7 +7,6 @@ use Rattle.snoop_engine.specs.Taken.{lines_of}
 use Rattle.snoop_engine.specs.Views.{shown, view_text}
 use Rattle.snoop_engine.specs.declared.taken.Taken.{Taken}
 use Rattle.snoop_counts.specs.Counted.{seen_in, seen_in_all}
-use Rattle.snoop_counts.specs.declared.count.Happening.{Happening}
 use Rattle.snoop_counts.specs.declared.count.Happening.TheVariants as happening
 
 nothing_shown : (before frames : List Frame) → shown (λ (fs : List Frame) (f : Frame). []) before frames ≡ []

@@ -1,4 +1,4 @@
-use Rattle.std.proofs.Common.{◌≡◌, ℕ, List, map}
+use Rattle.std.proofs.Common.{◌≡◌, List, map}
 use Rattle.snoop_counts.specs.BlockTally.{CountsBlocks}
 use Rattle.snoop_counts.specs.ByBlock.{blocks_named, with_requests}
 use Rattle.snoop_counts.specs.declared.count.Happening.{Happening}

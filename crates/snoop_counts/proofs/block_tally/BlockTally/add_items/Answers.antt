@@ -1,8 +1,7 @@
-use Rattle.std.proofs.Common.{◌≡◌, ◌<◌, ◌≤◌, ◌+◌, ◌++◌, List, length, map, take, sym, subst, ◌∙◌, arith}
+use Rattle.std.proofs.Common.{◌<◌, ◌≤◌, ◌+◌, ◌++◌, List, length, map, take, sym, subst, ◌∙◌, arith}
 use Rattle.snoop_counts.specs.BlockTally.{CountsBlocks}
 use Rattle.snoop_counts.specs.declared.count.Happening.{Happening}
 use Rattle.snoop_counts.specs.declared.count.Happening.TheVariants as happening
-use Rattle.snoop_counts.specs.declared.block_tally.BlockTally.{BlockTally}
 use Rattle.snoop_counts.proofs.TallyLemmas.{found, item_more, mapped_all}
 use Rattle.snoop_counts.proofs.block_tally.BlockTally.add_items.Goals as goal
 use Rattle.snoop_counts.proofs.block_tally.BlockTally.add_items.Goals.{in-Some, in_default}

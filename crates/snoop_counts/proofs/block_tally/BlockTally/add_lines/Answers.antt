@@ -1,4 +1,4 @@
-use Rattle.std.proofs.Common.{List, [], ◌∷◌, ◌++◌, None, get_or, map, subst, take}
+use Rattle.std.proofs.Common.{List, ◌++◌, None, map, subst, take}
 use Rattle.snoop_rules.specs.declared.names.CacheState.TheVariants.{I}
 use Rattle.snoop_engine.specs.declared.taken.Taken.TheVariants.{Core}
 use Rattle.snoop_counts.specs.BlockTally.{CountsBlocks}

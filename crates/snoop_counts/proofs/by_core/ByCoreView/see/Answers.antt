@@ -1,5 +1,5 @@
 use Rattle.std.proofs.Common.{List, append-nil, subst, sym}
-use Rattle.snoop_engine.specs.Views.{IsNext, frame_seen}
+use Rattle.snoop_engine.specs.Views.{frame_seen}
 use Rattle.snoop_counts.specs.Counted.{seen_in_all}
 use Rattle.snoop_counts.specs.Tally.{HasCounted}
 use Rattle.snoop_counts.specs.declared.count.Happening.{Happening}

@@ -1,4 +1,4 @@
-use Rattle.std.proofs.Common.{◌≡◌, ℕ, ◌<◌, Some, List, [], length, sym, ap, ◌∙◌, arith}
+use Rattle.std.proofs.Common.{ℕ, ◌<◌, List, [], length, sym, ap, ◌∙◌, arith}
 use Rattle.std.proofs.lemmas.Option.{get_or_from_slice_get}
 use Rattle.snoop_machine.specs.CoreSet.{has}
 use Rattle.snoop_counts.specs.Sharers.{is_shared_by}

@@ -1,8 +1,7 @@
-use Rattle.std.proofs.Common.{◌≡◌, ◌<◌, ◌≤◌, ◌+◌, ◌++◌, List, length, map, take, sym, subst, ◌∙◌, arith}
+use Rattle.std.proofs.Common.{◌<◌, ◌≤◌, ◌+◌, ◌++◌, List, length, map, take, sym, subst, ◌∙◌, arith}
 use Rattle.snoop_counts.specs.Tally.{HasCounted}
 use Rattle.snoop_counts.specs.declared.count.Happening.{Happening}
 use Rattle.snoop_counts.specs.declared.count.Happening.TheVariants as happening
-use Rattle.snoop_counts.specs.declared.tally.Tally.{Tally}
 use Rattle.snoop_counts.proofs.TallyLemmas.{found, item_more, mapped_all}
 use Rattle.snoop_counts.proofs.tally.Tally.add_items.Goals as goal
 use Rattle.snoop_counts.proofs.tally.Tally.add_items.Goals.{in-Some, in_default}
