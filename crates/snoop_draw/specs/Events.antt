@@ -3,6 +3,12 @@
 use Rattle.std.specs.Prelude.{ℕ, ◌==◌, ◌&&◌, Bool, true, false, List, [], ◌∷◌, Option, Some, None, Result, Ok, Err, nat_lt, if◌then◌else◌}
 use Rattle.snoop_trace.specs.declared.step.Step.{Step}
 use Rattle.snoop_trace.specs.declared.step.Step.TheVariants.{Ask, Order, Respond}
+use Rattle.snoop_trace.specs.declared.protocol.Protocol.{Protocol}
+use Rattle.snoop_rules.specs.Cell.{cell_of}
+use Rattle.snoop_rules.specs.declared.names.CacheAction.{CacheAction}
+use Rattle.snoop_rules.specs.declared.names.CacheAction.TheVariants.{Hit}
+use Rattle.snoop_rules.specs.declared.names.CacheCell.{CacheCell}
+use Rattle.snoop_rules.specs.declared.names.CacheEvent.TheVariants.{Load, Store}
 use Rattle.snoop_rules.specs.declared.names.CacheState.{CacheState}
 use Rattle.snoop_rules.specs.declared.names.CacheState.TheVariants as state
 use Rattle.snoop_model.specs.declared.replies.Reply.{Reply}
@@ -13,13 +19,13 @@ use Rattle.snoop_engine.specs.declared.taken.Taken.TheVariants as line
 use Rattle.snoop_draw.specs.declared.event.Event.{Event}
 use Rattle.snoop_draw.specs.declared.event.Event.TheVariants.{Before, Nothing, Asked, Ordered, Barred, Came, Missing}
 use Rattle.snoop_draw.specs.declared.marks.Mark.{Mark}
-use Rattle.snoop_draw.specs.declared.marks.Mark.TheVariants as mark
+use Rattle.snoop_draw.specs.declared.marks.Mark.TheVariants as sign
 
 -- the mark of an Ask, by what is answered
 abbrev pub ask_mark : Result Reply Refused → Mark
-ask_mark (Ok (WasIssued request)) = mark.Issued
-ask_mark (Ok answer) = mark.Done
-ask_mark (Err cause) = mark.Refused
+ask_mark (Ok (WasIssued request)) = sign.Issued
+ask_mark (Ok answer) = sign.Done
+ask_mark (Err cause) = sign.Refused
 
 -- the core that takes the response: it stands first among the lines of a Respond
 abbrev pub requestor_in : List Taken → Option ℕ
@@ -53,47 +59,50 @@ abbrev pub names_memory : ℕ → Taken → Bool
 names_memory block (line.Memory of event before) = of == block
 names_memory block _ = false
 
--- what a core in this state may do with the block
-abbrev pub may : CacheState → Mark
-may state.M = mark.MayWrite
-may state.E = mark.MayWrite
-may state.MiA = mark.MayWrite
-may state.EiA = mark.MayWrite
-may state.S = mark.MayRead
-may state.SmAd = mark.MayRead
-may state.SmD = mark.MayRead
-may _ = mark.Blank
+-- what is done is a hit
+abbrev pub is_hit_action : CacheAction → Bool
+is_hit_action Hit = true
+is_hit_action _ = false
+
+-- the row is a hit
+abbrev pub is_hit : Option CacheCell → Bool
+is_hit None = false
+is_hit (Some row) = is_hit_action row.action
+
+-- what a core in this state may do with the block: store, or at least load, where that is a hit
+abbrev pub may : Protocol → CacheState → Mark
+may protocol held = if is_hit (cell_of protocol held Store) then sign.MayWrite else (if is_hit (cell_of protocol held Load) then sign.MayRead else sign.Blank)
 
 -- what a core in this state waits for
 abbrev pub awaits : CacheState → Mark
-awaits state.IsAd = mark.AwaitsOrder
-awaits state.ImAd = mark.AwaitsOrder
-awaits state.SmAd = mark.AwaitsOrder
-awaits state.MiA = mark.AwaitsOrder
-awaits state.EiA = mark.AwaitsOrder
-awaits state.IiA = mark.AwaitsOrder
-awaits state.IsD = mark.AwaitsData
-awaits state.ImD = mark.AwaitsData
-awaits state.SmD = mark.AwaitsData
-awaits _ = mark.Blank
+awaits state.IsAd = sign.AwaitsOrder
+awaits state.ImAd = sign.AwaitsOrder
+awaits state.SmAd = sign.AwaitsOrder
+awaits state.MiA = sign.AwaitsOrder
+awaits state.EiA = sign.AwaitsOrder
+awaits state.IiA = sign.AwaitsOrder
+awaits state.IsD = sign.AwaitsData
+awaits state.ImD = sign.AwaitsData
+awaits state.SmD = sign.AwaitsData
+awaits _ = sign.Blank
 
 -- what the core does in the event, or waits for
 abbrev pub rail : Event → Option ℕ → ℕ → CacheState → Mark
 rail (Asked asking mark) sender core held = if asking == core then mark else awaits held
-rail (Ordered requestor) sender core held = if requestor == core then mark.Ordered else (if is_of sender core then mark.Sends else awaits held)
-rail (Came requestor) sender core held = if is_of requestor core then mark.Gets else awaits held
+rail (Ordered requestor) sender core held = if requestor == core then sign.Ordered else (if is_of sender core then sign.Sends else awaits held)
+rail (Came requestor) sender core held = if is_of requestor core then sign.Gets else awaits held
 rail _ sender core held = awaits held
 
 -- a wire that begins at a core with a lower number
 abbrev pub wire_from : ℕ → ℕ → Mark → Mark
-wire_from start core wire = if nat_lt start core then wire else mark.Blank
+wire_from start core wire = if nat_lt start core then wire else sign.Blank
 
 -- the wire that runs to the bus from a core with a lower number
 abbrev pub wire_at : Event → ℕ → Mark
-wire_at (Ordered start) core = wire_from start core mark.Wire
-wire_at (Barred start) core = wire_from start core mark.Broken
-wire_at (Came (Some start)) core = wire_from start core mark.Wire
-wire_at _ core = mark.Blank
+wire_at (Ordered start) core = wire_from start core sign.Wire
+wire_at (Barred start) core = wire_from start core sign.Broken
+wire_at (Came (Some start)) core = wire_from start core sign.Wire
+wire_at _ core = sign.Blank
 
 -- everything is shown
 abbrev pub shows_all : Event → Bool
@@ -108,8 +117,8 @@ shows_bus _ = false
 
 -- where the wire meets the bus
 abbrev pub tip : Event → Mark
-tip (Ordered core) = mark.Tip
-tip (Barred core) = mark.Refused
-tip (Came (Some core)) = mark.Wire
-tip Missing = mark.Refused
-tip _ = mark.Blank
+tip (Ordered core) = sign.Tip
+tip (Barred core) = sign.Refused
+tip (Came (Some core)) = sign.Wire
+tip Missing = sign.Refused
+tip _ = sign.Blank

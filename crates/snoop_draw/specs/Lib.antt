@@ -11,3 +11,4 @@ pub mod Choice
 pub mod Drawings
 pub mod Size
 pub mod Simulated
+pub mod Laws

@@ -5,41 +5,41 @@ use Rattle.std.specs.List.{flat_map, range_with_len}
 use Rattle.snoop_draw.specs.declared.marks.Charset.{Charset}
 use Rattle.snoop_draw.specs.declared.marks.Charset.TheVariants.{Unicode, Ascii}
 use Rattle.snoop_draw.specs.declared.marks.Mark.{Mark}
-use Rattle.snoop_draw.specs.declared.marks.Mark.TheVariants as mark
+use Rattle.snoop_draw.specs.declared.marks.Mark.TheVariants as sign
 
 -- a mark in Unicode, as the bytes of UTF-8
 abbrev pub unicode_text : Mark → List ℕ
-unicode_text mark.Blank = codes " "
-unicode_text mark.MayWrite = 226 ∷ 150 ∷ 147 ∷ []
-unicode_text mark.MayRead = 226 ∷ 150 ∷ 145 ∷ []
-unicode_text mark.Done = 226 ∷ 150 ∷ 160 ∷ []
-unicode_text mark.Refused = 226 ∷ 156 ∷ 151 ∷ []
-unicode_text mark.Issued = 226 ∷ 151 ∷ 139 ∷ []
-unicode_text mark.AwaitsOrder = 226 ∷ 148 ∷ 138 ∷ []
-unicode_text mark.Ordered = 226 ∷ 151 ∷ 143 ∷ []
-unicode_text mark.Sends = 226 ∷ 151 ∷ 134 ∷ []
-unicode_text mark.AwaitsData = 226 ∷ 148 ∷ 130 ∷ []
-unicode_text mark.Gets = 226 ∷ 151 ∷ 128 ∷ []
-unicode_text mark.Tip = 226 ∷ 150 ∷ 182 ∷ []
-unicode_text mark.Wire = 226 ∷ 148 ∷ 128 ∷ []
-unicode_text mark.Broken = 226 ∷ 149 ∷ 140 ∷ []
+unicode_text sign.Blank = codes " "
+unicode_text sign.MayWrite = 226 ∷ 150 ∷ 147 ∷ []
+unicode_text sign.MayRead = 226 ∷ 150 ∷ 145 ∷ []
+unicode_text sign.Done = 226 ∷ 150 ∷ 160 ∷ []
+unicode_text sign.Refused = 226 ∷ 156 ∷ 151 ∷ []
+unicode_text sign.Issued = 226 ∷ 151 ∷ 139 ∷ []
+unicode_text sign.AwaitsOrder = 226 ∷ 148 ∷ 138 ∷ []
+unicode_text sign.Ordered = 226 ∷ 151 ∷ 143 ∷ []
+unicode_text sign.Sends = 226 ∷ 151 ∷ 134 ∷ []
+unicode_text sign.AwaitsData = 226 ∷ 148 ∷ 130 ∷ []
+unicode_text sign.Gets = 226 ∷ 151 ∷ 128 ∷ []
+unicode_text sign.Tip = 226 ∷ 150 ∷ 182 ∷ []
+unicode_text sign.Wire = 226 ∷ 148 ∷ 128 ∷ []
+unicode_text sign.Broken = 226 ∷ 149 ∷ 140 ∷ []
 
 -- a mark in ASCII
 abbrev pub ascii_text : Mark → List ℕ
-ascii_text mark.Blank = codes " "
-ascii_text mark.MayWrite = codes "#"
-ascii_text mark.MayRead = codes "+"
-ascii_text mark.Done = codes "*"
-ascii_text mark.Refused = codes "x"
-ascii_text mark.Issued = codes "o"
-ascii_text mark.AwaitsOrder = codes ":"
-ascii_text mark.Ordered = codes "@"
-ascii_text mark.Sends = codes "%"
-ascii_text mark.AwaitsData = codes "|"
-ascii_text mark.Gets = codes "<"
-ascii_text mark.Tip = codes ">"
-ascii_text mark.Wire = codes "-"
-ascii_text mark.Broken = codes "~"
+ascii_text sign.Blank = codes " "
+ascii_text sign.MayWrite = codes "#"
+ascii_text sign.MayRead = codes "+"
+ascii_text sign.Done = codes "*"
+ascii_text sign.Refused = codes "x"
+ascii_text sign.Issued = codes "o"
+ascii_text sign.AwaitsOrder = codes ":"
+ascii_text sign.Ordered = codes "@"
+ascii_text sign.Sends = codes "%"
+ascii_text sign.AwaitsData = codes "|"
+ascii_text sign.Gets = codes "<"
+ascii_text sign.Tip = codes ">"
+ascii_text sign.Wire = codes "-"
+ascii_text sign.Broken = codes "~"
 
 -- a mark in the characters that are asked for
 abbrev pub mark_text : Charset → Mark → List ℕ

@@ -33,7 +33,7 @@ sender_in (Some opened) = opened.from
 -- what stands around the words of a core
 abbrev pub core_cell : Situation → ℕ → Event → Option ℕ → ℕ → Cell
 core_cell s block event sender core =
-    record { mark = may (held_in s block core); rail = rail event sender core (held_in s block core); wire = wire_at event core; next = wire_at event (core + 1) }
+    record { mark = may s.protocol (held_in s block core); rail = rail event sender core (held_in s block core); wire = wire_at event core; next = wire_at event (core + 1) }
 
 -- a core says something where it takes a row, or where everything is shown
 abbrev pub shows_core : ℕ → Event → List Taken → ℕ → Bool

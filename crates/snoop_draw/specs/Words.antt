@@ -41,11 +41,11 @@ core_words s block core = state_words (state_at s core block) ++ kept_words s co
 
 -- the values of so many words
 abbrev pub data_words : ℕ → Data → List ℕ
-data_words count data = flat_map (λ word. codes " " ++ decimal (word_at data word)) (range_with_len 0 count)
+data_words count values = flat_map (λ word. codes " " ++ decimal (word_at values word)) (range_with_len 0 count)
 
 -- the values that a message carries, if any
 abbrev pub carried_words : ℕ → Payload → Data → List ℕ
-carried_words count payload data = if carries_value payload then data_words count data else []
+carried_words count payload values = if carries_value payload then data_words count values else []
 
 -- the message of an open transaction, for the core that asked for it
 abbrev pub message_words : ℕ → Open → List ℕ

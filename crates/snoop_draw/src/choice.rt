@@ -1,5 +1,5 @@
 //! Which steps are drawn.
-ghost use Rattle.std.specs.Prelude.{◌≡◌, ◌↔◌, IsTrue};
+ghost use Rattle.std.specs.Prelude.{◌≡◌, ◌≤◌, ◌↔◌, IsTrue};
 
 use snoop_trace::Shape;
 use std::marker::Model;
@@ -25,11 +25,14 @@ pub struct Choice {
 }
 
 impl Model for Choice {
+    ghost use Rattle.std.specs.Prelude.{◌≤◌};
     ghost use Rattle.snoop_draw.specs.Choices.{Chosen, chosen, fields};
 
     ghost Value = { Chosen };
 
     ghost view = { chosen };
+
+    ghost invariant = { λ c. 1 ≤ c.from };
 
     ghost inverse = { fields };
 }
@@ -67,7 +70,8 @@ impl Choice {
 
     /// The number of the first step that is drawn.
     pub fn from(self) -> u64
-        ensures { result ≡ self.from }
+        ensures value { result ≡ self.from }
+        ensures within { 1 ≤ result }
     {
         self.from
     }

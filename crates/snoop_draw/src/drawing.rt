@@ -59,24 +59,6 @@ impl Drawing {
         push_right(out, self.style.widths.number, &digits)
     }
 
-    // Appends the panels as they stand.
-    fn push_standing_panels(&self, out: &mut Vec<u8>, machine: &Machine) -> Result<(), NoMemory>
-        ensures { OnOk result (out.new.items ≡ out.old.items ++ flat_map (panel_text self.now.style machine.now.situation Before []) self.now.panels) }
-    {
-        for panel in &self.panels {
-            push_panel(
-                out,
-                self.alloc,
-                self.style,
-                machine,
-                panel,
-                Event::Before,
-                &[],
-            )?;
-        }
-        Ok(())
-    }
-
     // Appends the first row: the machine after so many steps.
     fn push_standing(
         &self,
@@ -87,44 +69,8 @@ impl Drawing {
         ensures { OnOk result (out.new.items ≡ out.old.items ++ standing_text self.now number machine.now.situation) }
     {
         self.push_number(out, number)?;
-        self.push_standing_panels(out, machine)?;
+        push_standing_panels(out, self.alloc, self.style, machine, &self.panels)?;
         push_text(out, first_words(number))
-    }
-
-    // Appends what a row shows of a panel at the step.
-    fn push_panel_seen(
-        &self,
-        out: &mut Vec<u8>,
-        machine: &Machine,
-        seen: &Seen<'_>,
-        panel: &Panel,
-    ) -> Result<(), NoMemory>
-        ensures { OnOk result (out.new.items ≡ out.old.items ++ panel_seen self.now.style machine.now.situation seen.now.block seen.now.step seen.now.outcome seen.now.lines.now panel.now) }
-    {
-        let event = event_in(
-            panel.block(),
-            seen.block,
-            seen.step,
-            seen.outcome,
-            seen.lines,
-        );
-        push_panel(
-            out, self.alloc, self.style, machine, panel, event, seen.lines,
-        )
-    }
-
-    fn push_panels_seen(
-        &self,
-        out: &mut Vec<u8>,
-        machine: &Machine,
-        seen: &Seen<'_>,
-    ) -> Result<(), NoMemory>
-        ensures { OnOk result (out.new.items ≡ out.old.items ++ flat_map (panel_seen self.now.style machine.now.situation seen.now.block seen.now.step seen.now.outcome seen.now.lines.now) self.now.panels) }
-    {
-        for panel in &self.panels {
-            self.push_panel_seen(out, machine, seen, panel)?;
-        }
-        Ok(())
     }
 
     // Appends the row of the step.
@@ -137,7 +83,7 @@ impl Drawing {
         ensures { OnOk result (out.new.items ≡ out.old.items ++ row_seen self.now machine.now.situation.shape seen.now.number machine.now.situation seen.now.block seen.now.step seen.now.outcome seen.now.lines.now) }
     {
         self.push_number(out, seen.number)?;
-        self.push_panels_seen(out, machine, seen)?;
+        push_panels_seen(out, self.alloc, self.style, machine, seen, &self.panels)?;
         push_text(out, "  ")?;
         push_line(out, machine.shape(), seen.step, seen.outcome)
     }
@@ -198,6 +144,60 @@ impl Drawing {
     }
 }
 
+// Appends the panels as they stand.
+fn push_standing_panels(
+    out: &mut Vec<u8>,
+    alloc: Global,
+    style: Style,
+    machine: &Machine,
+    panels: &[Panel],
+) -> Result<(), NoMemory>
+    ensures { OnOk result (out.new.items ≡ out.old.items ++ flat_map (panel_text style machine.now.situation Before []) panels.now) }
+{
+    for panel in panels {
+        push_panel(out, alloc, style, machine, panel, Event::Before, &[])?;
+    }
+    Ok(())
+}
+
+// Appends what a row shows of a panel at the step.
+fn push_panel_seen(
+    out: &mut Vec<u8>,
+    alloc: Global,
+    style: Style,
+    machine: &Machine,
+    seen: &Seen<'_>,
+    panel: &Panel,
+) -> Result<(), NoMemory>
+    ensures { OnOk result (out.new.items ≡ out.old.items ++ panel_seen style machine.now.situation seen.now.block seen.now.step seen.now.outcome seen.now.lines.now panel.now) }
+{
+    let event = event_in(
+        panel.block(),
+        seen.block,
+        seen.step,
+        seen.outcome,
+        seen.lines,
+    );
+    push_panel(out, alloc, style, machine, panel, event, seen.lines)
+}
+
+// Appends what a row shows of the panels at the step.
+fn push_panels_seen(
+    out: &mut Vec<u8>,
+    alloc: Global,
+    style: Style,
+    machine: &Machine,
+    seen: &Seen<'_>,
+    panels: &[Panel],
+) -> Result<(), NoMemory>
+    ensures { OnOk result (out.new.items ≡ out.old.items ++ flat_map (panel_seen style machine.now.situation seen.now.block seen.now.step seen.now.outcome seen.now.lines.now) panels.now) }
+{
+    for panel in panels {
+        push_panel_seen(out, alloc, style, machine, seen, panel)?;
+    }
+    Ok(())
+}
+
 // Whether something of this block, if of any, is among what is chosen.
 fn is_chosen(block: Option<u32>, of: Option<u32>) -> bool
     ensures { result ≡ is_chosen block of }
@@ -224,7 +224,7 @@ impl View for Drawing {
 
     ghost heading = { λ sheet protocol shape. beginning_text sheet protocol shape };
 
-    ghost shows = { λ sheet protocol shape frames frame. rows_at sheet shape (length frames + 1) frame };
+    ghost shows = { λ sheet protocol shape frames frame. rows_at sheet shape (1 + length frames) frame };
 
     ghost ending = { λ sheet protocol shape frames final. legend_text sheet.style.charset };
 

@@ -6,7 +6,7 @@ ghost use Rattle.snoop_draw.specs.Events.{ask_mark, awaits, event_in, event_of, 
 use crate::marks::Mark;
 use snoop_engine::Taken;
 use snoop_machine::{Refused, Reply};
-use snoop_rules::CacheState;
+use snoop_rules::{CacheState, Protocol, may_load, may_store};
 use snoop_trace::Step;
 
 /// What happens in a panel.
@@ -149,14 +149,16 @@ pub(crate) fn any_of_memory(lines: &[Taken], block: u32) -> bool
     lines.iter().any(|taken| names_memory(taken, block))
 }
 
-/// What a core in this state may do with the block.
-pub(crate) fn may(state: CacheState) -> Mark
-    ensures { result ≡ may state }
+/// What a core in this state may do with the block: store, or at least load, where that is a hit.
+pub(crate) fn may(protocol: Protocol, state: CacheState) -> Mark
+    ensures { result ≡ may protocol state }
 {
-    match state {
-        CacheState::E | CacheState::M | CacheState::EiA | CacheState::MiA => Mark::MayWrite,
-        CacheState::S | CacheState::SmAd | CacheState::SmD => Mark::MayRead,
-        _ => Mark::Blank,
+    if may_store(protocol, state) {
+        Mark::MayWrite
+    } else if may_load(protocol, state) {
+        Mark::MayRead
+    } else {
+        Mark::Blank
     }
 }
 

@@ -50,8 +50,8 @@ fn place(shape: Shape, block: u32, core: u32) -> usize
 }
 
 // Notes in the table what the step asks for.
-fn note(table: &mut [bool], shape: Shape, step: Step)
-    ensures { (steps : List Given) → IsAskedTable shape steps table.old → IsAskedTable shape (steps ++ step ∷ []) table.new }
+fn note(table: &mut Vec<bool>, shape: Shape, step: Step)
+    ensures { (steps : List Given) → IsAskedTable shape steps table.old.items → IsAskedTable shape (steps ++ step ∷ []) table.new.items }
 {
     if let Step::Ask {
         core,

@@ -1,10 +1,6 @@
 //! What a line shows of one panel.
-ghost use Rattle.std.specs.Prelude.{◌≡◌, ◌++◌, ◌||◌, IfOk, OnOk, unwrap_or};
-ghost use Rattle.std.specs.List.{list_any};
-ghost use Rattle.snoop_rules.specs.declared.names.CacheState.TheVariants.{I};
-ghost use Rattle.snoop_engine.specs.Taken.{state_at};
-ghost use Rattle.snoop_model.specs.Pictures.Situation.{picture_of};
-ghost use Rattle.snoop_draw.specs.Events.{names_core, names_memory};
+ghost use Rattle.std.specs.Prelude.{◌≡◌, ◌++◌, IfOk, OnOk};
+ghost use Rattle.std.specs.List.{flat_map};
 ghost use Rattle.snoop_draw.specs.Rows.{bus_said, bus_text, core_cell, core_said, core_text, held_in, link_of, memory_column, memory_said, panel_text, sender_in, shows_core, shows_memory};
 
 use crate::cells::{Cell, Link, Style, push_cell, push_field, push_link};
@@ -49,26 +45,26 @@ fn sender_in(opened: Option<Open>) -> Option<u32>
     }
 }
 
-fn core_cell(machine: &Machine, moment: Moment<'_>, core: u32) -> Cell
-    ensures { result ≡ core_cell machine.now.situation moment.block moment.event moment.sender core }
+fn core_cell(machine: &Machine, moment: &Moment<'_>, core: u32) -> Cell
+    ensures { result ≡ core_cell machine.now.situation moment.now.block moment.now.event moment.now.sender core }
 {
     let state = held_in(machine, moment.block, core);
     Cell {
-        mark: may(state),
+        mark: may(machine.protocol(), state),
         rail: rail(moment.event, moment.sender, core, state),
         wire: wire_at(moment.event, core as u64),
         next: wire_at(moment.event, core as u64 + 1),
     }
 }
 
-fn shows_core(moment: Moment<'_>, core: u32) -> bool
-    ensures { result ≡ shows_core moment.block moment.event moment.lines.now core }
+fn shows_core(moment: &Moment<'_>, core: u32) -> bool
+    ensures { result ≡ shows_core moment.now.block moment.now.event moment.now.lines.now core }
 {
     shows_all(moment.event) || any_of_core(moment.lines, moment.block, core)
 }
 
-fn shows_memory(moment: Moment<'_>) -> bool
-    ensures { result ≡ shows_memory moment.block moment.event moment.lines.now }
+fn shows_memory(moment: &Moment<'_>) -> bool
+    ensures { result ≡ shows_memory moment.now.block moment.now.event moment.now.lines.now }
 {
     shows_all(moment.event) || any_of_memory(moment.lines, moment.block)
 }
@@ -77,10 +73,10 @@ fn shows_memory(moment: Moment<'_>) -> bool
 fn core_said(
     alloc: Global,
     machine: &Machine,
-    moment: Moment<'_>,
+    moment: &Moment<'_>,
     core: u32,
 ) -> Result<Vec<u8>, NoMemory>
-    ensures { IfOk result (λ words. words.items ≡ core_said machine.now.situation moment.block moment.event moment.lines.now core) }
+    ensures { IfOk result (λ words. words.items ≡ core_said machine.now.situation moment.now.block moment.now.event moment.now.lines.now core) }
 {
     if shows_core(moment, core) {
         core_words(alloc, machine, moment.block, core)
@@ -90,8 +86,8 @@ fn core_said(
 }
 
 // What the bus says in the line, if anything.
-fn bus_said(alloc: Global, machine: &Machine, moment: Moment<'_>) -> Result<Vec<u8>, NoMemory>
-    ensures { IfOk result (λ words. words.items ≡ bus_said machine.now.situation moment.block moment.event) }
+fn bus_said(alloc: Global, machine: &Machine, moment: &Moment<'_>) -> Result<Vec<u8>, NoMemory>
+    ensures { IfOk result (λ words. words.items ≡ bus_said machine.now.situation moment.now.block moment.now.event) }
 {
     if shows_bus(moment.event) {
         bus_words(alloc, machine, moment.block)
@@ -101,8 +97,8 @@ fn bus_said(alloc: Global, machine: &Machine, moment: Moment<'_>) -> Result<Vec<
 }
 
 // What memory says in the line, if anything.
-fn memory_said(alloc: Global, machine: &Machine, moment: Moment<'_>) -> Result<Vec<u8>, NoMemory>
-    ensures { IfOk result (λ words. words.items ≡ memory_said machine.now.situation moment.block moment.event moment.lines.now) }
+fn memory_said(alloc: Global, machine: &Machine, moment: &Moment<'_>) -> Result<Vec<u8>, NoMemory>
+    ensures { IfOk result (λ words. words.items ≡ memory_said machine.now.situation moment.now.block moment.now.event moment.now.lines.now) }
 {
     if shows_memory(moment) {
         memory_words(alloc, machine, moment.block)
@@ -131,10 +127,10 @@ fn push_core(
     alloc: Global,
     style: Style,
     machine: &Machine,
-    moment: Moment<'_>,
+    moment: &Moment<'_>,
     core: u32,
 ) -> Result<(), NoMemory>
-    ensures { OnOk result (out.new.items ≡ out.old.items ++ core_text style machine.now.situation moment.block moment.event moment.sender moment.lines.now core) }
+    ensures { OnOk result (out.new.items ≡ out.old.items ++ core_text style machine.now.situation moment.now.block moment.now.event moment.now.sender moment.now.lines.now core) }
 {
     let words = core_said(alloc, machine, moment, core)?;
     let cell = core_cell(machine, moment, core);
@@ -146,9 +142,9 @@ fn push_bus(
     alloc: Global,
     style: Style,
     machine: &Machine,
-    moment: Moment<'_>,
+    moment: &Moment<'_>,
 ) -> Result<(), NoMemory>
-    ensures { OnOk result (out.new.items ≡ out.old.items ++ bus_text style machine.now.situation moment.block moment.event moment.sender moment.lines.now) }
+    ensures { OnOk result (out.new.items ≡ out.old.items ++ bus_text style machine.now.situation moment.now.block moment.now.event moment.now.sender moment.now.lines.now) }
 {
     let words = bus_said(alloc, machine, moment)?;
     let is_met = any_of_memory(moment.lines, moment.block);
@@ -166,9 +162,9 @@ fn push_memory(
     alloc: Global,
     style: Style,
     machine: &Machine,
-    moment: Moment<'_>,
+    moment: &Moment<'_>,
 ) -> Result<(), NoMemory>
-    ensures { OnOk result (out.new.items ≡ out.old.items ++ memory_column style machine.now.situation moment.block moment.event moment.lines.now) }
+    ensures { OnOk result (out.new.items ≡ out.old.items ++ memory_column style machine.now.situation moment.now.block moment.now.event moment.now.lines.now) }
 {
     let words = memory_said(alloc, machine, moment)?;
     push_field(out, style.charset, Mark::Blank, style.widths.memory, &words)
@@ -179,10 +175,10 @@ fn push_cores(
     alloc: Global,
     style: Style,
     machine: &Machine,
-    moment: Moment<'_>,
+    moment: &Moment<'_>,
     cores: &[u32],
 ) -> Result<(), NoMemory>
-    ensures { OnOk result (out.new.items ≡ out.old.items ++ flat_map (core_text style machine.now.situation moment.block moment.event moment.sender moment.lines.now) cores.now) }
+    ensures { OnOk result (out.new.items ≡ out.old.items ++ flat_map (core_text style machine.now.situation moment.now.block moment.now.event moment.now.sender moment.now.lines.now) cores.now) }
 {
     for core in cores {
         push_core(out, alloc, style, machine, moment, *core)?;
@@ -210,7 +206,7 @@ pub(crate) fn push_panel(
         lines,
     };
     push_text(out, "  ")?;
-    push_cores(out, alloc, style, machine, moment, panel.cores())?;
-    push_bus(out, alloc, style, machine, moment)?;
-    push_memory(out, alloc, style, machine, moment)
+    push_cores(out, alloc, style, machine, &moment, panel.cores())?;
+    push_bus(out, alloc, style, machine, &moment)?;
+    push_memory(out, alloc, style, machine, &moment)
 }

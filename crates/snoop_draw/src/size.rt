@@ -1,5 +1,5 @@
 //! How large a drawing is.
-ghost use Rattle.std.specs.Prelude.{◌≡◌, ◌↔◌, ◌<◌, ◌^◌, IsTrue, length, min};
+ghost use Rattle.std.specs.Prelude.{◌≡◌, ◌↔◌, ◌-◌, ◌^◌, IsTrue, min};
 ghost use Rattle.snoop_draw.specs.Size.{IsSmall, columns_of, steps_within};
 
 use crate::choice::Choice;
@@ -8,15 +8,22 @@ use crate::panels::Panel;
 /// The most cells of a drawing.
 const MAX_CELLS: u64 = 1_000_000;
 
+// The smaller of two numbers.
+fn smaller(one: u64, other: u64) -> u64
+    ensures { result ≡ min one other }
+{
+    if one < other { one } else { other }
+}
+
 // How many of so many steps have a number that is chosen.
 fn steps_within(choice: Choice, count: u64) -> u64
     ensures { result ≡ steps_within choice count }
 {
-    let end = choice.to().min(count);
-    if end < choice.from() {
+    let last = smaller(choice.to(), count);
+    if last < choice.from() {
         return 0;
     }
-    end - choice.from() + 1
+    last - choice.from() + 1
 }
 
 // How many columns the panels have, at most the largest number.

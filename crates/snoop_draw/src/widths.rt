@@ -1,6 +1,5 @@
 //! How wide the columns of a drawing are.
-ghost use Rattle.std.specs.Prelude.{◌≡◌, ◌<◌, ◌≤◌, ◌^◌, length};
-ghost use Rattle.std.specs.Fmt.{decimal};
+ghost use Rattle.std.specs.Prelude.{◌≡◌, ◌≤◌, max};
 ghost use Rattle.snoop_draw.specs.Widths.{digits, most_stored, stored, widths_for};
 
 use itoa::Buffer;
@@ -38,13 +37,20 @@ fn stored(step: Step) -> u64
     }
 }
 
+// The larger of two numbers.
+fn larger(one: u64, other: u64) -> u64
+    ensures { result ≡ max one other }
+{
+    if one < other { other } else { one }
+}
+
 // The largest value that the steps store, or 0.
 fn most_stored(steps: &[Step]) -> u64
     ensures { result ≡ most_stored steps.now }
 {
     let mut most = 0;
     for step in steps {
-        most = most.max(stored(*step));
+        most = larger(most, stored(*step));
     }
     most
 }
@@ -56,7 +62,7 @@ pub(crate) fn widths_for(shape: Shape, steps: &[Step]) -> Widths
     shape.within_limits();
     let values = shape.words() as usize * (digits(most_stored(steps)) + 1) - 1;
     Widths {
-        number: digits(steps.len() as u64).max(4),
+        number: larger(digits(steps.len() as u64) as u64, 4) as usize,
         core: 8 + values + digits(shape.blocks() as u64),
         bus: 14 + values + digits(shape.cores() as u64),
         memory: 9 + values,

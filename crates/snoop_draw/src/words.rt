@@ -1,6 +1,6 @@
 //! What a column says of a block: a core its state, its values and its place in the queue, the bus the message of the open
 //! transaction, memory its state and its values.
-ghost use Rattle.std.specs.Prelude.{◌≡◌, ◌++◌, codes, IfOk, OnOk};
+ghost use Rattle.std.specs.Prelude.{◌≡◌, ◌≤◌, ◌++◌, IfOk, OnOk};
 ghost use Rattle.std.specs.Fmt.{decimal};
 ghost use Rattle.snoop_rules.specs.Names.{memory_state_name};
 ghost use Rattle.snoop_rules.specs.Takers.{carries_value};
@@ -114,12 +114,12 @@ fn carries(payload: Payload) -> bool
     }
 }
 
-fn push_data(out: &mut Vec<u8>, count: u32, data: Words) -> Result<(), NoMemory>
+fn push_data(out: &mut Vec<u8>, count: u32, values: Words) -> Result<(), NoMemory>
     requires { count ≤ 64 }
-    ensures { OnOk result (out.new.items ≡ out.old.items ++ data_words count data) }
+    ensures { OnOk result (out.new.items ≡ out.old.items ++ data_words count values) }
 {
     for word in 0..count {
-        push_numbered(out, " ", data.at(word))?;
+        push_numbered(out, " ", values.at(word))?;
     }
     Ok(())
 }
@@ -128,13 +128,13 @@ fn push_carried(
     out: &mut Vec<u8>,
     count: u32,
     payload: Payload,
-    data: Words,
+    values: Words,
 ) -> Result<(), NoMemory>
     requires { count ≤ 64 }
-    ensures { OnOk result (out.new.items ≡ out.old.items ++ carried_words count payload data) }
+    ensures { OnOk result (out.new.items ≡ out.old.items ++ carried_words count payload values) }
 {
     if carries(payload) {
-        push_data(out, count, data)
+        push_data(out, count, values)
     } else {
         Ok(())
     }

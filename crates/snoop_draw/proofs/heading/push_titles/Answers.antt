@@ -1,0 +1,12 @@
+use Rattle.snoop_rules.proofs.TextLemmas.{piece_more, pieces_all}
+use Rattle.snoop_draw.specs.Headings.{title_line}
+use Rattle.snoop_draw.proofs.PanelLemmas.{nothing}
+use Rattle.snoop_draw.proofs.heading.push_titles.Goals as goal
+
+pub loop-panel-preserved : goal.loop-panel-preserved
+loop-panel-preserved c =
+    piece_more (title_line c.args.style c.args.shape) c.args.panels.now c.loop-panel.panel-index nothing c.args.out.now.items c.loop-panel.out.items c.push_title.new.out.items
+    c.loop-panel-test.true c.loop-panel.invariant c.in_ok-push_title.ensures
+
+pub returns : goal.returns
+returns c = pieces_all (title_line c.args.style c.args.shape) c.args.panels.now c.loop-panel.panel-index c.args.out.now.items c.loop-panel.out.items c.loop-panel-test.false c.loop-panel.invariant
