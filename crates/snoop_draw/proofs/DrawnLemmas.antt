@@ -14,7 +14,11 @@ use Rattle.snoop_draw.specs.declared.marks.Charset.{Charset}
 use Rattle.snoop_draw.specs.Choices.{Chosen}
 use Rattle.snoop_draw.specs.Drawings.{Sheet, beginning_text, drawing_text, rows_at, rows_from, sheet_for}
 use Rattle.snoop_draw.specs.Headings.{legend_text}
-use Rattle.snoop_draw.specs.Simulated.{drawing}
+use Rattle.snoop_draw.specs.Panels.{Panel, panels_for}
+use Rattle.snoop_draw.specs.Simulated.{IsDrawable, drawing}
+use Rattle.snoop_draw.specs.Size.{IsSmall}
+use Rattle.snoop_draw.specs.Widths.{widths_for}
+use Rattle.snoop_draw.specs.declared.widths.Widths.{Widths}
 
 -- what is shown of frames, the first of which comes after these
 shown_rows : (sheet : Sheet) (shape : Extent) (before frames : List Frame) → shown (λ seen frame. rows_at sheet shape (1 + length seen) frame) before frames ≡ rows_from sheet shape (1 + length before) frames
@@ -43,7 +47,7 @@ text_of_steps protocol shape charset choice steps frames final whole =
     ap (λ (given : List Step). sheet_text protocol shape (sheet_for shape charset choice given) frames final) (sym whole) ∙ whole_text protocol shape charset choice frames final
 
 -- a run that was shown was drawn
-pub shown_is_drawn : (protocol : Protocol) (shape : Extent) (charset : Charset) (choice : Chosen) (steps : List Step) (old new : Option (List ℕ))
+shown_is_drawn : (protocol : Protocol) (shape : Extent) (charset : Charset) (choice : Chosen) (steps : List Step) (old new : Option (List ℕ))
     → ShowsRun protocol shape (sheet_text protocol shape (sheet_for shape charset choice steps)) steps old new → ShowsRun protocol shape (drawing protocol shape charset choice) steps old new
 shown_is_drawn protocol shape charset choice steps old new h =
     record {
@@ -56,7 +60,7 @@ shown_is_drawn protocol shape charset choice steps old new h =
     }
 
 -- and so was a beginning of it
-pub begun_is_drawn : (protocol : Protocol) (shape : Extent) (charset : Charset) (choice : Chosen) (steps : List Step) (old new : Option (List ℕ))
+begun_is_drawn : (protocol : Protocol) (shape : Extent) (charset : Charset) (choice : Chosen) (steps : List Step) (old new : Option (List ℕ))
     → BeginsToShow protocol shape (sheet_text protocol shape (sheet_for shape charset choice steps)) steps old new → BeginsToShow protocol shape (drawing protocol shape charset choice) steps old new
 begun_is_drawn protocol shape charset choice steps old new h =
     record {
@@ -67,3 +71,29 @@ begun_is_drawn protocol shape charset choice steps old new h =
       rows = h.rows;
       output = subst (λ (t : List ℕ). AppendsFront old new t) (text_of_steps protocol shape charset choice steps h.frames h.final h.run.whole) h.output;
     }
+
+-- the sheet that was made is that for these steps
+pub same_sheet : (shape : Extent) (charset : Charset) (choice : Chosen) (steps : List Step) (sheet : Sheet) (widths : Widths) (panels : List Panel) (block : Option ℕ)
+    → sheet ≡ record { style = record { charset = charset; widths = widths }; panels = panels; choice = choice }
+    → widths ≡ widths_for shape steps → panels ≡ panels_for shape steps block → block ≡ choice.block → sheet ≡ sheet_for shape charset choice steps
+same_sheet shape charset choice steps sheet widths panels block made wide shown of =
+    let of_widths : Widths → Sheet = λ w. record { style = record { charset = charset; widths = w }; panels = panels; choice = choice } in
+    let of_panels : List Panel → Sheet = λ ps. record { style = record { charset = charset; widths = widths_for shape steps }; panels = ps; choice = choice } in
+    made ∙ ap of_widths wide ∙ ap of_panels (shown ∙ ap (panels_for shape steps) of)
+
+-- what the view of that sheet showed was drawn
+pub drawn_by : (protocol : Protocol) (shape : Extent) (charset : Charset) (choice : Chosen) (steps : List Step) (old new : Option (List ℕ)) (sheet : Sheet)
+    → sheet ≡ sheet_for shape charset choice steps → ShowsRun protocol shape (sheet_text protocol shape sheet) steps old new → ShowsRun protocol shape (drawing protocol shape charset choice) steps old new
+drawn_by protocol shape charset choice steps old new sheet same h =
+    shown_is_drawn protocol shape charset choice steps old new (subst (λ (s : Sheet). ShowsRun protocol shape (sheet_text protocol shape s) steps old new) same h)
+
+pub begun_by : (protocol : Protocol) (shape : Extent) (charset : Charset) (choice : Chosen) (steps : List Step) (old new : Option (List ℕ)) (sheet : Sheet)
+    → sheet ≡ sheet_for shape charset choice steps → BeginsToShow protocol shape (sheet_text protocol shape sheet) steps old new → BeginsToShow protocol shape (drawing protocol shape charset choice) steps old new
+begun_by protocol shape charset choice steps old new sheet same h =
+    begun_is_drawn protocol shape charset choice steps old new (subst (λ (s : Sheet). BeginsToShow protocol shape (sheet_text protocol shape s) steps old new) same h)
+
+-- panels that are few enough are those of the steps
+pub drawable_by : (shape : Extent) (choice : Chosen) (steps : List Step) (panels : List Panel) (block : Option ℕ)
+    → panels ≡ panels_for shape steps block → block ≡ choice.block → IsSmall choice (length steps) panels → IsDrawable shape choice steps
+drawable_by shape choice steps panels block shown of small =
+    subst (λ (ps : List Panel). IsSmall choice (length steps) ps) (shown ∙ ap (panels_for shape steps) of) small

@@ -26,8 +26,8 @@ right_text width words = marks_text Ascii Blank (width - length words) ++ words
 
 -- the mark, or the wire where there is none
 abbrev pub or_wire : Mark → Mark → Mark
-or_wire Blank wire = wire
-or_wire mark wire = mark
+or_wire Blank other = other
+or_wire mark other = mark
 
 -- the cell of a core: its mark, its words, its rail, and two characters of what runs on from there
 abbrev pub cell_text : Charset → ℕ → Cell → List ℕ → List ℕ

@@ -76,9 +76,11 @@ bus_text style s block event sender lines =
 abbrev pub memory_column : Style → Situation → ℕ → Event → List Taken → List ℕ
 memory_column style s block event lines = field_text style.charset Blank style.widths.memory (memory_said s block event lines)
 
--- what a line shows of a panel: the column of each core, the bus, and memory
+-- what a line shows of a block: the column of each of these cores, the bus, and memory
+abbrev pub moment_text : Style → Situation → ℕ → Event → Option ℕ → List Taken → List ℕ → List ℕ
+moment_text style s block event sender lines cores =
+    codes "  " ++ flat_map (core_text style s block event sender lines) cores ++ bus_text style s block event sender lines ++ memory_column style s block event lines
+
+-- what a line shows of a panel
 abbrev pub panel_text : Style → Situation → Event → List Taken → Panel → List ℕ
-panel_text style s event lines panel =
-    let sender = sender_in (picture_of s panel.block).transaction in
-    codes "  " ++ flat_map (core_text style s panel.block event sender lines) panel.cores
-    ++ bus_text style s panel.block event sender lines ++ memory_column style s panel.block event lines
+panel_text style s event lines panel = moment_text style s panel.block event (sender_in (picture_of s panel.block).transaction) lines panel.cores

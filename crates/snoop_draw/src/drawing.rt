@@ -3,6 +3,7 @@ ghost use Rattle.std.specs.Prelude.{◌≡◌, ◌+◌, ◌==◌, ◌++◌, [], 
 ghost use Rattle.std.specs.Fmt.{decimal};
 ghost use Rattle.std.specs.List.{flat_map};
 ghost use Rattle.snoop_model.specs.Pictures.Situation.{reset};
+ghost use Rattle.snoop_engine.specs.Line.{line_text};
 ghost use Rattle.snoop_draw.specs.Cells.{right_text};
 ghost use Rattle.snoop_draw.specs.Drawings.{beginning_text, first_words, is_chosen, is_drawn, panel_seen, row_seen, rows_seen, standing_text};
 ghost use Rattle.snoop_draw.specs.Rows.{panel_text};
@@ -10,14 +11,14 @@ ghost use Rattle.snoop_draw.specs.declared.event.Event.TheVariants.{Before};
 
 use crate::cells::{Style, push_right};
 use crate::choice::Choice;
-use crate::event::{Event, event_in, is_of};
+use crate::event::{Event, block_of, event_in, is_of};
 use crate::heading::{push_heading, push_legend};
 use crate::panels::Panel;
 use crate::row::push_panel;
-use snoop_engine::{Seen, View, push_line};
-use snoop_machine::Machine;
-use snoop_trace::streams::{push_decimal, push_text};
-use snoop_trace::NoMemory;
+use snoop_engine::{Seen, View, push_outcome};
+use snoop_machine::{Machine, Refused, Reply};
+use snoop_trace::streams::{push_byte, push_decimal, push_step, push_text};
+use snoop_trace::{NoMemory, Shape, Step};
 use std::alloc::Global;
 use std::marker::Model;
 
@@ -80,7 +81,7 @@ impl Drawing {
         machine: &Machine,
         seen: &Seen<'_>,
     ) -> Result<(), NoMemory>
-        ensures { OnOk result (out.new.items ≡ out.old.items ++ row_seen self.now machine.now.situation.shape seen.now.number machine.now.situation seen.now.block seen.now.step seen.now.outcome seen.now.lines.now) }
+        ensures { OnOk result (out.new.items ≡ out.old.items ++ row_seen self.now machine.now.situation.shape seen.now.number machine.now.situation seen.now.step seen.now.outcome seen.now.lines.now) }
     {
         self.push_number(out, seen.number)?;
         push_panels_seen(out, self.alloc, self.style, machine, seen, &self.panels)?;
@@ -111,12 +112,13 @@ impl Drawing {
         machine: &Machine,
         seen: &Seen<'_>,
     ) -> Result<(), NoMemory>
-        ensures { OnOk result (out.new.items ≡ out.old.items ++ rows_seen self.now machine.now.situation.shape seen.now.number machine.now.situation seen.now.block seen.now.step seen.now.outcome seen.now.lines.now) }
+        ensures { OnOk result (out.new.items ≡ out.old.items ++ rows_seen self.now machine.now.situation.shape seen.now.number machine.now.situation seen.now.step seen.now.outcome seen.now.lines.now) }
     {
         if self.is_first_after(seen.number) {
             return self.push_standing(out, machine, seen.number);
         }
-        if self.is_drawn(seen.number, seen.block) {
+        let of = block_of(seen.step, seen.outcome, seen.lines);
+        if self.is_drawn(seen.number, of) {
             self.push_row(out, machine, seen)
         } else {
             Ok(())
@@ -144,6 +146,21 @@ impl Drawing {
     }
 }
 
+// Appends the line of a step and what the machine answered.
+fn push_line(
+    out: &mut Vec<u8>,
+    shape: Shape,
+    step: Step,
+    outcome: Result<Reply, Refused>,
+) -> Result<(), NoMemory>
+    ensures { OnOk result (out.new.items ≡ out.old.items ++ line_text shape step outcome) }
+{
+    push_step(out, shape, step)?;
+    push_text(out, ": ")?;
+    push_outcome(out, outcome)?;
+    push_byte(out, b'\n')
+}
+
 // Appends the panels as they stand.
 fn push_standing_panels(
     out: &mut Vec<u8>,
@@ -169,15 +186,9 @@ fn push_panel_seen(
     seen: &Seen<'_>,
     panel: &Panel,
 ) -> Result<(), NoMemory>
-    ensures { OnOk result (out.new.items ≡ out.old.items ++ panel_seen style machine.now.situation seen.now.block seen.now.step seen.now.outcome seen.now.lines.now panel.now) }
+    ensures { OnOk result (out.new.items ≡ out.old.items ++ panel_seen style machine.now.situation seen.now.step seen.now.outcome seen.now.lines.now panel.now) }
 {
-    let event = event_in(
-        panel.block(),
-        seen.block,
-        seen.step,
-        seen.outcome,
-        seen.lines,
-    );
+    let event = event_in(panel.block(), seen.step, seen.outcome, seen.lines);
     push_panel(out, alloc, style, machine, panel, event, seen.lines)
 }
 
@@ -190,7 +201,7 @@ fn push_panels_seen(
     seen: &Seen<'_>,
     panels: &[Panel],
 ) -> Result<(), NoMemory>
-    ensures { OnOk result (out.new.items ≡ out.old.items ++ flat_map (panel_seen style machine.now.situation seen.now.block seen.now.step seen.now.outcome seen.now.lines.now) panels.now) }
+    ensures { OnOk result (out.new.items ≡ out.old.items ++ flat_map (panel_seen style machine.now.situation seen.now.step seen.now.outcome seen.now.lines.now) panels.now) }
 {
     for panel in panels {
         push_panel_seen(out, alloc, style, machine, seen, panel)?;
@@ -212,7 +223,11 @@ fn is_chosen(block: Option<u32>, of: Option<u32>) -> bool
 fn first_words(number: u64) -> &'static str
     ensures { result.now ≡ first_words number }
 {
-    if number == 0 { "  at reset\n" } else { "  before\n" }
+    if number == 0 {
+        "  at reset\n"
+    } else {
+        "  before\n"
+    }
 }
 
 impl View for Drawing {

@@ -1,7 +1,7 @@
 //! What happens in a panel at a step.
 ghost use Rattle.std.specs.Prelude.{◌≡◌};
 ghost use Rattle.std.specs.List.{list_any};
-ghost use Rattle.snoop_draw.specs.Events.{ask_mark, awaits, event_in, event_of, is_of, may, names_core, names_memory, rail, requestor_in, shows_all, shows_bus, tip, wire_at, wire_from};
+ghost use Rattle.snoop_draw.specs.Events.{ask_mark, awaits, block_in, block_of, event_in, event_of, is_of, may, names_core, names_memory, rail, requestor_in, shows_all, shows_bus, tip, wire_at, wire_from};
 
 use crate::marks::Mark;
 use snoop_engine::Taken;
@@ -44,12 +44,14 @@ fn requestor_in(lines: &[Taken]) -> Option<u32>
     ensures { result ≡ requestor_in lines.now }
 {
     match lines.first() {
-        Some(Taken::Core {
-            core,
-            block: _,
-            event: _,
-            before: _,
-        }) => Some(*core),
+        Some(
+            Taken::Core {
+                core,
+                block: _,
+                event: _,
+                before: _,
+            },
+        ) => Some(*core),
         _ => None,
     }
 }
@@ -91,17 +93,60 @@ pub(crate) fn is_of(of: Option<u32>, block: u32) -> bool
     }
 }
 
-/// What happens in the panel of this block at a step that is of that block, if of any.
+// The block of the first line.
+fn block_in(lines: &[Taken]) -> Option<u32>
+    ensures { result ≡ block_in lines.now }
+{
+    match lines.first() {
+        Some(
+            Taken::Core {
+                core: _,
+                block,
+                event: _,
+                before: _,
+            },
+        ) => Some(*block),
+        Some(
+            Taken::Memory {
+                block,
+                event: _,
+                before: _,
+            },
+        ) => Some(*block),
+        _ => None,
+    }
+}
+
+/// The block that a step is of: that of an Ask or a Respond, that of a request which is ordered or has to wait for the bus.
+pub(crate) fn block_of(step: Step, outcome: Result<Reply, Refused>, lines: &[Taken]) -> Option<u32>
+    ensures { result ≡ block_of step outcome lines.now }
+{
+    match step {
+        Step::Ask {
+            core: _,
+            block,
+            word: _,
+            op: _,
+        }
+        | Step::Respond { block } => Some(block),
+        Step::Order { core: _ } => match outcome {
+            Ok(_) => block_in(lines),
+            Err(Refused::BusTaken(block)) => Some(block),
+            Err(_) => None,
+        },
+    }
+}
+
+/// What happens in the panel of this block at a step, which may be of another.
 pub(crate) fn event_in(
     block: u32,
-    of: Option<u32>,
     step: Step,
     outcome: Result<Reply, Refused>,
     lines: &[Taken],
 ) -> Event
-    ensures { result ≡ event_in block of step outcome lines.now }
+    ensures { result ≡ event_in block step outcome lines.now }
 {
-    if is_of(of, block) {
+    if is_of(block_of(step, outcome, lines), block) {
         event_of(step, outcome, lines)
     } else {
         Event::Nothing
@@ -194,7 +239,11 @@ pub(crate) fn rail(event: Event, sender: Option<u32>, core: u32, state: CacheSta
 fn wire_from(start: u32, core: u64, wire: Mark) -> Mark
     ensures { result ≡ wire_from start core wire }
 {
-    if (start as u64) < core { wire } else { Mark::Blank }
+    if (start as u64) < core {
+        wire
+    } else {
+        Mark::Blank
+    }
 }
 
 /// The wire that runs from a core with a lower number to the bus.

@@ -2,7 +2,6 @@
 ghost use Rattle.std.specs.Prelude.{◌≡◌, ◌++◌, codes, IfOk, OnOk};
 ghost use Rattle.std.specs.Fmt.{decimal};
 ghost use Rattle.std.specs.List.{flat_map};
-
 ghost use Rattle.snoop_draw.specs.Headings.{bare, first_line, heading_text, legend_text, name_of_core, named_mark, names_of, protocol_title, second_line, title_line, title_of};
 
 use crate::cells::{Cell, Link, Style, push_cell, push_field, push_left, push_link, push_right};
@@ -36,12 +35,7 @@ fn name_of_core(alloc: Global, core: u32) -> Result<Vec<u8>, NoMemory>
 }
 
 // Appends the name of a core, where its column is.
-fn push_name(
-    out: &mut Vec<u8>,
-    alloc: Global,
-    style: Style,
-    core: u32,
-) -> Result<(), NoMemory>
+fn push_name(out: &mut Vec<u8>, alloc: Global, style: Style, core: u32) -> Result<(), NoMemory>
     ensures { OnOk result (out.new.items ≡ out.old.items ++ name_of_core style core) }
 {
     let name = name_of_core(alloc, core)?;
@@ -63,12 +57,7 @@ fn push_core_names(
 }
 
 // Appends the names of the columns of a panel.
-fn push_names(
-    out: &mut Vec<u8>,
-    alloc: Global,
-    style: Style,
-    panel: &Panel,
-) -> Result<(), NoMemory>
+fn push_names(out: &mut Vec<u8>, alloc: Global, style: Style, panel: &Panel) -> Result<(), NoMemory>
     ensures { OnOk result (out.new.items ≡ out.old.items ++ names_of style panel.now) }
 {
     push_text(out, "  ")?;
@@ -76,7 +65,13 @@ fn push_names(
     push_mark(out, style.charset, Mark::Blank)?;
     push_field(out, style.charset, Mark::Blank, style.widths.bus, b"bus")?;
     push_link(out, style.charset, Link::Nothing)?;
-    push_field(out, style.charset, Mark::Blank, style.widths.memory, b"memory")
+    push_field(
+        out,
+        style.charset,
+        Mark::Blank,
+        style.widths.memory,
+        b"memory",
+    )
 }
 
 // The block of a panel, and its bytes.
@@ -166,12 +161,7 @@ pub(crate) fn push_heading(
 }
 
 // Appends a mark, a blank, and what it says.
-fn push_named(
-    out: &mut Vec<u8>,
-    charset: Charset,
-    mark: Mark,
-    says: &str,
-) -> Result<(), NoMemory>
+fn push_named(out: &mut Vec<u8>, charset: Charset, mark: Mark, says: &str) -> Result<(), NoMemory>
     ensures { OnOk result (out.new.items ≡ out.old.items ++ named_mark charset mark says.now) }
 {
     push_mark(out, charset, mark)?;

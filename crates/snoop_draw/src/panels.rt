@@ -102,12 +102,7 @@ fn push_core(cores: &mut Vec<u32>, core: u32, is_asking: bool) -> Result<(), NoM
 }
 
 // The cores that ask for the block.
-fn columns(
-    alloc: Global,
-    shape: Shape,
-    table: &[bool],
-    block: u32,
-) -> Result<Vec<u32>, NoMemory>
+fn columns(alloc: Global, shape: Shape, table: &[bool], block: u32) -> Result<Vec<u32>, NoMemory>
     requires block { block < shape.blocks }
     requires size { length table.now ≡ shape.blocks * shape.cores }
     ensures { (steps : List Given) → IsAskedTable shape steps table.now → IfOk result (λ cores. cores.items ≡ columns shape steps block) }

@@ -1,7 +1,7 @@
 //! What a line shows of one panel.
 ghost use Rattle.std.specs.Prelude.{◌≡◌, ◌++◌, IfOk, OnOk};
 ghost use Rattle.std.specs.List.{flat_map};
-ghost use Rattle.snoop_draw.specs.Rows.{bus_said, bus_text, core_cell, core_said, core_text, held_in, link_of, memory_column, memory_said, panel_text, sender_in, shows_core, shows_memory};
+ghost use Rattle.snoop_draw.specs.Rows.{bus_said, bus_text, core_cell, core_said, core_text, held_in, link_of, memory_column, memory_said, moment_text, panel_text, sender_in, shows_core, shows_memory};
 
 use crate::cells::{Cell, Link, Style, push_cell, push_field, push_link};
 use crate::event::{
@@ -113,10 +113,18 @@ fn link_of(event: Event, is_from_memory: bool, is_met: bool) -> Link
 {
     match event {
         Event::Ordered { core: _ } => {
-            if is_from_memory { Link::FromMemory } else { Link::Nothing }
+            if is_from_memory {
+                Link::FromMemory
+            } else {
+                Link::Nothing
+            }
         }
         Event::Came { core: _ } => {
-            if is_met { Link::ToMemory } else { Link::Nothing }
+            if is_met {
+                Link::ToMemory
+            } else {
+                Link::Nothing
+            }
         }
         _ => Link::Nothing,
     }
@@ -186,6 +194,23 @@ fn push_cores(
     Ok(())
 }
 
+// Appends what a line shows at this moment, with columns for these cores.
+fn push_moment(
+    out: &mut Vec<u8>,
+    alloc: Global,
+    style: Style,
+    machine: &Machine,
+    moment: &Moment<'_>,
+    cores: &[u32],
+) -> Result<(), NoMemory>
+    ensures { OnOk result (out.new.items ≡ out.old.items ++ moment_text style machine.now.situation moment.now.block moment.now.event moment.now.sender moment.now.lines.now cores.now) }
+{
+    push_text(out, "  ")?;
+    push_cores(out, alloc, style, machine, moment, cores)?;
+    push_bus(out, alloc, style, machine, moment)?;
+    push_memory(out, alloc, style, machine, moment)
+}
+
 /// Appends what a line shows of a panel, as the machine is now, where this happens and these rows are taken.
 pub(crate) fn push_panel(
     out: &mut Vec<u8>,
@@ -205,8 +230,5 @@ pub(crate) fn push_panel(
         sender: sender_in(machine.open(block)),
         lines,
     };
-    push_text(out, "  ")?;
-    push_cores(out, alloc, style, machine, &moment, panel.cores())?;
-    push_bus(out, alloc, style, machine, &moment)?;
-    push_memory(out, alloc, style, machine, &moment)
+    push_moment(out, alloc, style, machine, &moment, panel.cores())
 }

@@ -153,11 +153,7 @@ fn push_message(out: &mut Vec<u8>, count: u32, opened: &Open) -> Result<(), NoMe
 }
 
 /// What the bus says of the block.
-pub(crate) fn bus_words(
-    alloc: Global,
-    machine: &Machine,
-    block: u32,
-) -> Result<Vec<u8>, NoMemory>
+pub(crate) fn bus_words(alloc: Global, machine: &Machine, block: u32) -> Result<Vec<u8>, NoMemory>
     ensures { IfOk result (λ words. words.items ≡ bus_words machine.now.situation block) }
 {
     let mut words = Vec::new(alloc);
