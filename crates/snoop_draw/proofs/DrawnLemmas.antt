@@ -12,7 +12,7 @@ use Rattle.snoop_engine.specs.SimulatedView.{BeginsToShow, ShowsRun}
 use Rattle.snoop_engine.specs.Views.{shown, view_text}
 use Rattle.snoop_draw.specs.declared.marks.Charset.{Charset}
 use Rattle.snoop_draw.specs.Choices.{Chosen}
-use Rattle.snoop_draw.specs.Drawings.{Sheet, beginning_text, drawing_text, rows_at, rows_from, sheet_for}
+use Rattle.snoop_draw.specs.Drawings.{Sheet, beginning_text, rows_at, rows_from, sheet_for}
 use Rattle.snoop_draw.specs.Headings.{legend_text}
 use Rattle.snoop_draw.specs.Panels.{Panel, panels_for}
 use Rattle.snoop_draw.specs.Simulated.{IsDrawable, drawing}

@@ -4,3 +4,4 @@ pub mod DrawnLemmas
 pub mod MayLemmas
 pub mod EdgeLemmas
 pub mod SizeLemmas
+pub mod UnaskedLemmas

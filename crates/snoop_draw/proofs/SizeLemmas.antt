@@ -1,5 +1,5 @@
 -- How many columns panels have.
-use Rattle.std.proofs.Common.{◌≡◌, ℕ, ◌+◌, List, [], ◌∷◌, ◌++◌, length, ap, ◌∙◌, arith}
+use Rattle.std.proofs.Common.{◌≡◌, ◌+◌, List, [], ◌∷◌, ◌++◌, length, arith}
 use Rattle.snoop_draw.specs.Panels.{Panel}
 use Rattle.snoop_draw.specs.Size.{columns_of}
 
