@@ -111,7 +111,7 @@ unfolding row_state
 rows_taken protocol requestor request old new core taken before = elim (cases_lt core (length old)) [
   | inl inside ↦
       let row = taken.rows core inside in
-      ap (λ (held : Line). held.state) row.1.1 ∙ led_to protocol (held_at old core).state _ row.0 before (own_or_other protocol (core == requestor) request) row.1.0
+      ap (λ (held : Line). held.state) row.2 ∙ led_to protocol (held_at old core).state _ row.0 before (own_or_other protocol (core == requestor) request) row.1
   | inr past ↦ ap (λ (held : Line). held.state) (get_or_past new core nothing_held (omega (arith, taken.same_length)))
 ]
 
@@ -148,17 +148,17 @@ unfolding row_state
 here_in s block on core same before = ap (λ (b : ℕ). state_of s core b) (sym same) ∙ before
 
 not_both : (on asking block core : ℕ) → ((on == block) && (asking == core)) ≡ false → on ≡ block → asking ≡ core → ⊥
-not_both on asking block core no same also =
-    both_ways ((on == block) && (asking == core)) no (ap (λ (b : Bool). b && (asking == core)) (eq-eqb on block same) ∙ eq-eqb asking core also)
+not_both on asking block core never same also =
+    both_ways ((on == block) && (asking == core)) never (ap (λ (b : Bool). b && (asking == core)) (eq-eqb on block same) ∙ eq-eqb asking core also)
 
 -- an Ask of another core or of another block
 asked_stays : (b : ℕ) (old : Situation) (asking on word : ℕ) (op : Op) (answer : Reply) (new : Situation) (entry : Option Item) (block core : ℕ)
     → AskMove b old asking on word op answer new entry → ((on == block) && (asking == core)) ≡ false → state_of old core block ≡ I → state_of new core block ≡ I
-asked_stays b old asking on word op answer new entry block core move no before = elim move.moves [
+asked_stays b old asking on word op answer new entry block core move never before = elim move.moves [
   | inl absent ↦ ap (λ (s : Situation). state_of s core block) absent.3 ∙ before
-  | inr asks ↦
-      after_write old new b block core (set (picture_of old b).caches asking asks.held) (ap (λ (s : Situation). s.caches) asks.after) before
-      (λ same. other_line (picture_of old b).caches asking core asks.held (λ also. not_both on asking block core no (move.on_block ∙ sym same) (sym also)) (here_in old block b core same before))
+  | inr taken ↦
+      after_write old new b block core (set (picture_of old b).caches asking taken.held) (ap (λ (s : Situation). s.caches) taken.after) before
+      (λ same. other_line (picture_of old b).caches asking core taken.held (λ also. not_both on asking block core never (move.on_block ∙ sym same) (sym also)) (here_in old block b core same before))
 ]
 
 ordered_stays : (b : ℕ) (old : Situation) (requestor : ℕ) (answer : Reply) (new : Situation) (entry : Option Item) (block core : ℕ)
@@ -175,15 +175,15 @@ answered_stays b old on answer new entry block core move before =
 
 -- one step that is no Ask of this core for this block
 step_stays : (old : Situation) (step : Step) (outcome : Result Reply Refused) (new : Situation) (block core : ℕ) → GoesFirst old step outcome new → is_ask_for block core step ≡ false → state_of old core block ≡ I → state_of new core block ≡ I
-step_stays old step (Err cause) new block core goes no before = ap (λ (s : Situation). state_of s core block) goes.1 ∙ before
-step_stays old (Ask asking on word op) (Ok answer) new block core goes no before = asked_stays goes.1.0 old asking on word op answer new goes.0 block core goes.1.1.1 no before
-step_stays old (Order requestor) (Ok answer) new block core goes no before = ordered_stays goes.1.0 old requestor answer new goes.0 block core goes.1.1.1 before
-step_stays old (Respond on) (Ok answer) new block core goes no before = answered_stays goes.1.0 old on answer new goes.0 block core goes.1.1.1 before
+step_stays old step (Err cause) new block core goes never before = ap (λ (s : Situation). state_of s core block) goes.1 ∙ before
+step_stays old (Ask asking on word op) (Ok answer) new block core goes never before = asked_stays goes.1.0 old asking on word op answer new goes.0 block core goes.1.1.1 never before
+step_stays old (Order requestor) (Ok answer) new block core goes never before = ordered_stays goes.1.0 old requestor answer new goes.0 block core goes.1.1.1 before
+step_stays old (Respond on) (Ok answer) new block core goes never before = answered_stays goes.1.0 old on answer new goes.0 block core goes.1.1.1 before
 
 frames_stay : (old : Situation) (frames : List Frame) (final : Situation) (block core : ℕ) → FramesFrom old frames final → asks (steps_of frames) block core ≡ false → state_of old core block ≡ I → HoldsNothing block core frames
-frames_stay old [] final block core run no before = tt
-frames_stay old (frame ∷ frames) final block core run no before =
-    let parts = or_parts (is_ask_for block core frame.step) (asks (steps_of frames) block core) no in
+frames_stay old [] final block core run never before = tt
+frames_stay old (frame ∷ frames) final block core run never before =
+    let parts = or_parts (is_ask_for block core frame.step) (asks (steps_of frames) block core) never in
     let here : state_of frame.before core block ≡ I = ap (λ (s : Situation). state_of s core block) run.0.before ∙ before in
     let after = step_stays frame.before frame.step frame.outcome frame.after block core run.0.goes parts.0 here in
     (after, frames_stay frame.after frames final block core run.1 parts.1 after)
@@ -207,5 +207,5 @@ at_reset protocol shape block core =
 -- a core that asks for a block in no step is in I throughout
 pub unasked_hold_nothing : (protocol : Protocol) (shape : Extent) (steps : List Step) (frames : List Frame) (final : Situation)
     → AreFrames protocol shape steps frames final → (block core : ℕ) → asks steps block core ≡ false → HoldsNothing block core frames
-unasked_hold_nothing protocol shape steps frames final are block core no =
-    frames_stay (reset protocol shape) frames final block core are.run (ap (λ (given : List Step). asks given block core) are.whole ∙ no) (at_reset protocol shape block core)
+unasked_hold_nothing protocol shape steps frames final are block core never =
+    frames_stay (reset protocol shape) frames final block core are.run (ap (λ (given : List Step). asks given block core) are.whole ∙ never) (at_reset protocol shape block core)

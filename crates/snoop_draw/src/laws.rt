@@ -13,5 +13,4 @@ pub fn one_edge(machine: &Machine)
 /// A core that asks for a block in no step of a run is in I throughout, so the columns that are left out would hold nothing.
 pub fn unasked()
     ensures { UnaskedHoldNothing }
-{
-}
+{}
