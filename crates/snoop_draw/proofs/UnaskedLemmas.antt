@@ -1,5 +1,5 @@
 -- A core that never asks for a block is in I throughout.
-use Rattle.std.proofs.Common.{◌≡◌, ◌≢◌, ℕ, ◌<◌, ◌≤◌, Bool, true, false, cond, List, [], ◌∷◌, ◌++◌, length, get_or, set, replicate, Option, Some, None, Result, Ok, Err, refl, sym, ap, ◌∙◌, subst, inl, inr, ◌⊎◌, arith}
+use Rattle.std.proofs.Common.{◌≡◌, ◌≢◌, ℕ, Bool, true, false, cond, List, [], ◌∷◌, length, get_or, set, replicate, Option, Some, Result, Ok, Err, refl, sym, ap, ◌∙◌, inl, inr, ◌⊎◌, arith}
 use Rattle.std.specs.Prelude.{◌&&◌, ◌==◌}
 use Rattle.std.specs.Option.{option_map_or}
 use Rattle.std.proofs.lemmas.Bool.{both_ways, cases_eq, cases_lt, eq-eqb, or_parts}
@@ -24,7 +24,7 @@ use Rattle.snoop_rules.specs.declared.names.Request.TheVariants.{GetS, GetM, Put
 use Rattle.snoop_history.specs.declared.items.Did.{Did}
 use Rattle.snoop_history.specs.declared.items.Item.{Item}
 use Rattle.snoop_bus.specs.Traffic.{Open}
-use Rattle.snoop_model.specs.Moves.Move.{ArrivesFor, AskMove, FillsRequestor, FirstMove, OrderMove, RespondMove, TakesRows}
+use Rattle.snoop_model.specs.Moves.Move.{ArrivesFor, AskMove, FillsRequestor, OrderMove, RespondMove, TakesRows}
 use Rattle.snoop_model.specs.Pictures.Lines.{Line}
 use Rattle.snoop_model.specs.Pictures.Picture.{held_at, nothing_held}
 use Rattle.snoop_model.specs.Pictures.Situation.{Situation, picture_of, reset, state_of}
