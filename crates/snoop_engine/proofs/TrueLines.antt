@@ -326,7 +326,7 @@ step_true old new (Respond block) (Ok answer) steady goes =
     (respond_true old new (Respond block) (Ok answer) block closing did steady.0 moved.0 moved.1)
 
 -- a step keeps the protocol
-same_protocol : (old new : Situation) (step : Step) (outcome : Result Reply Refused) → GoesFirst old step outcome new → new.protocol ≡ old.protocol
+pub same_protocol : (old new : Situation) (step : Step) (outcome : Result Reply Refused) → GoesFirst old step outcome new → new.protocol ≡ old.protocol
 same_protocol old new step (Err cause) goes = ap (λ (s : Situation). s.protocol) goes.1
 same_protocol old new (Ask core block word asking) (Ok answer) goes = elim goes.1.1.1.moves [
   | inl absent ↦ ap (λ (s : Situation). s.protocol) absent.3

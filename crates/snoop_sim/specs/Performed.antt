@@ -7,11 +7,12 @@ use Rattle.snoop_trace.specs.Text.{BlamesReader}
 use Rattle.snoop_rules.specs.TableText.{table_text}
 use Rattle.clap.specs.Words.{Text}
 use Rattle.snoop_sim.specs.Asked.{Asks, Refuses}
+use Rattle.snoop_engine.specs.Counts.{frames_counts_text}
 use Rattle.snoop_engine.specs.Simulated.{Simulates}
-use Rattle.snoop_engine.specs.SimulatedCounts.{SimulatesCounts}
 use Rattle.snoop_engine.specs.SimulatedRun.{SimulatesRun}
 use Rattle.snoop_engine.specs.SimulatedSerial.{SimulatesSerial}
-use Rattle.snoop_engine.specs.SimulatedStates.{SimulatesStates}
+use Rattle.snoop_engine.specs.SimulatedView.{SimulatesView}
+use Rattle.snoop_engine.specs.States.{states_text}
 use Rattle.snoop_sim.specs.Threaded.{SimulatesThreads}
 use Rattle.snoop_sim.specs.Status.{status_of}
 use Rattle.snoop_engine.specs.declared.fault.SimFault.{SimFault}
@@ -42,8 +43,8 @@ Performs (Steps protocol shape) input ending old new = EndsAs Simulation ending 
 Performs (Run protocol shape) input ending old new = EndsAs Simulation ending (λ done. SimulatesRun protocol shape input done old new)
 Performs (Serial protocol shape) input ending old new = EndsAs Simulation ending (λ done. SimulatesSerial protocol shape input done old new)
 Performs (Threads protocol shape) input ending old new = EndsAs ThreadsFailure ending (λ done. SimulatesThreads protocol shape input done old new)
-Performs (States protocol shape) input ending old new = EndsAs Simulation ending (λ done. SimulatesStates protocol shape input done old new)
-Performs (Counts protocol shape) input ending old new = EndsAs Simulation ending (λ done. SimulatesCounts protocol shape input done old new)
+Performs (States protocol shape) input ending old new = EndsAs Simulation ending (λ done. SimulatesView protocol shape (λ frames final. states_text shape frames) input done old new)
+Performs (Counts protocol shape) input ending old new = EndsAs Simulation ending (λ done. SimulatesView protocol shape (λ frames final. frames_counts_text protocol frames) input done old new)
 Performs (Table protocol which) input ending old new = EndsAs Simulation ending (λ done. Writes (table_text protocol which) done old new)
 
 -- the task that the words ask for was performed; or nothing was begun for them, and nothing written
