@@ -1,3 +1,4 @@
+pub mod OnOkLemmas
 pub mod ListLemmas
 pub mod HoldsLemmas
 pub mod AskLemmas
@@ -6,3 +7,4 @@ pub mod RowLemmas
 pub mod ShownLemmas
 pub mod TableLemmas
 pub mod SeenLemmas
+pub mod WholeLemmas

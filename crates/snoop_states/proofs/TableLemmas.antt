@@ -1,11 +1,11 @@
 -- The table of a block, when one frame more is seen.
-use Rattle.std.proofs.Common.{◌≡◌, ℕ, ◌+◌, ◌-◌, ◌<◌, ◌≤◌, Bool, true, false, cond, List, [], ◌∷◌, ◌++◌, map, length, length-append, refl, sym, ap, subst, ◌∙◌, append_assoc, append-nil, arith, codes, inl, inr}
+use Rattle.std.proofs.Common.{◌≡◌, ℕ, ◌+◌, ◌-◌, ◌<◌, ◌≤◌, Bool, true, false, cond, List, [], ◌∷◌, ◌++◌, map, take, length, length-append, refl, sym, ap, subst, ◌∙◌, append_assoc, append-nil, arith, codes, inl, inr}
 use Rattle.std.specs.Prelude.{◌&&◌, if◌then◌else◌, nat_lt}
 use Rattle.std.proofs.lemmas.Bool.{both_ways, cases_lt, false≢true, lt-ltb}
-use Rattle.std.proofs.lemmas.List.{map-append}
+use Rattle.std.proofs.lemmas.List.{map-append, take_all}
 use Rattle.snoop_trace.specs.Extent.{Extent}
 use Rattle.snoop_trace.specs.declared.protocol.Protocol.{Protocol}
-use Rattle.snoop_model.specs.Pictures.Situation.{Situation}
+use Rattle.snoop_model.specs.Pictures.Situation.{Situation, reset}
 use Rattle.snoop_engine.specs.Frames.{Frame}
 use Rattle.snoop_engine.specs.Line.{line_text}
 use Rattle.snoop_states.specs.declared.column.Column.{Column}
@@ -15,7 +15,7 @@ use Rattle.snoop_states.specs.declared.table.Table.{Table}
 use Rattle.snoop_states.specs.Cells.{cell_text}
 use Rattle.snoop_states.specs.Chosen.{Chosen, is_within}
 use Rattle.snoop_states.specs.Rows.{cells_text, names_text}
-use Rattle.snoop_states.specs.Seen.{HasCells, HasRows, IsRowMore, IsTable}
+use Rattle.snoop_states.specs.Seen.{HasCells, HasRows, IsEmpty, IsRowMore, IsTable}
 use Rattle.snoop_states.specs.Tables.{Numbered, first_row, first_shown, heading_text, is_of, led_to, rows_text, shown_of, table_text}
 use Rattle.snoop_states.proofs.ShownLemmas.{first_comes, first_stays, led_on, none_yet, rows_on, shown_on}
 
@@ -137,3 +137,19 @@ module _ (widths : Widths) (choice : Chosen) (protocol : Protocol) (shape : Exte
       whole out (heading_text protocol shape block) (names_text widths columns) (first_row widths choice block columns start) (rows_text widths shape block columns start shown) (codes "\n")
       headed named table.rows.items rows new e all has.rows g h
       ∙ ap (λ (t : List ℕ). out ++ t) (sym (some_table widths choice protocol shape block columns start shown (sym has.is_shown ∙ on)))
+
+-- the tables at reset
+pub begun_at_reset : (widths : Widths) (choice : Chosen) (protocol : Protocol) (shape : Extent) (block : ℕ) (columns : List Column) (here : Situation) (table : Table)
+    → choice.from ≡ 1 → here ≡ reset protocol shape → HasRows widths choice shape block columns here [] table → IsTable widths choice protocol shape columns [] block table
+begun_at_reset widths choice protocol shape block columns here table one at has =
+    let frames : List Frame = [] in
+    let none : take (choice.from - 1) frames ≡ frames = take_all (choice.from - 1) frames (omega arith) in
+    let first : here ≡ first_shown choice protocol shape [] = at ∙ ap (led_to (reset protocol shape)) (sym none) in
+    record {
+      early = λ e. absurd (omega arith);
+      late = λ _. subst (λ (s : Situation). HasRows widths choice shape block columns s [] table) first has;
+    }
+
+pub empty_at_reset : (widths : Widths) (choice : Chosen) (protocol : Protocol) (shape : Extent) (block : ℕ) (columns : List Column) (table : Table)
+    → 1 < choice.from → IsEmpty columns table → IsTable widths choice protocol shape columns [] block table
+empty_at_reset widths choice protocol shape block columns table far empty = record { early = λ _. empty; late = λ e. absurd (omega arith) }

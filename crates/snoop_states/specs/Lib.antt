@@ -9,3 +9,4 @@ pub mod Tables
 pub mod AtEnd
 pub mod Whole
 pub mod Seen
+pub mod Views

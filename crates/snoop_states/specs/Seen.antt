@@ -62,3 +62,10 @@ pub record IsStartedAt (widths : Widths) (choice : Chosen) (here : Situation) (b
   pub table : Table
   pub rest : new ≡ slice_set old block table
   pub starts : (d : Table) (columns : List Column) → IsEmpty columns (slice_index_or old block d) → HasRows widths choice here.shape block columns here [] table
+
+-- the tables of the first n blocks are begun, and those of the others have no row
+pub record HalfBegun (widths : Widths) (choice : Chosen) (here : Situation) (columns : ℕ → List Column) (n : ℕ) (tables : List Table) : Type 0 where
+  pub count : length tables ≡ here.shape.blocks
+  pub begun : (block : ℕ) → block < n → block < here.shape.blocks → is_chosen choice.block block ≡ true
+      → HoldsAt (HasRows widths choice here.shape block (columns block) here []) tables block
+  pub rest : (block : ℕ) → n ≤ block → block < here.shape.blocks → is_chosen choice.block block ≡ true → HoldsAt (IsEmpty (columns block)) tables block

@@ -1,6 +1,6 @@
 -- The table of a block: a row for each of its steps that is shown.
 -- Source: this project's profile.
-use Rattle.std.specs.Prelude.{ℕ, ◌+◌, ◌-◌, ◌==◌, ◌&&◌, Bool, false, List, [], ◌∷◌, ◌++◌, codes, map, take, Option, Some, None, slice_get, if◌then◌else◌}
+use Rattle.std.specs.Prelude.{ℕ, ◌+◌, ◌-◌, ◌==◌, ◌&&◌, Bool, false, List, [], ◌∷◌, ◌++◌, codes, map, take, if◌then◌else◌}
 use Rattle.std.specs.Fmt.{decimal}
 use Rattle.std.specs.List.{filter}
 use Rattle.std.specs.Option.{option_map_or}
@@ -8,12 +8,10 @@ use Rattle.snoop_trace.specs.Extent.{Extent}
 use Rattle.snoop_trace.specs.Output.{address_of}
 use Rattle.snoop_trace.specs.declared.protocol.Protocol.{Protocol}
 use Rattle.snoop_trace.specs.declared.protocol.Protocol.TheVariants.{Msi, Mesi}
-use Rattle.snoop_trace.specs.declared.step.Step.{Step}
-use Rattle.snoop_trace.specs.declared.step.Step.TheVariants.{Ask, Order, Respond}
-use Rattle.snoop_bus.specs.Queues.{queue_of}
 use Rattle.snoop_model.specs.Pictures.Situation.{Situation, reset}
 use Rattle.snoop_engine.specs.Frames.{Frame}
 use Rattle.snoop_engine.specs.Line.{line_text}
+use Rattle.snoop_engine.specs.Views.{block_of}
 use Rattle.snoop_states.specs.declared.column.Column.{Column}
 use Rattle.snoop_states.specs.declared.widths.Widths.{Widths}
 use Rattle.snoop_states.specs.Cells.{cell_text}
@@ -29,12 +27,6 @@ pub record Numbered : Type 0 where
 abbrev pub numbered_from : ℕ → List Frame → List Numbered
 numbered_from number [] = []
 numbered_from number (frame ∷ frames) = record { number = number; frame = frame } ∷ numbered_from (number + 1) frames
-
--- the block that a step is of
-abbrev pub block_of : Situation → Step → Option ℕ
-block_of s (Ask core block word asking) = Some block
-block_of s (Order core) = slice_get (queue_of s.queues core) 0
-block_of s (Respond block) = Some block
 
 -- the step is of the block
 abbrev pub is_of : ℕ → Frame → Bool

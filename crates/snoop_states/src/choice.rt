@@ -63,16 +63,30 @@ impl Choice {
         Ok(Choice { block, from, to })
     }
 
+    /// The block whose steps alone are shown, if one was named.
+    pub fn block(&self) -> Option<u32>
+        ensures { result ≡ self.now.block }
+    {
+        self.block
+    }
+
     /// The number of the first step that is shown.
-    pub(crate) fn from(&self) -> u64
+    pub fn from(&self) -> u64
         ensures value { result ≡ self.now.from }
         ensures within { 1 ≤ result }
     {
         self.from
     }
 
+    /// The number of the last step that is shown; there may be fewer steps.
+    pub fn to(&self) -> u64
+        ensures { result ≡ self.now.to }
+    {
+        self.to
+    }
+
     /// Whether the block is shown.
-    pub(crate) fn has_block(&self, block: u32) -> bool
+    pub fn has_block(&self, block: u32) -> bool
         ensures { result ≡ is_chosen self.now.block block }
     {
         match self.block {
@@ -82,7 +96,7 @@ impl Choice {
     }
 
     /// Whether a step of this number is shown, as far as its number goes.
-    pub(crate) fn has_number(&self, number: u64) -> bool
+    pub fn has_number(&self, number: u64) -> bool
         ensures { result ≡ is_within self.now number }
     {
         self.from <= number && number <= self.to

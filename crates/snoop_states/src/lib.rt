@@ -8,7 +8,10 @@ mod choice;
 mod column;
 mod heading;
 mod pieces;
+mod simulate;
 mod table;
+mod tables;
 mod widths;
 
 pub use choice::{Choice, ChoiceFault};
+pub use simulate::simulate_states_table;
