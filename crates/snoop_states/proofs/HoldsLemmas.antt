@@ -1,5 +1,5 @@
 -- What holds of each element of a list that grows, or in which one changes.
-use Rattle.std.proofs.Common.{◌≡◌, ℕ, ◌+◌, ◌<◌, ◌≤◌, List, [], ◌∷◌, ◌++◌, length, length-append, get_or, ap, ◌∙◌, inl, inr, subst, sym, refl, arith}
+use Rattle.std.proofs.Common.{◌≡◌, ℕ, ◌+◌, ◌<◌, List, [], ◌∷◌, ◌++◌, length, length-append, get_or, ap, ◌∙◌, inl, inr, subst, sym, refl, arith}
 use Rattle.std.specs.Prelude.{slice_set}
 use Rattle.std.specs.List.{HoldsAt}
 use Rattle.std.proofs.Math.Seq.{get_or-append_seam}
@@ -15,13 +15,13 @@ pub held_more : {X : Type 0} (P : ℕ → X → Type 0) (xs : List X) (x : X) (n
     → ((k : ℕ) → k < n → HoldsAt (P k) xs k) → P n x → (k : ℕ) → k < n + 1 → HoldsAt (P k) (xs ++ x ∷ []) k
 held_more P xs x n e so_far here k h d = elim (cases_eq k n) [
   | inl same ↦
-    let at : length xs ≡ k = omega arith in
-    let is : get_or (xs ++ x ∷ []) k d ≡ x = subst (λ (j : ℕ). get_or (xs ++ x ∷ []) j d ≡ x) at (get_or-append_seam xs x [] d) in
-    rw is (subst (λ (j : ℕ). P j x) (sym same) here)
+      let at : length xs ≡ k = omega arith in
+      let is : get_or (xs ++ x ∷ []) k d ≡ x = subst (λ (j : ℕ). get_or (xs ++ x ∷ []) j d ≡ x) at (get_or-append_seam xs x [] d) in
+      rw is (subst (λ (j : ℕ). P j x) (sym same) here)
   | inr other ↦
-    let low : k < n = omega arith in
-    let in_xs : k < length xs = omega arith in
-    rw (get_or_append_left xs (x ∷ []) d k in_xs) (so_far k low d)
+      let low : k < n = omega arith in
+      let in_xs : k < length xs = omega arith in
+      rw (get_or_append_left xs (x ∷ []) d k in_xs) (so_far k low d)
 ]
 
 -- one element changes

@@ -1,6 +1,6 @@
 -- The tables of all blocks, when one frame more is seen.
 use Rattle.std.proofs.Common.{◌≡◌, ℕ, ◌+◌, ◌<◌, ◌≤◌, Bool, true, false, cond, Option, Some, None, List, [], ◌∷◌, ◌++◌, length, get_or, length-set, inl, inr, refl, sym, ap, subst, ◌∙◌, arith}
-use Rattle.std.specs.Prelude.{◌==◌, ◌&&◌, if◌then◌else◌, nat_le, slice_set}
+use Rattle.std.specs.Prelude.{◌==◌, ◌&&◌, nat_le, slice_set}
 use Rattle.std.specs.List.{HoldsAt}
 use Rattle.std.specs.Option.{option_map_or}
 use Rattle.std.proofs.lemmas.Bool.{and_from, and_left, and_parts, and_right, both_ways, cases_Bool, cases_eq, cases_lt, cond-true, eq-eqb, eqb-true, leb-true, ne_eqb}
@@ -15,7 +15,7 @@ use Rattle.snoop_states.specs.declared.widths.Widths.{Widths}
 use Rattle.snoop_states.specs.declared.table.Table.{Table}
 use Rattle.snoop_states.specs.Chosen.{Chosen, is_chosen, is_within, shown_block}
 use Rattle.snoop_states.specs.Seen.{AreTables, HalfBegun, HasRows, IsEmpty, IsGrownAt, IsStartedAt, IsTable}
-use Rattle.snoop_states.specs.Tables.{first_shown, is_of, shown_of}
+use Rattle.snoop_states.specs.Tables.{is_of}
 use Rattle.snoop_states.proofs.HoldsLemmas.{held_at, held_beside}
 use Rattle.snoop_states.proofs.TableLemmas.{table_grows, table_starts, table_stays, table_waits}
 
@@ -32,15 +32,15 @@ not_shown choice block number frame chosen = with_block (block_of frame.before f
   with_block None h = and_right (is_within choice number) false refl
   with_block (Some b) h = elim (cases_Bool (b == block)) [
     | inl same ↦
-      elim (cases_Bool (is_within choice number)) [
-        | inl within ↦
-          let e : b ≡ block = eqb-true b block same in
-          let both : (is_chosen choice.block b && is_within choice number) ≡ true = rw (e, chosen, within) refl in
-          let some : shown_block choice (Some b) number ≡ Some b = cond-true (is_chosen choice.block b && is_within choice number) (Some b) None both in
-          let never : Some b ≡ None = sym some ∙ h in
-          absurd cc
-        | inr out ↦ and_left (is_within choice number) (b == block) out
-      ]
+        elim (cases_Bool (is_within choice number)) [
+          | inl within ↦
+              let e : b ≡ block = eqb-true b block same in
+              let both : (is_chosen choice.block b && is_within choice number) ≡ true = rw (e, chosen, within) refl in
+              let some : shown_block choice (Some b) number ≡ Some b = cond-true (is_chosen choice.block b && is_within choice number) (Some b) None both in
+              let never : Some b ≡ None = sym some ∙ h in
+              absurd cc
+          | inr out ↦ and_left (is_within choice number) (b == block) out
+        ]
     | inr other ↦ and_right (is_within choice number) (b == block) other
   ]
 
@@ -54,18 +54,17 @@ shown_is : (choice : Chosen) (of : Option ℕ) (block number : ℕ) → shown_bl
 shown_is choice None block number h = absurd cc
 shown_is choice (Some b) block number h = elim (cases_Bool (is_chosen choice.block b && is_within choice number)) [
   | inl on ↦
-    let some : shown_block choice (Some b) number ≡ Some b = cond-true (is_chosen choice.block b && is_within choice number) (Some b) None on in
-    let e : b ≡ block = cc in
-    let both = and_parts (is_chosen choice.block b) (is_within choice number) on in
-    record { is = ap (λ n. Some n) e; chosen = subst (λ (n : ℕ). is_chosen choice.block n ≡ true) e both.0; within = both.1 }
+      let some : shown_block choice (Some b) number ≡ Some b = cond-true (is_chosen choice.block b && is_within choice number) (Some b) None on in
+      let e : b ≡ block = cc in
+      let both = and_parts (is_chosen choice.block b) (is_within choice number) on in
+      record { is = ap (λ n. Some n) e; chosen = subst (λ (n : ℕ). is_chosen choice.block n ≡ true) e both.0; within = both.1 }
   | inr off ↦
-    let none : shown_block choice (Some b) number ≡ None = ap (λ (t : Bool). cond t (Some b) None) off in
-    absurd cc
+      let none : shown_block choice (Some b) number ≡ None = ap (λ (t : Bool). cond t (Some b) None) off in
+      absurd cc
 ]
 
 module _ (widths : Widths) (choice : Chosen) (protocol : Protocol) (shape : Extent) (columns : ℕ → List Column) (frames : List Frame) (frame : Frame) (tables : List Table)
     (so_far : AreTables shape choice (λ block. IsTable widths choice protocol shape (columns block) frames block) tables) where
-
   -- before the first step that is shown the tables have no row
   pub none_begun : choice.from ≡ 2 + length frames → AreTables shape choice (λ block. IsEmpty (columns block)) tables
   none_begun h = are_mapped shape choice _ _ tables (λ block table is. is.early (omega arith)) so_far
@@ -89,11 +88,11 @@ module _ (widths : Widths) (choice : Chosen) (protocol : Protocol) (shape : Exte
         let one = so_far.each block low chosen d in
         elim (cases_lt (1 + length frames) choice.from) [
           | inl early ↦
-            let far : 2 + length frames < choice.from = omega arith in
-            table_waits widths choice protocol shape block (columns block) frames frame (get_or tables block d) one far
+              let far : 2 + length frames < choice.from = omega arith in
+              table_waits widths choice protocol shape block (columns block) frames frame (get_or tables block d) one far
           | inr late ↦
-            table_stays widths choice protocol shape block (columns block) frames frame (get_or tables block d) one late
-            (not_shown choice block (1 + length frames) frame chosen none)
+              table_stays widths choice protocol shape block (columns block) frames frame (get_or tables block d) one late
+              (not_shown choice block (1 + length frames) frame chosen none)
         ];
   }
 
@@ -132,11 +131,11 @@ module _ (widths : Widths) (choice : Chosen) (protocol : Protocol) (shape : Exte
         count = length-set tables block grown.table ∙ so_far.count;
         each = λ k low chosen. elim (cases_eq k block) [
           | inl same ↦
-            subst (λ (j : ℕ). HoldsAt (IsTable widths choice protocol shape (columns j) (frames ++ frame ∷ []) j) (slice_set tables block grown.table) j) (sym same)
-            (held_at (IsTable widths choice protocol shape (columns block) (frames ++ frame ∷ []) block) tables block grown.table here grows)
+              subst (λ (j : ℕ). HoldsAt (IsTable widths choice protocol shape (columns j) (frames ++ frame ∷ []) j) (slice_set tables block grown.table) j) (sym same)
+              (held_at (IsTable widths choice protocol shape (columns block) (frames ++ frame ∷ []) block) tables block grown.table here grows)
           | inr other ↦
-            held_beside (IsTable widths choice protocol shape (columns k) (frames ++ frame ∷ []) k) tables block k grown.table other
-            (λ d. others_stay block k is other (get_or tables k d) (so_far.each k low chosen d))
+              held_beside (IsTable widths choice protocol shape (columns k) (frames ++ frame ∷ []) k) tables block k grown.table other
+              (λ d. others_stay block k is other (get_or tables k d) (so_far.each k low chosen d))
         ];
       })
 
@@ -169,8 +168,8 @@ module _ (widths : Widths) (choice : Chosen) (here : Situation) (columns : ℕ �
         count = length-set tables n started.table ∙ half.count;
         begun = λ block below inside chosen. elim (cases_eq block n) [
           | inl same ↦
-            subst (λ (j : ℕ). HoldsAt (HasRows widths choice here.shape j (columns j) here []) (slice_set tables n started.table) j) (sym same)
-            (held_at (HasRows widths choice here.shape n (columns n) here []) tables n started.table in_tables one)
+              subst (λ (j : ℕ). HoldsAt (HasRows widths choice here.shape j (columns j) here []) (slice_set tables n started.table) j) (sym same)
+              (held_at (HasRows widths choice here.shape n (columns n) here []) tables n started.table in_tables one)
           | inr other ↦ held_beside (HasRows widths choice here.shape block (columns block) here []) tables n block started.table other (half.begun block (omega arith) inside chosen)
         ];
         rest = λ block high inside chosen. held_beside (IsEmpty (columns block)) tables n block started.table (λ e. absurd (omega arith)) (half.rest block (omega arith) inside chosen);

@@ -1,9 +1,9 @@
 -- What one frame more adds to what is shown.
-use Rattle.std.proofs.Common.{◌≡◌, ℕ, zero, suc, ◌+◌, ◌-◌, ◌<◌, ◌≤◌, Bool, true, false, cond, List, [], ◌∷◌, ◌++◌, map, take, length, length-append, refl, sym, ap, subst, ◌∙◌, append_assoc, append-nil, arith}
-use Rattle.std.specs.Prelude.{◌&&◌, if◌then◌else◌, nat_le, nat_lt}
+use Rattle.std.proofs.Common.{◌≡◌, ℕ, ◌+◌, ◌-◌, ◌<◌, ◌≤◌, Bool, false, List, [], ◌∷◌, ◌++◌, map, length, length-append, refl, sym, ap, ◌∙◌, append_assoc, append-nil, arith}
+use Rattle.std.specs.Prelude.{◌&&◌, if◌then◌else◌, nat_le}
 use Rattle.std.specs.List.{filter}
 use Rattle.std.proofs.lemmas.Bool.{and_left, cond-false, lt-leb}
-use Rattle.std.proofs.lemmas.List.{map-append, take-append-le, take_all}
+use Rattle.std.proofs.lemmas.List.{take-append-le, take_all}
 use Rattle.std.proofs.lemmas.List.Elements.{filter-append}
 use Rattle.snoop_trace.specs.Extent.{Extent}
 use Rattle.snoop_trace.specs.declared.protocol.Protocol.{Protocol}
@@ -56,7 +56,7 @@ first_comes choice protocol shape frames frame h =
 -- one row more
 pub rows_on : (widths : Widths) (shape : Extent) (block : ℕ) (columns : List Column) (above : Situation) (ns : List Numbered) (n : Numbered)
     → rows_text widths shape block columns above (ns ++ n ∷ []) ≡ rows_text widths shape block columns above ns
-        ++ (cells_text widths columns (cell_text (led_to above (map (λ m. m.frame) ns)) block) (cell_text n.frame.after block) n.number ++ line_text shape n.frame.step n.frame.outcome)
+    ++ (cells_text widths columns (cell_text (led_to above (map (λ m. m.frame) ns)) block) (cell_text n.frame.after block) n.number ++ line_text shape n.frame.step n.frame.outcome)
 rows_on widths shape block columns above [] n =
     append-nil (cells_text widths columns (cell_text above block) (cell_text n.frame.after block) n.number ++ line_text shape n.frame.step n.frame.outcome)
 rows_on widths shape block columns above (m ∷ ms) n =

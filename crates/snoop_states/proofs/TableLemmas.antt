@@ -1,6 +1,6 @@
 -- The table of a block, when one frame more is seen.
 use Rattle.std.proofs.Common.{◌≡◌, ℕ, ◌+◌, ◌-◌, ◌<◌, ◌≤◌, Bool, true, false, cond, List, [], ◌∷◌, ◌++◌, map, take, length, length-append, refl, sym, ap, subst, ◌∙◌, append_assoc, append-nil, arith, codes, inl, inr}
-use Rattle.std.specs.Prelude.{◌&&◌, if◌then◌else◌, nat_lt}
+use Rattle.std.specs.Prelude.{◌&&◌, nat_lt}
 use Rattle.std.proofs.lemmas.Bool.{both_ways, cases_lt, false≢true, lt-ltb}
 use Rattle.std.proofs.lemmas.List.{map-append, take_all}
 use Rattle.snoop_trace.specs.Extent.{Extent}
@@ -10,7 +10,6 @@ use Rattle.snoop_engine.specs.Frames.{Frame}
 use Rattle.snoop_engine.specs.Line.{line_text}
 use Rattle.snoop_states.specs.declared.column.Column.{Column}
 use Rattle.snoop_states.specs.declared.widths.Widths.{Widths}
-use Rattle.snoop_states.specs.declared.table.Cell.{Cell}
 use Rattle.snoop_states.specs.declared.table.Table.{Table}
 use Rattle.snoop_states.specs.Cells.{cell_text}
 use Rattle.snoop_states.specs.Chosen.{Chosen, is_within}
@@ -18,7 +17,6 @@ use Rattle.snoop_states.specs.Rows.{cells_text, names_text}
 use Rattle.snoop_states.specs.Seen.{HasCells, HasRows, IsEmpty, IsRowMore, IsTable}
 use Rattle.snoop_states.specs.Tables.{Numbered, first_row, first_shown, heading_text, is_of, led_to, rows_text, shown_of, table_text}
 use Rattle.snoop_states.proofs.ShownLemmas.{first_comes, first_stays, led_on, none_yet, rows_on, shown_on}
-
 
 whole : (out a b c d e x y z u v : List ℕ) → x ≡ out ++ a → y ≡ x ++ b → z ≡ c ++ d → u ≡ y ++ z → v ≡ u ++ e → v ≡ out ++ ((((a ++ b) ++ c) ++ d) ++ e)
 whole out a b c d e x y z u v p q r s t =
@@ -29,8 +27,6 @@ longer frames frame = omega (arith, length-append frames (frame ∷ []))
 
 module _ (widths : Widths) (choice : Chosen) (protocol : Protocol) (shape : Extent) (block : ℕ) (columns : List Column) (frames : List Frame) (frame : Frame) (table : Table)
     (so_far : IsTable widths choice protocol shape columns frames block table) where
-
-
   -- the first step that is shown is still further on
   pub table_waits : 2 + length frames < choice.from → IsTable widths choice protocol shape columns (frames ++ frame ∷ []) block table
   table_waits h = record {
@@ -66,7 +62,7 @@ module _ (widths : Widths) (choice : Chosen) (protocol : Protocol) (shape : Exte
   -- the step is shown: the table gets its row
   pub table_grows : (new : Table) → choice.from ≤ 1 + length frames → (is_within choice (1 + length frames) && is_of block frame) ≡ true
       → ((above : Column → List ℕ) → HasCells columns above table.cells.items
-          → IsRowMore widths columns above (cell_text frame.after block) (1 + length frames) (line_text shape frame.step frame.outcome) table new × (new.is_shown ≡ true))
+      → IsRowMore widths columns above (cell_text frame.after block) (1 + length frames) (line_text shape frame.step frame.outcome) table new × (new.is_shown ≡ true))
       → IsTable widths choice protocol shape columns (frames ++ frame ∷ []) block new
   table_grows new h on more =
       let old : HasRows widths choice shape block columns (first_shown choice protocol shape frames) (shown_of choice block frames) table = so_far.late (omega arith) in
@@ -101,13 +97,12 @@ no_table widths choice protocol shape block columns start (n ∷ ns) h = absurd 
 some_table : (widths : Widths) (choice : Chosen) (protocol : Protocol) (shape : Extent) (block : ℕ) (columns : List Column) (start : Situation) (shown : List Numbered)
     → nat_lt 0 (length shown) ≡ true
     → table_text widths choice protocol shape block columns start shown
-        ≡ heading_text protocol shape block ++ names_text widths columns ++ first_row widths choice block columns start ++ rows_text widths shape block columns start shown ++ codes "\n"
+    ≡ heading_text protocol shape block ++ names_text widths columns ++ first_row widths choice block columns start ++ rows_text widths shape block columns start shown ++ codes "\n"
 some_table widths choice protocol shape block columns start [] h = absurd (false≢true h)
 some_table widths choice protocol shape block columns start (n ∷ ns) h = refl
 
 module _ (widths : Widths) (choice : Chosen) (protocol : Protocol) (shape : Extent) (block : ℕ) (columns : List Column) (frames : List Frame) (table : Table)
     (so_far : IsTable widths choice protocol shape columns frames block table) where
-
   late_if_shown : table.is_shown ≡ true → choice.from ≤ length frames + 1
   late_if_shown on = elim (cases_lt (length frames + 1) choice.from) [
     | inl early ↦ absurd (both_ways table.is_shown (so_far.early early).is_shown on)
@@ -118,10 +113,10 @@ module _ (widths : Widths) (choice : Chosen) (protocol : Protocol) (shape : Exte
   pub table_unshown : table.is_shown ≡ false → [] ≡ table_text widths choice protocol shape block columns (first_shown choice protocol shape frames) (shown_of choice block frames)
   table_unshown off = elim (cases_lt (length frames + 1) choice.from) [
     | inl early ↦
-      let few : 1 + length frames ≤ choice.from = omega arith in
-      ap (λ (ns : List Numbered). table_text widths choice protocol shape block columns (first_shown choice protocol shape frames) ns) (sym (none_yet choice block frames few))
+        let few : 1 + length frames ≤ choice.from = omega arith in
+        ap (λ (ns : List Numbered). table_text widths choice protocol shape block columns (first_shown choice protocol shape frames) ns) (sym (none_yet choice block frames few))
     | inr late ↦
-      no_table widths choice protocol shape block columns (first_shown choice protocol shape frames) (shown_of choice block frames) (sym (so_far.late late).is_shown ∙ off)
+        no_table widths choice protocol shape block columns (first_shown choice protocol shape frames) (shown_of choice block frames) (sym (so_far.late late).is_shown ∙ off)
   ]
 
   -- a table with one

@@ -1,5 +1,5 @@
 -- From the text of the view to the text of the steps.
-use Rattle.std.proofs.Common.{◌≡◌, ℕ, zero, suc, ◌+◌, ◌<◌, ◌≤◌, Bool, false, cond, Option, Some, None, List, [], ◌∷◌, ◌++◌, map, length, get_or, refl, sym, ap, subst, ◌∙◌, arith}
+use Rattle.std.proofs.Common.{◌≡◌, ℕ, zero, suc, ◌+◌, ◌<◌, ◌≤◌, Bool, false, cond, Option, Some, None, List, [], ◌∷◌, ◌++◌, map, length, refl, sym, ap, subst, ◌∙◌, arith}
 use Rattle.std.specs.Prelude.{slice_get}
 use Rattle.std.specs.Io.KnownBytes.{Appends}
 use Rattle.std.specs.List.{filter, flat_map, range_with_len}
@@ -80,7 +80,7 @@ module _ (protocol : Protocol) (shape : Extent) (choice : Chosen) (steps : List 
       ∙ ap (λ (t : List ℕ). t ++ end_text final)
       (flat_same (block_table (widths_of shape (steps_of frames)) choice protocol shape (columns_in shape view) frames) (block_table (widths_of shape (steps_of frames)) choice protocol shape of frames) 0 shape.blocks
       (λ block low high. ap (λ (l : List Column). cond (is_chosen choice.block block)
-          (table_text (widths_of shape (steps_of frames)) choice protocol shape block l (first_shown choice protocol shape frames) (shown_of choice block frames)) []) (columns block (omega arith))))
+      (table_text (widths_of shape (steps_of frames)) choice protocol shape block l (first_shown choice protocol shape frames) (shown_of choice block frames)) []) (columns block (omega arith))))
 
   pub shows_tables : (a b : Option (List ℕ))
       → ShowsRun protocol shape (view_text [] (λ fs f. []) (λ fs s. tables_text view.widths view.choice protocol shape (columns_in shape view) fs s)) steps a b

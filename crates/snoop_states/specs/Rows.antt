@@ -1,6 +1,6 @@
 -- A row of a table: a number, a cell in each column, and what is written of the step.
 -- Source: this project's profile.
-use Rattle.std.specs.Prelude.{ℕ, ◌-◌, max, List, [], ◌++◌, codes, length, replicate, if◌then◌else◌, nat_eq}
+use Rattle.std.specs.Prelude.{ℕ, ◌-◌, max, List, ◌++◌, codes, length, replicate, if◌then◌else◌, nat_eq}
 use Rattle.std.specs.Cmp.Lexicographic.{pointwise}
 use Rattle.std.specs.Fmt.{decimal}
 use Rattle.std.specs.List.{flat_map}

@@ -1,6 +1,6 @@
 -- What the tables of a run are while the run is seen.
 -- Source: this project's profile.
-use Rattle.std.specs.Prelude.{◌≡◌, ◌<◌, ◌≤◌, ℕ, ◌+◌, Bool, true, false, List, [], ◌++◌, length, map, nat_lt, slice_index_or, slice_set}
+use Rattle.std.specs.Prelude.{◌≡◌, ◌<◌, ◌≤◌, ℕ, ◌+◌, true, false, List, [], ◌++◌, length, map, nat_lt, slice_index_or, slice_set}
 use Rattle.std.specs.List.{HoldsAt}
 use Rattle.snoop_trace.specs.Extent.{Extent}
 use Rattle.snoop_trace.specs.declared.protocol.Protocol.{Protocol}

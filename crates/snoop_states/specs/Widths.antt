@@ -1,6 +1,6 @@
 -- How wide the columns of a text's tables are.
 -- Source: this project's profile.
-use Rattle.std.specs.Prelude.{ℕ, ◌+◌, ◌*◌, max, List, [], ◌∷◌, length, map}
+use Rattle.std.specs.Prelude.{ℕ, ◌+◌, ◌*◌, max, List, [], ◌∷◌, length}
 use Rattle.std.specs.Fmt.{decimal}
 use Rattle.snoop_trace.specs.Extent.{Extent}
 use Rattle.snoop_trace.specs.declared.step.Op.TheVariants.{Store}

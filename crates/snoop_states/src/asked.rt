@@ -85,11 +85,7 @@ fn mark(asked: &mut Vec<Marks>, step: Step)
 }
 
 /// Marks for each block: which cores ask for it in these steps.
-pub(crate) fn asked_by(
-    alloc: Global,
-    shape: Shape,
-    steps: &[Step],
-) -> Result<Vec<Marks>, NoMemory>
+pub(crate) fn asked_by(alloc: Global, shape: Shape, steps: &[Step]) -> Result<Vec<Marks>, NoMemory>
     ensures { IfOk result (λ asked. AreMarks shape (is_asker steps.now) asked.items) }
 {
     let mut asked = no_marks(alloc, shape)?;

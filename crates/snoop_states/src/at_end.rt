@@ -92,11 +92,7 @@ fn push_still_open(alloc: Global, out: &mut Vec<u8>, machine: &Machine) -> Resul
 }
 
 /// Appends the last line.
-pub(crate) fn push_end(
-    alloc: Global,
-    out: &mut Vec<u8>,
-    machine: &Machine,
-) -> Result<(), NoMemory>
+pub(crate) fn push_end(alloc: Global, out: &mut Vec<u8>, machine: &Machine) -> Result<(), NoMemory>
     ensures { OnOk result (out.new.items ≡ out.old.items ++ end_text machine.now.situation) }
 {
     push_text(out, "at the end: ")?;

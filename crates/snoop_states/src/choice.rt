@@ -46,12 +46,7 @@ impl Choice {
     ///
     /// It is refused by `BadBlock` where the block is not below the shape's blocks, and else by `BadRange` where `from` is 0
     /// or above `to`.
-    pub fn new(
-        shape: Shape,
-        block: Option<u32>,
-        from: u64,
-        to: u64,
-    ) -> Result<Choice, ChoiceFault>
+    pub fn new(shape: Shape, block: Option<u32>, from: u64, to: u64) -> Result<Choice, ChoiceFault>
         ensures { IsChoice shape block from to result }
     {
         if !Self::is_block(shape, block) {

@@ -34,11 +34,7 @@ fn first_byte(shape: Shape, block: u32) -> u64
 }
 
 /// Appends the protocol, the block and its bytes, and an empty line.
-pub(crate) fn push_heading(
-    out: &mut Vec<u8>,
-    machine: &Machine,
-    block: u32,
-) -> Result<(), NoMemory>
+pub(crate) fn push_heading(out: &mut Vec<u8>, machine: &Machine, block: u32) -> Result<(), NoMemory>
     ensures { OnOk result (out.new.items ≡ out.old.items ++ heading_text machine.now.situation.protocol machine.now.situation.shape block) }
 {
     let shape = machine.shape();

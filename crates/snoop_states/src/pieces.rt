@@ -130,11 +130,7 @@ pub(crate) fn push_line(
 }
 
 /// Adds a number, if it is to be there.
-pub(crate) fn add_if(
-    numbers: &mut Vec<u32>,
-    is_there: bool,
-    number: u32,
-) -> Result<(), NoMemory>
+pub(crate) fn add_if(numbers: &mut Vec<u32>, is_there: bool, number: u32) -> Result<(), NoMemory>
     ensures { OnOk result (numbers.new.items ≡ numbers.old.items ++ (if is_there then number ∷ [] else [])) }
 {
     if !is_there {

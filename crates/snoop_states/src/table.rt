@@ -14,9 +14,11 @@ ghost use Rattle.snoop_states.specs.declared.column.Column.{Column};
 ghost use Rattle.snoop_states.specs.declared.column.Column.TheVariants.{Bus, Core, Memory};
 
 use crate::cells::cell_text;
-use crate::heading::push_heading;
 use crate::column::{Column, name_of, width_of};
-use crate::pieces::{decimal_text, push_below, push_bytes, push_line, push_padded, push_to_the_right};
+use crate::heading::push_heading;
+use crate::pieces::{
+    decimal_text, push_below, push_bytes, push_line, push_padded, push_to_the_right,
+};
 use crate::widths::Widths;
 use snoop_machine::{Machine, Refused, Reply};
 use snoop_trace::streams::push_text;
@@ -140,7 +142,6 @@ fn first_line(from: u64) -> &'static str
 }
 
 impl Table {
-
     /// The table of a block for which these cores asked, without a row.
     pub(crate) fn new(alloc: Global, cores: &[u32]) -> Result<Table, NoMemory>
         ensures { IfOk result (IsEmpty (map Core cores.now ++ Bus ∷ Memory ∷ [])) }
@@ -221,7 +222,7 @@ impl Table {
         ensures { (choice : Chosen) (columns : List Column) (frames : List Frame)
             → IsTable widths choice machine.now.situation.protocol machine.now.situation.shape columns frames block self.now
             → OnOk result (out.new.items ≡ out.old.items ++ table_text widths choice machine.now.situation.protocol machine.now.situation.shape block columns
-                (first_shown choice machine.now.situation.protocol machine.now.situation.shape frames) (shown_of choice block frames)) }
+            (first_shown choice machine.now.situation.protocol machine.now.situation.shape frames) (shown_of choice block frames)) }
     {
         if self.is_shown {
             push_heading(out, machine, block)?;

@@ -67,12 +67,7 @@ fn add(tables: &mut Vec<Table>, table: Table) -> Result<(), NoMemory>
 }
 
 // The table of a block without a row.
-fn empty_table(
-    alloc: Global,
-    shape: Shape,
-    asked: &[Marks],
-    block: u32,
-) -> Result<Table, NoMemory>
+fn empty_table(alloc: Global, shape: Shape, asked: &[Marks], block: u32) -> Result<Table, NoMemory>
     ensures { IfOk result (IsEmpty (columns_for shape (mark_at asked.now block))) }
 {
     let cores = askers(alloc, shape, asked, block)?;
@@ -155,7 +150,7 @@ fn begin_tables(
 ) -> Result<Vec<Table>, NoMemory>
     ensures { machine.now.situation ≡ reset machine.now.situation.protocol machine.now.situation.shape
         → IfOk result (λ tables. AreTables machine.now.situation.shape choice
-            (λ block. IsTable widths choice machine.now.situation.protocol machine.now.situation.shape (columns_for machine.now.situation.shape (mark_at asked.now block)) [] block) tables.items) }
+        (λ block. IsTable widths choice machine.now.situation.protocol machine.now.situation.shape (columns_for machine.now.situation.shape (mark_at asked.now block)) [] block) tables.items) }
 {
     let mut tables = empty_tables(alloc, machine.shape(), asked)?;
     if choice.from() == 1 {
@@ -184,15 +179,7 @@ fn show_at(
 {
     let at = block as usize;
     if at < tables.len() {
-        tables[at].push_step(
-            alloc,
-            widths,
-            machine,
-            block,
-            number,
-            step,
-            outcome,
-        )
+        tables[at].push_step(alloc, widths, machine, block, number, step, outcome)
     } else {
         Ok(())
     }
@@ -236,7 +223,9 @@ fn show_step(
     } else {
         match shown_block(choice, of, number) {
             None => Ok(()),
-            Some(block) => show_at(alloc, choice, widths, tables, machine, block, number, step, outcome),
+            Some(block) => show_at(
+                alloc, choice, widths, tables, machine, block, number, step, outcome,
+            ),
         }
     }
 }
@@ -300,7 +289,12 @@ impl View for Tables {
         Ok(())
     }
 
-    fn see(&mut self, _out: &mut Vec<u8>, machine: &Machine, seen: Seen<'_>) -> Result<(), NoMemory> {
+    fn see(
+        &mut self,
+        _out: &mut Vec<u8>,
+        machine: &Machine,
+        seen: Seen<'_>,
+    ) -> Result<(), NoMemory> {
         show_step(
             self.alloc,
             self.choice,
@@ -315,7 +309,14 @@ impl View for Tables {
     }
 
     fn end(&mut self, out: &mut Vec<u8>, machine: &Machine) -> Result<(), NoMemory> {
-        push_tables(self.alloc, self.choice, self.widths, out, &self.tables, machine)?;
+        push_tables(
+            self.alloc,
+            self.choice,
+            self.widths,
+            out,
+            &self.tables,
+            machine,
+        )?;
         push_end(self.alloc, out, machine)
     }
 }

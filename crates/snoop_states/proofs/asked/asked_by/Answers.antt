@@ -1,12 +1,10 @@
-use Rattle.std.proofs.Common.{◌≡◌, ℕ, ◌+◌, ◌<◌, ◌∙◌, Bool, List, take, sym, ap, subst}
-use Rattle.std.specs.Prelude.{◌||◌}
-use Rattle.std.specs.List.{HoldsAt}
+use Rattle.std.proofs.Common.{◌≡◌, ℕ, ◌+◌, ◌∙◌, Bool, List, take}
 use Rattle.std.proofs.lemmas.List.{take_all}
 use Rattle.snoop_trace.specs.Extent.{Extent}
 use Rattle.snoop_trace.specs.declared.step.Step.{Step}
 use Rattle.snoop_trace.specs.declared.step.Op.TheVariants.{Load}
 use Rattle.snoop_trace.specs.declared.step.Step.TheVariants.{Ask}
-use Rattle.snoop_states.specs.Asked.{AreMarks, HasMarks}
+use Rattle.snoop_states.specs.Asked.{AreMarks}
 use Rattle.snoop_states.specs.Columns.{asks, is_asker}
 use Rattle.snoop_states.specs.declared.asked.Marks.{Marks}
 use Rattle.snoop_states.proofs.AskLemmas.{any_more}

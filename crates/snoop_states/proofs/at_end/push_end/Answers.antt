@@ -12,5 +12,5 @@ returns c =
     let s = c.args.machine.now.situation in
     on_ok_weaker c.push_text-3.result
     (λ e. five c.args.out.now.items (codes "at the end: ") (waiting_text s) (codes "; ") (still_open_text s) (codes "\n") _ _ _ _ _
-        c.in_ok-push_text.ensures.ok c.in_ok-push_waiting.ensures c.in_ok-push_text-2.ensures.ok c.in_ok-push_still_open.ensures e)
+    c.in_ok-push_text.ensures.ok c.in_ok-push_waiting.ensures c.in_ok-push_text-2.ensures.ok c.in_ok-push_still_open.ensures e)
     c.push_text-3.ensures.ok

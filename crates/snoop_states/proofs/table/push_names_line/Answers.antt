@@ -15,5 +15,5 @@ returns c columns text has =
     let g : Column × List ℕ → List ℕ = λ p. padded (width_of c.args.widths p.0) (column_name p.0) in
     on_ok_weaker c.push_text.result
     (λ e. three c.args.out.now.items (to_the_right c.args.widths.number (codes "step")) _ (flat_map (λ column. padded (width_of c.args.widths column) (column_name column)) columns) (codes "line\n") _ _ _
-        c.in_ok-push_to_the_right.ensures c.in_ok-push_names.ensures (pieces_of g columns text c.args.cells.now has) e)
+    c.in_ok-push_to_the_right.ensures c.in_ok-push_names.ensures (pieces_of g columns text c.args.cells.now has) e)
     c.push_text.ensures.ok

@@ -8,10 +8,11 @@ use Rattle.snoop_states.proofs.tables.empty_tables.Goals as goal
 
 pub loop-block-preserved : goal.loop-block-preserved
 loop-block-preserved c =
-    let one : Table = c.in_ok-empty_table.field-0 in
-    (ap length c.in_ok-add.ensures ∙ longer c.loop-block.tables.items one c.loop-block.block c.loop-block.invariant.0,
-        rw c.in_ok-add.ensures (held_more (λ k. IsEmpty (columns_for c.args.shape (mark_at c.args.asked.now k))) c.loop-block.tables.items one c.loop-block.block
-        c.loop-block.invariant.0 c.loop-block.invariant.1 c.in_ok-empty_table.ensures))
+    let one : Table = c.in_ok-empty_table.field-0 in (
+      ap length c.in_ok-add.ensures ∙ longer c.loop-block.tables.items one c.loop-block.block c.loop-block.invariant.0,
+      rw c.in_ok-add.ensures (held_more (λ k. IsEmpty (columns_for c.args.shape (mark_at c.args.asked.now k))) c.loop-block.tables.items one c.loop-block.block
+          c.loop-block.invariant.0 c.loop-block.invariant.1 c.in_ok-empty_table.ensures),
+    )
 
 pub returns : goal.returns
 returns c choice =

@@ -20,7 +20,7 @@ returns-then-number-from c protocol columns frames frame after step outcome coun
     let first : c.args.choice.from ≡ 2 + length frames = omega (arith, c.from.ensures.value, c.from.ensures.within) in
     on_ok_weaker c.start_tables.result
     (λ begun. all_begun c.args.widths c.args.choice protocol s.shape columns frames frame c.args.tables.now.items are c.start_tables.new.tables.items first
-        (subst (λ (h : Situation). AreTables s.shape c.args.choice (λ block. HasRows c.args.widths c.args.choice s.shape block (columns block) h []) c.start_tables.new.tables.items) (sym after) begun))
+    (subst (λ (h : Situation). AreTables s.shape c.args.choice (λ block. HasRows c.args.widths c.args.choice s.shape block (columns block) h []) c.start_tables.new.tables.items) (sym after) begun))
     (c.start_tables.ensures columns (none_begun c.args.widths c.args.choice protocol s.shape columns frames frame c.args.tables.now.items are first))
 
 pub returns-in-None : goal.returns-in-None
@@ -30,7 +30,7 @@ returns-in-None c protocol columns frames frame after step outcome counted of ar
     all_stay c.args.widths c.args.choice protocol s.shape columns frames frame c.args.tables.now.items are
     (λ e. omega (arith, c.from.ensures.value, c.from.ensures.within, c.if-number-from.false))
     (subst (λ (n : ℕ). shown_block c.args.choice (block_of frame.before frame.step) n ≡ None) counted
-        (subst (λ (o : Option ℕ). shown_block c.args.choice o c.args.number ≡ None) of none))
+    (subst (λ (o : Option ℕ). shown_block c.args.choice o c.args.number ≡ None) of none))
 
 pub returns-in-Some : goal.returns-in-Some
 returns-in-Some c protocol columns frames frame after step outcome counted of are =
@@ -44,18 +44,18 @@ returns-in-Some c protocol columns frames frame after step outcome counted of ar
     let new : List Table = c.show_at.new.tables.items in
     elim (cases_lt block s.shape.blocks) [
       | inl low ↦
-        let there : block < length old = omega (arith, are.count) in
-        on_ok_weaker c.show_at.result
-        (λ grown. one_grows c.args.widths c.args.choice protocol s.shape columns frames frame old are new block here low
-            (subst (λ (h : Situation). IsGrownAt c.args.widths h block (1 + length frames) (line_text s.shape frame.step frame.outcome) old new) (sym after)
-                (subst (λ (n : ℕ). IsGrownAt c.args.widths s block n (line_text s.shape frame.step frame.outcome) old new) counted
-                (subst (λ (t : Step). IsGrownAt c.args.widths s block c.args.number (line_text s.shape t frame.outcome) old new) (sym step)
-                (subst (λ (o : Result Reply Refused). IsGrownAt c.args.widths s block c.args.number (line_text s.shape c.args.step o) old new) (sym outcome) grown)))))
-        (c.show_at.ensures.inside there)
+          let there : block < length old = omega (arith, are.count) in
+          on_ok_weaker c.show_at.result
+          (λ grown. one_grows c.args.widths c.args.choice protocol s.shape columns frames frame old are new block here low
+          (subst (λ (h : Situation). IsGrownAt c.args.widths h block (1 + length frames) (line_text s.shape frame.step frame.outcome) old new) (sym after)
+          (subst (λ (n : ℕ). IsGrownAt c.args.widths s block n (line_text s.shape frame.step frame.outcome) old new) counted
+          (subst (λ (t : Step). IsGrownAt c.args.widths s block c.args.number (line_text s.shape t frame.outcome) old new) (sym step)
+          (subst (λ (o : Result Reply Refused). IsGrownAt c.args.widths s block c.args.number (line_text s.shape c.args.step o) old new) (sym outcome) grown)))))
+          (c.show_at.ensures.inside there)
       | inr high ↦
-        let past : length old ≤ block = omega (arith, are.count) in
-        on_ok_weaker c.show_at.result
-        (λ same. subst (λ (tables : List Table). AreTables s.shape c.args.choice (λ k. IsTable c.args.widths c.args.choice protocol s.shape (columns k) (frames ++ frame ∷ []) k) tables) (sym same)
-            (none_grows c.args.widths c.args.choice protocol s.shape columns frames frame old are block here high))
-        (c.show_at.ensures.outside past)
+          let past : length old ≤ block = omega (arith, are.count) in
+          on_ok_weaker c.show_at.result
+          (λ same. subst (λ (tables : List Table). AreTables s.shape c.args.choice (λ k. IsTable c.args.widths c.args.choice protocol s.shape (columns k) (frames ++ frame ∷ []) k) tables) (sym same)
+          (none_grows c.args.widths c.args.choice protocol s.shape columns frames frame old are block here high))
+          (c.show_at.ensures.outside past)
     ]

@@ -1,7 +1,7 @@
-use Rattle.std.proofs.Common.{◌≡◌, ℕ, ◌∙◌, max, get_or, take, ap}
+use Rattle.std.proofs.Common.{ℕ, ◌∙◌, max, get_or, ap}
 use Rattle.snoop_trace.specs.declared.step.Op.TheVariants.{Load}
 use Rattle.snoop_trace.specs.declared.step.Step.TheVariants.{Ask}
-use Rattle.snoop_states.specs.Widths.{largest, stored}
+use Rattle.snoop_states.specs.Widths.{stored}
 use Rattle.snoop_states.proofs.WidthLemmas.{largest_more}
 use Rattle.snoop_states.proofs.widths.largest.Goals as goal
 

@@ -15,10 +15,12 @@ pub returns : goal.returns
 returns c columns above has =
     let s = c.args.machine.now.situation in
     let block : ℕ = c.args.block in
-    let g : Column × List ℕ → List ℕ = λ p. padded (width_of c.args.widths p.0) (below p.1 (cell_text s block p.0)) in
-    (record {
-      cells = (rw c.deref.ensures.value at c.in_ok-self.ensures.cells) ∙ cells_of columns above (cell_text s block) c.args.self.now.cells.items has;
-      rows = two c.args.self.now.rows.items (to_the_right c.args.widths.number (decimal c.args.number)) _
-        (flat_map (λ column. padded (width_of c.args.widths column) (below (above column) (cell_text s block column))) columns) _ _
-        c.in_ok-push_number.ensures (rw c.deref.ensures.value at c.in_ok-self.ensures.text) (pieces_of g columns above c.args.self.now.cells.items has);
-    }, refl)
+    let g : Column × List ℕ → List ℕ = λ p. padded (width_of c.args.widths p.0) (below p.1 (cell_text s block p.0)) in (
+      record {
+        cells = (rw c.deref.ensures.value at c.in_ok-self.ensures.cells) ∙ cells_of columns above (cell_text s block) c.args.self.now.cells.items has;
+        rows = two c.args.self.now.rows.items (to_the_right c.args.widths.number (decimal c.args.number)) _
+            (flat_map (λ column. padded (width_of c.args.widths column) (below (above column) (cell_text s block column))) columns) _ _
+            c.in_ok-push_number.ensures (rw c.deref.ensures.value at c.in_ok-self.ensures.text) (pieces_of g columns above c.args.self.now.cells.items has);
+      },
+      refl,
+    )

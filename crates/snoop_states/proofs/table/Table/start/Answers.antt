@@ -16,7 +16,7 @@ returns c choice columns e empty =
     (λ last. rw e (record {
       cells = row.0.cells;
       rows = first_then c.args.self.now.rows.items (cells_text c.args.widths columns none (cell_text s c.args.block) (c.args.from - 1)) (first_line c.args.from) _ _
-        empty.rows row.0.rows (last ∙ ap (λ (t : List ℕ). c.push_row.new.self.rows.items ++ t) c.first_line.ensures);
+          empty.rows row.0.rows (last ∙ ap (λ (t : List ℕ). c.push_row.new.self.rows.items ++ t) c.first_line.ensures);
       is_shown = row.1 ∙ empty.is_shown;
     }))
     c.push_text.ensures.ok
