@@ -6,7 +6,8 @@ use std::alloc::Global;
 use std::test::Fail;
 
 /// Two cores read a block, and both ask to write it.
-const RACE: &[u8] = b"L,0,0\nO,0\nR,0\nL,1,0\nO,1\nR,0\nS,0,0,5\nS,1,0,6\nO,1\nO,0\nR,0\nO,0\nR,0\n";
+const RACE: &[u8] =
+    b"L,0,0\nO,0\nR,0\nL,1,0\nO,1\nR,0\nS,0,0,5\nS,1,0,6\nO,1\nO,0\nR,0\nO,0\nR,0\n";
 
 const RACE_TABLE: &str = "\
 MSI, block 0 (bytes 0 to 63)
@@ -121,7 +122,9 @@ fn choices(rt: HostRuntime) -> Result<(), Fail> {
     let shape = Shape::new(2, 4, 64)?;
     let choice = Choice::new(shape, Some(3), 2, 5)?;
     assert!(rt; choice.block() == Some(3) && choice.from() == 2 && choice.to() == 5);
-    assert!(rt; choice.has_block(3) && !choice.has_block(2) && choice.has_number(5) && !choice.has_number(6));
+    assert!(rt;
+        choice.has_block(3) && !choice.has_block(2) && choice.has_number(5) && !choice.has_number(6)
+    );
     assert!(rt; Choice::new(shape, Some(4), 0, 5) == Err(ChoiceFault::BadBlock));
     assert!(rt; Choice::new(shape, None, 0, 5) == Err(ChoiceFault::BadRange));
     assert!(rt; Choice::new(shape, None, 6, 5) == Err(ChoiceFault::BadRange));
