@@ -21,7 +21,7 @@ use Rattle.snoop_engine.specs.Views.{IsNext, block_of, frame_seen, shown, view_t
 use Rattle.snoop_engine.specs.declared.fault.SimFault.{SimFault}
 use Rattle.snoop_engine.specs.declared.fault.SimFault.TheVariants.{Text, NoMemory, Write}
 use Rattle.snoop_engine.specs.declared.seen.Seen.{Seen}
-use Rattle.snoop_engine.proofs.TrueLines.{lines_true}
+use Rattle.snoop_engine.proofs.TrueLines.{lines_fit}
 use Rattle.snoop_engine.proofs.FrameLemmas.{are_the_run, framed, frames_keep, frames_on, steps_counted, steps_of_on}
 
 -- what is shown of more frames comes after what is shown of the first
@@ -60,7 +60,7 @@ module _ (protocol : Protocol) (shape : Extent) (heading : List ℕ) (shows : Li
         final = further.1.0;
         run = are;
         taken = are_the_run protocol shape steps (frames ++ more.0) further.1.0 are;
-        rows = lines_true protocol shape (frames ++ more.0) further.1.0 are.run;
+        rows = lines_fit protocol shape (frames ++ more.0) further.1.0 are.run;
         output = subst (λ (t : List ℕ). AppendsFront a b t) (sym (text_on frames more.0 further.1.0)) (cut (shown shows frames more.0 ++ ending (frames ++ more.0) further.1.0));
       }
 
@@ -175,7 +175,7 @@ module _ (protocol : Protocol) (shape : Extent) (heading : List ℕ) (shows : Pr
       final = to;
       run = are;
       taken = are_the_run protocol shape steps far.frames to are;
-      rows = lines_true protocol shape far.frames to far.run;
+      rows = lines_fit protocol shape far.frames to far.run;
       output = gathers_done a b c grown (view_text heading (shows protocol shape) (ending protocol shape) far.frames to) all_lines p;
     }
 
@@ -186,7 +186,7 @@ module _ (protocol : Protocol) (shape : Extent) (heading : List ℕ) (shows : Pr
       final = to;
       run = are;
       taken = are_the_run protocol shape steps far.frames to are;
-      rows = lines_true protocol shape far.frames to far.run;
+      rows = lines_fit protocol shape far.frames to far.run;
       output = subst (λ (t : List ℕ). AppendsFront a c t) (append-nil (view_text heading (shows protocol shape) (ending protocol shape) far.frames to))
           (gathers_cut a b c grown (view_text heading (shows protocol shape) (ending protocol shape) far.frames to) [] all_lines cut);
     }

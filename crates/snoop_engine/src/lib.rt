@@ -11,6 +11,7 @@ mod events;
 mod fault;
 mod lane;
 mod line;
+mod names;
 mod packed;
 mod run;
 mod script;
