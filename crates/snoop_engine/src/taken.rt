@@ -4,6 +4,7 @@ ghost use Rattle.std.specs.List.{flat_map, range_with_len};
 ghost use Rattle.snoop_model.specs.Moves.Refuses.{Refuses};
 ghost use Rattle.snoop_model.specs.Runs.Run.{GoesFirst};
 ghost use Rattle.snoop_model.specs.declared.replies.Refused.{Refused as Cause};
+ghost use Rattle.snoop_engine.specs.Views.{block_of};
 ghost use Rattle.snoop_engine.specs.Taken.{lines_of, memory_at, of_arrival, of_arrival_at_memory, of_ask, of_core, of_holder, of_memory, of_request, of_requestor, of_respond, refused_by, state_at, taken_by, of_waiting_memory, unless_i};
 
 use crate::events::{
@@ -362,4 +363,24 @@ pub(crate) fn take_step(
         }
     }
     Ok(outcome)
+}
+
+/// The block that a step is of: that of an Ask or a Respond, at an Order that of the core's oldest request; `None` where
+/// none waits.
+pub(crate) fn block_of(machine: &Machine, step: Step) -> Option<u32>
+    ensures { result ≡ block_of machine.now.situation step }
+{
+    match step {
+        Step::Ask {
+            core: _,
+            block,
+            word: _,
+            op: _,
+        } => Some(block),
+        Step::Order { core } => match machine.head(core) {
+            None => None,
+            Some((_, block)) => Some(block),
+        },
+        Step::Respond { block } => Some(block),
+    }
 }
