@@ -12,6 +12,7 @@ mod fault;
 mod lane;
 mod line;
 mod literals;
+mod names;
 mod packed;
 mod run;
 mod script;
