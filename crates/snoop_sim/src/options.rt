@@ -1,9 +1,9 @@
 //! The command line: its words and what they ask for.
-ghost use Rattle.std.specs.Prelude.{◌≡◌, IfErr, IfOk, codes, false, map, string_bytes};
-ghost use Rattle.clap.specs.Words.{app_of, first_of, found_of, one_of, rows_of, rule_of, subcommand_rows_of};
-ghost use Rattle.snoop_sim.specs.Asked.{Asks, HasNoTask, HasTask, Refuses};
-ghost use Rattle.snoop_sim.specs.CommandLine.{IsForms, IsGroupings, IsLocal, IsProtocols, IsSnoop, IsTables, Names, form_rule, grouping_rule, number_rule, protocol_rule, serial_rule, simulation_app, table_app};
-ghost use Rattle.snoop_sim.specs.Options.{IsNumberOf, IsShapeOf, asks_serial, protocol_named, which_named};
+ghost use Rattle.std.specs.Prelude.{◌≡◌, ◌≢◌, [], IfErr, IfOk, codes, false, map, string_bytes};
+ghost use Rattle.clap.specs.Words.{app_of, found_of, one_of, rows_of, rule_of, subcommand_rows_of};
+ghost use Rattle.snoop_sim.specs.Asked.{Asks, HasNoEngine, HasNoTask, HasTask, IsEngineOf, IsTaskOf, Refuses};
+ghost use Rattle.snoop_sim.specs.CommandLine.{IsCounts, IsForms, IsGroupings, IsLocal, IsProtocols, IsRun, IsSimulation, IsSnoop, IsStates, IsSteps, IsTable, IsThreads, Names, flag_rule, form_rule, grouping_rule, number_rule, protocol_rule, top_app};
+ghost use Rattle.snoop_sim.specs.Options.{IsNumberOf, IsShapeOf, asks_serial, protocol_named, says, which_named};
 
 use crate::failure::Failure;
 use crate::help;
@@ -17,13 +17,19 @@ use std::alloc::{AllocError, Global};
 #[derive(Debug, Drop)]
 pub(crate) enum Task {
     Help(Error),
-    Steps(Protocol, Shape),
-    Run(Protocol, Shape),
-    Serial(Protocol, Shape),
-    Threads(Protocol, Shape),
-    States(Protocol, Shape),
-    Counts(Protocol, Shape),
     Table(Protocol, Which),
+    Simulate(Protocol, Shape, Engine),
+}
+
+/// What is done with a text.
+#[derive(Clone, Copy, Debug, PartialEq, Eq)]
+pub(crate) enum Engine {
+    Steps,
+    Run,
+    Serial,
+    Threads,
+    States,
+    Counts,
 }
 
 static PROTOCOLS: [&str; 2] = ["msi", "mesi"];
@@ -52,14 +58,34 @@ fn task_of(matches: &ArgMatches) -> Result<Task, Failure>
 {
     match matches.subcommand() {
         Some(("table", options)) => Ok(Task::Table(protocol_in(options), which_in(options))),
-        Some(("run", options)) if is_serial(options) => {
-            Ok(Task::Serial(protocol_in(options), shape_in(options)?))
-        }
-        Some(("run", options)) => Ok(Task::Run(protocol_in(options), shape_in(options)?)),
-        Some(("threads", options)) => Ok(Task::Threads(protocol_in(options), shape_in(options)?)),
-        Some(("states", options)) => Ok(Task::States(protocol_in(options), shape_in(options)?)),
-        Some(("counts", options)) => Ok(Task::Counts(protocol_in(options), shape_in(options)?)),
-        Some(("steps", options)) => Ok(Task::Steps(protocol_in(options), shape_in(options)?)),
+        Some((name, options)) => simulation_of(name, options),
+        None => Err(Failure::NoCommand),
+    }
+}
+
+/// The simulation that a command other than `table` asks for.
+fn simulation_of(name: &str, options: &ArgMatches) -> Result<Task, Failure>
+    requires { name.now ≢ codes "table" }
+    ensures ok { IfOk result (IsTaskOf (name.now, rows_of (found_of options.now))) }
+    ensures err { IfErr result (HasNoTask (Some (name.now, rows_of (found_of options.now)))) }
+{
+    let shape = shape_in(options)?;
+    let engine = engine_of(name, options)?;
+    Ok(Task::Simulate(protocol_in(options), shape, engine))
+}
+
+/// The engine of a command that simulates.
+fn engine_of(name: &str, options: &ArgMatches) -> Result<Engine, Failure>
+    ensures ok { IfOk result (IsEngineOf name.now (rows_of (found_of options.now))) }
+    ensures err { IfErr result (HasNoEngine name.now) }
+{
+    match name {
+        "steps" => Ok(Engine::Steps),
+        "run" if is_serial(options) => Ok(Engine::Serial),
+        "run" => Ok(Engine::Run),
+        "threads" => Ok(Engine::Threads),
+        "states" => Ok(Engine::States),
+        "counts" => Ok(Engine::Counts),
         _ => Err(Failure::NoCommand),
     }
 }
@@ -68,46 +94,89 @@ fn task_of(matches: &ArgMatches) -> Result<Task, Failure>
 fn grammar<'a>(alloc: Global) -> Result<Command<'a>, AllocError>
     ensures { IfOk result (λ command. IsSnoop (app_of command)) }
 {
-    Command::new(alloc, "snoop")
-        .bin_name("snoop")?
-        .version("0.1.0")
-        .about("Simulates private caches on a snooping bus, under MSI or MESI")
-        .after_help(help::PROGRAM)
-        .subcommand_required(true)
-        .subcommand(simulation(
-            alloc,
-            "steps",
-            "Read steps; write each one's reply and a report",
-            help::STEPS,
-        )?)?
-        .subcommand(simulation(
-            alloc,
-            "run",
-            "Read what each core does; write each step's reply and a report",
-            help::RUN,
-        )?
-        .arg(serial(alloc))?)?
-        .subcommand(simulation(
-            alloc,
-            "threads",
-            "Read what each core does, let a thread for each do it; write the steps taken",
-            help::THREADS,
-        )?)?
-        .subcommand(simulation(
-            alloc,
-            "states",
-            "Read steps; write which row of its table each controller took",
-            help::STATES,
-        )?
-        .arg(form(alloc))?)?
-        .subcommand(simulation(
-            alloc,
-            "counts",
-            "Read steps; write how often each row of the tables was taken",
-            help::COUNTS,
-        )?
-        .arg(grouping(alloc))?)?
+    top(alloc)?
+        .subcommand(steps(alloc)?)?
+        .subcommand(run(alloc)?)?
+        .subcommand(threads(alloc)?)?
+        .subcommand(states(alloc)?)?
+        .subcommand(counts(alloc)?)?
         .subcommand(table(alloc)?)
+}
+
+/// The program before its commands.
+fn top<'a>(alloc: Global) -> Result<Command<'a>, AllocError>
+    ensures { IfOk result (λ command. IsLocal command × (app_of command ≡ top_app)) }
+{
+    let named = Command::new(alloc, "snoop").bin_name("snoop")?;
+    Ok(
+        named
+            .version("0.1.0")
+            .about("Simulates private caches on a snooping bus, under MSI or MESI")
+            .after_help(help::PROGRAM)
+            .subcommand_required(true),
+    )
+}
+
+fn steps<'a>(alloc: Global) -> Result<Command<'a>, AllocError>
+    ensures { IfOk result (λ command. IsLocal command × IsSteps (app_of command)) }
+{
+    simulation(
+        alloc,
+        "steps",
+        "Read steps; write each one's reply and a report",
+        help::STEPS,
+    )
+}
+
+fn run<'a>(alloc: Global) -> Result<Command<'a>, AllocError>
+    ensures { IfOk result (λ command. IsLocal command × IsRun (app_of command)) }
+{
+    simulation(
+        alloc,
+        "run",
+        "Read what each core does; write each step's reply and a report",
+        help::RUN,
+    )?
+    .arg(flag(
+        alloc,
+        "serial",
+        "Do each line whole before the next, in the order of the text",
+    ))
+}
+
+fn threads<'a>(alloc: Global) -> Result<Command<'a>, AllocError>
+    ensures { IfOk result (λ command. IsLocal command × IsThreads (app_of command)) }
+{
+    simulation(
+        alloc,
+        "threads",
+        "Read what each core does, let a thread for each do it; write the steps taken",
+        help::THREADS,
+    )
+}
+
+fn states<'a>(alloc: Global) -> Result<Command<'a>, AllocError>
+    ensures { IfOk result (λ command. IsLocal command × IsStates (app_of command)) }
+{
+    simulation(
+        alloc,
+        "states",
+        "Read steps; write which row of its table each controller took",
+        help::STATES,
+    )?
+    .arg(form(alloc))
+}
+
+fn counts<'a>(alloc: Global) -> Result<Command<'a>, AllocError>
+    ensures { IfOk result (λ command. IsLocal command × IsCounts (app_of command)) }
+{
+    simulation(
+        alloc,
+        "counts",
+        "Read steps; write how often each row of the tables was taken",
+        help::COUNTS,
+    )?
+    .arg(grouping(alloc))
 }
 
 /// A command that simulates a text on a machine of some shape; the help says what the text is.
@@ -117,7 +186,7 @@ fn simulation<'a>(
     about: &'a str,
     help: &'a str,
 ) -> Result<Command<'a>, AllocError>
-    ensures { IfOk result (λ command. IsLocal command × ((protocols : Names) × IsProtocols protocols × (app_of command ≡ simulation_app name.entry.now protocols))) }
+    ensures { IfOk result (λ command. IsLocal command × IsSimulation name.entry.now [] (app_of command)) }
 {
     Command::new(alloc, name)
         .about(about)
@@ -145,7 +214,7 @@ fn simulation<'a>(
 }
 
 fn table<'a>(alloc: Global) -> Result<Command<'a>, AllocError>
-    ensures { IfOk result (λ command. IsLocal command × ((protocols tables : Names) × IsProtocols protocols × IsTables tables × (app_of command ≡ table_app protocols tables))) }
+    ensures { IfOk result (λ command. IsLocal command × IsTable (app_of command)) }
 {
     let which = Arg::new(alloc, "which")
         .long("which")
@@ -170,12 +239,12 @@ fn protocol<'a>(alloc: Global) -> Arg<'a>
         .default_value("msi")
 }
 
-fn serial<'a>(alloc: Global) -> Arg<'a>
-    ensures { (result.global ≡ false) × (rule_of result ≡ serial_rule) }
+fn flag<'a>(alloc: Global, name: &'a str, help: &'a str) -> Arg<'a>
+    ensures { (result.global ≡ false) × (rule_of result ≡ flag_rule name.entry.now) }
 {
-    Arg::new(alloc, "serial")
-        .long("serial")
-        .help("Do each line whole before the next, in the order of the text")
+    Arg::new(alloc, name)
+        .long(name)
+        .help(help)
         .action(ArgAction::SetTrue)
 }
 
@@ -211,7 +280,7 @@ fn number<'a>(alloc: Global, name: &'a str, default: &'a str, help: &'a str) -> 
 
 /// The protocol that was named, in either case.
 fn protocol_in(options: &ArgMatches) -> Protocol
-    ensures { result ≡ protocol_named (first_of (codes "protocol") (rows_of (found_of options.now))) }
+    ensures { result ≡ protocol_named (rows_of (found_of options.now)) }
 {
     match options.get_str("protocol") {
         Some(name) if name.eq_ignore_ascii_case("mesi") => Protocol::Mesi,
@@ -221,21 +290,29 @@ fn protocol_in(options: &ArgMatches) -> Protocol
 
 /// Whether the rows are served one after another.
 fn is_serial(options: &ArgMatches) -> bool
-    ensures { result ≡ asks_serial (first_of (codes "serial") (rows_of (found_of options.now))) }
+    ensures { result ≡ asks_serial (rows_of (found_of options.now)) }
 {
-    match options.get_str("serial") {
-        Some("true") => true,
-        _ => false,
-    }
+    says(options, "serial", "true")
 }
 
 /// The table that was named.
 fn which_in(options: &ArgMatches) -> Which
-    ensures { result ≡ which_named (first_of (codes "which") (rows_of (found_of options.now))) }
+    ensures { result ≡ which_named (rows_of (found_of options.now)) }
 {
-    match options.get_str("which") {
-        Some("memory") => Which::Memory,
-        _ => Which::Cache,
+    if says(options, "which", "memory") {
+        Which::Memory
+    } else {
+        Which::Cache
+    }
+}
+
+/// Whether the option has this value.
+fn says(options: &ArgMatches, name: &str, value: &str) -> bool
+    ensures { result ≡ says false name.now value.now (rows_of (found_of options.now)) }
+{
+    match options.get_str(name) {
+        Some(text) => text == value,
+        None => false,
     }
 }
 
@@ -253,7 +330,7 @@ fn shape_in(options: &ArgMatches) -> Result<Shape, ShapeFault>
 
 /// The number that was named; 0, which no shape has, where it is none.
 fn number_in(options: &ArgMatches, name: &str) -> u32
-    ensures { IsNumberOf (one_of name.now (rows_of (found_of options.now))) result }
+    ensures { IsNumberOf name.now (rows_of (found_of options.now)) result }
 {
     options.get_one::<u32>(name).unwrap_or(0)
 }
