@@ -147,17 +147,23 @@ module _ (s : Situation) (g : Invariant s) where
   respond_lines : (block : ℕ) (closing : Open) (line : Taken) → (picture_of s block).transaction ≡ Some closing → Contains (of_respond s block closing) line → Contains (taken_by s (Respond block)) line
   respond_lines block closing line opened has = subst (λ (t : Option Open). Contains (option_map_or (of_respond s block) t []) line) (sym opened) has
 
+-- the row of an Ask
+pub asker_listed : (s : Situation) (asker on word : ℕ) (asking : Op) → Invariant s → IsWithin s asker on → (core block : ℕ) (event : CacheEvent) → ConsultsCache s (Ask asker on word asking) core block (Some event)
+    → Contains (of_ask s asker on asking) (Core core block (Some event) (state_of s core block))
+asker_listed s asker on word asking g within core block event looks =
+    let P : ℕ → ℕ → CacheEvent → Type 0 = λ c b e. Contains (of_ask s asker on asking) (Core c b (Some e) (state_of s c b)) in
+    let apart : (asking ≡ op.Evict) × (state_of s asker on ≡ I) → ⊥ =
+    subst (λ (b : ℕ). (asking ≡ op.Evict) × (state_of s asker b ≡ I) → ⊥) looks.1 (subst (λ (c : ℕ). (asking ≡ op.Evict) × (state_of s c block ≡ I) → ⊥) looks.0 looks.2) in
+    subst (λ (e : CacheEvent). P core block e) (sym (same_Some _ _ looks.3))
+    (subst (λ (c : ℕ). P c block (asked asking)) (sym looks.0) (subst (λ (b : ℕ). P asker b (asked asking)) (sym looks.1) (ask_listed s g asker on asking within apart)))
+
 -- where the move of a step is, each row that a core looks up is listed
 pub cores_listed : (s new : Situation) (step : Step) (answer : Reply) → Invariant s → GoesFirst s step (Ok answer) new → (core block : ℕ) (event : CacheEvent) → TakesFirst s step block → ConsultsCache s step core block (Some event)
     → (DoesNothing step (state_of s core block) → ⊥) → Contains (taken_by s step) (Core core block (Some event) (state_of s core block))
 cores_listed s new (Ask asker on word asking) answer g goes core block event first looks held =
     let m = goes.1 in
     let within : IsWithin s asker on = subst (λ (b : ℕ). IsWithin s asker b) (sym m.1.1.on_block) m.1.1.within in
-    let P : ℕ → ℕ → CacheEvent → Type 0 = λ c b e. Contains (of_ask s asker on asking) (Core c b (Some e) (state_of s c b)) in
-    let apart : (asking ≡ op.Evict) × (state_of s asker on ≡ I) → ⊥ =
-    subst (λ (b : ℕ). (asking ≡ op.Evict) × (state_of s asker b ≡ I) → ⊥) looks.1 (subst (λ (c : ℕ). (asking ≡ op.Evict) × (state_of s c block ≡ I) → ⊥) looks.0 looks.2) in
-    subst (λ (e : CacheEvent). P core block e) (sym (same_Some _ _ looks.3))
-    (subst (λ (c : ℕ). P c block (asked asking)) (sym looks.0) (subst (λ (b : ℕ). P asker b (asked asking)) (sym looks.1) (ask_listed s g asker on asking within apart)))
+    asker_listed s asker on word asking g within core block event looks
 cores_listed s new (Order requestor) answer g goes core block event first looks held =
     let m = goes.1 in
     let same : m.0 ≡ block = same_Some _ _ (sym m.1.0 ∙ first) in

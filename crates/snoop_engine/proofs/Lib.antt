@@ -18,3 +18,4 @@ pub mod AllLines
 pub mod TrueLines
 pub mod TallyLemmas
 pub mod CountedLemmas
+pub mod ShownLemmas

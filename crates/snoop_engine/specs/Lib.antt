@@ -16,8 +16,8 @@ pub mod Frames
 pub mod Taken
 pub mod States
 pub mod TrueLines
-pub mod SimulatedStates
+pub mod Views
+pub mod SimulatedView
 pub mod Numbers
 pub mod Counts
 pub mod Tallies
-pub mod SimulatedCounts

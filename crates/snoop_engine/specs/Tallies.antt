@@ -1,15 +1,12 @@
--- Counters of the rows of the tables, and the frames that they have counted.
+-- Counters of the rows of the tables, and the lines that they have counted.
 -- Source: this project's profile.
 use Rattle.std.specs.Prelude.{◌≡◌, ℕ, ◌+◌, ◌*◌, List, length, get_or}
-use Rattle.snoop_trace.specs.declared.step.Step.{Step}
 use Rattle.snoop_rules.specs.declared.names.CacheEvent.{CacheEvent}
 use Rattle.snoop_rules.specs.declared.names.CacheState.{CacheState}
 use Rattle.snoop_rules.specs.declared.names.MemEvent.{MemEvent}
 use Rattle.snoop_rules.specs.declared.names.MemState.{MemState}
 use Rattle.snoop_history.specs.Totals.{capped}
-use Rattle.snoop_model.specs.Pictures.Situation.{Situation}
-use Rattle.snoop_engine.specs.Counts.{all_lines, memory_times, times}
-use Rattle.snoop_engine.specs.Frames.{Frame, FramesFrom, steps_of}
+use Rattle.snoop_engine.specs.Counts.{memory_times, times}
 use Rattle.snoop_engine.specs.Numbers.{event_number, memory_event_number, memory_state_number, state_number}
 use Rattle.snoop_engine.specs.declared.taken.Taken.{Taken}
 
@@ -34,10 +31,3 @@ pub record Tallies (counters : List ℕ) (lines : List Taken) : Type 0 where
   pub long : length counters ≡ 203
   pub cores : (state : CacheState) (event : CacheEvent) → counts_in counters state event ≡ capped (times lines state event)
   pub memory : (state : MemState) (event : MemEvent) → memory_counts_in counters state event ≡ capped (memory_times lines state event)
-
--- all the steps were taken, and the counters say how often each row was
-pub record CountsSteps (from : Situation) (steps : List Step) (to : Situation) (counters : List ℕ) : Type 0 where
-  pub frames : List Frame
-  pub whole : steps_of frames ≡ steps
-  pub run : FramesFrom from frames to
-  pub counted : Tallies counters (all_lines frames)

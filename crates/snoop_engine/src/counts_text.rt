@@ -1,5 +1,5 @@
 //! The text of the counts: a line for each row of the tables.
-ghost use Rattle.std.specs.Prelude.{◌≡◌, ◌++◌, ℕ, List, Some, IfOk, OnOk};
+ghost use Rattle.std.specs.Prelude.{◌≡◌, ◌++◌, ℕ, List, Some, OnOk};
 ghost use Rattle.std.specs.List.{flat_map};
 ghost use Rattle.snoop_rules.specs.TableOrder.{cache_events, memory_events};
 ghost use Rattle.snoop_engine.specs.Counts.{cache_count_at, cache_counts, count_line, counts_text, does_nothing, memory_count_at, memory_counts, row_fields};
@@ -9,7 +9,6 @@ use crate::tally::Tally;
 use snoop_rules::{CacheEvent, CacheState, MemEvent, MemState, Protocol, cache_cell, mem_cell};
 use snoop_trace::NoMemory;
 use snoop_trace::streams::{push_byte, push_decimal, push_text};
-use std::alloc::Global;
 use std::fmt::Display;
 use std::io::Write;
 
@@ -66,19 +65,17 @@ static MEM_EVENTS: [MemEvent; 6] = [
     MemEvent::NoDataE,
 ];
 
-/// The names of the fields, and a line for each row that does something.
-pub(crate) fn counts_text(
-    alloc: Global,
+/// Appends the names of the fields, and a line for each row that does something.
+pub(crate) fn push_counts(
+    out: &mut Vec<u8>,
     protocol: Protocol,
     tally: &Tally,
-) -> Result<Vec<u8>, NoMemory>
-    ensures { IfOk result (λ text. text.items ≡ counts_text protocol (counts_in tally.now.counters) (memory_counts_in tally.now.counters)) }
+) -> Result<(), NoMemory>
+    ensures { OnOk result (out.new.items ≡ out.old.items ++ counts_text protocol (counts_in tally.now.counters) (memory_counts_in tally.now.counters)) }
 {
-    let mut text = Vec::new(alloc);
-    push_text(&mut text, "controller,state,event,action,next,count\n")?;
-    push_cache_counts(&mut text, protocol, tally)?;
-    push_memory_counts(&mut text, protocol, tally)?;
-    Ok(text)
+    push_text(out, "controller,state,event,action,next,count\n")?;
+    push_cache_counts(out, protocol, tally)?;
+    push_memory_counts(out, protocol, tally)
 }
 
 fn push_cache_counts(out: &mut Vec<u8>, protocol: Protocol, tally: &Tally) -> Result<(), NoMemory>

@@ -1,5 +1,6 @@
 //! The engines of the commands `steps`, `run`, `states` and `counts`: a text of steps or of rows in; out come the lines of its
-//! simulation and its report, its states, or how often each row of the tables was taken.
+//! simulation and its report, its states, or how often each row of the tables was taken. What is written of a run besides its
+//! lines and its report is a `View`.
 #![tactic(auto)]
 
 mod counts;
@@ -12,16 +13,25 @@ mod lane;
 mod line;
 mod packed;
 mod run;
+mod script;
+mod seen;
 mod serial;
+mod show;
 mod states;
 mod steps;
 mod taken;
 mod taken_text;
 mod tally;
+mod view;
 
 pub use counts::simulate_counts;
 pub use fault::SimFault;
+pub use line::push_outcome;
 pub use run::simulate_run;
+pub use seen::Seen;
 pub use serial::simulate_serial;
+pub use show::{show_steps, simulate_view};
 pub use states::simulate_states;
 pub use steps::simulate_steps;
+pub use taken::Taken;
+pub use view::View;

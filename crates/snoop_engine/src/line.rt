@@ -87,11 +87,8 @@ fn push_refusal(out: &mut Vec<u8>, cause: Refused) -> Result<(), NoMemory>
     }
 }
 
-/// Appends what the machine answered.
-pub(crate) fn push_outcome(
-    out: &mut Vec<u8>,
-    outcome: Result<Reply, Refused>,
-) -> Result<(), NoMemory>
+/// Appends what the machine answered, as a line of a step says it. After `NoMemory` nothing is said of what stands there.
+pub fn push_outcome(out: &mut Vec<u8>, outcome: Result<Reply, Refused>) -> Result<(), NoMemory>
     ensures ok { OnOk result (out.new.items ≡ out.old.items ++ outcome_text outcome) }
 {
     match outcome {

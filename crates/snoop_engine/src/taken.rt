@@ -14,7 +14,7 @@ use snoop_trace::{NoMemory, Op, Step};
 
 /// A controller that meets an event in a state, or what a refused step names.
 #[derive(Clone, Copy, Debug)]
-pub(crate) enum Taken {
+pub enum Taken {
     /// The core meets the event, or none.
     Core {
         core: u32,

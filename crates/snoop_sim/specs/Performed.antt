@@ -9,11 +9,12 @@ use Rattle.snoop_trace.specs.declared.protocol.Protocol.{Protocol}
 use Rattle.snoop_rules.specs.TableText.{table_text}
 use Rattle.clap.specs.Words.{Text}
 use Rattle.snoop_sim.specs.Asked.{Asks, Refuses}
+use Rattle.snoop_engine.specs.Counts.{frames_counts_text}
 use Rattle.snoop_engine.specs.Simulated.{Simulates}
-use Rattle.snoop_engine.specs.SimulatedCounts.{SimulatesCounts}
 use Rattle.snoop_engine.specs.SimulatedRun.{SimulatesRun}
 use Rattle.snoop_engine.specs.SimulatedSerial.{SimulatesSerial}
-use Rattle.snoop_engine.specs.SimulatedStates.{SimulatesStates}
+use Rattle.snoop_engine.specs.SimulatedView.{SimulatesView}
+use Rattle.snoop_engine.specs.States.{states_text}
 use Rattle.snoop_sim.specs.Threaded.{SimulatesThreads}
 use Rattle.snoop_sim.specs.Status.{status_of}
 use Rattle.snoop_engine.specs.declared.fault.SimFault.{SimFault}
@@ -45,8 +46,8 @@ Runs protocol shape Steps input ending old new = EndsAs Simulation ending (λ do
 Runs protocol shape Run input ending old new = EndsAs Simulation ending (λ done. SimulatesRun protocol shape input done old new)
 Runs protocol shape Serial input ending old new = EndsAs Simulation ending (λ done. SimulatesSerial protocol shape input done old new)
 Runs protocol shape Threads input ending old new = EndsAs ThreadsFailure ending (λ done. SimulatesThreads protocol shape input done old new)
-Runs protocol shape States input ending old new = EndsAs Simulation ending (λ done. SimulatesStates protocol shape input done old new)
-Runs protocol shape Counts input ending old new = EndsAs Simulation ending (λ done. SimulatesCounts protocol shape input done old new)
+Runs protocol shape States input ending old new = EndsAs Simulation ending (λ done. SimulatesView protocol shape (λ frames final. states_text shape frames) input done old new)
+Runs protocol shape Counts input ending old new = EndsAs Simulation ending (λ done. SimulatesView protocol shape (λ frames final. frames_counts_text protocol frames) input done old new)
 
 -- what each task leaves: the text of help, the table, or its engine's output
 abbrev pub Performs : Task → Option (List ℕ) → Result (Unit {0}) Failure → Option (List ℕ) → Option (List ℕ) → Type 0

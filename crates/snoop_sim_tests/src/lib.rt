@@ -14,4 +14,6 @@ mod streams;
 #[cfg(test)]
 mod threads;
 #[cfg(test)]
+mod view;
+#[cfg(test)]
 mod words;

@@ -6,4 +6,4 @@ use Rattle.snoop_engine.proofs.states.push_lines.Given as goal
 -- the lines so far
 abbrev pub invariant-loop-taken : goal.invariant-loop-taken
 invariant-loop-taken l =
-    l.chunk.items ≡ l.fn.chunk.items ++ flat_map (λ taken. step_fields l.shape l.number l.step l.outcome ++ taken_text l.machine.situation taken) (take l.taken-index l.lines)
+    l.out.items ≡ l.fn.out.items ++ flat_map (λ taken. step_fields l.machine.situation.shape l.seen.number l.seen.step l.seen.outcome ++ taken_text l.machine.situation taken) (take l.taken-index l.seen.lines.now)

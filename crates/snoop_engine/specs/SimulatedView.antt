@@ -1,0 +1,40 @@
+-- What the simulation of a view leaves, by what it answers.
+-- Source: this project's profile.
+use Rattle.std.specs.Prelude.{ℕ, All, List, Option, Result, Ok, Err}
+use Rattle.std.specs.Io.KnownBytes.{Appends}
+use Rattle.snoop_trace.specs.Extent.{Extent}
+use Rattle.snoop_trace.specs.Output.{AppendsFront}
+use Rattle.snoop_trace.specs.declared.step.Step.{Step}
+use Rattle.snoop_trace.specs.declared.protocol.Protocol.{Protocol}
+use Rattle.snoop_model.specs.Pictures.Situation.{Situation}
+use Rattle.snoop_model.specs.Runs.Run.{TheRun}
+use Rattle.snoop_engine.specs.Frames.{AreFrames, Frame, outcomes_of}
+use Rattle.snoop_engine.specs.Simulated.{Reads}
+use Rattle.snoop_engine.specs.TrueLines.{ShowsRows}
+use Rattle.snoop_engine.specs.declared.fault.SimFault.{SimFault}
+use Rattle.snoop_engine.specs.declared.fault.SimFault.TheVariants.{Text, NoMemory, Write}
+
+-- the writer got this text of the frames of the run of the steps, whose lines are the rows that the controllers take
+pub record ShowsRun (protocol : Protocol) (shape : Extent) (text : List Frame → Situation → List ℕ) (steps : List Step) (old new : Option (List ℕ)) : Type 0 where
+  pub frames : List Frame
+  pub final : Situation
+  pub run : AreFrames protocol shape steps frames final
+  pub taken : TheRun protocol shape steps (outcomes_of frames) final
+  pub rows : All ShowsRows frames
+  pub output : Appends old new (text frames final)
+
+-- the writer got a beginning of that
+pub record BeginsToShow (protocol : Protocol) (shape : Extent) (text : List Frame → Situation → List ℕ) (steps : List Step) (old new : Option (List ℕ)) : Type 0 where
+  pub frames : List Frame
+  pub final : Situation
+  pub run : AreFrames protocol shape steps frames final
+  pub taken : TheRun protocol shape steps (outcomes_of frames) final
+  pub rows : All ShowsRows frames
+  pub output : AppendsFront old new (text frames final)
+
+-- the whole text was read, and all of it shown, or a beginning of that; or the text was refused
+abbrev pub SimulatesView : Protocol → Extent → (List Frame → Situation → List ℕ) → Option (List ℕ) → Result (Unit {0}) SimFault → Option (List ℕ) → Option (List ℕ) → Type 0
+SimulatesView protocol shape text input (Ok u) old new = (steps : List Step) × (Reads protocol shape input (Ok steps) × ShowsRun protocol shape text steps old new)
+SimulatesView protocol shape text input (Err (Text fault)) old new = Reads protocol shape input (Err fault)
+SimulatesView protocol shape text input (Err NoMemory) old new = (steps : List Step) × (Reads protocol shape input (Ok steps) × BeginsToShow protocol shape text steps old new)
+SimulatesView protocol shape text input (Err Write) old new = (steps : List Step) × (Reads protocol shape input (Ok steps) × BeginsToShow protocol shape text steps old new)

@@ -1,0 +1,30 @@
+-- What a view writes of a run, and what it sees of a step.
+-- Source: this project's profile.
+use Rattle.std.specs.Prelude.{◌≡◌, ℕ, ◌+◌, List, [], ◌∷◌, ◌++◌, length}
+use Rattle.snoop_trace.specs.Extent.{Extent}
+use Rattle.snoop_trace.specs.declared.protocol.Protocol.{Protocol}
+use Rattle.snoop_model.specs.Pictures.Situation.{Situation, reset}
+use Rattle.snoop_model.specs.Runs.Run.{GoesFirst}
+use Rattle.snoop_engine.specs.Frames.{Frame, FramesFrom}
+use Rattle.snoop_engine.specs.Taken.{lines_of}
+use Rattle.snoop_engine.specs.declared.seen.Seen.{Seen}
+
+-- what is shown of each of some frames, by the frames before it, of which these are the first
+abbrev pub shown : (List Frame → Frame → List ℕ) → List Frame → List Frame → List ℕ
+shown shows before [] = []
+shown shows before (frame ∷ frames) = shows before frame ++ shown shows (before ++ frame ∷ []) frames
+
+-- all that is written of a run: a heading, what is shown of each frame, and an ending
+abbrev pub view_text : List ℕ → (List Frame → Frame → List ℕ) → (List Frame → Situation → List ℕ) → List Frame → Situation → List ℕ
+view_text heading shows ending frames final = heading ++ shown shows [] frames ++ ending frames final
+
+-- the frame of a step that is seen, between the machine before it and the machine after it
+abbrev pub frame_seen : Situation → Seen → Situation → Frame
+frame_seen before seen after = record { step = seen.step; outcome = seen.outcome; before = before; after = after }
+
+-- what is seen is the next step of a run from reset, of which these are the frames so far
+pub record IsNext (protocol : Protocol) (shape : Extent) (frames : List Frame) (before : Situation) (seen : Seen) (after : Situation) : Type 0 where
+  pub run : FramesFrom (reset protocol shape) frames before
+  pub goes : GoesFirst before seen.step seen.outcome after
+  pub lines : seen.lines.now ≡ lines_of before seen.step seen.outcome
+  pub number : seen.number ≡ 1 + length frames

@@ -1,0 +1,18 @@
+//! What a view sees of a step.
+
+use crate::taken::Taken;
+use snoop_machine::{Refused, Reply};
+use snoop_trace::Step;
+
+/// What is seen of a step.
+#[derive(Clone, Copy, Debug)]
+pub struct Seen<'a> {
+    /// The number of the step in its list, from 1.
+    pub number: u64,
+    /// The step itself.
+    pub step: Step,
+    /// What the machine answered.
+    pub outcome: Result<Reply, Refused>,
+    /// The rows of the tables that the controllers take at the step, or what a refusal names.
+    pub lines: &'a [Taken],
+}
