@@ -4,6 +4,7 @@ pub mod Shape
 pub mod Words
 pub mod Grammar
 pub mod Heading
+pub mod Faults
 pub mod Text
 pub mod Progress
 pub mod Output

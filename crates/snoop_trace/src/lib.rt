@@ -2,6 +2,7 @@
 #![tactic(auto)]
 
 mod fault;
+mod faults;
 mod fields;
 mod heading;
 mod number;
@@ -15,6 +16,7 @@ mod text;
 mod words;
 
 pub use fault::{NoMemory, TextFault, WriteFault};
+pub use faults::{kind_of, number_of, row_fault, step_fault};
 pub use output::write_steps;
 pub use protocol::Protocol;
 pub use shape::{Shape, ShapeFault};

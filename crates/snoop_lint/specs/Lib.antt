@@ -1,0 +1,12 @@
+pub mod Findings
+pub mod Lines
+pub mod Places
+pub mod Shown
+pub mod Hints
+pub mod Fields
+pub mod Explained
+pub mod Tallies
+pub mod Summary
+pub mod Linted
+pub mod Looked
+pub mod Fewest

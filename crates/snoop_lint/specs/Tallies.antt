@@ -1,0 +1,72 @@
+-- What is counted of the records of a text.
+-- Source: this project's profile.
+use Rattle.std.specs.Prelude.{ℕ, ◌+◌, ◌/◌, ◌||◌, max, not, Bool, true, false, List, [], ◌∷◌, codes, fold, length, Option, is_some, if◌then◌else◌}
+use Rattle.std.specs.List.{list_any}
+use Rattle.std.specs.Option.{option_map_or}
+use Rattle.snoop_trace.specs.Extent.{Extent}
+use Rattle.snoop_trace.specs.declared.fault.TextFault.{TextFault}
+use Rattle.snoop_trace.specs.declared.fault.TextFault.TheVariants.{NoCore, NoBlock}
+use Rattle.snoop_trace.specs.declared.protocol.Protocol.{Protocol}
+use Rattle.snoop_lint.specs.declared.form.Form.{Form}
+use Rattle.snoop_lint.specs.declared.tally.Tally.{Tally}
+use Rattle.snoop_lint.specs.Fields.{address_named, core_named, field}
+use Rattle.snoop_lint.specs.Findings.{Finding, findings, heads}
+use Rattle.snoop_lint.specs.Hints.{is_letter_of}
+
+-- a fault that more cores or more blocks would mend
+abbrev pub is_limit : TextFault → Bool
+is_limit (NoCore n) = true
+is_limit (NoBlock n) = true
+is_limit _ = false
+
+-- the text has a heading
+abbrev pub has_heading : Form → List (List (List ℕ)) → Bool
+has_heading form [] = false
+has_heading form (first ∷ rest) = heads form 1 first
+
+-- the block that a record names; 0 where it names none
+abbrev pub block_named : Extent → List (List ℕ) → ℕ
+block_named shape fields = address_named fields / shape.block_bytes
+
+-- the greatest number that records name
+abbrev pub greatest : (List (List ℕ) → ℕ) → List (List (List ℕ)) → ℕ
+greatest number rows = fold (λ most row. max most (number row)) 0 rows
+
+-- a core asks for something
+abbrev pub asks : List (List ℕ) → Bool
+asks fields = is_letter_of (codes "LSE") (field fields 0)
+
+-- the bus does something
+abbrev pub drives : List (List ℕ) → Bool
+drives fields = is_letter_of (codes "OR") (field fields 0)
+
+-- what is counted of the records of a text: how many they are, how many are faulty, and whether more cores and blocks would not mend all
+-- of these; whether there is a heading, whether cores ask and the bus is driven; the greatest core and the greatest block that are named
+unfoldable pub tally_of : Form → Protocol → Extent → List (List (List ℕ)) → Tally
+tally_of form protocol shape rows = record {
+  records = length rows;
+  faults = length (findings form protocol shape rows);
+  has_others = list_any (λ (f : Finding). not (is_limit f.fault)) (findings form protocol shape rows);
+  has_heading = has_heading form rows;
+  asks = list_any asks rows;
+  drives = list_any drives rows;
+  core = greatest core_named rows;
+  block = greatest (block_named shape) rows;
+}
+
+-- a fault of another kind
+abbrev pub is_other : Option TextFault → Bool
+is_other fault = option_map_or (λ f. not (is_limit f)) fault false
+
+-- what is counted after record n, with its fault, if it has one
+abbrev pub one_more : Form → Extent → ℕ → List (List ℕ) → Option TextFault → Tally → Tally
+one_more form shape n fields fault tally = record {
+  records = n;
+  faults = tally.faults + (if is_some fault then 1 else 0);
+  has_others = tally.has_others || is_other fault;
+  has_heading = tally.has_heading || heads form n fields;
+  asks = tally.asks || asks fields;
+  drives = tally.drives || drives fields;
+  core = max tally.core (core_named fields);
+  block = max tally.block (block_named shape fields);
+}

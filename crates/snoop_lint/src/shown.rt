@@ -1,0 +1,87 @@
+//! How a field of a text is shown.
+ghost use Rattle.std.specs.Prelude.{◌≡◌, ◌++◌, ◌<◌, OnOk, take};
+ghost use Rattle.std.specs.Char.{digit_char};
+ghost use Rattle.std.specs.List.{flat_map};
+ghost use Rattle.snoop_lint.specs.Shown as spec;
+
+use snoop_trace::NoMemory;
+use snoop_trace::streams::{push_byte, push_decimal, push_text};
+
+/// The most bytes of a field that are shown.
+const MOST: usize = 40;
+
+/// Appends a field as it is shown: between quotes, what is not printable in hexadecimal, and its first 40 bytes at most.
+#[tactic(auto, unfolding(crate::specs::Shown::shown))]
+pub(crate) fn push_shown(out: &mut Vec<u8>, field: &[u8]) -> Result<(), NoMemory>
+    ensures { OnOk result (out.new.items ≡ out.old.items ++ spec.shown field.now) }
+{
+    push_text(out, "'")?;
+    push_bytes(out, front(field))?;
+    push_text(out, "'")?;
+    push_not_shown(out, field.len())
+}
+
+fn front(field: &[u8]) -> &[u8]
+    ensures { result.now ≡ take 40 field.now }
+{
+    if field.len() > MOST {
+        &field[..MOST]
+    } else {
+        field
+    }
+}
+
+fn push_bytes(out: &mut Vec<u8>, bytes: &[u8]) -> Result<(), NoMemory>
+    ensures { OnOk result (out.new.items ≡ out.old.items ++ flat_map spec.shown_byte bytes.now) }
+{
+    for byte in bytes {
+        push_shown_byte(out, *byte)?;
+    }
+    Ok(())
+}
+
+fn push_shown_byte(out: &mut Vec<u8>, byte: u8) -> Result<(), NoMemory>
+    ensures { OnOk result (out.new.items ≡ out.old.items ++ spec.shown_byte byte) }
+{
+    if byte == b'\\' {
+        push_text(out, "\\\\")
+    } else if byte >= 0x20 && byte < 0x7F {
+        push_byte(out, byte)
+    } else {
+        push_text(out, "\\x")?;
+        push_byte(out, hex_digit(byte / 16))?;
+        push_byte(out, hex_digit(byte % 16))
+    }
+}
+
+fn hex_digit(digit: u8) -> u8
+    requires { digit < 16 }
+    ensures { result ≡ digit_char digit }
+{
+    if digit < 10 {
+        b'0' + digit
+    } else {
+        b'a' - 10 + digit
+    }
+}
+
+#[tactic(auto, unfolding(crate::specs::Shown::not_shown))]
+fn push_not_shown(out: &mut Vec<u8>, len: usize) -> Result<(), NoMemory>
+    ensures { OnOk result (out.new.items ≡ out.old.items ++ spec.not_shown len) }
+{
+    if len > MOST {
+        push_labelled(out, " and ", (len - MOST) as u64)?;
+        push_text(out, " more bytes")
+    } else {
+        Ok(())
+    }
+}
+
+/// Appends a text, and then a number.
+#[tactic(auto, unfolding(crate::specs::Shown::labelled))]
+pub(crate) fn push_labelled(out: &mut Vec<u8>, text: &str, number: u64) -> Result<(), NoMemory>
+    ensures { OnOk result (out.new.items ≡ out.old.items ++ spec.labelled text.now number) }
+{
+    push_text(out, text)?;
+    push_decimal(out, number)
+}

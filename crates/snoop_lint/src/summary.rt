@@ -1,0 +1,107 @@
+//! What is said of a whole text.
+ghost use Rattle.std.specs.Prelude.{◌≡◌, ◌<◌, ◌++◌, true, OnOk};
+ghost use Rattle.snoop_lint.specs.Summary as spec;
+
+use crate::form::Form;
+use crate::shown::push_labelled;
+use crate::tally::Tally;
+use snoop_trace::NoMemory;
+use snoop_trace::streams::{push_decimal, push_text};
+
+/// Appends what is said of a whole text, by what was counted in it.
+#[tactic(auto, unfolding(crate::specs::Summary::summary))]
+pub(crate) fn push_summary(
+    out: &mut Vec<u8>,
+    form: Form,
+    most: u64,
+    tally: Tally,
+) -> Result<(), NoMemory>
+    ensures { OnOk result (out.new.items ≡ out.old.items ++ spec.summary form most tally) }
+{
+    push_count_line(out, most, tally)?;
+    push_needs_line(out, tally)?;
+    push_text(out, slip_line(form, tally))
+}
+
+#[tactic(auto, unfolding(crate::specs::Summary::count_line))]
+fn push_count_line(out: &mut Vec<u8>, most: u64, tally: Tally) -> Result<(), NoMemory>
+    ensures { OnOk result (out.new.items ≡ out.old.items ++ spec.count_line most tally) }
+{
+    push_fault_count(out, tally.faults)?;
+    push_text(out, " in ")?;
+    push_counted(out, tally.records, "record")?;
+    push_shown_count(out, most, tally.faults)?;
+    push_text(out, "\n")
+}
+
+#[tactic(auto, unfolding(crate::specs::Summary::fault_count))]
+fn push_fault_count(out: &mut Vec<u8>, faults: u64) -> Result<(), NoMemory>
+    ensures { OnOk result (out.new.items ≡ out.old.items ++ spec.fault_count faults) }
+{
+    if faults == 0 {
+        push_text(out, "no fault")
+    } else {
+        push_counted(out, faults, "fault")
+    }
+}
+
+#[tactic(auto, unfolding(crate::specs::Summary::counted))]
+fn push_counted(out: &mut Vec<u8>, count: u64, thing: &str) -> Result<(), NoMemory>
+    ensures { OnOk result (out.new.items ≡ out.old.items ++ spec.counted count thing.now) }
+{
+    push_decimal(out, count)?;
+    push_text(out, " ")?;
+    push_text(out, thing)?;
+    push_text(out, if count == 1 { "" } else { "s" })
+}
+
+#[tactic(auto, unfolding(crate::specs::Summary::shown_count))]
+fn push_shown_count(out: &mut Vec<u8>, most: u64, faults: u64) -> Result<(), NoMemory>
+    ensures { OnOk result (out.new.items ≡ out.old.items ++ spec.shown_count most faults) }
+{
+    if most < faults {
+        push_labelled(out, ", ", most)?;
+        push_text(out, " shown")
+    } else {
+        Ok(())
+    }
+}
+
+#[tactic(auto, unfolding(crate::specs::Summary::needs_line))]
+fn push_needs_line(out: &mut Vec<u8>, tally: Tally) -> Result<(), NoMemory>
+    ensures { OnOk result (out.new.items ≡ out.old.items ++ spec.needs_line tally) }
+{
+    if is_mendable(tally) {
+        push_labelled(out, "needs --cores ", tally.core + 1)?;
+        push_labelled(out, " --blocks ", tally.block + 1)?;
+        push_text(out, "\n")
+    } else {
+        Ok(())
+    }
+}
+
+#[tactic(auto, unfolding(crate::specs::Summary::is_mendable))]
+fn is_mendable(tally: Tally) -> bool
+    ensures value { result ≡ spec.is_mendable tally }
+    ensures core { result ≡ true → tally.core < 256 }
+    ensures block { result ≡ true → tally.block < 65536 }
+{
+    tally.faults > 0
+        && !tally.has_others
+        && !tally.has_heading
+        && tally.core < 256
+        && tally.block < 65536
+}
+
+#[tactic(auto, unfolding(crate::specs::Summary::slip_line))]
+fn slip_line(form: Form, tally: Tally) -> &'static str
+    ensures { result.now ≡ spec.slip_line form tally }
+{
+    match form {
+        Form::Steps if tally.asks && !tally.drives => {
+            "no O and no R: is this a text for snoop run?\n"
+        }
+        Form::Rows if tally.drives => "with O or R: is this a text for snoop steps?\n",
+        Form::Steps | Form::Rows => "",
+    }
+}

@@ -1,0 +1,98 @@
+//! Whole outputs, worked out by hand.
+
+use snoop_lint::{Form, lint_text};
+use snoop_trace::{Protocol, Shape};
+use std::alloc::Global;
+use std::test::Fail;
+
+/// What is written of a text under MSI, for 2 cores and 4 blocks of 64 bytes, is this.
+fn expect(alloc: Global, form: Form, most: u64, text: &[u8], expected: &str) -> Result<(), Fail> {
+    let shape = Shape::new(2, 4, 64)?;
+    let mut output = Vec::new(alloc);
+    lint_text(
+        alloc,
+        &mut &*text,
+        &mut output,
+        form,
+        most,
+        Protocol::Msi,
+        shape,
+    )?;
+    if output.as_slice() != expected.as_bytes() {
+        Err(output)?
+    }
+    Ok(())
+}
+
+const FAULTS: &[u8] = b"V,2,msi,2,4,64,1\n\r\nl,0,0\nL,0\nS,0, 0,1\nO,2\nR,256\nV,2,msi,2,4,64,1\n";
+
+const FAULTS_OUTPUT: &str = "\
+record 2, line 3: BadKind: 'l' is no kind of record (L, S, E, O, R); kinds are capital letters
+record 3, line 4: BadFields: L has 3 fields (L,core,address), and this record has 2
+record 4, line 5: BadNumber: address ' 0' is no number; blanks are not taken away
+record 5, line 6: NoCore: core 2 is not there: --cores 2 has cores 0 to 1; --cores 3 has it
+record 6, line 7: NoBlock: address 256 is outside the memory of 4 blocks of 64 bytes (0 to 255); --blocks 5 has room for it
+record 7, line 8: BadKind: 'V' is no kind of record (L, S, E, O, R); a heading stands in record 1 alone
+6 faults in 7 records
+";
+
+#[test]
+fn each_fault_of_a_record(rt: HostRuntime) -> Result<(), Fail> {
+    expect(rt.alloc(), Form::Steps, 20, FAULTS, FAULTS_OUTPUT)
+}
+
+const ROWS_OUTPUT: &str = "\
+record 1, line 1: BadNumber: address '0\\x0d\\x0a\\\\' is no number; a number is decimal digits, or 0x and hexadecimal digits
+record 2, line 4: BadKind: 'O' is no kind of record (L, S, E); it is for snoop steps
+3 faults in 3 records, 2 shown
+with O or R: is this a text for snoop steps?
+";
+
+/// Line ends within quotes, a lone carriage return and a blank line count; the third fault is not shown.
+#[test]
+fn two_faults_of_rows(rt: HostRuntime) -> Result<(), Fail> {
+    expect(
+        rt.alloc(),
+        Form::Rows,
+        2,
+        b"L,0,\"0\r\n\\\"\r\n\rO,0\n#\n",
+        ROWS_OUTPUT,
+    )
+}
+
+const NEEDS_OUTPUT: &str = "\
+record 2, line 2: NoCore: core 63 is not there: --cores 2 has cores 0 to 1; --cores 64 has it
+record 3, line 3: NoCore: core 64 is not there: --cores 2 has cores 0 to 1; --cores 65 has it
+2 faults in 3 records
+needs --cores 65 --blocks 4097
+no O and no R: is this a text for snoop run?
+";
+
+/// Core 64 at address 262,144, which lies in block 4,096, would need 65 cores and 4,097 blocks.
+#[test]
+fn what_a_text_needs(rt: HostRuntime) -> Result<(), Fail> {
+    let text = b"L,1,0\nL,63,0\nS,64,262144,1\n";
+    expect(rt.alloc(), Form::Steps, 20, text, NEEDS_OUTPUT)
+}
+
+const HEADING_OUTPUT: &str = "\
+record 1, line 1: OtherShape: the heading is for --protocol mesi --cores 2 --blocks 4 --block-bytes 64 --words 1, and the options are --protocol msi --cores 2 --blocks 4 --block-bytes 64 --words 1
+1 fault in 1 record
+";
+
+#[test]
+fn a_heading_for_mesi(rt: HostRuntime) -> Result<(), Fail> {
+    expect(
+        rt.alloc(),
+        Form::Steps,
+        1,
+        b"V,2,mesi,2,4,64,1\n",
+        HEADING_OUTPUT,
+    )
+}
+
+#[test]
+fn a_text_without_a_fault(rt: HostRuntime) -> Result<(), Fail> {
+    let text = b"\xef\xbb\xbfL,0,0\nO,0\nR,0";
+    expect(rt.alloc(), Form::Steps, 0, text, "no fault in 3 records\n")
+}
