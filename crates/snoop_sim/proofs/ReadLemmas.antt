@@ -5,9 +5,10 @@ use Rattle.snoop_trace.specs.Text.{BlamesReader}
 use Rattle.snoop_trace.specs.declared.fault.TextFault.{TextFault}
 use Rattle.snoop_trace.specs.declared.fault.TextFault.TheVariants as text
 use Rattle.snoop_engine.specs.declared.fault.SimFault.TheVariants as sim
+use Rattle.snoop_lint.specs.declared.fault.LintFault.TheVariants as lint
 use Rattle.snoop_sim.specs.declared.fault.ThreadsFault.TheVariants as threads
 use Rattle.snoop_sim.specs.declared.failure.Failure.{Failure}
-use Rattle.snoop_sim.specs.declared.failure.Failure.TheVariants.{CommandLine, NoCommand, NotUtf8, Shape, Simulation, Threads}
+use Rattle.snoop_sim.specs.declared.failure.Failure.TheVariants.{CommandLine, NoCommand, NotUtf8, Shape, Simulation, Threads, Lint}
 use Rattle.snoop_sim.specs.Performed.{IsFailedRead}
 use Rattle.snoop_sim.specs.Status.{status_of}
 
@@ -47,3 +48,6 @@ failed_read_status (Threads (threads.Run fault)) before after blames old new = a
 failed_read_status (Threads (threads.Seat fault)) before after blames old new = absurd (not_blamed before after blames old new)
 failed_read_status (Threads (threads.Gather fault)) before after blames old new = absurd (not_blamed before after blames old new)
 failed_read_status (Threads (threads.Write fault)) before after blames old new = absurd (not_blamed before after blames old new)
+failed_read_status (Lint lint.Read) before after blames old new = refl
+failed_read_status (Lint lint.NoMemory) before after blames old new = absurd (not_blamed before after blames old new)
+failed_read_status (Lint lint.Write) before after blames old new = absurd (not_blamed before after blames old new)

@@ -6,12 +6,12 @@ use Rattle.clap.specs.declared.error.kind.ErrorKind.{ErrorKind}
 use Rattle.clap.specs.declared.error.kind.ErrorKind.TheVariants.{DisplayHelp, DisplayVersion}
 use Rattle.snoop_trace.specs.Extent.{Extent}
 use Rattle.snoop_sim.specs.CommandLine.{IsSnoop}
-use Rattle.snoop_sim.specs.Options.{IsShapeOf, asks_serial, protocol_named, which_named}
+use Rattle.snoop_sim.specs.Options.{IsLongOf, IsShapeOf, asks_serial, kind_named, protocol_named, which_named}
 use Rattle.snoop_engine.specs.declared.fault.SimFault.TheVariants.{NoMemory}
 use Rattle.snoop_sim.specs.declared.failure.Failure.{Failure}
 use Rattle.snoop_sim.specs.declared.failure.Failure.TheVariants.{CommandLine, NoCommand, Shape, Simulation}
 use Rattle.snoop_sim.specs.declared.options.Engine.{Engine}
-use Rattle.snoop_sim.specs.declared.options.Engine.TheVariants.{Steps, Run, Serial, Threads, States, Counts}
+use Rattle.snoop_sim.specs.declared.options.Engine.TheVariants.{Steps, Run, Serial, Threads, States, Counts, Lint}
 use Rattle.snoop_sim.specs.declared.options.Task.{Task}
 use Rattle.snoop_sim.specs.declared.options.Task.TheVariants.{Help, Table, Simulate}
 
@@ -23,6 +23,7 @@ IsEngineOf name options Serial = (name ≡ codes "run") × (asks_serial options 
 IsEngineOf name options Threads = name ≡ codes "threads"
 IsEngineOf name options States = name ≡ codes "states"
 IsEngineOf name options Counts = name ≡ codes "counts"
+IsEngineOf name options (Lint form most) = (name ≡ codes "lint") × (form ≡ kind_named options) × IsLongOf (codes "most") options most
 
 -- the task of a command with its options
 abbrev pub IsTaskOf : Text × List Row → Task → Type 0
@@ -37,7 +38,7 @@ HasTask (Some command) task = IsTaskOf command task
 
 -- no engine is known for a command: none that simulates has its name
 abbrev pub HasNoEngine : Text → Failure → Type 0
-HasNoEngine name NoCommand = (name ≢ codes "steps") × (name ≢ codes "run") × (name ≢ codes "threads") × (name ≢ codes "states") × (name ≢ codes "counts")
+HasNoEngine name NoCommand = (name ≢ codes "steps") × (name ≢ codes "run") × (name ≢ codes "threads") × (name ≢ codes "states") × (name ≢ codes "counts") × (name ≢ codes "lint")
 HasNoEngine name failure = ⊥
 
 -- the command that was named has no task: its shape is refused, or it has no engine

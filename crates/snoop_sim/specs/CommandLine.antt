@@ -17,6 +17,14 @@ option_rule name default values = record (new_rule name) { long = Some name; def
 abbrev pub number_rule : Text → Text → Rule
 number_rule name default = option_rule name default (parser.Signed (pos 0) (pos 4294967295))
 
+-- a number of 64 bits
+abbrev pub long_rule : Text → Text → Rule
+long_rule name default = option_rule name default (parser.Unsigned 0 18446744073709551615)
+
+-- an option that may be left out
+abbrev pub optional_rule : Text → ValueParser → Rule
+optional_rule name values = record (new_rule name) { long = Some name; parser = Some values }
+
 -- the names that an option takes
 abbrev pub Names : Type 0
 Names = Bor (List (Bor (List ℕ)))
@@ -28,6 +36,10 @@ AreNames texts names = map (λ name. name.now) names.now ≡ texts
 -- those of `--protocol`
 abbrev pub IsProtocols : Names → Type 0
 IsProtocols names = AreNames (codes "msi" ∷ codes "mesi" ∷ []) names
+
+-- those of `--of`
+abbrev pub IsKinds : Names → Type 0
+IsKinds names = AreNames (codes "steps" ∷ codes "rows" ∷ []) names
 
 -- those of `--which`
 abbrev pub IsTables : Names → Type 0
@@ -56,6 +68,10 @@ form_rule forms = record (new_rule (codes "as")) { long = Some (codes "as"); par
 -- the option `--by`, which has to be there
 abbrev pub grouping_rule : Names → Rule
 grouping_rule groupings = record (new_rule (codes "by")) { long = Some (codes "by"); parser = Some (parser.Names groupings); required = true }
+
+-- the option `--of`, which is `steps` where it is not given
+abbrev pub kind_rule : Names → Rule
+kind_rule kinds = option_rule (codes "of") (codes "steps") (parser.Names kinds)
 
 -- a command with these options too, in this order
 abbrev pub with_rules : App → List Rule → App
@@ -100,6 +116,9 @@ IsStates app = (forms : Names) × IsForms forms × IsSimulation (codes "states")
 abbrev pub IsCounts : App → Type 0
 IsCounts app = (groupings : Names) × IsGroupings groupings × IsSimulation (codes "counts") (grouping_rule groupings ∷ []) app
 
+abbrev pub IsLint : App → Type 0
+IsLint app = (kinds : Names) × IsKinds kinds × IsSimulation (codes "lint") (kind_rule kinds ∷ long_rule (codes "most") (codes "20") ∷ []) app
+
 abbrev pub IsTable : App → Type 0
 IsTable app = (protocols tables : Names) × IsProtocols protocols × IsTables tables × (app ≡ table_app protocols tables)
 
@@ -109,8 +128,8 @@ top_app = let new = new_app (codes "snoop") in record new { top = record new.top
 
 -- `clap`'s description of the program
 abbrev pub IsSnoop : App → Type 0
-IsSnoop app = (steps run threads states counts table : App) × IsSteps steps × IsRun run × IsThreads threads × IsStates states × IsCounts counts × IsTable table
-    × (app ≡ with_commands top_app (steps ∷ run ∷ threads ∷ states ∷ counts ∷ table ∷ []))
+IsSnoop app = (steps run threads states counts lint table : App) × IsSteps steps × IsRun run × IsThreads threads × IsStates states × IsCounts counts × IsLint lint × IsTable table
+    × (app ≡ with_commands top_app (steps ∷ run ∷ threads ∷ states ∷ counts ∷ lint ∷ table ∷ []))
 
 -- no option of the command is one of its subcommands' too
 abbrev pub IsLocal : Command → Type 0

@@ -9,6 +9,8 @@ use Rattle.snoop_trace.specs.declared.shape.ShapeFault.{ShapeFault}
 use Rattle.snoop_trace.specs.declared.shape.ShapeFault.TheVariants.{BadCores, BadBlocks, BadBytes, BadWords}
 use Rattle.snoop_trace.specs.declared.protocol.Protocol.{Protocol}
 use Rattle.snoop_trace.specs.declared.protocol.Protocol.TheVariants.{Msi, Mesi}
+use Rattle.snoop_lint.specs.declared.form.Form.{Form}
+use Rattle.snoop_lint.specs.declared.form.Form.TheVariants as form
 use Rattle.snoop_rules.specs.declared.table_text.Which.{Which}
 use Rattle.snoop_rules.specs.declared.table_text.Which.TheVariants.{Cache, Memory}
 
@@ -28,6 +30,10 @@ asks_serial options = says false (codes "serial") (codes "true") options
 abbrev pub which_named : List Row → Which
 which_named options = if says false (codes "which") (codes "memory") options then Memory else Cache
 
+-- rows where they are named; else steps
+abbrev pub kind_named : List Row → Form
+kind_named options = if says false (codes "of") (codes "rows") options then form.Rows else form.Steps
+
 -- a number below a limit, in decimal
 abbrev pub IsNumber : ℕ → Text → Type 0
 IsNumber limit text = IsNumeral 10 (without_leading_plus text) × (digits_value 10 (without_leading_plus text) < limit)
@@ -37,6 +43,10 @@ abbrev pub IsReadAs : ℕ → Option Text → Option ℕ → Type 0
 IsReadAs limit None read = read ≡ None
 IsReadAs limit (Some text) (Some number) = IsNumber limit text × (number ≡ digits_value 10 (without_leading_plus text))
 IsReadAs limit (Some text) None = ¬ IsNumber limit text
+
+-- the option's number of 64 bits; 0 where it has none
+abbrev pub IsLongOf : Text → List Row → ℕ → Type 0
+IsLongOf name options number = (read : Option ℕ) × IsReadAs (2 ^ 64) (one_of name options) read × (number ≡ unwrap_or read 0)
 
 -- the option's number of 32 bits; 0 where it has none
 abbrev pub IsNumberOf : Text → List Row → ℕ → Type 0

@@ -15,6 +15,8 @@ use Rattle.snoop_engine.specs.SimulatedRun.{SimulatesRun}
 use Rattle.snoop_engine.specs.SimulatedSerial.{SimulatesSerial}
 use Rattle.snoop_engine.specs.SimulatedView.{SimulatesView}
 use Rattle.snoop_engine.specs.States.{states_text}
+use Rattle.snoop_lint.specs.Linted.{Lints}
+use Rattle.snoop_lint.specs.declared.fault.LintFault.TheVariants.{Read as LintRead}
 use Rattle.snoop_sim.specs.Threaded.{SimulatesThreads}
 use Rattle.snoop_sim.specs.Status.{status_of}
 use Rattle.snoop_engine.specs.declared.fault.SimFault.{SimFault}
@@ -22,9 +24,9 @@ use Rattle.snoop_engine.specs.declared.fault.SimFault.TheVariants.{Text as TextR
 use Rattle.snoop_trace.specs.declared.fault.TextFault.TheVariants.{Read}
 use Rattle.snoop_sim.specs.declared.fault.ThreadsFault.TheVariants.{Text as RowsRefused}
 use Rattle.snoop_sim.specs.declared.failure.Failure.{Failure}
-use Rattle.snoop_sim.specs.declared.failure.Failure.TheVariants.{Simulation, Threads as ThreadsFailure}
+use Rattle.snoop_sim.specs.declared.failure.Failure.TheVariants.{Simulation, Threads as ThreadsFailure, Lint as LintFailure}
 use Rattle.snoop_sim.specs.declared.options.Engine.{Engine}
-use Rattle.snoop_sim.specs.declared.options.Engine.TheVariants.{Steps, Run, Serial, Threads, States, Counts}
+use Rattle.snoop_sim.specs.declared.options.Engine.TheVariants.{Steps, Run, Serial, Threads, States, Counts, Lint}
 use Rattle.snoop_sim.specs.declared.options.Task.{Task}
 use Rattle.snoop_sim.specs.declared.options.Task.TheVariants.{Help, Table, Simulate}
 
@@ -48,6 +50,7 @@ Runs protocol shape Serial input ending old new = EndsAs Simulation ending (λ d
 Runs protocol shape Threads input ending old new = EndsAs ThreadsFailure ending (λ done. SimulatesThreads protocol shape input done old new)
 Runs protocol shape States input ending old new = EndsAs Simulation ending (λ done. SimulatesView protocol shape (λ frames final. states_text shape frames) input done old new)
 Runs protocol shape Counts input ending old new = EndsAs Simulation ending (λ done. SimulatesView protocol shape (λ frames final. frames_counts_text protocol frames) input done old new)
+Runs protocol shape (Lint form most) input ending old new = EndsAs LintFailure ending (λ done. Lints form most protocol shape input done old new)
 
 -- what each task leaves: the text of help, the table, or its engine's output
 abbrev pub Performs : Task → Option (List ℕ) → Result (Unit {0}) Failure → Option (List ℕ) → Option (List ℕ) → Type 0
@@ -69,6 +72,7 @@ status_of_ending (Err failure) = status_of failure
 abbrev pub IsFailedRead : Result (Unit {0}) Failure → Type 0
 IsFailedRead (Err (Simulation (TextRefused Read))) = ⊤
 IsFailedRead (Err (ThreadsFailure (RowsRefused Read))) = ⊤
+IsFailedRead (Err (LintFailure LintRead)) = ⊤
 IsFailedRead ending = ⊥
 
 -- the program, for these words and this input, ended with this status, and left this; whether its reader never fails, and whether a read had failed before and after

@@ -7,6 +7,7 @@ ghost use Rattle.snoop_sim.specs.Status.{status_of};
 use crate::fault::ThreadsFault;
 use clap::error::ErrorKind;
 use snoop_engine::SimFault;
+use snoop_lint::LintFault;
 use snoop_trace::{ShapeFault, TextFault};
 use std::alloc::AllocError;
 use std::io;
@@ -17,7 +18,7 @@ use thiserror::Error;
 pub(crate) enum Failure {
     #[error(transparent)]
     CommandLine(clap::Error),
-    /// No command of the four was named. `clap` refuses such words before.
+    /// No command was named. `clap` refuses such words before.
     #[error("NoCommand")]
     NoCommand,
     #[error("NotUtf8")]
@@ -28,6 +29,8 @@ pub(crate) enum Failure {
     Simulation(SimFault),
     #[error(transparent)]
     Threads(ThreadsFault),
+    #[error(transparent)]
+    Lint(LintFault),
 }
 
 impl From<ShapeFault> for Failure {
@@ -96,6 +99,9 @@ impl Failure {
             Failure::Simulation(SimFault::Text(_)) => 1,
             Failure::Simulation(SimFault::Write) => 4,
             Failure::Threads(fault) => fault.status(),
+            Failure::Lint(LintFault::Read) => 1,
+            Failure::Lint(LintFault::NoMemory) => 3,
+            Failure::Lint(LintFault::Write) => 4,
         }
     }
 }

@@ -72,7 +72,8 @@ handed in by `<`:
 
 `steps` and `run` write a line for each step, which ends with the machine's reply
 (hit, store hit, issued, ordered, Data, NoData, gone, absent, refused), and then a
-report: counts, and the last values of each block. `snoop COMMAND --help` says more.
+report: counts, and the last values of each block. `snoop COMMAND --help` says more,
+and `snoop lint` says what is wrong with a text that is refused.
 
 Exit statuses:
   0  done, even where steps were refused
@@ -189,6 +190,21 @@ are left out."
     heading
     more
 );
+
+pub(crate) static LINT: &str = "\
+Reads standard input to its end: `snoop lint < FILE`. Each faulty line of it has a line
+of output: its record and line, the fault, what was expected there, and which option
+would allow it. Then come how many records and faults there are, the cores and blocks
+that the text needs, and whether it looks like a text of the other kind.
+Example: printf 'L,0\\n' | snoop lint
+  record 1, line 1: BadFields: L has 3 fields (L,core,address), and this record has 2
+  1 fault in 1 record
+  no O and no R: is this a text for snoop run?
+
+The status is 0 where the text was read, with faults or without.
+
+Exit statuses: snoop --help
+More in docs/TEXTS.md.";
 
 pub(crate) static TABLE: &str = "\
 No input is read. Each line of output is a cell of the table: state, event, action

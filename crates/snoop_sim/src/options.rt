@@ -1,14 +1,15 @@
 //! The command line: its words and what they ask for.
-ghost use Rattle.std.specs.Prelude.{◌≡◌, ◌≢◌, [], IfErr, IfOk, codes, false, map, string_bytes};
+ghost use Rattle.std.specs.Prelude.{◌≡◌, ◌≢◌, ◌^◌, [], IfErr, IfOk, codes, false, map, string_bytes};
 ghost use Rattle.clap.specs.Words.{app_of, found_of, one_of, rows_of, rule_of, subcommand_rows_of};
 ghost use Rattle.snoop_sim.specs.Asked.{Asks, HasNoEngine, HasNoTask, HasTask, IsEngineOf, IsTaskOf, Refuses};
-ghost use Rattle.snoop_sim.specs.CommandLine.{IsCounts, IsForms, IsGroupings, IsLocal, IsProtocols, IsRun, IsSimulation, IsSnoop, IsStates, IsSteps, IsTable, IsThreads, Names, flag_rule, form_rule, grouping_rule, number_rule, protocol_rule, top_app};
-ghost use Rattle.snoop_sim.specs.Options.{IsNumberOf, IsShapeOf, asks_serial, protocol_named, says, which_named};
+ghost use Rattle.snoop_sim.specs.CommandLine.{IsCounts, IsForms, IsGroupings, IsKinds, IsLint, IsLocal, IsProtocols, IsRun, IsSimulation, IsSnoop, IsStates, IsSteps, IsTable, IsThreads, Names, flag_rule, form_rule, grouping_rule, kind_rule, number_rule, optional_rule, protocol_rule, top_app};
+ghost use Rattle.snoop_sim.specs.Options.{IsNumberOf, IsReadAs, IsShapeOf, asks_serial, kind_named, protocol_named, says, which_named};
 
 use crate::failure::Failure;
 use crate::help;
 use clap::builder::ValueParser;
 use clap::{Arg, ArgAction, ArgMatches, Command, Error, value_parser};
+use snoop_lint::Form;
 use snoop_rules::{Protocol, Which};
 use snoop_trace::{Shape, ShapeFault};
 use std::alloc::{AllocError, Global};
@@ -30,9 +31,13 @@ pub(crate) enum Engine {
     Threads,
     States,
     Counts,
+    /// So many faulty records are named at most.
+    Lint(Form, u64),
 }
 
 static PROTOCOLS: [&str; 2] = ["msi", "mesi"];
+
+static KINDS: [&str; 2] = ["steps", "rows"];
 
 static FORMS: [&str; 1] = ["csv"];
 
@@ -86,6 +91,7 @@ fn engine_of(name: &str, options: &ArgMatches) -> Result<Engine, Failure>
         "threads" => Ok(Engine::Threads),
         "states" => Ok(Engine::States),
         "counts" => Ok(Engine::Counts),
+        "lint" => Ok(Engine::Lint(kind_in(options), long_in(options, "most").unwrap_or(0))),
         _ => Err(Failure::NoCommand),
     }
 }
@@ -100,6 +106,7 @@ fn grammar<'a>(alloc: Global) -> Result<Command<'a>, AllocError>
         .subcommand(threads(alloc)?)?
         .subcommand(states(alloc)?)?
         .subcommand(counts(alloc)?)?
+        .subcommand(lint(alloc)?)?
         .subcommand(table(alloc)?)
 }
 
@@ -177,6 +184,25 @@ fn counts<'a>(alloc: Global) -> Result<Command<'a>, AllocError>
         help::COUNTS,
     )?
     .arg(grouping(alloc))
+}
+
+fn lint<'a>(alloc: Global) -> Result<Command<'a>, AllocError>
+    ensures { IfOk result (λ command. IsLocal command × IsLint (app_of command)) }
+{
+    let most = optional(
+        alloc,
+        "most",
+        value_parser!(u64),
+        "How many faulty records are shown at most",
+    );
+    simulation(
+        alloc,
+        "lint",
+        "Read steps or rows; write what is wrong with the text",
+        help::LINT,
+    )?
+    .arg(kinds(alloc))?
+    .arg(most.default_value("20"))
 }
 
 /// A command that simulates a text on a machine of some shape; the help says what the text is.
@@ -268,6 +294,28 @@ fn grouping<'a>(alloc: Global) -> Arg<'a>
         .required(true)
 }
 
+fn kinds<'a>(alloc: Global) -> Arg<'a>
+    ensures { (result.global ≡ false) × ((kinds : Names) × IsKinds kinds × (rule_of result ≡ kind_rule kinds)) }
+{
+    Arg::new(alloc, "of")
+        .long("of")
+        .help("What the text is for: `snoop steps`, or `snoop run`")
+        .value_parser(ValueParser::Names(KINDS.as_slice()))
+        .default_value("steps")
+}
+
+/// An option that may be left out.
+fn optional<'a>(
+    alloc: Global,
+    name: &'a str,
+    values: ValueParser<'a>,
+    help: &'a str,
+) -> Arg<'a>
+    ensures { (result.global ≡ false) × (rule_of result ≡ optional_rule name.entry.now values.entry) }
+{
+    Arg::new(alloc, name).long(name).help(help).value_parser(values)
+}
+
 fn number<'a>(alloc: Global, name: &'a str, default: &'a str, help: &'a str) -> Arg<'a>
     ensures { (result.global ≡ false) × (rule_of result ≡ number_rule name.entry.now default.entry.now) }
 {
@@ -306,6 +354,17 @@ fn which_in(options: &ArgMatches) -> Which
     }
 }
 
+/// What the text is for.
+fn kind_in(options: &ArgMatches) -> Form
+    ensures { result ≡ kind_named (rows_of (found_of options.now)) }
+{
+    if says(options, "of", "rows") {
+        Form::Rows
+    } else {
+        Form::Steps
+    }
+}
+
 /// Whether the option has this value.
 fn says(options: &ArgMatches, name: &str, value: &str) -> bool
     ensures { result ≡ says false name.now value.now (rows_of (found_of options.now)) }
@@ -332,5 +391,19 @@ fn shape_in(options: &ArgMatches) -> Result<Shape, ShapeFault>
 fn number_in(options: &ArgMatches, name: &str) -> u32
     ensures { IsNumberOf name.now (rows_of (found_of options.now)) result }
 {
-    options.get_one::<u32>(name).unwrap_or(0)
+    short_in(options, name).unwrap_or(0)
+}
+
+/// The number of 32 bits that was named.
+fn short_in(options: &ArgMatches, name: &str) -> Option<u32>
+    ensures { IsReadAs (2 ^ 32) (one_of name.now (rows_of (found_of options.now))) result }
+{
+    options.get_one::<u32>(name)
+}
+
+/// The number of 64 bits that was named.
+fn long_in(options: &ArgMatches, name: &str) -> Option<u64>
+    ensures { IsReadAs (2 ^ 64) (one_of name.now (rows_of (found_of options.now))) result }
+{
+    options.get_one::<u64>(name)
 }

@@ -12,6 +12,7 @@ use crate::threads::simulate_threads;
 use snoop_engine::{
     SimFault, simulate_counts, simulate_run, simulate_serial, simulate_states, simulate_steps,
 };
+use snoop_lint::lint_text;
 use snoop_rules::{Protocol, write_table};
 use snoop_trace::Shape;
 use snoop_trace::streams::{Sink, Source, write_whole};
@@ -144,6 +145,9 @@ fn simulate<T: Threads + Wait + Sync, R: Source, W: Sink>(
         }
         Engine::Counts => {
             simulate_counts(alloc, reader, writer, protocol, shape).map_err(Failure::Simulation)
+        }
+        Engine::Lint(form, most) => {
+            lint_text(alloc, reader, writer, form, most, protocol, shape).map_err(Failure::Lint)
         }
     }
 }
