@@ -1,0 +1,7 @@
+pub mod PanelLemmas
+pub mod WidthLemmas
+pub mod DrawnLemmas
+pub mod MayLemmas
+pub mod EdgeLemmas
+pub mod SizeLemmas
+pub mod UnaskedLemmas

@@ -1,0 +1,90 @@
+-- The drawing of a run.
+-- Source: this project's profile.
+use Rattle.std.specs.Prelude.{ℕ, ◌+◌, ◌==◌, ◌&&◌, Bool, true, List, [], ◌∷◌, ◌++◌, codes, Option, Some, None, Result, nat_le, if◌then◌else◌}
+use Rattle.std.specs.Fmt.{decimal}
+use Rattle.std.specs.List.{flat_map}
+use Rattle.snoop_trace.specs.Extent.{Extent}
+use Rattle.snoop_trace.specs.declared.protocol.Protocol.{Protocol}
+use Rattle.snoop_trace.specs.declared.step.Step.{Step}
+use Rattle.snoop_model.specs.Pictures.Situation.{Situation, reset}
+use Rattle.snoop_model.specs.declared.replies.Reply.{Reply}
+use Rattle.snoop_model.specs.declared.replies.Refused.{Refused}
+use Rattle.snoop_engine.specs.Frames.{Frame, steps_of}
+use Rattle.snoop_engine.specs.Line.{line_text}
+use Rattle.snoop_engine.specs.Taken.{lines_of}
+use Rattle.snoop_engine.specs.declared.taken.Taken.{Taken}
+use Rattle.snoop_draw.specs.declared.cells.Style.{Style}
+use Rattle.snoop_draw.specs.declared.event.Event.TheVariants.{Before}
+use Rattle.snoop_draw.specs.declared.marks.Charset.{Charset}
+use Rattle.snoop_draw.specs.Cells.{right_text}
+use Rattle.snoop_draw.specs.Choices.{Chosen}
+use Rattle.snoop_draw.specs.Events.{block_of, event_in, is_of}
+use Rattle.snoop_draw.specs.Headings.{heading_text, legend_text}
+use Rattle.snoop_draw.specs.Panels.{Panel, panels_for}
+use Rattle.snoop_draw.specs.Rows.{panel_text}
+use Rattle.snoop_draw.specs.Widths.{widths_for}
+
+-- how a drawing looks, its panels, and which steps are drawn
+pub record Sheet : Type 0 where
+  pub style : Style
+  pub panels : List Panel
+  pub choice : Chosen
+
+-- the sheet for a drawing of these steps
+abbrev pub sheet_for : Extent → Charset → Chosen → List Step → Sheet
+sheet_for shape charset choice steps =
+    record { style = record { charset = charset; widths = widths_for shape steps }; panels = panels_for shape steps choice.block; choice = choice }
+
+-- something of this block, if of any, is among what is chosen
+abbrev pub is_chosen : Option ℕ → Option ℕ → Bool
+is_chosen None of = true
+is_chosen (Some block) of = is_of of block
+
+-- the step of this number, that is of this block if of any, is drawn
+abbrev pub is_drawn : Chosen → ℕ → Option ℕ → Bool
+is_drawn choice number of = nat_le choice.from number && nat_le number choice.to && is_chosen choice.block of
+
+-- the last words of the first row
+abbrev pub first_words : ℕ → List ℕ
+first_words number = if number == 0 then codes "  at reset\n" else codes "  before\n"
+
+-- the first row: the machine as it stands after so many steps
+abbrev pub standing_text : Sheet → ℕ → Situation → List ℕ
+standing_text sheet number s =
+    right_text sheet.style.widths.number (decimal number) ++ flat_map (panel_text sheet.style s Before []) sheet.panels ++ first_words number
+
+-- what the row of a step shows of a panel
+abbrev pub panel_seen : Style → Situation → Step → Result Reply Refused → List Taken → Panel → List ℕ
+panel_seen style s step outcome lines panel = panel_text style s (event_in panel.block step outcome lines) lines panel
+
+-- the row of a step: its number, the panels, and its line
+abbrev pub row_seen : Sheet → Extent → ℕ → Situation → Step → Result Reply Refused → List Taken → List ℕ
+row_seen sheet shape number s step outcome lines =
+    right_text sheet.style.widths.number (decimal number) ++ flat_map (panel_seen sheet.style s step outcome lines) sheet.panels ++ codes "  " ++ line_text shape step outcome
+
+-- what is drawn at a step: its row, or after the last step that is not drawn the first row
+abbrev pub rows_seen : Sheet → Extent → ℕ → Situation → Step → Result Reply Refused → List Taken → List ℕ
+rows_seen sheet shape number s step outcome lines =
+    if number + 1 == sheet.choice.from then standing_text sheet number s
+    else (if is_drawn sheet.choice number (block_of step outcome lines) then row_seen sheet shape number s step outcome lines else [])
+
+-- the same of a frame: by the machine after it, and the lines of its step
+abbrev pub rows_at : Sheet → Extent → ℕ → Frame → List ℕ
+rows_at sheet shape number frame =
+    rows_seen sheet shape number frame.after frame.step frame.outcome (lines_of frame.before frame.step frame.outcome)
+
+-- what is drawn at steps, the first of which has this number
+abbrev pub rows_from : Sheet → Extent → ℕ → List Frame → List ℕ
+rows_from sheet shape number [] = []
+rows_from sheet shape number (frame ∷ frames) = rows_at sheet shape number frame ++ rows_from sheet shape (number + 1) frames
+
+-- what is drawn before any step: the heading, and the first row if the first step is drawn
+abbrev pub beginning_text : Sheet → Protocol → Extent → List ℕ
+beginning_text sheet protocol shape =
+    heading_text sheet.style protocol shape sheet.panels ++ (if 1 == sheet.choice.from then standing_text sheet 0 (reset protocol shape) else [])
+
+-- the whole drawing of the frames of a run
+abbrev pub drawing_text : Protocol → Extent → Charset → Chosen → List Frame → List ℕ
+drawing_text protocol shape charset choice frames =
+    let sheet = sheet_for shape charset choice (steps_of frames) in
+    beginning_text sheet protocol shape ++ rows_from sheet shape 1 frames ++ legend_text charset

@@ -1,0 +1,28 @@
+-- What holds of every drawing.
+-- Source: "A Primer on Memory Consistency and Cache Coherence", 2nd edition: the single-writer-multiple-reader invariant.
+use Rattle.std.specs.Prelude.{◌≡◌, ◌≢◌, ⊤, ℕ, false, List, [], ◌∷◌}
+use Rattle.snoop_trace.specs.Extent.{Extent}
+use Rattle.snoop_trace.specs.declared.protocol.Protocol.{Protocol}
+use Rattle.snoop_trace.specs.declared.step.Step.{Step}
+use Rattle.snoop_rules.specs.declared.names.CacheState.TheVariants.{I}
+use Rattle.snoop_model.specs.Pictures.Situation.{Situation, state_of}
+use Rattle.snoop_engine.specs.Frames.{AreFrames, Frame}
+use Rattle.snoop_draw.specs.declared.marks.Mark.TheVariants.{Blank, MayWrite}
+use Rattle.snoop_draw.specs.Events.{may}
+use Rattle.snoop_draw.specs.Panels.{asks}
+use Rattle.snoop_draw.specs.Rows.{held_in}
+
+-- beside a core that is marked as one that may write, no other has a mark
+abbrev pub HasOneEdge : Situation → Type 0
+HasOneEdge s = (block core other : ℕ) → may s.protocol (held_in s block core) ≡ MayWrite → other ≢ core → may s.protocol (held_in s block other) ≡ Blank
+
+-- in each of these frames the core is in I
+abbrev pub HoldsNothing : ℕ → ℕ → List Frame → Type 0
+HoldsNothing block core [] = ⊤
+HoldsNothing block core (frame ∷ frames) = (state_of frame.after core block ≡ I) × HoldsNothing block core frames
+
+-- in the run of some steps a core that asks for a block in none of them is in I throughout: the columns that are left out would hold nothing
+abbrev pub UnaskedHoldNothing : Type 0
+UnaskedHoldNothing =
+    (protocol : Protocol) (shape : Extent) (steps : List Step) (frames : List Frame) (final : Situation) →
+    AreFrames protocol shape steps frames final → (block core : ℕ) → asks steps block core ≡ false → HoldsNothing block core frames

@@ -1,0 +1,39 @@
+-- What the command `draw` leaves, by what it answers.
+-- Source: this project's profile.
+use Rattle.std.specs.Prelude.{◌≡◌, ℕ, List, Option, Result, Ok, Err, length, ◌⊎◌}
+use Rattle.snoop_trace.specs.Extent.{Extent}
+use Rattle.snoop_trace.specs.declared.protocol.Protocol.{Protocol}
+use Rattle.snoop_trace.specs.declared.step.Step.{Step}
+use Rattle.snoop_model.specs.Pictures.Situation.{Situation}
+use Rattle.snoop_engine.specs.Frames.{Frame}
+use Rattle.snoop_engine.specs.Simulated.{Reads}
+use Rattle.snoop_engine.specs.SimulatedView.{BeginsToShow, ShowsRun}
+use Rattle.snoop_engine.specs.declared.fault.SimFault.TheVariants.{Text, NoMemory, Write}
+use Rattle.snoop_draw.specs.declared.fault.DrawFault.{DrawFault}
+use Rattle.snoop_draw.specs.declared.fault.DrawFault.TheVariants.{Simulation, TooLarge}
+use Rattle.snoop_draw.specs.declared.marks.Charset.{Charset}
+use Rattle.snoop_draw.specs.Choices.{Chosen}
+use Rattle.snoop_draw.specs.Drawings.{drawing_text}
+use Rattle.snoop_draw.specs.Panels.{panels_for}
+use Rattle.snoop_draw.specs.Size.{IsSmall}
+
+-- a drawing of these steps is small enough
+abbrev pub IsDrawable : Extent → Chosen → List Step → Type 0
+IsDrawable shape choice steps = IsSmall choice (length steps) (panels_for shape steps choice.block)
+
+-- the drawing, whatever the run leads to
+abbrev pub drawing : Protocol → Extent → Charset → Chosen → List Frame → Situation → List ℕ
+drawing protocol shape charset choice frames final = drawing_text protocol shape charset choice frames
+
+-- the steps were drawn, or a beginning of that; or they were too many
+abbrev pub DrawsSteps : Protocol → Extent → Charset → Chosen → List Step → Result (Unit {0}) DrawFault → Option (List ℕ) → Option (List ℕ) → Type 0
+DrawsSteps protocol shape charset choice steps (Ok u) old new = IsDrawable shape choice steps × ShowsRun protocol shape (drawing protocol shape charset choice) steps old new
+DrawsSteps protocol shape charset choice steps (Err TooLarge) old new = (¬ IsDrawable shape choice steps) × (new ≡ old)
+DrawsSteps protocol shape charset choice steps (Err (Simulation NoMemory)) old new = (new ≡ old) ⊎ BeginsToShow protocol shape (drawing protocol shape charset choice) steps old new
+DrawsSteps protocol shape charset choice steps (Err (Simulation Write)) old new = IsDrawable shape choice steps × BeginsToShow protocol shape (drawing protocol shape charset choice) steps old new
+DrawsSteps protocol shape charset choice steps (Err (Simulation (Text fault))) old new = ⊥
+
+-- the whole text was read and its steps drawn, or a beginning of that; or the text was refused
+abbrev pub Draws : Protocol → Extent → Charset → Chosen → Option (List ℕ) → Result (Unit {0}) DrawFault → Option (List ℕ) → Option (List ℕ) → Type 0
+Draws protocol shape charset choice input (Err (Simulation (Text fault))) old new = Reads protocol shape input (Err fault)
+Draws protocol shape charset choice input result old new = (steps : List Step) × (Reads protocol shape input (Ok steps) × DrawsSteps protocol shape charset choice steps result old new)

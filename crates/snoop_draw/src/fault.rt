@@ -1,0 +1,15 @@
+//! Why a drawing was not made.
+
+use snoop_engine::SimFault;
+use thiserror::Error;
+
+/// Why a drawing was not made, or not to its end.
+#[derive(Clone, Copy, Debug, PartialEq, Eq, Error)]
+pub enum DrawFault {
+    /// The simulation stopped.
+    #[error(transparent)]
+    Simulation(SimFault),
+    /// The drawing would have more than a million cells; nothing was written.
+    #[error("TooLarge")]
+    TooLarge,
+}

@@ -1,0 +1,86 @@
+//! The command `draw`: the steps of a text, and the drawing of their run.
+ghost use Rattle.std.specs.Prelude.{◌≡◌, ◌≢◌, true, Err};
+ghost use Rattle.snoop_trace.specs.Output.{BlamesWriter};
+ghost use Rattle.snoop_trace.specs.Text.{BlamesReader};
+ghost use Rattle.snoop_trace.specs.declared.fault.TextFault.{TextFault};
+ghost use Rattle.snoop_trace.specs.declared.fault.TextFault.TheVariants as text_fault;
+ghost use Rattle.snoop_draw.specs.Simulated.{Draws, DrawsSteps};
+
+use crate::cells::Style;
+use crate::choice::Choice;
+use crate::drawing::Drawing;
+use crate::fault::DrawFault;
+use crate::marks::Charset;
+use crate::panels::panels_for;
+use crate::size::is_small;
+use crate::widths::widths_for;
+use snoop_engine::{SimFault, show_steps};
+use snoop_rules::Protocol;
+use snoop_trace::streams::{Sink, Source};
+use snoop_trace::{Shape, Step, WriteFault, read_steps};
+use std::alloc::Global;
+
+/// Reads a text of steps for the protocol and the shape to its end, takes them in order on a machine at reset, and draws
+/// those that are chosen: a row for each, a panel for each block, a column for each core that asks for the block, the bus
+/// and memory. All columns are known before the first byte is written, and a drawing of more than a million cells, which
+/// are the product of the chosen steps and the columns, one more of each, is refused by `TooLarge`. A step that is refused
+/// because it is out of memory ends the simulation.
+pub fn simulate_drawing<R: Source, W: Sink>(
+    alloc: Global,
+    reader: &mut R,
+    writer: &mut W,
+    protocol: Protocol,
+    shape: Shape,
+    charset: Charset,
+    choice: Choice,
+) -> Result<(), DrawFault>
+    ensures does { Draws protocol shape charset choice (R.remaining reader.old) result (W.contents writer.old) (W.contents writer.new) }
+    // A refused text leaves the writer as it was, and so does a drawing that is too large.
+    ensures unwritten { (fault : TextFault) → result ≡ Err (DrawFault.Simulation (SimFault.Text fault)) → writer.new ≡ writer.old }
+    ensures too_large { result ≡ Err DrawFault.TooLarge → writer.new ≡ writer.old }
+
+    // A reader or a writer whose contract rules failure out is never blamed.
+    ensures reads { R.never_fails ≡ true → result ≢ Err (DrawFault.Simulation (SimFault.Text text_fault.Read)) }
+    ensures writes { W.never_fails ≡ true → result ≢ Err (DrawFault.Simulation SimFault.Write) }
+    // Where it is known that none of its reads or writes had failed, it is blamed exactly where one fails, and none is tried again.
+    ensures read_blamed { BlamesReader (R.failed reader.old) (R.failed reader.new) (result ≡ Err (DrawFault.Simulation (SimFault.Text text_fault.Read))) }
+    ensures blamed { BlamesWriter (W.failed writer.old) (W.failed writer.new) (result ≡ Err (DrawFault.Simulation SimFault.Write)) }
+{
+    let steps = read_steps(alloc, reader, protocol, shape).map_err(|fault| {
+        DrawFault::Simulation(SimFault::Text(fault))
+    })?;
+    draw_steps(alloc, writer, protocol, shape, charset, choice, &steps)
+}
+
+/// Draws the run of the steps, unless that would be too large.
+fn draw_steps<W: Sink>(
+    alloc: Global,
+    writer: &mut W,
+    protocol: Protocol,
+    shape: Shape,
+    charset: Charset,
+    choice: Choice,
+    steps: &[Step],
+) -> Result<(), DrawFault>
+    ensures does { DrawsSteps protocol shape charset choice steps.now result (W.contents writer.old) (W.contents writer.new) }
+    ensures too_large { result ≡ Err DrawFault.TooLarge → writer.new ≡ writer.old }
+    ensures never_blamed { W.never_fails ≡ true → result ≢ Err (DrawFault.Simulation SimFault.Write) }
+    ensures blamed { BlamesWriter (W.failed writer.old) (W.failed writer.new) (result ≡ Err (DrawFault.Simulation SimFault.Write)) }
+{
+    let Ok(panels) = panels_for(alloc, shape, steps, choice.block()) else {
+        return Err(DrawFault::Simulation(SimFault::NoMemory));
+    };
+    if !is_small(choice, steps.len() as u64, &panels) {
+        return Err(DrawFault::TooLarge);
+    }
+    let style = Style {
+        charset,
+        widths: widths_for(shape, steps),
+    };
+    let mut drawing = Drawing::new(alloc, style, panels, choice);
+    match show_steps(alloc, writer, protocol, shape, steps, &mut drawing) {
+        Ok(()) => Ok(()),
+        Err(WriteFault::NoMemory) => Err(DrawFault::Simulation(SimFault::NoMemory)),
+        Err(WriteFault::Write) => Err(DrawFault::Simulation(SimFault::Write)),
+    }
+}

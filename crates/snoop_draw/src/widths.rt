@@ -1,0 +1,70 @@
+//! How wide the columns of a drawing are.
+ghost use Rattle.std.specs.Prelude.{◌≡◌, ◌≤◌, max};
+ghost use Rattle.snoop_draw.specs.Widths.{digits, most_stored, stored, widths_for};
+
+use itoa::Buffer;
+use snoop_trace::{Op, Shape, Step};
+
+/// The widths of the words of the columns, in characters.
+#[derive(Clone, Copy, Debug)]
+pub(crate) struct Widths {
+    pub(crate) number: usize,
+    pub(crate) core: usize,
+    pub(crate) bus: usize,
+    pub(crate) memory: usize,
+}
+
+// How many digits the number has.
+fn digits(number: u64) -> usize
+    ensures value { result ≡ digits number }
+    ensures few { result ≤ 20 }
+{
+    Buffer::new().format(number).len()
+}
+
+// The value that the step stores, or 0.
+fn stored(step: Step) -> u64
+    ensures { result ≡ stored step }
+{
+    match step {
+        Step::Ask {
+            core: _,
+            block: _,
+            word: _,
+            op: Op::Store(value),
+        } => value,
+        _ => 0,
+    }
+}
+
+// The larger of two numbers.
+fn larger(one: u64, other: u64) -> u64
+    ensures { result ≡ max one other }
+{
+    if one < other { other } else { one }
+}
+
+// The largest value that the steps store, or 0.
+fn most_stored(steps: &[Step]) -> u64
+    ensures { result ≡ most_stored steps.now }
+{
+    let mut most = 0;
+    for step in steps {
+        most = larger(most, stored(*step));
+    }
+    most
+}
+
+/// The widths in which whatever a drawing of the steps has to say finds room.
+pub(crate) fn widths_for(shape: Shape, steps: &[Step]) -> Widths
+    ensures { result ≡ widths_for shape steps.now }
+{
+    shape.within_limits();
+    let values = shape.words() as usize * (digits(most_stored(steps)) + 1) - 1;
+    Widths {
+        number: larger(digits(steps.len() as u64) as u64, 4) as usize,
+        core: 8 + values + digits(shape.blocks() as u64),
+        bus: 14 + values + digits(shape.cores() as u64),
+        memory: 9 + values,
+    }
+}
