@@ -7,42 +7,42 @@ use Rattle.clap.specs.declared.error.kind.ErrorKind.TheVariants.{InvalidValue, U
 use Rattle.clap.specs.declared.parser.matches.ArgMatches.{ArgMatches}
 use Rattle.clap.proofs.OnLiterals.{clap_on_literals}
 use Rattle.snoop_sim.specs.Asked.{Asks, HasNoTask, HasTask, IsShown, Refuses}
-use Rattle.snoop_sim.specs.CommandLine.{IsSnoop, Names, flag_rule, form_rule, grouping_rule, kind_rule, long_rule, simulation_app, table_app, top_app, with_commands}
+use Rattle.snoop_sim.specs.CommandLine.{IsSnoop, Names, choice_rules, default_form_rule, flag_rule, form_rule, grouping_rule, kind_rule, long_rule, simulation_app, table_app, top_app, with_commands}
 use Rattle.snoop_engine.specs.declared.fault.SimFault.TheVariants.{NoMemory}
 use Rattle.snoop_sim.specs.declared.failure.Failure.{Failure}
-use Rattle.snoop_sim.specs.declared.failure.Failure.TheVariants.{CommandLine, NoCommand, NotUtf8, Shape, Simulation, Threads as ThreadsFailure, Lint as LintFailure}
+use Rattle.snoop_sim.specs.declared.failure.Failure.TheVariants.{CommandLine, NoCommand, NotUtf8, Shape, Simulation, Threads as ThreadsFailure, Lint as LintFailure, Drawing, Unchosen}
 use Rattle.snoop_sim.specs.declared.options.Task.{Task}
 use Rattle.snoop_sim.specs.declared.options.Task.TheVariants.{Help, Table, Simulate}
 
 -- the commands, with the names that their options take
-abbrev commands : (steps run threads states forms counts groupings lint kinds table tables : Names) → List App
-commands steps run threads states forms counts groupings lint kinds table tables =
+abbrev commands : (steps run threads states forms counts groupings lint kinds draw drawings table tables : Names) → List App
+commands steps run threads states forms counts groupings lint kinds draw drawings table tables =
     simulation_app (codes "steps") steps [] ∷ simulation_app (codes "run") run (flag_rule (codes "serial") ∷ []) ∷ simulation_app (codes "threads") threads []
-    ∷ simulation_app (codes "states") states (form_rule forms ∷ []) ∷ simulation_app (codes "counts") counts (grouping_rule groupings ∷ []) ∷ simulation_app (codes "lint") lint (kind_rule kinds ∷ long_rule (codes "most") (codes "20") ∷ []) ∷ table_app table tables ∷ []
+    ∷ simulation_app (codes "states") states (form_rule forms ∷ []) ∷ simulation_app (codes "counts") counts (grouping_rule groupings ∷ []) ∷ simulation_app (codes "lint") lint (kind_rule kinds ∷ long_rule (codes "most") (codes "20") ∷ []) ∷ simulation_app (codes "draw") draw (default_form_rule drawings ∷ flag_rule (codes "ascii") ∷ choice_rules) ∷ table_app table tables ∷ []
 
 -- `clap` says what it finds in the words of such a command line
-is_simple_snoop : (steps run threads states forms counts groupings lint kinds table tables : Names)
-    → is_simple (with_commands top_app (commands steps run threads states forms counts groupings lint kinds table tables)) ≡ true
+is_simple_snoop : (steps run threads states forms counts groupings lint kinds draw drawings table tables : Names)
+    → is_simple (with_commands top_app (commands steps run threads states forms counts groupings lint kinds draw drawings table tables)) ≡ true
 unfolding clap_on_literals
-is_simple_snoop steps run threads states forms counts groupings lint kinds table tables = refl
+is_simple_snoop steps run threads states forms counts groupings lint kinds draw drawings table tables = refl
 
 -- and of which kinds its errors are
-is_free_snoop : (steps run threads states forms counts groupings lint kinds table tables : Names)
-    → is_simple_and_free (with_commands top_app (commands steps run threads states forms counts groupings lint kinds table tables)) ≡ true
+is_free_snoop : (steps run threads states forms counts groupings lint kinds draw drawings table tables : Names)
+    → is_simple_and_free (with_commands top_app (commands steps run threads states forms counts groupings lint kinds draw drawings table tables)) ≡ true
 unfolding clap_on_literals
-is_free_snoop steps run threads states forms counts groupings lint kinds table tables = refl
+is_free_snoop steps run threads states forms counts groupings lint kinds draw drawings table tables = refl
 
 -- one more command
 listed : {a b : App} {rest others : List App} → a ≡ b → rest ≡ others → a ∷ rest ≡ b ∷ others
 listed head tail = ap₂ (λ x xs. x ∷ xs) head tail
 
 -- a test that holds whatever lists the names are in
-tested : (test : App → Bool) → ((steps run threads states forms counts groupings lint kinds table tables : Names)
-    → test (with_commands top_app (commands steps run threads states forms counts groupings lint kinds table tables)) ≡ true) → (app : App) → IsSnoop app → test app ≡ true
-tested test holds app (steps', run', threads', states', counts', lint', table', (steps, _, a), (run, _, b), (threads, _, c), (forms, _, (states, _, d)), (groupings, _, (counts, _, e)), (kinds, _, (lint, _, f)), (table, tables, _, _, g), is) =
-    let same : steps' ∷ run' ∷ threads' ∷ states' ∷ counts' ∷ lint' ∷ table' ∷ [] ≡ commands steps run threads states forms counts groupings lint kinds table tables =
-    listed a (listed b (listed c (listed d (listed e (listed f (listed g refl)))))) in
-    ap test (is ∙ ap (with_commands top_app) same) ∙ holds steps run threads states forms counts groupings lint kinds table tables
+tested : (test : App → Bool) → ((steps run threads states forms counts groupings lint kinds draw drawings table tables : Names)
+    → test (with_commands top_app (commands steps run threads states forms counts groupings lint kinds draw drawings table tables)) ≡ true) → (app : App) → IsSnoop app → test app ≡ true
+tested test holds app (steps', run', threads', states', counts', lint', draw', table', (steps, _, a), (run, _, b), (threads, _, c), (forms, _, (states, _, d)), (groupings, _, (counts, _, e)), (kinds, _, (lint, _, f)), (drawings, _, (draw, _, g)), (table, tables, _, _, h), is) =
+    let same : steps' ∷ run' ∷ threads' ∷ states' ∷ counts' ∷ lint' ∷ draw' ∷ table' ∷ [] ≡ commands steps run threads states forms counts groupings lint kinds draw drawings table tables =
+    listed a (listed b (listed c (listed d (listed e (listed f (listed g (listed h refl))))))) in
+    ap test (is ∙ ap (with_commands top_app) same) ∙ holds steps run threads states forms counts groupings lint kinds draw drawings table tables
 
 pub is_free : (app : App) → IsSnoop app → is_simple_and_free app ≡ true
 is_free = tested is_simple_and_free is_free_snoop
@@ -68,6 +68,8 @@ without_task app words command (Shape fault) snoop well named has = (app, snoop,
 without_task app words command NotUtf8 snoop well named has = (app, snoop, (well, subst (λ c. HasNoTask c NotUtf8) named has))
 without_task app words command (ThreadsFailure fault) snoop well named has = (app, snoop, (well, subst (λ c. HasNoTask c (ThreadsFailure fault)) named has))
 without_task app words command (LintFailure fault) snoop well named has = (app, snoop, (well, subst (λ c. HasNoTask c (LintFailure fault)) named has))
+without_task app words command (Drawing fault) snoop well named has = (app, snoop, (well, subst (λ c. HasNoTask c (Drawing fault)) named has))
+without_task app words command (Unchosen fault) snoop well named has = (app, snoop, (well, subst (λ c. HasNoTask c (Unchosen fault)) named has))
 without_task app words None (CommandLine error) snoop well named has = absurd has
 without_task app words (Some command) (CommandLine error) snoop well named has = absurd has.1.2
 without_task app words None (Simulation fault) snoop well named has = absurd has

@@ -5,10 +5,11 @@ use Rattle.snoop_trace.specs.Text.{BlamesReader}
 use Rattle.snoop_trace.specs.declared.fault.TextFault.{TextFault}
 use Rattle.snoop_trace.specs.declared.fault.TextFault.TheVariants as text
 use Rattle.snoop_engine.specs.declared.fault.SimFault.TheVariants as sim
+use Rattle.snoop_draw.specs.declared.fault.DrawFault.TheVariants as draw
 use Rattle.snoop_lint.specs.declared.fault.LintFault.TheVariants as lint
 use Rattle.snoop_sim.specs.declared.fault.ThreadsFault.TheVariants as threads
 use Rattle.snoop_sim.specs.declared.failure.Failure.{Failure}
-use Rattle.snoop_sim.specs.declared.failure.Failure.TheVariants.{CommandLine, NoCommand, NotUtf8, Shape, Simulation, Threads, Lint}
+use Rattle.snoop_sim.specs.declared.failure.Failure.TheVariants.{CommandLine, NoCommand, NotUtf8, Shape, Simulation, Threads, Lint, Drawing, Unchosen}
 use Rattle.snoop_sim.specs.Performed.{IsFailedRead}
 use Rattle.snoop_sim.specs.Status.{status_of}
 
@@ -51,3 +52,16 @@ failed_read_status (Threads (threads.Write fault)) before after blames old new =
 failed_read_status (Lint lint.Read) before after blames old new = refl
 failed_read_status (Lint lint.NoMemory) before after blames old new = absurd (not_blamed before after blames old new)
 failed_read_status (Lint lint.Write) before after blames old new = absurd (not_blamed before after blames old new)
+failed_read_status (Drawing (draw.Simulation (sim.Text (text.BadKind n)))) before after blames old new = refl
+failed_read_status (Drawing (draw.Simulation (sim.Text (text.BadFields n)))) before after blames old new = refl
+failed_read_status (Drawing (draw.Simulation (sim.Text (text.BadNumber n)))) before after blames old new = refl
+failed_read_status (Drawing (draw.Simulation (sim.Text (text.NoCore n)))) before after blames old new = refl
+failed_read_status (Drawing (draw.Simulation (sim.Text (text.NoBlock n)))) before after blames old new = refl
+failed_read_status (Drawing (draw.Simulation (sim.Text text.Read))) before after blames old new = refl
+failed_read_status (Drawing (draw.Simulation (sim.Text text.NoMemory))) before after blames old new = absurd (not_blamed before after blames old new)
+failed_read_status (Drawing (draw.Simulation (sim.Text (text.OtherShape n)))) before after blames old new = refl
+failed_read_status (Drawing (draw.Simulation (sim.Text (text.BadVersion n)))) before after blames old new = refl
+failed_read_status (Drawing (draw.Simulation sim.NoMemory)) before after blames old new = absurd (not_blamed before after blames old new)
+failed_read_status (Drawing (draw.Simulation sim.Write)) before after blames old new = absurd (not_blamed before after blames old new)
+failed_read_status (Drawing draw.TooLarge) before after blames old new = absurd (not_blamed before after blames old new)
+failed_read_status (Unchosen fault) before after blames old new = absurd (not_blamed before after blames old new)

@@ -9,8 +9,9 @@ use Rattle.snoop_cores.specs.declared.fault.GatherFault.TheVariants as gathering
 use Rattle.snoop_engine.specs.declared.fault.SimFault.{SimFault}
 use Rattle.snoop_engine.specs.declared.fault.SimFault.TheVariants.{Text, NoMemory, Write}
 use Rattle.snoop_sim.specs.declared.failure.Failure.{Failure}
-use Rattle.snoop_sim.specs.declared.failure.Failure.TheVariants.{CommandLine, NoCommand, NotUtf8, Shape, Simulation, Threads, Lint}
+use Rattle.snoop_sim.specs.declared.failure.Failure.TheVariants.{CommandLine, NoCommand, NotUtf8, Shape, Simulation, Threads, Lint, Drawing, Unchosen}
 use Rattle.snoop_lint.specs.declared.fault.LintFault.{LintFault}
+use Rattle.snoop_draw.specs.declared.fault.DrawFault.TheVariants as draw
 use Rattle.snoop_lint.specs.declared.fault.LintFault.TheVariants as lint
 use Rattle.snoop_sim.specs.declared.fault.ThreadsFault.{ThreadsFault}
 use Rattle.snoop_sim.specs.declared.fault.ThreadsFault.TheVariants as threads
@@ -49,3 +50,6 @@ status_known (Shape fault) = omega arith
 status_known (Simulation fault) = fault_known fault
 status_known (Threads fault) = threads_known fault
 status_known (Lint fault) = lint_known fault
+status_known (Drawing (draw.Simulation fault)) = fault_known fault
+status_known (Drawing draw.TooLarge) = omega arith
+status_known (Unchosen fault) = omega arith

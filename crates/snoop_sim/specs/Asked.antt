@@ -6,47 +6,50 @@ use Rattle.clap.specs.declared.error.kind.ErrorKind.{ErrorKind}
 use Rattle.clap.specs.declared.error.kind.ErrorKind.TheVariants.{DisplayHelp, DisplayVersion}
 use Rattle.snoop_trace.specs.Extent.{Extent}
 use Rattle.snoop_sim.specs.CommandLine.{IsSnoop}
-use Rattle.snoop_sim.specs.Options.{IsLongOf, IsShapeOf, asks_serial, kind_named, protocol_named, which_named}
+use Rattle.snoop_sim.specs.Options.{IsChoiceOf, IsLongOf, IsShapeOf, asks_serial, charset_named, kind_named, protocol_named, which_named}
 use Rattle.snoop_engine.specs.declared.fault.SimFault.TheVariants.{NoMemory}
 use Rattle.snoop_sim.specs.declared.failure.Failure.{Failure}
-use Rattle.snoop_sim.specs.declared.failure.Failure.TheVariants.{CommandLine, NoCommand, Shape, Simulation}
+use Rattle.snoop_sim.specs.declared.failure.Failure.TheVariants.{CommandLine, NoCommand, Shape, Simulation, Unchosen}
 use Rattle.snoop_sim.specs.declared.options.Engine.{Engine}
-use Rattle.snoop_sim.specs.declared.options.Engine.TheVariants.{Steps, Run, Serial, Threads, States, Counts, Lint}
+use Rattle.snoop_sim.specs.declared.options.Engine.TheVariants.{Steps, Run, Serial, Threads, States, Counts, Lint, Draw}
 use Rattle.snoop_sim.specs.declared.options.Task.{Task}
 use Rattle.snoop_sim.specs.declared.options.Task.TheVariants.{Help, Table, Simulate}
 
 -- the engine of a command with its options
-abbrev pub IsEngineOf : Text → List Row → Engine → Type 0
-IsEngineOf name options Steps = name ≡ codes "steps"
-IsEngineOf name options Run = (name ≡ codes "run") × (asks_serial options ≡ false)
-IsEngineOf name options Serial = (name ≡ codes "run") × (asks_serial options ≡ true)
-IsEngineOf name options Threads = name ≡ codes "threads"
-IsEngineOf name options States = name ≡ codes "states"
-IsEngineOf name options Counts = name ≡ codes "counts"
-IsEngineOf name options (Lint form most) = (name ≡ codes "lint") × (form ≡ kind_named options) × IsLongOf (codes "most") options most
+abbrev pub IsEngineOf : Text → List Row → Extent → Engine → Type 0
+IsEngineOf name options shape Steps = name ≡ codes "steps"
+IsEngineOf name options shape Run = (name ≡ codes "run") × (asks_serial options ≡ false)
+IsEngineOf name options shape Serial = (name ≡ codes "run") × (asks_serial options ≡ true)
+IsEngineOf name options shape Threads = name ≡ codes "threads"
+IsEngineOf name options shape States = name ≡ codes "states"
+IsEngineOf name options shape Counts = name ≡ codes "counts"
+IsEngineOf name options shape (Lint form most) = (name ≡ codes "lint") × (form ≡ kind_named options) × IsLongOf (codes "most") options most
+IsEngineOf name options shape (Draw charset choice) = (name ≡ codes "draw") × (charset ≡ charset_named options) × IsChoiceOf shape options (Ok choice)
 
 -- the task of a command with its options
 abbrev pub IsTaskOf : Text × List Row → Task → Type 0
 IsTaskOf command (Help help) = ⊥
 IsTaskOf (name, options) (Table protocol which) = (name ≡ codes "table") × (protocol ≡ protocol_named options) × (which ≡ which_named options)
-IsTaskOf (name, options) (Simulate protocol shape engine) = (protocol ≡ protocol_named options) × IsShapeOf options (Ok shape) × IsEngineOf name options engine
+IsTaskOf (name, options) (Simulate protocol shape engine) = (protocol ≡ protocol_named options) × IsShapeOf options (Ok shape) × IsEngineOf name options shape engine
 
 -- the command that was named has this task
 abbrev pub HasTask : Option (Text × List Row) → Task → Type 0
 HasTask None task = ⊥
 HasTask (Some command) task = IsTaskOf command task
 
--- no engine is known for a command: none that simulates has its name
-abbrev pub HasNoEngine : Text → Failure → Type 0
-HasNoEngine name NoCommand = (name ≢ codes "steps") × (name ≢ codes "run") × (name ≢ codes "threads") × (name ≢ codes "states") × (name ≢ codes "counts") × (name ≢ codes "lint")
-HasNoEngine name failure = ⊥
+-- a command has no engine: none that simulates has its name, or what it chooses is refused
+abbrev pub HasNoEngine : Text → List Row → Extent → Failure → Type 0
+HasNoEngine name options shape NoCommand = (name ≢ codes "steps") × (name ≢ codes "run") × (name ≢ codes "threads") × (name ≢ codes "states") × (name ≢ codes "counts")
+    × (name ≢ codes "lint") × (name ≢ codes "draw")
+HasNoEngine name options shape (Unchosen fault) = (name ≡ codes "draw") × IsChoiceOf shape options (Err fault)
+HasNoEngine name options shape failure = ⊥
 
 -- the command that was named has no task: its shape is refused, or it has no engine
 abbrev pub HasNoTask : Option (Text × List Row) → Failure → Type 0
 HasNoTask None NoCommand = ⊤
 HasNoTask None failure = ⊥
 HasNoTask (Some (name, options)) (Shape fault) = (name ≢ codes "table") × IsShapeOf options (Err fault)
-HasNoTask (Some (name, options)) failure = (name ≢ codes "table") × ((shape : Extent) × IsShapeOf options (Ok shape) × HasNoEngine name failure)
+HasNoTask (Some (name, options)) failure = (name ≢ codes "table") × ((shape : Extent) × IsShapeOf options (Ok shape) × HasNoEngine name options shape failure)
 
 -- the text is that of help or of the version
 abbrev pub IsShown : ErrorKind → Type 0

@@ -37,6 +37,10 @@ AreNames texts names = map (λ name. name.now) names.now ≡ texts
 abbrev pub IsProtocols : Names → Type 0
 IsProtocols names = AreNames (codes "msi" ∷ codes "mesi" ∷ []) names
 
+-- those of `--as` of a drawing
+abbrev pub IsDrawings : Names → Type 0
+IsDrawings names = AreNames (codes "text" ∷ []) names
+
 -- those of `--of`
 abbrev pub IsKinds : Names → Type 0
 IsKinds names = AreNames (codes "steps" ∷ codes "rows" ∷ []) names
@@ -72,6 +76,15 @@ grouping_rule groupings = record (new_rule (codes "by")) { long = Some (codes "b
 -- the option `--of`, which is `steps` where it is not given
 abbrev pub kind_rule : Names → Rule
 kind_rule kinds = option_rule (codes "of") (codes "steps") (parser.Names kinds)
+
+-- the option `--as`, which is `text` where it is not given
+abbrev pub default_form_rule : Names → Rule
+default_form_rule forms = option_rule (codes "as") (codes "text") (parser.Names forms)
+
+-- the options `--block`, `--from` and `--to`
+abbrev pub choice_rules : List Rule
+choice_rules = optional_rule (codes "block") (parser.Signed (pos 0) (pos 4294967295)) ∷ long_rule (codes "from") (codes "1")
+    ∷ optional_rule (codes "to") (parser.Unsigned 0 18446744073709551615) ∷ []
 
 -- a command with these options too, in this order
 abbrev pub with_rules : App → List Rule → App
@@ -119,6 +132,9 @@ IsCounts app = (groupings : Names) × IsGroupings groupings × IsSimulation (cod
 abbrev pub IsLint : App → Type 0
 IsLint app = (kinds : Names) × IsKinds kinds × IsSimulation (codes "lint") (kind_rule kinds ∷ long_rule (codes "most") (codes "20") ∷ []) app
 
+abbrev pub IsDraw : App → Type 0
+IsDraw app = (forms : Names) × IsDrawings forms × IsSimulation (codes "draw") (default_form_rule forms ∷ flag_rule (codes "ascii") ∷ choice_rules) app
+
 abbrev pub IsTable : App → Type 0
 IsTable app = (protocols tables : Names) × IsProtocols protocols × IsTables tables × (app ≡ table_app protocols tables)
 
@@ -128,8 +144,8 @@ top_app = let new = new_app (codes "snoop") in record new { top = record new.top
 
 -- `clap`'s description of the program
 abbrev pub IsSnoop : App → Type 0
-IsSnoop app = (steps run threads states counts lint table : App) × IsSteps steps × IsRun run × IsThreads threads × IsStates states × IsCounts counts × IsLint lint × IsTable table
-    × (app ≡ with_commands top_app (steps ∷ run ∷ threads ∷ states ∷ counts ∷ lint ∷ table ∷ []))
+IsSnoop app = (steps run threads states counts lint draw table : App) × IsSteps steps × IsRun run × IsThreads threads × IsStates states × IsCounts counts × IsLint lint × IsDraw draw × IsTable table
+    × (app ≡ with_commands top_app (steps ∷ run ∷ threads ∷ states ∷ counts ∷ lint ∷ draw ∷ table ∷ []))
 
 -- no option of the command is one of its subcommands' too
 abbrev pub IsLocal : Command → Type 0

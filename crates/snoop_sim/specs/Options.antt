@@ -9,6 +9,11 @@ use Rattle.snoop_trace.specs.declared.shape.ShapeFault.{ShapeFault}
 use Rattle.snoop_trace.specs.declared.shape.ShapeFault.TheVariants.{BadCores, BadBlocks, BadBytes, BadWords}
 use Rattle.snoop_trace.specs.declared.protocol.Protocol.{Protocol}
 use Rattle.snoop_trace.specs.declared.protocol.Protocol.TheVariants.{Msi, Mesi}
+use Rattle.snoop_draw.specs.Choice.{IsChoice}
+use Rattle.snoop_draw.specs.Choices.{Chosen}
+use Rattle.snoop_draw.specs.declared.choice.ChoiceFault.{ChoiceFault}
+use Rattle.snoop_draw.specs.declared.marks.Charset.{Charset}
+use Rattle.snoop_draw.specs.declared.marks.Charset.TheVariants as charset
 use Rattle.snoop_lint.specs.declared.form.Form.{Form}
 use Rattle.snoop_lint.specs.declared.form.Form.TheVariants as form
 use Rattle.snoop_rules.specs.declared.table_text.Which.{Which}
@@ -29,6 +34,10 @@ asks_serial options = says false (codes "serial") (codes "true") options
 -- the memory controller's table where it is named; else the cache controllers'
 abbrev pub which_named : List Row → Which
 which_named options = if says false (codes "which") (codes "memory") options then Memory else Cache
+
+-- ASCII characters where the flag is set
+abbrev pub charset_named : List Row → Charset
+charset_named options = if says false (codes "ascii") (codes "true") options then charset.Ascii else charset.Unicode
 
 -- rows where they are named; else steps
 abbrev pub kind_named : List Row → Form
@@ -68,3 +77,11 @@ IsShapeOf options made = (cores blocks bytes words : ℕ)
     × IsNumberOf (codes "block-bytes") options bytes
     × IsNumberOf (codes "words") options words
     × IsShape cores blocks bytes words made
+
+-- what `block`, `from` and `to` choose: without `block` each block, without `to` the steps to the last
+abbrev pub IsChoiceOf : Extent → List Row → Result Chosen ChoiceFault → Type 0
+IsChoiceOf shape options made = (block from to : Option ℕ)
+    × IsReadAs (2 ^ 32) (one_of (codes "block") options) block
+    × IsReadAs (2 ^ 64) (one_of (codes "from") options) from
+    × IsReadAs (2 ^ 64) (one_of (codes "to") options) to
+    × IsChoice shape block (unwrap_or from 0) (unwrap_or to 18446744073709551615) made

@@ -15,6 +15,8 @@ use Rattle.snoop_engine.specs.SimulatedRun.{SimulatesRun}
 use Rattle.snoop_engine.specs.SimulatedSerial.{SimulatesSerial}
 use Rattle.snoop_engine.specs.SimulatedView.{SimulatesView}
 use Rattle.snoop_engine.specs.States.{states_text}
+use Rattle.snoop_draw.specs.Simulated.{Draws}
+use Rattle.snoop_draw.specs.declared.fault.DrawFault.TheVariants as draw
 use Rattle.snoop_lint.specs.Linted.{Lints}
 use Rattle.snoop_lint.specs.declared.fault.LintFault.TheVariants.{Read as LintRead}
 use Rattle.snoop_sim.specs.Threaded.{SimulatesThreads}
@@ -24,9 +26,9 @@ use Rattle.snoop_engine.specs.declared.fault.SimFault.TheVariants.{Text as TextR
 use Rattle.snoop_trace.specs.declared.fault.TextFault.TheVariants.{Read}
 use Rattle.snoop_sim.specs.declared.fault.ThreadsFault.TheVariants.{Text as RowsRefused}
 use Rattle.snoop_sim.specs.declared.failure.Failure.{Failure}
-use Rattle.snoop_sim.specs.declared.failure.Failure.TheVariants.{Simulation, Threads as ThreadsFailure, Lint as LintFailure}
+use Rattle.snoop_sim.specs.declared.failure.Failure.TheVariants.{Simulation, Threads as ThreadsFailure, Lint as LintFailure, Drawing}
 use Rattle.snoop_sim.specs.declared.options.Engine.{Engine}
-use Rattle.snoop_sim.specs.declared.options.Engine.TheVariants.{Steps, Run, Serial, Threads, States, Counts, Lint}
+use Rattle.snoop_sim.specs.declared.options.Engine.TheVariants.{Steps, Run, Serial, Threads, States, Counts, Lint, Draw}
 use Rattle.snoop_sim.specs.declared.options.Task.{Task}
 use Rattle.snoop_sim.specs.declared.options.Task.TheVariants.{Help, Table, Simulate}
 
@@ -51,6 +53,7 @@ Runs protocol shape Threads input ending old new = EndsAs ThreadsFailure ending 
 Runs protocol shape States input ending old new = EndsAs Simulation ending (λ done. SimulatesView protocol shape (λ frames final. states_text shape frames) input done old new)
 Runs protocol shape Counts input ending old new = EndsAs Simulation ending (λ done. SimulatesView protocol shape (λ frames final. frames_counts_text protocol frames) input done old new)
 Runs protocol shape (Lint form most) input ending old new = EndsAs LintFailure ending (λ done. Lints form most protocol shape input done old new)
+Runs protocol shape (Draw charset choice) input ending old new = EndsAs Drawing ending (λ done. Draws protocol shape charset choice input done old new)
 
 -- what each task leaves: the text of help, the table, or its engine's output
 abbrev pub Performs : Task → Option (List ℕ) → Result (Unit {0}) Failure → Option (List ℕ) → Option (List ℕ) → Type 0
@@ -73,6 +76,7 @@ abbrev pub IsFailedRead : Result (Unit {0}) Failure → Type 0
 IsFailedRead (Err (Simulation (TextRefused Read))) = ⊤
 IsFailedRead (Err (ThreadsFailure (RowsRefused Read))) = ⊤
 IsFailedRead (Err (LintFailure LintRead)) = ⊤
+IsFailedRead (Err (Drawing (draw.Simulation (TextRefused Read)))) = ⊤
 IsFailedRead ending = ⊥
 
 -- the program, for these words and this input, ended with this status, and left this; whether its reader never fails, and whether a read had failed before and after

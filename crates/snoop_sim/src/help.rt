@@ -79,7 +79,8 @@ Exit statuses:
   0  done, even where steps were refused
   1  the text was refused, or could not be read (Read); nothing was written
   2  the command line was refused, or the shape (BadCores, BadBlocks, BadBytes,
-     BadWords: outside the limits of its options); nothing was written
+     BadWords: outside the limits of its options), or what is to be shown (BadBlock,
+     BadRange, TooLarge); nothing was written
   3  out of memory; the output may be cut short
   4  a write failed; the output may be cut short
   5  the threads of `snoop threads` were refused; nothing was written
@@ -205,6 +206,26 @@ The status is 0 where the text was read, with faults or without.
 
 Exit statuses: snoop --help
 More in docs/TEXTS.md.";
+
+pub(crate) static DRAW: &str = help!(
+    "Reads standard input: `snoop draw < FILE`. Each line is a step:"
+    asks
+    "
+  O,core                the bus orders the core's oldest request
+  R,address             the response for the block of the address comes"
+    numbers
+    "
+Example: printf 'L,0,0\\nO,0\\nR,0\\n' | snoop draw
+
+Each step has a line of output, each block a panel in it: a column for each core that
+asks for the block, the bus and memory, with what a step changes. The legend at the
+end names the marks. A panel for each block makes a line long: --block N draws one.
+
+A text is refused as by `snoop steps`, a choice by BadBlock (--block is not below
+--blocks) or BadRange (--from is 0, or above --to), and more than a million cells by
+TooLarge: choose a block, or fewer steps."
+    more
+);
 
 pub(crate) static TABLE: &str = "\
 No input is read. Each line of output is a cell of the table: state, event, action

@@ -2,13 +2,14 @@
 ghost use Rattle.std.specs.Prelude.{◌≡◌, ◌≢◌, ◌^◌, [], IfErr, IfOk, codes, false, map, string_bytes};
 ghost use Rattle.clap.specs.Words.{app_of, found_of, one_of, rows_of, rule_of, subcommand_rows_of};
 ghost use Rattle.snoop_sim.specs.Asked.{Asks, HasNoEngine, HasNoTask, HasTask, IsEngineOf, IsTaskOf, Refuses};
-ghost use Rattle.snoop_sim.specs.CommandLine.{IsCounts, IsForms, IsGroupings, IsKinds, IsLint, IsLocal, IsProtocols, IsRun, IsSimulation, IsSnoop, IsStates, IsSteps, IsTable, IsThreads, Names, flag_rule, form_rule, grouping_rule, kind_rule, number_rule, optional_rule, protocol_rule, top_app};
-ghost use Rattle.snoop_sim.specs.Options.{IsNumberOf, IsReadAs, IsShapeOf, asks_serial, kind_named, protocol_named, says, which_named};
+ghost use Rattle.snoop_sim.specs.CommandLine.{IsCounts, IsDraw, IsForms, IsGroupings, IsKinds, IsLint, IsLocal, IsProtocols, IsRun, IsSimulation, IsSnoop, IsStates, IsSteps, IsTable, IsThreads, Names, choice_rules, default_form_rule, flag_rule, form_rule, grouping_rule, kind_rule, number_rule, optional_rule, protocol_rule, top_app, with_rules};
+ghost use Rattle.snoop_sim.specs.Options.{IsChoiceOf, IsNumberOf, IsReadAs, IsShapeOf, asks_serial, charset_named, kind_named, protocol_named, says, which_named};
 
 use crate::failure::Failure;
 use crate::help;
 use clap::builder::ValueParser;
 use clap::{Arg, ArgAction, ArgMatches, Command, Error, value_parser};
+use snoop_draw::{Charset, Choice, ChoiceFault};
 use snoop_lint::Form;
 use snoop_rules::{Protocol, Which};
 use snoop_trace::{Shape, ShapeFault};
@@ -33,11 +34,14 @@ pub(crate) enum Engine {
     Counts,
     /// So many faulty records are named at most.
     Lint(Form, u64),
+    Draw(Charset, Choice),
 }
 
 static PROTOCOLS: [&str; 2] = ["msi", "mesi"];
 
 static KINDS: [&str; 2] = ["steps", "rows"];
+
+static DRAWINGS: [&str; 1] = ["text"];
 
 static FORMS: [&str; 1] = ["csv"];
 
@@ -75,14 +79,14 @@ fn simulation_of(name: &str, options: &ArgMatches) -> Result<Task, Failure>
     ensures err { IfErr result (HasNoTask (Some (name.now, rows_of (found_of options.now)))) }
 {
     let shape = shape_in(options)?;
-    let engine = engine_of(name, options)?;
+    let engine = engine_of(name, options, shape)?;
     Ok(Task::Simulate(protocol_in(options), shape, engine))
 }
 
 /// The engine of a command that simulates.
-fn engine_of(name: &str, options: &ArgMatches) -> Result<Engine, Failure>
-    ensures ok { IfOk result (IsEngineOf name.now (rows_of (found_of options.now))) }
-    ensures err { IfErr result (HasNoEngine name.now) }
+fn engine_of(name: &str, options: &ArgMatches, shape: Shape) -> Result<Engine, Failure>
+    ensures ok { IfOk result (IsEngineOf name.now (rows_of (found_of options.now)) shape) }
+    ensures err { IfErr result (HasNoEngine name.now (rows_of (found_of options.now)) shape) }
 {
     match name {
         "steps" => Ok(Engine::Steps),
@@ -91,6 +95,7 @@ fn engine_of(name: &str, options: &ArgMatches) -> Result<Engine, Failure>
         "threads" => Ok(Engine::Threads),
         "states" => Ok(Engine::States),
         "counts" => Ok(Engine::Counts),
+        "draw" => Ok(Engine::Draw(charset_in(options), choice_in(options, shape)?)),
         "lint" => Ok(Engine::Lint(kind_in(options), long_in(options, "most").unwrap_or(0))),
         _ => Err(Failure::NoCommand),
     }
@@ -107,6 +112,7 @@ fn grammar<'a>(alloc: Global) -> Result<Command<'a>, AllocError>
         .subcommand(states(alloc)?)?
         .subcommand(counts(alloc)?)?
         .subcommand(lint(alloc)?)?
+        .subcommand(draw(alloc)?)?
         .subcommand(table(alloc)?)
 }
 
@@ -205,6 +211,46 @@ fn lint<'a>(alloc: Global) -> Result<Command<'a>, AllocError>
     .arg(most.default_value("20"))
 }
 
+fn draw<'a>(alloc: Global) -> Result<Command<'a>, AllocError>
+    ensures { IfOk result (λ command. IsLocal command × IsDraw (app_of command)) }
+{
+    let plain = simulation(
+        alloc,
+        "draw",
+        "Read steps; draw what happens to each block",
+        help::DRAW,
+    )?;
+    let ascii = flag(alloc, "ascii", "Draw with ASCII characters alone");
+    choosing(alloc, plain.arg(forms(alloc, DRAWINGS.as_slice()))?.arg(ascii)?)
+}
+
+/// The command, which chooses a block and steps too.
+fn choosing<'a>(alloc: Global, command: Command<'a>) -> Result<Command<'a>, AllocError>
+    requires { IsLocal command }
+    ensures { IfOk result (λ new. IsLocal new × (app_of new ≡ with_rules (app_of command.entry) choice_rules)) }
+{
+    let from = optional(
+        alloc,
+        "from",
+        value_parser!(u64),
+        "Show steps from this number on",
+    );
+    command
+        .arg(optional(
+            alloc,
+            "block",
+            value_parser!(u32),
+            "Show this block alone",
+        ))?
+        .arg(from.default_value("1"))?
+        .arg(optional(
+            alloc,
+            "to",
+            value_parser!(u64),
+            "Show steps up to this number",
+        ))
+}
+
 /// A command that simulates a text on a machine of some shape; the help says what the text is.
 fn simulation<'a>(
     alloc: Global,
@@ -294,6 +340,17 @@ fn grouping<'a>(alloc: Global) -> Arg<'a>
         .required(true)
 }
 
+/// The form of the output, a text if it is not given.
+fn forms<'a>(alloc: Global, names: &'a [&'a str]) -> Arg<'a>
+    ensures { (result.global ≡ false) × (rule_of result ≡ default_form_rule names.entry) }
+{
+    Arg::new(alloc, "as")
+        .long("as")
+        .help("The form of the output")
+        .value_parser(ValueParser::Names(names))
+        .default_value("text")
+}
+
 fn kinds<'a>(alloc: Global) -> Arg<'a>
     ensures { (result.global ≡ false) × ((kinds : Names) × IsKinds kinds × (rule_of result ≡ kind_rule kinds)) }
 {
@@ -354,6 +411,17 @@ fn which_in(options: &ArgMatches) -> Which
     }
 }
 
+/// The characters that were named.
+fn charset_in(options: &ArgMatches) -> Charset
+    ensures { result ≡ charset_named (rows_of (found_of options.now)) }
+{
+    if says(options, "ascii", "true") {
+        Charset::Ascii
+    } else {
+        Charset::Unicode
+    }
+}
+
 /// What the text is for.
 fn kind_in(options: &ArgMatches) -> Form
     ensures { result ≡ kind_named (rows_of (found_of options.now)) }
@@ -384,6 +452,18 @@ fn shape_in(options: &ArgMatches) -> Result<Shape, ShapeFault>
         number_in(options, "blocks"),
         number_in(options, "block-bytes"),
         number_in(options, "words"),
+    )
+}
+
+/// The block and the steps that were chosen.
+fn choice_in(options: &ArgMatches, shape: Shape) -> Result<Choice, ChoiceFault>
+    ensures { IsChoiceOf shape (rows_of (found_of options.now)) result }
+{
+    Choice::new(
+        shape,
+        short_in(options, "block"),
+        long_in(options, "from").unwrap_or(0),
+        long_in(options, "to").unwrap_or(u64::MAX),
     )
 }
 

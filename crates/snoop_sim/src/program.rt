@@ -9,6 +9,7 @@ ghost use Rattle.snoop_sim.specs.Performed.{Ends, IsFailedRead, Leaves, Performs
 use crate::failure::Failure;
 use crate::options::{Engine, Task, task_in};
 use crate::threads::simulate_threads;
+use snoop_draw::simulate_drawing;
 use snoop_engine::{
     SimFault, simulate_counts, simulate_run, simulate_serial, simulate_states, simulate_steps,
 };
@@ -148,6 +149,10 @@ fn simulate<T: Threads + Wait + Sync, R: Source, W: Sink>(
         }
         Engine::Lint(form, most) => {
             lint_text(alloc, reader, writer, form, most, protocol, shape).map_err(Failure::Lint)
+        }
+        Engine::Draw(charset, choice) => {
+            simulate_drawing(alloc, reader, writer, protocol, shape, charset, choice)
+                .map_err(Failure::Drawing)
         }
     }
 }

@@ -14,5 +14,6 @@ returns c =
     let four = adds_command _ _ c.in_ok-subcommand-4.field-0 _ _ three (described c.in_ok-states.field-0 c.in_ok-states.ensures.0) c.in_ok-subcommand-4.ensures in
     let five = adds_command _ _ c.in_ok-subcommand-5.field-0 _ _ four (described c.in_ok-counts.field-0 c.in_ok-counts.ensures.0) c.in_ok-subcommand-5.ensures in
     let six = adds_command _ _ c.in_ok-subcommand-6.field-0 _ _ five (described c.in_ok-lint.field-0 c.in_ok-lint.ensures.0) c.in_ok-subcommand-6.ensures in
-    IfOk-weaker c.subcommand-7.result _ _ (λ command adds. let seven = adds_command _ _ command _ _ six (described c.in_ok-table.field-0 c.in_ok-table.ensures.0) adds in
-    (_, _, _, _, _, _, _, c.in_ok-steps.ensures.1, c.in_ok-run.ensures.1, c.in_ok-threads.ensures.1, c.in_ok-states.ensures.1, c.in_ok-counts.ensures.1, c.in_ok-lint.ensures.1, c.in_ok-table.ensures.1, seven.is)) c.subcommand-7.ensures
+    let seven = adds_command _ _ c.in_ok-subcommand-7.field-0 _ _ six (described c.in_ok-draw.field-0 c.in_ok-draw.ensures.0) c.in_ok-subcommand-7.ensures in
+    IfOk-weaker c.subcommand-8.result _ _ (λ command adds. let eight = adds_command _ _ command _ _ seven (described c.in_ok-table.field-0 c.in_ok-table.ensures.0) adds in
+    (_, _, _, _, _, _, _, _, c.in_ok-steps.ensures.1, c.in_ok-run.ensures.1, c.in_ok-threads.ensures.1, c.in_ok-states.ensures.1, c.in_ok-counts.ensures.1, c.in_ok-lint.ensures.1, c.in_ok-draw.ensures.1, c.in_ok-table.ensures.1, eight.is)) c.subcommand-8.ensures
