@@ -1,0 +1,5 @@
+pub mod TallyLemmas
+pub mod RowLemmas
+pub mod ViewLemmas
+pub mod SharerLemmas
+pub mod BlockLemmas

@@ -1,0 +1,9 @@
+use Rattle.std.proofs.Common.{◌≡◌, List, map}
+use Rattle.snoop_counts.specs.BlockTally.{CountsBlocks}
+use Rattle.snoop_counts.specs.ByBlock.{blocks_named, with_requests}
+use Rattle.snoop_counts.specs.declared.count.Happening.{Happening}
+use Rattle.snoop_counts.proofs.block_table.blocks_named.Given as goal
+
+-- the blocks so far
+abbrev pub invariant-loop-block : goal.invariant-loop-block
+invariant-loop-block l = (seen : List Happening) → CountsBlocks l.blocks seen l.tally → l.named.items ≡ map (with_requests seen) (blocks_named l.block seen)

@@ -1,0 +1,12 @@
+use Rattle.std.proofs.Common.{◌≡◌, List, ◌++◌}
+use Rattle.std.specs.List.{flat_map, range_with_len}
+use Rattle.snoop_counts.specs.CoreTable.{core_header, core_line}
+use Rattle.snoop_counts.specs.Tally.{HasCounted}
+use Rattle.snoop_counts.specs.declared.count.Happening.{Happening}
+use Rattle.snoop_counts.specs.declared.count.Subjects.TheVariants.{Cores}
+use Rattle.snoop_counts.proofs.core_table.push_core_table.Given as goal
+
+-- the lines so far
+abbrev pub invariant-loop-core : goal.invariant-loop-core
+invariant-loop-core l = (seen : List Happening) → HasCounted Cores l.cores seen l.tally
+    → l.out.items ≡ (l.fn.out.items ++ core_header) ++ flat_map (core_line seen) (range_with_len 0 l.core)

@@ -1,0 +1,72 @@
+-- The counts of each block, as a text of fields.
+-- Source: the fields and their form are this project's profile.
+use Rattle.std.specs.Prelude.{ℕ, ◌+◌, List, [], ◌∷◌, ◌++◌, codes, filter, fold, insert, length, map, nat_lt, position, take, unwrap_or, Option, Some, None}
+use Rattle.std.specs.Fmt.{decimal}
+use Rattle.std.specs.List.{flat_map, range_with_len}
+use Rattle.snoop_trace.specs.Extent.{Extent}
+use Rattle.snoop_trace.specs.Output.{address_of}
+use Rattle.snoop_history.specs.Totals.{capped}
+use Rattle.snoop_model.specs.Pictures.Situation.{Situation}
+use Rattle.snoop_engine.specs.Frames.{Frame}
+use Rattle.snoop_counts.specs.CoreTable.{count_fields}
+use Rattle.snoop_counts.specs.Counted.{counted_of, happenings, is_named}
+use Rattle.snoop_counts.specs.Sharers.{is_shared_by}
+use Rattle.snoop_counts.specs.declared.ranking.Ranked.{Ranked}
+use Rattle.snoop_counts.specs.declared.count.Count.{Count}
+use Rattle.snoop_counts.specs.declared.count.Count.TheVariants as count
+use Rattle.snoop_counts.specs.declared.count.Happening.{Happening}
+use Rattle.snoop_counts.specs.declared.count.Subjects.TheVariants.{Blocks}
+
+-- for how many of so many cores something of the block is counted
+abbrev pub sharers : Count → ℕ → List Happening → ℕ → ℕ
+sharers counted cores seen block = length (filter (is_shared_by counted seen block) (range_with_len 0 cores))
+
+-- the names of the fields
+abbrev pub block_header : List ℕ
+block_header = codes "block,address,cores,readers,writers,loads,load_hits,stores,store_hits,gets,getm,putm,from_memory,from_caches,writebacks,clean,stale,upgrades,upgrades_lost,invalidated,taken,downgraded,overtaken,stalled,bus_taken,no_transaction\n"
+
+-- the counts of a block, in the order of the fields
+abbrev pub block_counts : List Count
+block_counts =
+    count.Loads ∷ count.LoadHits ∷ count.Stores ∷ count.StoreHits ∷ count.GetS ∷ count.GetM ∷ count.PutM ∷ count.FromMemory ∷ count.FromCaches ∷ count.Writebacks ∷ count.Clean ∷ count.Stale
+    ∷ count.Upgrades ∷ count.UpgradesLost ∷ count.Invalidated ∷ count.Taken ∷ count.Downgraded ∷ count.Overtaken ∷ count.Stalled ∷ count.BusTaken ∷ count.NoTransaction ∷ []
+
+-- how many cores a line of the block names, how many performed a load of it, and how many a store
+abbrev pub sharing_fields : ℕ → List Happening → ℕ → List ℕ
+sharing_fields cores seen block =
+    codes "," ++ decimal (sharers count.Lines cores seen block) ++ codes "," ++ decimal (sharers count.Loads cores seen block) ++ codes "," ++ decimal (sharers count.Stores cores seen block)
+
+-- the line of a block
+abbrev pub block_line : Extent → List Happening → ℕ → List ℕ
+block_line shape seen block =
+    decimal block ++ codes "," ++ decimal (address_of shape block) ++ sharing_fields shape.cores seen block ++ count_fields block_counts (counted_of Blocks seen block) ++ codes "\n"
+
+-- the blocks that a line names, rising
+abbrev pub blocks_named : ℕ → List Happening → List ℕ
+blocks_named blocks seen = filter (is_named Blocks seen) (range_with_len 0 blocks)
+
+-- a block, and how many requests for it were ordered
+abbrev pub with_requests : List Happening → ℕ → Ranked
+with_requests seen block =
+    record { block = block; requests = capped (counted_of Blocks seen block count.GetS + counted_of Blocks seen block count.GetM + counted_of Blocks seen block count.PutM) }
+
+-- a block before the first that has fewer requests, or last
+abbrev pub placed : List Ranked → Ranked → List Ranked
+placed blocks next = insert blocks (unwrap_or (position (λ other. nat_lt other.requests next.requests) blocks) (length blocks)) next
+
+-- the blocks of most requests first, and of equals the one that comes first
+abbrev pub ranked : List Ranked → List Ranked
+ranked blocks = fold placed [] blocks
+
+-- the blocks that the table has: all that are named, or so many of those with most requests
+abbrev pub blocks_shown : Option ℕ → List Ranked → List Ranked
+blocks_shown None named = named
+blocks_shown (Some most) named = take most (ranked named)
+
+-- the table
+abbrev pub block_table : Extent → Option ℕ → List Happening → List ℕ
+block_table shape top seen = block_header ++ flat_map (λ shown. block_line shape seen shown.block) (blocks_shown top (map (with_requests seen) (blocks_named shape.blocks seen)))
+
+-- the table of a run
+abbrev pub counts_by_block : Extent → Option ℕ → List Frame → Situation → List ℕ
+counts_by_block shape top frames final = block_table shape top (happenings frames final.log)

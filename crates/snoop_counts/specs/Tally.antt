@@ -1,0 +1,87 @@
+-- Counters, a row of them for each core or block, and what they have counted.
+-- Source: this project's profile.
+use Rattle.std.specs.Prelude.{◌≡◌, ◌<◌, ℕ, ◌+◌, true, false, List, [], ◌∷◌, length, Option, Some, None, replicate, set, slice_get, slice_index, slice_index_or, slice_set, if◌then◌else◌}
+use Rattle.std.specs.Option.{option_map_or}
+use Rattle.snoop_history.specs.Totals.{capped}
+use Rattle.snoop_counts.specs.Counted.{counted_of, counts, is_named, subject_of}
+use Rattle.snoop_counts.specs.declared.count.Count.{Count}
+use Rattle.snoop_counts.specs.declared.count.Count.TheVariants as count
+use Rattle.snoop_counts.specs.declared.count.Happening.{Happening}
+use Rattle.snoop_counts.specs.declared.count.Subjects.{Subjects}
+use Rattle.snoop_counts.specs.declared.tally.Counters.{Counters}
+use Rattle.snoop_counts.specs.declared.tally.Tally.{Tally}
+
+-- the place of a count among the counters of a row
+abbrev pub number : Count → ℕ
+number count.Loads = 0
+number count.LoadHits = 1
+number count.Stores = 2
+number count.StoreHits = 3
+number count.GetS = 4
+number count.GetM = 5
+number count.PutM = 6
+number count.FromMemory = 7
+number count.FromCaches = 8
+number count.Writebacks = 9
+number count.Clean = 10
+number count.Stale = 11
+number count.Upgrades = 12
+number count.UpgradesLost = 13
+number count.Invalidated = 14
+number count.Taken = 15
+number count.Downgraded = 16
+number count.Overtaken = 17
+number count.Invalidates = 18
+number count.Supplied = 19
+number count.Stalled = 20
+number count.BusTaken = 21
+number count.NothingWaiting = 22
+number count.NoTransaction = 23
+number count.Lines = 24
+
+-- all counts, by their places
+abbrev pub all_counts : List Count
+all_counts =
+    count.Loads ∷ count.LoadHits ∷ count.Stores ∷ count.StoreHits ∷ count.GetS ∷ count.GetM ∷ count.PutM ∷ count.FromMemory ∷ count.FromCaches ∷ count.Writebacks ∷ count.Clean ∷ count.Stale
+    ∷ count.Upgrades ∷ count.UpgradesLost ∷ count.Invalidated ∷ count.Taken ∷ count.Downgraded ∷ count.Overtaken ∷ count.Invalidates ∷ count.Supplied
+    ∷ count.Stalled ∷ count.BusTaken ∷ count.NothingWaiting ∷ count.NoTransaction ∷ count.Lines ∷ []
+
+-- what a row has of a count
+abbrev pub counter_in : Counters → Count → ℕ
+counter_in row counted = slice_index row.counters (number counted)
+
+-- a row that has counted nothing
+abbrev pub empty_row : Counters
+empty_row = record { counters = replicate 25 0 }
+
+-- the row with one more of a count; a counter stops at the largest u64
+abbrev pub raised_row : Count → Counters → Counters
+raised_row counted row = record { counters = set row.counters (number counted) (capped (counter_in row counted + 1)) }
+
+-- the rows with one more of a count of the subject, if it has a row
+abbrev pub raised : List Counters → ℕ → Count → List Counters
+raised rows subject counted = option_map_or (λ row. slice_set rows subject (raised_row counted row)) (slice_get rows subject) rows
+
+-- the rows after something has happened, by this count alone
+abbrev pub raised_by : Subjects → Count → Happening → List Counters → List Counters
+raised_by whose counted seen rows = if counts counted seen then option_map_or (λ subject. raised rows subject counted) (subject_of whose counted seen) rows else rows
+
+-- the row of a subject
+abbrev pub row_at : List Counters → ℕ → Counters
+row_at rows subject = slice_index_or rows subject empty_row
+
+-- the rows say how often each count was counted for each subject
+pub record Tallies (whose : Subjects) (rows : List Counters) (seen : List Happening) : Type 0 where
+  pub long : (subject : ℕ) → subject < length rows → length (row_at rows subject).counters ≡ 25
+  pub counted : (subject : ℕ) (counted : Count) → subject < length rows → counter_in (row_at rows subject) counted ≡ counted_of whose seen subject counted
+
+-- the tally is of these subjects, of which there are so many, and has counted what has happened
+pub record HasCounted (whose : Subjects) (many : ℕ) (seen : List Happening) (tally : Tally) : Type 0 where
+  pub subjects : tally.subjects ≡ whose
+  pub rows : length tally.rows ≡ many
+  pub counted : Tallies whose tally.rows seen
+
+-- the counters of a subject, or none where no line names it
+abbrev pub IsRowOf : Subjects → List Happening → ℕ → Option Counters → Type 0
+IsRowOf whose seen subject None = is_named whose seen subject ≡ false
+IsRowOf whose seen subject (Some row) = (is_named whose seen subject ≡ true) × ((counted : Count) → counter_in row counted ≡ counted_of whose seen subject counted)

@@ -1,0 +1,172 @@
+//! The counts of each block, as a table.
+ghost use Rattle.std.specs.Prelude.{◌≡◌, ◌<◌, ◌≤◌, ◌++◌, ◌∷◌, [], ℕ, true, List, All, IfOk, OnOk, map, if◌then◌else◌};
+ghost use Rattle.std.specs.List.{flat_map};
+ghost use Rattle.snoop_trace.specs.Output.{address_of};
+ghost use Rattle.snoop_counts.specs.BlockTally.{CountsBlocks};
+ghost use Rattle.snoop_counts.specs.ByBlock.{block_line, block_table, blocks_named, blocks_shown, sharing_fields, with_requests};
+ghost use Rattle.snoop_counts.specs.Counted.{is_named};
+ghost use Rattle.snoop_counts.specs.declared.count.Happening.{Happening};
+ghost use Rattle.snoop_counts.specs.declared.count.Subjects.TheVariants.{Blocks};
+
+use crate::block_tally::BlockTally;
+use crate::core_table::push_counts;
+use crate::count::Count;
+use crate::ranking::{Ranked, rank, requests};
+use snoop_trace::streams::{push_byte, push_decimal, push_text};
+use snoop_trace::{NoMemory, Shape};
+use std::alloc::Global;
+
+// The counts of a block, in the order of the fields.
+static BLOCK_COUNTS: [Count; 21] = [
+    Count::Loads,
+    Count::LoadHits,
+    Count::Stores,
+    Count::StoreHits,
+    Count::GetS,
+    Count::GetM,
+    Count::PutM,
+    Count::FromMemory,
+    Count::FromCaches,
+    Count::Writebacks,
+    Count::Clean,
+    Count::Stale,
+    Count::Upgrades,
+    Count::UpgradesLost,
+    Count::Invalidated,
+    Count::Taken,
+    Count::Downgraded,
+    Count::Overtaken,
+    Count::Stalled,
+    Count::BusTaken,
+    Count::NoTransaction,
+];
+
+// The first address of a block.
+fn address_of(shape: Shape, block: u32) -> u64
+    ensures { result ≡ address_of shape block }
+{
+    block as u64 * shape.block_bytes() as u64
+}
+
+// Appends how many cores a line of the block names, how many loaded of it, and how many stored in it.
+fn push_sharing(
+    out: &mut Vec<u8>,
+    tally: &BlockTally,
+    cores: u32,
+    block: u32,
+) -> Result<(), NoMemory>
+    requires { cores ≤ 256 }
+    ensures { (blocks : ℕ) (seen : List Happening) → CountsBlocks blocks seen tally.now → block < blocks
+        → OnOk result (out.new.items ≡ out.old.items ++ sharing_fields cores seen block) }
+{
+    push_byte(out, b',')?;
+    push_decimal(out, tally.cores(block, cores))?;
+    push_byte(out, b',')?;
+    push_decimal(out, tally.readers(block, cores))?;
+    push_byte(out, b',')?;
+    push_decimal(out, tally.writers(block, cores))
+}
+
+// Appends the line of a block that a line of a step names.
+fn push_block(
+    out: &mut Vec<u8>,
+    shape: Shape,
+    tally: &BlockTally,
+    block: u32,
+) -> Result<(), NoMemory>
+    ensures { (seen : List Happening) → CountsBlocks shape.blocks seen tally.now → block < shape.blocks → is_named Blocks seen block ≡ true
+        → OnOk result (out.new.items ≡ out.old.items ++ block_line shape seen block) }
+{
+    match tally.row(block) {
+        None => Ok(()),
+        Some(row) => {
+            push_decimal(out, block as u64)?;
+            push_byte(out, b',')?;
+            push_decimal(out, address_of(shape, block))?;
+            push_sharing(out, tally, shape.cores(), block)?;
+            push_counts(out, &row, &BLOCK_COUNTS)?;
+            push_byte(out, b'\n')
+        }
+    }
+}
+
+// Appends the block, with its requests, if a line names it.
+fn push_named(named: &mut Vec<Ranked>, tally: &BlockTally, block: u32) -> Result<(), NoMemory>
+    ensures { (blocks : ℕ) (seen : List Happening) → CountsBlocks blocks seen tally.now → block < blocks
+        → OnOk result (named.new.items ≡ named.old.items ++ (if is_named Blocks seen block then with_requests seen block ∷ [] else [])) }
+{
+    match tally.row(block) {
+        None => Ok(()),
+        Some(row) => {
+            let requests = requests(&row);
+            match named.push(Ranked { block, requests }) {
+                Ok(()) => Ok(()),
+                Err(_) => Err(NoMemory),
+            }
+        }
+    }
+}
+
+// The blocks that a line names, rising, with their requests.
+fn blocks_named(alloc: Global, tally: &BlockTally, blocks: u32) -> Result<Vec<Ranked>, NoMemory>
+    ensures { (seen : List Happening) → CountsBlocks blocks seen tally.now → IfOk result (λ list. list.items ≡ map (with_requests seen) (blocks_named blocks seen)) }
+{
+    let mut named = Vec::new(alloc);
+    for block in 0..blocks {
+        push_named(&mut named, tally, block)?;
+    }
+    Ok(named)
+}
+
+// The blocks that the table has, of those that are named.
+fn blocks_shown(
+    alloc: Global,
+    named: Vec<Ranked>,
+    top: Option<u32>,
+) -> Result<Vec<Ranked>, NoMemory>
+    ensures { IfOk result (λ list. list.items ≡ blocks_shown top named.items) }
+{
+    match top {
+        None => Ok(named),
+        Some(most) => {
+            let mut ranked = rank(alloc, &named)?;
+            ranked.truncate(most as usize);
+            Ok(ranked)
+        }
+    }
+}
+
+// Appends the lines of the blocks.
+fn push_blocks(
+    out: &mut Vec<u8>,
+    shape: Shape,
+    tally: &BlockTally,
+    blocks: &[Ranked],
+) -> Result<(), NoMemory>
+    ensures { (seen : List Happening) → CountsBlocks shape.blocks seen tally.now → All (λ shown. (shown.block < shape.blocks) × (is_named Blocks seen shown.block ≡ true)) blocks.now
+        → OnOk result (out.new.items ≡ out.old.items ++ flat_map (λ shown. block_line shape seen shown.block) blocks.now) }
+{
+    for shown in blocks {
+        push_block(out, shape, tally, shown.block)?;
+    }
+    Ok(())
+}
+
+/// Appends the table of a shape: of all blocks that a line names, or of so many with most ordered requests.
+pub(crate) fn push_block_table(
+    alloc: Global,
+    out: &mut Vec<u8>,
+    tally: &BlockTally,
+    shape: Shape,
+    top: Option<u32>,
+) -> Result<(), NoMemory>
+    ensures { (seen : List Happening) → CountsBlocks shape.blocks seen tally.now → OnOk result (out.new.items ≡ out.old.items ++ block_table shape top seen) }
+{
+    push_text(
+        out,
+        "block,address,cores,readers,writers,loads,load_hits,stores,store_hits,gets,getm,putm,from_memory,from_caches,writebacks,clean,stale,upgrades,upgrades_lost,invalidated,taken,downgraded,overtaken,stalled,bus_taken,no_transaction\n",
+    )?;
+    let named = blocks_named(alloc, tally, shape.blocks())?;
+    let shown = blocks_shown(alloc, named, top)?;
+    push_blocks(out, shape, tally, &shown)
+}

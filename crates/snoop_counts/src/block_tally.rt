@@ -1,0 +1,103 @@
+//! What the table by block counts.
+ghost use Rattle.std.specs.Prelude.{◌≡◌, ◌<◌, ◌≤◌, ◌++◌, ◌∷◌, [], ℕ, List, IfOk, map};
+ghost use Rattle.snoop_counts.specs.BlockTally.{CountsBlocks};
+ghost use Rattle.snoop_counts.specs.ByBlock.{sharers};
+ghost use Rattle.snoop_counts.specs.Tally.{IsRowOf};
+ghost use Rattle.snoop_counts.specs.declared.count.Count.TheVariants as count;
+ghost use Rattle.snoop_counts.specs.declared.count.Happening.{Happening as Seen};
+ghost use Rattle.snoop_counts.specs.declared.count.Happening.TheVariants as happening;
+ghost use Rattle.snoop_counts.specs.declared.count.Subjects.TheVariants.{Blocks};
+
+use crate::count::{Count, Happening, Subjects};
+use crate::sharers::Sharers;
+use crate::tally::{Counters, Tally};
+use snoop_engine::Taken;
+use snoop_history::Log;
+use snoop_machine::{Refused, Reply};
+use snoop_trace::{NoMemory, Step};
+use std::alloc::Global;
+
+/// The counters of each block, and the cores that a line of it names, that loaded of it and that stored in it.
+#[derive(Drop)]
+pub(crate) struct BlockTally {
+    tally: Tally,
+    named: Sharers,
+    readers: Sharers,
+    writers: Sharers,
+}
+
+impl BlockTally {
+    /// Nothing is counted yet, for so many blocks.
+    pub(crate) fn new(alloc: Global, blocks: u32) -> Result<Self, NoMemory>
+        ensures { IfOk result (CountsBlocks blocks []) }
+    {
+        Ok(BlockTally {
+            tally: Tally::new(alloc, Subjects::Blocks, blocks)?,
+            named: Sharers::new(alloc, Count::Lines, blocks)?,
+            readers: Sharers::new(alloc, Count::Loads, blocks)?,
+            writers: Sharers::new(alloc, Count::Stores, blocks)?,
+        })
+    }
+
+    // Counts what has happened.
+    fn add(&mut self, happening: Happening)
+        ensures { (blocks : ℕ) (seen : List Seen) → CountsBlocks blocks seen self.old → CountsBlocks blocks (seen ++ happening ∷ []) self.new }
+    {
+        self.tally.add(happening);
+        self.named.add(happening);
+        self.readers.add(happening);
+        self.writers.add(happening);
+    }
+
+    /// Counts the lines of a step.
+    pub(crate) fn add_lines(&mut self, step: Step, outcome: Result<Reply, Refused>, lines: &[Taken])
+        ensures { (blocks : ℕ) (seen : List Seen) → CountsBlocks blocks seen self.old → CountsBlocks blocks (seen ++ map (happening.Line step outcome) lines.now) self.new }
+    {
+        for line in lines {
+            self.add(Happening::Line {
+                step,
+                outcome,
+                line: *line,
+            });
+        }
+    }
+
+    /// Counts the items of a history.
+    pub(crate) fn add_items(&mut self, log: &Log)
+        ensures { (blocks : ℕ) (seen : List Seen) → CountsBlocks blocks seen self.old → CountsBlocks blocks (seen ++ map happening.Item log.now.items) self.new }
+    {
+        for place in 0..log.len() {
+            if let Some(item) = log.item(place) {
+                self.add(Happening::Item(item));
+            }
+        }
+    }
+
+    /// The counters of a block, if a line names it.
+    pub(crate) fn row(&self, block: u32) -> Option<Counters>
+        ensures { (blocks : ℕ) (seen : List Seen) → CountsBlocks blocks seen self.now → block < blocks → IsRowOf Blocks seen block result }
+    {
+        self.tally.named(block)
+    }
+
+    /// How many of so many cores a line of the block names.
+    pub(crate) fn cores(&self, block: u32, cores: u32) -> u64
+        ensures { (blocks : ℕ) (seen : List Seen) → CountsBlocks blocks seen self.now → block < blocks → cores ≤ 256 → result ≡ sharers count.Lines cores seen block }
+    {
+        self.named.of(block, cores)
+    }
+
+    /// How many of them performed a load of it.
+    pub(crate) fn readers(&self, block: u32, cores: u32) -> u64
+        ensures { (blocks : ℕ) (seen : List Seen) → CountsBlocks blocks seen self.now → block < blocks → cores ≤ 256 → result ≡ sharers count.Loads cores seen block }
+    {
+        self.readers.of(block, cores)
+    }
+
+    /// How many of them performed a store in it.
+    pub(crate) fn writers(&self, block: u32, cores: u32) -> u64
+        ensures { (blocks : ℕ) (seen : List Seen) → CountsBlocks blocks seen self.now → block < blocks → cores ≤ 256 → result ≡ sharers count.Stores cores seen block }
+    {
+        self.writers.of(block, cores)
+    }
+}

@@ -1,0 +1,91 @@
+//! The view of the counts of each core.
+ghost use Rattle.std.specs.Prelude.{◌≡◌, ◌≢◌, true, Err};
+ghost use Rattle.snoop_trace.specs.Output.{BlamesWriter};
+ghost use Rattle.snoop_trace.specs.Text.{BlamesReader};
+ghost use Rattle.snoop_trace.specs.declared.fault.TextFault.{TextFault};
+ghost use Rattle.snoop_trace.specs.declared.fault.TextFault.TheVariants as text_fault;
+ghost use Rattle.snoop_engine.specs.SimulatedView.{SimulatesView};
+ghost use Rattle.snoop_counts.specs.CoreTable.{counts_by_core};
+
+use crate::core_table::push_core_table;
+use crate::count::Subjects;
+use crate::tally::Tally;
+use snoop_engine::{Seen, SimFault, View, simulate_view};
+use snoop_machine::Machine;
+use snoop_rules::Protocol;
+use snoop_trace::streams::{Sink, Source};
+use snoop_trace::{NoMemory, Shape};
+use std::alloc::Global;
+
+/// Counts by core; there are no counters before the run begins.
+#[derive(Drop)]
+struct ByCore {
+    tally: Option<Tally>,
+}
+
+impl View for ByCore {
+    ghost use Rattle.std.specs.Prelude.{[]};
+    ghost use Rattle.snoop_counts.specs.CoreTable.{counts_by_core};
+    ghost use Rattle.snoop_counts.specs.Views.{HasBegun};
+    ghost use Rattle.snoop_counts.specs.declared.count.Subjects.TheVariants.{Cores};
+
+    ghost has_seen = { λ first protocol shape frames now. HasBegun Cores shape.cores frames now.tally };
+
+    ghost heading = { λ first protocol shape. [] };
+
+    ghost shows = { λ first protocol shape frames frame. [] };
+
+    ghost ending = { λ first protocol shape frames final. counts_by_core shape frames final };
+
+    fn begin(&mut self, out: &mut Vec<u8>, machine: &Machine) -> Result<(), NoMemory> {
+        let cores = machine.shape().cores();
+        self.tally = Some(Tally::new(*out.allocator(), Subjects::Cores, cores)?);
+        Ok(())
+    }
+
+    fn see(
+        &mut self,
+        _out: &mut Vec<u8>,
+        _machine: &Machine,
+        seen: Seen<'_>,
+    ) -> Result<(), NoMemory> {
+        if let Some(tally) = &mut self.tally {
+            tally.add_lines(seen.step, seen.outcome, seen.lines);
+        }
+        Ok(())
+    }
+
+    fn end(&mut self, out: &mut Vec<u8>, machine: &Machine) -> Result<(), NoMemory> {
+        match &mut self.tally {
+            None => Ok(()),
+            Some(tally) => {
+                tally.add_items(machine.log());
+                push_core_table(out, tally, machine.shape().cores())
+            }
+        }
+    }
+}
+
+/// Reads a text of steps for the protocol and the shape to its end, takes them in order on a machine at reset, and writes
+/// the counts of each core that a step names. A step that is refused because it is out of memory ends the simulation.
+pub fn simulate_counts_by_core<R: Source, W: Sink>(
+    alloc: Global,
+    reader: &mut R,
+    writer: &mut W,
+    protocol: Protocol,
+    shape: Shape,
+) -> Result<(), SimFault>
+    ensures does { SimulatesView protocol shape (counts_by_core shape) (R.remaining reader.old) result (W.contents writer.old) (W.contents writer.new) }
+    // A refused text leaves the writer as it was.
+    ensures unwritten { (fault : TextFault) → result ≡ Err (SimFault.Text fault) → writer.new ≡ writer.old }
+
+    // A reader or a writer whose contract rules failure out is never blamed.
+    ensures reads { R.never_fails ≡ true → result ≢ Err (SimFault.Text text_fault.Read) }
+    ensures writes { W.never_fails ≡ true → result ≢ Err SimFault.Write }
+    // Where it is known that none of its reads or writes had failed, it is blamed exactly where one fails, and none is tried again.
+    ensures read_blamed { BlamesReader (R.failed reader.old) (R.failed reader.new) (result ≡ Err (SimFault.Text text_fault.Read)) }
+    ensures blamed { BlamesWriter (W.failed writer.old) (W.failed writer.new) (result ≡ Err SimFault.Write) }
+{
+    let mut view = ByCore { tally: None };
+    simulate_view(alloc, reader, writer, protocol, shape, &mut view)
+}

@@ -1,0 +1,83 @@
+//! The counts of each core, as a table.
+ghost use Rattle.std.specs.Prelude.{◌≡◌, ◌<◌, ◌++◌, ℕ, List, OnOk};
+ghost use Rattle.snoop_counts.specs.CoreTable.{core_line, core_table, count_fields};
+ghost use Rattle.snoop_counts.specs.Tally.{HasCounted, counter_in};
+ghost use Rattle.snoop_counts.specs.declared.count.Happening.{Happening};
+ghost use Rattle.snoop_counts.specs.declared.count.Subjects.TheVariants.{Cores};
+
+use crate::count::Count;
+use crate::tally::{Counters, Tally};
+use snoop_trace::NoMemory;
+use snoop_trace::streams::{push_byte, push_decimal, push_text};
+
+// The counts of a core, in the order of the fields.
+static CORE_COUNTS: [Count; 23] = [
+    Count::Loads,
+    Count::LoadHits,
+    Count::Stores,
+    Count::StoreHits,
+    Count::GetS,
+    Count::GetM,
+    Count::PutM,
+    Count::FromMemory,
+    Count::FromCaches,
+    Count::Writebacks,
+    Count::Clean,
+    Count::Stale,
+    Count::Upgrades,
+    Count::UpgradesLost,
+    Count::Invalidated,
+    Count::Taken,
+    Count::Downgraded,
+    Count::Overtaken,
+    Count::Invalidates,
+    Count::Supplied,
+    Count::Stalled,
+    Count::BusTaken,
+    Count::NothingWaiting,
+];
+
+/// Appends the fields of the counts, a comma before each.
+pub(crate) fn push_counts(
+    out: &mut Vec<u8>,
+    row: &Counters,
+    counts: &[Count],
+) -> Result<(), NoMemory>
+    ensures { OnOk result (out.new.items ≡ out.old.items ++ count_fields counts.now (counter_in row.now)) }
+{
+    for count in counts {
+        push_byte(out, b',')?;
+        push_decimal(out, row.of(*count))?;
+    }
+    Ok(())
+}
+
+// Appends the line of a core, if it has one.
+fn push_core(out: &mut Vec<u8>, tally: &Tally, core: u32) -> Result<(), NoMemory>
+    ensures { (cores : ℕ) (seen : List Happening) → HasCounted Cores cores seen tally.now → core < cores
+        → OnOk result (out.new.items ≡ out.old.items ++ core_line seen core) }
+{
+    match tally.named(core) {
+        None => Ok(()),
+        Some(row) => {
+            push_decimal(out, core as u64)?;
+            push_counts(out, &row, &CORE_COUNTS)?;
+            push_byte(out, b'\n')
+        }
+    }
+}
+
+/// Appends the table of so many cores.
+pub(crate) fn push_core_table(out: &mut Vec<u8>, tally: &Tally, cores: u32) -> Result<(), NoMemory>
+    ensures { (seen : List Happening) → HasCounted Cores cores seen tally.now
+        → OnOk result (out.new.items ≡ out.old.items ++ core_table cores seen) }
+{
+    push_text(
+        out,
+        "core,loads,load_hits,stores,store_hits,gets,getm,putm,from_memory,from_caches,writebacks,clean,stale,upgrades,upgrades_lost,invalidated,taken,downgraded,overtaken,invalidates,supplied,stalled,bus_taken,nothing_waiting\n",
+    )?;
+    for core in 0..cores {
+        push_core(out, tally, core)?;
+    }
+    Ok(())
+}

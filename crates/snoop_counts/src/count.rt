@@ -1,0 +1,78 @@
+//! What is counted of a run, and for whom.
+use snoop_engine::Taken;
+use snoop_history::Item;
+use snoop_machine::{Refused, Reply};
+use snoop_trace::Step;
+
+/// A count of a core or a block, in the order of the fields.
+#[derive(Clone, Copy, Debug)]
+pub(crate) enum Count {
+    /// Loads that were performed.
+    Loads,
+    /// Those that were hits.
+    LoadHits,
+    /// Stores that were performed.
+    Stores,
+    /// Those that were hits.
+    StoreHits,
+    /// Requests that were ordered: GetS.
+    GetS,
+    /// GetM.
+    GetM,
+    /// PutM.
+    PutM,
+    /// Responses that memory sent.
+    FromMemory,
+    /// Responses to GetS and GetM that a core sent.
+    FromCaches,
+    /// Responses to PutM that carry the block's data.
+    Writebacks,
+    /// Responses to PutM of a clean copy.
+    Clean,
+    /// Responses to PutM that came too late.
+    Stale,
+    /// GetMs that were ordered while the core might read.
+    Upgrades,
+    /// Upgrades that another's GetM came before.
+    UpgradesLost,
+    /// Shared copies that were lost to another's GetM.
+    Invalidated,
+    /// Copies of an owner that were lost to another's GetM.
+    Taken,
+    /// Owners that became sharers at another's GetS.
+    Downgraded,
+    /// Owners whose PutM another's request came before.
+    Overtaken,
+    /// Shared copies that were lost to the core's own GetM.
+    Invalidates,
+    /// Responses to GetS and GetM that the core sent.
+    Supplied,
+    /// Refused Asks: the line waits for something.
+    Stalled,
+    /// Refused Orders: the block's transaction is open.
+    BusTaken,
+    /// Refused Orders: the queue is empty.
+    NothingWaiting,
+    /// Refused Responds: no transaction is open.
+    NoTransaction,
+    /// Lines of steps. No field has them: whoever has none is left out.
+    Lines,
+}
+
+/// What is counted: an item of the history, or a line of a step with what was answered to the step.
+#[derive(Clone, Copy, Debug)]
+pub(crate) enum Happening {
+    Item(Item),
+    Line {
+        step: Step,
+        outcome: Result<Reply, Refused>,
+        line: Taken,
+    },
+}
+
+/// Whose counts they are.
+#[derive(Clone, Copy, Debug)]
+pub(crate) enum Subjects {
+    Cores,
+    Blocks,
+}

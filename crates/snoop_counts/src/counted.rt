@@ -1,0 +1,275 @@
+//! What each count counts, and for whom.
+ghost use Rattle.std.specs.Prelude.{◌≡◌, None};
+ghost use Rattle.snoop_counts.specs.Counted.{block_named, core_counted, core_named, counts, counts_refusal, counts_row, has_row, is_downgrade, is_from_cache, is_invalidation, is_lost_upgrade, is_overtaking, is_refused, is_taking, is_upgrade, own_block, own_core, requestor_of, sender_of, subject_of};
+ghost use Rattle.snoop_counts.specs.declared.count.Happening.TheVariants as happening;
+ghost use Rattle.snoop_history.specs.declared.items.Item.TheVariants as item;
+
+use crate::count::{Count, Happening, Subjects};
+use snoop_engine::Taken;
+use snoop_history::{Came, Did, Item, Sent};
+use snoop_machine::{Refused, Reply};
+use snoop_rules::{CacheEvent, CacheState, Payload, Request};
+use snoop_trace::Step;
+
+fn is_upgrade(state: CacheState, event: CacheEvent) -> bool
+    ensures { result ≡ is_upgrade state event }
+{
+    matches!((state, event), (CacheState::SmAd, CacheEvent::OwnGetM))
+}
+
+fn is_lost_upgrade(state: CacheState, event: CacheEvent) -> bool
+    ensures { result ≡ is_lost_upgrade state event }
+{
+    matches!((state, event), (CacheState::SmAd, CacheEvent::OtherGetM))
+}
+
+fn is_invalidation(state: CacheState, event: CacheEvent) -> bool
+    ensures { result ≡ is_invalidation state event }
+{
+    matches!(
+        (state, event),
+        (CacheState::S | CacheState::SmAd, CacheEvent::OtherGetM)
+    )
+}
+
+fn is_taking(state: CacheState, event: CacheEvent) -> bool
+    ensures { result ≡ is_taking state event }
+{
+    matches!(
+        (state, event),
+        (CacheState::E | CacheState::M, CacheEvent::OtherGetM)
+    )
+}
+
+fn is_downgrade(state: CacheState, event: CacheEvent) -> bool
+    ensures { result ≡ is_downgrade state event }
+{
+    matches!(
+        (state, event),
+        (CacheState::E | CacheState::M, CacheEvent::OtherGetS)
+    )
+}
+
+fn is_overtaking(state: CacheState, event: CacheEvent) -> bool
+    ensures { result ≡ is_overtaking state event }
+{
+    matches!(
+        (state, event),
+        (
+            CacheState::EiA | CacheState::MiA,
+            CacheEvent::OtherGetS | CacheEvent::OtherGetM
+        )
+    )
+}
+
+// A core sent the response to a GetS or a GetM.
+fn is_from_cache(came: Came) -> bool
+    ensures { result ≡ is_from_cache came }
+{
+    came.from.is_some() && !matches!(came.request, Request::PutM)
+}
+
+fn counts_operation(count: Count, did: Did) -> bool
+    ensures { result ≡ counts count (happening.Item (item.Did did)) }
+{
+    match count {
+        Count::Loads => did.load,
+        Count::LoadHits => did.load && did.hit,
+        Count::Stores => !did.load,
+        Count::StoreHits => !did.load && did.hit,
+        _ => false,
+    }
+}
+
+fn counts_request(count: Count, sent: Sent) -> bool
+    ensures { result ≡ counts count (happening.Item (item.Sent sent)) }
+{
+    match count {
+        Count::GetS => matches!(sent.request, Request::GetS),
+        Count::GetM => matches!(sent.request, Request::GetM),
+        Count::PutM => matches!(sent.request, Request::PutM),
+        _ => false,
+    }
+}
+
+// Whether a response is counted, the operation that it performed aside.
+fn counts_response(count: Count, came: Came) -> bool
+    ensures { result ≡ counts count (happening.Item (item.Came came None)) }
+{
+    let writeback = matches!(came.request, Request::PutM);
+    match count {
+        Count::FromMemory => came.from.is_none(),
+        Count::FromCaches | Count::Supplied => is_from_cache(came),
+        Count::Writebacks => writeback && matches!(came.payload, Payload::Data),
+        Count::Clean => writeback && matches!(came.payload, Payload::NoDataE),
+        Count::Stale => writeback && matches!(came.payload, Payload::NoData),
+        _ => false,
+    }
+}
+
+fn counts_item(count: Count, item: Item) -> bool
+    ensures { result ≡ counts count (happening.Item item) }
+{
+    match item {
+        Item::Did(did) => counts_operation(count, did),
+        Item::Sent(sent) => counts_request(count, sent),
+        Item::Came(came, None) => counts_response(count, came),
+        Item::Came(came, Some(did)) => counts_response(count, came) || counts_operation(count, did),
+    }
+}
+
+// Whether a row that a core takes is counted.
+fn counts_row(count: Count, state: CacheState, event: CacheEvent) -> bool
+    ensures { result ≡ counts_row count state event }
+{
+    match count {
+        Count::Upgrades => is_upgrade(state, event),
+        Count::UpgradesLost => is_lost_upgrade(state, event),
+        Count::Invalidated | Count::Invalidates => is_invalidation(state, event),
+        Count::Taken => is_taking(state, event),
+        Count::Downgraded => is_downgrade(state, event),
+        Count::Overtaken => is_overtaking(state, event),
+        _ => false,
+    }
+}
+
+// Whether a refusal is counted.
+fn counts_refusal(count: Count, cause: Refused) -> bool
+    ensures { result ≡ counts_refusal count cause }
+{
+    match count {
+        Count::Stalled => matches!(cause, Refused::Stalled(_)),
+        Count::BusTaken => matches!(cause, Refused::BusTaken(_)),
+        Count::NothingWaiting => matches!(cause, Refused::NothingWaiting),
+        Count::NoTransaction => matches!(cause, Refused::NoTransaction),
+        _ => false,
+    }
+}
+
+// Whether the row of a line is counted, if it has one.
+fn counts_row_of(count: Count, line: Taken) -> bool
+    ensures { result ≡ has_row (counts_row count) line }
+{
+    match line {
+        Taken::Core {
+            core: _,
+            block: _,
+            event: Some(event),
+            before,
+        } => counts_row(count, before, event),
+        _ => false,
+    }
+}
+
+// Whether what was answered is a refusal that is counted.
+fn counts_outcome(count: Count, outcome: Result<Reply, Refused>) -> bool
+    ensures { result ≡ is_refused (counts_refusal count) outcome }
+{
+    match outcome {
+        Ok(_) => false,
+        Err(cause) => counts_refusal(count, cause),
+    }
+}
+
+/// Whether it is counted.
+pub(crate) fn counts(count: Count, happening: Happening) -> bool
+    ensures { result ≡ counts count happening }
+{
+    match happening {
+        Happening::Item(item) => counts_item(count, item),
+        Happening::Line {
+            step: _,
+            outcome,
+            line,
+        } => {
+            matches!(count, Count::Lines)
+                || counts_row_of(count, line)
+                || counts_outcome(count, outcome)
+        }
+    }
+}
+
+// The core that a line names, if any.
+fn core_named(line: Taken) -> Option<u32>
+    ensures { result ≡ core_named line }
+{
+    match line {
+        Taken::Core { core, .. } => Some(core),
+        Taken::Memory { .. } => None,
+        Taken::Nobody { core, block: _ } => core,
+    }
+}
+
+// The block that a line names, if any.
+fn block_named(line: Taken) -> Option<u32>
+    ensures { result ≡ block_named line }
+{
+    match line {
+        Taken::Core { block, .. } | Taken::Memory { block, .. } => Some(block),
+        Taken::Nobody { core: _, block } => block,
+    }
+}
+
+// The core that an item is of, or that a line names.
+fn own_core(happening: Happening) -> Option<u32>
+    ensures { result ≡ own_core happening }
+{
+    match happening {
+        Happening::Item(item) => Some(item.core()),
+        Happening::Line { line, .. } => core_named(line),
+    }
+}
+
+// The block that an item is of, or that a line names.
+fn own_block(happening: Happening) -> Option<u32>
+    ensures { result ≡ own_block happening }
+{
+    match happening {
+        Happening::Item(item) => Some(item.block()),
+        Happening::Line { line, .. } => block_named(line),
+    }
+}
+
+// The core whose Order the line is of.
+fn requestor_of(happening: Happening) -> Option<u32>
+    ensures { result ≡ requestor_of happening }
+{
+    match happening {
+        Happening::Line {
+            step: Step::Order { core },
+            ..
+        } => Some(core),
+        _ => None,
+    }
+}
+
+// The core that sent the response.
+fn sender_of(happening: Happening) -> Option<u32>
+    ensures { result ≡ sender_of happening }
+{
+    match happening {
+        Happening::Item(Item::Came(came, _)) => came.from,
+        _ => None,
+    }
+}
+
+// The core for which it is counted.
+fn core_counted(count: Count, happening: Happening) -> Option<u32>
+    ensures { result ≡ core_counted count happening }
+{
+    match count {
+        Count::Invalidates => requestor_of(happening),
+        Count::Supplied => sender_of(happening),
+        _ => own_core(happening),
+    }
+}
+
+/// For whom it is counted, if for anybody.
+pub(crate) fn subject_of(subjects: Subjects, count: Count, happening: Happening) -> Option<u32>
+    ensures { result ≡ subject_of subjects count happening }
+{
+    match subjects {
+        Subjects::Cores => core_counted(count, happening),
+        Subjects::Blocks => own_block(happening),
+    }
+}

@@ -1,0 +1,17 @@
+//! The views of the command `counts`: how often something happened to each core, or to each block, in a run.
+#![tactic(auto)]
+
+mod block_table;
+mod block_tally;
+mod by_block;
+mod by_core;
+mod core_set;
+mod core_table;
+mod count;
+mod counted;
+mod ranking;
+mod sharers;
+mod tally;
+
+pub use by_block::simulate_counts_by_block;
+pub use by_core::simulate_counts_by_core;

@@ -1,0 +1,151 @@
+//! Counters, a row of them for each core or block.
+ghost use Rattle.std.specs.Prelude.{◌≡◌, ◌<◌, ◌++◌, ◌∷◌, [], ℕ, List, IfOk, map};
+ghost use Rattle.snoop_counts.specs.Tally.{HasCounted, IsRowOf, counter_in, raised, raised_by, raised_row};
+ghost use Rattle.snoop_counts.specs.declared.count.Happening.{Happening};
+ghost use Rattle.snoop_counts.specs.declared.count.Happening.TheVariants as happening;
+ghost use Rattle.snoop_counts.specs.declared.count.Subjects.{Subjects};
+
+use crate::count::{Count, Happening, Subjects};
+use crate::counted::{counts, subject_of};
+use snoop_blocks::BlockTable;
+use snoop_engine::Taken;
+use snoop_history::Log;
+use snoop_machine::{Refused, Reply};
+use snoop_trace::{NoMemory, Step};
+use std::alloc::Global;
+
+// All counts, by their places in a row.
+static COUNTS: [Count; 25] = [
+    Count::Loads,
+    Count::LoadHits,
+    Count::Stores,
+    Count::StoreHits,
+    Count::GetS,
+    Count::GetM,
+    Count::PutM,
+    Count::FromMemory,
+    Count::FromCaches,
+    Count::Writebacks,
+    Count::Clean,
+    Count::Stale,
+    Count::Upgrades,
+    Count::UpgradesLost,
+    Count::Invalidated,
+    Count::Taken,
+    Count::Downgraded,
+    Count::Overtaken,
+    Count::Invalidates,
+    Count::Supplied,
+    Count::Stalled,
+    Count::BusTaken,
+    Count::NothingWaiting,
+    Count::NoTransaction,
+    Count::Lines,
+];
+
+/// A counter for each count.
+#[derive(Clone, Copy, Debug)]
+pub(crate) struct Counters {
+    counters: [u64; 25],
+}
+
+impl Counters {
+    /// Counts one more; the counter stops at the largest `u64`.
+    fn raise(&mut self, count: Count)
+        ensures { self.new ≡ raised_row count self.old }
+    {
+        let place = count as usize;
+        self.counters[place] = self.counters[place].saturating_add(1);
+    }
+
+    /// How often the count was counted.
+    pub(crate) fn of(&self, count: Count) -> u64
+        ensures { result ≡ counter_in self.now count }
+    {
+        self.counters[count as usize]
+    }
+}
+
+/// The counters of each core, or of each block.
+#[derive(Drop)]
+pub(crate) struct Tally {
+    subjects: Subjects,
+    rows: BlockTable<Counters>,
+}
+
+impl Tally {
+    /// Nothing is counted yet, for so many subjects.
+    pub(crate) fn new(alloc: Global, subjects: Subjects, count: u32) -> Result<Self, NoMemory>
+        ensures { IfOk result (HasCounted subjects count []) }
+    {
+        let empty = Counters { counters: [0; 25] };
+        match BlockTable::new(alloc, count, empty) {
+            Ok(rows) => Ok(Tally { subjects, rows }),
+            Err(_) => Err(NoMemory),
+        }
+    }
+
+    /// The counters of a subject, if a line names it.
+    pub(crate) fn named(&self, subject: u32) -> Option<Counters>
+        ensures { (whose : Subjects) (many : ℕ) (seen : List Happening) → HasCounted whose many seen self.now → subject < many → IsRowOf whose seen subject result }
+    {
+        self.rows
+            .get(subject)
+            .filter(|row| row.of(Count::Lines) > 0)
+    }
+
+    // Counts one more for the subject.
+    fn raise(&mut self, subject: u32, count: Count)
+        ensures { self.new ≡ record self.old { rows = raised self.old.rows subject count } }
+    {
+        if let Some(mut row) = self.rows.get(subject) {
+            row.raise(count);
+            self.rows.set(subject, row);
+        }
+    }
+
+    // Counts the happening by this count, if it counts it.
+    fn count(&mut self, count: Count, happening: Happening)
+        ensures { self.new ≡ record self.old { rows = raised_by self.old.subjects count happening self.old.rows } }
+    {
+        if !counts(count, happening) {
+            return;
+        }
+        if let Some(subject) = subject_of(self.subjects, count, happening) {
+            self.raise(subject, count);
+        }
+    }
+
+    /// Counts what has happened.
+    pub(crate) fn add(&mut self, happening: Happening)
+        ensures { (whose : Subjects) (many : ℕ) (seen : List Happening) → HasCounted whose many seen self.old → HasCounted whose many (seen ++ happening ∷ []) self.new }
+    {
+        for count in &COUNTS {
+            self.count(*count, happening);
+        }
+    }
+
+    /// Counts the lines of a step.
+    pub(crate) fn add_lines(&mut self, step: Step, outcome: Result<Reply, Refused>, lines: &[Taken])
+        ensures { (whose : Subjects) (many : ℕ) (seen : List Happening) → HasCounted whose many seen self.old → HasCounted whose many (seen ++ map (happening.Line step outcome) lines.now) self.new }
+    {
+        for line in lines {
+            self.add(Happening::Line {
+                step,
+                outcome,
+                line: *line,
+            });
+        }
+    }
+
+    /// Counts the items of a history.
+    pub(crate) fn add_items(&mut self, log: &Log)
+        ensures { (whose : Subjects) (many : ℕ) (seen : List Happening) → HasCounted whose many seen self.old → HasCounted whose many (seen ++ map happening.Item log.now.items) self.new }
+    {
+        for place in 0..log.len() {
+            if let Some(item) = log.item(place) {
+                self.add(Happening::Item(item));
+            }
+        }
+    }
+}

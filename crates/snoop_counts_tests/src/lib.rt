@@ -1,0 +1,5 @@
+//! Tests of the counts by core and by block.
+#![tactic(auto)]
+
+#[cfg(test)]
+mod tables;

@@ -1,0 +1,70 @@
+//! Each table, of a worked text.
+
+use snoop_counts::{simulate_counts_by_block, simulate_counts_by_core};
+use snoop_rules::Protocol;
+use snoop_trace::Shape;
+use std::test::Fail;
+
+/// Two cores store, and each has a copy to read: core 0's upgrade is lost.
+const RACE: &str = "L,0,0\nO,0\nR,0\nL,1,0\nO,1\nR,0\nS,0,0,5\nS,1,0,6\nO,1\nO,0\nR,0\nO,0\nR,0\n";
+
+const RACE_BY_CORE: &str = "\
+core,loads,load_hits,stores,store_hits,gets,getm,putm,from_memory,from_caches,writebacks,clean,stale,upgrades,upgrades_lost,invalidated,taken,downgraded,overtaken,invalidates,supplied,stalled,bus_taken,nothing_waiting
+0,1,0,1,0,1,1,0,1,1,0,0,0,0,1,1,0,0,0,0,0,0,1,0
+1,1,0,1,0,1,1,0,2,0,0,0,0,1,0,0,1,0,0,1,1,0,0,0
+";
+
+/// Core 0 in two blocks, one of them loaded, the other stored and evicted; three steps are refused, and one of core 1.
+const TWO_BLOCKS: &str =
+    "L,0,0\nO,0\nR,0\nS,0,64,7\nO,0\nO,0\nR,64\nE,0,64\nE,0,64\nO,1\nO,0\nR,64\nR,64\n";
+
+const TWO_BLOCKS_BY_BLOCK: &str = "\
+block,address,cores,readers,writers,loads,load_hits,stores,store_hits,gets,getm,putm,from_memory,from_caches,writebacks,clean,stale,upgrades,upgrades_lost,invalidated,taken,downgraded,overtaken,stalled,bus_taken,no_transaction
+0,0,1,1,0,1,0,0,0,1,0,0,1,0,0,0,0,0,0,0,0,0,0,0,0,0
+1,64,1,0,1,0,0,1,0,0,1,1,1,0,1,0,0,0,0,0,0,0,0,1,0,1
+";
+
+/// The block of most requests alone.
+const FIRST_BLOCK: &str = "\
+block,address,cores,readers,writers,loads,load_hits,stores,store_hits,gets,getm,putm,from_memory,from_caches,writebacks,clean,stale,upgrades,upgrades_lost,invalidated,taken,downgraded,overtaken,stalled,bus_taken,no_transaction
+1,64,1,0,1,0,0,1,0,0,1,1,1,0,1,0,0,0,0,0,0,0,0,1,0,1
+";
+
+#[test]
+fn counts_of_an_upgrade_race(rt: HostRuntime) -> Result<(), Fail> {
+    let alloc = rt.alloc();
+    let shape = Shape::new(2, 4, 64)?;
+    let mut text = RACE.as_bytes();
+    let mut out = Vec::new(alloc);
+    simulate_counts_by_core(alloc, &mut text, &mut out, Protocol::Msi, shape)?;
+    if out.as_slice() != RACE_BY_CORE.as_bytes() {
+        return Err("by core")?;
+    }
+    Ok(())
+}
+
+#[test]
+fn counts_of_two_blocks(rt: HostRuntime) -> Result<(), Fail> {
+    let alloc = rt.alloc();
+    let shape = Shape::new(2, 4, 64)?;
+    let mut text = TWO_BLOCKS.as_bytes();
+    let mut out = Vec::new(alloc);
+    simulate_counts_by_block(alloc, &mut text, &mut out, Protocol::Msi, shape, None)?;
+    if out.as_slice() != TWO_BLOCKS_BY_BLOCK.as_bytes() {
+        return Err("all blocks")?;
+    }
+    Ok(())
+}
+
+#[test]
+fn block_of_most_requests(rt: HostRuntime) -> Result<(), Fail> {
+    let alloc = rt.alloc();
+    let shape = Shape::new(2, 4, 64)?;
+    let mut text = TWO_BLOCKS.as_bytes();
+    let mut out = Vec::new(alloc);
+    simulate_counts_by_block(alloc, &mut text, &mut out, Protocol::Msi, shape, Some(1))?;
+    if out.as_slice() != FIRST_BLOCK.as_bytes() {
+        return Err("one block")?;
+    }
+    Ok(())
+}
