@@ -7,10 +7,10 @@ use Rattle.clap.specs.declared.error.kind.ErrorKind.TheVariants.{InvalidValue, U
 use Rattle.clap.specs.declared.parser.matches.ArgMatches.{ArgMatches}
 use Rattle.clap.proofs.OnLiterals.{clap_on_literals}
 use Rattle.snoop_sim.specs.Asked.{Asks, HasNoTask, HasTask, IsShown, Refuses}
-use Rattle.snoop_sim.specs.CommandLine.{IsSnoop, Names, choice_rules, default_form_rule, flag_rule, form_rule, grouping_rule, kind_rule, long_rule, simulation_app, table_app, top_app, with_commands}
+use Rattle.snoop_sim.specs.CommandLine.{IsSnoop, Names, choice_rules, default_form_rule, flag_rule, form_rule, grouping_rule, kind_rule, long_rule, simulation_app, table_app, top_app, top_rule, with_commands}
 use Rattle.snoop_engine.specs.declared.fault.SimFault.TheVariants.{NoMemory}
 use Rattle.snoop_sim.specs.declared.failure.Failure.{Failure}
-use Rattle.snoop_sim.specs.declared.failure.Failure.TheVariants.{CommandLine, NoCommand, NotUtf8, Shape, Simulation, Threads as ThreadsFailure, Lint as LintFailure, Drawing, Unchosen}
+use Rattle.snoop_sim.specs.declared.failure.Failure.TheVariants.{BadTop, CommandLine, NoCommand, NotUtf8, Shape, Simulation, Threads as ThreadsFailure, Lint as LintFailure, Drawing, Unchosen}
 use Rattle.snoop_sim.specs.declared.options.Task.{Task}
 use Rattle.snoop_sim.specs.declared.options.Task.TheVariants.{Help, Table, Simulate}
 
@@ -18,7 +18,7 @@ use Rattle.snoop_sim.specs.declared.options.Task.TheVariants.{Help, Table, Simul
 abbrev commands : (steps run threads states forms counts groupings lint kinds draw drawings table tables : Names) → List App
 commands steps run threads states forms counts groupings lint kinds draw drawings table tables =
     simulation_app (codes "steps") steps [] ∷ simulation_app (codes "run") run (flag_rule (codes "serial") ∷ []) ∷ simulation_app (codes "threads") threads []
-    ∷ simulation_app (codes "states") states (form_rule forms ∷ []) ∷ simulation_app (codes "counts") counts (grouping_rule groupings ∷ []) ∷ simulation_app (codes "lint") lint (kind_rule kinds ∷ long_rule (codes "most") (codes "20") ∷ []) ∷ simulation_app (codes "draw") draw (default_form_rule drawings ∷ flag_rule (codes "ascii") ∷ choice_rules) ∷ table_app table tables ∷ []
+    ∷ simulation_app (codes "states") states (form_rule forms ∷ []) ∷ simulation_app (codes "counts") counts (grouping_rule groupings ∷ top_rule ∷ []) ∷ simulation_app (codes "lint") lint (kind_rule kinds ∷ long_rule (codes "most") (codes "20") ∷ []) ∷ simulation_app (codes "draw") draw (default_form_rule drawings ∷ flag_rule (codes "ascii") ∷ choice_rules) ∷ table_app table tables ∷ []
 
 -- `clap` says what it finds in the words of such a command line
 is_simple_snoop : (steps run threads states forms counts groupings lint kinds draw drawings table tables : Names)
@@ -65,6 +65,7 @@ pub without_task : (app : App) (words : List Text) (command : Option (Text × Li
     → command ≡ subcommand_of app words → HasNoTask command failure → Refuses words failure
 without_task app words command NoCommand snoop well named has = (app, snoop, (well, subst (λ c. HasNoTask c NoCommand) named has))
 without_task app words command (Shape fault) snoop well named has = (app, snoop, (well, subst (λ c. HasNoTask c (Shape fault)) named has))
+without_task app words command BadTop snoop well named has = (app, snoop, (well, subst (λ c. HasNoTask c BadTop) named has))
 without_task app words command NotUtf8 snoop well named has = (app, snoop, (well, subst (λ c. HasNoTask c NotUtf8) named has))
 without_task app words command (ThreadsFailure fault) snoop well named has = (app, snoop, (well, subst (λ c. HasNoTask c (ThreadsFailure fault)) named has))
 without_task app words command (LintFailure fault) snoop well named has = (app, snoop, (well, subst (λ c. HasNoTask c (LintFailure fault)) named has))

@@ -6,10 +6,10 @@ use Rattle.clap.specs.declared.error.kind.ErrorKind.{ErrorKind}
 use Rattle.clap.specs.declared.error.kind.ErrorKind.TheVariants.{DisplayHelp, DisplayVersion}
 use Rattle.snoop_trace.specs.Extent.{Extent}
 use Rattle.snoop_sim.specs.CommandLine.{IsSnoop}
-use Rattle.snoop_sim.specs.Options.{IsChoiceOf, IsLongOf, IsShapeOf, asks_serial, charset_named, kind_named, protocol_named, which_named}
+use Rattle.snoop_sim.specs.Options.{IsChoiceOf, IsGroupingOf, IsLongOf, IsShapeOf, MisplacesTop, asks_serial, charset_named, kind_named, protocol_named, which_named}
 use Rattle.snoop_engine.specs.declared.fault.SimFault.TheVariants.{NoMemory}
 use Rattle.snoop_sim.specs.declared.failure.Failure.{Failure}
-use Rattle.snoop_sim.specs.declared.failure.Failure.TheVariants.{CommandLine, NoCommand, Shape, Simulation, Unchosen}
+use Rattle.snoop_sim.specs.declared.failure.Failure.TheVariants.{BadTop, CommandLine, NoCommand, Shape, Simulation, Unchosen}
 use Rattle.snoop_sim.specs.declared.options.Engine.{Engine}
 use Rattle.snoop_sim.specs.declared.options.Engine.TheVariants.{Steps, Run, Serial, Threads, States, Counts, Lint, Draw}
 use Rattle.snoop_sim.specs.declared.options.Task.{Task}
@@ -22,7 +22,7 @@ IsEngineOf name options shape Run = (name ≡ codes "run") × (asks_serial optio
 IsEngineOf name options shape Serial = (name ≡ codes "run") × (asks_serial options ≡ true)
 IsEngineOf name options shape Threads = name ≡ codes "threads"
 IsEngineOf name options shape States = name ≡ codes "states"
-IsEngineOf name options shape Counts = name ≡ codes "counts"
+IsEngineOf name options shape (Counts grouping) = (name ≡ codes "counts") × IsGroupingOf options grouping
 IsEngineOf name options shape (Lint form most) = (name ≡ codes "lint") × (form ≡ kind_named options) × IsLongOf (codes "most") options most
 IsEngineOf name options shape (Draw charset choice) = (name ≡ codes "draw") × (charset ≡ charset_named options) × IsChoiceOf shape options (Ok choice)
 
@@ -37,11 +37,12 @@ abbrev pub HasTask : Option (Text × List Row) → Task → Type 0
 HasTask None task = ⊥
 HasTask (Some command) task = IsTaskOf command task
 
--- a command has no engine: none that simulates has its name, or what it chooses is refused
+-- a command has no engine: none that simulates has its name, or one of its options is refused
 abbrev pub HasNoEngine : Text → List Row → Extent → Failure → Type 0
 HasNoEngine name options shape NoCommand = (name ≢ codes "steps") × (name ≢ codes "run") × (name ≢ codes "threads") × (name ≢ codes "states") × (name ≢ codes "counts")
     × (name ≢ codes "lint") × (name ≢ codes "draw")
 HasNoEngine name options shape (Unchosen fault) = (name ≡ codes "draw") × IsChoiceOf shape options (Err fault)
+HasNoEngine name options shape BadTop = (name ≡ codes "counts") × MisplacesTop options
 HasNoEngine name options shape failure = ⊥
 
 -- the command that was named has no task: its shape is refused, or it has no engine

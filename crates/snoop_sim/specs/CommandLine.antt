@@ -55,7 +55,7 @@ IsForms names = AreNames (codes "csv" ∷ []) names
 
 -- those of `--by`
 abbrev pub IsGroupings : Names → Type 0
-IsGroupings names = AreNames (codes "row" ∷ []) names
+IsGroupings names = AreNames (codes "row" ∷ codes "core" ∷ codes "block" ∷ []) names
 
 -- a protocol, in either case
 abbrev pub protocol_rule : Names → Rule
@@ -85,6 +85,10 @@ default_form_rule forms = option_rule (codes "as") (codes "text") (parser.Names 
 abbrev pub choice_rules : List Rule
 choice_rules = optional_rule (codes "block") (parser.Signed (pos 0) (pos 4294967295)) ∷ long_rule (codes "from") (codes "1")
     ∷ optional_rule (codes "to") (parser.Unsigned 0 18446744073709551615) ∷ []
+
+-- the option `--top`
+abbrev pub top_rule : Rule
+top_rule = optional_rule (codes "top") (parser.Signed (pos 0) (pos 4294967295))
 
 -- a command with these options too, in this order
 abbrev pub with_rules : App → List Rule → App
@@ -127,7 +131,7 @@ abbrev pub IsStates : App → Type 0
 IsStates app = (forms : Names) × IsForms forms × IsSimulation (codes "states") (form_rule forms ∷ []) app
 
 abbrev pub IsCounts : App → Type 0
-IsCounts app = (groupings : Names) × IsGroupings groupings × IsSimulation (codes "counts") (grouping_rule groupings ∷ []) app
+IsCounts app = (groupings : Names) × IsGroupings groupings × IsSimulation (codes "counts") (grouping_rule groupings ∷ top_rule ∷ []) app
 
 abbrev pub IsLint : App → Type 0
 IsLint app = (kinds : Names) × IsKinds kinds × IsSimulation (codes "lint") (kind_rule kinds ∷ long_rule (codes "most") (codes "20") ∷ []) app

@@ -16,6 +16,8 @@ use Rattle.snoop_draw.specs.declared.marks.Charset.{Charset}
 use Rattle.snoop_draw.specs.declared.marks.Charset.TheVariants as charset
 use Rattle.snoop_lint.specs.declared.form.Form.{Form}
 use Rattle.snoop_lint.specs.declared.form.Form.TheVariants as form
+use Rattle.snoop_sim.specs.declared.options.Grouping.{Grouping}
+use Rattle.snoop_sim.specs.declared.options.Grouping.TheVariants as grouping
 use Rattle.snoop_rules.specs.declared.table_text.Which.{Which}
 use Rattle.snoop_rules.specs.declared.table_text.Which.TheVariants.{Cache, Memory}
 
@@ -52,6 +54,16 @@ abbrev pub IsReadAs : ℕ → Option Text → Option ℕ → Type 0
 IsReadAs limit None read = read ≡ None
 IsReadAs limit (Some text) (Some number) = IsNumber limit text × (number ≡ digits_value 10 (without_leading_plus text))
 IsReadAs limit (Some text) None = ¬ IsNumber limit text
+
+-- what the lines of counts are of, as `by` says, and of how many blocks, as `top` says, which is for blocks alone
+abbrev pub IsGroupingOf : List Row → Grouping → Type 0
+IsGroupingOf options grouping.Row = (says false (codes "by") (codes "core") options ≡ false) × (says false (codes "by") (codes "block") options ≡ false) × IsReadAs (2 ^ 32) (one_of (codes "top") options) None
+IsGroupingOf options grouping.Core = (says false (codes "by") (codes "core") options ≡ true) × IsReadAs (2 ^ 32) (one_of (codes "top") options) None
+IsGroupingOf options (grouping.Block top) = (says false (codes "by") (codes "block") options ≡ true) × IsReadAs (2 ^ 32) (one_of (codes "top") options) top
+
+-- `top` is given without blocks
+abbrev pub MisplacesTop : List Row → Type 0
+MisplacesTop options = (says false (codes "by") (codes "block") options ≡ false) × ((top : ℕ) × IsReadAs (2 ^ 32) (one_of (codes "top") options) (Some top))
 
 -- the option's number of 64 bits; 0 where it has none
 abbrev pub IsLongOf : Text → List Row → ℕ → Type 0

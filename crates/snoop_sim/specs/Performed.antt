@@ -9,6 +9,8 @@ use Rattle.snoop_trace.specs.declared.protocol.Protocol.{Protocol}
 use Rattle.snoop_rules.specs.TableText.{table_text}
 use Rattle.clap.specs.Words.{Text}
 use Rattle.snoop_sim.specs.Asked.{Asks, Refuses}
+use Rattle.snoop_counts.specs.ByBlock.{counts_by_block}
+use Rattle.snoop_counts.specs.CoreTable.{counts_by_core}
 use Rattle.snoop_engine.specs.Counts.{frames_counts_text}
 use Rattle.snoop_engine.specs.Simulated.{Simulates}
 use Rattle.snoop_engine.specs.SimulatedRun.{SimulatesRun}
@@ -27,6 +29,7 @@ use Rattle.snoop_trace.specs.declared.fault.TextFault.TheVariants.{Read}
 use Rattle.snoop_sim.specs.declared.fault.ThreadsFault.TheVariants.{Text as RowsRefused}
 use Rattle.snoop_sim.specs.declared.failure.Failure.{Failure}
 use Rattle.snoop_sim.specs.declared.failure.Failure.TheVariants.{Simulation, Threads as ThreadsFailure, Lint as LintFailure, Drawing}
+use Rattle.snoop_sim.specs.declared.options.Grouping.TheVariants as grouping
 use Rattle.snoop_sim.specs.declared.options.Engine.{Engine}
 use Rattle.snoop_sim.specs.declared.options.Engine.TheVariants.{Steps, Run, Serial, Threads, States, Counts, Lint, Draw}
 use Rattle.snoop_sim.specs.declared.options.Task.{Task}
@@ -51,7 +54,9 @@ Runs protocol shape Run input ending old new = EndsAs Simulation ending (λ done
 Runs protocol shape Serial input ending old new = EndsAs Simulation ending (λ done. SimulatesSerial protocol shape input done old new)
 Runs protocol shape Threads input ending old new = EndsAs ThreadsFailure ending (λ done. SimulatesThreads protocol shape input done old new)
 Runs protocol shape States input ending old new = EndsAs Simulation ending (λ done. SimulatesView protocol shape (λ frames final. states_text shape frames) input done old new)
-Runs protocol shape Counts input ending old new = EndsAs Simulation ending (λ done. SimulatesView protocol shape (λ frames final. frames_counts_text protocol frames) input done old new)
+Runs protocol shape (Counts grouping.Row) input ending old new = EndsAs Simulation ending (λ done. SimulatesView protocol shape (λ frames final. frames_counts_text protocol frames) input done old new)
+Runs protocol shape (Counts grouping.Core) input ending old new = EndsAs Simulation ending (λ done. SimulatesView protocol shape (counts_by_core shape) input done old new)
+Runs protocol shape (Counts (grouping.Block top)) input ending old new = EndsAs Simulation ending (λ done. SimulatesView protocol shape (counts_by_block shape top) input done old new)
 Runs protocol shape (Lint form most) input ending old new = EndsAs LintFailure ending (λ done. Lints form most protocol shape input done old new)
 Runs protocol shape (Draw charset choice) input ending old new = EndsAs Drawing ending (λ done. Draws protocol shape charset choice input done old new)
 

@@ -26,6 +26,9 @@ pub(crate) enum Failure {
     NotUtf8,
     #[error(transparent)]
     Shape(ShapeFault),
+    /// `--top` is given without `--by block`.
+    #[error("BadTop")]
+    BadTop,
     #[error(transparent)]
     Simulation(SimFault),
     #[error(transparent)]
@@ -115,6 +118,7 @@ impl Failure {
             | Failure::NotUtf8
             | Failure::Shape(_)
             | Failure::Unchosen(_)
+            | Failure::BadTop
             | Failure::Drawing(DrawFault::TooLarge) => 2,
             Failure::Simulation(fault) | Failure::Drawing(DrawFault::Simulation(fault)) => {
                 status_of_fault(*fault)

@@ -3,7 +3,7 @@ ghost use Rattle.std.specs.Prelude.{◌≡◌, ◌≢◌, ◌^◌, [], IfErr, If
 ghost use Rattle.clap.specs.Words.{app_of, found_of, one_of, rows_of, rule_of, subcommand_rows_of};
 ghost use Rattle.snoop_sim.specs.Asked.{Asks, HasNoEngine, HasNoTask, HasTask, IsEngineOf, IsTaskOf, Refuses};
 ghost use Rattle.snoop_sim.specs.CommandLine.{IsCounts, IsDraw, IsForms, IsGroupings, IsKinds, IsLint, IsLocal, IsProtocols, IsRun, IsSimulation, IsSnoop, IsStates, IsSteps, IsTable, IsThreads, Names, choice_rules, default_form_rule, flag_rule, form_rule, grouping_rule, kind_rule, number_rule, optional_rule, protocol_rule, top_app, with_rules};
-ghost use Rattle.snoop_sim.specs.Options.{IsChoiceOf, IsNumberOf, IsReadAs, IsShapeOf, asks_serial, charset_named, kind_named, protocol_named, says, which_named};
+ghost use Rattle.snoop_sim.specs.Options.{IsChoiceOf, IsGroupingOf, IsNumberOf, IsReadAs, IsShapeOf, MisplacesTop, asks_serial, charset_named, kind_named, protocol_named, says, which_named};
 
 use crate::failure::Failure;
 use crate::help;
@@ -31,10 +31,19 @@ pub(crate) enum Engine {
     Serial,
     Threads,
     States,
-    Counts,
+    Counts(Grouping),
     /// So many faulty records are named at most.
     Lint(Form, u64),
     Draw(Charset, Choice),
+}
+
+/// What each line of counts is of.
+#[derive(Clone, Copy, Debug, PartialEq, Eq)]
+pub(crate) enum Grouping {
+    Row,
+    Core,
+    /// All blocks, or so many, those of most requests first.
+    Block(Option<u32>),
 }
 
 static PROTOCOLS: [&str; 2] = ["msi", "mesi"];
@@ -45,7 +54,7 @@ static DRAWINGS: [&str; 1] = ["text"];
 
 static FORMS: [&str; 1] = ["csv"];
 
-static GROUPINGS: [&str; 1] = ["row"];
+static GROUPINGS: [&str; 3] = ["row", "core", "block"];
 
 static TABLES: [&str; 2] = ["cache", "memory"];
 
@@ -94,7 +103,7 @@ fn engine_of(name: &str, options: &ArgMatches, shape: Shape) -> Result<Engine, F
         "run" => Ok(Engine::Run),
         "threads" => Ok(Engine::Threads),
         "states" => Ok(Engine::States),
-        "counts" => Ok(Engine::Counts),
+        "counts" => Ok(Engine::Counts(grouping_in(options)?)),
         "draw" => Ok(Engine::Draw(charset_in(options), choice_in(options, shape)?)),
         "lint" => Ok(Engine::Lint(kind_in(options), long_in(options, "most").unwrap_or(0))),
         _ => Err(Failure::NoCommand),
@@ -186,10 +195,16 @@ fn counts<'a>(alloc: Global) -> Result<Command<'a>, AllocError>
     simulation(
         alloc,
         "counts",
-        "Read steps; write how often each row of the tables was taken",
+        "Read steps; write counts by row of the tables, by core or by block",
         help::COUNTS,
     )?
-    .arg(grouping(alloc))
+    .arg(groupings(alloc))?
+    .arg(optional(
+        alloc,
+        "top",
+        value_parser!(u32),
+        "By block: so many blocks alone, those of most requests first",
+    ))
 }
 
 fn lint<'a>(alloc: Global) -> Result<Command<'a>, AllocError>
@@ -330,7 +345,7 @@ fn form<'a>(alloc: Global) -> Arg<'a>
         .required(true)
 }
 
-fn grouping<'a>(alloc: Global) -> Arg<'a>
+fn groupings<'a>(alloc: Global) -> Arg<'a>
     ensures { (result.global ≡ false) × ((groupings : Names) × IsGroupings groupings × (rule_of result ≡ grouping_rule groupings)) }
 {
     Arg::new(alloc, "by")
@@ -419,6 +434,23 @@ fn charset_in(options: &ArgMatches) -> Charset
         Charset::Ascii
     } else {
         Charset::Unicode
+    }
+}
+
+/// What the lines of counts are of; `--top` is for blocks alone.
+fn grouping_in(options: &ArgMatches) -> Result<Grouping, Failure>
+    ensures ok { IfOk result (IsGroupingOf (rows_of (found_of options.now))) }
+    ensures err { IfErr result (λ failure. (failure ≡ Failure.BadTop) × MisplacesTop (rows_of (found_of options.now))) }
+{
+    let top = short_in(options, "top");
+    if says(options, "by", "block") {
+        Ok(Grouping::Block(top))
+    } else if top.is_some() {
+        Err(Failure::BadTop)
+    } else if says(options, "by", "core") {
+        Ok(Grouping::Core)
+    } else {
+        Ok(Grouping::Row)
     }
 }
 

@@ -7,9 +7,10 @@ ghost use Rattle.snoop_sim.specs.Status.{status_of};
 ghost use Rattle.snoop_sim.specs.Performed.{Ends, IsFailedRead, Leaves, Performs, Runs, Writes, status_of_ending};
 
 use crate::failure::Failure;
-use crate::options::{Engine, Task, task_in};
+use crate::options::{Engine, Grouping, Task, task_in};
 use crate::threads::simulate_threads;
 use snoop_draw::simulate_drawing;
+use snoop_counts::{simulate_counts_by_block, simulate_counts_by_core};
 use snoop_engine::{
     SimFault, simulate_counts, simulate_run, simulate_serial, simulate_states, simulate_steps,
 };
@@ -144,8 +145,15 @@ fn simulate<T: Threads + Wait + Sync, R: Source, W: Sink>(
         Engine::States => {
             simulate_states(alloc, reader, writer, protocol, shape).map_err(Failure::Simulation)
         }
-        Engine::Counts => {
+        Engine::Counts(Grouping::Row) => {
             simulate_counts(alloc, reader, writer, protocol, shape).map_err(Failure::Simulation)
+        }
+        Engine::Counts(Grouping::Core) => {
+            simulate_counts_by_core(alloc, reader, writer, protocol, shape).map_err(Failure::Simulation)
+        }
+        Engine::Counts(Grouping::Block(top)) => {
+            simulate_counts_by_block(alloc, reader, writer, protocol, shape, top)
+                .map_err(Failure::Simulation)
         }
         Engine::Lint(form, most) => {
             lint_text(alloc, reader, writer, form, most, protocol, shape).map_err(Failure::Lint)
