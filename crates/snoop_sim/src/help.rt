@@ -80,7 +80,7 @@ Exit statuses:
   1  the text was refused, or could not be read (Read); nothing was written
   2  the command line was refused, or the shape (BadCores, BadBlocks, BadBytes,
      BadWords: outside the limits of its options), or what is to be shown (BadBlock,
-     BadRange, TooLarge); nothing was written
+     BadRange, BadTop, TooLarge); nothing was written
   3  out of memory; the output may be cut short
   4  a write failed; the output may be cut short
   5  the threads of `snoop threads` were refused; nothing was written
@@ -180,13 +180,15 @@ pub(crate) static COUNTS: &str = help!(
     "
 Example: printf 'L,0,0\\nO,0\\nR,0\\n' | snoop counts --by row
 
-The first line of output names the fields. Then each row of the cache table and of the
-memory table has a line (see `snoop table`):
+The first line of output names the fields. --by row: each row of the cache table and of
+the memory table has a line (see `snoop table`):
   controller                    cache or memory
   state, event, action, next    the row
   count                         how often it was taken, by all cores together; 0 if never
-A stall counts too. The rows of a core in I at another core's request do nothing, and
-are left out."
+A stall counts too; a core in I at another core's request is left out.
+--by core, --by block: each core or block that the text names has a line: the counts of
+the report, then sums of rows of the tables, then its refused steps (docs/TEXTS.md).
+--top N: the N blocks of most ordered requests alone, most first."
     faults "L, S, E, O or R" "L and E take 2 numbers, S 3, O and R 1"
     heading
     more
