@@ -9,8 +9,8 @@ use std::test::Fail;
 const RACE: &str = "L,0,0\nO,0\nR,0\nL,1,0\nO,1\nR,0\nS,0,0,5\nS,1,0,6\nO,1\nO,0\nR,0\nO,0\nR,0\n";
 
 /// The same, drawn: core 1 is ordered first, and core 0 gets the block from it.
-const RACE_DRAWN: &str = "\
-      block 0 (bytes 0 to 63)                                              MSI
+const RACE_DRAWN: &str =
+    "      block 0 (bytes 0 to 63)                                              MSI
 step    core 0          core 1          bus                   memory       line
    0    I               I                                     IorS 0       at reset
    1    IS_AD      ○                                                       L,0,0: issued GetS
@@ -35,8 +35,7 @@ step    core 0          core 1          bus                   memory       line
 const LOAD: &str = "L,0,0\nO,0\nR,0\n";
 
 /// The same, drawn in ASCII.
-const LOAD_DRAWN: &str = "\
-      block 0 (bytes 0 to 63)                              MSI
+const LOAD_DRAWN: &str = "      block 0 (bytes 0 to 63)                              MSI
 step    core 0          bus                   memory       line
    0    I                                     IorS 0       at reset
    1    IS_AD      o                                       L,0,0: issued GetS
@@ -51,8 +50,7 @@ o issued   : waits for its order   @ ordered   % sends   | waits for data   < ge
 const WRITEBACK: &str = "O,1\nR,0\nS,0,0,7\nL,0,0\nO,0\nR,0\nL,0,0\nE,0,0\nO,0\nR,0\nE,0,0\n";
 
 /// The same, drawn.
-const WRITEBACK_DRAWN: &str = "\
-      block 0 (bytes 0 to 63)                              MSI
+const WRITEBACK_DRAWN: &str = "      block 0 (bytes 0 to 63)                              MSI
 step    core 0          bus                   memory       line
    0    I                                     IorS 0       at reset
    1                                                       O,1: refused NothingWaiting
@@ -75,8 +73,7 @@ step    core 0          bus                   memory       line
 const BEHIND: &str = "L,0,0\nL,0,64\nO,0\nR,0\nO,0\nR,64\n";
 
 /// Of the same the steps 2 to 5 that are of block 1, drawn.
-const BEHIND_DRAWN: &str = "\
-      block 1 (bytes 64 to 127)                            MSI
+const BEHIND_DRAWN: &str = "      block 1 (bytes 64 to 127)                            MSI
 step    core 0          bus                   memory       line
    1    I                                     IorS 0       before
    2    IS_AD #2   ○                                       L,0,64: issued GetS
@@ -132,7 +129,13 @@ fn a_first_load_in_ascii(rt: HostRuntime) -> Result<(), Fail> {
 
 #[test]
 fn a_writeback_and_what_is_refused(rt: HostRuntime) -> Result<(), Fail> {
-    if !is_drawn(rt.alloc(), WRITEBACK, Charset::Unicode, all()?, WRITEBACK_DRAWN)? {
+    if !is_drawn(
+        rt.alloc(),
+        WRITEBACK,
+        Charset::Unicode,
+        all()?,
+        WRITEBACK_DRAWN,
+    )? {
         Err("the writeback")?
     }
     Ok(())

@@ -8,12 +8,7 @@ use std::io::Write;
 use std::test::Fail;
 
 // How the drawing of a text ends, and whether nothing is written.
-fn ends(
-    alloc: Global,
-    text: &[u8],
-    shape: Shape,
-    choice: Choice,
-) -> Result<(), DrawFault> {
+fn ends(alloc: Global, text: &[u8], shape: Shape, choice: Choice) -> Result<(), DrawFault> {
     let mut reader = text;
     let mut drawn = Vec::new(alloc);
     simulate_drawing(
@@ -47,7 +42,9 @@ fn a_faulty_text(rt: HostRuntime) -> Result<(), Fail> {
     let shape = Shape::new(2, 4, 64)?;
     let choice = Choice::new(shape, None, 1, 1)?;
     let fault = TextFault::NoCore(1);
-    if ends(rt.alloc(), b"L,2,0\n", shape, choice) != Err(DrawFault::Simulation(SimFault::Text(fault))) {
+    if ends(rt.alloc(), b"L,2,0\n", shape, choice)
+        != Err(DrawFault::Simulation(SimFault::Text(fault)))
+    {
         Err("the fault")?
     }
     Ok(())

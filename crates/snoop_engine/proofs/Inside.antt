@@ -1,7 +1,8 @@
 -- What a getter answers that answers inside a shape alone.
-use Rattle.std.proofs.Common.{◌≡◌, ℕ, ◌<◌, Option, Some, None, refl, inl, inr, lt-ltb, arith}
-use Rattle.std.specs.Prelude.{◌&&◌, IfSome, nat_lt, if◌then◌else◌}
+use Rattle.std.proofs.Common.{◌≡◌, ℕ, ◌<◌, Bool, Option, Some, None, true, refl, sym, ap, ◌∙◌, inl, inr, lt-ltb, arith}
+use Rattle.std.specs.Prelude.{◌&&◌, IfSome, IsSome, is_some, nat_lt, option_map, if◌then◌else◌}
 use Rattle.std.proofs.lemmas.Bool.{cases_lt, le-ltb}
+use Rattle.snoop_bus.specs.Traffic.{Open}
 
 gone : {A : Type 0} {P : Type 0} (r : Option A) → IfSome r (λ _. P) → (P → ⊥) → r ≡ None
 gone None h never = refl
@@ -34,3 +35,8 @@ inside_three r v l m n a b c inside outside = elim (cases_lt a l) [
   ]
   | inr x ↦ rw (le-ltb a l x) (gone r outside (λ h. let k = h.0 in absurd (omega arith)))
 ]
+
+-- where a requestor is named, a transaction is open
+pub is_opened : (transaction : Option Open) (requestor : Option ℕ) (named : Bool) → named ≡ is_some requestor → requestor ≡ option_map (λ opened. opened.core) transaction → named ≡ true → IsSome transaction
+is_opened (Some opened) requestor named e is t = refl
+is_opened None requestor named e is t = sym (e ∙ ap is_some is) ∙ t

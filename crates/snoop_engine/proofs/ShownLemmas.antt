@@ -17,7 +17,7 @@ use Rattle.snoop_engine.specs.Frames.{AreFrames, Frame, FramesFrom, outcomes_of,
 use Rattle.snoop_engine.specs.Simulated.{Reads}
 use Rattle.snoop_engine.specs.SimulatedView.{BeginsToShow, ShowsRun, SimulatesView}
 use Rattle.snoop_engine.specs.Taken.{lines_of}
-use Rattle.snoop_engine.specs.Views.{IsNext, frame_seen, shown, view_text}
+use Rattle.snoop_engine.specs.Views.{IsNext, block_of, frame_seen, shown, view_text}
 use Rattle.snoop_engine.specs.declared.fault.SimFault.{SimFault}
 use Rattle.snoop_engine.specs.declared.fault.SimFault.TheVariants.{Text, NoMemory, Write}
 use Rattle.snoop_engine.specs.declared.seen.Seen.{Seen}
@@ -106,10 +106,10 @@ module _ (protocol : Protocol) (shape : Extent) (heading : List ℕ) (shows : Pr
 
   -- one more step, whose number is how many are no longer left
   pub showing_more : (after_it : Protocol → Extent → List Frame → Type 0) (rest : List Step) (what : Seen) (after : Situation) (grown : List ℕ) → left ≡ what.step ∷ rest → what.number ≡ length steps - length rest
-      → GoesFirst to what.step what.outcome after → what.lines.now ≡ lines_of to what.step what.outcome
+      → GoesFirst to what.step what.outcome after → what.lines.now ≡ lines_of to what.step what.outcome → what.block ≡ block_of to what.step
       → Sees after_it what after grown after.protocol after.shape
       → Showing protocol shape heading (shows protocol shape) (after_it protocol shape) steps rest after a b grown
-  showing_more after_it rest what after grown more counted goes lines sees =
+  showing_more after_it rest what after grown more counted goes lines block sees =
       let frame : Frame = frame_seen to what after in
       let few : length steps ≡ length far.frames + length left = ap length far.whole ∙ length-append (steps_of far.frames) left ∙ ap (λ (n : ℕ). n + length left) (steps_counted far.frames) in
       let less : length left ≡ 1 + length rest = ap length more ∙ omega arith in
@@ -118,7 +118,7 @@ module _ (protocol : Protocol) (shape : Extent) (heading : List ℕ) (shows : Pr
       let keeps = frames_keep (far.frames ++ frame ∷ []) (reset protocol shape) after run in
       let here : Sees after_it what after grown protocol shape =
       subst (λ (p : Protocol). Sees after_it what after grown p shape) keeps.0 (subst (λ (s : Extent). Sees after_it what after grown after.protocol s) keeps.1 sees) in
-      let one = here far.frames to far.has_seen (record { run = far.run; goes = goes; lines = lines; number = place }) in
+      let one = here far.frames to far.has_seen (record { run = far.run; goes = goes; lines = lines; block = block; number = place }) in
       record {
         frames = far.frames ++ frame ∷ [];
         whole = far.whole ∙ ap (λ (t : List Step). steps_of far.frames ++ t) more ∙ sym (append_assoc (steps_of far.frames) (steps_of (frame ∷ [])) rest)

@@ -11,6 +11,8 @@ mod events;
 mod fault;
 mod lane;
 mod line;
+mod literals;
+mod names;
 mod packed;
 mod run;
 mod script;

@@ -1,10 +1,12 @@
 //! The line of a step: its text and the machine's reply or refusal.
 ghost use Rattle.std.specs.Prelude.{◌≡◌, ◌++◌, codes, OnOk};
 ghost use Rattle.std.specs.Fmt.{decimal};
+ghost use Rattle.snoop_rules.specs.Names.{payload_name};
 ghost use Rattle.snoop_model.specs.declared.replies.Reply.TheVariants.{Came};
 ghost use Rattle.snoop_model.specs.Texts.{performed_text, refusal_text, reply_text, sender_text};
 ghost use Rattle.snoop_engine.specs.Line.{line_text, outcome_text};
 
+use crate::literals;
 use snoop_history::Did;
 use snoop_machine::{Refused, Reply};
 use snoop_rules::Payload;
@@ -19,20 +21,12 @@ pub(crate) fn push_numbered(out: &mut Vec<u8>, text: &str, number: u64) -> Resul
     push_decimal(out, number)
 }
 
-// Appends two texts.
-fn push_both(out: &mut Vec<u8>, first: &str, second: &str) -> Result<(), NoMemory>
-    ensures ok { OnOk result (out.new.items ≡ out.old.items ++ (first.now ++ second.now)) }
-{
-    push_text(out, first)?;
-    push_text(out, second)
-}
-
-fn push_sender(out: &mut Vec<u8>, from: Option<u32>) -> Result<(), NoMemory>
-    ensures ok { OnOk result (out.new.items ≡ out.old.items ++ sender_text from) }
+fn push_response(out: &mut Vec<u8>, payload: Payload, from: Option<u32>) -> Result<(), NoMemory>
+    ensures ok { OnOk result (out.new.items ≡ out.old.items ++ (payload_name payload ++ sender_text from)) }
 {
     match from {
-        None => push_text(out, " from memory"),
-        Some(core) => push_numbered(out, " from core ", core as u64),
+        None => push_text(out, literals::from_memory(payload)),
+        Some(core) => push_numbered(out, literals::from_core(payload), core as u64),
     }
 }
 
@@ -54,32 +48,33 @@ fn push_came(
 ) -> Result<(), NoMemory>
     ensures ok { OnOk result (out.new.items ≡ out.old.items ++ reply_text (Came payload from did)) }
 {
-    push_text(out, payload.name())?;
-    push_sender(out, from)?;
+    push_response(out, payload, from)?;
     push_performed(out, did)
 }
 
+#[inline(always)]
 fn push_reply(out: &mut Vec<u8>, reply: Reply) -> Result<(), NoMemory>
     ensures ok { OnOk result (out.new.items ≡ out.old.items ++ reply_text reply) }
 {
     match reply {
         Reply::Hit(value) => push_numbered(out, "hit ", value),
         Reply::StoreHit => push_text(out, "store hit"),
-        Reply::Issued(request) => push_both(out, "issued ", request.name()),
+        Reply::Issued(request) => push_text(out, literals::issued(request)),
         Reply::Gone => push_text(out, "gone"),
         Reply::Absent => push_text(out, "absent"),
-        Reply::Ordered(request) => push_both(out, "ordered ", request.name()),
+        Reply::Ordered(request) => push_text(out, literals::ordered(request)),
         Reply::Came { payload, from, did } => push_came(out, payload, from, did),
     }
 }
 
+#[inline(always)]
 fn push_refusal(out: &mut Vec<u8>, cause: Refused) -> Result<(), NoMemory>
     ensures ok { OnOk result (out.new.items ≡ out.old.items ++ (codes "refused " ++ refusal_text cause)) }
 {
     match cause {
         Refused::NoCore => push_text(out, "refused NoCore"),
         Refused::NoBlock => push_text(out, "refused NoBlock"),
-        Refused::Stalled(state) => push_both(out, "refused Stalled ", state.name()),
+        Refused::Stalled(state) => push_text(out, literals::stalled(state)),
         Refused::NothingWaiting => push_text(out, "refused NothingWaiting"),
         Refused::BusTaken(block) => push_numbered(out, "refused BusTaken ", block as u64),
         Refused::NoTransaction => push_text(out, "refused NoTransaction"),
@@ -88,6 +83,7 @@ fn push_refusal(out: &mut Vec<u8>, cause: Refused) -> Result<(), NoMemory>
 }
 
 /// Appends what the machine answered, as a line of a step says it. After `NoMemory` nothing is said of what stands there.
+#[inline(always)]
 pub fn push_outcome(out: &mut Vec<u8>, outcome: Result<Reply, Refused>) -> Result<(), NoMemory>
     ensures ok { OnOk result (out.new.items ≡ out.old.items ++ outcome_text outcome) }
 {
@@ -98,6 +94,7 @@ pub fn push_outcome(out: &mut Vec<u8>, outcome: Result<Reply, Refused>) -> Resul
 }
 
 /// Appends the line of a step and what the machine answered.
+#[inline(always)]
 pub(crate) fn push_line(
     out: &mut Vec<u8>,
     shape: Shape,
@@ -107,7 +104,8 @@ pub(crate) fn push_line(
     ensures ok { OnOk result (out.new.items ≡ out.old.items ++ line_text shape step outcome) }
 {
     push_step(out, shape, step)?;
-    push_text(out, ": ")?;
+    push_byte(out, b':')?;
+    push_byte(out, b' ')?;
     push_outcome(out, outcome)?;
     push_byte(out, b'\n')
 }

@@ -11,6 +11,9 @@ pub struct Seen<'a> {
     pub number: u64,
     /// The step itself.
     pub step: Step,
+    /// The block that the step is of: that of an Ask or a Respond, at an Order that of the core's oldest request; `None` where
+    /// none waits.
+    pub block: Option<u32>,
     /// What the machine answered.
     pub outcome: Result<Reply, Refused>,
     /// The rows of the tables that the controllers take at the step, or what a refusal names.

@@ -11,7 +11,7 @@ use crate::fault::SimFault;
 use crate::packed::StepQueue;
 use crate::script::Script;
 use crate::seen::Seen;
-use crate::taken::take_step;
+use crate::taken::{block_of, take_step};
 use crate::view::View;
 use snoop_machine::Machine;
 use snoop_machine::laws::runs_go_on;
@@ -92,10 +92,12 @@ fn show<W: Sink, S: Script, V: View>(
     while let Some(step) = script.take_first() {
         let number = (count - script.left()) as u64;
         lines.clear();
+        let block = block_of(&machine, step);
         let outcome = take_step(&mut lines, &mut machine, step)?;
         let seen = Seen {
             number,
             step,
+            block,
             outcome,
             lines: &lines,
         };

@@ -6,11 +6,12 @@ ghost use Rattle.snoop_trace.specs.Text.{BlamesReader};
 ghost use Rattle.snoop_trace.specs.declared.fault.TextFault.{TextFault};
 ghost use Rattle.snoop_trace.specs.declared.fault.TextFault.TheVariants as text_fault;
 ghost use Rattle.snoop_engine.specs.SimulatedView.{SimulatesView};
-ghost use Rattle.snoop_engine.specs.States.{frame_text, header_text, states_text, step_fields, taken_text};
+ghost use Rattle.snoop_engine.specs.States.{frame_text, header_text, states_text, taken_text};
 
 use crate::fault::SimFault;
 use crate::seen::Seen;
 use crate::show::simulate_view;
+use crate::taken::Taken;
 use crate::taken_text::{push_step_fields, push_taken};
 use crate::view::View;
 use snoop_machine::Machine;
@@ -40,13 +41,18 @@ pub fn simulate_states<R: Source, W: Sink>(
     ensures read_blamed { BlamesReader (R.failed reader.old) (R.failed reader.new) (result ≡ Err (SimFault.Text text_fault.Read)) }
     ensures blamed { BlamesWriter (W.failed writer.old) (W.failed writer.new) (result ≡ Err SimFault.Write) }
 {
-    let mut view = States;
+    let mut view = States {
+        fields: Vec::new(alloc),
+    };
     simulate_view(alloc, reader, writer, protocol, shape, &mut view)
 }
 
 /// The view of a run as its states: the names of the fields, and then the lines of each step.
-#[derive(Clone, Copy, Debug)]
-struct States;
+#[derive(Debug, Drop)]
+struct States {
+    // The fields of the step itself, which stand in each of its lines.
+    fields: Vec<u8>,
+}
 
 impl View for States {
     ghost has_seen = { λ first protocol shape frames now. ⊤ };
@@ -70,7 +76,16 @@ impl View for States {
         machine: &Machine,
         seen: Seen<'_>,
     ) -> Result<(), NoMemory> {
-        push_lines(out, machine, seen)
+        self.fields.clear();
+        let shape = machine.shape();
+        push_step_fields(
+            &mut self.fields,
+            shape,
+            seen.number,
+            seen.step,
+            seen.outcome,
+        )?;
+        push_lines(out, machine, &self.fields, seen.lines)
     }
 
     fn end(&mut self, _: &mut Vec<u8>, _: &Machine) -> Result<(), NoMemory> {
@@ -78,13 +93,17 @@ impl View for States {
     }
 }
 
-/// Appends the lines of a step, as the machine is after it.
-fn push_lines(out: &mut Vec<u8>, machine: &Machine, seen: Seen<'_>) -> Result<(), NoMemory>
-    ensures { OnOk result (out.new.items ≡ out.old.items ++ flat_map (λ taken. step_fields machine.now.situation.shape seen.entry.number seen.entry.step seen.entry.outcome ++ taken_text machine.now.situation taken) seen.entry.lines.now) }
+/// Appends the lines of a step, each with these fields before its own, as the machine is after the step.
+fn push_lines(
+    out: &mut Vec<u8>,
+    machine: &Machine,
+    fields: &[u8],
+    lines: &[Taken],
+) -> Result<(), NoMemory>
+    ensures { OnOk result (out.new.items ≡ out.old.items ++ flat_map (λ taken. fields.now ++ taken_text machine.now.situation taken) lines.now) }
 {
-    let shape = machine.shape();
-    for taken in seen.lines {
-        push_step_fields(out, shape, seen.number, seen.step, seen.outcome)?;
+    for taken in lines {
+        out.extend_from_slice(fields).map_err(|_| NoMemory)?;
         push_taken(out, machine, *taken)?;
     }
     Ok(())

@@ -1,7 +1,10 @@
 //! Which rows of the tables the controllers take at a step.
-ghost use Rattle.std.specs.Prelude.{◌≡◌, ◌++◌, ◌∷◌, [], IfOk, OnOk, Option, Some, None};
+ghost use Rattle.std.specs.Prelude.{◌≡◌, ◌++◌, ◌∷◌, [], true, IfOk, OnOk, Option, Some, None};
 ghost use Rattle.std.specs.List.{flat_map, range_with_len};
+ghost use Rattle.snoop_model.specs.Moves.Refuses.{Refuses};
 ghost use Rattle.snoop_model.specs.Runs.Run.{GoesFirst};
+ghost use Rattle.snoop_model.specs.declared.replies.Refused.{Refused as Cause};
+ghost use Rattle.snoop_engine.specs.Views.{block_of};
 ghost use Rattle.snoop_engine.specs.Taken.{lines_of, memory_at, of_arrival, of_arrival_at_memory, of_ask, of_core, of_holder, of_memory, of_request, of_requestor, of_respond, refused_by, state_at, taken_by, of_waiting_memory, unless_i};
 
 use crate::events::{
@@ -321,6 +324,22 @@ pub(crate) fn add_refused(
     }
 }
 
+/// Whether the step is an Order whose block has an open transaction: such a step is refused, and takes no row.
+fn is_bus_taken(machine: &Machine, step: Step) -> bool
+    ensures { result ≡ true → (cause : Cause) × Refuses machine.now.situation step cause }
+{
+    let Step::Order { core } = step else {
+        return false;
+    };
+    if core >= machine.shape().cores() {
+        return false;
+    }
+    match machine.head(core) {
+        None => false,
+        Some((_, block)) => machine.requestor(block).is_some(),
+    }
+}
+
 /// Takes one step, and adds what there is to say of it to the lines, which are empty.
 pub(crate) fn take_step(
     lines: &mut Vec<Taken>,
@@ -331,7 +350,9 @@ pub(crate) fn take_step(
     ensures goes { IfOk result (λ outcome. GoesFirst machine.old.situation step outcome machine.new.situation) }
     ensures lines { IfOk result (λ outcome. lines.new.items ≡ lines_of machine.old.situation step outcome) }
 {
-    add_taken(lines, machine, step)?;
+    if !is_bus_taken(machine, step) {
+        add_taken(lines, machine, step)?;
+    }
     let outcome = machine.step(step);
     match outcome {
         Ok(_) => {}
@@ -342,4 +363,24 @@ pub(crate) fn take_step(
         }
     }
     Ok(outcome)
+}
+
+/// The block that a step is of: that of an Ask or a Respond, at an Order that of the core's oldest request; `None` where
+/// none waits.
+pub(crate) fn block_of(machine: &Machine, step: Step) -> Option<u32>
+    ensures { result ≡ block_of machine.now.situation step }
+{
+    match step {
+        Step::Ask {
+            core: _,
+            block,
+            word: _,
+            op: _,
+        } => Some(block),
+        Step::Order { core } => match machine.head(core) {
+            None => None,
+            Some((_, block)) => Some(block),
+        },
+        Step::Respond { block } => Some(block),
+    }
 }

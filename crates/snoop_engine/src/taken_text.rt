@@ -6,13 +6,14 @@ ghost use Rattle.snoop_rules.specs.Names.{event_name, memory_event_name, memory_
 ghost use Rattle.snoop_engine.specs.States.{core_field, done_text, kept_at, kept_text, memory_done_text, memory_met_text, memory_now_text, memory_text, memory_value_at, met_text, now_text, number_field, place_text, reply_field, step_fields, taken_text, value_text};
 
 use crate::line::{push_numbered, push_outcome};
+use crate::names::{
+    event_name, memory_event_name, memory_state_name, push_action, push_memory_action,
+};
 use crate::taken::{Taken, memory_at, state_at};
 use snoop_machine::{Machine, Refused, Reply};
 use snoop_rules::{CacheEvent, CacheState, MemEvent, MemState, Protocol, cache_cell, mem_cell};
 use snoop_trace::streams::{push_byte, push_decimal, push_step, push_text};
 use snoop_trace::{NoMemory, Shape, Step};
-use std::fmt::Display;
-use std::io::Write;
 
 // The value of a word that the core keeps, where all of them are there.
 fn kept_at(machine: &Machine, core: u32, block: u32, word: u32) -> Option<u64>
@@ -26,13 +27,6 @@ fn memory_value_at(machine: &Machine, block: u32, word: u32) -> Option<u64>
     ensures { result ≡ memory_value_at machine.now.situation block word }
 {
     machine.mem_value(block, word)
-}
-
-// Appends a word of the protocols, whatever it is.
-fn push_word<D: Display + Copy>(out: &mut Vec<u8>, word: D) -> Result<(), NoMemory>
-    ensures { (text : List ℕ) → D.output word ≡ Some text → OnOk result (out.new.items ≡ out.old.items ++ text) }
-{
-    write!(out, "{word}").map_err(|_| NoMemory)
 }
 
 // Appends one value among others, a space before it unless it is the first.
@@ -78,7 +72,7 @@ fn push_event(out: &mut Vec<u8>, event: Option<CacheEvent>) -> Result<(), NoMemo
 {
     match event {
         None => Ok(()),
-        Some(event) => push_word(out, event),
+        Some(event) => push_text(out, event_name(event)),
     }
 }
 
@@ -95,7 +89,7 @@ fn push_done(
     };
     match cache_cell(protocol, before, event) {
         None => Ok(()),
-        Some(cell) => push_word(out, cell.action),
+        Some(cell) => push_action(out, cell.action),
     }
 }
 
@@ -109,7 +103,7 @@ fn push_memory_done(
 {
     match mem_cell(protocol, before, event) {
         None => Ok(()),
-        Some(cell) => push_word(out, cell.action),
+        Some(cell) => push_memory_action(out, cell.action),
     }
 }
 
@@ -129,12 +123,6 @@ fn push_met(
     push_byte(out, b',')
 }
 
-fn push_memory_event(out: &mut Vec<u8>, event: MemEvent) -> Result<(), NoMemory>
-    ensures { OnOk result (out.new.items ≡ out.old.items ++ memory_event_name event) }
-{
-    push_word(out, event)
-}
-
 fn push_memory_met(
     out: &mut Vec<u8>,
     protocol: Protocol,
@@ -143,9 +131,9 @@ fn push_memory_met(
 ) -> Result<(), NoMemory>
     ensures { OnOk result (out.new.items ≡ out.old.items ++ memory_met_text protocol event before) }
 {
-    push_memory_event(out, event)?;
+    push_text(out, memory_event_name(event))?;
     push_byte(out, b',')?;
-    push_memory_state(out, Some(before))?;
+    push_text(out, memory_state_name(before))?;
     push_byte(out, b',')?;
     push_memory_done(out, protocol, before, event)?;
     push_byte(out, b',')
@@ -165,7 +153,7 @@ fn push_memory_state(out: &mut Vec<u8>, state: Option<MemState>) -> Result<(), N
 {
     match state {
         None => Ok(()),
-        Some(state) => push_word(out, state),
+        Some(state) => push_text(out, memory_state_name(state)),
     }
 }
 

@@ -1,10 +1,10 @@
 -- Each record of a text has its line.
-use Rattle.std.proofs.Common.{◌≡◌, ℕ, ◌+◌, ◌<◌, ◌==◌, ◌++◌, List, [], ◌∷◌, length, Option, Some, None, true, false, refl, sym, ap, ◌∙◌, arith, inl, inr}
+use Rattle.std.proofs.Common.{◌≡◌, ℕ, ◌+◌, ◌<◌, ◌==◌, List, [], ◌∷◌, length, Option, Some, None, true, false, refl, sym, ap, ◌∙◌, arith, inl, inr}
 use Rattle.std.specs.Prelude.{zero, suc, Bool, slice_get, if◌then◌else◌}
 use Rattle.std.proofs.lemmas.Bool.{cases_Bool, false≢true}
 use Rattle.std.proofs.lemmas.Bool.Decides.{nat_tests}
-use Rattle.csv.specs.Machine.{Read, after_end, ends_at_end, ends_with, field_after, fields_after, in_field, is_end, next_record, start_field, step}
-use Rattle.csv.specs.Reading.{default_config, records, records_from, records_next, strip_bom}
+use Rattle.csv.specs.Machine.{Read, after_end, ends_at_end, ends_with, field_after, fields_after, in_field, is_end, next_record, step}
+use Rattle.csv.specs.Reading.{default_config, records_from, records_next, strip_bom}
 use Rattle.csv.specs.declared.parser.Action.{Action}
 use Rattle.csv.specs.declared.parser.Action.TheVariants as act
 use Rattle.csv.specs.declared.parser.State.{State}
@@ -12,7 +12,7 @@ use Rattle.csv.specs.declared.parser.State.TheVariants as st
 use Rattle.csv.specs.declared.parser.Terminator.TheVariants as term
 use Rattle.snoop_trace.proofs.CsvLemmas.{record-shorter}
 use Rattle.snoop_trace.specs.Text.{records_of}
-use Rattle.snoop_lint.specs.Lines.{begins_record, ends_line, is_between, lines_from, record_lines}
+use Rattle.snoop_lint.specs.Lines.{ends_line, is_between, lines_from, record_lines}
 
 -- a state within a record
 abbrev within : State → Bool

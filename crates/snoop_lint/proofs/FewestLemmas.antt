@@ -1,5 +1,5 @@
 -- The fewest cores and blocks with which a text is taken that has no other faults.
-use Rattle.std.proofs.Common.{◌≡◌, ℕ, ◌+◌, ◌<◌, ◌≤◌, ◌==◌, ◌++◌, List, [], ◌∷◌, Option, Some, None, true, false, refl, sym, ap, ◌∙◌, arith, inl, inr}
+use Rattle.std.proofs.Common.{◌≡◌, ℕ, ◌+◌, ◌<◌, ◌≤◌, ◌==◌, ◌++◌, List, [], ◌∷◌, Option, Some, None, true, false, refl, sym, ◌∙◌, arith, inl, inr}
 use Rattle.std.specs.Prelude.{◌&&◌, ◌||◌, not, Bool, fold, max, nat_lt, option_map, option_to_list, ⊤}
 use Rattle.std.specs.List.{list_any}
 use Rattle.std.proofs.lemmas.Bool.{false≢true}
@@ -14,9 +14,9 @@ use Rattle.snoop_lint.specs.declared.form.Form.TheVariants.{Steps, Rows}
 use Rattle.snoop_lint.specs.declared.tally.Tally.{Tally}
 use Rattle.snoop_lint.specs.Fewest.{AreFewest, resized}
 use Rattle.snoop_lint.specs.Fields.{core_named}
-use Rattle.snoop_lint.specs.Findings.{Finding, fault_at, finding, findings, findings_from, first_fault, heads, refusal}
+use Rattle.snoop_lint.specs.Findings.{Finding, fault_at, findings, findings_from, first_fault, heads}
 use Rattle.snoop_lint.specs.Summary.{is_mendable}
-use Rattle.snoop_lint.specs.Tallies.{block_named, greatest, has_heading, is_limit, tally_of}
+use Rattle.snoop_lint.specs.Tallies.{block_named, has_heading, is_limit, tally_of}
 use Rattle.snoop_lint.proofs.BoundLemmas.{Bound, Fits, row_bound, step_bound}
 use Rattle.snoop_lint.proofs.FindingLemmas.{first_is_refusal}
 

@@ -5,7 +5,7 @@ use Rattle.std.specs.Result.{result_err}
 use Rattle.snoop_trace.specs.Extent.{Extent}
 use Rattle.snoop_trace.specs.Faults.{row_fault, step_fault}
 use Rattle.snoop_trace.specs.Heading.{is_heading}
-use Rattle.snoop_trace.specs.Text.{records_of, rows_of, steps_of}
+use Rattle.snoop_trace.specs.Text.{rows_of, steps_of}
 use Rattle.snoop_trace.specs.declared.fault.TextFault.{TextFault}
 use Rattle.snoop_trace.specs.declared.protocol.Protocol.{Protocol}
 use Rattle.snoop_lint.specs.declared.form.Form.{Form}

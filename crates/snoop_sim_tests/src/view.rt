@@ -48,7 +48,14 @@ fn the_answers_to_a_text(rt: HostRuntime) -> Result<(), Fail> {
     let shape = Shape::new(2, 4, 64)?;
     let mut shown = Vec::new(rt.alloc());
     let mut reader = b"L,0,64\nO,0\nR,64\n".as_slice();
-    simulate_view(rt.alloc(), &mut reader, &mut shown, Protocol::Msi, shape, &mut Answers)?;
+    simulate_view(
+        rt.alloc(),
+        &mut reader,
+        &mut shown,
+        Protocol::Msi,
+        shape,
+        &mut Answers,
+    )?;
     assert!(rt; shown.as_slice() == ANSWERS.as_bytes());
     Ok(())
 }
@@ -67,7 +74,14 @@ fn the_answers_to_a_list_of_steps(rt: HostRuntime) -> Result<(), Fail> {
         Step::Respond { block: 1 },
     ];
     let mut shown = Vec::new(rt.alloc());
-    show_steps(rt.alloc(), &mut shown, Protocol::Msi, shape, &steps, &mut Answers)?;
+    show_steps(
+        rt.alloc(),
+        &mut shown,
+        Protocol::Msi,
+        shape,
+        &steps,
+        &mut Answers,
+    )?;
     assert!(rt; shown.as_slice() == ANSWERS.as_bytes());
     Ok(())
 }

@@ -27,13 +27,22 @@ pub fn push_byte(out: &mut Vec<u8>, byte: u8) -> Result<(), NoMemory>
     }
 }
 
+// Appends a number in decimal digits, of which there may be many.
+#[inline(never)]
+fn push_digits(out: &mut Vec<u8>, number: u64) -> Result<(), NoMemory>
+    ensures ok { OnOk result (out.new.items ≡ out.old.items ++ decimal number) }
+{
+    let mut digits = Buffer::new();
+    push_text(out, digits.format(number))
+}
+
 /// Appends a number in decimal digits. After `NoMemory` nothing is said of what stands there.
+#[inline(always)]
 pub fn push_decimal(out: &mut Vec<u8>, number: u64) -> Result<(), NoMemory>
     ensures ok { OnOk result (out.new.items ≡ out.old.items ++ decimal number) }
 {
     if number < 10 {
         return push_byte(out, b'0' + number as u8);
     }
-    let mut digits = Buffer::new();
-    push_text(out, digits.format(number))
+    push_digits(out, number)
 }

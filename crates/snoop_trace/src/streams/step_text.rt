@@ -32,6 +32,7 @@ pub(crate) fn push_field(out: &mut Vec<u8>, number: u64) -> Result<(), NoMemory>
 }
 
 // Appends a letter and one field.
+#[inline(always)]
 fn push_one(out: &mut Vec<u8>, letter: u8, number: u64) -> Result<(), NoMemory>
     ensures ok { OnOk result (out.new.items ≡ out.old.items ++ (letter ∷ [] ++ codes "," ++ decimal number)) }
 {
@@ -40,6 +41,7 @@ fn push_one(out: &mut Vec<u8>, letter: u8, number: u64) -> Result<(), NoMemory>
 }
 
 // Appends a letter and two fields.
+#[inline(always)]
 fn push_two(out: &mut Vec<u8>, letter: u8, core: u32, address: u64) -> Result<(), NoMemory>
     ensures ok { OnOk result (out.new.items ≡ out.old.items ++ (letter ∷ [] ++ codes "," ++ decimal core ++ codes "," ++ decimal address)) }
 {
@@ -48,6 +50,7 @@ fn push_two(out: &mut Vec<u8>, letter: u8, core: u32, address: u64) -> Result<()
 }
 
 // Appends the record of what a core asks for.
+#[inline(always)]
 fn push_ask(
     out: &mut Vec<u8>,
     shape: Shape,
@@ -72,6 +75,7 @@ fn push_ask(
 ///
 /// It is the step's record, with decimal numbers, and the first address of the word, or of the block, in the block's
 /// place. After `NoMemory` nothing is said of what stands there.
+#[inline(always)]
 pub fn push_step(out: &mut Vec<u8>, shape: Shape, step: Step) -> Result<(), NoMemory>
     ensures ok { OnOk result (out.new.items ≡ out.old.items ++ step_text shape step) }
 {

@@ -40,7 +40,7 @@ loop-step-preserved g c =
     let far =
     showing_more c.args.protocol c.args.shape _ (g.V.View.shows c.args.view.now) (λ p s frames. g.V.View.has_seen c.args.view.now p s frames c.loop-step.view) _ _ _ _ _ _
     c.loop-step.invariant.0 (λ p s frames. g.V.View.has_seen c.args.view.now p s frames c.see.new.self) _ _ _ _ more counted c.in_ok-outcome.ensures.goes
-    (c.deref.ensures.value ∙ c.in_ok-outcome.ensures.lines) (c.in_ok-see.ensures c.args.view.now) in (
+    (c.deref.ensures.value ∙ c.in_ok-outcome.ensures.lines) c.block_of-block.ensures (c.in_ok-see.ensures c.args.view.now) in (
       showing_spilled c.args.protocol c.args.shape _ (g.V.View.shows c.args.view.now) (λ p s frames. g.V.View.has_seen c.args.view.now p s frames c.see.new.self) _ _ _ _ _ _ far _ _ c.in_ok-spill.ensures.ok,
       λ none. (c.in_ok-spill.ensures.blamed (c.loop-step.invariant.1 none)).1 (λ failed. cc),
     )
@@ -54,7 +54,7 @@ returns-in_err-spill-clause-front g c =
     let far =
     showing_more c.args.protocol c.args.shape _ (g.V.View.shows c.args.view.now) (λ p s frames. g.V.View.has_seen c.args.view.now p s frames c.loop-step.view) _ _ _ _ _ _
     c.loop-step.invariant.0 (λ p s frames. g.V.View.has_seen c.args.view.now p s frames c.see.new.self) _ _ _ _ more counted c.in_ok-outcome.ensures.goes
-    (c.deref.ensures.value ∙ c.in_ok-outcome.ensures.lines) (c.in_ok-see.ensures c.args.view.now) in
+    (c.deref.ensures.value ∙ c.in_ok-outcome.ensures.lines) c.block_of-block.ensures (c.in_ok-see.ensures c.args.view.now) in
     on_err c.from_residual-in_err-spill.result _
     (showing_cut c.args.protocol c.args.shape _ (g.V.View.shows c.args.view.now) (λ p s frames. g.V.View.has_seen c.args.view.now p s frames c.see.new.self) _ _ _ _ _ _ far c.runs_go_on.ensures _ _ c.in_err-spill.ensures.front)
 

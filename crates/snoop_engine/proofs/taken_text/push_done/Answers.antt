@@ -1,4 +1,3 @@
-use Rattle.std.proofs.Common.{refl}
 use Rattle.snoop_engine.proofs.TextLemmas.{done_by_row, nothing_done}
 use Rattle.snoop_engine.proofs.taken_text.push_done.Goals as goal
 
@@ -7,4 +6,4 @@ returns-in-None c = rw c.in-Some.is (nothing_done c.args.protocol c.args.before 
 
 pub returns-in-Some-cache_cell : goal.returns-in-Some-cache_cell
 returns-in-Some-cache_cell c =
-    rw (c.in-Some.is, done_by_row c.args.protocol c.args.before c.in-Some.event c.in-Some-cache_cell.cell c.in-Some-cache_cell.ensures.row) (c.push_word.ensures _ refl)
+    rw (c.in-Some.is, done_by_row c.args.protocol c.args.before c.in-Some.event c.in-Some-cache_cell.cell c.in-Some-cache_cell.ensures.row) (c.push_action.ensures)

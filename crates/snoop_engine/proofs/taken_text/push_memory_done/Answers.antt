@@ -1,4 +1,3 @@
-use Rattle.std.proofs.Common.{refl}
 use Rattle.snoop_engine.proofs.TextLemmas.{memory_done_by_row, nothing_done_by_memory}
 use Rattle.snoop_engine.proofs.taken_text.push_memory_done.Goals as goal
 
@@ -7,4 +6,4 @@ returns-in-None c = nothing_done_by_memory c.args.protocol c.args.before c.args.
 
 pub returns-in-Some : goal.returns-in-Some
 returns-in-Some c =
-    rw (memory_done_by_row c.args.protocol c.args.before c.args.event c.in-Some.cell c.in-Some.ensures.row) (c.push_word.ensures _ refl)
+    rw (memory_done_by_row c.args.protocol c.args.before c.args.event c.in-Some.cell c.in-Some.ensures.row) (c.push_memory_action.ensures)

@@ -1,0 +1,13 @@
+use Rattle.std.proofs.Common.{◌≡◌, ◌<◌, ap, ◌∙◌, arith}
+use Rattle.snoop_trace.specs.Extent.{Extent}
+use Rattle.snoop_model.specs.declared.replies.Refused.TheVariants.{BusTaken}
+use Rattle.snoop_model.specs.Pictures.Situation.{picture_of}
+use Rattle.snoop_engine.proofs.Inside.{is_opened}
+use Rattle.snoop_engine.proofs.taken.is_bus_taken.Goals as goal
+
+pub returns-in-Some : goal.returns-in-Some
+returns-in-Some c =
+    let s = c.args.machine.now.situation in
+    let cores : c.cores.result ≡ s.shape.cores = c.cores.ensures.value ∙ ap (λ (x : Extent). x.cores) c.shape.ensures in
+    let inside : c.in-Order.core < s.shape.cores = omega arith in
+    λ there. rw c.in-Order.is (BusTaken c.in-Some.block, (inside, c.in-Some.ensures.some.first, is_opened (picture_of s c.in-Some.block).transaction _ _ c.is_some.ensures c.requestor.ensures there))

@@ -1,0 +1,176 @@
+-- The tables of all blocks, when one frame more is seen.
+use Rattle.std.proofs.Common.{◌≡◌, ℕ, ◌+◌, ◌<◌, ◌≤◌, Bool, true, false, cond, Option, Some, None, List, [], ◌∷◌, ◌++◌, length, get_or, length-set, inl, inr, refl, sym, ap, subst, ◌∙◌, arith}
+use Rattle.std.specs.Prelude.{◌==◌, ◌&&◌, nat_le, slice_set}
+use Rattle.std.specs.List.{HoldsAt}
+use Rattle.std.specs.Option.{option_map_or}
+use Rattle.std.proofs.lemmas.Bool.{and_from, and_left, and_parts, and_right, both_ways, cases_Bool, cases_eq, cases_lt, cond-true, eq-eqb, eqb-true, leb-true, ne_eqb}
+use Rattle.snoop_trace.specs.Extent.{Extent}
+use Rattle.snoop_trace.specs.declared.protocol.Protocol.{Protocol}
+use Rattle.snoop_model.specs.Pictures.Situation.{Situation}
+use Rattle.snoop_engine.specs.Frames.{Frame}
+use Rattle.snoop_engine.specs.Line.{line_text}
+use Rattle.snoop_engine.specs.Views.{block_of}
+use Rattle.snoop_states.specs.declared.column.Column.{Column}
+use Rattle.snoop_states.specs.declared.widths.Widths.{Widths}
+use Rattle.snoop_states.specs.declared.table.Table.{Table}
+use Rattle.snoop_states.specs.Chosen.{Chosen, is_chosen, is_within, shown_block}
+use Rattle.snoop_states.specs.Seen.{AreTables, HalfBegun, HasRows, IsEmpty, IsGrownAt, IsStartedAt, IsTable}
+use Rattle.snoop_states.specs.Tables.{is_of}
+use Rattle.snoop_states.proofs.HoldsLemmas.{held_at, held_beside}
+use Rattle.snoop_states.proofs.TableLemmas.{table_grows, table_starts, table_stays, table_waits}
+
+-- what follows of the table of each block
+pub are_mapped : (shape : Extent) (choice : Chosen) (P Q : ℕ → Table → Type 0) (tables : List Table)
+    → ((block : ℕ) (table : Table) → P block table → Q block table) → AreTables shape choice P tables → AreTables shape choice Q tables
+are_mapped shape choice P Q tables f are = record { count = are.count; each = λ block h chosen d. f block (get_or tables block d) (are.each block h chosen d) }
+
+-- a step that is not shown is not of a block that is, or not within the numbers
+not_shown : (choice : Chosen) (block number : ℕ) (frame : Frame) → is_chosen choice.block block ≡ true → shown_block choice (block_of frame.before frame.step) number ≡ None
+    → (is_within choice number && is_of block frame) ≡ false
+not_shown choice block number frame chosen = with_block (block_of frame.before frame.step) where
+  with_block : (of : Option ℕ) → shown_block choice of number ≡ None → (is_within choice number && option_map_or (λ b. b == block) of false) ≡ false
+  with_block None h = and_right (is_within choice number) false refl
+  with_block (Some b) h = elim (cases_Bool (b == block)) [
+    | inl same ↦
+        elim (cases_Bool (is_within choice number)) [
+          | inl within ↦
+              let e : b ≡ block = eqb-true b block same in
+              let both : (is_chosen choice.block b && is_within choice number) ≡ true = rw (e, chosen, within) refl in
+              let some : shown_block choice (Some b) number ≡ Some b = cond-true (is_chosen choice.block b && is_within choice number) (Some b) None both in
+              let never : Some b ≡ None = sym some ∙ h in
+              absurd cc
+          | inr out ↦ and_left (is_within choice number) (b == block) out
+        ]
+    | inr other ↦ and_right (is_within choice number) (b == block) other
+  ]
+
+-- a step that is shown
+pub record IsShown (choice : Chosen) (of : Option ℕ) (block number : ℕ) : Type 0 where
+  pub is : of ≡ Some block
+  pub chosen : is_chosen choice.block block ≡ true
+  pub within : is_within choice number ≡ true
+
+shown_is : (choice : Chosen) (of : Option ℕ) (block number : ℕ) → shown_block choice of number ≡ Some block → IsShown choice of block number
+shown_is choice None block number h = absurd cc
+shown_is choice (Some b) block number h = elim (cases_Bool (is_chosen choice.block b && is_within choice number)) [
+  | inl on ↦
+      let some : shown_block choice (Some b) number ≡ Some b = cond-true (is_chosen choice.block b && is_within choice number) (Some b) None on in
+      let e : b ≡ block = cc in
+      let both = and_parts (is_chosen choice.block b) (is_within choice number) on in
+      record { is = ap (λ n. Some n) e; chosen = subst (λ (n : ℕ). is_chosen choice.block n ≡ true) e both.0; within = both.1 }
+  | inr off ↦
+      let none : shown_block choice (Some b) number ≡ None = ap (λ (t : Bool). cond t (Some b) None) off in
+      absurd cc
+]
+
+module _ (widths : Widths) (choice : Chosen) (protocol : Protocol) (shape : Extent) (columns : ℕ → List Column) (frames : List Frame) (frame : Frame) (tables : List Table)
+    (so_far : AreTables shape choice (λ block. IsTable widths choice protocol shape (columns block) frames block) tables) where
+  -- before the first step that is shown the tables have no row
+  pub none_begun : choice.from ≡ 2 + length frames → AreTables shape choice (λ block. IsEmpty (columns block)) tables
+  none_begun h = are_mapped shape choice _ _ tables (λ block table is. is.early (omega arith)) so_far
+
+  -- the next step is the first one that is shown
+  pub all_begun : (new : List Table) → choice.from ≡ 2 + length frames
+      → AreTables shape choice (λ block. HasRows widths choice shape block (columns block) frame.after []) new
+      → AreTables shape choice (λ block. IsTable widths choice protocol shape (columns block) (frames ++ frame ∷ []) block) new
+  all_begun new h begun = record {
+    count = begun.count;
+    each = λ block low chosen d.
+        table_starts widths choice protocol shape block (columns block) frames frame (get_or tables block d) (so_far.each block low chosen d) (get_or new block d) h (begun.each block low chosen d);
+  }
+
+  -- the step is not shown
+  pub all_stay : (choice.from ≡ 2 + length frames → ⊥) → shown_block choice (block_of frame.before frame.step) (1 + length frames) ≡ None
+      → AreTables shape choice (λ block. IsTable widths choice protocol shape (columns block) (frames ++ frame ∷ []) block) tables
+  all_stay h none = record {
+    count = so_far.count;
+    each = λ block low chosen d.
+        let one = so_far.each block low chosen d in
+        elim (cases_lt (1 + length frames) choice.from) [
+          | inl early ↦
+              let far : 2 + length frames < choice.from = omega arith in
+              table_waits widths choice protocol shape block (columns block) frames frame (get_or tables block d) one far
+          | inr late ↦
+              table_stays widths choice protocol shape block (columns block) frames frame (get_or tables block d) one late
+              (not_shown choice block (1 + length frames) frame chosen none)
+        ];
+  }
+
+  -- the step is shown, and the tables of other blocks stay as they were
+  others_stay : (block k : ℕ) → IsShown choice (block_of frame.before frame.step) block (1 + length frames) → (k ≡ block → ⊥) → (table : Table)
+      → IsTable widths choice protocol shape (columns k) frames k table → IsTable widths choice protocol shape (columns k) (frames ++ frame ∷ []) k table
+  others_stay block k is other table so_far_k =
+      let late : choice.from ≤ 1 + length frames = leb-true choice.from (1 + length frames) (and_parts (nat_le choice.from (1 + length frames)) (nat_le (1 + length frames) choice.to) is.within).0 in
+      let off : is_of k frame ≡ false = ap (λ (of : Option ℕ). option_map_or (λ b. b == k) of false) is.is ∙ ne_eqb block k (λ e. other (sym e)) in
+      table_stays widths choice protocol shape k (columns k) frames frame table so_far_k late (and_right (is_within choice (1 + length frames)) (is_of k frame) off)
+
+  -- the block of the step is none of the shape
+  pub none_grows : (block : ℕ) → shown_block choice (block_of frame.before frame.step) (1 + length frames) ≡ Some block → shape.blocks ≤ block
+      → AreTables shape choice (λ k. IsTable widths choice protocol shape (columns k) (frames ++ frame ∷ []) k) tables
+  none_grows block some outside =
+      let is = shown_is choice (block_of frame.before frame.step) block (1 + length frames) some in
+      record {
+        count = so_far.count;
+        each = λ k low chosen d. others_stay block k is (λ e. absurd (omega arith)) (get_or tables k d) (so_far.each k low chosen d);
+      }
+
+  -- the step is shown in the table of its block
+  pub one_grows : (new : List Table) (block : ℕ) → shown_block choice (block_of frame.before frame.step) (1 + length frames) ≡ Some block → block < shape.blocks
+      → IsGrownAt widths frame.after block (1 + length frames) (line_text shape frame.step frame.outcome) tables new
+      → AreTables shape choice (λ k. IsTable widths choice protocol shape (columns k) (frames ++ frame ∷ []) k) new
+  one_grows new block some inside grown =
+      let is = shown_is choice (block_of frame.before frame.step) block (1 + length frames) some in
+      let late : choice.from ≤ 1 + length frames = leb-true choice.from (1 + length frames) (and_parts (nat_le choice.from (1 + length frames)) (nat_le (1 + length frames) choice.to) is.within).0 in
+      let on : (is_within choice (1 + length frames) && is_of block frame) ≡ true =
+      and_from (is_within choice (1 + length frames)) (is_of block frame) is.within (ap (λ (of : Option ℕ). option_map_or (λ b. b == block) of false) is.is ∙ eq-eqb block block refl) in
+      let here : block < length tables = omega (arith, so_far.count) in
+      let old = so_far.each block inside is.chosen grown.table in
+      let grows : IsTable widths choice protocol shape (columns block) (frames ++ frame ∷ []) block grown.table =
+      table_grows widths choice protocol shape block (columns block) frames frame (get_or tables block grown.table) old grown.table late on (grown.grows grown.table (columns block)) in
+      rw grown.rest (record {
+        count = length-set tables block grown.table ∙ so_far.count;
+        each = λ k low chosen. elim (cases_eq k block) [
+          | inl same ↦
+              subst (λ (j : ℕ). HoldsAt (IsTable widths choice protocol shape (columns j) (frames ++ frame ∷ []) j) (slice_set tables block grown.table) j) (sym same)
+              (held_at (IsTable widths choice protocol shape (columns block) (frames ++ frame ∷ []) block) tables block grown.table here grows)
+          | inr other ↦
+              held_beside (IsTable widths choice protocol shape (columns k) (frames ++ frame ∷ []) k) tables block k grown.table other
+              (λ d. others_stay block k is other (get_or tables k d) (so_far.each k low chosen d))
+        ];
+      })
+
+-- the tables of the first blocks are begun
+module _ (widths : Widths) (choice : Chosen) (here : Situation) (columns : ℕ → List Column) where
+  pub half_none : (tables : List Table) → AreTables here.shape choice (λ block. IsEmpty (columns block)) tables → HalfBegun widths choice here columns 0 tables
+  half_none tables are = record { count = are.count; begun = λ block low. absurd (omega arith); rest = λ block low. are.each block }
+
+  pub half_done : (n : ℕ) (tables : List Table) → here.shape.blocks ≤ n → HalfBegun widths choice here columns n tables
+      → AreTables here.shape choice (λ block. HasRows widths choice here.shape block (columns block) here []) tables
+  half_done n tables all half = record { count = half.count; each = λ block low. half.begun block (omega arith) low }
+
+  pub half_skips : (n : ℕ) (tables : List Table) → is_chosen choice.block n ≡ false → HalfBegun widths choice here columns n tables → HalfBegun widths choice here columns (n + 1) tables
+  half_skips n tables off half = record {
+    count = half.count;
+    begun = λ block low inside chosen. elim (cases_eq block n) [
+      | inl same ↦ absurd (both_ways (is_chosen choice.block n) off (subst (λ (j : ℕ). is_chosen choice.block j ≡ true) same chosen))
+      | inr other ↦ half.begun block (omega arith) inside chosen
+    ];
+    rest = λ block high. half.rest block (omega arith);
+  }
+
+  pub half_more : (n : ℕ) (tables new : List Table) → is_chosen choice.block n ≡ true → n < here.shape.blocks → HalfBegun widths choice here columns n tables
+      → IsStartedAt widths choice here n tables new → HalfBegun widths choice here columns (n + 1) new
+  half_more n tables new on low half started =
+      let in_tables : n < length tables = omega (arith, half.count) in
+      let same_rest : n ≤ n = omega arith in
+      let one : HasRows widths choice here.shape n (columns n) here [] started.table = started.starts started.table (columns n) (half.rest n same_rest low on started.table) in
+      rw started.rest (record {
+        count = length-set tables n started.table ∙ half.count;
+        begun = λ block below inside chosen. elim (cases_eq block n) [
+          | inl same ↦
+              subst (λ (j : ℕ). HoldsAt (HasRows widths choice here.shape j (columns j) here []) (slice_set tables n started.table) j) (sym same)
+              (held_at (HasRows widths choice here.shape n (columns n) here []) tables n started.table in_tables one)
+          | inr other ↦ held_beside (HasRows widths choice here.shape block (columns block) here []) tables n block started.table other (half.begun block (omega arith) inside chosen)
+        ];
+        rest = λ block high inside chosen. held_beside (IsEmpty (columns block)) tables n block started.table (λ e. absurd (omega arith)) (half.rest block (omega arith) inside chosen);
+      })

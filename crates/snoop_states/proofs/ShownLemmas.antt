@@ -1,0 +1,80 @@
+-- What one frame more adds to what is shown.
+use Rattle.std.proofs.Common.{◌≡◌, ℕ, ◌+◌, ◌-◌, ◌<◌, ◌≤◌, Bool, false, List, [], ◌∷◌, ◌++◌, map, length, length-append, refl, sym, ap, ◌∙◌, append_assoc, append-nil, arith}
+use Rattle.std.specs.Prelude.{◌&&◌, if◌then◌else◌, nat_le}
+use Rattle.std.specs.List.{filter}
+use Rattle.std.proofs.lemmas.Bool.{and_left, cond-false, lt-leb}
+use Rattle.std.proofs.lemmas.List.{take-append-le, take_all}
+use Rattle.std.proofs.lemmas.List.Elements.{filter-append}
+use Rattle.snoop_trace.specs.Extent.{Extent}
+use Rattle.snoop_trace.specs.declared.protocol.Protocol.{Protocol}
+use Rattle.snoop_model.specs.Pictures.Situation.{Situation, reset}
+use Rattle.snoop_engine.specs.Frames.{Frame}
+use Rattle.snoop_engine.specs.Line.{line_text}
+use Rattle.snoop_states.specs.declared.column.Column.{Column}
+use Rattle.snoop_states.specs.declared.widths.Widths.{Widths}
+use Rattle.snoop_states.specs.Cells.{cell_text}
+use Rattle.snoop_states.specs.Chosen.{Chosen, is_within}
+use Rattle.snoop_states.specs.Rows.{cells_text}
+use Rattle.snoop_states.specs.Tables.{Numbered, first_shown, is_of, led_to, numbered_from, rows_text, shown_of}
+
+numbered_on : (number : ℕ) (frames : List Frame) (frame : Frame)
+    → numbered_from number (frames ++ frame ∷ []) ≡ numbered_from number frames ++ (record { number = number + length frames; frame = frame }) ∷ []
+numbered_on number [] frame = let e : number ≡ number + 0 = omega arith in ap (λ (n : ℕ). (let one : Numbered = record { number = n; frame = frame } in one) ∷ []) e
+numbered_on number (f ∷ fs) frame =
+    let e : number + 1 + length fs ≡ number + length (f ∷ fs) = omega arith in
+    let first : Numbered = record { number = number; frame = f } in
+    ap (λ (l : List Numbered). first ∷ l)
+    (numbered_on (number + 1) fs frame ∙ ap (λ (n : ℕ). numbered_from (number + 1) fs ++ (let one : Numbered = record { number = n; frame = frame } in one) ∷ []) e)
+
+-- a frame more is shown, or is not
+pub shown_on : (choice : Chosen) (block : ℕ) (frames : List Frame) (frame : Frame) (number : ℕ) → number ≡ 1 + length frames
+    → shown_of choice block (frames ++ frame ∷ []) ≡ shown_of choice block frames ++ (if is_within choice number && is_of block frame then (record { number = number; frame = frame }) ∷ [] else [])
+shown_on choice block frames frame number e =
+    let test : Numbered → Bool = λ n. is_within choice n.number && is_of block n.frame in
+    let one : ℕ → Numbered = λ n. record { number = n; frame = frame } in
+    ap (filter test) (numbered_on 1 frames frame) ∙ filter-append test (numbered_from 1 frames) (one (1 + length frames) ∷ [])
+    ∙ ap (λ (n : ℕ). filter test (numbered_from 1 frames) ++ filter test (one n ∷ [])) (sym e)
+
+-- where one frame more leads
+pub led_on : (here : Situation) (frames : List Frame) (frame : Frame) → led_to here (frames ++ frame ∷ []) ≡ frame.after
+led_on here [] frame = refl
+led_on here (f ∷ fs) frame = led_on f.after fs frame
+
+-- the machine before the first step that is shown, once it is there
+pub first_stays : (choice : Chosen) (protocol : Protocol) (shape : Extent) (frames : List Frame) (frame : Frame) → choice.from ≤ 1 + length frames
+    → first_shown choice protocol shape (frames ++ frame ∷ []) ≡ first_shown choice protocol shape frames
+first_stays choice protocol shape frames frame h =
+    let short : choice.from - 1 ≤ length frames = omega arith in
+    ap (led_to (reset protocol shape)) (take-append-le (choice.from - 1) frames (frame ∷ []) short)
+
+pub first_comes : (choice : Chosen) (protocol : Protocol) (shape : Extent) (frames : List Frame) (frame : Frame) → choice.from ≡ 2 + length frames
+    → first_shown choice protocol shape (frames ++ frame ∷ []) ≡ frame.after
+first_comes choice protocol shape frames frame h =
+    let all : length (frames ++ frame ∷ []) ≤ choice.from - 1 = omega (arith, length-append frames (frame ∷ [])) in
+    ap (led_to (reset protocol shape)) (take_all (choice.from - 1) (frames ++ frame ∷ []) all) ∙ led_on (reset protocol shape) frames frame
+
+-- one row more
+pub rows_on : (widths : Widths) (shape : Extent) (block : ℕ) (columns : List Column) (above : Situation) (ns : List Numbered) (n : Numbered)
+    → rows_text widths shape block columns above (ns ++ n ∷ []) ≡ rows_text widths shape block columns above ns
+    ++ (cells_text widths columns (cell_text (led_to above (map (λ m. m.frame) ns)) block) (cell_text n.frame.after block) n.number ++ line_text shape n.frame.step n.frame.outcome)
+rows_on widths shape block columns above [] n =
+    append-nil (cells_text widths columns (cell_text above block) (cell_text n.frame.after block) n.number ++ line_text shape n.frame.step n.frame.outcome)
+rows_on widths shape block columns above (m ∷ ms) n =
+    let first : List ℕ = cells_text widths columns (cell_text above block) (cell_text m.frame.after block) m.number ++ line_text shape m.frame.step m.frame.outcome in
+    let last : List ℕ =
+    cells_text widths columns (cell_text (led_to m.frame.after (map (λ k. k.frame) ms)) block) (cell_text n.frame.after block) n.number ++ line_text shape n.frame.step n.frame.outcome in
+    ap (λ (t : List ℕ). first ++ t) (rows_on widths shape block columns m.frame.after ms n) ∙ sym (append_assoc first (rows_text widths shape block columns m.frame.after ms) last)
+
+none_from : (choice : Chosen) (block number : ℕ) (frames : List Frame) → number + length frames ≤ choice.from
+    → filter (λ (n : Numbered). is_within choice n.number && is_of block n.frame) (numbered_from number frames) ≡ []
+none_from choice block number [] h = refl
+none_from choice block number (f ∷ fs) h =
+    let low : number < choice.from = omega arith in
+    let more : number + 1 + length fs ≤ choice.from = omega arith in
+    let off : (nat_le choice.from number && nat_le number choice.to && is_of block f) ≡ false =
+    and_left (nat_le choice.from number && nat_le number choice.to) (is_of block f) (and_left (nat_le choice.from number) (nat_le number choice.to) (lt-leb choice.from number low)) in
+    cond-false (is_within choice number && is_of block f) _ _ off ∙ none_from choice block (number + 1) fs more
+
+-- nothing is shown before the first step that is
+pub none_yet : (choice : Chosen) (block : ℕ) (frames : List Frame) → 1 + length frames ≤ choice.from → shown_of choice block frames ≡ []
+none_yet choice block frames h = none_from choice block 1 frames h

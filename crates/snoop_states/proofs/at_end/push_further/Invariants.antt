@@ -1,0 +1,8 @@
+use Rattle.std.proofs.Common.{◌≡◌, ◌++◌, codes, take}
+use Rattle.std.specs.Fmt.{decimal}
+use Rattle.std.specs.List.{flat_map}
+use Rattle.snoop_states.proofs.at_end.push_further.Given as goal
+
+-- the numbers so far
+abbrev pub invariant-loop-number : goal.invariant-loop-number
+invariant-loop-number l = l.out.items ≡ l.fn.out.items ++ flat_map (λ m. codes ", " ++ l.word ++ decimal m) (take l.number-index l.numbers)

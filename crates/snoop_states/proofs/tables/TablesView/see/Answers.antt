@@ -1,0 +1,12 @@
+use Rattle.std.proofs.Common.{refl, sym, append-nil}
+use Rattle.std.proofs.lemmas.Result.{on_ok_weaker}
+use Rattle.snoop_engine.specs.Views.{frame_seen}
+use Rattle.snoop_states.specs.Views.{columns_in}
+use Rattle.snoop_states.proofs.tables.TablesView.see.Goals as goal
+
+pub returns : goal.returns
+returns c first frames before has next =
+    let s = c.args.machine.now.situation in
+    on_ok_weaker c.show_step.result
+    (λ are. (record { choice = has.choice; widths = has.widths; tables = are }, sym (append-nil c.args._out.now.items)))
+    (c.show_step.ensures s.protocol (columns_in s.shape first) frames (frame_seen before c.args.seen s) refl refl refl next.number next.block has.tables)

@@ -1,0 +1,12 @@
+pub mod Chosen
+pub mod Choice
+pub mod Widths
+pub mod Columns
+pub mod Asked
+pub mod Cells
+pub mod Rows
+pub mod Tables
+pub mod AtEnd
+pub mod Whole
+pub mod Seen
+pub mod Views

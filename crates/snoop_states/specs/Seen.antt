@@ -1,0 +1,71 @@
+-- What the tables of a run are while the run is seen.
+-- Source: this project's profile.
+use Rattle.std.specs.Prelude.{◌≡◌, ◌<◌, ◌≤◌, ℕ, ◌+◌, true, false, List, [], ◌++◌, length, map, nat_lt, slice_index_or, slice_set}
+use Rattle.std.specs.List.{HoldsAt}
+use Rattle.snoop_trace.specs.Extent.{Extent}
+use Rattle.snoop_trace.specs.declared.protocol.Protocol.{Protocol}
+use Rattle.snoop_model.specs.Pictures.Situation.{Situation}
+use Rattle.snoop_engine.specs.Frames.{Frame}
+use Rattle.snoop_states.specs.declared.column.Column.{Column}
+use Rattle.snoop_states.specs.declared.widths.Widths.{Widths}
+use Rattle.snoop_states.specs.declared.table.Cell.{Cell}
+use Rattle.snoop_states.specs.declared.table.Table.{Table}
+use Rattle.snoop_states.specs.Cells.{cell_text}
+use Rattle.snoop_states.specs.Chosen.{Chosen, is_chosen}
+use Rattle.snoop_states.specs.Rows.{cells_text}
+use Rattle.snoop_states.specs.Tables.{Numbered, first_row, first_shown, led_to, rows_text, shown_of}
+
+-- a column of a table, and the text that stands above its next row there
+abbrev pub pair : Cell → Column × List ℕ
+pair cell = (cell.column, cell.text.items)
+
+-- the cells are those of the columns, with these texts
+abbrev pub HasCells : List Column → (Column → List ℕ) → List Cell → Type 0
+HasCells columns text cells = map pair cells ≡ map (λ column. (column, text column)) columns
+
+-- the table has one row more, with these cells below others, and then this text
+pub record IsRowMore (widths : Widths) (columns : List Column) (above cell : Column → List ℕ) (number : ℕ) (line : List ℕ) (old new : Table) : Type 0 where
+  pub cells : HasCells columns cell new.cells.items
+  pub rows : new.rows.items ≡ old.rows.items ++ (cells_text widths columns above cell number ++ line)
+
+-- a table without a row
+pub record IsEmpty (columns : List Column) (table : Table) : Type 0 where
+  pub cells : HasCells columns (λ column. []) table.cells.items
+  pub rows : table.rows.items ≡ []
+  pub is_shown : table.is_shown ≡ false
+
+-- a table that has its first row and one for each of these steps
+pub record HasRows (widths : Widths) (choice : Chosen) (shape : Extent) (block : ℕ) (columns : List Column) (start : Situation) (shown : List Numbered) (table : Table) : Type 0 where
+  pub cells : HasCells columns (cell_text (led_to start (map (λ n. n.frame) shown)) block) table.cells.items
+  pub rows : table.rows.items ≡ first_row widths choice block columns start ++ rows_text widths shape block columns start shown
+  pub is_shown : table.is_shown ≡ nat_lt 0 (length shown)
+
+-- the table of a block, as far as the frames go
+pub record IsTable (widths : Widths) (choice : Chosen) (protocol : Protocol) (shape : Extent) (columns : List Column) (frames : List Frame) (block : ℕ) (table : Table) : Type 0 where
+  pub early : length frames + 1 < choice.from → IsEmpty columns table
+  pub late : choice.from ≤ length frames + 1 → HasRows widths choice shape block columns (first_shown choice protocol shape frames) (shown_of choice block frames) table
+
+-- a table for each block of the shape, and of each that is shown this holds
+pub record AreTables (shape : Extent) (choice : Chosen) (P : ℕ → Table → Type 0) (tables : List Table) : Type 0 where
+  pub count : length tables ≡ shape.blocks
+  pub each : (block : ℕ) → block < shape.blocks → is_chosen choice.block block ≡ true → HoldsAt (P block) tables block
+
+-- the table of a block has the row of a step more, and the others are as they were
+pub record IsGrownAt (widths : Widths) (here : Situation) (block number : ℕ) (line : List ℕ) (old new : List Table) : Type 0 where
+  pub table : Table
+  pub rest : new ≡ slice_set old block table
+  pub grows : (d : Table) (columns : List Column) (above : Column → List ℕ) → HasCells columns above (slice_index_or old block d).cells.items
+      → IsRowMore widths columns above (cell_text here block) number line (slice_index_or old block d) table × (table.is_shown ≡ true)
+
+-- the table of a block has its first row, and the others are as they were
+pub record IsStartedAt (widths : Widths) (choice : Chosen) (here : Situation) (block : ℕ) (old new : List Table) : Type 0 where
+  pub table : Table
+  pub rest : new ≡ slice_set old block table
+  pub starts : (d : Table) (columns : List Column) → IsEmpty columns (slice_index_or old block d) → HasRows widths choice here.shape block columns here [] table
+
+-- the tables of the first n blocks are begun, and those of the others have no row
+pub record HalfBegun (widths : Widths) (choice : Chosen) (here : Situation) (columns : ℕ → List Column) (n : ℕ) (tables : List Table) : Type 0 where
+  pub count : length tables ≡ here.shape.blocks
+  pub begun : (block : ℕ) → block < n → block < here.shape.blocks → is_chosen choice.block block ≡ true
+      → HoldsAt (HasRows widths choice here.shape block (columns block) here []) tables block
+  pub rest : (block : ℕ) → n ≤ block → block < here.shape.blocks → is_chosen choice.block block ≡ true → HoldsAt (IsEmpty (columns block)) tables block

@@ -1,0 +1,30 @@
+-- The view of a run as tables.
+-- Source: this project's profile.
+use Rattle.std.specs.Prelude.{◌≡◌, ℕ, List}
+use Rattle.snoop_trace.specs.Extent.{Extent}
+use Rattle.snoop_trace.specs.declared.protocol.Protocol.{Protocol}
+use Rattle.snoop_trace.specs.declared.step.Step.{Step}
+use Rattle.snoop_engine.specs.Frames.{Frame}
+use Rattle.snoop_states.specs.declared.column.Column.{Column}
+use Rattle.snoop_states.specs.declared.tables.Tables.{Tables}
+use Rattle.snoop_states.specs.Asked.{AreMarks, mark_at}
+use Rattle.snoop_states.specs.Chosen.{Chosen}
+use Rattle.snoop_states.specs.Columns.{columns_for, is_asker}
+use Rattle.snoop_states.specs.Seen.{AreTables, IsTable}
+use Rattle.snoop_states.specs.Widths.{widths_of}
+
+-- the view is for these steps
+pub record IsFor (shape : Extent) (wanted : Chosen) (steps : List Step) (view : Tables) : Type 0 where
+  pub choice : view.choice ≡ wanted
+  pub widths : view.widths ≡ widths_of shape steps
+  pub asked : AreMarks shape (is_asker steps) view.asked.items
+
+-- the columns of a block's table
+abbrev pub columns_in : Extent → Tables → ℕ → List Column
+columns_in shape view block = columns_for shape (mark_at view.asked.items block)
+
+-- the view that was begun has seen these frames, and is this now
+pub record HasSeen (first : Tables) (protocol : Protocol) (shape : Extent) (frames : List Frame) (now : Tables) : Type 0 where
+  pub choice : now.choice ≡ first.choice
+  pub widths : now.widths ≡ first.widths
+  pub tables : AreTables shape now.choice (λ block. IsTable now.widths now.choice protocol shape (columns_in shape first block) frames block) now.tables.items

@@ -1,0 +1,143 @@
+//! Pieces of texts, and texts that are filled up with blanks.
+ghost use Rattle.std.specs.Prelude.{◌≡◌, ◌++◌, ◌∷◌, [], if◌then◌else◌, IfOk, List, OnOk, ℕ, Some};
+ghost use Rattle.std.specs.Fmt.{decimal};
+ghost use Rattle.snoop_model.specs.Texts.{refusal_text};
+ghost use Rattle.snoop_engine.specs.Line.{line_text, outcome_text};
+ghost use Rattle.snoop_states.specs.Rows.{below, blanks, padded, to_the_right};
+
+use snoop_machine::{Refused, Reply};
+use snoop_trace::streams::{push_byte, push_decimal, push_step, push_text};
+use snoop_trace::{NoMemory, Shape, Step};
+use std::alloc::Global;
+use std::fmt::Display;
+use std::io::Write;
+
+/// Appends a text and then a number.
+pub(crate) fn push_numbered(out: &mut Vec<u8>, text: &str, number: u64) -> Result<(), NoMemory>
+    ensures { OnOk result (out.new.items ≡ out.old.items ++ (text.now ++ decimal number)) }
+{
+    push_text(out, text)?;
+    push_decimal(out, number)
+}
+
+/// Appends a word of the protocols, whatever it is.
+pub(crate) fn push_word<D: Display + Copy>(out: &mut Vec<u8>, word: D) -> Result<(), NoMemory>
+    ensures { (text : List ℕ) → D.output word ≡ Some text → OnOk result (out.new.items ≡ out.old.items ++ text) }
+{
+    write!(out, "{word}").map_err(|_| NoMemory)
+}
+
+/// Appends bytes.
+pub(crate) fn push_bytes(out: &mut Vec<u8>, text: &[u8]) -> Result<(), NoMemory>
+    ensures { OnOk result (out.new.items ≡ out.old.items ++ text.now) }
+{
+    match out.extend_from_slice(text) {
+        Ok(()) => Ok(()),
+        Err(_) => Err(NoMemory),
+    }
+}
+
+/// Appends so many blanks.
+pub(crate) fn push_blanks(out: &mut Vec<u8>, count: usize) -> Result<(), NoMemory>
+    ensures { OnOk result (out.new.items ≡ out.old.items ++ blanks count) }
+{
+    for _ in 0..count {
+        push_byte(out, b' ')?;
+    }
+    Ok(())
+}
+
+/// Appends a text, filled up with blanks to the width, and with one where it is as long.
+pub(crate) fn push_padded(out: &mut Vec<u8>, width: usize, text: &[u8]) -> Result<(), NoMemory>
+    ensures { OnOk result (out.new.items ≡ out.old.items ++ padded width text.now) }
+{
+    push_bytes(out, text)?;
+    let left = width.saturating_sub(text.len());
+    push_blanks(out, left.max(1))
+}
+
+/// Appends a text to the right of the width, and two blanks.
+pub(crate) fn push_to_the_right(
+    out: &mut Vec<u8>,
+    width: usize,
+    text: &[u8],
+) -> Result<(), NoMemory>
+    ensures { OnOk result (out.new.items ≡ out.old.items ++ to_the_right width text.now) }
+{
+    push_blanks(out, width.saturating_sub(text.len()))?;
+    push_bytes(out, text)?;
+    push_text(out, "  ")
+}
+
+/// Appends a cell below another, filled up: a dot where it is the same.
+pub(crate) fn push_below(
+    out: &mut Vec<u8>,
+    width: usize,
+    above: &[u8],
+    cell: &[u8],
+) -> Result<(), NoMemory>
+    ensures { OnOk result (out.new.items ≡ out.old.items ++ padded width (below above.now cell.now)) }
+{
+    if above == cell {
+        push_padded(out, width, b".")
+    } else {
+        push_padded(out, width, cell)
+    }
+}
+
+/// A number in decimal digits.
+pub(crate) fn decimal_text(alloc: Global, number: u64) -> Result<Vec<u8>, NoMemory>
+    ensures { IfOk result (λ text. text.items ≡ decimal number) }
+{
+    let mut text = Vec::new(alloc);
+    push_decimal(&mut text, number)?;
+    Ok(text)
+}
+
+// Appends why a step was refused.
+fn push_cause(out: &mut Vec<u8>, cause: Refused) -> Result<(), NoMemory>
+    ensures { OnOk result (out.new.items ≡ out.old.items ++ refusal_text cause) }
+{
+    push_word(out, cause)
+}
+
+// Appends what the machine answered.
+fn push_outcome(out: &mut Vec<u8>, outcome: Result<Reply, Refused>) -> Result<(), NoMemory>
+    ensures { OnOk result (out.new.items ≡ out.old.items ++ outcome_text outcome) }
+{
+    match outcome {
+        Ok(reply) => push_word(out, reply),
+        Err(cause) => {
+            push_text(out, "refused ")?;
+            push_cause(out, cause)
+        }
+    }
+}
+
+/// Appends the line of a step and what the machine answered.
+pub(crate) fn push_line(
+    out: &mut Vec<u8>,
+    shape: Shape,
+    step: Step,
+    outcome: Result<Reply, Refused>,
+) -> Result<(), NoMemory>
+    ensures { OnOk result (out.new.items ≡ out.old.items ++ line_text shape step outcome) }
+{
+    push_step(out, shape, step)?;
+    push_text(out, ": ")?;
+    push_outcome(out, outcome)?;
+    push_text(out, "\n")
+}
+
+/// Adds a number, if it is to be there.
+pub(crate) fn add_if(numbers: &mut Vec<u32>, is_there: bool, number: u32) -> Result<(), NoMemory>
+    ensures { OnOk result (numbers.new.items ≡ numbers.old.items ++ (if is_there then number ∷ [] else [])) }
+{
+    if !is_there {
+        return Ok(());
+    }
+    match numbers.push(number) {
+        Ok(()) => Ok(()),
+        Err(_) => Err(NoMemory),
+    }
+}

@@ -1,0 +1,132 @@
+//! Whole texts of states as tables, worked out by hand.
+
+use snoop_states::{Choice, ChoiceFault, simulate_states_table};
+use snoop_trace::{Protocol, Shape};
+use std::alloc::Global;
+use std::test::Fail;
+
+/// Two cores read a block, and both ask to write it.
+const RACE: &[u8] =
+    b"L,0,0\nO,0\nR,0\nL,1,0\nO,1\nR,0\nS,0,0,5\nS,1,0,6\nO,1\nO,0\nR,0\nO,0\nR,0\n";
+
+const RACE_TABLE: &str = "\
+MSI, block 0 (bytes 0 to 63)
+
+step  core 0        core 1        bus                 memory      line
+   0  I             I             free                IorS 0      at reset
+   1  IS_AD #1      .             .                   .           L,0,0: issued GetS
+   2  IS_D          .             C0 GetS: Data 0     .           O,0: ordered GetS
+   3  S 0           .             free                .           R,0: Data from memory, load 0
+   4  .             IS_AD #1      .                   .           L,1,0: issued GetS
+   5  .             IS_D          C1 GetS: Data 0     .           O,1: ordered GetS
+   6  .             S 0           free                .           R,0: Data from memory, load 0
+   7  SM_AD 0 #1    .             .                   .           S,0,0,5: issued GetM
+   8  .             SM_AD 0 #1    .                   .           S,1,0,6: issued GetM
+   9  IM_AD #1      SM_D 0        C1 GetM: Data 0     M (0)       O,1: ordered GetM
+  10  .             .             .                   .           O,0: refused BusTaken 0
+  11  .             M 6           free                .           R,0: Data from memory, store 6
+  12  IM_D          I             C0 GetM: Data 6     .           O,0: ordered GetM
+  13  M 5           .             free                .           R,0: Data from core 1, store 5
+
+at the end: nothing waits; nothing is open
+";
+
+/// The twelfth step alone.
+const CUT_TABLE: &str = "\
+MSI, block 0 (bytes 0 to 63)
+
+step  core 0        core 1        bus                 memory      line
+  11  IM_AD #1      M 6           free                M (0)       before
+  12  IM_D          I             C0 GetM: Data 6     .           O,0: ordered GetM
+
+at the end: nothing waits; nothing is open
+";
+
+/// A request that stands behind one of another block.
+const QUEUE: &[u8] = b"L,1,0\nO,1\nL,0,0\nL,0,64\nO,0\nR,0\nO,0\nO,0\nR,0\nR,64\n";
+
+/// The table of its second block.
+const QUEUE_TABLE: &str = "\
+MSI, block 1 (bytes 64 to 127)
+
+step  core 0        bus                 memory      line
+   0  I             free                IorS 0      at reset
+   4  IS_AD #2      .                   .           L,0,64: issued GetS
+   8  IS_D          C0 GetS: Data 0     .           O,0: ordered GetS
+  10  S 0           free                .           R,64: Data from memory, load 0
+
+at the end: nothing waits; nothing is open
+";
+
+/// Two words a block, a transaction that stays open and a request that stays in its queue.
+const LEFT: &[u8] = b"S,0,0,7\nO,0\nL,1,64\n";
+
+const LEFT_TABLES: &str = "\
+MESI, block 0 (bytes 0 to 63)
+
+step  core 0          bus                   memory        line
+   0  I               free                  I 0 0         at reset
+   1  IM_AD #1        .                     .             S,0,0,7: issued GetM
+   2  IM_D            C0 GetM: Data 0 0     EorM (0 0)    O,0: ordered GetM
+
+MESI, block 1 (bytes 64 to 127)
+
+step  core 1          bus                   memory        line
+   0  I               free                  I 0 0         at reset
+   3  IS_AD #1        .                     .             L,1,64: issued GetS
+
+at the end: still waiting: core 1; still open: block 0
+";
+
+/// Whether the tables of a text, with 2 cores and 4 blocks of 64 bytes, are these.
+fn writes(
+    alloc: Global,
+    text: &[u8],
+    protocol: Protocol,
+    shape: Shape,
+    choice: Choice,
+    output: &str,
+) -> Result<bool, Fail> {
+    let mut reader = text;
+    let mut written = Vec::new(alloc);
+    simulate_states_table(alloc, &mut reader, &mut written, protocol, shape, choice)?;
+    Ok(written.as_slice() == output.as_bytes())
+}
+
+/// A whole table, with dots, places and values that memory does not send.
+#[test]
+fn an_upgrade_race(rt: HostRuntime) -> Result<(), Fail> {
+    let shape = Shape::new(2, 4, 64)?;
+    let all = Choice::new(shape, None, 1, u64::MAX)?;
+    let one = Choice::new(shape, None, 12, 12)?;
+    assert!(rt; writes(rt.alloc(), RACE, Protocol::Msi, shape, all, RACE_TABLE)?);
+    assert!(rt; writes(rt.alloc(), RACE, Protocol::Msi, shape, one, CUT_TABLE)?);
+    Ok(())
+}
+
+/// One block of two, and both.
+#[test]
+fn several_blocks(rt: HostRuntime) -> Result<(), Fail> {
+    let shape = Shape::new(2, 4, 64)?;
+    let second = Choice::new(shape, Some(1), 1, 100)?;
+    assert!(rt; writes(rt.alloc(), QUEUE, Protocol::Msi, shape, second, QUEUE_TABLE)?);
+    let shape = Shape::with_words(2, 4, 64, 2)?;
+    let all = Choice::new(shape, None, 1, u64::MAX)?;
+    assert!(rt; writes(rt.alloc(), LEFT, Protocol::Mesi, shape, all, LEFT_TABLES)?);
+    Ok(())
+}
+
+/// What a choice says, and why there is none.
+#[test]
+fn choices(rt: HostRuntime) -> Result<(), Fail> {
+    let shape = Shape::new(2, 4, 64)?;
+    let choice = Choice::new(shape, Some(3), 2, 5)?;
+    assert!(rt; choice.block() == Some(3) && choice.from() == 2 && choice.to() == 5);
+    assert!(rt;
+        choice.has_block(3) && !choice.has_block(2) && choice.has_number(5) && !choice.has_number(6)
+    );
+    assert!(rt; Choice::new(shape, Some(4), 0, 5) == Err(ChoiceFault::BadBlock));
+    assert!(rt; Choice::new(shape, None, 0, 5) == Err(ChoiceFault::BadRange));
+    assert!(rt; Choice::new(shape, None, 6, 5) == Err(ChoiceFault::BadRange));
+    Ok(())
+}
