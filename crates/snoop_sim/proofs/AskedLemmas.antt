@@ -1,5 +1,5 @@
 -- What the words ask for, by what `clap` answers to them.
-use Rattle.std.proofs.Common.{◌≡◌, ◌≢◌, ◌⊎◌, ◌∙◌, ap, subst, sym, refl, inl, inr, true, List, [], Option, Some, None}
+use Rattle.std.proofs.Common.{◌≡◌, ◌≢◌, ◌⊎◌, ◌∙◌, ap, ap₂, subst, sym, refl, inl, inr, true, Bool, List, [], ◌∷◌, Option, Some, None, codes}
 use Rattle.clap.specs.Words.{App, HasKind, HasMatchesOf, IsAmong, Kinds, Row, Text, fault_of, is_simple, is_simple_and_free, kind_of, subcommand_of, subcommand_rows_of}
 use Rattle.clap.specs.declared.error.Error.{Error}
 use Rattle.clap.specs.declared.error.kind.ErrorKind.{ErrorKind}
@@ -7,58 +7,74 @@ use Rattle.clap.specs.declared.error.kind.ErrorKind.TheVariants.{InvalidValue, U
 use Rattle.clap.specs.declared.parser.matches.ArgMatches.{ArgMatches}
 use Rattle.clap.proofs.OnLiterals.{clap_on_literals}
 use Rattle.snoop_sim.specs.Asked.{Asks, HasNoTask, HasTask, IsShown, Refuses}
-use Rattle.snoop_sim.specs.CommandLine.{IsSnoop, Names, snoop_app}
+use Rattle.snoop_sim.specs.CommandLine.{IsSnoop, Names, choice_rules, default_form_rule, flag_rule, form_rule, grouping_rule, kind_rule, long_rule, simulation_app, table_app, top_app, top_rule, with_commands}
 use Rattle.snoop_engine.specs.declared.fault.SimFault.TheVariants.{NoMemory}
 use Rattle.snoop_sim.specs.declared.failure.Failure.{Failure}
-use Rattle.snoop_sim.specs.declared.failure.Failure.TheVariants.{CommandLine, NoCommand, NotUtf8, Shape, Simulation, Threads as ThreadsFailure}
+use Rattle.snoop_sim.specs.declared.failure.Failure.TheVariants.{BadTop, CommandLine, NoCommand, NotUtf8, Shape, Simulation, Threads as ThreadsFailure, Lint as LintFailure, Drawing, Unchosen}
 use Rattle.snoop_sim.specs.declared.options.Task.{Task}
-use Rattle.snoop_sim.specs.declared.options.Task.TheVariants.{Help, Steps, Run, Serial, Threads, States, Counts, Table}
+use Rattle.snoop_sim.specs.declared.options.Task.TheVariants.{Help, Table, Simulate}
+
+-- the commands, with the names that their options take
+abbrev commands : (steps run threads states forms counts groupings lint kinds draw drawings table tables : Names) → List App
+commands steps run threads states forms counts groupings lint kinds draw drawings table tables =
+    simulation_app (codes "steps") steps [] ∷ simulation_app (codes "run") run (flag_rule (codes "serial") ∷ []) ∷ simulation_app (codes "threads") threads []
+    ∷ simulation_app (codes "states") states (form_rule forms ∷ []) ∷ simulation_app (codes "counts") counts (grouping_rule groupings ∷ top_rule ∷ []) ∷ simulation_app (codes "lint") lint (kind_rule kinds ∷ long_rule (codes "most") (codes "20") ∷ []) ∷ simulation_app (codes "draw") draw (default_form_rule drawings ∷ flag_rule (codes "ascii") ∷ choice_rules) ∷ table_app table tables ∷ []
 
 -- `clap` says what it finds in the words of such a command line
-is_simple_snoop : (steps run threads states forms counts groupings table tables : Names) → is_simple (snoop_app steps run threads states forms counts groupings table tables) ≡ true
+is_simple_snoop : (steps run threads states forms counts groupings lint kinds draw drawings table tables : Names)
+    → is_simple (with_commands top_app (commands steps run threads states forms counts groupings lint kinds draw drawings table tables)) ≡ true
 unfolding clap_on_literals
-is_simple_snoop steps run threads states forms counts groupings table tables = refl
+is_simple_snoop steps run threads states forms counts groupings lint kinds draw drawings table tables = refl
 
 -- and of which kinds its errors are
-is_free_snoop : (steps run threads states forms counts groupings table tables : Names) → is_simple_and_free (snoop_app steps run threads states forms counts groupings table tables) ≡ true
+is_free_snoop : (steps run threads states forms counts groupings lint kinds draw drawings table tables : Names)
+    → is_simple_and_free (with_commands top_app (commands steps run threads states forms counts groupings lint kinds draw drawings table tables)) ≡ true
 unfolding clap_on_literals
-is_free_snoop steps run threads states forms counts groupings table tables = refl
+is_free_snoop steps run threads states forms counts groupings lint kinds draw drawings table tables = refl
+
+-- one more command
+listed : {a b : App} {rest others : List App} → a ≡ b → rest ≡ others → a ∷ rest ≡ b ∷ others
+listed head tail = ap₂ (λ x xs. x ∷ xs) head tail
+
+-- a test that holds whatever lists the names are in
+tested : (test : App → Bool) → ((steps run threads states forms counts groupings lint kinds draw drawings table tables : Names)
+    → test (with_commands top_app (commands steps run threads states forms counts groupings lint kinds draw drawings table tables)) ≡ true) → (app : App) → IsSnoop app → test app ≡ true
+tested test holds app (steps', run', threads', states', counts', lint', draw', table', (steps, _, a), (run, _, b), (threads, _, c), (forms, _, (states, _, d)), (groupings, _, (counts, _, e)), (kinds, _, (lint, _, f)), (drawings, _, (draw, _, g)), (table, tables, _, _, h), is) =
+    let same : steps' ∷ run' ∷ threads' ∷ states' ∷ counts' ∷ lint' ∷ draw' ∷ table' ∷ [] ≡ commands steps run threads states forms counts groupings lint kinds draw drawings table tables =
+    listed a (listed b (listed c (listed d (listed e (listed f (listed g (listed h refl))))))) in
+    ap test (is ∙ ap (with_commands top_app) same) ∙ holds steps run threads states forms counts groupings lint kinds draw drawings table tables
 
 pub is_free : (app : App) → IsSnoop app → is_simple_and_free app ≡ true
-is_free app (steps, run, threads, states, forms, counts, groupings, table, tables, _, _, _, _, _, _, _, _, _, is) = ap is_simple_and_free is ∙ is_free_snoop steps run threads states forms counts groupings table tables
+is_free = tested is_simple_and_free is_free_snoop
 
 -- so the command that was found is the one that the words name
 pub command_named : (app : App) (words : List Text) (matches : ArgMatches) → IsSnoop app → HasMatchesOf app words matches
     → subcommand_rows_of matches ≡ subcommand_of app words
-command_named app words matches (steps, run, threads, states, forms, counts, groupings, table, tables, _, _, _, _, _, _, _, _, _, is) has =
-    (has (ap is_simple is ∙ is_simple_snoop steps run threads states forms counts groupings table tables)).1
+command_named app words matches snoop has = (has (tested is_simple is_simple_snoop app snoop)).1
 
 -- the words ask for the task of that command
 pub asked : (app : App) (words : List Text) (command : Option (Text × List Row)) (task : Task) → IsSnoop app → fault_of app words ≡ []
     → command ≡ subcommand_of app words → HasTask command task → Asks words task
 asked app words None task snoop well named has = absurd has
 asked app words (Some command) (Help help) snoop well named has = absurd has
-asked app words (Some command) (Steps protocol shape) snoop well named has = (app, snoop, (well, subst (λ c. HasTask c (Steps protocol shape)) named has))
-asked app words (Some command) (Run protocol shape) snoop well named has = (app, snoop, (well, subst (λ c. HasTask c (Run protocol shape)) named has))
-asked app words (Some command) (Serial protocol shape) snoop well named has = (app, snoop, (well, subst (λ c. HasTask c (Serial protocol shape)) named has))
-asked app words (Some command) (Threads protocol shape) snoop well named has = (app, snoop, (well, subst (λ c. HasTask c (Threads protocol shape)) named has))
-asked app words (Some command) (States protocol shape) snoop well named has = (app, snoop, (well, subst (λ c. HasTask c (States protocol shape)) named has))
-asked app words (Some command) (Counts protocol shape) snoop well named has = (app, snoop, (well, subst (λ c. HasTask c (Counts protocol shape)) named has))
 asked app words (Some command) (Table protocol which) snoop well named has = (app, snoop, (well, subst (λ c. HasTask c (Table protocol which)) named has))
+asked app words (Some command) (Simulate protocol shape engine) snoop well named has = (app, snoop, (well, subst (λ c. HasTask c (Simulate protocol shape engine)) named has))
 
 -- and are refused where it has none
 pub without_task : (app : App) (words : List Text) (command : Option (Text × List Row)) (failure : Failure) → IsSnoop app → fault_of app words ≡ []
     → command ≡ subcommand_of app words → HasNoTask command failure → Refuses words failure
 without_task app words command NoCommand snoop well named has = (app, snoop, (well, subst (λ c. HasNoTask c NoCommand) named has))
 without_task app words command (Shape fault) snoop well named has = (app, snoop, (well, subst (λ c. HasNoTask c (Shape fault)) named has))
+without_task app words command BadTop snoop well named has = (app, snoop, (well, subst (λ c. HasNoTask c BadTop) named has))
+without_task app words command NotUtf8 snoop well named has = (app, snoop, (well, subst (λ c. HasNoTask c NotUtf8) named has))
+without_task app words command (ThreadsFailure fault) snoop well named has = (app, snoop, (well, subst (λ c. HasNoTask c (ThreadsFailure fault)) named has))
+without_task app words command (LintFailure fault) snoop well named has = (app, snoop, (well, subst (λ c. HasNoTask c (LintFailure fault)) named has))
+without_task app words command (Drawing fault) snoop well named has = (app, snoop, (well, subst (λ c. HasNoTask c (Drawing fault)) named has))
+without_task app words command (Unchosen fault) snoop well named has = (app, snoop, (well, subst (λ c. HasNoTask c (Unchosen fault)) named has))
 without_task app words None (CommandLine error) snoop well named has = absurd has
-without_task app words (Some command) (CommandLine error) snoop well named has = absurd has
-without_task app words None NotUtf8 snoop well named has = absurd has
-without_task app words (Some command) NotUtf8 snoop well named has = absurd has
+without_task app words (Some command) (CommandLine error) snoop well named has = absurd has.1.2
 without_task app words None (Simulation fault) snoop well named has = absurd has
-without_task app words (Some command) (Simulation fault) snoop well named has = absurd has
-without_task app words None (ThreadsFailure fault) snoop well named has = absurd has
-without_task app words (Some command) (ThreadsFailure fault) snoop well named has = absurd has
+without_task app words (Some command) (Simulation fault) snoop well named has = absurd has.1.2
 
 -- an error that isn't out of memory is of a kind that the words give
 kind_given : (kinds : Kinds) (error : Error) → kind_of error ≢ OutOfMemory → HasKind kinds error → IsAmong (kind_of error) kinds

@@ -1,5 +1,5 @@
 -- What a command is described as, once an option or a subcommand is added.
-use Rattle.std.proofs.Common.{◌≡◌, ◌∙◌, ap, ap₂, ◌||◌, false, true, Some, Bor, List, ℕ}
+use Rattle.std.proofs.Common.{◌≡◌, ◌∙◌, ap, ap₂, refl, ◌||◌, false, true, Some, Bor, List, ℕ}
 use Rattle.clap.specs.Words.{AddsArg, AddsSubcommand, App, Rule, app_of, rule_of, with_rule, with_subcommand}
 use Rattle.clap.specs.declared.builder.arg.Arg.{Arg}
 use Rattle.clap.specs.Simple.{app_of_fields}
@@ -51,3 +51,7 @@ requires_command old new app set before = record {
   local = ap (λ f. f.has_globals) set ∙ before.local;
   is = ap app_of_fields set ∙ ap (λ (a : App). record a { top = record a.top { subcommand_required = true } }) before.is;
 }
+
+-- a command is described by what it is
+pub described : (command : Command) → IsLocal command → Describes command (app_of command)
+described command local = record { local = local; is = refl }

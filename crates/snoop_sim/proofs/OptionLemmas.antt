@@ -1,20 +1,19 @@
 -- What the options of a command are read as.
-use Rattle.std.proofs.Common.{◌≡◌, ◌∙◌, ap, sym, refl, inl, inr, ℕ, Bool, true, false, List, Option, Some, None, map, codes}
-use Rattle.std.specs.Prelude.{Result, Ok, Err, unwrap_or}
+use Rattle.std.proofs.Common.{◌≡◌, ◌∙◌, ◌^◌, sym, refl, ℕ, Bool, true, false, List, Option, Some, None, map, codes}
+use Rattle.std.specs.Prelude.{Result, Ok, Err}
 use Rattle.std.specs.Char.{to_ascii_lowercase}
 use Rattle.std.specs.Str.{bytes_eq}
 use Rattle.std.specs.Str.Parse.{ParsesUnsigned}
 use Rattle.std.proofs.lemmas.Slice.Eq.{bytes_eq-Decides}
-use Rattle.clap.specs.Words.{ReadsOne, first_of, first_value, one_of, one_text, rows_of}
+use Rattle.clap.specs.Words.{ReadsOne, first_value, one_of, one_text, rows_of}
 use Rattle.clap.specs.declared.parser.matches.Found.{Found}
 use Rattle.clap.proofs.WalkLemmas.{first_value-rows, one_text-rows}
 use Rattle.snoop_trace.specs.declared.protocol.Protocol.TheVariants.{Msi, Mesi}
-use Rattle.snoop_rules.specs.declared.table_text.Which.TheVariants.{Cache, Memory}
 use Rattle.std.specs.Result.{OkIff}
 use Rattle.snoop_trace.specs.Extent.{Extent, IsBlockCount, IsBlockSize, IsCoreCount, IsWordCount}
 use Rattle.snoop_trace.specs.declared.shape.ShapeFault.{ShapeFault}
 use Rattle.snoop_trace.specs.declared.shape.ShapeFault.TheVariants.{BadCores, BadBlocks, BadBytes, BadWords}
-use Rattle.snoop_sim.specs.Options.{IsNumberOf, IsShape, asks_serial, protocol_named, which_named}
+use Rattle.snoop_sim.specs.Options.{IsReadAs, IsShape, protocol_named, says}
 
 -- a text that is compared with another is found equal where it is equal
 equal : (a b : List ℕ) → a ≡ b → bytes_eq a b ≡ true
@@ -31,7 +30,7 @@ unequal a b ne = go (bytes_eq a b) (bytes_eq-Decides a b).0
 -- MESI was named
 pub mesi_named : (f : Found) (name : List ℕ) → first_value f (codes "protocol") ≡ Some name
     → map to_ascii_lowercase name ≡ map to_ascii_lowercase (codes "mesi")
-    → Mesi ≡ protocol_named (first_of (codes "protocol") (rows_of f))
+    → Mesi ≡ protocol_named (rows_of f)
 mesi_named f name given same =
     let lower = equal _ _ same in
     let of_rows = sym (first_value-rows f (codes "protocol")) ∙ given in
@@ -40,66 +39,38 @@ mesi_named f name given same =
 -- another text was named
 pub mesi_not_named : (f : Found) (name : List ℕ) → first_value f (codes "protocol") ≡ Some name
     → (map to_ascii_lowercase name ≡ map to_ascii_lowercase (codes "mesi") → ⊥)
-    → Msi ≡ protocol_named (first_of (codes "protocol") (rows_of f))
+    → Msi ≡ protocol_named (rows_of f)
 mesi_not_named f name given other =
     let lower = unequal _ _ other in
     let of_rows = sym (first_value-rows f (codes "protocol")) ∙ given in
     rw (of_rows, lower) refl
 
 -- no protocol was named
-pub no_protocol_named : (f : Found) → first_value f (codes "protocol") ≡ None → Msi ≡ protocol_named (first_of (codes "protocol") (rows_of f))
+pub no_protocol_named : (f : Found) → first_value f (codes "protocol") ≡ None → Msi ≡ protocol_named (rows_of f)
 no_protocol_named f given = rw (sym (first_value-rows f (codes "protocol")) ∙ given) refl
 
--- the memory controller's table was named
-pub memory_named : (f : Found) (name : List ℕ) → first_value f (codes "which") ≡ Some name → name ≡ codes "memory"
-    → Memory ≡ which_named (first_of (codes "which") (rows_of f))
-memory_named f name given same =
-    let is = equal _ _ same in
-    rw (sym (first_value-rows f (codes "which")) ∙ given, is) refl
+-- the option has a value, which is compared
+pub said : (f : Found) (name value text : List ℕ) (same : Bool) → first_value f name ≡ Some text → same ≡ bytes_eq text value → same ≡ says false name value (rows_of f)
+said f name value text same given is = rw (sym (first_value-rows f name) ∙ given) is
 
--- another text was named
-pub memory_not_named : (f : Found) (name : List ℕ) → first_value f (codes "which") ≡ Some name → (name ≡ codes "memory" → ⊥)
-    → Cache ≡ which_named (first_of (codes "which") (rows_of f))
-memory_not_named f name given other =
-    let is = unequal _ _ other in
-    rw (sym (first_value-rows f (codes "which")) ∙ given, is) refl
+-- it has none
+pub unsaid : (f : Found) (name value : List ℕ) → first_value f name ≡ None → false ≡ says false name value (rows_of f)
+unsaid f name value given = rw (sym (first_value-rows f name) ∙ given) refl
 
--- no table was named
-pub no_table_named : (f : Found) → first_value f (codes "which") ≡ None → Cache ≡ which_named (first_of (codes "which") (rows_of f))
-no_table_named f given = rw (sym (first_value-rows f (codes "which")) ∙ given) refl
-
--- the flag was set
-pub serial_set : (f : Found) (text : List ℕ) → first_value f (codes "serial") ≡ Some text → text ≡ codes "true"
-    → true ≡ asks_serial (first_of (codes "serial") (rows_of f))
-serial_set f text given same =
-    let is = equal _ _ same in
-    rw (sym (first_value-rows f (codes "serial")) ∙ given, is) refl
-
--- the flag has another value
-pub serial_not_set : (f : Found) (text : List ℕ) → first_value f (codes "serial") ≡ Some text → (text ≡ codes "true" → ⊥)
-    → false ≡ asks_serial (first_of (codes "serial") (rows_of f))
-serial_not_set f text given other =
-    let is = unequal _ _ other in
-    rw (sym (first_value-rows f (codes "serial")) ∙ given, is) refl
-
--- there is no flag
-pub no_serial : (f : Found) → first_value f (codes "serial") ≡ None → false ≡ asks_serial (first_of (codes "serial") (rows_of f))
-no_serial f given = rw (sym (first_value-rows f (codes "serial")) ∙ given) refl
-
--- a number that is read by `get_one` and is 0 where there is none
-pub number_named : {E : Type 0} (f : Found) (name : List ℕ) (gives : List ℕ → Result ℕ E → Type 0) (read : Option ℕ)
+-- a number that is read by `get_one`
+pub number_read : {E : Type 0} (f : Found) (bits : ℕ) (name : List ℕ) (gives : List ℕ → Result ℕ E → Type 0) (read : Option ℕ)
     → (one_text f name ≡ None → read ≡ None)
     → ((text : List ℕ) → one_text f name ≡ Some text → ReadsOne gives text read)
-    → ((text : List ℕ) (parsed : Result ℕ E) → gives text parsed → ParsesUnsigned 32 10 text parsed)
-    → IsNumberOf (one_of name (rows_of f)) (unwrap_or read 0)
-number_named {E} f name gives read none some parses = rw (← one_text-rows f name) (go (one_text f name) refl)
+    → ((text : List ℕ) (parsed : Result ℕ E) → gives text parsed → ParsesUnsigned bits 10 text parsed)
+    → IsReadAs (2 ^ bits) (one_of name (rows_of f)) read
+number_read {E} f bits name gives read none some parses = rw (← one_text-rows f name) (go (one_text f name) refl)
   where
-    parsed : (text : List ℕ) (answer : Option ℕ) → ReadsOne gives text answer → IsNumberOf (Some text) (unwrap_or answer 0)
-    parsed text None (e, g) = inr (parses text (Err e) g, refl)
-    parsed text (Some n) g = inl (parses text (Ok n) g)
+    parsed : (text : List ℕ) (answer : Option ℕ) → ReadsOne gives text answer → IsReadAs (2 ^ bits) (Some text) answer
+    parsed text None (e, g) = parses text (Err e) g
+    parsed text (Some n) g = parses text (Ok n) g
 
-    go : (text : Option (List ℕ)) → one_text f name ≡ text → IsNumberOf text (unwrap_or read 0)
-    go None e = ap (λ r. unwrap_or r 0) (none e)
+    go : (text : Option (List ℕ)) → one_text f name ≡ text → IsReadAs (2 ^ bits) text read
+    go None e = none e
     go (Some text) e = parsed text read (some text e)
 
 -- what is made of four numbers is their shape, or the first limit that is broken

@@ -5,9 +5,11 @@ use Rattle.snoop_trace.specs.Text.{BlamesReader}
 use Rattle.snoop_trace.specs.declared.fault.TextFault.{TextFault}
 use Rattle.snoop_trace.specs.declared.fault.TextFault.TheVariants as text
 use Rattle.snoop_engine.specs.declared.fault.SimFault.TheVariants as sim
+use Rattle.snoop_draw.specs.declared.fault.DrawFault.TheVariants as draw
+use Rattle.snoop_lint.specs.declared.fault.LintFault.TheVariants as lint
 use Rattle.snoop_sim.specs.declared.fault.ThreadsFault.TheVariants as threads
 use Rattle.snoop_sim.specs.declared.failure.Failure.{Failure}
-use Rattle.snoop_sim.specs.declared.failure.Failure.TheVariants.{CommandLine, NoCommand, NotUtf8, Shape, Simulation, Threads}
+use Rattle.snoop_sim.specs.declared.failure.Failure.TheVariants.{CommandLine, NoCommand, NotUtf8, Shape, BadTop, Simulation, Threads, Lint, Drawing, Unchosen}
 use Rattle.snoop_sim.specs.Performed.{IsFailedRead}
 use Rattle.snoop_sim.specs.Status.{status_of}
 
@@ -22,6 +24,7 @@ failed_read_status (CommandLine error) before after blames old new = absurd (not
 failed_read_status NoCommand before after blames old new = absurd (not_blamed before after blames old new)
 failed_read_status NotUtf8 before after blames old new = absurd (not_blamed before after blames old new)
 failed_read_status (Shape fault) before after blames old new = absurd (not_blamed before after blames old new)
+failed_read_status BadTop before after blames old new = absurd (not_blamed before after blames old new)
 failed_read_status (Simulation (sim.Text (text.BadKind n))) before after blames old new = refl
 failed_read_status (Simulation (sim.Text (text.BadFields n))) before after blames old new = refl
 failed_read_status (Simulation (sim.Text (text.BadNumber n))) before after blames old new = refl
@@ -47,3 +50,19 @@ failed_read_status (Threads (threads.Run fault)) before after blames old new = a
 failed_read_status (Threads (threads.Seat fault)) before after blames old new = absurd (not_blamed before after blames old new)
 failed_read_status (Threads (threads.Gather fault)) before after blames old new = absurd (not_blamed before after blames old new)
 failed_read_status (Threads (threads.Write fault)) before after blames old new = absurd (not_blamed before after blames old new)
+failed_read_status (Lint lint.Read) before after blames old new = refl
+failed_read_status (Lint lint.NoMemory) before after blames old new = absurd (not_blamed before after blames old new)
+failed_read_status (Lint lint.Write) before after blames old new = absurd (not_blamed before after blames old new)
+failed_read_status (Drawing (draw.Simulation (sim.Text (text.BadKind n)))) before after blames old new = refl
+failed_read_status (Drawing (draw.Simulation (sim.Text (text.BadFields n)))) before after blames old new = refl
+failed_read_status (Drawing (draw.Simulation (sim.Text (text.BadNumber n)))) before after blames old new = refl
+failed_read_status (Drawing (draw.Simulation (sim.Text (text.NoCore n)))) before after blames old new = refl
+failed_read_status (Drawing (draw.Simulation (sim.Text (text.NoBlock n)))) before after blames old new = refl
+failed_read_status (Drawing (draw.Simulation (sim.Text text.Read))) before after blames old new = refl
+failed_read_status (Drawing (draw.Simulation (sim.Text text.NoMemory))) before after blames old new = absurd (not_blamed before after blames old new)
+failed_read_status (Drawing (draw.Simulation (sim.Text (text.OtherShape n)))) before after blames old new = refl
+failed_read_status (Drawing (draw.Simulation (sim.Text (text.BadVersion n)))) before after blames old new = refl
+failed_read_status (Drawing (draw.Simulation sim.NoMemory)) before after blames old new = absurd (not_blamed before after blames old new)
+failed_read_status (Drawing (draw.Simulation sim.Write)) before after blames old new = absurd (not_blamed before after blames old new)
+failed_read_status (Drawing draw.TooLarge) before after blames old new = absurd (not_blamed before after blames old new)
+failed_read_status (Unchosen fault) before after blames old new = absurd (not_blamed before after blames old new)

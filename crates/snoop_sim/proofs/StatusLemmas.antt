@@ -9,10 +9,13 @@ use Rattle.snoop_cores.specs.declared.fault.GatherFault.TheVariants as gathering
 use Rattle.snoop_engine.specs.declared.fault.SimFault.{SimFault}
 use Rattle.snoop_engine.specs.declared.fault.SimFault.TheVariants.{Text, NoMemory, Write}
 use Rattle.snoop_sim.specs.declared.failure.Failure.{Failure}
-use Rattle.snoop_sim.specs.declared.failure.Failure.TheVariants.{CommandLine, NoCommand, NotUtf8, Shape, Simulation, Threads}
+use Rattle.snoop_sim.specs.declared.failure.Failure.TheVariants.{CommandLine, NoCommand, NotUtf8, Shape, BadTop, Simulation, Threads, Lint, Drawing, Unchosen}
+use Rattle.snoop_lint.specs.declared.fault.LintFault.{LintFault}
+use Rattle.snoop_draw.specs.declared.fault.DrawFault.TheVariants as draw
+use Rattle.snoop_lint.specs.declared.fault.LintFault.TheVariants as lint
 use Rattle.snoop_sim.specs.declared.fault.ThreadsFault.{ThreadsFault}
 use Rattle.snoop_sim.specs.declared.fault.ThreadsFault.TheVariants as threads
-use Rattle.snoop_sim.specs.Status.{status_of, status_of_fault, status_of_threads}
+use Rattle.snoop_sim.specs.Status.{status_of, status_of_fault, status_of_lint, status_of_threads}
 
 fault_known : (fault : SimFault) → status_of_fault fault < 6
 fault_known (Text text.NoMemory) = omega arith
@@ -34,10 +37,20 @@ threads_known (threads.Gather _) = omega arith
 threads_known (threads.Write write.NoMemory) = omega arith
 threads_known (threads.Write write.Write) = omega arith
 
+lint_known : (fault : LintFault) → status_of_lint fault < 6
+lint_known lint.Read = omega arith
+lint_known lint.NoMemory = omega arith
+lint_known lint.Write = omega arith
+
 pub status_known : (failure : Failure) → status_of failure < 6
 status_known (CommandLine error) = omega arith
 status_known NoCommand = omega arith
 status_known NotUtf8 = omega arith
 status_known (Shape fault) = omega arith
+status_known BadTop = omega arith
 status_known (Simulation fault) = fault_known fault
 status_known (Threads fault) = threads_known fault
+status_known (Lint fault) = lint_known fault
+status_known (Drawing (draw.Simulation fault)) = fault_known fault
+status_known (Drawing draw.TooLarge) = omega arith
+status_known (Unchosen fault) = omega arith

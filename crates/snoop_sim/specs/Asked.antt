@@ -1,53 +1,56 @@
 -- What the words of a command line ask for, and why nothing is begun for them.
 -- Source: this project's profile.
 use Rattle.std.specs.Prelude.{⊤, ◌≡◌, ◌≢◌, ◌⊎◌, true, false, List, [], Option, Some, None, Ok, Err, codes}
-use Rattle.clap.specs.Words.{App, IsAmong, Row, Text, fault_of, first_of, kind_of, subcommand_of}
+use Rattle.clap.specs.Words.{App, IsAmong, Row, Text, fault_of, kind_of, subcommand_of}
 use Rattle.clap.specs.declared.error.kind.ErrorKind.{ErrorKind}
 use Rattle.clap.specs.declared.error.kind.ErrorKind.TheVariants.{DisplayHelp, DisplayVersion}
 use Rattle.snoop_trace.specs.Extent.{Extent}
-use Rattle.snoop_trace.specs.declared.protocol.Protocol.{Protocol}
 use Rattle.snoop_sim.specs.CommandLine.{IsSnoop}
-use Rattle.snoop_sim.specs.Options.{IsShapeOf, asks_serial, protocol_named, which_named}
+use Rattle.snoop_sim.specs.Options.{IsChoiceOf, IsGroupingOf, IsLongOf, IsShapeOf, MisplacesTop, asks_serial, charset_named, kind_named, protocol_named, which_named}
 use Rattle.snoop_engine.specs.declared.fault.SimFault.TheVariants.{NoMemory}
 use Rattle.snoop_sim.specs.declared.failure.Failure.{Failure}
-use Rattle.snoop_sim.specs.declared.failure.Failure.TheVariants.{CommandLine, NoCommand, Shape, Simulation}
+use Rattle.snoop_sim.specs.declared.failure.Failure.TheVariants.{BadTop, CommandLine, NoCommand, Shape, Simulation, Unchosen}
+use Rattle.snoop_sim.specs.declared.options.Engine.{Engine}
+use Rattle.snoop_sim.specs.declared.options.Engine.TheVariants.{Steps, Run, Serial, Threads, States, Counts, Lint, Draw}
 use Rattle.snoop_sim.specs.declared.options.Task.{Task}
-use Rattle.snoop_sim.specs.declared.options.Task.TheVariants.{Help, Steps, Run, Serial, Threads, States, Counts, Table}
+use Rattle.snoop_sim.specs.declared.options.Task.TheVariants.{Help, Table, Simulate}
 
--- the protocol and the shape that the options name
-abbrev pub Sets : List Row → Protocol → Extent → Type 0
-Sets options protocol shape = (protocol ≡ protocol_named (first_of (codes "protocol") options)) × IsShapeOf options (Ok shape)
+-- the engine of a command with its options
+abbrev pub IsEngineOf : Text → List Row → Extent → Engine → Type 0
+IsEngineOf name options shape Steps = name ≡ codes "steps"
+IsEngineOf name options shape Run = (name ≡ codes "run") × (asks_serial options ≡ false)
+IsEngineOf name options shape Serial = (name ≡ codes "run") × (asks_serial options ≡ true)
+IsEngineOf name options shape Threads = name ≡ codes "threads"
+IsEngineOf name options shape States = name ≡ codes "states"
+IsEngineOf name options shape (Counts grouping) = (name ≡ codes "counts") × IsGroupingOf options grouping
+IsEngineOf name options shape (Lint form most) = (name ≡ codes "lint") × (form ≡ kind_named options) × IsLongOf (codes "most") options most
+IsEngineOf name options shape (Draw charset choice) = (name ≡ codes "draw") × (charset ≡ charset_named options) × IsChoiceOf shape options (Ok choice)
 
--- the task of a command and its options
+-- the task of a command with its options
 abbrev pub IsTaskOf : Text × List Row → Task → Type 0
 IsTaskOf command (Help help) = ⊥
-IsTaskOf (name, options) (Steps protocol shape) = (name ≡ codes "steps") × Sets options protocol shape
-IsTaskOf (name, options) (Run protocol shape) = (name ≡ codes "run") × (asks_serial (first_of (codes "serial") options) ≡ false) × Sets options protocol shape
-IsTaskOf (name, options) (Serial protocol shape) = (name ≡ codes "run") × (asks_serial (first_of (codes "serial") options) ≡ true) × Sets options protocol shape
-IsTaskOf (name, options) (Threads protocol shape) = (name ≡ codes "threads") × Sets options protocol shape
-IsTaskOf (name, options) (States protocol shape) = (name ≡ codes "states") × Sets options protocol shape
-IsTaskOf (name, options) (Counts protocol shape) = (name ≡ codes "counts") × Sets options protocol shape
-IsTaskOf (name, options) (Table protocol which) = (name ≡ codes "table") × (protocol ≡ protocol_named (first_of (codes "protocol") options)) × (which ≡ which_named (first_of (codes "which") options))
+IsTaskOf (name, options) (Table protocol which) = (name ≡ codes "table") × (protocol ≡ protocol_named options) × (which ≡ which_named options)
+IsTaskOf (name, options) (Simulate protocol shape engine) = (protocol ≡ protocol_named options) × IsShapeOf options (Ok shape) × IsEngineOf name options shape engine
 
 -- the command that was named has this task
 abbrev pub HasTask : Option (Text × List Row) → Task → Type 0
 HasTask None task = ⊥
 HasTask (Some command) task = IsTaskOf command task
 
--- none of the six commands was named
-abbrev pub NamesNone : Option (Text × List Row) → Type 0
-NamesNone None = ⊤
-NamesNone (Some (name, options)) = (name ≢ codes "steps") × (name ≢ codes "run") × (name ≢ codes "threads") × (name ≢ codes "states") × (name ≢ codes "counts") × (name ≢ codes "table")
+-- a command has no engine: none that simulates has its name, or one of its options is refused
+abbrev pub HasNoEngine : Text → List Row → Extent → Failure → Type 0
+HasNoEngine name options shape NoCommand = (name ≢ codes "steps") × (name ≢ codes "run") × (name ≢ codes "threads") × (name ≢ codes "states") × (name ≢ codes "counts")
+    × (name ≢ codes "lint") × (name ≢ codes "draw")
+HasNoEngine name options shape (Unchosen fault) = (name ≡ codes "draw") × IsChoiceOf shape options (Err fault)
+HasNoEngine name options shape BadTop = (name ≡ codes "counts") × MisplacesTop options
+HasNoEngine name options shape failure = ⊥
 
--- a command over a machine, which has a shape
-abbrev pub HasShape : Text → Type 0
-HasShape name = (name ≡ codes "steps") ⊎ (name ≡ codes "run") ⊎ (name ≡ codes "threads") ⊎ (name ≡ codes "states") ⊎ (name ≡ codes "counts")
-
--- the command that was named has no task: it is none of the six, or its shape is refused
+-- the command that was named has no task: its shape is refused, or it has no engine
 abbrev pub HasNoTask : Option (Text × List Row) → Failure → Type 0
-HasNoTask command NoCommand = NamesNone command
-HasNoTask (Some (name, options)) (Shape fault) = HasShape name × IsShapeOf options (Err fault)
-HasNoTask command failure = ⊥
+HasNoTask None NoCommand = ⊤
+HasNoTask None failure = ⊥
+HasNoTask (Some (name, options)) (Shape fault) = (name ≢ codes "table") × IsShapeOf options (Err fault)
+HasNoTask (Some (name, options)) failure = (name ≢ codes "table") × ((shape : Extent) × IsShapeOf options (Ok shape) × HasNoEngine name options shape failure)
 
 -- the text is that of help or of the version
 abbrev pub IsShown : ErrorKind → Type 0

@@ -2,7 +2,7 @@
 -- Source: this project's profile.
 use Rattle.std.specs.Prelude.{◌≡◌, ℕ, List, [], ◌∷◌, Some, codes, map, true, false, pos}
 use Rattle.std.specs.Borrow.{Bor}
-use Rattle.clap.specs.Words.{App, Rule, new_app, new_rule, with_rule, with_subcommand}
+use Rattle.clap.specs.Words.{App, Rule, Text, new_app, new_rule, with_rule, with_subcommand}
 use Rattle.clap.specs.declared.builder.action.ArgAction.TheVariants.{SetTrue}
 use Rattle.clap.specs.declared.builder.command.Command.{Command}
 use Rattle.clap.specs.declared.builder.command.Command.TheViews.{out-Command}
@@ -10,88 +10,146 @@ use Rattle.clap.specs.declared.builder.value_parser.ValueParser.{ValueParser}
 use Rattle.clap.specs.declared.builder.value_parser.ValueParser.TheVariants as parser
 
 -- an option with its default
-abbrev pub option_rule : List ℕ → List ℕ → ValueParser → Rule
+abbrev pub option_rule : Text → Text → ValueParser → Rule
 option_rule name default values = record (new_rule name) { long = Some name; defaults = default ∷ []; parser = Some values }
 
 -- a number of 32 bits
-abbrev pub number_rule : List ℕ → List ℕ → Rule
+abbrev pub number_rule : Text → Text → Rule
 number_rule name default = option_rule name default (parser.Signed (pos 0) (pos 4294967295))
+
+-- a number of 64 bits
+abbrev pub long_rule : Text → Text → Rule
+long_rule name default = option_rule name default (parser.Unsigned 0 18446744073709551615)
+
+-- an option that may be left out
+abbrev pub optional_rule : Text → ValueParser → Rule
+optional_rule name values = record (new_rule name) { long = Some name; parser = Some values }
 
 -- the names that an option takes
 abbrev pub Names : Type 0
 Names = Bor (List (Bor (List ℕ)))
 
+-- they are these
+abbrev pub AreNames : List Text → Names → Type 0
+AreNames texts names = map (λ name. name.now) names.now ≡ texts
+
 -- those of `--protocol`
 abbrev pub IsProtocols : Names → Type 0
-IsProtocols names = map (λ name. name.now) names.now ≡ codes "msi" ∷ codes "mesi" ∷ []
+IsProtocols names = AreNames (codes "msi" ∷ codes "mesi" ∷ []) names
+
+-- those of `--as` of a drawing
+abbrev pub IsDrawings : Names → Type 0
+IsDrawings names = AreNames (codes "text" ∷ []) names
+
+-- those of `--of`
+abbrev pub IsKinds : Names → Type 0
+IsKinds names = AreNames (codes "steps" ∷ codes "rows" ∷ []) names
 
 -- those of `--which`
 abbrev pub IsTables : Names → Type 0
-IsTables names = map (λ name. name.now) names.now ≡ codes "cache" ∷ codes "memory" ∷ []
+IsTables names = AreNames (codes "cache" ∷ codes "memory" ∷ []) names
 
 -- those of `--as`
 abbrev pub IsForms : Names → Type 0
-IsForms names = map (λ name. name.now) names.now ≡ codes "csv" ∷ []
+IsForms names = AreNames (codes "csv" ∷ []) names
 
 -- those of `--by`
 abbrev pub IsGroupings : Names → Type 0
-IsGroupings names = map (λ name. name.now) names.now ≡ codes "row" ∷ []
+IsGroupings names = AreNames (codes "row" ∷ codes "core" ∷ codes "block" ∷ []) names
 
 -- a protocol, in either case
 abbrev pub protocol_rule : Names → Rule
 protocol_rule protocols = record (option_rule (codes "protocol") (codes "msi") (parser.Names protocols)) { ignore_case = true }
 
--- a command that simulates
-abbrev pub simulation_app : List ℕ → Names → App
-simulation_app name protocols =
-    with_rule (with_rule (with_rule (with_rule (with_rule (new_app name) (protocol_rule protocols))
-    (number_rule (codes "cores") (codes "2"))) (number_rule (codes "blocks") (codes "4"))) (number_rule (codes "block-bytes") (codes "64")))
-    (number_rule (codes "words") (codes "1"))
-
--- the flag `--serial`
-abbrev pub serial_rule : Rule
-serial_rule = record (new_rule (codes "serial")) { long = Some (codes "serial"); action = Some SetTrue }
-
--- the command that serves rows: it has that flag too
-abbrev pub run_app : Names → App
-run_app protocols = with_rule (simulation_app (codes "run") protocols) serial_rule
+-- a flag
+abbrev pub flag_rule : Text → Rule
+flag_rule name = record (new_rule name) { long = Some name; action = Some SetTrue }
 
 -- the option `--as`, which has to be there
 abbrev pub form_rule : Names → Rule
 form_rule forms = record (new_rule (codes "as")) { long = Some (codes "as"); parser = Some (parser.Names forms); required = true }
 
--- the command that writes the states of a run: it has that option too
-abbrev pub states_app : Names → Names → App
-states_app protocols forms = with_rule (simulation_app (codes "states") protocols) (form_rule forms)
-
 -- the option `--by`, which has to be there
 abbrev pub grouping_rule : Names → Rule
 grouping_rule groupings = record (new_rule (codes "by")) { long = Some (codes "by"); parser = Some (parser.Names groupings); required = true }
 
--- the command that writes the counts of a run: it has that option too
-abbrev pub counts_app : Names → Names → App
-counts_app protocols groupings = with_rule (simulation_app (codes "counts") protocols) (grouping_rule groupings)
+-- the option `--of`, which is `steps` where it is not given
+abbrev pub kind_rule : Names → Rule
+kind_rule kinds = option_rule (codes "of") (codes "steps") (parser.Names kinds)
 
--- the command that writes a table
+-- the option `--as`, which is `text` where it is not given
+abbrev pub default_form_rule : Names → Rule
+default_form_rule forms = option_rule (codes "as") (codes "text") (parser.Names forms)
+
+-- the options `--block`, `--from` and `--to`
+abbrev pub choice_rules : List Rule
+choice_rules = optional_rule (codes "block") (parser.Signed (pos 0) (pos 4294967295)) ∷ long_rule (codes "from") (codes "1")
+    ∷ optional_rule (codes "to") (parser.Unsigned 0 18446744073709551615) ∷ []
+
+-- the option `--top`
+abbrev pub top_rule : Rule
+top_rule = optional_rule (codes "top") (parser.Signed (pos 0) (pos 4294967295))
+
+-- a command with these options too, in this order
+abbrev pub with_rules : App → List Rule → App
+with_rules app [] = app
+with_rules app (rule ∷ rules) = with_rules (with_rule app rule) rules
+
+-- a program with these commands too, in this order
+abbrev pub with_commands : App → List App → App
+with_commands app [] = app
+with_commands app (command ∷ commands) = with_commands (with_subcommand app command.top) commands
+
+-- the options of each command that simulates
+abbrev pub machine_rules : Names → List Rule
+machine_rules protocols = protocol_rule protocols ∷ number_rule (codes "cores") (codes "2") ∷ number_rule (codes "blocks") (codes "4")
+    ∷ number_rule (codes "block-bytes") (codes "64") ∷ number_rule (codes "words") (codes "1") ∷ []
+
+-- a command that simulates, with options of its own after those
+abbrev pub simulation_app : Text → Names → List Rule → App
+simulation_app name protocols rules = with_rules (with_rules (new_app name) (machine_rules protocols)) rules
+
+-- the command `table`
 abbrev pub table_app : Names → Names → App
-table_app protocols tables =
-    with_rule (with_rule (new_app (codes "table")) (protocol_rule protocols)) (option_rule (codes "which") (codes "cache") (parser.Names tables))
+table_app protocols tables = with_rules (new_app (codes "table")) (protocol_rule protocols ∷ option_rule (codes "which") (codes "cache") (parser.Names tables) ∷ [])
+
+-- a command that simulates, with these options of its own
+abbrev pub IsSimulation : Text → List Rule → App → Type 0
+IsSimulation name rules app = (protocols : Names) × IsProtocols protocols × (app ≡ simulation_app name protocols rules)
+
+-- each command
+abbrev pub IsSteps : App → Type 0
+IsSteps = IsSimulation (codes "steps") []
+
+abbrev pub IsRun : App → Type 0
+IsRun = IsSimulation (codes "run") (flag_rule (codes "serial") ∷ [])
+
+abbrev pub IsThreads : App → Type 0
+IsThreads = IsSimulation (codes "threads") []
+
+abbrev pub IsStates : App → Type 0
+IsStates app = (forms : Names) × IsForms forms × IsSimulation (codes "states") (form_rule forms ∷ []) app
+
+abbrev pub IsCounts : App → Type 0
+IsCounts app = (groupings : Names) × IsGroupings groupings × IsSimulation (codes "counts") (grouping_rule groupings ∷ top_rule ∷ []) app
+
+abbrev pub IsLint : App → Type 0
+IsLint app = (kinds : Names) × IsKinds kinds × IsSimulation (codes "lint") (kind_rule kinds ∷ long_rule (codes "most") (codes "20") ∷ []) app
+
+abbrev pub IsDraw : App → Type 0
+IsDraw app = (forms : Names) × IsDrawings forms × IsSimulation (codes "draw") (default_form_rule forms ∷ flag_rule (codes "ascii") ∷ choice_rules) app
+
+abbrev pub IsTable : App → Type 0
+IsTable app = (protocols tables : Names) × IsProtocols protocols × IsTables tables × (app ≡ table_app protocols tables)
 
 -- the program before its commands
 abbrev pub top_app : App
 top_app = let new = new_app (codes "snoop") in record new { top = record new.top { has_version = true; subcommand_required = true } }
 
--- the program with its six commands
-abbrev pub snoop_app : Names → Names → Names → Names → Names → Names → Names → Names → Names → App
-snoop_app steps run threads states forms counts groupings table tables =
-    with_subcommand (with_subcommand (with_subcommand (with_subcommand (with_subcommand (with_subcommand top_app
-    (simulation_app (codes "steps") steps).top) (run_app run).top) (simulation_app (codes "threads") threads).top) (states_app states forms).top) (counts_app counts groupings).top) (table_app table tables).top
-
--- `clap`'s description of it
+-- `clap`'s description of the program
 abbrev pub IsSnoop : App → Type 0
-IsSnoop app = (steps run threads states forms counts groupings table tables : Names)
-    × IsProtocols steps × IsProtocols run × IsProtocols threads × IsProtocols states × IsForms forms × IsProtocols counts × IsGroupings groupings × IsProtocols table × IsTables tables
-    × (app ≡ snoop_app steps run threads states forms counts groupings table tables)
+IsSnoop app = (steps run threads states counts lint draw table : App) × IsSteps steps × IsRun run × IsThreads threads × IsStates states × IsCounts counts × IsLint lint × IsDraw draw × IsTable table
+    × (app ≡ with_commands top_app (steps ∷ run ∷ threads ∷ states ∷ counts ∷ lint ∷ draw ∷ table ∷ []))
 
 -- no option of the command is one of its subcommands' too
 abbrev pub IsLocal : Command → Type 0

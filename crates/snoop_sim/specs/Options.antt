@@ -1,39 +1,77 @@
 -- What the options of a command say.
 -- Source: this project's profile.
-use Rattle.std.specs.Prelude.{◌≡◌, ◌⊎◌, ◌<◌, ◌^◌, ℕ, List, Option, Some, None, Result, Ok, Err, Bool, if◌then◌else◌, codes, true, false}
+use Rattle.std.specs.Prelude.{◌≡◌, ◌<◌, ◌^◌, ℕ, List, Option, Some, None, Result, Ok, Err, Bool, if◌then◌else◌, codes, true, false, unwrap_or}
+use Rattle.std.specs.Option.{option_map_or}
 use Rattle.std.specs.Str.Parse.{IsNumeral, digits_value, without_leading_plus}
-use Rattle.clap.specs.Words.{Row, one_of, same_text}
+use Rattle.clap.specs.Words.{Row, Text, first_of, one_of, same_text}
 use Rattle.snoop_trace.specs.Extent.{Extent, IsBlockCount, IsBlockSize, IsCoreCount, IsWordCount}
 use Rattle.snoop_trace.specs.declared.shape.ShapeFault.{ShapeFault}
 use Rattle.snoop_trace.specs.declared.shape.ShapeFault.TheVariants.{BadCores, BadBlocks, BadBytes, BadWords}
 use Rattle.snoop_trace.specs.declared.protocol.Protocol.{Protocol}
 use Rattle.snoop_trace.specs.declared.protocol.Protocol.TheVariants.{Msi, Mesi}
+use Rattle.snoop_draw.specs.Choice.{IsChoice}
+use Rattle.snoop_draw.specs.Choices.{Chosen}
+use Rattle.snoop_draw.specs.declared.choice.ChoiceFault.{ChoiceFault}
+use Rattle.snoop_draw.specs.declared.marks.Charset.{Charset}
+use Rattle.snoop_draw.specs.declared.marks.Charset.TheVariants as charset
+use Rattle.snoop_lint.specs.declared.form.Form.{Form}
+use Rattle.snoop_lint.specs.declared.form.Form.TheVariants as form
+use Rattle.snoop_sim.specs.declared.options.Grouping.{Grouping}
+use Rattle.snoop_sim.specs.declared.options.Grouping.TheVariants as grouping
 use Rattle.snoop_rules.specs.declared.table_text.Which.{Which}
 use Rattle.snoop_rules.specs.declared.table_text.Which.TheVariants.{Cache, Memory}
 
+-- whether the option has this value, in small letters or, where case is ignored, in either case
+abbrev pub says : Bool → Text → Text → List Row → Bool
+says ignore_case name value options = option_map_or (λ text. same_text ignore_case text value) (first_of name options) false
+
 -- MESI where it is named, in small or capital letters; else MSI
-abbrev pub protocol_named : Option (List ℕ) → Protocol
-protocol_named None = Msi
-protocol_named (Some text) = if same_text true text (codes "mesi") then Mesi else Msi
+abbrev pub protocol_named : List Row → Protocol
+protocol_named options = if says true (codes "protocol") (codes "mesi") options then Mesi else Msi
 
 -- whether the rows are served one after another: where the flag is set
-abbrev pub asks_serial : Option (List ℕ) → Bool
-asks_serial None = false
-asks_serial (Some text) = same_text false text (codes "true")
+abbrev pub asks_serial : List Row → Bool
+asks_serial options = says false (codes "serial") (codes "true") options
 
 -- the memory controller's table where it is named; else the cache controllers'
-abbrev pub which_named : Option (List ℕ) → Which
-which_named None = Cache
-which_named (Some text) = if same_text false text (codes "memory") then Memory else Cache
+abbrev pub which_named : List Row → Which
+which_named options = if says false (codes "which") (codes "memory") options then Memory else Cache
 
--- a number below 2^32, in decimal
-abbrev pub IsNumber : List ℕ → Type 0
-IsNumber text = IsNumeral 10 (without_leading_plus text) × (digits_value 10 (without_leading_plus text) < 2 ^ 32)
+-- ASCII characters where the flag is set
+abbrev pub charset_named : List Row → Charset
+charset_named options = if says false (codes "ascii") (codes "true") options then charset.Ascii else charset.Unicode
 
--- the number that a text writes; 0 where it writes none, and where there is no text
-abbrev pub IsNumberOf : Option (List ℕ) → ℕ → Type 0
-IsNumberOf None number = number ≡ 0
-IsNumberOf (Some text) number = (IsNumber text × (number ≡ digits_value 10 (without_leading_plus text))) ⊎ ((¬ IsNumber text) × (number ≡ 0))
+-- rows where they are named; else steps
+abbrev pub kind_named : List Row → Form
+kind_named options = if says false (codes "of") (codes "rows") options then form.Rows else form.Steps
+
+-- a number below a limit, in decimal
+abbrev pub IsNumber : ℕ → Text → Type 0
+IsNumber limit text = IsNumeral 10 (without_leading_plus text) × (digits_value 10 (without_leading_plus text) < limit)
+
+-- the number that a text writes; none where it writes none, and where there is no text
+abbrev pub IsReadAs : ℕ → Option Text → Option ℕ → Type 0
+IsReadAs limit None read = read ≡ None
+IsReadAs limit (Some text) (Some number) = IsNumber limit text × (number ≡ digits_value 10 (without_leading_plus text))
+IsReadAs limit (Some text) None = ¬ IsNumber limit text
+
+-- what the lines of counts are of, as `by` says, and of how many blocks, as `top` says, which is for blocks alone
+abbrev pub IsGroupingOf : List Row → Grouping → Type 0
+IsGroupingOf options grouping.Row = (says false (codes "by") (codes "core") options ≡ false) × (says false (codes "by") (codes "block") options ≡ false) × IsReadAs (2 ^ 32) (one_of (codes "top") options) None
+IsGroupingOf options grouping.Core = (says false (codes "by") (codes "core") options ≡ true) × IsReadAs (2 ^ 32) (one_of (codes "top") options) None
+IsGroupingOf options (grouping.Block top) = (says false (codes "by") (codes "block") options ≡ true) × IsReadAs (2 ^ 32) (one_of (codes "top") options) top
+
+-- `top` is given without blocks
+abbrev pub MisplacesTop : List Row → Type 0
+MisplacesTop options = (says false (codes "by") (codes "block") options ≡ false) × ((top : ℕ) × IsReadAs (2 ^ 32) (one_of (codes "top") options) (Some top))
+
+-- the option's number of 64 bits; 0 where it has none
+abbrev pub IsLongOf : Text → List Row → ℕ → Type 0
+IsLongOf name options number = (read : Option ℕ) × IsReadAs (2 ^ 64) (one_of name options) read × (number ≡ unwrap_or read 0)
+
+-- the option's number of 32 bits; 0 where it has none
+abbrev pub IsNumberOf : Text → List Row → ℕ → Type 0
+IsNumberOf name options number = (read : Option ℕ) × IsReadAs (2 ^ 32) (one_of name options) read × (number ≡ unwrap_or read 0)
 
 -- the shape of these numbers, or the first of them that is out of its limits
 abbrev pub IsShape : ℕ → ℕ → ℕ → ℕ → Result Extent ShapeFault → Type 0
@@ -46,8 +84,16 @@ IsShape cores blocks bytes words (Err BadWords) = IsCoreCount cores × IsBlockCo
 -- the shape that `cores`, `blocks`, `block-bytes` and `words` name
 abbrev pub IsShapeOf : List Row → Result Extent ShapeFault → Type 0
 IsShapeOf options made = (cores blocks bytes words : ℕ)
-    × IsNumberOf (one_of (codes "cores") options) cores
-    × IsNumberOf (one_of (codes "blocks") options) blocks
-    × IsNumberOf (one_of (codes "block-bytes") options) bytes
-    × IsNumberOf (one_of (codes "words") options) words
+    × IsNumberOf (codes "cores") options cores
+    × IsNumberOf (codes "blocks") options blocks
+    × IsNumberOf (codes "block-bytes") options bytes
+    × IsNumberOf (codes "words") options words
     × IsShape cores blocks bytes words made
+
+-- what `block`, `from` and `to` choose: without `block` each block, without `to` the steps to the last
+abbrev pub IsChoiceOf : Extent → List Row → Result Chosen ChoiceFault → Type 0
+IsChoiceOf shape options made = (block from to : Option ℕ)
+    × IsReadAs (2 ^ 32) (one_of (codes "block") options) block
+    × IsReadAs (2 ^ 64) (one_of (codes "from") options) from
+    × IsReadAs (2 ^ 64) (one_of (codes "to") options) to
+    × IsChoice shape block (unwrap_or from 0) (unwrap_or to 18446744073709551615) made

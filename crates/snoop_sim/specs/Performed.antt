@@ -2,17 +2,25 @@
 -- Source: this project's profile.
 use Rattle.std.specs.Prelude.{⊤, ◌≡◌, ◌⊎◌, ℕ, Bool, true, List, Option, Result, Ok, Err}
 use Rattle.std.specs.Io.KnownBytes.{Appends}
+use Rattle.snoop_trace.specs.Extent.{Extent}
 use Rattle.snoop_trace.specs.Output.{AppendsFront}
 use Rattle.snoop_trace.specs.Text.{BlamesReader}
+use Rattle.snoop_trace.specs.declared.protocol.Protocol.{Protocol}
 use Rattle.snoop_rules.specs.TableText.{table_text}
 use Rattle.clap.specs.Words.{Text}
 use Rattle.snoop_sim.specs.Asked.{Asks, Refuses}
+use Rattle.snoop_counts.specs.ByBlock.{counts_by_block}
+use Rattle.snoop_counts.specs.CoreTable.{counts_by_core}
 use Rattle.snoop_engine.specs.Counts.{frames_counts_text}
 use Rattle.snoop_engine.specs.Simulated.{Simulates}
 use Rattle.snoop_engine.specs.SimulatedRun.{SimulatesRun}
 use Rattle.snoop_engine.specs.SimulatedSerial.{SimulatesSerial}
 use Rattle.snoop_engine.specs.SimulatedView.{SimulatesView}
 use Rattle.snoop_engine.specs.States.{states_text}
+use Rattle.snoop_draw.specs.Simulated.{Draws}
+use Rattle.snoop_draw.specs.declared.fault.DrawFault.TheVariants as draw
+use Rattle.snoop_lint.specs.Linted.{Lints}
+use Rattle.snoop_lint.specs.declared.fault.LintFault.TheVariants.{Read as LintRead}
 use Rattle.snoop_sim.specs.Threaded.{SimulatesThreads}
 use Rattle.snoop_sim.specs.Status.{status_of}
 use Rattle.snoop_engine.specs.declared.fault.SimFault.{SimFault}
@@ -20,9 +28,12 @@ use Rattle.snoop_engine.specs.declared.fault.SimFault.TheVariants.{Text as TextR
 use Rattle.snoop_trace.specs.declared.fault.TextFault.TheVariants.{Read}
 use Rattle.snoop_sim.specs.declared.fault.ThreadsFault.TheVariants.{Text as RowsRefused}
 use Rattle.snoop_sim.specs.declared.failure.Failure.{Failure}
-use Rattle.snoop_sim.specs.declared.failure.Failure.TheVariants.{Simulation, Threads as ThreadsFailure}
+use Rattle.snoop_sim.specs.declared.failure.Failure.TheVariants.{Simulation, Threads as ThreadsFailure, Lint as LintFailure, Drawing}
+use Rattle.snoop_sim.specs.declared.options.Grouping.TheVariants as grouping
+use Rattle.snoop_sim.specs.declared.options.Engine.{Engine}
+use Rattle.snoop_sim.specs.declared.options.Engine.TheVariants.{Steps, Run, Serial, Threads, States, Counts, Lint, Draw}
 use Rattle.snoop_sim.specs.declared.options.Task.{Task}
-use Rattle.snoop_sim.specs.declared.options.Task.TheVariants.{Help, Steps, Run, Serial, Threads, States, Counts, Table}
+use Rattle.snoop_sim.specs.declared.options.Task.TheVariants.{Help, Table, Simulate}
 
 -- a text was written whole; or, out of memory, nothing; or, where a write failed, a beginning; there was none to refuse
 abbrev pub Writes : List ℕ → Result (Unit {0}) SimFault → Option (List ℕ) → Option (List ℕ) → Type 0
@@ -36,16 +47,24 @@ abbrev pub EndsAs : {Fault : Type 0} → (Fault → Failure) → Result (Unit {0
 EndsAs failed (Ok u) Left = Left (Ok u)
 EndsAs {Fault} failed (Err failure) Left = (fault : Fault) × (failure ≡ failed fault) × Left (Err fault)
 
--- what each task leaves: its engine's output, the table, or the text of help
+-- what each engine leaves
+abbrev pub Runs : Protocol → Extent → Engine → Option (List ℕ) → Result (Unit {0}) Failure → Option (List ℕ) → Option (List ℕ) → Type 0
+Runs protocol shape Steps input ending old new = EndsAs Simulation ending (λ done. Simulates protocol shape input done old new)
+Runs protocol shape Run input ending old new = EndsAs Simulation ending (λ done. SimulatesRun protocol shape input done old new)
+Runs protocol shape Serial input ending old new = EndsAs Simulation ending (λ done. SimulatesSerial protocol shape input done old new)
+Runs protocol shape Threads input ending old new = EndsAs ThreadsFailure ending (λ done. SimulatesThreads protocol shape input done old new)
+Runs protocol shape States input ending old new = EndsAs Simulation ending (λ done. SimulatesView protocol shape (λ frames final. states_text shape frames) input done old new)
+Runs protocol shape (Counts grouping.Row) input ending old new = EndsAs Simulation ending (λ done. SimulatesView protocol shape (λ frames final. frames_counts_text protocol frames) input done old new)
+Runs protocol shape (Counts grouping.Core) input ending old new = EndsAs Simulation ending (λ done. SimulatesView protocol shape (counts_by_core shape) input done old new)
+Runs protocol shape (Counts (grouping.Block top)) input ending old new = EndsAs Simulation ending (λ done. SimulatesView protocol shape (counts_by_block shape top) input done old new)
+Runs protocol shape (Lint form most) input ending old new = EndsAs LintFailure ending (λ done. Lints form most protocol shape input done old new)
+Runs protocol shape (Draw charset choice) input ending old new = EndsAs Drawing ending (λ done. Draws protocol shape charset choice input done old new)
+
+-- what each task leaves: the text of help, the table, or its engine's output
 abbrev pub Performs : Task → Option (List ℕ) → Result (Unit {0}) Failure → Option (List ℕ) → Option (List ℕ) → Type 0
 Performs (Help help) input ending old new = (text : List ℕ) × EndsAs Simulation ending (λ done. Writes text done old new)
-Performs (Steps protocol shape) input ending old new = EndsAs Simulation ending (λ done. Simulates protocol shape input done old new)
-Performs (Run protocol shape) input ending old new = EndsAs Simulation ending (λ done. SimulatesRun protocol shape input done old new)
-Performs (Serial protocol shape) input ending old new = EndsAs Simulation ending (λ done. SimulatesSerial protocol shape input done old new)
-Performs (Threads protocol shape) input ending old new = EndsAs ThreadsFailure ending (λ done. SimulatesThreads protocol shape input done old new)
-Performs (States protocol shape) input ending old new = EndsAs Simulation ending (λ done. SimulatesView protocol shape (λ frames final. states_text shape frames) input done old new)
-Performs (Counts protocol shape) input ending old new = EndsAs Simulation ending (λ done. SimulatesView protocol shape (λ frames final. frames_counts_text protocol frames) input done old new)
 Performs (Table protocol which) input ending old new = EndsAs Simulation ending (λ done. Writes (table_text protocol which) done old new)
+Performs (Simulate protocol shape engine) input ending old new = Runs protocol shape engine input ending old new
 
 -- the task that the words ask for was performed; or nothing was begun for them, and nothing written
 abbrev pub Leaves : List Text → Option (List ℕ) → Result (Unit {0}) Failure → Option (List ℕ) → Option (List ℕ) → Type 0
@@ -61,6 +80,8 @@ status_of_ending (Err failure) = status_of failure
 abbrev pub IsFailedRead : Result (Unit {0}) Failure → Type 0
 IsFailedRead (Err (Simulation (TextRefused Read))) = ⊤
 IsFailedRead (Err (ThreadsFailure (RowsRefused Read))) = ⊤
+IsFailedRead (Err (LintFailure LintRead)) = ⊤
+IsFailedRead (Err (Drawing (draw.Simulation (TextRefused Read)))) = ⊤
 IsFailedRead ending = ⊥
 
 -- the program, for these words and this input, ended with this status, and left this; whether its reader never fails, and whether a read had failed before and after

@@ -8,9 +8,12 @@ use Rattle.snoop_cores.specs.declared.fault.RunFault.TheVariants as run
 use Rattle.snoop_cores.specs.declared.fault.SeatFault.TheVariants as seat
 use Rattle.snoop_cores.specs.declared.fault.GatherFault.TheVariants as gathering
 use Rattle.snoop_sim.specs.declared.failure.Failure.{Failure}
-use Rattle.snoop_sim.specs.declared.failure.Failure.TheVariants.{CommandLine, NoCommand, NotUtf8, Shape, Simulation, Threads}
+use Rattle.snoop_sim.specs.declared.failure.Failure.TheVariants.{CommandLine, NoCommand, NotUtf8, Shape, BadTop, Simulation, Threads, Lint, Drawing, Unchosen}
 use Rattle.snoop_engine.specs.declared.fault.SimFault.{SimFault}
 use Rattle.snoop_engine.specs.declared.fault.SimFault.TheVariants.{Text, NoMemory, Write}
+use Rattle.snoop_lint.specs.declared.fault.LintFault.{LintFault}
+use Rattle.snoop_draw.specs.declared.fault.DrawFault.TheVariants as draw
+use Rattle.snoop_lint.specs.declared.fault.LintFault.TheVariants as lint
 use Rattle.snoop_sim.specs.declared.fault.ThreadsFault.{ThreadsFault}
 use Rattle.snoop_sim.specs.declared.fault.ThreadsFault.TheVariants as threads
 
@@ -33,11 +36,22 @@ status_of_threads (threads.Write write.NoMemory) = 3
 status_of_threads (threads.Write write.Write) = 4
 status_of_threads _ = 5
 
+-- the same for what is said of a text
+abbrev pub status_of_lint : LintFault → ℕ
+status_of_lint lint.Read = 1
+status_of_lint lint.NoMemory = 3
+status_of_lint lint.Write = 4
+
 -- 2 for the command line or the shape
 abbrev pub status_of : Failure → ℕ
 status_of (CommandLine error) = 2
 status_of NoCommand = 2
 status_of NotUtf8 = 2
 status_of (Shape fault) = 2
+status_of BadTop = 2
 status_of (Simulation fault) = status_of_fault fault
 status_of (Threads fault) = status_of_threads fault
+status_of (Lint fault) = status_of_lint fault
+status_of (Drawing (draw.Simulation fault)) = status_of_fault fault
+status_of (Drawing draw.TooLarge) = 2
+status_of (Unchosen fault) = 2

@@ -2,11 +2,13 @@
 ghost use Rattle.std.specs.Prelude.{◌≡◌, ◌≢◌};
 ghost use Rattle.std.specs.IoError.{error_kind};
 ghost use Rattle.std.specs.declared.io.ErrorKind.TheVariants as io_kind;
-ghost use Rattle.snoop_sim.specs.Status.{status_of};
+ghost use Rattle.snoop_sim.specs.Status.{status_of, status_of_fault};
 
 use crate::fault::ThreadsFault;
 use clap::error::ErrorKind;
+use snoop_draw::{ChoiceFault, DrawFault};
 use snoop_engine::SimFault;
+use snoop_lint::LintFault;
 use snoop_trace::{ShapeFault, TextFault};
 use std::alloc::AllocError;
 use std::io;
@@ -17,17 +19,27 @@ use thiserror::Error;
 pub(crate) enum Failure {
     #[error(transparent)]
     CommandLine(clap::Error),
-    /// No command of the four was named. `clap` refuses such words before.
+    /// No command was named. `clap` refuses such words before.
     #[error("NoCommand")]
     NoCommand,
     #[error("NotUtf8")]
     NotUtf8,
     #[error(transparent)]
     Shape(ShapeFault),
+    /// `--top` is given without `--by block`.
+    #[error("BadTop")]
+    BadTop,
     #[error(transparent)]
     Simulation(SimFault),
     #[error(transparent)]
     Threads(ThreadsFault),
+    #[error(transparent)]
+    Lint(LintFault),
+    #[error(transparent)]
+    Drawing(DrawFault),
+    /// The block or the steps that are to be shown are refused.
+    #[error(transparent)]
+    Unchosen(ChoiceFault),
 }
 
 impl From<ShapeFault> for Failure {
@@ -38,6 +50,17 @@ impl From<ShapeFault> for Failure {
 
     fn from(fault: ShapeFault) -> Self {
         Failure::Shape(fault)
+    }
+}
+
+impl From<ChoiceFault> for Failure {
+    ghost use Rattle.std.specs.Prelude.{◌≡◌};
+    ghost use Rattle.snoop_sim.specs.declared.failure.Failure.TheVariants as failure;
+
+    ghost from_gives = { λ e r. r ≡ failure.Unchosen e };
+
+    fn from(fault: ChoiceFault) -> Self {
+        Failure::Unchosen(fault)
     }
 }
 
@@ -90,12 +113,31 @@ impl Failure {
         ensures { result ≡ status_of self.now }
     {
         match self {
-            Failure::CommandLine(_) | Failure::NoCommand | Failure::NotUtf8 | Failure::Shape(_) =>
-                2,
-            Failure::Simulation(SimFault::Text(TextFault::NoMemory) | SimFault::NoMemory) => 3,
-            Failure::Simulation(SimFault::Text(_)) => 1,
-            Failure::Simulation(SimFault::Write) => 4,
+            Failure::CommandLine(_)
+            | Failure::NoCommand
+            | Failure::NotUtf8
+            | Failure::Shape(_)
+            | Failure::Unchosen(_)
+            | Failure::BadTop
+            | Failure::Drawing(DrawFault::TooLarge) => 2,
+            Failure::Simulation(fault) | Failure::Drawing(DrawFault::Simulation(fault)) => {
+                status_of_fault(*fault)
+            }
             Failure::Threads(fault) => fault.status(),
+            Failure::Lint(LintFault::Read) => 1,
+            Failure::Lint(LintFault::NoMemory) => 3,
+            Failure::Lint(LintFault::Write) => 4,
         }
+    }
+}
+
+/// The status of a simulation that stopped.
+fn status_of_fault(fault: SimFault) -> u8
+    ensures { result ≡ status_of_fault fault }
+{
+    match fault {
+        SimFault::Text(TextFault::NoMemory) | SimFault::NoMemory => 3,
+        SimFault::Text(_) => 1,
+        SimFault::Write => 4,
     }
 }

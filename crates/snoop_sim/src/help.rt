@@ -72,13 +72,15 @@ handed in by `<`:
 
 `steps` and `run` write a line for each step, which ends with the machine's reply
 (hit, store hit, issued, ordered, Data, NoData, gone, absent, refused), and then a
-report: counts, and the last values of each block. `snoop COMMAND --help` says more.
+report: counts, and the last values of each block. `snoop COMMAND --help` says more,
+and `snoop lint` says what is wrong with a text that is refused.
 
 Exit statuses:
   0  done, even where steps were refused
   1  the text was refused, or could not be read (Read); nothing was written
   2  the command line was refused, or the shape (BadCores, BadBlocks, BadBytes,
-     BadWords: outside the limits of its options); nothing was written
+     BadWords: outside the limits of its options), or what is to be shown (BadBlock,
+     BadRange, BadTop, TooLarge); nothing was written
   3  out of memory; the output may be cut short
   4  a write failed; the output may be cut short
   5  the threads of `snoop threads` were refused; nothing was written
@@ -178,15 +180,52 @@ pub(crate) static COUNTS: &str = help!(
     "
 Example: printf 'L,0,0\\nO,0\\nR,0\\n' | snoop counts --by row
 
-The first line of output names the fields. Then each row of the cache table and of the
-memory table has a line (see `snoop table`):
+The first line of output names the fields. --by row: each row of the cache table and of
+the memory table has a line (see `snoop table`):
   controller                    cache or memory
   state, event, action, next    the row
   count                         how often it was taken, by all cores together; 0 if never
-A stall counts too. The rows of a core in I at another core's request do nothing, and
-are left out."
+A stall counts too; a core in I at another core's request is left out.
+--by core, --by block: each core or block that the text names has a line: the counts of
+the report, then sums of rows of the tables, then its refused steps (docs/TEXTS.md).
+--top N: the N blocks of most ordered requests alone, most first."
     faults "L, S, E, O or R" "L and E take 2 numbers, S 3, O and R 1"
     heading
+    more
+);
+
+pub(crate) static LINT: &str = "\
+Reads standard input to its end: `snoop lint < FILE`. Each faulty line of it has a line
+of output: its record and line, the fault, what was expected there, and which option
+would allow it. Then come how many records and faults there are, the cores and blocks
+that the text needs, and whether it looks like a text of the other kind.
+Example: printf 'L,0\\n' | snoop lint
+  record 1, line 1: BadFields: L has 3 fields (L,core,address), and this record has 2
+  1 fault in 1 record
+  no O and no R: is this a text for snoop run?
+
+The status is 0 where the text was read, with faults or without.
+
+Exit statuses: snoop --help
+More in docs/TEXTS.md.";
+
+pub(crate) static DRAW: &str = help!(
+    "Reads standard input: `snoop draw < FILE`. Each line is a step:"
+    asks
+    "
+  O,core                the bus orders the core's oldest request
+  R,address             the response for the block of the address comes"
+    numbers
+    "
+Example: printf 'L,0,0\\nO,0\\nR,0\\n' | snoop draw
+
+Each step has a line of output, each block a panel in it: a column for each core that
+asks for the block, the bus and memory, with what a step changes. The legend at the
+end names the marks. A panel for each block makes a line long: --block N draws one.
+
+A text is refused as by `snoop steps`, a choice by BadBlock (--block is not below
+--blocks) or BadRange (--from is 0, or above --to), and more than a million cells by
+TooLarge: choose a block, or fewer steps."
     more
 );
 

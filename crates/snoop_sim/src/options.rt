@@ -1,14 +1,16 @@
 //! The command line: its words and what they ask for.
-ghost use Rattle.std.specs.Prelude.{◌≡◌, IfErr, IfOk, codes, false, map, string_bytes};
-ghost use Rattle.clap.specs.Words.{app_of, first_of, found_of, one_of, rows_of, rule_of, subcommand_rows_of};
-ghost use Rattle.snoop_sim.specs.Asked.{Asks, HasNoTask, HasTask, Refuses};
-ghost use Rattle.snoop_sim.specs.CommandLine.{IsForms, IsGroupings, IsLocal, IsProtocols, IsSnoop, IsTables, Names, form_rule, grouping_rule, number_rule, protocol_rule, serial_rule, simulation_app, table_app};
-ghost use Rattle.snoop_sim.specs.Options.{IsNumberOf, IsShapeOf, asks_serial, protocol_named, which_named};
+ghost use Rattle.std.specs.Prelude.{◌≡◌, ◌≢◌, ◌^◌, [], IfErr, IfOk, codes, false, map, string_bytes};
+ghost use Rattle.clap.specs.Words.{app_of, found_of, one_of, rows_of, rule_of, subcommand_rows_of};
+ghost use Rattle.snoop_sim.specs.Asked.{Asks, HasNoEngine, HasNoTask, HasTask, IsEngineOf, IsTaskOf, Refuses};
+ghost use Rattle.snoop_sim.specs.CommandLine.{IsCounts, IsDraw, IsForms, IsGroupings, IsKinds, IsLint, IsLocal, IsProtocols, IsRun, IsSimulation, IsSnoop, IsStates, IsSteps, IsTable, IsThreads, Names, choice_rules, default_form_rule, flag_rule, form_rule, grouping_rule, kind_rule, number_rule, optional_rule, protocol_rule, top_app, with_rules};
+ghost use Rattle.snoop_sim.specs.Options.{IsChoiceOf, IsGroupingOf, IsNumberOf, IsReadAs, IsShapeOf, MisplacesTop, asks_serial, charset_named, kind_named, protocol_named, says, which_named};
 
 use crate::failure::Failure;
 use crate::help;
 use clap::builder::ValueParser;
 use clap::{Arg, ArgAction, ArgMatches, Command, Error, value_parser};
+use snoop_draw::{Charset, Choice, ChoiceFault};
+use snoop_lint::Form;
 use snoop_rules::{Protocol, Which};
 use snoop_trace::{Shape, ShapeFault};
 use std::alloc::{AllocError, Global};
@@ -17,20 +19,42 @@ use std::alloc::{AllocError, Global};
 #[derive(Debug, Drop)]
 pub(crate) enum Task {
     Help(Error),
-    Steps(Protocol, Shape),
-    Run(Protocol, Shape),
-    Serial(Protocol, Shape),
-    Threads(Protocol, Shape),
-    States(Protocol, Shape),
-    Counts(Protocol, Shape),
     Table(Protocol, Which),
+    Simulate(Protocol, Shape, Engine),
+}
+
+/// What is done with a text.
+#[derive(Clone, Copy, Debug, PartialEq, Eq)]
+pub(crate) enum Engine {
+    Steps,
+    Run,
+    Serial,
+    Threads,
+    States,
+    Counts(Grouping),
+    /// So many faulty records are named at most.
+    Lint(Form, u64),
+    Draw(Charset, Choice),
+}
+
+/// What each line of counts is of.
+#[derive(Clone, Copy, Debug, PartialEq, Eq)]
+pub(crate) enum Grouping {
+    Row,
+    Core,
+    /// All blocks, or so many, those of most requests first.
+    Block(Option<u32>),
 }
 
 static PROTOCOLS: [&str; 2] = ["msi", "mesi"];
 
+static KINDS: [&str; 2] = ["steps", "rows"];
+
+static DRAWINGS: [&str; 1] = ["text"];
+
 static FORMS: [&str; 1] = ["csv"];
 
-static GROUPINGS: [&str; 1] = ["row"];
+static GROUPINGS: [&str; 3] = ["row", "core", "block"];
 
 static TABLES: [&str; 2] = ["cache", "memory"];
 
@@ -52,14 +76,36 @@ fn task_of(matches: &ArgMatches) -> Result<Task, Failure>
 {
     match matches.subcommand() {
         Some(("table", options)) => Ok(Task::Table(protocol_in(options), which_in(options))),
-        Some(("run", options)) if is_serial(options) => {
-            Ok(Task::Serial(protocol_in(options), shape_in(options)?))
-        }
-        Some(("run", options)) => Ok(Task::Run(protocol_in(options), shape_in(options)?)),
-        Some(("threads", options)) => Ok(Task::Threads(protocol_in(options), shape_in(options)?)),
-        Some(("states", options)) => Ok(Task::States(protocol_in(options), shape_in(options)?)),
-        Some(("counts", options)) => Ok(Task::Counts(protocol_in(options), shape_in(options)?)),
-        Some(("steps", options)) => Ok(Task::Steps(protocol_in(options), shape_in(options)?)),
+        Some((name, options)) => simulation_of(name, options),
+        None => Err(Failure::NoCommand),
+    }
+}
+
+/// The simulation that a command other than `table` asks for.
+fn simulation_of(name: &str, options: &ArgMatches) -> Result<Task, Failure>
+    requires { name.now ≢ codes "table" }
+    ensures ok { IfOk result (IsTaskOf (name.now, rows_of (found_of options.now))) }
+    ensures err { IfErr result (HasNoTask (Some (name.now, rows_of (found_of options.now)))) }
+{
+    let shape = shape_in(options)?;
+    let engine = engine_of(name, options, shape)?;
+    Ok(Task::Simulate(protocol_in(options), shape, engine))
+}
+
+/// The engine of a command that simulates.
+fn engine_of(name: &str, options: &ArgMatches, shape: Shape) -> Result<Engine, Failure>
+    ensures ok { IfOk result (IsEngineOf name.now (rows_of (found_of options.now)) shape) }
+    ensures err { IfErr result (HasNoEngine name.now (rows_of (found_of options.now)) shape) }
+{
+    match name {
+        "steps" => Ok(Engine::Steps),
+        "run" if is_serial(options) => Ok(Engine::Serial),
+        "run" => Ok(Engine::Run),
+        "threads" => Ok(Engine::Threads),
+        "states" => Ok(Engine::States),
+        "counts" => Ok(Engine::Counts(grouping_in(options)?)),
+        "draw" => Ok(Engine::Draw(charset_in(options), choice_in(options, shape)?)),
+        "lint" => Ok(Engine::Lint(kind_in(options), long_in(options, "most").unwrap_or(0))),
         _ => Err(Failure::NoCommand),
     }
 }
@@ -68,46 +114,156 @@ fn task_of(matches: &ArgMatches) -> Result<Task, Failure>
 fn grammar<'a>(alloc: Global) -> Result<Command<'a>, AllocError>
     ensures { IfOk result (λ command. IsSnoop (app_of command)) }
 {
-    Command::new(alloc, "snoop")
-        .bin_name("snoop")?
-        .version("0.1.0")
-        .about("Simulates private caches on a snooping bus, under MSI or MESI")
-        .after_help(help::PROGRAM)
-        .subcommand_required(true)
-        .subcommand(simulation(
-            alloc,
-            "steps",
-            "Read steps; write each one's reply and a report",
-            help::STEPS,
-        )?)?
-        .subcommand(simulation(
-            alloc,
-            "run",
-            "Read what each core does; write each step's reply and a report",
-            help::RUN,
-        )?
-        .arg(serial(alloc))?)?
-        .subcommand(simulation(
-            alloc,
-            "threads",
-            "Read what each core does, let a thread for each do it; write the steps taken",
-            help::THREADS,
-        )?)?
-        .subcommand(simulation(
-            alloc,
-            "states",
-            "Read steps; write which row of its table each controller took",
-            help::STATES,
-        )?
-        .arg(form(alloc))?)?
-        .subcommand(simulation(
-            alloc,
-            "counts",
-            "Read steps; write how often each row of the tables was taken",
-            help::COUNTS,
-        )?
-        .arg(grouping(alloc))?)?
+    top(alloc)?
+        .subcommand(steps(alloc)?)?
+        .subcommand(run(alloc)?)?
+        .subcommand(threads(alloc)?)?
+        .subcommand(states(alloc)?)?
+        .subcommand(counts(alloc)?)?
+        .subcommand(lint(alloc)?)?
+        .subcommand(draw(alloc)?)?
         .subcommand(table(alloc)?)
+}
+
+/// The program before its commands.
+fn top<'a>(alloc: Global) -> Result<Command<'a>, AllocError>
+    ensures { IfOk result (λ command. IsLocal command × (app_of command ≡ top_app)) }
+{
+    let named = Command::new(alloc, "snoop").bin_name("snoop")?;
+    Ok(
+        named
+            .version("0.1.0")
+            .about("Simulates private caches on a snooping bus, under MSI or MESI")
+            .after_help(help::PROGRAM)
+            .subcommand_required(true),
+    )
+}
+
+fn steps<'a>(alloc: Global) -> Result<Command<'a>, AllocError>
+    ensures { IfOk result (λ command. IsLocal command × IsSteps (app_of command)) }
+{
+    simulation(
+        alloc,
+        "steps",
+        "Read steps; write each one's reply and a report",
+        help::STEPS,
+    )
+}
+
+fn run<'a>(alloc: Global) -> Result<Command<'a>, AllocError>
+    ensures { IfOk result (λ command. IsLocal command × IsRun (app_of command)) }
+{
+    simulation(
+        alloc,
+        "run",
+        "Read what each core does; write each step's reply and a report",
+        help::RUN,
+    )?
+    .arg(flag(
+        alloc,
+        "serial",
+        "Do each line whole before the next, in the order of the text",
+    ))
+}
+
+fn threads<'a>(alloc: Global) -> Result<Command<'a>, AllocError>
+    ensures { IfOk result (λ command. IsLocal command × IsThreads (app_of command)) }
+{
+    simulation(
+        alloc,
+        "threads",
+        "Read what each core does, let a thread for each do it; write the steps taken",
+        help::THREADS,
+    )
+}
+
+fn states<'a>(alloc: Global) -> Result<Command<'a>, AllocError>
+    ensures { IfOk result (λ command. IsLocal command × IsStates (app_of command)) }
+{
+    simulation(
+        alloc,
+        "states",
+        "Read steps; write which row of its table each controller took",
+        help::STATES,
+    )?
+    .arg(form(alloc))
+}
+
+fn counts<'a>(alloc: Global) -> Result<Command<'a>, AllocError>
+    ensures { IfOk result (λ command. IsLocal command × IsCounts (app_of command)) }
+{
+    simulation(
+        alloc,
+        "counts",
+        "Read steps; write counts by row of the tables, by core or by block",
+        help::COUNTS,
+    )?
+    .arg(groupings(alloc))?
+    .arg(optional(
+        alloc,
+        "top",
+        value_parser!(u32),
+        "By block: so many blocks alone, those of most requests first",
+    ))
+}
+
+fn lint<'a>(alloc: Global) -> Result<Command<'a>, AllocError>
+    ensures { IfOk result (λ command. IsLocal command × IsLint (app_of command)) }
+{
+    let most = optional(
+        alloc,
+        "most",
+        value_parser!(u64),
+        "How many faulty records are shown at most",
+    );
+    simulation(
+        alloc,
+        "lint",
+        "Read steps or rows; write what is wrong with the text",
+        help::LINT,
+    )?
+    .arg(kinds(alloc))?
+    .arg(most.default_value("20"))
+}
+
+fn draw<'a>(alloc: Global) -> Result<Command<'a>, AllocError>
+    ensures { IfOk result (λ command. IsLocal command × IsDraw (app_of command)) }
+{
+    let plain = simulation(
+        alloc,
+        "draw",
+        "Read steps; draw what happens to each block",
+        help::DRAW,
+    )?;
+    let ascii = flag(alloc, "ascii", "Draw with ASCII characters alone");
+    choosing(alloc, plain.arg(forms(alloc, DRAWINGS.as_slice()))?.arg(ascii)?)
+}
+
+/// The command, which chooses a block and steps too.
+fn choosing<'a>(alloc: Global, command: Command<'a>) -> Result<Command<'a>, AllocError>
+    requires { IsLocal command }
+    ensures { IfOk result (λ new. IsLocal new × (app_of new ≡ with_rules (app_of command.entry) choice_rules)) }
+{
+    let from = optional(
+        alloc,
+        "from",
+        value_parser!(u64),
+        "Show steps from this number on",
+    );
+    command
+        .arg(optional(
+            alloc,
+            "block",
+            value_parser!(u32),
+            "Show this block alone",
+        ))?
+        .arg(from.default_value("1"))?
+        .arg(optional(
+            alloc,
+            "to",
+            value_parser!(u64),
+            "Show steps up to this number",
+        ))
 }
 
 /// A command that simulates a text on a machine of some shape; the help says what the text is.
@@ -117,7 +273,7 @@ fn simulation<'a>(
     about: &'a str,
     help: &'a str,
 ) -> Result<Command<'a>, AllocError>
-    ensures { IfOk result (λ command. IsLocal command × ((protocols : Names) × IsProtocols protocols × (app_of command ≡ simulation_app name.entry.now protocols))) }
+    ensures { IfOk result (λ command. IsLocal command × IsSimulation name.entry.now [] (app_of command)) }
 {
     Command::new(alloc, name)
         .about(about)
@@ -145,7 +301,7 @@ fn simulation<'a>(
 }
 
 fn table<'a>(alloc: Global) -> Result<Command<'a>, AllocError>
-    ensures { IfOk result (λ command. IsLocal command × ((protocols tables : Names) × IsProtocols protocols × IsTables tables × (app_of command ≡ table_app protocols tables))) }
+    ensures { IfOk result (λ command. IsLocal command × IsTable (app_of command)) }
 {
     let which = Arg::new(alloc, "which")
         .long("which")
@@ -170,12 +326,12 @@ fn protocol<'a>(alloc: Global) -> Arg<'a>
         .default_value("msi")
 }
 
-fn serial<'a>(alloc: Global) -> Arg<'a>
-    ensures { (result.global ≡ false) × (rule_of result ≡ serial_rule) }
+fn flag<'a>(alloc: Global, name: &'a str, help: &'a str) -> Arg<'a>
+    ensures { (result.global ≡ false) × (rule_of result ≡ flag_rule name.entry.now) }
 {
-    Arg::new(alloc, "serial")
-        .long("serial")
-        .help("Do each line whole before the next, in the order of the text")
+    Arg::new(alloc, name)
+        .long(name)
+        .help(help)
         .action(ArgAction::SetTrue)
 }
 
@@ -189,7 +345,7 @@ fn form<'a>(alloc: Global) -> Arg<'a>
         .required(true)
 }
 
-fn grouping<'a>(alloc: Global) -> Arg<'a>
+fn groupings<'a>(alloc: Global) -> Arg<'a>
     ensures { (result.global ≡ false) × ((groupings : Names) × IsGroupings groupings × (rule_of result ≡ grouping_rule groupings)) }
 {
     Arg::new(alloc, "by")
@@ -197,6 +353,39 @@ fn grouping<'a>(alloc: Global) -> Arg<'a>
         .help("What each line counts")
         .value_parser(ValueParser::Names(GROUPINGS.as_slice()))
         .required(true)
+}
+
+/// The form of the output, a text if it is not given.
+fn forms<'a>(alloc: Global, names: &'a [&'a str]) -> Arg<'a>
+    ensures { (result.global ≡ false) × (rule_of result ≡ default_form_rule names.entry) }
+{
+    Arg::new(alloc, "as")
+        .long("as")
+        .help("The form of the output")
+        .value_parser(ValueParser::Names(names))
+        .default_value("text")
+}
+
+fn kinds<'a>(alloc: Global) -> Arg<'a>
+    ensures { (result.global ≡ false) × ((kinds : Names) × IsKinds kinds × (rule_of result ≡ kind_rule kinds)) }
+{
+    Arg::new(alloc, "of")
+        .long("of")
+        .help("What the text is for: `snoop steps`, or `snoop run`")
+        .value_parser(ValueParser::Names(KINDS.as_slice()))
+        .default_value("steps")
+}
+
+/// An option that may be left out.
+fn optional<'a>(
+    alloc: Global,
+    name: &'a str,
+    values: ValueParser<'a>,
+    help: &'a str,
+) -> Arg<'a>
+    ensures { (result.global ≡ false) × (rule_of result ≡ optional_rule name.entry.now values.entry) }
+{
+    Arg::new(alloc, name).long(name).help(help).value_parser(values)
 }
 
 fn number<'a>(alloc: Global, name: &'a str, default: &'a str, help: &'a str) -> Arg<'a>
@@ -211,7 +400,7 @@ fn number<'a>(alloc: Global, name: &'a str, default: &'a str, help: &'a str) -> 
 
 /// The protocol that was named, in either case.
 fn protocol_in(options: &ArgMatches) -> Protocol
-    ensures { result ≡ protocol_named (first_of (codes "protocol") (rows_of (found_of options.now))) }
+    ensures { result ≡ protocol_named (rows_of (found_of options.now)) }
 {
     match options.get_str("protocol") {
         Some(name) if name.eq_ignore_ascii_case("mesi") => Protocol::Mesi,
@@ -221,21 +410,68 @@ fn protocol_in(options: &ArgMatches) -> Protocol
 
 /// Whether the rows are served one after another.
 fn is_serial(options: &ArgMatches) -> bool
-    ensures { result ≡ asks_serial (first_of (codes "serial") (rows_of (found_of options.now))) }
+    ensures { result ≡ asks_serial (rows_of (found_of options.now)) }
 {
-    match options.get_str("serial") {
-        Some("true") => true,
-        _ => false,
-    }
+    says(options, "serial", "true")
 }
 
 /// The table that was named.
 fn which_in(options: &ArgMatches) -> Which
-    ensures { result ≡ which_named (first_of (codes "which") (rows_of (found_of options.now))) }
+    ensures { result ≡ which_named (rows_of (found_of options.now)) }
 {
-    match options.get_str("which") {
-        Some("memory") => Which::Memory,
-        _ => Which::Cache,
+    if says(options, "which", "memory") {
+        Which::Memory
+    } else {
+        Which::Cache
+    }
+}
+
+/// The characters that were named.
+fn charset_in(options: &ArgMatches) -> Charset
+    ensures { result ≡ charset_named (rows_of (found_of options.now)) }
+{
+    if says(options, "ascii", "true") {
+        Charset::Ascii
+    } else {
+        Charset::Unicode
+    }
+}
+
+/// What the lines of counts are of; `--top` is for blocks alone.
+fn grouping_in(options: &ArgMatches) -> Result<Grouping, Failure>
+    ensures ok { IfOk result (IsGroupingOf (rows_of (found_of options.now))) }
+    ensures err { IfErr result (λ failure. (failure ≡ Failure.BadTop) × MisplacesTop (rows_of (found_of options.now))) }
+{
+    let top = short_in(options, "top");
+    if says(options, "by", "block") {
+        Ok(Grouping::Block(top))
+    } else if top.is_some() {
+        Err(Failure::BadTop)
+    } else if says(options, "by", "core") {
+        Ok(Grouping::Core)
+    } else {
+        Ok(Grouping::Row)
+    }
+}
+
+/// What the text is for.
+fn kind_in(options: &ArgMatches) -> Form
+    ensures { result ≡ kind_named (rows_of (found_of options.now)) }
+{
+    if says(options, "of", "rows") {
+        Form::Rows
+    } else {
+        Form::Steps
+    }
+}
+
+/// Whether the option has this value.
+fn says(options: &ArgMatches, name: &str, value: &str) -> bool
+    ensures { result ≡ says false name.now value.now (rows_of (found_of options.now)) }
+{
+    match options.get_str(name) {
+        Some(text) => text == value,
+        None => false,
     }
 }
 
@@ -251,9 +487,35 @@ fn shape_in(options: &ArgMatches) -> Result<Shape, ShapeFault>
     )
 }
 
+/// The block and the steps that were chosen.
+fn choice_in(options: &ArgMatches, shape: Shape) -> Result<Choice, ChoiceFault>
+    ensures { IsChoiceOf shape (rows_of (found_of options.now)) result }
+{
+    Choice::new(
+        shape,
+        short_in(options, "block"),
+        long_in(options, "from").unwrap_or(0),
+        long_in(options, "to").unwrap_or(u64::MAX),
+    )
+}
+
 /// The number that was named; 0, which no shape has, where it is none.
 fn number_in(options: &ArgMatches, name: &str) -> u32
-    ensures { IsNumberOf (one_of name.now (rows_of (found_of options.now))) result }
+    ensures { IsNumberOf name.now (rows_of (found_of options.now)) result }
 {
-    options.get_one::<u32>(name).unwrap_or(0)
+    short_in(options, name).unwrap_or(0)
+}
+
+/// The number of 32 bits that was named.
+fn short_in(options: &ArgMatches, name: &str) -> Option<u32>
+    ensures { IsReadAs (2 ^ 32) (one_of name.now (rows_of (found_of options.now))) result }
+{
+    options.get_one::<u32>(name)
+}
+
+/// The number of 64 bits that was named.
+fn long_in(options: &ArgMatches, name: &str) -> Option<u64>
+    ensures { IsReadAs (2 ^ 64) (one_of name.now (rows_of (found_of options.now))) result }
+{
+    options.get_one::<u64>(name)
 }

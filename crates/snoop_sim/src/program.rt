@@ -4,15 +4,19 @@ ghost use Rattle.std.specs.IoError.{error_kind};
 ghost use Rattle.snoop_trace.specs.Output.{BlamesWriter};
 ghost use Rattle.snoop_trace.specs.Text.{BlamesReader};
 ghost use Rattle.snoop_sim.specs.Status.{status_of};
-ghost use Rattle.snoop_sim.specs.Performed.{Ends, IsFailedRead, Leaves, Performs, Writes, status_of_ending};
+ghost use Rattle.snoop_sim.specs.Performed.{Ends, IsFailedRead, Leaves, Performs, Runs, Writes, status_of_ending};
 
 use crate::failure::Failure;
-use crate::options::{Task, task_in};
+use crate::options::{Engine, Grouping, Task, task_in};
 use crate::threads::simulate_threads;
+use snoop_draw::simulate_drawing;
+use snoop_counts::{simulate_counts_by_block, simulate_counts_by_core};
 use snoop_engine::{
     SimFault, simulate_counts, simulate_run, simulate_serial, simulate_states, simulate_steps,
 };
-use snoop_rules::write_table;
+use snoop_lint::lint_text;
+use snoop_rules::{Protocol, write_table};
+use snoop_trace::Shape;
 use snoop_trace::streams::{Sink, Source, write_whole};
 use std::alloc::Global;
 use std::io;
@@ -98,27 +102,66 @@ fn perform_task<T: Threads + Wait + Sync, R: Source, W: Sink>(
 {
     match task {
         Task::Help(help) => write_help(alloc, writer, &help).map_err(Failure::Simulation),
-        Task::Steps(protocol, shape) => {
-            simulate_steps(alloc, reader, writer, protocol, shape).map_err(Failure::Simulation)
-        }
-        Task::Run(protocol, shape) => {
-            simulate_run(alloc, reader, writer, protocol, shape).map_err(Failure::Simulation)
-        }
-        Task::Serial(protocol, shape) => {
-            simulate_serial(alloc, reader, writer, protocol, shape).map_err(Failure::Simulation)
-        }
-        Task::Threads(protocol, shape) => {
-            simulate_threads(rt, alloc, reader, writer, protocol, shape).map_err(Failure::Threads)
-        }
-        Task::States(protocol, shape) => {
-            simulate_states(alloc, reader, writer, protocol, shape).map_err(Failure::Simulation)
-        }
-        Task::Counts(protocol, shape) => {
-            simulate_counts(alloc, reader, writer, protocol, shape).map_err(Failure::Simulation)
-        }
         Task::Table(protocol, which) => write_table(alloc, writer, protocol, which)
             .map_err(SimFault::from)
             .map_err(Failure::Simulation),
+        Task::Simulate(protocol, shape, engine) => {
+            simulate(rt, alloc, reader, writer, protocol, shape, engine)
+        }
+    }
+}
+
+/// Does with the text what the engine is for.
+fn simulate<T: Threads + Wait + Sync, R: Source, W: Sink>(
+    rt: &T,
+    alloc: Global,
+    reader: &mut R,
+    writer: &mut W,
+    protocol: Protocol,
+    shape: Shape,
+    engine: Engine,
+) -> Result<(), Failure>
+    ensures does { Runs protocol shape engine (R.remaining reader.old) result (W.contents writer.old) (W.contents writer.new) }
+    ensures reads { R.never_fails ≡ true → ¬ IsFailedRead result }
+    ensures read_blamed { BlamesReader (R.failed reader.old) (R.failed reader.new) (IsFailedRead result) }
+    ensures unwritten { IfErr result (λ failure. status_of failure < 3 → writer.new ≡ writer.old) }
+    ensures refused { IfErr result (λ failure. status_of failure ≡ 5 → writer.new ≡ writer.old) }
+    ensures never_blamed { IfErr result (λ failure. W.never_fails ≡ true → status_of failure ≢ 4) }
+    ensures blamed { BlamesWriter (W.failed writer.old) (W.failed writer.new) (status_of_ending result ≡ 4) }
+{
+    match engine {
+        Engine::Steps => {
+            simulate_steps(alloc, reader, writer, protocol, shape).map_err(Failure::Simulation)
+        }
+        Engine::Run => {
+            simulate_run(alloc, reader, writer, protocol, shape).map_err(Failure::Simulation)
+        }
+        Engine::Serial => {
+            simulate_serial(alloc, reader, writer, protocol, shape).map_err(Failure::Simulation)
+        }
+        Engine::Threads => {
+            simulate_threads(rt, alloc, reader, writer, protocol, shape).map_err(Failure::Threads)
+        }
+        Engine::States => {
+            simulate_states(alloc, reader, writer, protocol, shape).map_err(Failure::Simulation)
+        }
+        Engine::Counts(Grouping::Row) => {
+            simulate_counts(alloc, reader, writer, protocol, shape).map_err(Failure::Simulation)
+        }
+        Engine::Counts(Grouping::Core) => {
+            simulate_counts_by_core(alloc, reader, writer, protocol, shape).map_err(Failure::Simulation)
+        }
+        Engine::Counts(Grouping::Block(top)) => {
+            simulate_counts_by_block(alloc, reader, writer, protocol, shape, top)
+                .map_err(Failure::Simulation)
+        }
+        Engine::Lint(form, most) => {
+            lint_text(alloc, reader, writer, form, most, protocol, shape).map_err(Failure::Lint)
+        }
+        Engine::Draw(charset, choice) => {
+            simulate_drawing(alloc, reader, writer, protocol, shape, charset, choice)
+                .map_err(Failure::Drawing)
+        }
     }
 }
 

@@ -9,7 +9,7 @@ use std::thread::Threads;
 /// A command line and its text, the status that it ends with, and what is reported. Nothing is written.
 type Refusal = (&'static str, &'static [u8], u8, &'static [u8]);
 
-static REFUSALS: [Refusal; 16] = [
+static REFUSALS: [Refusal; 18] = [
     (
         "snoop steps",
         b"L,0,x\n",
@@ -66,6 +66,8 @@ static REFUSALS: [Refusal; 16] = [
     ("snoop steps --words 3", b"", 2, b"snoop: BadWords\n"),
     ("snoop run --words 16", b"", 2, b"snoop: BadWords\n"),
     ("snoop threads --words 128", b"", 2, b"snoop: BadWords\n"),
+    ("snoop draw --block 4", b"", 2, b"snoop: BadBlock\n"),
+    ("snoop draw --from 2 --to 1", b"X\n", 2, b"snoop: BadRange\n"),
 ];
 
 /// MSI's table of memory.
@@ -80,6 +82,22 @@ IorS_D,NoData,none,IorS
 M_D,Data,write,IorS
 M_D,NoData,none,M
 ";
+
+/// A command line and its text, and what is written. Nothing is reported.
+type Answer = (&'static str, &'static [u8], &'static [u8]);
+
+static ANSWERS: [Answer; 2] = [
+    (
+        "snoop table --which memory --protocol MSI",
+        b"",
+        MSI_MEMORY,
+    ),
+    (
+        "snoop lint --of rows --most 0",
+        b"L,0,0\n\nL,0,256\n",
+        b"1 fault in 2 records, 0 shown\nneeds --cores 1 --blocks 5\n",
+    ),
+];
 
 /// Does what the line asks for. Answers the status, what is written and what is reported.
 fn answered<T: Threads + Wait + Sync>(
@@ -111,11 +129,12 @@ fn what_is_refused_is_named(rt: HostRuntime) -> Result<(), Fail> {
 }
 
 #[test]
-fn a_table_is_written_as_it_is_asked_for(rt: HostRuntime) -> Result<(), Fail> {
-    let line = "snoop table --which memory --protocol MSI";
-    let (status, written, reported) = answered(&rt, rt.alloc(), line, b"")?;
-    if status != 0 || written.as_slice() != MSI_MEMORY || !reported.is_empty() {
-        Err(status)?
+fn what_is_asked_for_is_written(rt: HostRuntime) -> Result<(), Fail> {
+    for (line, text, expected) in ANSWERS {
+        let (status, written, reported) = answered(&rt, rt.alloc(), line, text)?;
+        if status != 0 || written.as_slice() != expected || !reported.is_empty() {
+            Err(line)?
+        }
     }
     Ok(())
 }
