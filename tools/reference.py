@@ -22,7 +22,7 @@ text is reported as the program reports it (a line on standard error, status 1, 
     tools/reference.py run --protocol mesi < examples/producer_and_consumer.rows
     tools/reference.py run --serial < examples/producer_and_consumer.rows
     tools/reference.py states --protocol mesi < examples/silent_upgrade.steps
-    tools/reference.py states --as csv --block 1 < examples/two_blocks_open.steps
+    tools/reference.py states --block 1 < examples/two_blocks_open.steps
     tools/reference.py counts --by core < examples/upgrade_race.steps
     tools/reference.py draw --ascii < examples/upgrade_race.steps
     tools/reference.py lint --of rows < examples/upgrade_race.steps
@@ -44,7 +44,7 @@ MAKERS = {"storm": made.storm, "crowd": made.crowd, "table": made.table}
 STATES = {"text": states.as_text, "csv": states.as_csv, "markdown": states.as_markdown}
 COUNTS = {"row": counts.by_row, "core": counts.by_core, "block": counts.by_block}
 DRAWINGS = {"text": drawing.as_text, "svg": svg.as_svg}
-VIEWS = ("states", "states --as csv", "states --block 0 --from 3 --to 90", "states --as csv --block 0 --from 3 --to 90", "counts --by row", "counts --by core",
+VIEWS = ("states", "states --as csv", "states --block 0 --from 3 --to 90", "counts --by row", "counts --by core",
          "counts --by block", "counts --by block --top 1", "draw --to 500", "draw --ascii --from 2 --to 500", "draw --block 0 --from 3 --to 300", "lint", "lint --of rows --most 3")
 
 
