@@ -9,7 +9,7 @@ choosing-requires c =
     let protocols = c.in_ok-plain.ensures.1.0 in
     let plain : Describes c.in_ok-plain.plain (simulation_app (codes "draw") protocols []) = record { local = c.in_ok-plain.ensures.0; is = c.in_ok-plain.ensures.1.2 } in
     let form : DescribesOption c.forms.result (default_form_rule c.as_slice.result) = record { local = c.forms.ensures.0; is = c.forms.ensures.1 } in
-    let ascii : DescribesOption c.flag.result (flag_rule (codes "ascii")) = record { local = c.flag.ensures.0; is = c.flag.ensures.1 } in
+    let ascii : DescribesOption c.flag-ascii.result (flag_rule (codes "ascii")) = record { local = c.flag-ascii.ensures.0; is = c.flag-ascii.ensures.1 } in
     let formed = adds_option _ _ c.in_ok-arg.field-0 _ _ plain form c.in_ok-arg.ensures in
     (adds_option _ _ c.in_ok-arg-2.field-0 _ _ formed ascii c.in_ok-arg-2.ensures).local
 
@@ -18,7 +18,7 @@ returns c =
     let protocols = c.in_ok-plain.ensures.1.0 in
     let plain : Describes c.in_ok-plain.plain (simulation_app (codes "draw") protocols []) = record { local = c.in_ok-plain.ensures.0; is = c.in_ok-plain.ensures.1.2 } in
     let form : DescribesOption c.forms.result (default_form_rule c.as_slice.result) = record { local = c.forms.ensures.0; is = c.forms.ensures.1 } in
-    let ascii : DescribesOption c.flag.result (flag_rule (codes "ascii")) = record { local = c.flag.ensures.0; is = c.flag.ensures.1 } in
+    let ascii : DescribesOption c.flag-ascii.result (flag_rule (codes "ascii")) = record { local = c.flag-ascii.ensures.0; is = c.flag-ascii.ensures.1 } in
     let formed = adds_option _ _ c.in_ok-arg.field-0 _ _ plain form c.in_ok-arg.ensures in
     let marked = adds_option _ _ c.in_ok-arg-2.field-0 _ _ formed ascii c.in_ok-arg-2.ensures in
     IfOk-weaker c.choosing.result _ _ (λ command chooses. (chooses.0, (c.as_slice.result, search rules, (protocols, c.in_ok-plain.ensures.1.1, chooses.1 ∙ ap (λ app. with_rules app choice_rules) marked.is)))) c.choosing.ensures
