@@ -1,5 +1,5 @@
 -- What the words ask for, by what `clap` answers to them.
-use Rattle.std.proofs.Common.{◌≡◌, ◌≢◌, ◌⊎◌, ◌∙◌, ap, ap₂, subst, sym, refl, inl, inr, true, Bool, List, [], ◌∷◌, Option, Some, None, codes}
+use Rattle.std.proofs.Common.{◌≡◌, ◌≢◌, ◌⊎◌, ◌∙◌, ap, ap₂, subst, sym, refl, inl, inr, arith, true, ℕ, Bool, List, [], ◌∷◌, Option, Some, None, codes}
 use Rattle.clap.specs.Words.{App, HasKind, HasMatchesOf, IsAmong, Kinds, Row, Text, fault_of, is_simple, is_simple_and_free, kind_of, subcommand_of, subcommand_rows_of}
 use Rattle.clap.specs.declared.error.Error.{Error}
 use Rattle.clap.specs.declared.error.kind.ErrorKind.{ErrorKind}
@@ -7,10 +7,14 @@ use Rattle.clap.specs.declared.error.kind.ErrorKind.TheVariants.{InvalidValue, U
 use Rattle.clap.specs.declared.parser.matches.ArgMatches.{ArgMatches}
 use Rattle.clap.proofs.OnLiterals.{clap_on_literals}
 use Rattle.snoop_sim.specs.Asked.{Asks, HasNoTask, HasTask, IsShown, Refuses}
-use Rattle.snoop_sim.specs.CommandLine.{IsSnoop, Names, choice_rules, default_form_rule, flag_rule, form_rule, grouping_rule, kind_rule, long_rule, simulation_app, table_app, top_app, top_rule, with_commands}
+use Rattle.snoop_sim.specs.Status.{status_of, status_of_fault}
+use Rattle.snoop_sim.specs.CommandLine.{IsSnoop, Names, choice_rules, flag_rule, form_rule, grouping_rule, kind_rule, long_rule, simulation_app, table_app, top_app, top_rule, with_commands}
+use Rattle.snoop_draw.specs.declared.fault.DrawFault.{DrawFault}
 use Rattle.snoop_engine.specs.declared.fault.SimFault.TheVariants.{NoMemory}
+use Rattle.snoop_lint.specs.declared.fault.LintFault.{LintFault}
+use Rattle.snoop_sim.specs.declared.fault.ThreadsFault.{ThreadsFault}
 use Rattle.snoop_sim.specs.declared.failure.Failure.{Failure}
-use Rattle.snoop_sim.specs.declared.failure.Failure.TheVariants.{BadTop, CommandLine, NoCommand, NotUtf8, Shape, Simulation, Threads as ThreadsFailure, Lint as LintFailure, Drawing, Unchosen}
+use Rattle.snoop_sim.specs.declared.failure.Failure.TheVariants.{BadChoice, BadTop, CommandLine, NoCommand, NotUtf8, Shape, Simulation, Threads as ThreadsFailure, Lint as LintFailure, Drawing, Unchosen, Unshown}
 use Rattle.snoop_sim.specs.declared.options.Task.{Task}
 use Rattle.snoop_sim.specs.declared.options.Task.TheVariants.{Help, Table, Simulate}
 
@@ -18,7 +22,7 @@ use Rattle.snoop_sim.specs.declared.options.Task.TheVariants.{Help, Table, Simul
 abbrev commands : (steps run threads states forms counts groupings lint kinds draw drawings table tables : Names) → List App
 commands steps run threads states forms counts groupings lint kinds draw drawings table tables =
     simulation_app (codes "steps") steps [] ∷ simulation_app (codes "run") run (flag_rule (codes "serial") ∷ []) ∷ simulation_app (codes "threads") threads []
-    ∷ simulation_app (codes "states") states (form_rule forms ∷ []) ∷ simulation_app (codes "counts") counts (grouping_rule groupings ∷ top_rule ∷ []) ∷ simulation_app (codes "lint") lint (kind_rule kinds ∷ long_rule (codes "most") (codes "20") ∷ []) ∷ simulation_app (codes "draw") draw (default_form_rule drawings ∷ flag_rule (codes "ascii") ∷ choice_rules) ∷ table_app table tables ∷ []
+    ∷ simulation_app (codes "states") states (form_rule forms ∷ choice_rules) ∷ simulation_app (codes "counts") counts (grouping_rule groupings ∷ top_rule ∷ []) ∷ simulation_app (codes "lint") lint (kind_rule kinds ∷ long_rule (codes "most") (codes "20") ∷ []) ∷ simulation_app (codes "draw") draw (form_rule drawings ∷ flag_rule (codes "ascii") ∷ choice_rules) ∷ table_app table tables ∷ []
 
 -- `clap` says what it finds in the words of such a command line
 is_simple_snoop : (steps run threads states forms counts groupings lint kinds draw drawings table tables : Names)
@@ -65,6 +69,8 @@ pub without_task : (app : App) (words : List Text) (command : Option (Text × Li
     → command ≡ subcommand_of app words → HasNoTask command failure → Refuses words failure
 without_task app words command NoCommand snoop well named has = (app, snoop, (well, subst (λ c. HasNoTask c NoCommand) named has))
 without_task app words command (Shape fault) snoop well named has = (app, snoop, (well, subst (λ c. HasNoTask c (Shape fault)) named has))
+without_task app words command BadChoice snoop well named has = (app, snoop, (well, subst (λ c. HasNoTask c BadChoice) named has))
+without_task app words command (Unshown fault) snoop well named has = (app, snoop, (well, subst (λ c. HasNoTask c (Unshown fault)) named has))
 without_task app words command BadTop snoop well named has = (app, snoop, (well, subst (λ c. HasNoTask c BadTop) named has))
 without_task app words command NotUtf8 snoop well named has = (app, snoop, (well, subst (λ c. HasNoTask c NotUtf8) named has))
 without_task app words command (ThreadsFailure fault) snoop well named has = (app, snoop, (well, subst (λ c. HasNoTask c (ThreadsFailure fault)) named has))
@@ -122,3 +128,36 @@ not_memory (inr is) = cc
 pub help_asked : (app : App) (words : List Text) (help : Error) → IsSnoop app
     → HasKind (fault_of app words) help → IsShown (kind_of help) → Asks words (Help help)
 help_asked app words help snoop has is_shown = ((app, snoop, kind_given (fault_of app words) help (λ memory. not_memory (subst IsShown memory is_shown)) has), is_shown)
+
+two_is_not_four : ◌≡◌ {A = ℕ} 2 4 → ⊥
+two_is_not_four bad = absurd (omega arith)
+
+three_is_not_four : ◌≡◌ {A = ℕ} 3 4 → ⊥
+three_is_not_four bad = absurd (omega arith)
+
+no_threads : (command : Option (Text × List Row)) (fault : ThreadsFault) → HasNoTask command (ThreadsFailure fault) → ⊥
+no_threads None fault has = has
+no_threads (Some command) fault has = has.1.2
+
+no_lint : (command : Option (Text × List Row)) (fault : LintFault) → HasNoTask command (LintFailure fault) → ⊥
+no_lint None fault has = has
+no_lint (Some command) fault has = has.1.2
+
+no_drawing : (command : Option (Text × List Row)) (fault : DrawFault) → HasNoTask command (Drawing fault) → ⊥
+no_drawing None fault has = has
+no_drawing (Some command) fault has = has.1.2
+
+-- the words are never refused with the status of a failed write
+pub refused_status : (words : List Text) (failure : Failure) → Refuses words failure → status_of failure ≢ 4
+refused_status words (CommandLine error) refuses = two_is_not_four
+refused_status words NoCommand refuses = two_is_not_four
+refused_status words NotUtf8 refuses = two_is_not_four
+refused_status words (Shape fault) refuses = two_is_not_four
+refused_status words BadTop refuses = two_is_not_four
+refused_status words BadChoice refuses = two_is_not_four
+refused_status words (Unshown fault) refuses = two_is_not_four
+refused_status words (Unchosen fault) refuses = two_is_not_four
+refused_status words (Simulation fault) refuses = λ four. three_is_not_four (ap status_of_fault (sym refuses) ∙ four)
+refused_status words (ThreadsFailure fault) (app, snoop, (well, has)) = absurd (no_threads (subcommand_of app words) fault has)
+refused_status words (LintFailure fault) (app, snoop, (well, has)) = absurd (no_lint (subcommand_of app words) fault has)
+refused_status words (Drawing fault) (app, snoop, (well, has)) = absurd (no_drawing (subcommand_of app words) fault has)

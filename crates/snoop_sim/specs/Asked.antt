@@ -6,12 +6,12 @@ use Rattle.clap.specs.declared.error.kind.ErrorKind.{ErrorKind}
 use Rattle.clap.specs.declared.error.kind.ErrorKind.TheVariants.{DisplayHelp, DisplayVersion}
 use Rattle.snoop_trace.specs.Extent.{Extent}
 use Rattle.snoop_sim.specs.CommandLine.{IsSnoop}
-use Rattle.snoop_sim.specs.Options.{IsChoiceOf, IsGroupingOf, IsLongOf, IsShapeOf, MisplacesTop, asks_serial, charset_named, kind_named, protocol_named, which_named}
+use Rattle.snoop_sim.specs.Options.{ChoosesAll, ChoosesSome, IsChoiceOf, IsGroupingOf, IsLongOf, IsShapeOf, IsShownOf, MisplacesTop, asks_serial, charset_named, kind_named, protocol_named, says, which_named}
 use Rattle.snoop_engine.specs.declared.fault.SimFault.TheVariants.{NoMemory}
 use Rattle.snoop_sim.specs.declared.failure.Failure.{Failure}
-use Rattle.snoop_sim.specs.declared.failure.Failure.TheVariants.{BadTop, CommandLine, NoCommand, Shape, Simulation, Unchosen}
+use Rattle.snoop_sim.specs.declared.failure.Failure.TheVariants.{BadChoice, BadTop, CommandLine, NoCommand, Shape, Simulation, Unchosen, Unshown}
 use Rattle.snoop_sim.specs.declared.options.Engine.{Engine}
-use Rattle.snoop_sim.specs.declared.options.Engine.TheVariants.{Steps, Run, Serial, Threads, States, Counts, Lint, Draw}
+use Rattle.snoop_sim.specs.declared.options.Engine.TheVariants.{Steps, Run, Serial, Threads, States, StateFields, Counts, Lint, Draw}
 use Rattle.snoop_sim.specs.declared.options.Task.{Task}
 use Rattle.snoop_sim.specs.declared.options.Task.TheVariants.{Help, Table, Simulate}
 
@@ -21,7 +21,8 @@ IsEngineOf name options shape Steps = name ≡ codes "steps"
 IsEngineOf name options shape Run = (name ≡ codes "run") × (asks_serial options ≡ false)
 IsEngineOf name options shape Serial = (name ≡ codes "run") × (asks_serial options ≡ true)
 IsEngineOf name options shape Threads = name ≡ codes "threads"
-IsEngineOf name options shape States = name ≡ codes "states"
+IsEngineOf name options shape (States choice) = (name ≡ codes "states") × (says false (codes "as") (codes "csv") options ≡ false) × IsShownOf shape options (Ok choice)
+IsEngineOf name options shape StateFields = (name ≡ codes "states") × (says false (codes "as") (codes "csv") options ≡ true) × ChoosesAll options
 IsEngineOf name options shape (Counts grouping) = (name ≡ codes "counts") × IsGroupingOf options grouping
 IsEngineOf name options shape (Lint form most) = (name ≡ codes "lint") × (form ≡ kind_named options) × IsLongOf (codes "most") options most
 IsEngineOf name options shape (Draw charset choice) = (name ≡ codes "draw") × (charset ≡ charset_named options) × IsChoiceOf shape options (Ok choice)
@@ -43,6 +44,8 @@ HasNoEngine name options shape NoCommand = (name ≢ codes "steps") × (name ≢
     × (name ≢ codes "lint") × (name ≢ codes "draw")
 HasNoEngine name options shape (Unchosen fault) = (name ≡ codes "draw") × IsChoiceOf shape options (Err fault)
 HasNoEngine name options shape BadTop = (name ≡ codes "counts") × MisplacesTop options
+HasNoEngine name options shape (Unshown fault) = (name ≡ codes "states") × (says false (codes "as") (codes "csv") options ≡ false) × IsShownOf shape options (Err fault)
+HasNoEngine name options shape BadChoice = (name ≡ codes "states") × (says false (codes "as") (codes "csv") options ≡ true) × ChoosesSome options
 HasNoEngine name options shape failure = ⊥
 
 -- the command that was named has no task: its shape is refused, or it has no engine

@@ -51,7 +51,7 @@ IsTables names = AreNames (codes "cache" ∷ codes "memory" ∷ []) names
 
 -- those of `--as`
 abbrev pub IsForms : Names → Type 0
-IsForms names = AreNames (codes "csv" ∷ []) names
+IsForms names = AreNames (codes "text" ∷ codes "csv" ∷ []) names
 
 -- those of `--by`
 abbrev pub IsGroupings : Names → Type 0
@@ -65,10 +65,6 @@ protocol_rule protocols = record (option_rule (codes "protocol") (codes "msi") (
 abbrev pub flag_rule : Text → Rule
 flag_rule name = record (new_rule name) { long = Some name; action = Some SetTrue }
 
--- the option `--as`, which has to be there
-abbrev pub form_rule : Names → Rule
-form_rule forms = record (new_rule (codes "as")) { long = Some (codes "as"); parser = Some (parser.Names forms); required = true }
-
 -- the option `--by`, which has to be there
 abbrev pub grouping_rule : Names → Rule
 grouping_rule groupings = record (new_rule (codes "by")) { long = Some (codes "by"); parser = Some (parser.Names groupings); required = true }
@@ -78,8 +74,8 @@ abbrev pub kind_rule : Names → Rule
 kind_rule kinds = option_rule (codes "of") (codes "steps") (parser.Names kinds)
 
 -- the option `--as`, which is `text` where it is not given
-abbrev pub default_form_rule : Names → Rule
-default_form_rule forms = option_rule (codes "as") (codes "text") (parser.Names forms)
+abbrev pub form_rule : Names → Rule
+form_rule forms = option_rule (codes "as") (codes "text") (parser.Names forms)
 
 -- the options `--block`, `--from` and `--to`
 abbrev pub choice_rules : List Rule
@@ -109,7 +105,7 @@ machine_rules protocols = protocol_rule protocols ∷ number_rule (codes "cores"
 abbrev pub simulation_app : Text → Names → List Rule → App
 simulation_app name protocols rules = with_rules (with_rules (new_app name) (machine_rules protocols)) rules
 
--- the command `table`
+-- the command that writes a table
 abbrev pub table_app : Names → Names → App
 table_app protocols tables = with_rules (new_app (codes "table")) (protocol_rule protocols ∷ option_rule (codes "which") (codes "cache") (parser.Names tables) ∷ [])
 
@@ -117,28 +113,35 @@ table_app protocols tables = with_rules (new_app (codes "table")) (protocol_rule
 abbrev pub IsSimulation : Text → List Rule → App → Type 0
 IsSimulation name rules app = (protocols : Names) × IsProtocols protocols × (app ≡ simulation_app name protocols rules)
 
--- each command
+-- the command `steps`
 abbrev pub IsSteps : App → Type 0
 IsSteps = IsSimulation (codes "steps") []
 
+-- the command `run`
 abbrev pub IsRun : App → Type 0
 IsRun = IsSimulation (codes "run") (flag_rule (codes "serial") ∷ [])
 
+-- the command `threads`
 abbrev pub IsThreads : App → Type 0
 IsThreads = IsSimulation (codes "threads") []
 
+-- the command `states`
 abbrev pub IsStates : App → Type 0
-IsStates app = (forms : Names) × IsForms forms × IsSimulation (codes "states") (form_rule forms ∷ []) app
+IsStates app = (forms : Names) × IsForms forms × IsSimulation (codes "states") (form_rule forms ∷ choice_rules) app
 
+-- the command `counts`
 abbrev pub IsCounts : App → Type 0
 IsCounts app = (groupings : Names) × IsGroupings groupings × IsSimulation (codes "counts") (grouping_rule groupings ∷ top_rule ∷ []) app
 
+-- the command `lint`
 abbrev pub IsLint : App → Type 0
 IsLint app = (kinds : Names) × IsKinds kinds × IsSimulation (codes "lint") (kind_rule kinds ∷ long_rule (codes "most") (codes "20") ∷ []) app
 
+-- the command `draw`
 abbrev pub IsDraw : App → Type 0
-IsDraw app = (forms : Names) × IsDrawings forms × IsSimulation (codes "draw") (default_form_rule forms ∷ flag_rule (codes "ascii") ∷ choice_rules) app
+IsDraw app = (forms : Names) × IsDrawings forms × IsSimulation (codes "draw") (form_rule forms ∷ flag_rule (codes "ascii") ∷ choice_rules) app
 
+-- the command `table`, as `clap` describes it
 abbrev pub IsTable : App → Type 0
 IsTable app = (protocols tables : Names) × IsProtocols protocols × IsTables tables × (app ≡ table_app protocols tables)
 

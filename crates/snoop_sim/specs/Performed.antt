@@ -21,6 +21,7 @@ use Rattle.snoop_draw.specs.Simulated.{Draws}
 use Rattle.snoop_draw.specs.declared.fault.DrawFault.TheVariants as draw
 use Rattle.snoop_lint.specs.Linted.{Lints}
 use Rattle.snoop_lint.specs.declared.fault.LintFault.TheVariants.{Read as LintRead}
+use Rattle.snoop_states.specs.Whole.{states_table_text}
 use Rattle.snoop_sim.specs.Threaded.{SimulatesThreads}
 use Rattle.snoop_sim.specs.Status.{status_of}
 use Rattle.snoop_engine.specs.declared.fault.SimFault.{SimFault}
@@ -31,7 +32,7 @@ use Rattle.snoop_sim.specs.declared.failure.Failure.{Failure}
 use Rattle.snoop_sim.specs.declared.failure.Failure.TheVariants.{Simulation, Threads as ThreadsFailure, Lint as LintFailure, Drawing}
 use Rattle.snoop_sim.specs.declared.options.Grouping.TheVariants as grouping
 use Rattle.snoop_sim.specs.declared.options.Engine.{Engine}
-use Rattle.snoop_sim.specs.declared.options.Engine.TheVariants.{Steps, Run, Serial, Threads, States, Counts, Lint, Draw}
+use Rattle.snoop_sim.specs.declared.options.Engine.TheVariants.{Steps, Run, Serial, Threads, States, StateFields, Counts, Lint, Draw}
 use Rattle.snoop_sim.specs.declared.options.Task.{Task}
 use Rattle.snoop_sim.specs.declared.options.Task.TheVariants.{Help, Table, Simulate}
 
@@ -53,7 +54,8 @@ Runs protocol shape Steps input ending old new = EndsAs Simulation ending (λ do
 Runs protocol shape Run input ending old new = EndsAs Simulation ending (λ done. SimulatesRun protocol shape input done old new)
 Runs protocol shape Serial input ending old new = EndsAs Simulation ending (λ done. SimulatesSerial protocol shape input done old new)
 Runs protocol shape Threads input ending old new = EndsAs ThreadsFailure ending (λ done. SimulatesThreads protocol shape input done old new)
-Runs protocol shape States input ending old new = EndsAs Simulation ending (λ done. SimulatesView protocol shape (λ frames final. states_text shape frames) input done old new)
+Runs protocol shape (States choice) input ending old new = EndsAs Simulation ending (λ done. SimulatesView protocol shape (states_table_text protocol shape choice) input done old new)
+Runs protocol shape StateFields input ending old new = EndsAs Simulation ending (λ done. SimulatesView protocol shape (λ frames final. states_text shape frames) input done old new)
 Runs protocol shape (Counts grouping.Row) input ending old new = EndsAs Simulation ending (λ done. SimulatesView protocol shape (λ frames final. frames_counts_text protocol frames) input done old new)
 Runs protocol shape (Counts grouping.Core) input ending old new = EndsAs Simulation ending (λ done. SimulatesView protocol shape (counts_by_core shape) input done old new)
 Runs protocol shape (Counts (grouping.Block top)) input ending old new = EndsAs Simulation ending (λ done. SimulatesView protocol shape (counts_by_block shape top) input done old new)

@@ -9,6 +9,7 @@ use clap::error::ErrorKind;
 use snoop_draw::{ChoiceFault, DrawFault};
 use snoop_engine::SimFault;
 use snoop_lint::LintFault;
+use snoop_states::ChoiceFault as ShownFault;
 use snoop_trace::{ShapeFault, TextFault};
 use std::alloc::AllocError;
 use std::io;
@@ -26,6 +27,12 @@ pub(crate) enum Failure {
     NotUtf8,
     #[error(transparent)]
     Shape(ShapeFault),
+    /// A block or steps are chosen for `--as csv`.
+    #[error("BadChoice")]
+    BadChoice,
+    /// The block or the steps that are to be shown are refused.
+    #[error(transparent)]
+    Unshown(ShownFault),
     /// `--top` is given without `--by block`.
     #[error("BadTop")]
     BadTop,
@@ -37,7 +44,7 @@ pub(crate) enum Failure {
     Lint(LintFault),
     #[error(transparent)]
     Drawing(DrawFault),
-    /// The block or the steps that are to be shown are refused.
+    /// The block or the steps that are to be drawn are refused.
     #[error(transparent)]
     Unchosen(ChoiceFault),
 }
@@ -61,6 +68,17 @@ impl From<ChoiceFault> for Failure {
 
     fn from(fault: ChoiceFault) -> Self {
         Failure::Unchosen(fault)
+    }
+}
+
+impl From<ShownFault> for Failure {
+    ghost use Rattle.std.specs.Prelude.{◌≡◌};
+    ghost use Rattle.snoop_sim.specs.declared.failure.Failure.TheVariants as failure;
+
+    ghost from_gives = { λ e r. r ≡ failure.Unshown e };
+
+    fn from(fault: ShownFault) -> Self {
+        Failure::Unshown(fault)
     }
 }
 
@@ -119,6 +137,8 @@ impl Failure {
             | Failure::Shape(_)
             | Failure::Unchosen(_)
             | Failure::BadTop
+            | Failure::BadChoice
+            | Failure::Unshown(_)
             | Failure::Drawing(DrawFault::TooLarge) => 2,
             Failure::Simulation(fault) | Failure::Drawing(DrawFault::Simulation(fault)) => {
                 status_of_fault(*fault)

@@ -80,7 +80,7 @@ Exit statuses:
   1  the text was refused, or could not be read (Read); nothing was written
   2  the command line was refused, or the shape (BadCores, BadBlocks, BadBytes,
      BadWords: outside the limits of its options), or what is to be shown (BadBlock,
-     BadRange, BadTop, TooLarge); nothing was written
+     BadRange, BadChoice, BadTop, TooLarge); nothing was written
   3  out of memory; the output may be cut short
   4  a write failed; the output may be cut short
   5  the threads of `snoop threads` were refused; nothing was written
@@ -146,25 +146,25 @@ A text with V, O or R is for `snoop steps`."
 );
 
 pub(crate) static STATES: &str = help!(
-    "Reads standard input: `snoop states --as csv < FILE`. Each line is a step:"
+    "Reads standard input: `snoop states < FILE`. Each line is a step:"
     asks
     "
   O,core                the bus orders the core's oldest request
   R,address             the response for the block of the address comes"
     numbers
     "
-Example: printf 'L,0,0\\nO,0\\nR,0\\n' | snoop states --as csv
+Example: printf 'L,0,0\\nO,0\\nR,0\\n' | snoop states
 
-The first line of output names the fields. Then each step has a line for each
-controller that takes a row of its table (see `snoop table`): at an Order of each
-core that is not in I, and of memory.
+Each block has a table: a row for each step of it, a column for each core that asks for
+it, the bus and memory, and the step's line. A dot stands for the cell above.
+  SM_AD 0 #1       the state, the values kept, the request's place in the core's queue
+  C1 GetM: Data 0  the open transaction, and the message under way
+--block, --from and --to choose a block and steps. --as csv has all of them, a line for
+each controller that takes a row of its table (see `snoop table`):
   step, record, reply    its number, its text, and the reply (see `snoop steps --help`)
   block, controller      whose row it is: core 0, or memory
   event, before, action, after    the row, with the state before and after
-  value                  the values that are kept after it
-  place                  the place of the block in the core's queue after it, from 1
-A step without a row (absent, or refused but for a stall) has one line, with no event
-and no action. A text without O and R is for `snoop run`."
+  value, place           the values kept after it; the place in the queue, from 1"
     faults "L, S, E, O or R" "L and E take 2 numbers, S 3, O and R 1"
     heading
     more

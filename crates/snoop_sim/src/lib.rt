@@ -1,5 +1,5 @@
 //! The commands of the program `snoop`: a text of steps or of rows in; out come the lines of its simulation and its report, its
-//! states, how often each row of the tables was taken, or the steps that threads took.
+//! states, counts, a drawing, what is wrong with it, or the steps that threads took.
 #![tactic(auto)]
 
 mod failure;

@@ -1,9 +1,9 @@
 //! The command line: its words and what they ask for.
-ghost use Rattle.std.specs.Prelude.{◌≡◌, ◌≢◌, ◌^◌, [], IfErr, IfOk, codes, false, map, string_bytes};
+ghost use Rattle.std.specs.Prelude.{◌≡◌, ◌≢◌, ◌^◌, [], IfErr, IfOk, codes, false, map, string_bytes, true};
 ghost use Rattle.clap.specs.Words.{app_of, found_of, one_of, rows_of, rule_of, subcommand_rows_of};
 ghost use Rattle.snoop_sim.specs.Asked.{Asks, HasNoEngine, HasNoTask, HasTask, IsEngineOf, IsTaskOf, Refuses};
-ghost use Rattle.snoop_sim.specs.CommandLine.{IsCounts, IsDraw, IsForms, IsGroupings, IsKinds, IsLint, IsLocal, IsProtocols, IsRun, IsSimulation, IsSnoop, IsStates, IsSteps, IsTable, IsThreads, Names, choice_rules, default_form_rule, flag_rule, form_rule, grouping_rule, kind_rule, number_rule, optional_rule, protocol_rule, top_app, with_rules};
-ghost use Rattle.snoop_sim.specs.Options.{IsChoiceOf, IsGroupingOf, IsNumberOf, IsReadAs, IsShapeOf, MisplacesTop, asks_serial, charset_named, kind_named, protocol_named, says, which_named};
+ghost use Rattle.snoop_sim.specs.CommandLine.{IsCounts, IsDraw, IsForms, IsGroupings, IsKinds, IsLint, IsLocal, IsProtocols, IsRun, IsSimulation, IsSnoop, IsStates, IsSteps, IsTable, IsThreads, Names, choice_rules, flag_rule, form_rule, grouping_rule, kind_rule, number_rule, optional_rule, protocol_rule, top_app, with_rules};
+ghost use Rattle.snoop_sim.specs.Options.{ChoosesAll, ChoosesSome, IsChoiceOf, IsGroupingOf, IsNumberOf, IsReadAs, IsShapeOf, IsShownOf, MisplacesTop, asks_serial, charset_named, kind_named, protocol_named, says, which_named};
 
 use crate::failure::Failure;
 use crate::help;
@@ -12,6 +12,7 @@ use clap::{Arg, ArgAction, ArgMatches, Command, Error, value_parser};
 use snoop_draw::{Charset, Choice, ChoiceFault};
 use snoop_lint::Form;
 use snoop_rules::{Protocol, Which};
+use snoop_states::{Choice as Shown, ChoiceFault as ShownFault};
 use snoop_trace::{Shape, ShapeFault};
 use std::alloc::{AllocError, Global};
 
@@ -24,13 +25,15 @@ pub(crate) enum Task {
 }
 
 /// What is done with a text.
-#[derive(Clone, Copy, Debug, PartialEq, Eq)]
+#[derive(Debug, Drop)]
 pub(crate) enum Engine {
     Steps,
     Run,
     Serial,
     Threads,
-    States,
+    States(Shown),
+    /// All steps, in fields.
+    StateFields,
     Counts(Grouping),
     /// So many faulty records are named at most.
     Lint(Form, u64),
@@ -52,7 +55,7 @@ static KINDS: [&str; 2] = ["steps", "rows"];
 
 static DRAWINGS: [&str; 1] = ["text"];
 
-static FORMS: [&str; 1] = ["csv"];
+static FORMS: [&str; 2] = ["text", "csv"];
 
 static GROUPINGS: [&str; 3] = ["row", "core", "block"];
 
@@ -102,7 +105,11 @@ fn engine_of(name: &str, options: &ArgMatches, shape: Shape) -> Result<Engine, F
         "run" if is_serial(options) => Ok(Engine::Serial),
         "run" => Ok(Engine::Run),
         "threads" => Ok(Engine::Threads),
-        "states" => Ok(Engine::States),
+        "states" if !says(options, "as", "csv") => {
+            Ok(Engine::States(shown_in(options, shape)?))
+        }
+        "states" if chooses_all(options) => Ok(Engine::StateFields),
+        "states" => Err(Failure::BadChoice),
         "counts" => Ok(Engine::Counts(grouping_in(options)?)),
         "draw" => Ok(Engine::Draw(charset_in(options), choice_in(options, shape)?)),
         "lint" => Ok(Engine::Lint(kind_in(options), long_in(options, "most").unwrap_or(0))),
@@ -180,13 +187,13 @@ fn threads<'a>(alloc: Global) -> Result<Command<'a>, AllocError>
 fn states<'a>(alloc: Global) -> Result<Command<'a>, AllocError>
     ensures { IfOk result (λ command. IsLocal command × IsStates (app_of command)) }
 {
-    simulation(
+    let plain = simulation(
         alloc,
         "states",
-        "Read steps; write which row of its table each controller took",
+        "Read steps; write the states that each block goes through",
         help::STATES,
-    )?
-    .arg(form(alloc))
+    )?;
+    choosing(alloc, plain.arg(forms(alloc, FORMS.as_slice()))?)
 }
 
 fn counts<'a>(alloc: Global) -> Result<Command<'a>, AllocError>
@@ -335,16 +342,6 @@ fn flag<'a>(alloc: Global, name: &'a str, help: &'a str) -> Arg<'a>
         .action(ArgAction::SetTrue)
 }
 
-fn form<'a>(alloc: Global) -> Arg<'a>
-    ensures { (result.global ≡ false) × ((forms : Names) × IsForms forms × (rule_of result ≡ form_rule forms)) }
-{
-    Arg::new(alloc, "as")
-        .long("as")
-        .help("The form of the output")
-        .value_parser(ValueParser::Names(FORMS.as_slice()))
-        .required(true)
-}
-
 fn groupings<'a>(alloc: Global) -> Arg<'a>
     ensures { (result.global ≡ false) × ((groupings : Names) × IsGroupings groupings × (rule_of result ≡ grouping_rule groupings)) }
 {
@@ -357,7 +354,7 @@ fn groupings<'a>(alloc: Global) -> Arg<'a>
 
 /// The form of the output, a text if it is not given.
 fn forms<'a>(alloc: Global, names: &'a [&'a str]) -> Arg<'a>
-    ensures { (result.global ≡ false) × (rule_of result ≡ default_form_rule names.entry) }
+    ensures { (result.global ≡ false) × (rule_of result ≡ form_rule names.entry) }
 {
     Arg::new(alloc, "as")
         .long("as")
@@ -423,6 +420,32 @@ fn which_in(options: &ArgMatches) -> Which
         Which::Memory
     } else {
         Which::Cache
+    }
+}
+
+/// The block and the steps that are shown.
+fn shown_in(options: &ArgMatches, shape: Shape) -> Result<Shown, ShownFault>
+    ensures { IsShownOf shape (rows_of (found_of options.now)) result }
+{
+    Shown::new(
+        shape,
+        short_in(options, "block"),
+        long_in(options, "from").unwrap_or(0),
+        long_in(options, "to").unwrap_or(u64::MAX),
+    )
+}
+
+/// Whether each block and each step is chosen.
+fn chooses_all(options: &ArgMatches) -> bool
+    ensures all { result ≡ true → ChoosesAll (rows_of (found_of options.now)) }
+    ensures some { result ≡ false → ChoosesSome (rows_of (found_of options.now)) }
+{
+    if short_in(options, "block").is_some() {
+        return false;
+    }
+    match long_in(options, "from") {
+        Some(1) => long_in(options, "to").is_none(),
+        _ => false,
     }
 }
 

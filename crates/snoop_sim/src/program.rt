@@ -16,6 +16,7 @@ use snoop_engine::{
 };
 use snoop_lint::lint_text;
 use snoop_rules::{Protocol, write_table};
+use snoop_states::simulate_states_table;
 use snoop_trace::Shape;
 use snoop_trace::streams::{Sink, Source, write_whole};
 use std::alloc::Global;
@@ -25,8 +26,8 @@ use std::sync::Wait;
 use std::thread::Threads;
 
 /// Does what the words ask for, the first of which is the program's own name, and answers the status that the program ends
-/// with: 0 where it was done, 1 for a refused text, 2 for a command line that is not understood or a refused shape, 3 for out
-/// of memory, 4 for a failed write, and 5 where the threads of `threads` were refused for another cause. A failure is reported
+/// with: 0 where it was done, 1 for a refused text, 2 for a command line that is not understood, a refused shape or a refused
+/// choice of what is shown, and for a drawing that is too large, 3 for out of memory, 4 for a failed write, and 5 where the threads of `threads` were refused for another cause. A failure is reported
 /// to `errors` in one line, a command line that is not understood in `clap`'s text. After 1, 2 and 5 nothing was written, after
 /// 3 and 4 a beginning of the output. `does` has all of this, where `clap` says what the words ask for; what is reported to
 /// `errors`, and the text of a help, are tested.
@@ -81,8 +82,10 @@ fn perform<T: Threads + Wait + Sync, R: Source, W: Sink>(
     ensures never_blamed { IfErr result (λ failure. W.never_fails ≡ true → status_of failure ≢ 4) }
     ensures blamed { BlamesWriter (W.failed writer.old) (W.failed writer.new) (status_of_ending result ≡ 4) }
 {
-    let task = task_in(alloc, words)?;
-    perform_task(rt, alloc, task, reader, writer)
+    match task_in(alloc, words) {
+        Ok(task) => perform_task(rt, alloc, task, reader, writer),
+        Err(failure) => Err(failure),
+    }
 }
 
 fn perform_task<T: Threads + Wait + Sync, R: Source, W: Sink>(
@@ -142,7 +145,11 @@ fn simulate<T: Threads + Wait + Sync, R: Source, W: Sink>(
         Engine::Threads => {
             simulate_threads(rt, alloc, reader, writer, protocol, shape).map_err(Failure::Threads)
         }
-        Engine::States => {
+        Engine::States(choice) => {
+            simulate_states_table(alloc, reader, writer, protocol, shape, choice)
+                .map_err(Failure::Simulation)
+        }
+        Engine::StateFields => {
             simulate_states(alloc, reader, writer, protocol, shape).map_err(Failure::Simulation)
         }
         Engine::Counts(Grouping::Row) => {

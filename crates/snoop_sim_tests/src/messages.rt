@@ -9,7 +9,7 @@ use std::thread::Threads;
 /// A command line and its text, the status that it ends with, and what is reported. Nothing is written.
 type Refusal = (&'static str, &'static [u8], u8, &'static [u8]);
 
-static REFUSALS: [Refusal; 18] = [
+static REFUSALS: [Refusal; 19] = [
     (
         "snoop steps",
         b"L,0,x\n",
@@ -66,6 +66,12 @@ static REFUSALS: [Refusal; 18] = [
     ("snoop steps --words 3", b"", 2, b"snoop: BadWords\n"),
     ("snoop run --words 16", b"", 2, b"snoop: BadWords\n"),
     ("snoop threads --words 128", b"", 2, b"snoop: BadWords\n"),
+    (
+        "snoop states --as csv --block 0",
+        b"X\n",
+        2,
+        b"snoop: BadChoice\n",
+    ),
     ("snoop draw --block 4", b"", 2, b"snoop: BadBlock\n"),
     ("snoop draw --from 2 --to 1", b"X\n", 2, b"snoop: BadRange\n"),
 ];

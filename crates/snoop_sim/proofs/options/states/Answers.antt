@@ -1,12 +1,20 @@
-use Rattle.std.proofs.Common.{codes, []}
+use Rattle.std.proofs.Common.{rules, codes, [], ◌∙◌, ap}
 use Rattle.std.proofs.lemmas.Result.{IfOk-weaker}
-use Rattle.snoop_sim.specs.CommandLine.{form_rule, simulation_app}
+use Rattle.snoop_sim.specs.CommandLine.{choice_rules, form_rule, simulation_app, with_rules}
 use Rattle.snoop_sim.proofs.CommandLineLemmas.{Describes, DescribesOption, adds_option}
 use Rattle.snoop_sim.proofs.options.states.Goals as goal
 
+pub choosing-requires : goal.choosing-requires
+choosing-requires c =
+    let protocols = c.in_ok-plain.ensures.1.0 in
+    let plain : Describes c.in_ok-plain.plain (simulation_app (codes "states") protocols []) = record { local = c.in_ok-plain.ensures.0; is = c.in_ok-plain.ensures.1.2 } in
+    let form : DescribesOption c.forms.result (form_rule c.as_slice.result) = record { local = c.forms.ensures.0; is = c.forms.ensures.1 } in
+    (adds_option _ _ c.in_ok-arg.field-0 _ _ plain form c.in_ok-arg.ensures).local
+
 pub returns : goal.returns
 returns c =
-    let protocols = c.in_ok-simulation.ensures.1.0 in
-    let plain : Describes c.in_ok-simulation.field-0 (simulation_app (codes "states") protocols []) = record { local = c.in_ok-simulation.ensures.0; is = c.in_ok-simulation.ensures.1.2 } in
-    let own : DescribesOption c.form.result (form_rule c.form.ensures.1.0) = record { local = c.form.ensures.0; is = c.form.ensures.1.2 } in
-    IfOk-weaker c.arg.result _ _ (λ command adds. let all = adds_option _ _ command _ _ plain own adds in (all.local, (c.form.ensures.1.0, c.form.ensures.1.1, (protocols, c.in_ok-simulation.ensures.1.1, all.is)))) c.arg.ensures
+    let protocols = c.in_ok-plain.ensures.1.0 in
+    let plain : Describes c.in_ok-plain.plain (simulation_app (codes "states") protocols []) = record { local = c.in_ok-plain.ensures.0; is = c.in_ok-plain.ensures.1.2 } in
+    let form : DescribesOption c.forms.result (form_rule c.as_slice.result) = record { local = c.forms.ensures.0; is = c.forms.ensures.1 } in
+    let formed = adds_option _ _ c.in_ok-arg.field-0 _ _ plain form c.in_ok-arg.ensures in
+    IfOk-weaker c.choosing.result _ _ (λ command chooses. (chooses.0, (c.as_slice.result, search rules, (protocols, c.in_ok-plain.ensures.1.1, chooses.1 ∙ ap (λ app. with_rules app choice_rules) formed.is)))) c.choosing.ensures
