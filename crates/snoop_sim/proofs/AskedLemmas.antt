@@ -16,7 +16,7 @@ use Rattle.snoop_sim.specs.declared.fault.ThreadsFault.{ThreadsFault}
 use Rattle.snoop_sim.specs.declared.failure.Failure.{Failure}
 use Rattle.snoop_sim.specs.declared.failure.Failure.TheVariants.{BadChoice, BadTop, CommandLine, NoCommand, NotUtf8, Shape, Simulation, Threads as ThreadsFailure, Lint as LintFailure, Drawing, Unchosen, Unshown}
 use Rattle.snoop_sim.specs.declared.options.Task.{Task}
-use Rattle.snoop_sim.specs.declared.options.Task.TheVariants.{Help, Table, Simulate}
+use Rattle.snoop_sim.specs.declared.options.Task.TheVariants.{Help, Table, Simulate, States, Draw}
 
 -- the commands, with the names that their options take
 abbrev commands : (steps run threads states forms counts groupings lint kinds draw drawings table tables : Names) → List App
@@ -63,6 +63,8 @@ asked app words None task snoop well named has = absurd has
 asked app words (Some command) (Help help) snoop well named has = absurd has
 asked app words (Some command) (Table protocol which) snoop well named has = (app, snoop, (well, subst (λ c. HasTask c (Table protocol which)) named has))
 asked app words (Some command) (Simulate protocol shape engine) snoop well named has = (app, snoop, (well, subst (λ c. HasTask c (Simulate protocol shape engine)) named has))
+asked app words (Some command) (States protocol shape choice) snoop well named has = (app, snoop, (well, subst (λ c. HasTask c (States protocol shape choice)) named has))
+asked app words (Some command) (Draw protocol shape charset choice) snoop well named has = (app, snoop, (well, subst (λ c. HasTask c (Draw protocol shape charset choice)) named has))
 
 -- and are refused where it has none
 pub without_task : (app : App) (words : List Text) (command : Option (Text × List Row)) (failure : Failure) → IsSnoop app → fault_of app words ≡ []

@@ -2,7 +2,6 @@
 use Rattle.std.proofs.Common.{◌≡◌, Bool, true, false, Option, Some, refl}
 use Rattle.std.specs.Prelude.{Err}
 use Rattle.snoop_trace.specs.Text.{BlamesReader}
-use Rattle.snoop_trace.specs.declared.fault.TextFault.{TextFault}
 use Rattle.snoop_trace.specs.declared.fault.TextFault.TheVariants as text
 use Rattle.snoop_engine.specs.declared.fault.SimFault.TheVariants as sim
 use Rattle.snoop_draw.specs.declared.fault.DrawFault.TheVariants as draw

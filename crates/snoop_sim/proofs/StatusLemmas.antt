@@ -1,5 +1,5 @@
 -- The statuses that the program ends with are below 6.
-use Rattle.std.proofs.Common.{ℕ, ◌<◌, arith}
+use Rattle.std.proofs.Common.{◌<◌, arith}
 use Rattle.snoop_trace.specs.declared.fault.TextFault.TheVariants as text
 use Rattle.snoop_trace.specs.declared.fault.WriteFault.TheVariants as write
 use Rattle.snoop_cores.specs.declared.fault.MakeFault.TheVariants as make

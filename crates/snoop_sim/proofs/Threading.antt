@@ -1,5 +1,5 @@
 -- From the threads' answers and the gathered log to the rows.
-use Rattle.std.proofs.Common.{◌≡◌, ℕ, ◌<◌, ◌/◌, ◌==◌, List, [], ◌∷◌, ◌++◌, length, take, All, Option, Some, None, Bool, true, nat_lt, if◌then◌else◌, refl, sym, ap, subst, ◌∙◌, arith, inr}
+use Rattle.std.proofs.Common.{◌≡◌, ℕ, ◌<◌, ◌/◌, ◌==◌, List, [], ◌∷◌, ◌++◌, length, take, All, Option, Some, None, Bool, true, nat_lt, if◌then◌else◌, refl, sym, ap, subst, ◌∙◌, arith}
 use Rattle.std.specs.Prelude.{slice_index_or, IsSome, IfErr, MatchResult, OnOk, OnErr, Result, Ok, Err}
 use Rattle.std.specs.Io.KnownBytes.{Appends}
 use Rattle.std.specs.Result.{IsErrAnd}

@@ -11,27 +11,27 @@ use Rattle.snoop_engine.specs.declared.fault.SimFault.TheVariants.{NoMemory}
 use Rattle.snoop_sim.specs.declared.failure.Failure.{Failure}
 use Rattle.snoop_sim.specs.declared.failure.Failure.TheVariants.{BadChoice, BadTop, CommandLine, NoCommand, Shape, Simulation, Unchosen, Unshown}
 use Rattle.snoop_sim.specs.declared.options.Engine.{Engine}
-use Rattle.snoop_sim.specs.declared.options.Engine.TheVariants.{Steps, Run, Serial, Threads, States, StateFields, Counts, Lint, Draw}
+use Rattle.snoop_sim.specs.declared.options.Engine.TheVariants.{Steps, Run, Serial, Threads, StateFields, Counts, Lint}
 use Rattle.snoop_sim.specs.declared.options.Task.{Task}
-use Rattle.snoop_sim.specs.declared.options.Task.TheVariants.{Help, Table, Simulate}
+use Rattle.snoop_sim.specs.declared.options.Task.TheVariants.{Help, Table, Simulate, States, Draw}
 
 -- the engine of a command with its options
-abbrev pub IsEngineOf : Text → List Row → Extent → Engine → Type 0
-IsEngineOf name options shape Steps = name ≡ codes "steps"
-IsEngineOf name options shape Run = (name ≡ codes "run") × (asks_serial options ≡ false)
-IsEngineOf name options shape Serial = (name ≡ codes "run") × (asks_serial options ≡ true)
-IsEngineOf name options shape Threads = name ≡ codes "threads"
-IsEngineOf name options shape (States choice) = (name ≡ codes "states") × (says false (codes "as") (codes "csv") options ≡ false) × IsShownOf shape options (Ok choice)
-IsEngineOf name options shape StateFields = (name ≡ codes "states") × (says false (codes "as") (codes "csv") options ≡ true) × ChoosesAll options
-IsEngineOf name options shape (Counts grouping) = (name ≡ codes "counts") × IsGroupingOf options grouping
-IsEngineOf name options shape (Lint form most) = (name ≡ codes "lint") × (form ≡ kind_named options) × IsLongOf (codes "most") options most
-IsEngineOf name options shape (Draw charset choice) = (name ≡ codes "draw") × (charset ≡ charset_named options) × IsChoiceOf shape options (Ok choice)
+abbrev pub IsEngineOf : Text → List Row → Engine → Type 0
+IsEngineOf name options Steps = name ≡ codes "steps"
+IsEngineOf name options Run = (name ≡ codes "run") × (asks_serial options ≡ false)
+IsEngineOf name options Serial = (name ≡ codes "run") × (asks_serial options ≡ true)
+IsEngineOf name options Threads = name ≡ codes "threads"
+IsEngineOf name options StateFields = (name ≡ codes "states") × (says false (codes "as") (codes "csv") options ≡ true) × ChoosesAll options
+IsEngineOf name options (Counts grouping) = (name ≡ codes "counts") × IsGroupingOf options grouping
+IsEngineOf name options (Lint form most) = (name ≡ codes "lint") × (form ≡ kind_named options) × IsLongOf (codes "most") options most
 
 -- the task of a command with its options
 abbrev pub IsTaskOf : Text × List Row → Task → Type 0
 IsTaskOf command (Help help) = ⊥
 IsTaskOf (name, options) (Table protocol which) = (name ≡ codes "table") × (protocol ≡ protocol_named options) × (which ≡ which_named options)
-IsTaskOf (name, options) (Simulate protocol shape engine) = (protocol ≡ protocol_named options) × IsShapeOf options (Ok shape) × IsEngineOf name options shape engine
+IsTaskOf (name, options) (Simulate protocol shape engine) = (protocol ≡ protocol_named options) × IsShapeOf options (Ok shape) × IsEngineOf name options engine
+IsTaskOf (name, options) (States protocol shape choice) = (protocol ≡ protocol_named options) × IsShapeOf options (Ok shape) × (name ≡ codes "states") × (says false (codes "as") (codes "csv") options ≡ false) × IsShownOf shape options (Ok choice)
+IsTaskOf (name, options) (Draw protocol shape charset choice) = (protocol ≡ protocol_named options) × IsShapeOf options (Ok shape) × (name ≡ codes "draw") × (charset ≡ charset_named options) × IsChoiceOf shape options (Ok choice)
 
 -- the command that was named has this task
 abbrev pub HasTask : Option (Text × List Row) → Task → Type 0

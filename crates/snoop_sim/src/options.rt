@@ -1,7 +1,7 @@
 //! The command line: its words and what they ask for.
-ghost use Rattle.std.specs.Prelude.{◌≡◌, ◌≢◌, ◌^◌, [], IfErr, IfOk, codes, false, map, string_bytes, true};
+ghost use Rattle.std.specs.Prelude.{◌≡◌, ◌≢◌, ◌^◌, [], IfErr, IfOk, Ok, codes, false, map, string_bytes, true};
 ghost use Rattle.clap.specs.Words.{app_of, found_of, one_of, rows_of, rule_of, subcommand_rows_of};
-ghost use Rattle.snoop_sim.specs.Asked.{Asks, HasNoEngine, HasNoTask, HasTask, IsEngineOf, IsTaskOf, Refuses};
+ghost use Rattle.snoop_sim.specs.Asked.{Asks, HasNoEngine, HasNoTask, HasTask, IsTaskOf, Refuses};
 ghost use Rattle.snoop_sim.specs.CommandLine.{IsCounts, IsDraw, IsForms, IsGroupings, IsKinds, IsLint, IsLocal, IsProtocols, IsRun, IsSimulation, IsSnoop, IsStates, IsSteps, IsTable, IsThreads, Names, choice_rules, flag_rule, form_rule, grouping_rule, kind_rule, number_rule, optional_rule, protocol_rule, top_app, with_rules};
 ghost use Rattle.snoop_sim.specs.Options.{ChoosesAll, ChoosesSome, IsChoiceOf, IsGroupingOf, IsNumberOf, IsReadAs, IsShapeOf, IsShownOf, MisplacesTop, asks_serial, charset_named, kind_named, protocol_named, says, which_named};
 
@@ -22,22 +22,22 @@ pub(crate) enum Task {
     Help(Error),
     Table(Protocol, Which),
     Simulate(Protocol, Shape, Engine),
+    States(Protocol, Shape, Shown),
+    Draw(Protocol, Shape, Charset, Choice),
 }
 
 /// What is done with a text.
-#[derive(Debug, Drop)]
+#[derive(Clone, Copy, Debug, PartialEq, Eq)]
 pub(crate) enum Engine {
     Steps,
     Run,
     Serial,
     Threads,
-    States(Shown),
-    /// All steps, in fields.
+    /// The states of all steps, in fields.
     StateFields,
     Counts(Grouping),
     /// So many faulty records are named at most.
     Lint(Form, u64),
-    Draw(Charset, Choice),
 }
 
 /// What each line of counts is of.
@@ -91,28 +91,40 @@ fn simulation_of(name: &str, options: &ArgMatches) -> Result<Task, Failure>
     ensures err { IfErr result (HasNoTask (Some (name.now, rows_of (found_of options.now)))) }
 {
     let shape = shape_in(options)?;
-    let engine = engine_of(name, options, shape)?;
-    Ok(Task::Simulate(protocol_in(options), shape, engine))
+    task_on(name, options, shape)
 }
 
-/// The engine of a command that simulates.
-fn engine_of(name: &str, options: &ArgMatches, shape: Shape) -> Result<Engine, Failure>
-    ensures ok { IfOk result (IsEngineOf name.now (rows_of (found_of options.now)) shape) }
+/// The task of a command other than `table` on a machine of this shape.
+fn task_on(name: &str, options: &ArgMatches, shape: Shape) -> Result<Task, Failure>
+    requires { IsShapeOf (rows_of (found_of options.now)) (Ok shape) }
+    ensures ok { IfOk result (IsTaskOf (name.now, rows_of (found_of options.now))) }
     ensures err { IfErr result (HasNoEngine name.now (rows_of (found_of options.now)) shape) }
 {
+    let protocol = protocol_in(options);
     match name {
-        "steps" => Ok(Engine::Steps),
-        "run" if is_serial(options) => Ok(Engine::Serial),
-        "run" => Ok(Engine::Run),
-        "threads" => Ok(Engine::Threads),
+        "steps" => Ok(Task::Simulate(protocol, shape, Engine::Steps)),
+        "run" if is_serial(options) => Ok(Task::Simulate(protocol, shape, Engine::Serial)),
+        "run" => Ok(Task::Simulate(protocol, shape, Engine::Run)),
+        "threads" => Ok(Task::Simulate(protocol, shape, Engine::Threads)),
         "states" if !says(options, "as", "csv") => {
-            Ok(Engine::States(shown_in(options, shape)?))
+            Ok(Task::States(protocol, shape, shown_in(options, shape)?))
         }
-        "states" if chooses_all(options) => Ok(Engine::StateFields),
+        "states" if chooses_all(options) => {
+            Ok(Task::Simulate(protocol, shape, Engine::StateFields))
+        }
         "states" => Err(Failure::BadChoice),
-        "counts" => Ok(Engine::Counts(grouping_in(options)?)),
-        "draw" => Ok(Engine::Draw(charset_in(options), choice_in(options, shape)?)),
-        "lint" => Ok(Engine::Lint(kind_in(options), long_in(options, "most").unwrap_or(0))),
+        "counts" => {
+            let grouping = grouping_in(options)?;
+            Ok(Task::Simulate(protocol, shape, Engine::Counts(grouping)))
+        }
+        "lint" => {
+            let most = long_in(options, "most").unwrap_or(0);
+            Ok(Task::Simulate(protocol, shape, Engine::Lint(kind_in(options), most)))
+        }
+        "draw" => {
+            let choice = choice_in(options, shape)?;
+            Ok(Task::Draw(protocol, shape, charset_in(options), choice))
+        }
         _ => Err(Failure::NoCommand),
     }
 }
@@ -243,7 +255,10 @@ fn draw<'a>(alloc: Global) -> Result<Command<'a>, AllocError>
         help::DRAW,
     )?;
     let ascii = flag(alloc, "ascii", "Draw with ASCII characters alone");
-    choosing(alloc, plain.arg(forms(alloc, DRAWINGS.as_slice()))?.arg(ascii)?)
+    choosing(
+        alloc,
+        plain.arg(forms(alloc, DRAWINGS.as_slice()))?.arg(ascii)?,
+    )
 }
 
 /// The command, which chooses a block and steps too.
@@ -258,12 +273,7 @@ fn choosing<'a>(alloc: Global, command: Command<'a>) -> Result<Command<'a>, Allo
         "Show steps from this number on",
     );
     command
-        .arg(optional(
-            alloc,
-            "block",
-            value_parser!(u32),
-            "Show this block alone",
-        ))?
+        .arg(optional(alloc, "block", value_parser!(u32), "Show this block alone"))?
         .arg(from.default_value("1"))?
         .arg(optional(
             alloc,
@@ -374,15 +384,13 @@ fn kinds<'a>(alloc: Global) -> Arg<'a>
 }
 
 /// An option that may be left out.
-fn optional<'a>(
-    alloc: Global,
-    name: &'a str,
-    values: ValueParser<'a>,
-    help: &'a str,
-) -> Arg<'a>
+fn optional<'a>(alloc: Global, name: &'a str, values: ValueParser<'a>, help: &'a str) -> Arg<'a>
     ensures { (result.global ≡ false) × (rule_of result ≡ optional_rule name.entry.now values.entry) }
 {
-    Arg::new(alloc, name).long(name).help(help).value_parser(values)
+    Arg::new(alloc, name)
+        .long(name)
+        .help(help)
+        .value_parser(values)
 }
 
 fn number<'a>(alloc: Global, name: &'a str, default: &'a str, help: &'a str) -> Arg<'a>

@@ -9,8 +9,8 @@ ghost use Rattle.snoop_sim.specs.Performed.{Ends, IsFailedRead, Leaves, Performs
 use crate::failure::Failure;
 use crate::options::{Engine, Grouping, Task, task_in};
 use crate::threads::simulate_threads;
-use snoop_draw::simulate_drawing;
 use snoop_counts::{simulate_counts_by_block, simulate_counts_by_core};
+use snoop_draw::simulate_drawing;
 use snoop_engine::{
     SimFault, simulate_counts, simulate_run, simulate_serial, simulate_states, simulate_steps,
 };
@@ -111,6 +111,16 @@ fn perform_task<T: Threads + Wait + Sync, R: Source, W: Sink>(
         Task::Simulate(protocol, shape, engine) => {
             simulate(rt, alloc, reader, writer, protocol, shape, engine)
         }
+        Task::States(protocol, shape, choice) => {
+            simulate_states_table(alloc, reader, writer, protocol, shape, choice).map_err(
+                Failure::Simulation,
+            )
+        }
+        Task::Draw(protocol, shape, charset, choice) => {
+            simulate_drawing(alloc, reader, writer, protocol, shape, charset, choice).map_err(
+                Failure::Drawing,
+            )
+        }
     }
 }
 
@@ -145,10 +155,6 @@ fn simulate<T: Threads + Wait + Sync, R: Source, W: Sink>(
         Engine::Threads => {
             simulate_threads(rt, alloc, reader, writer, protocol, shape).map_err(Failure::Threads)
         }
-        Engine::States(choice) => {
-            simulate_states_table(alloc, reader, writer, protocol, shape, choice)
-                .map_err(Failure::Simulation)
-        }
         Engine::StateFields => {
             simulate_states(alloc, reader, writer, protocol, shape).map_err(Failure::Simulation)
         }
@@ -156,18 +162,17 @@ fn simulate<T: Threads + Wait + Sync, R: Source, W: Sink>(
             simulate_counts(alloc, reader, writer, protocol, shape).map_err(Failure::Simulation)
         }
         Engine::Counts(Grouping::Core) => {
-            simulate_counts_by_core(alloc, reader, writer, protocol, shape).map_err(Failure::Simulation)
+            simulate_counts_by_core(alloc, reader, writer, protocol, shape).map_err(
+                Failure::Simulation,
+            )
         }
         Engine::Counts(Grouping::Block(top)) => {
-            simulate_counts_by_block(alloc, reader, writer, protocol, shape, top)
-                .map_err(Failure::Simulation)
+            simulate_counts_by_block(alloc, reader, writer, protocol, shape, top).map_err(
+                Failure::Simulation,
+            )
         }
         Engine::Lint(form, most) => {
             lint_text(alloc, reader, writer, form, most, protocol, shape).map_err(Failure::Lint)
-        }
-        Engine::Draw(charset, choice) => {
-            simulate_drawing(alloc, reader, writer, protocol, shape, charset, choice)
-                .map_err(Failure::Drawing)
         }
     }
 }

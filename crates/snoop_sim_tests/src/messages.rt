@@ -73,7 +73,12 @@ static REFUSALS: [Refusal; 19] = [
         b"snoop: BadChoice\n",
     ),
     ("snoop draw --block 4", b"", 2, b"snoop: BadBlock\n"),
-    ("snoop draw --from 2 --to 1", b"X\n", 2, b"snoop: BadRange\n"),
+    (
+        "snoop draw --from 2 --to 1",
+        b"X\n",
+        2,
+        b"snoop: BadRange\n",
+    ),
 ];
 
 /// MSI's table of memory.
@@ -93,11 +98,7 @@ M_D,NoData,none,M
 type Answer = (&'static str, &'static [u8], &'static [u8]);
 
 static ANSWERS: [Answer; 2] = [
-    (
-        "snoop table --which memory --protocol MSI",
-        b"",
-        MSI_MEMORY,
-    ),
+    ("snoop table --which memory --protocol MSI", b"", MSI_MEMORY),
     (
         "snoop lint --of rows --most 0",
         b"L,0,0\n\nL,0,256\n",

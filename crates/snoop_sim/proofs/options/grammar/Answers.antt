@@ -1,7 +1,5 @@
 use Rattle.std.proofs.lemmas.Result.{IfOk-weaker}
-use Rattle.clap.specs.Words.{App, app_of}
-use Rattle.clap.specs.declared.builder.command.Command.{Command}
-use Rattle.snoop_sim.specs.CommandLine.{IsLocal, top_app}
+use Rattle.snoop_sim.specs.CommandLine.{top_app}
 use Rattle.snoop_sim.proofs.CommandLineLemmas.{Describes, adds_command, described}
 use Rattle.snoop_sim.proofs.options.grammar.Goals as goal
 
