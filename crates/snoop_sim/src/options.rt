@@ -368,7 +368,7 @@ fn forms<'a>(alloc: Global, names: &'a [&'a str]) -> Arg<'a>
 {
     Arg::new(alloc, "as")
         .long("as")
-        .help("The form of the output")
+        .help("The form")
         .value_parser(ValueParser::Names(names))
         .default_value("text")
 }
@@ -378,7 +378,7 @@ fn kinds<'a>(alloc: Global) -> Arg<'a>
 {
     Arg::new(alloc, "of")
         .long("of")
-        .help("What the text is for: `snoop steps`, or `snoop run`")
+        .help("The kind of text")
         .value_parser(ValueParser::Names(KINDS.as_slice()))
         .default_value("steps")
 }
