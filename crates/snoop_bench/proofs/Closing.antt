@@ -1,6 +1,6 @@
 -- The response to a core's own transaction leaves its work with no step.
-use Rattle.std.proofs.Common.{◌≡◌, ℕ, ◌<◌, ◌==◌, Bool, true, false, true≢false, List, [], length, Option, Some, None, refl, sym, ap, ◌∙◌, subst, arith}
-use Rattle.std.specs.Prelude.{slice_index_or, is_some}
+use Rattle.std.proofs.Common.{◌≡◌, ℕ, ◌<◌, ◌==◌, Bool, true, false, true≢false, List, length, Option, Some, None, refl, sym, ap, ◌∙◌, subst, arith}
+use Rattle.std.specs.Prelude.{is_some}
 use Rattle.std.proofs.lemmas.Bool.Decides.{nat_tests}
 use Rattle.std.proofs.lemmas.List.{get_or-set_same}
 use Rattle.snoop_trace.specs.declared.step.Op.{Op}
@@ -15,8 +15,8 @@ use Rattle.snoop_history.specs.declared.items.Did.{Did}
 use Rattle.snoop_history.specs.declared.items.Item.{Item}
 use Rattle.snoop_model.specs.Pictures.Lines.{Line}
 use Rattle.snoop_model.specs.declared.replies.Reply.{Reply}
-use Rattle.snoop_model.specs.Pictures.Picture.{held_at, nothing_held}
-use Rattle.snoop_model.specs.Pictures.Situation.{Situation, picture_of, state_of}
+use Rattle.snoop_model.specs.Pictures.Picture.{Picture, held_at, held_by, nothing_held}
+use Rattle.snoop_model.specs.Pictures.Situation.{Situation, picture_of, state_of, nothing_there}
 use Rattle.snoop_model.specs.Moves.Move.{FirstMove, ArrivesFor, Responds}
 use Rattle.snoop_model.specs.Invariant.WellKept.{IsWellKept}
 use Rattle.snoop_model.specs.Turns.Turn.{turn_of, step_under_way}
@@ -69,18 +69,18 @@ closed_at s t core block word asking transaction closing did kept inside within 
     same : closing.core ≡ core
     same = ap (λ (o : Open). o.core) (same_some (picture_of s block).transaction closing transaction r.opened there) ∙ its
 
-    caches : slice_index_or t.caches block [] ≡ r.next.caches
-    caches = ap (λ (x : Situation). slice_index_or x.caches block []) r.after ∙ get_or-set_same s.caches block r.next.caches [] (omega (arith, kept.shaped.rows))
+    there_now : picture_of t block ≡ r.next
+    there_now = ap (λ (x : Situation). picture_of x block) r.after ∙ get_or-set_same s.pictures block r.next nothing_there (omega (arith, kept.shaped.pictures))
 
     free : (picture_of t block).transaction ≡ None
-    free = ap (λ (x : Situation). slice_index_or x.transactions block None) r.after ∙ (get_or-set_same s.transactions block r.next.transaction None (omega (arith, kept.shaped.transactions)) ∙ r.closed)
+    free = ap (λ (x : Picture). x.transaction) there_now ∙ r.closed
 
     held : waiting_request (held_at r.next.caches closing.core).state ≡ waiting_request (held_at (picture_of s block).caches closing.core).state
     held = arrives closing.request closing s.protocol s.log (picture_of s block).caches r.next.caches did (omega (arith, kept.shaped.row block within, same)) r.requestor
 
     waits : waiting_request (state_of t core block) ≡ None
     waits =
-        ap (λ (l : List Line). waiting_request (held_at l core).state) caches
+        ap (λ (x : Picture). waiting_request (held_by x core).state) there_now
         ∙ (subst (λ (k : ℕ). waiting_request (held_at r.next.caches k).state ≡ waiting_request (held_at (picture_of s block).caches k).state) same held ∙ none)
 
 -- after the response to its own transaction a core has no step left for its work

@@ -14,11 +14,12 @@ use Rattle.snoop_bus.specs.Traffic.{Open}
 use Rattle.snoop_bus.specs.Traffic.{Traffic, Waiting, no_queue, waiting_of, head_of, transaction_on}
 use Rattle.snoop_model.specs.Pictures.Lines.{Line}
 use Rattle.snoop_model.specs.Pictures.Picture.{held_at, nothing_held}
-use Rattle.snoop_model.specs.Pictures.Sound.{IsSound, IsProper, IsEachOnce, line_at}
+use Rattle.snoop_model.specs.Pictures.Sound.{IsProper}
 use Rattle.snoop_model.specs.Moves.Move.{TakesRows}
-use Rattle.snoop_model.proofs.Lines.EachRow.{row_of}
 use Rattle.snoop_model.proofs.Tables.Rows.{own-waits, other-waits, IsProper-order}
 use Rattle.snoop_machine.proofs.QueueViews.{blocks_of}
+use Rattle.snoop_machine.specs.Lines.{row_of, line_at}
+use Rattle.snoop_machine.specs.PartsView.{IsSound, IsEachOnce}
 
 -- the first of a list that has one
 rest_of : (rs : List (Request × ℕ)) (q : Request) (b : ℕ) → slice_get rs 0 ≡ Some (q, b) → rs ≡ (q, b) ∷ drop 1 rs

@@ -4,10 +4,9 @@ use Rattle.std.proofs.lemmas.Grind.{common_steps}
 use Rattle.std.proofs.lemmas.Result.{err_from_is_err_and}
 use Rattle.std.proofs.lemmas.List.{length-set}
 use Rattle.snoop_bus.specs.Traffic.{Traffic, Waiting, waiting_of}
-use Rattle.snoop_machine.specs.PartsView.{Fields, fields, places_of}
+use Rattle.snoop_machine.specs.PartsView.{Fields, fields, places_of, IsSound}
 use Rattle.snoop_model.specs.Pictures.Lines.{Line}
 use Rattle.snoop_model.specs.Moves.Standing.{Standing}
-use Rattle.snoop_model.specs.Pictures.Sound.{IsSound}
 use Rattle.snoop_machine.proofs.Room.{held_in, held_in-set, keeps_room, places-full, places-map, places-queue}
 use Rattle.snoop_machine.proofs.QueueViews.{queues_of-room, same_traffic, IsSound-room}
 use Rattle.snoop_machine.proofs.parts.Parts.add_line.Given.{Over}

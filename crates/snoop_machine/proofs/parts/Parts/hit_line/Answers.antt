@@ -3,10 +3,10 @@ use Rattle.snoop_rules.specs.Waits.{waiting_request}
 use Rattle.snoop_model.specs.Pictures.Lines.{Line}
 use Rattle.snoop_history.specs.Journal.{Journal}
 use Rattle.snoop_model.specs.Moves.Standing.{Standing}
-use Rattle.snoop_model.specs.Pictures.Sound.{IsSound, line_at}
 use Rattle.snoop_machine.proofs.LineWrites.{IsSound-line}
 use Rattle.snoop_machine.proofs.Following.{follows-set}
-use Rattle.snoop_machine.specs.PartsView.{fields}
+use Rattle.snoop_machine.specs.PartsView.{fields, IsSound}
+use Rattle.snoop_machine.specs.Lines.{line_at}
 use Rattle.snoop_machine.proofs.parts.Parts.hit_line.Goals as goal
 
 pub invariant_of-self : goal.invariant_of-self

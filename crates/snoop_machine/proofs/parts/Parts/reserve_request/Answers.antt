@@ -2,10 +2,9 @@ use Rattle.std.proofs.Common.{◌≡◌, ◌<◌, ◌≤◌, ℕ, List, sym, ap,
 use Rattle.std.specs.Prelude.{slice_set}
 use Rattle.snoop_bus.specs.Traffic.{Traffic, Waiting, waiting_of}
 use Rattle.snoop_model.specs.Moves.Standing.{Standing}
-use Rattle.snoop_model.specs.Pictures.Sound.{IsSound}
 use Rattle.snoop_machine.proofs.Room.{held_in, held_in-set, keeps_room}
 use Rattle.snoop_machine.proofs.QueueViews.{queues_of-room, same_traffic, IsSound-room}
-use Rattle.snoop_machine.specs.PartsView.{Fields, fields}
+use Rattle.snoop_machine.specs.PartsView.{Fields, fields, IsSound}
 use Rattle.snoop_machine.proofs.parts.Parts.reserve_request.Goals as goal
 
 pub invariant_of-self : goal.invariant_of-self
