@@ -220,6 +220,19 @@ plan-room before (plan.Order core request block message memory) h some full = ab
 plan-room before (plan.Writeback block closing memory) h some full = absurd (omega arith)
 plan-room before (plan.Fill block closing memory filled) h some full = absurd (omega arith)
 
+-- where the plan has no room the step has none
+plan-full : (before : Standing) (x : Plan) → IsPlan before.situation x → room_for before x ≡ 0 → IsFull before (step_of x)
+plan-full before (plan.Ask core block word asking Absent) h none = absurd (omega arith)
+plan-full before (plan.Ask core block word asking (Hit line value)) h none = (action.Hit, (h.1.0, (h.1.1.0, none)))
+plan-full before (plan.Ask core block word asking (Issue request line)) h none = (action.Issue request, (h.1.0, (h.1.1.0, none)))
+plan-full before (plan.Ask core block word asking (Drop line)) h none = absurd (omega arith)
+plan-full before (plan.Order core request block message memory) h none = none
+plan-full before (plan.Writeback block closing memory) h none = none
+plan-full before (plan.Fill block closing memory filled) h none = none
+
+pub IsFull-plan : (before : Standing) (taking : Step) (x : Plan) → IsPlanFor before.situation taking x → room_for before x ≡ 0 → IsFull before taking
+IsFull-plan before taking x h none = subst (IsFull before) h.0 (plan-full before x h.1 none)
+
 ask-room : (before : Standing) (core block : ℕ) (way : Asked) → HasRoomToAsk before core block way → 0 < room_for_ask before core block way
 ask-room before core block Absent h = omega arith
 ask-room before core block (Hit line value) h = h

@@ -63,7 +63,9 @@ impl<B: Block> Parts<B> {
         closing: Open<Kept<B>>,
         memory: MemLine<Kept<B>>,
     )
+        requires core { closing.core < self.old.situation.shape.cores }
         requires block { block < self.old.situation.shape.blocks }
+        requires its { closing.block ≡ block }
         requires room { 0 < self.old.room }
         requires opened { (picture_of self.old.situation block).transaction ≡ Some closing }
         requires put { closing.request ≡ PutM }

@@ -1,7 +1,8 @@
-use Rattle.std.proofs.Common.{◌≡◌, ◌<◌, ◌++◌, ◌∷◌, [], List, length, Some, None, false, ◌∙◌, refl, sym, ap, subst}
-use Rattle.std.specs.Prelude.{slice_set}
+use Rattle.std.proofs.Common.{◌≡◌, ◌<◌, ◌++◌, ◌∷◌, [], List, length, Some, None, false, ◌∙◌, refl, sym, ap, subst, inl, Option}
+use Rattle.std.specs.Prelude.{slice_set, option_map}
 use Rattle.std.proofs.lemmas.List.{length-set}
 use Rattle.snoop_rules.specs.Waits.{waiting_request}
+use Rattle.snoop_rules.specs.declared.names.Request.{Request}
 use Rattle.snoop_history.specs.Journal.{Journal}
 use Rattle.snoop_history.specs.declared.items.Did.{Did}
 use Rattle.snoop_history.specs.declared.items.Came.{Came}
@@ -11,10 +12,11 @@ use Rattle.snoop_model.specs.Pictures.Lines.{Line, MemLine}
 use Rattle.snoop_model.specs.Pictures.Picture.{Picture, held_by}
 use Rattle.snoop_model.specs.Moves.Standing.{Standing}
 use Rattle.snoop_model.specs.Pictures.Situation.{Situation, picture_of, with_picture}
-use Rattle.snoop_model.specs.Pictures.Sound.{IsProper}
+use Rattle.snoop_model.specs.Pictures.Sound.{IsProper, request_for, missed_request}
 use Rattle.snoop_machine.specs.PartsView.{fields, standing, pictures_of, queues_of, IsSound}
 use Rattle.snoop_machine.specs.Lines.{row_of, line_at}
 use Rattle.snoop_model.specs.Moves.Move.{Fills, ArrivesFor, ArrivesAtMemory, Responds, came_of, next_did}
+use Rattle.snoop_model.specs.declared.line.Access.{Access}
 use Rattle.snoop_machine.proofs.PlacedLines.{placed}
 use Rattle.snoop_machine.proofs.LineWrites.{IsSound-line}
 use Rattle.snoop_machine.proofs.QueueViews.{IsSound-close}
@@ -100,6 +102,14 @@ set-requires-clause-proper g c =
     let I : Line → Type 0 = λ x. IsProper x in
     let its = fills_here g (goal.at.set-requires-clause-proper g c).After-next_did-did in
     subst I (sym its.held) (IsProper-fill c.self.inside.protocol (line_at c.self.inside.lines.rows c.args.closing.core c.args.block).state its.event its.row.action its.row.next c.args.filled.access.op its.after its.fill its.is_row)
+
+-- an operation waits in the line, so it is not in I
+pub set-requires-clause-place : goal.set-requires-clause-place
+set-requires-clause-place g c =
+    let its = fills_here g (goal.at.set-requires-clause-place g c).After-next_did-did in
+    let held = c.self.invariant.sound.proper c.args.closing.core c.args.block in
+    inl (λ e. (let clash : ◌≡◌ {A = Option Request} (Some (request_for c.args.filled.access.op)) None =
+    sym (ap (λ (o : Option Access). option_map (λ access. request_for access.op) o) its.waited) ∙ (held.waiting ∙ ap missed_request e) in cc))
 
 pub returns-clause-lines : goal.returns-clause-lines
 returns-clause-lines g c =

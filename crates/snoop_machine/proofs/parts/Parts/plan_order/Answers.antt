@@ -6,11 +6,12 @@ use Rattle.snoop_rules.specs.declared.names.MemCell.{MemCell}
 use Rattle.snoop_rules.specs.MemoryCell.{MemoryCell}
 use Rattle.snoop_rules.specs.Possible.{IsMemImpossible}
 use Rattle.snoop_rules.specs.Takers.{at_memory, seen_by}
+use Rattle.snoop_rules.specs.Waits.{waiting_request}
 use Rattle.snoop_bus.specs.Traffic.{Open}
 use Rattle.snoop_model.specs.Pictures.Lines.{MemLine}
 use Rattle.snoop_model.specs.Pictures.Picture.{Picture, held_by}
 use Rattle.snoop_model.specs.Moves.Standing.{Standing}
-use Rattle.snoop_model.specs.Pictures.Situation.{picture_of}
+use Rattle.snoop_model.specs.Pictures.Situation.{picture_of, state_of}
 use Rattle.snoop_model.specs.Moves.LookUps.{HasRow}
 use Rattle.snoop_model.specs.Moves.SenderTable.{FollowsSenderTable}
 use Rattle.snoop_model.specs.Pictures.Message.{free_picture, IsMessage}
@@ -24,7 +25,7 @@ use Rattle.snoop_machine.specs.Lines.{row_of}
 use Rattle.snoop_machine.proofs.parts.Parts.plan_order.Given.{Over}
 use Rattle.snoop_machine.proofs.parts.Parts.plan_order.Goals as goal
 use Rattle.snoop_machine.proofs.parts.Parts.plan_order.Goals.{In-Some-mem_cell}
-use Rattle.snoop_machine.proofs.PictureViews.{seen, picture_in}
+use Rattle.snoop_machine.proofs.PictureViews.{seen, picture_in, state_seen}
 
 none_from_is_some : (o : Option Open) → is_some o ≡ false → o ≡ None
 none_from_is_some None h = refl
@@ -49,6 +50,12 @@ memory_row g c =
     let P : MemEvent → Type 0 = λ e. MemoryCell c.self.inside.protocol c.memory_line-memory.result.state e c.in-Some-mem_cell.cell.action c.in-Some-mem_cell.cell.next in
     let Q : Picture → Type 0 = λ p. TakesMemRow c.self.inside.protocol (at_memory c.in-Some.request) p.memory.state c.in-Some-mem_cell.cell.next in
     rw (← protocol g c) (subst Q (picture g c) (c.in-Some-mem_cell.cell, subst P c.event_at_memory.ensures c.in-Some-mem_cell.ensures.row, refl))
+
+pub message-message-requires-clause-waits : goal.message-message-requires-clause-waits
+message-message-requires-clause-waits g c =
+    let m = (fields c.self.inside.protocol c.self.inside.shape c.self.inside.lines c.self.inside.memory c.self.inside.bus c.self.inside.log) in
+    sym (ap waiting_request (state_seen m c.self.invariant c.in-Some.block c.args.core))
+    ∙ (ap (λ (s : Standing). waiting_request (state_of s.situation c.args.core c.in-Some.block)) c.self.view_is ∙ c.in-Some.ensures.some.waits)
 
 -- each core has its row for a waiting request on a free block
 pub message-message-requires-clause-rows : goal.message-message-requires-clause-rows

@@ -1,4 +1,4 @@
-use Rattle.std.proofs.Common.{◌≡◌, ◌<◌, sym, subst, List, ap, ◌∙◌, refl}
+use Rattle.std.proofs.Common.{◌≡◌, ◌<◌, sym, subst, List, ap, ◌∙◌, refl, inl}
 use Rattle.snoop_rules.specs.Waits.{waiting_request}
 use Rattle.snoop_model.specs.Pictures.Lines.{Line}
 use Rattle.snoop_model.specs.Pictures.Picture.{Picture, with_line}
@@ -31,6 +31,11 @@ invariant_of-self g c =
       held = c.self.invariant.held;
       few_words = c.self.invariant.few_words;
     }
+
+pub set-requires-clause-place : goal.set-requires-clause-place
+set-requires-clause-place g c =
+    let m = (fields c.self.inside.protocol c.self.inside.shape c.self.inside.lines c.self.inside.memory c.self.inside.bus c.self.inside.log) in
+    inl (λ e. c.requires.held (sym (ap (λ (s : Standing). state_of s.situation c.args.core c.args.block) c.self.view_is) ∙ (state_seen m c.self.invariant c.args.block c.args.core ∙ e)))
 
 pub returns-clause-written : goal.returns-clause-written
 returns-clause-written g c =
