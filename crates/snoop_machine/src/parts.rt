@@ -21,7 +21,7 @@ use snoop_blocks::BlockTable;
 use snoop_bus::{Bus, Open};
 use snoop_history::{Did, Log};
 use snoop_model::{Access, Line, MemLine};
-use snoop_rules::{CacheState, MemState, Protocol};
+use snoop_rules::{CacheState, MemState, Protocol, waits};
 use snoop_trace::{Block, Kept, NoMemory, Op, Shape};
 use std::alloc::Global;
 use std::marker::Model;
@@ -297,19 +297,4 @@ fn first_state(protocol: Protocol) -> MemState
         Protocol::Msi => MemState::IorS,
         Protocol::Mesi => MemState::I,
     }
-}
-
-/// A request waits in this state.
-fn waits(state: CacheState) -> bool
-    ensures { result ≡ is_some (waiting_request state) }
-{
-    matches!(
-        &state,
-        CacheState::IsAd
-            | CacheState::ImAd
-            | CacheState::SmAd
-            | CacheState::MiA
-            | CacheState::EiA
-            | CacheState::IiA
-    )
 }

@@ -1,5 +1,5 @@
 //! An Ask: found, and made.
-ghost use Rattle.std.specs.Prelude.{◌≡◌, ◌≢◌, ◌+◌, ◌<◌, ℕ, [], ◌∷◌, ◌++◌, slice_index, slice_index_or, slice_set, IfOk, IfErr, None, Some, true, Err};
+ghost use Rattle.std.specs.Prelude.{◌≡◌, ◌≢◌, ◌<◌, ℕ, [], ◌∷◌, ◌++◌, slice_index, IfOk, IfErr, None, Some, true, Err};
 ghost use Rattle.snoop_trace.specs.declared.step.Step.TheVariants.{Ask};
 ghost use Rattle.snoop_trace.specs.Words.{HasWord, IsWord};
 ghost use Rattle.snoop_rules.specs.Waits.{waiting_request};

@@ -16,11 +16,10 @@ ghost use Rattle.snoop_machine.specs.Plan.{IsPlanFor};
 ghost use Rattle.snoop_model.specs.Invariant.Invariant.{Invariant};
 
 use super::Parts;
-use crate::order::event_at_memory;
 use crate::plan::Plan;
 use snoop_history::{Item, Sent};
 use snoop_model::{MemLine, Message, Refused};
-use snoop_rules::{MemState, Request, mem_cell};
+use snoop_rules::{MemState, Request, event_at_memory, mem_cell};
 use snoop_trace::{Block, Kept};
 
 impl<B: Block> Parts<B> {
