@@ -13,7 +13,7 @@ use Rattle.snoop_machine.specs.PartsView.{Fields, standing, IsWhole}
 use Rattle.snoop_machine.specs.Lines.{Held, LinesGo, gone, is_invalid, row_of, line_at}
 use Rattle.snoop_machine.specs.Following.{LosesLines}
 use Rattle.snoop_machine.proofs.PlacedLines.{placed}
-use Rattle.snoop_machine.proofs.PictureViews.{seen, has_picture}
+use Rattle.snoop_machine.proofs.PictureViews.{seen, core_in, block_in, has_picture}
 use Rattle.snoop_machine.proofs.LineMaps.{gone-none, gone-one, is_I}
 use Rattle.snoop_machine.proofs.LinesGoing.{LinesGo-none, LinesGo-set, row_after}
 
@@ -56,19 +56,16 @@ module _ (old new : Standing) (block : ℕ) (next : Picture) (within : block < l
 
 module _ {count : ℕ} (m : Fields) (whole : IsWhole count m) (old : Standing) (view : standing m ≡ old) (new : Standing) (block : ℕ) (next : Picture) (held : Held)
     (within : block < old.situation.shape.blocks) (wrote : new.situation.pictures ≡ slice_set (standing m).situation.pictures block next) (lines : new.lines ≡ held.lines) where
-  in_blocks : block < m.shape.blocks
-  in_blocks = let P : Standing → Type 0 = λ s. block < s.situation.shape.blocks in subst P (sym view) within
-
   -- the lines of one block have moved
   pub follows-rows : next.caches ≡ row_of held.rows block → LinesGo block m.lines held → (k : ℕ) → LosesLines old new k
   follows-rows row go k =
       let P : Standing → Type 0 = λ s. LosesLines s new k in
-      subst P view (follows (standing m) new block next (has_picture m whole block in_blocks) wrote
+      subst P view (follows (standing m) new block next (has_picture m whole old view block within) wrote
       (λ j.
       let Q : List (List ℕ) → Type 0 = λ l. length (slice_index_or l j []) + gone (state_of (standing m).situation j block) (held_by next j).state ≡ length (slice_index_or m.lines.lines j []) in
       let R : Picture → Type 0 = λ x. length (slice_index_or held.lines j []) + gone (held_by x j).state (held_by next j).state ≡ length (slice_index_or m.lines.lines j []) in
       let S : List Line → Type 0 = λ l. length (slice_index_or held.lines j []) + gone (line_at m.lines.rows j block).state (held_at l j).state ≡ length (slice_index_or m.lines.lines j []) in
-      subst Q (sym lines) (subst R (sym (seen m whole block)) (subst S (sym row) (go j))))
+      subst Q (sym lines) (subst R (sym (seen m whole (standing m) refl block)) (subst S (sym row) (go j))))
       k)
 
   -- one line has moved
@@ -78,9 +75,9 @@ module _ {count : ℕ} (m : Fields) (whole : IsWhole count m) (old : Standing) (
       → ((k : ℕ) → k ≢ core → slice_index_or held.lines k [] ≡ slice_index_or m.lines.lines k [])
       → (k : ℕ) → LosesLines old new k
   follows-set core line in_cores row written fewer others =
-      let P : Standing → Type 0 = λ s. core < s.situation.shape.cores in
-      let core_in : core < m.shape.cores = subst P (sym view) in_cores in
+      let core_inside = core_in m whole old view core in_cores in
+      let in_blocks = block_in m whole old view block within in
       let rows_in : block < length m.lines.rows = rw whole.sound.rows in_blocks in
-      let row_in : core < length (row_of m.lines.rows block) = rw (whole.sound.row block in_blocks) core_in in
+      let row_in : core < length (row_of m.lines.rows block) = rw (whole.sound.row block in_blocks) core_inside in
       let after = row_after block m.lines m.lines held core line rows_in row_in written in
       follows-rows (row ∙ sym after) (LinesGo-set block m.lines m.lines held core line rows_in row_in written (LinesGo-none block m.lines) refl fewer others)

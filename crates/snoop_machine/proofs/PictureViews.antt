@@ -1,16 +1,18 @@
 -- The pictures that the parts show.
-use Rattle.std.proofs.Common.{◌≡◌, ℕ, ◌<◌, zero, suc, List, [], ◌∷◌, length, replicate, Option, None, refl, sym, ◌∙◌, ap, arith}
+use Rattle.std.proofs.Common.{◌≡◌, ℕ, ◌<◌, zero, suc, List, [], ◌∷◌, length, replicate, Option, None, refl, sym, ◌∙◌, ap, arith, subst}
 use Rattle.std.specs.Prelude.{slice_index_or, slice_set}
 use Rattle.std.proofs.lemmas.List.{set-get_or}
 use Rattle.snoop_trace.specs.Extent.{Extent}
 use Rattle.snoop_trace.specs.declared.protocol.Protocol.{Protocol}
 use Rattle.snoop_bus.specs.Traffic.{Open}
 use Rattle.snoop_history.specs.declared.items.Item.{Item}
+use Rattle.snoop_history.specs.Journal.{Journal}
 use Rattle.snoop_model.specs.Pictures.Lines.{Line, MemLine}
 use Rattle.snoop_model.specs.Pictures.Picture.{Picture, held_by, with_line}
 use Rattle.snoop_model.specs.Pictures.Situation.{Situation, picture_of, state_of, nothing_there}
+use Rattle.snoop_model.specs.Moves.Standing.{Standing}
 use Rattle.snoop_machine.specs.Lines.{line_at, row_of}
-use Rattle.snoop_machine.specs.PartsView.{Fields, standing, pictures_of, no_memory, IsWhole}
+use Rattle.snoop_machine.specs.PartsView.{Fields, standing, pictures_of, no_memory, IsSized, IsWhole}
 use Rattle.snoop_machine.proofs.PlacedLines.{placed}
 
 pictures-get : (rows : List (List Line)) (memories : List MemLine) (transactions : List (Option Open)) (block : ℕ) → length memories ≡ length rows → length transactions ≡ length rows
@@ -48,29 +50,56 @@ pictures_of-replicate (suc n) row memory transaction =
 abbrev pub picture_in : Fields → ℕ → Picture
 picture_in m block = record { caches = row_of m.lines.rows block; memory = slice_index_or m.memory block no_memory; transaction = slice_index_or m.bus.transactions block None }
 
-module _ {count : ℕ} (m : Fields) (whole : IsWhole count m) (block : ℕ) where
-  -- it is the one that callers see
-  pub seen : picture_of (standing m).situation block ≡ picture_in m block
-  seen = pictures-get m.lines.rows m.memory m.bus.transactions block (whole.memory ∙ sym whole.sound.rows) (whole.sound.transactions ∙ sym whole.sound.rows)
+-- what holds of the parts, of which callers see this
+module _ {count : ℕ} (m : Fields) (whole : IsWhole count m) (now : Standing) (view : standing m ≡ now) where
+  pub seen : (block : ℕ) → picture_of now.situation block ≡ picture_in m block
+  seen block =
+      ap (λ (s : Standing). picture_of s.situation block) (sym view)
+      ∙ pictures-get m.lines.rows m.memory m.bus.transactions block (whole.sized.memory ∙ sym whole.sound.rows) (whole.sound.transactions ∙ sym whole.sound.rows)
 
-  pub state_seen : (core : ℕ) → state_of (standing m).situation core block ≡ (line_at m.lines.rows core block).state
-  state_seen core = ap (λ (x : Picture). (held_by x core).state) seen
+  pub state_seen : (core block : ℕ) → state_of now.situation core block ≡ (line_at m.lines.rows core block).state
+  state_seen core block = ap (λ (x : Picture). (held_by x core).state) (seen block)
 
-  pub has_picture : block < m.shape.blocks → block < length (standing m).situation.pictures
-  has_picture within =
-      let long = pictures-length m.lines.rows m.memory m.bus.transactions (whole.memory ∙ sym whole.sound.rows) (whole.sound.transactions ∙ sym whole.sound.rows) in
+  pub core_in : (core : ℕ) → core < now.situation.shape.cores → core < m.shape.cores
+  core_in core within = subst (λ (s : Standing). core < s.situation.shape.cores) (sym view) within
+
+  pub block_in : (block : ℕ) → block < now.situation.shape.blocks → block < m.shape.blocks
+  block_in block within = subst (λ (s : Standing). block < s.situation.shape.blocks) (sym view) within
+
+  pub has_picture : (block : ℕ) → block < now.situation.shape.blocks → block < length (standing m).situation.pictures
+  has_picture block within =
+      let long = pictures-length m.lines.rows m.memory m.bus.transactions (whole.sized.memory ∙ sym whole.sound.rows) (whole.sound.transactions ∙ sym whole.sound.rows) in
       let rows = whole.sound.rows in
+      let inside = block_in block within in
       omega arith
 
   -- one line is written
-  pub line-written : (rows : List (List Line)) (core : ℕ) (line : Line) → rows ≡ placed m.lines.rows core block line
-      → pictures_of rows m.memory m.bus.transactions ≡ slice_set (standing m).situation.pictures block (with_line (picture_of (standing m).situation block) core line)
-  line-written rows core line wrote =
+  pub line-written : (block : ℕ) (rows : List (List Line)) (core : ℕ) (line : Line) → rows ≡ placed m.lines.rows core block line
+      → pictures_of rows m.memory m.bus.transactions ≡ slice_set (standing m).situation.pictures block (with_line (picture_of now.situation block) core line)
+  line-written block rows core line wrote =
       ap (λ (l : List (List Line)). pictures_of l m.memory m.bus.transactions) wrote
       ∙ (ap (λ (l : List MemLine). pictures_of (placed m.lines.rows core block line) l m.bus.transactions) (sym (set-get_or m.memory block no_memory))
       ∙ (ap (λ (l : List (Option Open)). pictures_of (placed m.lines.rows core block line) (slice_set m.memory block (slice_index_or m.memory block no_memory)) l) (sym (set-get_or m.bus.transactions block None))
       ∙ (pictures-set m.lines.rows m.memory m.bus.transactions block _ _ _
-      ∙ ap (λ (p : Picture). slice_set (standing m).situation.pictures block (with_line p core line)) (sym seen))))
+      ∙ ap (λ (p : Picture). slice_set (standing m).situation.pictures block (with_line p core line)) (sym (seen block)))))
+
+-- the parts are as large as they were
+pub sized_on : {count : ℕ} (m n : Fields) → IsSized count m → n.shape ≡ m.shape → length n.lines.lines ≡ length m.lines.lines → length n.memory ≡ length m.memory
+    → (n.log.cores ≡ m.log.cores) × (n.log.blocks ≡ m.log.blocks) × (n.log.words ≡ m.log.words) → IsSized count n
+sized_on m n sized shape lines memory log = record {
+  few = rw shape sized.few;
+  lines = lines ∙ (sized.lines ∙ ap (λ (e : Extent). e.cores) (sym shape));
+  memory = memory ∙ (sized.memory ∙ ap (λ (e : Extent). e.blocks) (sym shape));
+  cores = log.0 ∙ (sized.cores ∙ ap (λ (e : Extent). e.cores) (sym shape));
+  blocks = log.1 ∙ (sized.blocks ∙ ap (λ (e : Extent). e.blocks) (sym shape));
+  words = log.2 ∙ (sized.words ∙ ap (λ (e : Extent). e.words) (sym shape));
+  held = ap (λ (e : Extent). e.words) shape ∙ sized.held;
+  few_words = sized.few_words;
+}
+
+-- an item in the log leaves what it counts
+pub logged_on : (old new : Journal) (items : List Item) (room : ℕ) → new ≡ record old { items = items; room = room } → (new.cores ≡ old.cores) × (new.blocks ≡ old.blocks) × (new.words ≡ old.words)
+logged_on old new items room e = (ap (λ (j : Journal). j.cores) e, ap (λ (j : Journal). j.blocks) e, ap (λ (j : Journal). j.words) e)
 
 -- all that is shown of a block is written
 pub picture-written : (m : Fields) (block : ℕ) (next : Picture) (rows : List (List Line)) (memories : List MemLine) (transactions : List (Option Open))

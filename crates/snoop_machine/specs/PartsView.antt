@@ -79,10 +79,9 @@ pub record IsSound (shape : Extent) (caches : List (List Line)) (bus : Traffic) 
   pub waits : (core block : ℕ) (request : Request) → waiting_request (line_at caches core block).state ≡ Some request → Contains (waiting_of bus core).requests (request, block)
   pub once : (core : ℕ) → IsEachOnce (waiting_of bus core).requests
 
--- what the parts of every machine keep, where a block holds so many words
-pub record IsWhole (count : ℕ) (m : Fields) : Type 0 where
+-- what is kept beside the lines and the bus is as large as the shape says, and a block holds so many words
+pub record IsSized (count : ℕ) (m : Fields) : Type 0 where
   pub few : m.shape.cores < 257
-  pub sound : IsSound m.shape m.lines.rows m.bus
   pub lines : length m.lines.lines ≡ m.shape.cores
   pub memory : length m.memory ≡ m.shape.blocks
   pub cores : m.log.cores ≡ m.shape.cores
@@ -90,3 +89,8 @@ pub record IsWhole (count : ℕ) (m : Fields) : Type 0 where
   pub words : m.log.words ≡ m.shape.words
   pub held : m.shape.words ≡ count
   pub few_words : count ≤ 64
+
+-- what the parts of every machine keep
+pub record IsWhole (count : ℕ) (m : Fields) : Type 0 where
+  pub sound : IsSound m.shape m.lines.rows m.bus
+  pub sized : IsSized count m

@@ -11,7 +11,7 @@ use Rattle.snoop_bus.specs.Queues.{queue_of, after_order}
 use Rattle.snoop_bus.specs.Traffic.{Open}
 use Rattle.snoop_model.specs.declared.line.Access.{Access}
 use Rattle.snoop_model.specs.Pictures.Lines.{Line}
-use Rattle.snoop_model.specs.Pictures.Picture.{held_by, nothing_held, Picture}
+use Rattle.snoop_model.specs.Pictures.Picture.{held_by, nothing_held, Picture, held_at}
 use Rattle.snoop_model.specs.Pictures.Situation.{Situation, picture_of, state_of}
 use Rattle.snoop_model.specs.Moves.Move.{Orders, TakesRow, TakesRows, IsWithin}
 use Rattle.snoop_model.proofs.Tables.Rows.{own-waits, other-waits}
@@ -19,6 +19,7 @@ use Rattle.snoop_model.specs.Invariant.WellKept.{IsWellKept, HasOpen, awaited_re
 use Rattle.snoop_model.proofs.Tables.WaitingRows.{has_missed, awaited-own, awaited-other, missed-ordered}
 use Rattle.snoop_model.proofs.OneBlock.OfBlocks.{changed, in_pictures, picture_here, picture_elsewhere, shaped_after}
 use Rattle.snoop_history.specs.declared.items.Item.{Item}
+use Rattle.snoop_trace.specs.declared.protocol.Protocol.{Protocol}
 
 -- what a filter leaves is what was there and passes
 pub contains_filtered : (p : ℕ → Bool) (xs : List ℕ) (x : ℕ) → Contains (filter p xs) x → Contains xs x
@@ -41,6 +42,23 @@ filter_keeps p (y ∷ ys) x h pass = at (λ there. filter_keeps p ys x there pas
         let passes : p y ≡ true = subst P (sym e) pass in
         rw passes (0, omega arith, e)
     at rest (suc k) l e = kept_behind (p y) y x (filter p ys) (rest (k, omega arith, e))
+
+-- who waits once each core has taken its row: the requestor no longer, each other core as before
+module _ (p : Protocol) (core : ℕ) (request : Request) (old new : List Line) (taken : TakesRows p core request old new) where
+  pub own_waits : core < length old → waiting_request (held_at new core).state ≡ None
+  own_waits inside =
+      let row = taken.rows core inside in
+      ap (λ (x : Line). waiting_request x.state) row.2 ∙ own-waits p (held_at old core).state core request row.0.action row.0.next row.1
+
+  pub others_wait : (k : ℕ) → (k ≡ core → ⊥) → waiting_request (held_at new k).state ≡ waiting_request (held_at old k).state
+  others_wait k ne = elim (cases_lt k (length old)) [
+    | inl lt ↦
+        (let row = taken.rows k lt in
+        ap (λ (x : Line). waiting_request x.state) row.2 ∙ other-waits p (held_at old k).state k core request row.0.action row.0.next ne row.1)
+    | inr ge ↦
+        (let same = taken.same_length in
+        ap (λ (x : Line). waiting_request x.state) (get_or_past new k nothing_held (omega arith) ∙ sym (get_or_past old k nothing_held ge)))
+  ]
 
 module _ (s : Situation) (kept : IsWellKept s) (core block : ℕ) (request : Request) (next : Picture) (log : List Item) (has_core : core < s.shape.cores) (has_block : block < s.shape.blocks)
     (taken : TakesRows s.protocol core request (picture_of s block).caches next.caches)
@@ -76,18 +94,16 @@ module _ (s : Situation) (kept : IsWellKept s) (core block : ℕ) (request : Req
   ]
 
   waits_other : (k : ℕ) → (k ≡ core → ⊥) → waiting_request (state_of t k block) ≡ waiting_request (state_of s k block)
-  waits_other k ne = elim (row_or_past k) [
-    | inl lt ↦
-        (let row = taken.rows k lt in
-        ap (λ (x : Line). waiting_request x.state) (line_here k ∙ row.2) ∙ other-waits s.protocol (state_of s k block) k core request row.0.action row.0.next ne row.1)
-    | inr past ↦ ap (λ (x : Line). waiting_request x.state) (past.0 ∙ sym past.1)
-  ]
+  waits_other k ne = ap (λ (x : Line). waiting_request x.state) (line_here k) ∙ others_wait s.protocol core request (picture_of s block).caches next.caches taken k ne
+
+  in_row : core < length (picture_of s block).caches
+  in_row = let b = kept.shaped.row block has_block in omega arith
 
   own_row : TakesRow s.protocol (seen_by core core request) (held_by (picture_of s block) core) (held_by next core)
-  own_row = taken.rows core (let b = kept.shaped.row block has_block in omega arith)
+  own_row = taken.rows core in_row
 
   waits_own : waiting_request (state_of t core block) ≡ None
-  waits_own = ap (λ (x : Line). waiting_request x.state) (line_here core ∙ own_row.2) ∙ own-waits s.protocol (state_of s core block) core request own_row.0.action own_row.0.next own_row.1
+  waits_own = ap (λ (x : Line). waiting_request x.state) (line_here core) ∙ own_waits s.protocol core request (picture_of s block).caches next.caches taken in_row
 
   -- a wait elsewhere, or of another core, is as it was
   waits_same : (k b : ℕ) → ((k ≡ core) × (b ≡ block)) ⊎ (waiting_request (state_of t k b) ≡ waiting_request (state_of s k b))

@@ -68,6 +68,14 @@ module _ (closing : Open) (p : Protocol) (log : List Item) (old new : List Line)
   fills_length : length new ≡ length old
   fills_length = ap length fills.held ∙ length-set old closing.core fills.line
 
+-- a response changes no wait
+pub arrives_waits : (closing : Open) (p : Protocol) (log : List Item) (old new : List Line) (did : Option Did) → ArrivesFor closing.request closing p log old new did
+    → (k : ℕ) → waiting_request (held_at new k).state ≡ waiting_request (held_at old k).state
+arrives_waits closing p log old new did arrives k = elim (by_request closing.request closing p log old new did arrives) [
+  | inl put ↦ ap (λ l. waiting_request (held_at l k).state) put.1
+  | inr fills ↦ fills_waits closing p log old new did fills k
+]
+
 module _ (s : Situation) (kept : IsWellKept s) (block : ℕ) (closing : Open) (did : Option Did) (next : Picture) (log : List Item) (has_block : block < s.shape.blocks)
     (opened : (picture_of s block).transaction ≡ Some closing) (requestor : ArrivesFor closing.request closing s.protocol s.log (picture_of s block).caches next.caches did) where
   abbrev t : Situation
@@ -89,12 +97,7 @@ module _ (s : Situation) (kept : IsWellKept s) (block : ℕ) (closing : Open) (d
   ]
 
   waits_same : (k b : ℕ) → waiting_request (state_of t k b) ≡ waiting_request (state_of s k b)
-  waits_same k b =
-      let here : waiting_request (held_by next k).state ≡ waiting_request (state_of s k block) = elim arrived [
-        | inl put ↦ ap (λ l. waiting_request (held_at l k).state) put.1
-        | inr fills ↦ fills_waits closing s.protocol s.log (picture_of s block).caches next.caches did fills k
-      ] in
-      same_everywhere s block next s.queues log (λ (x : Picture). waiting_request (held_by x k).state) here b
+  waits_same k b = same_everywhere s block next s.queues log (λ (x : Picture). waiting_request (held_by x k).state) (arrives_waits closing s.protocol s.log (picture_of s block).caches next.caches did requestor k) b
 
   -- no core awaits data of the block any more
   none_awaits : (k : ℕ) (q : Request) → awaited_request (state_of t k block) ≡ Some q → ⊥

@@ -1,4 +1,4 @@
-use Rattle.std.proofs.Common.{◌≡◌, ◌<◌, ◌++◌, ◌∷◌, [], List, length, Some, None, false, ◌∙◌, refl, sym, ap, subst, inl, Option}
+use Rattle.std.proofs.Common.{◌≡◌, ◌++◌, ◌∷◌, [], List, length, Some, None, false, ◌∙◌, refl, sym, ap, subst, inl, Option}
 use Rattle.std.specs.Prelude.{slice_set, option_map}
 use Rattle.std.proofs.lemmas.List.{length-set}
 use Rattle.snoop_rules.specs.Waits.{waiting_request}
@@ -26,15 +26,15 @@ use Rattle.snoop_machine.proofs.Following.{follows-set}
 use Rattle.snoop_machine.proofs.parts.Parts.finish_get.Given.{Over}
 use Rattle.snoop_machine.proofs.parts.Parts.finish_get.Goals as goal
 use Rattle.snoop_machine.proofs.parts.Parts.finish_get.Goals.{After-next_did-did}
-use Rattle.snoop_machine.proofs.PictureViews.{seen, picture-written, same_situation}
+use Rattle.snoop_machine.proofs.PictureViews.{seen, picture-written, same_situation, core_in, block_in, sized_on, logged_on}
 
 -- the fill, on the line that the caches hold
 fills_here : (g : Over) (c : After-next_did-did g) → Fills c.args.closing c.self.inside.protocol (line_at c.self.inside.lines.rows c.args.closing.core c.args.block) c.args.filled.line c.args.filled.access c.args.filled.value
 fills_here g c =
     let m = (fields c.self.inside.protocol c.self.inside.shape c.self.inside.lines c.self.inside.memory c.self.inside.bus c.self.inside.log) in
-    let T : Standing → Type 0 = λ x. Fills c.args.closing x.situation.protocol (held_by (picture_of x.situation c.args.block) c.args.closing.core) c.args.filled.line c.args.filled.access c.args.filled.value in
+    let T : Standing → Type 0 = λ x. Fills c.args.closing x.situation.protocol (held_by (picture_of c.args.self.now.situation c.args.block) c.args.closing.core) c.args.filled.line c.args.filled.access c.args.filled.value in
     let U : Picture → Type 0 = λ x. Fills c.args.closing m.protocol (held_by x c.args.closing.core) c.args.filled.line c.args.filled.access c.args.filled.value in
-    subst U (seen m c.self.invariant c.args.block) (subst T (sym c.self.view_is) c.requires.filled)
+    subst U (seen m c.self.invariant c.args.self.now c.self.view_is c.args.block) (subst T (sym c.self.view_is) c.requires.filled)
 
 pub invariant_of-self : goal.invariant_of-self
 invariant_of-self g c =
@@ -42,27 +42,19 @@ invariant_of-self g c =
     let block = c.args.block in
     let core = c.args.closing.core in
     let filled = c.args.filled in
-    let P : Standing → Type 0 = λ x. core < x.situation.shape.cores in
-    let Q : Standing → Type 0 = λ x. block < x.situation.shape.blocks in
     let f = fills_here g (goal.at.invariant_of-self g c).After-next_did-did in
     let I : Line → Type 0 = λ x. IsProper x in
     let proper : IsProper filled.line = subst I (sym f.held) (IsProper-fill m.protocol (line_at m.lines.rows core block).state f.event f.row.action f.row.next filled.access.op f.after f.fill f.is_row) in
     let same : waiting_request filled.line.state ≡ waiting_request (line_at m.lines.rows core block).state =
     ap (λ (x : Line). waiting_request x.state) f.held ∙ fill-waits m.protocol (line_at m.lines.rows core block).state f.event f.row.action f.row.next filled.access.op f.fill f.is_row in
-    let in_blocks : block < m.shape.blocks = subst Q (sym c.self.view_is) c.requires.block in
-    let placed_sound = IsSound-line m.shape m.lines.rows m.bus c.self.invariant.sound core block filled.line (subst P (sym c.self.view_is) c.requires.core) in_blocks proper same in
+    let in_cores = core_in m c.self.invariant c.args.self.now c.self.view_is core c.requires.core in
+    let in_blocks = block_in m c.self.invariant c.args.self.now c.self.view_is block c.requires.block in
+    let placed_sound = IsSound-line m.shape m.lines.rows m.bus c.self.invariant.sound core block filled.line in_cores in_blocks proper same in
     let S : List (List Line) → Type 0 = λ caches. IsSound m.shape caches c.finish.new.self in
     let R : Traffic → Type 0 = λ bus. IsSound m.shape (placed m.lines.rows core block filled.line) bus in
     record {
-      few = c.self.invariant.few;
-      lines = c.set.ensures.many ∙ c.self.invariant.lines;
       sound = subst S (sym c.set.ensures.rows) (subst R (sym c.finish.ensures.after) (IsSound-close m.shape (placed m.lines.rows core block filled.line) m.bus block in_blocks placed_sound));
-      memory = ap (λ (l : List MemLine). length l) c.set-2.ensures ∙ (length-set m.memory c.args.block c.args.memory ∙ c.self.invariant.memory);
-      cores = ap (λ (j : Journal). j.cores) c.push.ensures ∙ c.self.invariant.cores;
-      blocks = ap (λ (j : Journal). j.blocks) c.push.ensures ∙ c.self.invariant.blocks;
-      words = ap (λ (j : Journal). j.words) c.push.ensures ∙ c.self.invariant.words;
-      held = c.self.invariant.held;
-      few_words = c.self.invariant.few_words;
+      sized = sized_on m _ c.self.invariant.sized refl c.set.ensures.many (ap (λ (l : List MemLine). length l) c.set-2.ensures ∙ length-set m.memory c.args.block c.args.memory) (logged_on m.log c.push.new.self _ _ c.push.ensures);
     }
 
 pub returns-clause-responded : goal.returns-clause-responded
@@ -87,7 +79,7 @@ returns-clause-responded g c =
     subst G is (record {
       opened = subst F (sym is) c.requires.opened;
       next = next;
-      requestor = subst B (sym (seen m c.self.invariant block)) (subst A (sym did_is) (Arrives-get closing m.protocol m.log.items (row_of m.lines.rows block) filled c.requires.get (fills_here g (goal.at.returns-clause-responded g c).After-next_did-did)));
+      requestor = subst B (sym (seen m c.self.invariant (standing m) refl block)) (subst A (sym did_is) (Arrives-get closing m.protocol m.log.items (row_of m.lines.rows block) filled c.requires.get (fills_here g (goal.at.returns-clause-responded g c).After-next_did-did)));
       memory = subst N (sym is) c.requires.memory;
       closed = refl;
       after = same_situation new (record (with_picture old block next) { log = m.log.items ++ item.Came (came_of closing) (Some did) ∷ [] })

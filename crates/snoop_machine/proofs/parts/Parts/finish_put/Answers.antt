@@ -1,4 +1,4 @@
-use Rattle.std.proofs.Common.{◌≡◌, ◌<◌, ◌++◌, ◌∷◌, [], List, length, Some, None, ◌∙◌, refl, sym, ap, subst}
+use Rattle.std.proofs.Common.{◌≡◌, ◌++◌, ◌∷◌, [], List, length, Some, None, ◌∙◌, refl, sym, ap, subst}
 use Rattle.snoop_model.specs.Pictures.Lines.{MemLine}
 use Rattle.std.proofs.lemmas.List.{length-set, set-get_or}
 use Rattle.snoop_history.specs.Journal.{Journal}
@@ -14,25 +14,17 @@ use Rattle.snoop_model.specs.Moves.Move.{ArrivesFor, ArrivesAtMemory, Responds, 
 use Rattle.snoop_machine.proofs.QueueViews.{IsSound-close}
 use Rattle.snoop_machine.proofs.Responses.{Arrives-put}
 use Rattle.snoop_machine.proofs.parts.Parts.finish_put.Goals as goal
-use Rattle.snoop_machine.proofs.PictureViews.{seen, picture-written, same_situation}
+use Rattle.snoop_machine.proofs.PictureViews.{seen, picture-written, same_situation, block_in, sized_on, logged_on}
 use Rattle.snoop_machine.proofs.Following.{follows-rows}
 use Rattle.snoop_machine.proofs.LinesGoing.{LinesGo-none}
 
 pub invariant_of-self : goal.invariant_of-self
 invariant_of-self g c =
     let m = (fields c.self.inside.protocol c.self.inside.shape c.self.inside.lines c.self.inside.memory c.self.inside.bus c.self.inside.log) in
-    let Q : Standing → Type 0 = λ x. c.args.block < x.situation.shape.blocks in
     let R : Traffic → Type 0 = λ bus. IsSound m.shape m.lines.rows bus in
     record {
-      few = c.self.invariant.few;
-      lines = c.self.invariant.lines;
-      sound = subst R (sym c.finish.ensures.after) (IsSound-close m.shape m.lines.rows m.bus c.args.block (subst Q (sym c.self.view_is) c.requires.block) c.self.invariant.sound);
-      memory = ap (λ (l : List MemLine). length l) c.set.ensures ∙ (length-set m.memory c.args.block c.args.memory ∙ c.self.invariant.memory);
-      cores = ap (λ (j : Journal). j.cores) c.push.ensures ∙ c.self.invariant.cores;
-      blocks = ap (λ (j : Journal). j.blocks) c.push.ensures ∙ c.self.invariant.blocks;
-      words = ap (λ (j : Journal). j.words) c.push.ensures ∙ c.self.invariant.words;
-      held = c.self.invariant.held;
-      few_words = c.self.invariant.few_words;
+      sound = subst R (sym c.finish.ensures.after) (IsSound-close m.shape m.lines.rows m.bus c.args.block (block_in m c.self.invariant c.args.self.now c.self.view_is c.args.block c.requires.block) c.self.invariant.sound);
+      sized = sized_on m _ c.self.invariant.sized refl refl (ap (λ (l : List MemLine). length l) c.set.ensures ∙ length-set m.memory c.args.block c.args.memory) (logged_on m.log c.push.new.self _ _ c.push.ensures);
     }
 
 pub returns-clause-responded : goal.returns-clause-responded
@@ -51,7 +43,7 @@ returns-clause-responded g c =
     subst G is (record {
       opened = subst F (sym is) c.requires.opened;
       next = next;
-      requestor = subst B (sym (seen m c.self.invariant block)) (Arrives-put closing m.protocol m.log.items (row_of m.lines.rows block) c.requires.put);
+      requestor = subst B (sym (seen m c.self.invariant (standing m) refl block)) (Arrives-put closing m.protocol m.log.items (row_of m.lines.rows block) c.requires.put);
       memory = subst N (sym is) c.requires.memory;
       closed = refl;
       after = same_situation new (record (with_picture old block next) { log = m.log.items ++ item.Came (came_of closing) None ∷ [] })

@@ -2,8 +2,6 @@ use Rattle.std.proofs.Common.{◌∙◌, sym, ap}
 use Rattle.std.specs.Prelude.{slice_index_or}
 use Rattle.snoop_model.specs.Pictures.Lines.{MemLine}
 use Rattle.snoop_model.specs.Pictures.Picture.{Picture}
-use Rattle.snoop_model.specs.Pictures.Situation.{picture_of}
-use Rattle.snoop_model.specs.Moves.Standing.{Standing}
 use Rattle.snoop_machine.specs.PartsView.{fields}
 use Rattle.snoop_machine.proofs.PictureViews.{seen}
 use Rattle.snoop_machine.proofs.parts.Parts.memory_line.Goals as goal
@@ -13,4 +11,4 @@ returns g c =
     let m = (fields c.self.inside.protocol c.self.inside.shape c.self.inside.lines c.self.inside.memory c.self.inside.bus c.self.inside.log) in
     c.get_or.ensures
     ∙ (ap (λ (x : MemLine). slice_index_or m.memory c.args.block x) c.no_memory.ensures
-    ∙ (sym (ap (λ (x : Picture). x.memory) (seen m c.self.invariant c.args.block)) ∙ ap (λ (s : Standing). (picture_of s.situation c.args.block).memory) c.self.view_is))
+    ∙ sym (ap (λ (x : Picture). x.memory) (seen m c.self.invariant c.args.self.now c.self.view_is c.args.block)))

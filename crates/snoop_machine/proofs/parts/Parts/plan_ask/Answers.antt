@@ -48,5 +48,5 @@ ask-requires-clause-possible g c =
 
 pub ask-requires-clause-word : goal.ask-requires-clause-word
 ask-requires-clause-word g c =
-    let held = sym (ap (λ (x : Standing). x.situation.shape.words) c.self.view_is) ∙ c.self.invariant.held in
+    let held = sym (ap (λ (x : Standing). x.situation.shape.words) c.self.view_is) ∙ c.self.invariant.sized.held in
     operation_held c.args.self.now.situation _ c.args.word c.args.op held c.requires.word

@@ -11,7 +11,7 @@ use Rattle.snoop_bus.specs.Traffic.{Open}
 use Rattle.snoop_model.specs.Pictures.Lines.{MemLine}
 use Rattle.snoop_model.specs.Pictures.Picture.{Picture, held_by}
 use Rattle.snoop_model.specs.Moves.Standing.{Standing}
-use Rattle.snoop_model.specs.Pictures.Situation.{picture_of, state_of}
+use Rattle.snoop_model.specs.Pictures.Situation.{picture_of}
 use Rattle.snoop_model.specs.Moves.LookUps.{HasRow}
 use Rattle.snoop_model.specs.Moves.SenderTable.{FollowsSenderTable}
 use Rattle.snoop_model.specs.Pictures.Message.{free_picture, IsMessage}
@@ -39,7 +39,7 @@ picture : (g : Over) (c : In-Some-mem_cell g) → free_picture (row_of c.self.in
 picture g c =
     let m = (fields c.self.inside.protocol c.self.inside.shape c.self.inside.lines c.self.inside.memory c.self.inside.bus c.self.inside.log) in
     let now : Picture = picture_of c.args.self.now.situation c.in-Some.block in
-    let shown : picture_in m c.in-Some.block ≡ now = sym (seen m c.self.invariant c.in-Some.block) ∙ ap (λ (s : Standing). picture_of s.situation c.in-Some.block) c.self.view_is in
+    let shown : picture_in m c.in-Some.block ≡ now = sym (seen m c.self.invariant c.args.self.now c.self.view_is c.in-Some.block) in
     same_picture _ now.caches _ now.memory _ now.transaction (ap (λ (x : Picture). x.caches) shown) c.memory_line-memory.ensures (sym (free_here g c))
 
 protocol : (g : Over) (c : In-Some-mem_cell g) → c.self.inside.protocol ≡ c.args.self.now.situation.protocol
@@ -54,8 +54,7 @@ memory_row g c =
 pub message-message-requires-clause-waits : goal.message-message-requires-clause-waits
 message-message-requires-clause-waits g c =
     let m = (fields c.self.inside.protocol c.self.inside.shape c.self.inside.lines c.self.inside.memory c.self.inside.bus c.self.inside.log) in
-    sym (ap waiting_request (state_seen m c.self.invariant c.in-Some.block c.args.core))
-    ∙ (ap (λ (s : Standing). waiting_request (state_of s.situation c.args.core c.in-Some.block)) c.self.view_is ∙ c.in-Some.ensures.some.waits)
+    sym (ap waiting_request (state_seen m c.self.invariant c.args.self.now c.self.view_is c.args.core c.in-Some.block)) ∙ c.in-Some.ensures.some.waits
 
 -- each core has its row for a waiting request on a free block
 pub message-message-requires-clause-rows : goal.message-message-requires-clause-rows

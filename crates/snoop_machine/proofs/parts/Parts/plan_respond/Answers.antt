@@ -41,5 +41,5 @@ fill-filled-requires-clause-possible g c =
 
 pub fill-filled-requires-clause-word : goal.fill-filled-requires-clause-word
 fill-filled-requires-clause-word g c =
-    let held = sym (ap (λ (x : Standing). x.situation.shape.words) c.self.view_is) ∙ c.self.invariant.held in
+    let held = sym (ap (λ (x : Standing). x.situation.shape.words) c.self.view_is) ∙ c.self.invariant.sized.held in
     rw c.line-line.ensures.line (waiting_held c.args.self.now.situation _ c.in-Some.closing.core c.args.block held c.requires.inductive)

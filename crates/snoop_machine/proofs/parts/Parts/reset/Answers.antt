@@ -18,15 +18,17 @@ pub invariant_of-result : goal.invariant_of-result
 invariant_of-result g c =
     let S : List (List Line) → Type 0 = λ caches. IsSound c.args.shape caches c.in_ok-bus.bus in
     record {
-      few = search rules;
-      lines = ap (λ (l : List (List ℕ)). length l) c.in_ok-lines.ensures.lines ∙ length-replicate c.args.shape.cores [];
+      sized = record {
+        few = search rules;
+        lines = ap (λ (l : List (List ℕ)). length l) c.in_ok-lines.ensures.lines ∙ length-replicate c.args.shape.cores [];
+        memory = ap (λ (l : List MemLine). length l) c.in_ok-memory.ensures ∙ (length-replicate c.blocks-2.result (record { state = c.first_state.result; value = c.zero.result }) ∙ c.blocks-2.ensures.value);
+        cores = ap (λ (j : Journal). j.cores) c.in_ok-log.ensures;
+        blocks = ap (λ (j : Journal). j.blocks) c.in_ok-log.ensures;
+        words = ap (λ (j : Journal). j.words) c.in_ok-log.ensures;
+        held = c.requires.words;
+        few_words = search rules;
+      };
       sound = subst S (sym c.in_ok-lines.ensures.rows) (IsSound-reset c.args.shape c.in_ok-bus.bus c.in_ok-bus.ensures.queues.0 c.in_ok-bus.ensures.queues.1 c.in_ok-bus.ensures.transactions);
-      memory = ap (λ (l : List MemLine). length l) c.in_ok-memory.ensures ∙ (length-replicate c.blocks-2.result (record { state = c.first_state.result; value = c.zero.result }) ∙ c.blocks-2.ensures.value);
-      cores = ap (λ (j : Journal). j.cores) c.in_ok-log.ensures;
-      blocks = ap (λ (j : Journal). j.blocks) c.in_ok-log.ensures;
-      words = ap (λ (j : Journal). j.words) c.in_ok-log.ensures;
-      held = c.requires.words;
-      few_words = search rules;
     }
 
 pub returns-clause-situation : goal.returns-clause-situation

@@ -12,13 +12,12 @@ use Rattle.snoop_bus.specs.Queues.{after_order}
 use Rattle.snoop_model.specs.Pictures.Lines.{MemLine}
 use Rattle.snoop_model.specs.Pictures.Picture.{Picture, held_by}
 use Rattle.snoop_model.specs.Moves.Standing.{Standing}
-use Rattle.snoop_model.specs.Pictures.Situation.{Situation, picture_of, with_picture, Waits}
+use Rattle.snoop_model.specs.Pictures.Situation.{Situation, picture_of, with_picture, Waits, StandsFirst}
 use Rattle.snoop_machine.specs.PartsView.{Fields, fields, standing, pictures_of, queues_of, IsSound}
 use Rattle.snoop_machine.specs.Lines.{row_of}
 use Rattle.snoop_model.specs.Moves.Move.{Orders, TakesRows}
 use Rattle.snoop_model.specs.Pictures.Message.{IsMessage}
 use Rattle.snoop_model.specs.Moves.LookUps.{HasRow}
-use Rattle.snoop_model.specs.Moves.OrderMove.{IsHead}
 use Rattle.snoop_model.specs.Moves.Move.{TakesMemRow}
 use Rattle.snoop_machine.proofs.Room.{held_in, held_in-set, keeps_room}
 use Rattle.snoop_machine.proofs.QueueHeads.{head_from_line}
@@ -28,21 +27,21 @@ use Rattle.snoop_machine.proofs.Following.{follows-rows}
 use Rattle.snoop_machine.proofs.parts.Parts.start.Given.{Over}
 use Rattle.snoop_machine.proofs.parts.Parts.start.Goals as goal
 use Rattle.snoop_machine.proofs.parts.Parts.start.Goals.{After-take_rows, After-start}
-use Rattle.snoop_machine.proofs.PictureViews.{seen, state_seen, picture-written, same_situation}
+use Rattle.snoop_machine.proofs.PictureViews.{seen, state_seen, picture-written, same_situation, core_in, block_in, sized_on, logged_on}
 
 pub take_rows-requires-clause-rows : goal.take_rows-requires-clause-rows
 take_rows-requires-clause-rows g c =
     let m = (fields c.self.inside.protocol c.self.inside.shape c.self.inside.lines c.self.inside.memory c.self.inside.bus c.self.inside.log) in
-    let P : Standing → Type 0 = λ s. (k : ℕ) → k < length (picture_of s.situation c.args.block).caches → HasRow s.situation.protocol (held_by (picture_of s.situation c.args.block) k).state (seen_by k c.args.core c.args.request) in
+    let P : Standing → Type 0 = λ s. (k : ℕ) → k < length (picture_of c.args.self.now.situation c.args.block).caches → HasRow s.situation.protocol (held_by (picture_of c.args.self.now.situation c.args.block) k).state (seen_by k c.args.core c.args.request) in
     let Q : Picture → Type 0 = λ x. (k : ℕ) → k < length x.caches → HasRow m.protocol (held_by x k).state (seen_by k c.args.core c.args.request) in
-    subst Q (seen m c.self.invariant c.args.block) (subst P (sym c.self.view_is) c.requires.message.rows)
+    subst Q (seen m c.self.invariant c.args.self.now c.self.view_is c.args.block) (subst P (sym c.self.view_is) c.requires.message.rows)
 
 head : (g : Over) (c : After-take_rows g) → head_of c.self.inside.bus c.args.core ≡ Some (c.args.request, c.args.block)
 head g c =
     let m = (fields c.self.inside.protocol c.self.inside.shape c.self.inside.lines c.self.inside.memory c.self.inside.bus c.self.inside.log) in
-    let P : Standing → Type 0 = λ s. IsHead s.situation c.args.core c.args.request c.args.block in
-    let h : IsHead _ c.args.core c.args.request c.args.block = subst P (sym c.self.view_is) c.requires.head in
-    head_from_line m.shape m.lines.rows m.bus c.self.invariant.sound c.args.core c.args.request c.args.block h.first (sym (ap waiting_request (state_seen m c.self.invariant c.args.block c.args.core)) ∙ h.waits)
+    let P : Standing → Type 0 = λ s. StandsFirst s.situation c.args.core c.args.block in
+    head_from_line m.shape m.lines.rows m.bus c.self.invariant.sound c.args.core c.args.request c.args.block (subst P (sym c.self.view_is) c.requires.head.first)
+    (sym (ap waiting_request (state_seen m c.self.invariant c.args.self.now c.self.view_is c.args.core c.args.block)) ∙ c.requires.head.waits)
 
 pub start-requires-clause-head : goal.start-requires-clause-head
 start-requires-clause-head g c =
@@ -53,9 +52,8 @@ start-requires-clause-head g c =
 pub start-requires-clause-free : goal.start-requires-clause-free
 start-requires-clause-free g c =
     let d = (goal.at.start-requires-clause-free g c).After-take_rows in
-    let Q : Standing → Type 0 = λ s. (picture_of s.situation c.args.block).transaction ≡ None in
     let m = (fields c.self.inside.protocol c.self.inside.shape c.self.inside.lines c.self.inside.memory c.self.inside.bus c.self.inside.log) in
-    let free : transaction_on c.self.inside.bus c.args.block ≡ None = sym (ap (λ (x : Picture). x.transaction) (seen m c.self.invariant c.args.block)) ∙ subst Q (sym c.self.view_is) c.requires.free in
+    let free : transaction_on c.self.inside.bus c.args.block ≡ None = sym (ap (λ (x : Picture). x.transaction) (seen m c.self.invariant c.args.self.now c.self.view_is c.args.block)) ∙ c.requires.free in
     let P : Option (Request × ℕ) → Type 0 = λ o. IfSome o (λ head. transaction_on c.self.inside.bus head.1 ≡ None) in
     subst P (sym (head g d)) free
 
@@ -70,8 +68,8 @@ invariant_of-self g c =
     let d = (goal.at.invariant_of-self g c).After-take_rows in
     let h = head g d in
     let s = starts g (goal.at.invariant_of-self g c).After-start h in
-    let P : Standing → Type 0 = λ x. c.args.core < x.situation.shape.cores in
-    let Q : Standing → Type 0 = λ x. c.args.block < x.situation.shape.blocks in
+    let in_cores = core_in m c.self.invariant c.args.self.now c.self.view_is c.args.core c.requires.core in
+    let in_blocks = block_in m c.self.invariant c.args.self.now c.self.view_is c.args.block c.requires.head.within in
     let after : Traffic = record {
       queues = slice_set m.bus.queues c.args.core (record { requests = drop 1 (waiting_of m.bus c.args.core).requests; room = s.room });
       transactions = slice_set m.bus.transactions c.args.block (Some (record { core = c.args.core; request = c.args.request; block = c.args.block; payload = c.args.message.payload; value = c.args.message.value; from = c.args.message.from }));
@@ -79,17 +77,11 @@ invariant_of-self g c =
     let same : c.start.new.self ≡ after = same_traffic c.start.new.self after s.queues s.transactions in
     let R : Traffic → Type 0 = λ bus. IsSound m.shape c.take_rows.new.self.rows bus in
     record {
-      few = c.self.invariant.few;
-      lines = c.take_rows.ensures.many ∙ c.self.invariant.lines;
       sound = subst R (sym same)
           (IsSound-order m.shape m.lines.rows c.take_rows.new.self.rows m.bus m.protocol c.args.core c.args.block c.args.request c.args.message.payload c.args.message.value c.args.message.from
-          c.self.invariant.sound (subst P (sym c.self.view_is) c.requires.core) (subst Q (sym c.self.view_is) c.requires.head.within) h c.take_rows.ensures.others c.take_rows.ensures.taken s.room);
-      memory = ap (λ (l : List MemLine). length l) c.set.ensures ∙ (length-set m.memory c.args.block (record { state = c.args.memory; value = c.memory_line-before.result.value }) ∙ c.self.invariant.memory);
-      cores = ap (λ (j : Journal). j.cores) c.push.ensures ∙ c.self.invariant.cores;
-      blocks = ap (λ (j : Journal). j.blocks) c.push.ensures ∙ c.self.invariant.blocks;
-      words = ap (λ (j : Journal). j.words) c.push.ensures ∙ c.self.invariant.words;
-      held = c.self.invariant.held;
-      few_words = c.self.invariant.few_words;
+          c.self.invariant.sound in_cores in_blocks h c.take_rows.ensures.others c.take_rows.ensures.taken s.room);
+      sized = sized_on m _ c.self.invariant.sized refl c.take_rows.ensures.many
+          (ap (λ (l : List MemLine). length l) c.set.ensures ∙ length-set m.memory c.args.block (record { state = c.args.memory; value = c.memory_line-before.result.value })) (logged_on m.log c.push.new.self _ _ c.push.ensures);
     }
 
 pub returns-clause-ordered : goal.returns-clause-ordered
@@ -124,7 +116,7 @@ returns-clause-ordered g c =
       payload = message.payload;
       sent = sent.only;
       next = next;
-      taken = subst R (sym (seen m c.self.invariant block)) c.take_rows.ensures.taken;
+      taken = subst R (sym (seen m c.self.invariant (standing m) refl block)) c.take_rows.ensures.taken;
       memory = subst N (sym is) c.requires.memory;
       value = ap (λ (x : MemLine). x.value) held;
       opened = ap (λ (x : List ℕ). let o : Option Open = Some (record { core = core; request = request; block = block; payload = message.payload; value = x; from = message.from }) in o) sent.value;
@@ -147,8 +139,7 @@ returns-clause-room g c =
     let s = starts g (goal.at.returns-clause-room g c).After-start (head g d) in
     let core = c.args.core in
     let before : Waiting = waiting_of m.bus core in
-    let P : Standing → Type 0 = λ x. core < x.situation.shape.cores in
-    let in_cores : core < m.shape.cores = subst P (sym c.self.view_is) c.requires.core in
+    let in_cores = core_in m c.self.invariant c.args.self.now c.self.view_is core c.requires.core in
     let in_queues : core < length m.bus.queues = omega (arith, c.self.invariant.sound.queues) in
     let queue : Waiting = record { requests = drop 1 before.requests; room = s.room } in
     let fewer = length-drop 1 before.requests in

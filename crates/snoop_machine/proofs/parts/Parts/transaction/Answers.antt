@@ -1,7 +1,5 @@
 use Rattle.std.proofs.Common.{◌∙◌, sym, ap}
 use Rattle.snoop_model.specs.Pictures.Picture.{Picture}
-use Rattle.snoop_model.specs.Pictures.Situation.{picture_of}
-use Rattle.snoop_model.specs.Moves.Standing.{Standing}
 use Rattle.snoop_machine.specs.PartsView.{fields}
 use Rattle.snoop_machine.proofs.PictureViews.{seen}
 use Rattle.snoop_machine.proofs.parts.Parts.transaction.Goals as goal
@@ -9,4 +7,4 @@ use Rattle.snoop_machine.proofs.parts.Parts.transaction.Goals as goal
 pub returns-clause-value : goal.returns-clause-value
 returns-clause-value g c =
     let m = (fields c.self.inside.protocol c.self.inside.shape c.self.inside.lines c.self.inside.memory c.self.inside.bus c.self.inside.log) in
-    c.open.ensures ∙ (sym (ap (λ (x : Picture). x.transaction) (seen m c.self.invariant c.args.block)) ∙ ap (λ (s : Standing). (picture_of s.situation c.args.block).transaction) c.self.view_is)
+    c.open.ensures ∙ sym (ap (λ (x : Picture). x.transaction) (seen m c.self.invariant c.args.self.now c.self.view_is c.args.block))
