@@ -6,8 +6,8 @@ use snoop_rules::{
     Payload, Protocol, Request, Which, arrival, arrival_at_memory, carries_value, event_asked,
     event_at_memory, event_seen, may_load, may_store, takes_payload, waits, write_table,
 };
-use snoop_trace::{Op, WriteFault};
 use snoop_trace::streams::AnyWriter;
+use snoop_trace::{Op, WriteFault};
 use std::alloc::Global;
 use std::test::Fail;
 
