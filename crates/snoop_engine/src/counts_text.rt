@@ -6,64 +6,14 @@ ghost use Rattle.snoop_engine.specs.Counts.{cache_count_at, cache_counts, count_
 ghost use Rattle.snoop_engine.specs.Tallies.{counts_in, memory_counts_in};
 
 use crate::tally::Tally;
-use snoop_rules::{CacheEvent, CacheState, MemEvent, MemState, Protocol, cache_cell, mem_cell};
+use snoop_rules::{
+    CACHE_EVENTS, CACHE_STATES, CacheEvent, CacheState, MEM_EVENTS, MEM_STATES, MemEvent, MemState,
+    Protocol, cache_cell, mem_cell,
+};
 use snoop_trace::NoMemory;
 use snoop_trace::streams::{push_byte, push_decimal, push_text};
 use std::fmt::Display;
 use std::io::Write;
-
-// The states and the events in the order of the tables.
-static STATES: [CacheState; 13] = [
-    CacheState::I,
-    CacheState::IsAd,
-    CacheState::IsD,
-    CacheState::ImAd,
-    CacheState::ImD,
-    CacheState::S,
-    CacheState::SmAd,
-    CacheState::SmD,
-    CacheState::E,
-    CacheState::M,
-    CacheState::EiA,
-    CacheState::MiA,
-    CacheState::IiA,
-];
-
-static EVENTS: [CacheEvent; 11] = [
-    CacheEvent::Load,
-    CacheEvent::Store,
-    CacheEvent::Evict,
-    CacheEvent::OwnGetS,
-    CacheEvent::OwnGetM,
-    CacheEvent::OwnPutM,
-    CacheEvent::OtherGetS,
-    CacheEvent::OtherGetM,
-    CacheEvent::OtherPutM,
-    CacheEvent::Data,
-    CacheEvent::DataE,
-];
-
-static MEM_STATES: [MemState; 10] = [
-    MemState::IorS,
-    MemState::M,
-    MemState::IorSD,
-    MemState::MD,
-    MemState::I,
-    MemState::S,
-    MemState::EorM,
-    MemState::ID,
-    MemState::SD,
-    MemState::EorMD,
-];
-
-static MEM_EVENTS: [MemEvent; 6] = [
-    MemEvent::GetS,
-    MemEvent::GetM,
-    MemEvent::PutM,
-    MemEvent::Data,
-    MemEvent::NoData,
-    MemEvent::NoDataE,
-];
 
 /// Appends the names of the fields, and a line for each row that does something.
 pub(crate) fn push_counts(
@@ -81,7 +31,7 @@ pub(crate) fn push_counts(
 fn push_cache_counts(out: &mut Vec<u8>, protocol: Protocol, tally: &Tally) -> Result<(), NoMemory>
     ensures { OnOk result (out.new.items ≡ out.old.items ++ cache_counts protocol (counts_in tally.now.counters)) }
 {
-    for state in &STATES {
+    for state in &CACHE_STATES {
         push_cache_rows(out, protocol, tally, *state)?;
     }
     Ok(())
@@ -96,7 +46,7 @@ fn push_cache_rows(
 ) -> Result<(), NoMemory>
     ensures { OnOk result (out.new.items ≡ out.old.items ++ flat_map (cache_count_at protocol (counts_in tally.now.counters) state) cache_events) }
 {
-    for event in &EVENTS {
+    for event in &CACHE_EVENTS {
         push_cache_row(out, protocol, tally, state, *event)?;
     }
     Ok(())

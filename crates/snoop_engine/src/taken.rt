@@ -7,12 +7,13 @@ ghost use Rattle.snoop_model.specs.declared.replies.Refused.{Refused as Cause};
 ghost use Rattle.snoop_engine.specs.Views.{block_of};
 ghost use Rattle.snoop_engine.specs.Taken.{lines_of, memory_at, of_arrival, of_arrival_at_memory, of_ask, of_core, of_holder, of_memory, of_request, of_requestor, of_respond, refused_by, state_at, taken_by, of_waiting_memory, unless_i};
 
-use crate::events::{
-    arrival, arrival_at_memory, event_asked, event_at_memory, event_seen, takes_payload,
-};
+use crate::events::event_asked;
 use snoop_bus::Open;
 use snoop_machine::{Machine, Refused, Reply};
-use snoop_rules::{CacheEvent, CacheState, MemEvent, MemState, Request};
+use snoop_rules::{
+    CacheEvent, CacheState, MemEvent, MemState, Request, arrival, arrival_at_memory,
+    event_at_memory, event_seen, takes_payload,
+};
 use snoop_trace::{NoMemory, Op, Step};
 
 /// A controller that meets an event in a state, or what a refused step names.

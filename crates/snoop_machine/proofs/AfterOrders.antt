@@ -14,11 +14,13 @@ use Rattle.snoop_bus.specs.Traffic.{Open}
 use Rattle.snoop_bus.specs.Traffic.{Traffic, Waiting, no_queue, waiting_of, head_of, transaction_on}
 use Rattle.snoop_model.specs.Pictures.Lines.{Line}
 use Rattle.snoop_model.specs.Pictures.Picture.{held_at, nothing_held}
-use Rattle.snoop_model.specs.Pictures.Sound.{IsSound, IsProper, IsEachOnce, line_at}
+use Rattle.snoop_model.specs.Pictures.Sound.{IsProper}
 use Rattle.snoop_model.specs.Moves.Move.{TakesRows}
-use Rattle.snoop_model.proofs.Lines.EachRow.{row_of}
-use Rattle.snoop_model.proofs.Tables.Rows.{own-waits, other-waits, IsProper-order}
+use Rattle.snoop_model.proofs.Tables.Rows.{IsProper-order}
+use Rattle.snoop_model.proofs.Queues.Orders.{own_waits, others_wait}
 use Rattle.snoop_machine.proofs.QueueViews.{blocks_of}
+use Rattle.snoop_machine.specs.Lines.{row_of, line_at}
+use Rattle.snoop_machine.specs.PartsView.{IsSound, IsEachOnce}
 
 -- the first of a list that has one
 rest_of : (rs : List (Request × ℕ)) (q : Request) (b : ℕ) → slice_get rs 0 ≡ Some (q, b) → rs ≡ (q, b) ∷ drop 1 rs
@@ -72,19 +74,6 @@ module _ (shape : Extent) (caches after : List (List Line)) (bus : Traffic) (p :
   same_elsewhere : (k b : ℕ) → (b ≡ block → ⊥) → line_at after k b ≡ line_at caches k b
   same_elsewhere k b ne = ap (λ c. line_at c k b) wrote ∙ ap (λ r. held_at r k) (get_or-set_other caches block b (row_of after block) [] ne)
 
-  waits_other : (k : ℕ) → (k ≡ core → ⊥) → waiting_request (line_at after k block).state ≡ waiting_request (line_at caches k block).state
-  waits_other k ne = elim (cases_lt k (length (row_of caches block))) [
-    | inl lt ↦ let t = takes.rows k lt in ap (λ (x : Line). waiting_request x.state) t.2 ∙ other-waits p (line_at caches k block).state k core request t.0.action t.0.next ne t.1
-    | inr ge ↦ let same = takes.same_length in
-        ap (λ (x : Line). waiting_request x.state) (get_or_past (row_of after block) k nothing_held (omega arith) ∙ sym (get_or_past (row_of caches block) k nothing_held ge))
-  ]
-
-  waits_own : waiting_request (line_at after core block).state ≡ None
-  waits_own =
-      let row = sound.row block in_blocks in
-      let t = takes.rows core (omega arith) in
-      ap (λ (x : Line). waiting_request x.state) t.2 ∙ own-waits p (line_at caches core block).state core request t.0.action t.0.next t.1
-
   proper_block : (k : ℕ) → IsProper (line_at after k block)
   proper_block k = elim (cases_lt k (length (row_of caches block))) [
     | inl lt ↦
@@ -115,9 +104,6 @@ module _ (shape : Extent) (caches after : List (List Line)) (bus : Traffic) (p :
 
   -- the bus, once the head has left the queue and its transaction is open
   module _ (room : ℕ) where
-    opening : Open
-    opening = record { core = core; request = request; block = block; payload = payload; value = value; from = from }
-
     abbrev started : Traffic
     started = record {
       queues = slice_set bus.queues core (record { requests = drop 1 (waiting_of bus core).requests; room = room });
@@ -139,14 +125,15 @@ module _ (shape : Extent) (caches after : List (List Line)) (bus : Traffic) (p :
 
     waiting_kept : (k b : ℕ) → (k ≡ core → ⊥) → waiting_request (line_at after k b).state ≡ waiting_request (line_at caches k b).state
     waiting_kept k b ne = elim (cases_eq b block) [
-      | inl e ↦ rw e (waits_other k ne)
+      | inl e ↦ rw e (others_wait p core request (row_of caches block) (row_of after block) takes k ne)
       | inr nb ↦ ap (λ (x : Line). waiting_request x.state) (same_elsewhere k b nb)
     ]
 
     waits_rest : (b : ℕ) (q : Request) → waiting_request (line_at after core b).state ≡ Some q → Contains (drop 1 (waiting_of bus core).requests) (q, b)
     waits_rest b q h = elim (cases_eq b block) [
       | inl e ↦
-          let none : waiting_request (line_at after core b).state ≡ None = rw e waits_own in
+          let row = sound.row block in_blocks in
+          let none : waiting_request (line_at after core b).state ≡ None = rw e (own_waits p core request (row_of caches block) (row_of after block) takes (omega arith)) in
           let clash : ◌≡◌ {A = Option Request} None (Some q) = sym none ∙ h in
           cc
       | inr ne ↦ contains_behind (waiting_of bus core).requests request block head q b (sound.waits core b q (sym (ap (λ (x : Line). waiting_request x.state) (same_elsewhere core b ne)) ∙ h)) ne

@@ -1,6 +1,5 @@
 -- How many lines each core's map has after a step, or after the room for it was made.
-use Rattle.std.proofs.Common.{◌≡◌, ◌≢◌, ℕ, ◌+◌, List, [], sym, ◌∙◌, ap, subst, arith, inl, inr, ◌⊎◌, refl, Option}
-use Rattle.std.specs.Prelude.{slice_set}
+use Rattle.std.proofs.Common.{◌≡◌, ◌≢◌, ℕ, ◌+◌, sym, ◌∙◌, ap, subst, arith, inl, inr, ◌⊎◌, refl, Option}
 use Rattle.std.proofs.lemmas.Bool.{cases_eq}
 use Rattle.std.proofs.lemmas.List.{get_or-set_other}
 use Rattle.snoop_trace.specs.declared.step.Step.{Step}
@@ -8,14 +7,12 @@ use Rattle.snoop_trace.specs.declared.step.Step.TheVariants as step
 use Rattle.snoop_rules.specs.declared.names.CacheState.TheVariants.{I}
 use Rattle.snoop_rules.specs.declared.names.CacheAction.TheVariants as action
 use Rattle.snoop_history.specs.declared.items.Item.{Item}
-use Rattle.snoop_model.specs.Pictures.Lines.{Line}
 use Rattle.snoop_model.specs.declared.replies.Reply.{Reply}
-use Rattle.snoop_model.specs.Pictures.Picture.{held_at}
-use Rattle.snoop_model.specs.Pictures.Situation.{Situation, state_of}
+use Rattle.snoop_model.specs.Pictures.Picture.{Picture, held_by, with_line}
+use Rattle.snoop_model.specs.Pictures.Situation.{Situation, picture_of, state_of, nothing_there}
 use Rattle.snoop_model.specs.Moves.Move.{FirstMove}
 use Rattle.snoop_model.specs.Moves.Standing.{Standing, lines_of}
 use Rattle.snoop_model.specs.Moves.Holding.{NeedsLine, MovesToI, HoldsOn}
-use Rattle.snoop_model.proofs.Lines.EachRow.{row_of}
 use Rattle.snoop_model.proofs.Tables.EvictInI.{no_row}
 use Rattle.snoop_machine.specs.declared.ask.Asked.TheVariants.{Absent, Hit, Issue, Drop}
 use Rattle.snoop_machine.specs.Plan.{Plan}
@@ -33,9 +30,9 @@ stays_out before new (step.Ask asker block word asking) core answer entry m leav
         subst (λ (b : ℕ). state_of old core b ≡ I) (m.1.1.on_block ∙ sym e) (subst (λ (k : ℕ). state_of old k block ≡ I) leaves.0 leaves.3) in
         moved.1.0 there
     | inr ne ↦
-        let other : row_of new.caches moved.0 ≡ row_of old.caches moved.0 =
-        ap (λ (s : Situation). row_of s.caches moved.0) asks.after ∙ get_or-set_other old.caches m.0 moved.0 (slice_set (row_of old.caches m.0) asker asks.held) [] ne in
-        moved.1.0 (ap (λ (row : List Line). (held_at row core).state) (sym other) ∙ moved.1.1)
+        let other : picture_of new moved.0 ≡ picture_of old moved.0 =
+        ap (λ (s : Situation). picture_of s moved.0) asks.after ∙ get_or-set_other old.pictures m.0 moved.0 (with_line (picture_of old m.0) asker asks.held) nothing_there ne in
+        moved.1.0 (ap (λ (x : Picture). (held_by x core).state) (sym other) ∙ moved.1.1)
   ]
 ]
 stays_out before new (step.Order orderer) core answer entry m leaves moved = leaves

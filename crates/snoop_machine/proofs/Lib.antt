@@ -1,3 +1,5 @@
+pub mod PlacedLines
+pub mod PictureViews
 pub mod LineWrites
 pub mod QueueViews
 pub mod AfterOrders

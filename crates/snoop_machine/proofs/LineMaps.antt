@@ -6,11 +6,9 @@ use Rattle.std.proofs.lemmas.List.{length-map}
 use Rattle.snoop_rules.specs.declared.names.CacheState.{CacheState}
 use Rattle.snoop_rules.specs.declared.names.CacheState.TheVariants.{I, IsAd, IsD, ImAd, ImD, S, SmAd, SmD, E, M, EiA, MiA, IiA}
 use Rattle.snoop_model.specs.Pictures.Lines.{Line}
-use Rattle.snoop_model.specs.Pictures.Sound.{line_at}
-use Rattle.snoop_model.proofs.Lines.EachRow.{row_of}
 use Rattle.snoop_machine.specs.declared.holders.Holders.{Holders}
 use Rattle.snoop_machine.specs.Cache.{Contents, no_cache, line_in, blocks_of, row_in}
-use Rattle.snoop_machine.specs.Lines.{Held, held, IsWritable, is_among, is_invalid, gone}
+use Rattle.snoop_machine.specs.Lines.{Held, held, IsWritable, is_among, is_invalid, gone, row_of, line_at}
 use Rattle.snoop_machine.proofs.MapRows.{within-rows, line-rows, line-none, row-rows, blocks-at, spare-at, among-lookup, found-lookup}
 
 module _ (caches : List Contents) (holders : List Holders) (now : Held) (view : held caches holders ≡ now) where

@@ -10,9 +10,10 @@ use Rattle.snoop_rules.specs.declared.names.Request.{Request}
 use Rattle.snoop_rules.specs.Waits.{waiting_request}
 use Rattle.snoop_bus.specs.Traffic.{Traffic, no_queue, waiting_of}
 use Rattle.snoop_model.specs.Pictures.Lines.{Line}
-use Rattle.snoop_model.specs.Pictures.Sound.{IsSound, IsProper, IsEachOnce, line_at}
-use Rattle.snoop_model.proofs.Lines.EachRow.{row_of}
-use Rattle.snoop_model.proofs.Lines.OneLine.{placed, line_at-placed, line_at-placed_core, line_at-placed_block, length-placed, length-row-placed}
+use Rattle.snoop_model.specs.Pictures.Sound.{IsProper}
+use Rattle.snoop_machine.proofs.PlacedLines.{placed, line_at-placed, line_at-placed_core, line_at-placed_block, length-placed, length-row-placed}
+use Rattle.snoop_machine.specs.Lines.{row_of, line_at}
+use Rattle.snoop_machine.specs.PartsView.{IsSound, IsEachOnce}
 
 module _ (shape : Extent) (caches : List (List Line)) (bus : Traffic) (sound : IsSound shape caches bus) (core block : ℕ) (line : Line)
     (in_cores : core < shape.cores) (in_blocks : block < shape.blocks) (proper : IsProper line) where

@@ -5,9 +5,7 @@ use Rattle.std.proofs.lemmas.Bool.{cases_eq}
 use Rattle.std.proofs.lemmas.List.{get_or-set_same, get_or-set_other}
 use Rattle.snoop_model.specs.Pictures.Lines.{Line}
 use Rattle.snoop_model.specs.Pictures.Picture.{held_at, nothing_held}
-use Rattle.snoop_model.specs.Pictures.Sound.{line_at}
-use Rattle.snoop_model.proofs.Lines.EachRow.{row_of}
-use Rattle.snoop_machine.specs.Lines.{Held, LinesGo, gone}
+use Rattle.snoop_machine.specs.Lines.{Held, LinesGo, gone, row_of, line_at}
 use Rattle.snoop_machine.proofs.LineMaps.{gone-same}
 
 -- no line has gone yet

@@ -7,13 +7,13 @@ use Rattle.std.proofs.lemmas.List.{ext_get_or, get_or-map, map-set, length-map, 
 use Rattle.std.proofs.lemmas.List.FromFn.{length-map-range_with_len, get_or-map-range_with_len}
 use Rattle.snoop_model.specs.Pictures.Lines.{Line}
 use Rattle.snoop_model.specs.Pictures.Picture.{held_at, nothing_held}
-use Rattle.snoop_model.specs.Pictures.Sound.{keeps, line_at}
+use Rattle.snoop_model.specs.Pictures.Sound.{keeps}
 use Rattle.snoop_model.specs.Invariant.Fits.{is_owner}
 use Rattle.snoop_machine.specs.declared.holders.Holders.{Holders}
 use Rattle.snoop_machine.specs.CoreSet.{has}
 use Rattle.snoop_machine.specs.Holders.{AreHolders, HaveMoved}
 use Rattle.snoop_machine.specs.Cache.{Contents, no_cache, line_in, blocks_of, row_in}
-use Rattle.snoop_machine.specs.Lines.{rows_of, is_among}
+use Rattle.snoop_machine.specs.Lines.{rows_of, is_among, line_at}
 
 pub length-rows : (blocks : ℕ) (caches : List Contents) → length (rows_of blocks caches) ≡ blocks
 length-rows blocks caches = length-map-range_with_len (row_in caches) 0 blocks

@@ -32,9 +32,8 @@ use Rattle.snoop_model.specs.declared.replies.Reply.{Reply}
 use Rattle.snoop_model.specs.declared.replies.Refused.{Refused}
 use Rattle.snoop_model.specs.declared.replies.Refused.TheVariants.{NoCore, NoBlock, Stalled, NothingWaiting, BusTaken, NoTransaction, NoMemory}
 use Rattle.snoop_model.specs.Moves.Standing.{Standing}
-use Rattle.snoop_model.specs.Pictures.Picture.{held_at}
+use Rattle.snoop_model.specs.Pictures.Picture.{held_at, held_by}
 use Rattle.snoop_model.specs.Pictures.Situation.{Situation, picture_of, state_of, Waits}
-use Rattle.snoop_model.specs.Pictures.Sound.{line_at}
 use Rattle.snoop_machine.specs.Asked.{TakesAsk, RefusesAsk}
 use Rattle.snoop_model.specs.Moves.Move.{Performs, Takes, Fills, FillsRequestor, ArrivesFor, MovesAsk, FirstMove, came_of, next_did}
 use Rattle.snoop_model.specs.Moves.OrderMove.{IsHead}
@@ -61,7 +60,7 @@ row_found p line word asking (Drop new) t = inr (t.0, (t.1.0, λ e. cc))
 
 -- an Ask that is refused on its line
 pub IsDenied-ask : (s : Situation) (core block word : ℕ) (asking : Op) (cause : Refused) → core < s.shape.cores → block < s.shape.blocks → HasWord s.shape word asking
-    → RefusesAsk s.protocol (line_at s.caches core block) asking cause → IsDenied s (step.Ask core block word asking) cause
+    → RefusesAsk s.protocol (held_by (picture_of s block) core) asking cause → IsDenied s (step.Ask core block word asking) cause
 IsDenied-ask s core block word asking (Stalled state) in_cores in_blocks in_words h = ((in_cores, in_blocks), h.0, h.1, in_words)
 IsDenied-ask s core block word asking NoCore in_cores in_blocks in_words h = absurd h
 IsDenied-ask s core block word asking NoBlock in_cores in_blocks in_words h = absurd h
@@ -72,11 +71,11 @@ IsDenied-ask s core block word asking NoMemory in_cores in_blocks in_words h = a
 
 -- an Ask that was found is not refused
 module _ (s : Situation) (core block word : ℕ) (asking : Op) (way : Asked) (in_cores : core < s.shape.cores) (in_blocks : block < s.shape.blocks) (in_words : HasWord s.shape word asking)
-    (takes : TakesAsk s.protocol (line_at s.caches core block) word asking way) where
+    (takes : TakesAsk s.protocol (held_by (picture_of s block) core) word asking way) where
   ask-allowed : (cause : Refused) → ¬ Refuses s (step.Ask core block word asking) cause
   ask-allowed NoCore g = absurd (omega arith)
   ask-allowed NoBlock g = elim g.1 [ inl past ↦ absurd (omega arith) | inr none ↦ none in_words ]
-  ask-allowed (Stalled state) g = elim (row_found s.protocol (line_at s.caches core block) word asking way takes) [
+  ask-allowed (Stalled state) g = elim (row_found s.protocol (held_by (picture_of s block) core) word asking way takes) [
     | inl absent ↦ no_row s.protocol (state_of s core block) asking action.Stall g.2.0 absent.0 absent.1 g.2.1
     | inr row ↦ row.1.1 (Cell-one s.protocol (state_of s core block) (asked asking) (act_of way) action.Stall row.0 g.2.0 row.1.0 g.2.1).0
   ]
@@ -127,25 +126,25 @@ performs-one word op.Evict a b v w m n e p q = absurd p
 
 -- an Ask adds the item that was found
 module _ (s : Situation) (core block word : ℕ) (asking : Op) (answer : Reply) (new : Situation) (added : Option Item) where
-  ask-adds : (way : Asked) → TakesAsk s.protocol (line_at s.caches core block) word asking way → MovesAsk s core block word asking answer new added → added ≡ entry_of_ask s.log core block word asking way
+  ask-adds : (way : Asked) → TakesAsk s.protocol (held_by (picture_of s block) core) word asking way → MovesAsk s core block word asking answer new added → added ≡ entry_of_ask s.log core block word asking way
   ask-adds Absent t (inl absent) = absent.4
   ask-adds Absent t (inr asks) = absurd (no_row s.protocol (state_of s core block) asking asks.row.action asks.row.next t.0 t.1 asks.is_row)
   ask-adds (Hit line value) t (inl absent) = absurd (no_row s.protocol (state_of s core block) asking action.Hit t.0 absent.0 absent.1 t.1.0)
   ask-adds (Hit line value) t (inr asks) =
       let same = (Cell-one s.protocol (state_of s core block) (asked asking) asks.row.action action.Hit asks.row.next t.0 asks.is_row t.1.0).0 in
-      let P : CacheAction → Type 0 = λ a. Takes a asks.row.next s.log core block word asking (line_at s.caches core block) asks.held answer added in
-      let h : Takes action.Hit asks.row.next s.log core block word asking (line_at s.caches core block) asks.held answer added = subst P same asks.taken in
+      let P : CacheAction → Type 0 = λ a. Takes a asks.row.next s.log core block word asking (held_by (picture_of s block) core) asks.held answer added in
+      let h : Takes action.Hit asks.row.next s.log core block word asking (held_by (picture_of s block) core) asks.held answer added = subst P same asks.taken in
       let its = performs-one word asking h.1.0.before t.1.1.before h.0 value h.1.0.after t.1.1.after (same_Some _ _ (sym h.1.0.kept ∙ t.1.1.kept)) h.1.0.performed t.1.1.performed in
       h.1.2 ∙ ap (λ (x : ℕ). let r : Option Item = Some (item.Did (next_did s.log core block word asking x true)) in r) its
   ask-adds (Issue request line) t (inl absent) = absurd (no_row s.protocol (state_of s core block) asking (action.Issue request) t.0 absent.0 absent.1 t.1.0)
   ask-adds (Issue request line) t (inr asks) =
       let same = (Cell-one s.protocol (state_of s core block) (asked asking) asks.row.action (action.Issue request) asks.row.next t.0 asks.is_row t.1.0).0 in
-      let P : CacheAction → Type 0 = λ a. Takes a asks.row.next s.log core block word asking (line_at s.caches core block) asks.held answer added in
+      let P : CacheAction → Type 0 = λ a. Takes a asks.row.next s.log core block word asking (held_by (picture_of s block) core) asks.held answer added in
       (subst P same asks.taken).2
   ask-adds (Drop line) t (inl absent) = absurd (no_row s.protocol (state_of s core block) asking action.Drop t.0 absent.0 absent.1 t.1.0)
   ask-adds (Drop line) t (inr asks) =
       let same = (Cell-one s.protocol (state_of s core block) (asked asking) asks.row.action action.Drop asks.row.next t.0 asks.is_row t.1.0).0 in
-      let P : CacheAction → Type 0 = λ a. Takes a asks.row.next s.log core block word asking (line_at s.caches core block) asks.held answer added in
+      let P : CacheAction → Type 0 = λ a. Takes a asks.row.next s.log core block word asking (held_by (picture_of s block) core) asks.held answer added in
       (subst P same asks.taken).2
 
 fills_of : (q : Request) (closing : Open) (p : Protocol) (log : List Item) (old new : List Line) (did : Option Did) → q ≢ PutM → ArrivesFor q closing p log old new did → FillsRequestor closing p log old new did
@@ -203,7 +202,7 @@ plan-adds s (plan.Fill block closing memory filled) h answer new added m =
 pub plan-room : (before : Standing) (x : Plan) → IsPlan before.situation x → 0 < room_for before x → ¬ IsFull before (step_of x)
 plan-room before (plan.Ask core block word asking way) h some full =
     let s = before.situation in
-    elim (row_found s.protocol (line_at s.caches core block) word asking way h.1) [
+    elim (row_found s.protocol (held_by (picture_of s block) core) word asking way h.1) [
       | inl absent ↦ no_row s.protocol (state_of s core block) asking full.0 full.1.0 absent.0 absent.1 full.1.1.0
       | inr row ↦
           let same = (Cell-one s.protocol (state_of s core block) (asked asking) full.0 (act_of way) full.1.0 row.0 full.1.1.0 row.1.0).0 in
@@ -220,6 +219,19 @@ plan-room before (plan.Ask core block word asking way) h some full =
 plan-room before (plan.Order core request block message memory) h some full = absurd (omega arith)
 plan-room before (plan.Writeback block closing memory) h some full = absurd (omega arith)
 plan-room before (plan.Fill block closing memory filled) h some full = absurd (omega arith)
+
+-- where the plan has no room the step has none
+plan-full : (before : Standing) (x : Plan) → IsPlan before.situation x → room_for before x ≡ 0 → IsFull before (step_of x)
+plan-full before (plan.Ask core block word asking Absent) h none = absurd (omega arith)
+plan-full before (plan.Ask core block word asking (Hit line value)) h none = (action.Hit, (h.1.0, (h.1.1.0, none)))
+plan-full before (plan.Ask core block word asking (Issue request line)) h none = (action.Issue request, (h.1.0, (h.1.1.0, none)))
+plan-full before (plan.Ask core block word asking (Drop line)) h none = absurd (omega arith)
+plan-full before (plan.Order core request block message memory) h none = none
+plan-full before (plan.Writeback block closing memory) h none = none
+plan-full before (plan.Fill block closing memory filled) h none = none
+
+pub IsFull-plan : (before : Standing) (taking : Step) (x : Plan) → IsPlanFor before.situation taking x → room_for before x ≡ 0 → IsFull before taking
+IsFull-plan before taking x h none = subst (IsFull before) h.0 (plan-full before x h.1 none)
 
 ask-room : (before : Standing) (core block : ℕ) (way : Asked) → HasRoomToAsk before core block way → 0 < room_for_ask before core block way
 ask-room before core block Absent h = omega arith

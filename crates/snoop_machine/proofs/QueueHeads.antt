@@ -14,13 +14,9 @@ use Rattle.snoop_rules.specs.declared.names.Request.{Request}
 use Rattle.snoop_rules.specs.Waits.{waiting_request}
 use Rattle.snoop_bus.specs.Traffic.{Traffic, waiting_of, head_of}
 use Rattle.snoop_bus.specs.Queues.{place_in, queue_of}
-use Rattle.snoop_model.specs.Pictures.Lines.{Line, MemLine}
-use Rattle.snoop_model.specs.Pictures.Sound.{IsSound, line_at}
-use Rattle.snoop_machine.specs.PartsView.{queues_of}
-use Rattle.snoop_trace.specs.declared.protocol.Protocol.{Protocol}
-use Rattle.snoop_bus.specs.Traffic.{Open}
-use Rattle.snoop_history.specs.declared.items.Item.{Item}
-use Rattle.snoop_model.specs.Pictures.Situation.{Situation}
+use Rattle.snoop_model.specs.Pictures.Lines.{Line}
+use Rattle.snoop_machine.specs.PartsView.{queues_of, IsSound}
+use Rattle.snoop_machine.specs.Lines.{line_at}
 use Rattle.snoop_machine.proofs.QueueViews.{blocks_of, queue_of-queues_of}
 
 first_of : (rs : List (Request × ℕ)) (block : ℕ) → slice_get (blocks_of rs) 0 ≡ Some block → (q : Request) × (slice_get rs 0 ≡ Some (q, block))
@@ -59,17 +55,6 @@ module _ (shape : Extent) (caches : List (List Line)) (bus : Traffic) (sound : I
 
   pub idle_from_head : head_of bus core ≡ None → (block : ℕ) (request : Request) → waiting_request (line_at caches core block).state ≡ Some request → ⊥
   idle_from_head head block request waits = none_there (waiting_of bus core).requests (request, block) head (sound.waits core block request waits)
-
--- two situations with equal parts
-pub same_situation : (s t : Situation) → s.protocol ≡ t.protocol → s.shape ≡ t.shape → s.caches ≡ t.caches → s.memory ≡ t.memory → s.transactions ≡ t.transactions → s.queues ≡ t.queues → s.log ≡ t.log → s ≡ t
-same_situation s t p e c m o l g =
-    ap (λ (x : Protocol). let r : Situation = record s { protocol = x } in r) p
-    ∙ (ap (λ (x : Extent). let r : Situation = record s { protocol = t.protocol; shape = x } in r) e
-    ∙ (ap (λ (x : List (List Line)). let r : Situation = record s { protocol = t.protocol; shape = t.shape; caches = x } in r) c
-    ∙ (ap (λ (x : List MemLine). let r : Situation = record s { protocol = t.protocol; shape = t.shape; caches = t.caches; memory = x } in r) m
-    ∙ (ap (λ (x : List (Option Open)). let r : Situation = record t { queues = s.queues; log = s.log; transactions = x } in r) o
-    ∙ (ap (λ (x : List (List ℕ)). let r : Situation = record t { queues = x; log = s.log } in r) l
-    ∙ ap (λ (x : List Item). let r : Situation = record t { log = x } in r) g)))))
 
 -- a core waits on no block that there is not
 pub within_from_waits : (caches : List (List Line)) (core block : ℕ) (request : Request) → waiting_request (line_at caches core block).state ≡ Some request → block < length caches

@@ -10,8 +10,7 @@ use Rattle.std.proofs.Common.{Option, Some, None, arith}
 use Rattle.snoop_bus.specs.Traffic.{Traffic, Waiting, no_queue, waiting_of}
 use Rattle.snoop_bus.specs.Queues.{queue_of, after_issue}
 use Rattle.snoop_model.specs.Pictures.Lines.{Line}
-use Rattle.snoop_model.specs.Pictures.Sound.{IsSound, IsEachOnce}
-use Rattle.snoop_machine.specs.PartsView.{queues_of}
+use Rattle.snoop_machine.specs.PartsView.{queues_of, IsSound, IsEachOnce}
 
 abbrev pub blocks_of : List (Request × ℕ) → List ℕ
 blocks_of requests = map (λ (r : Request × ℕ). r.1) requests

@@ -5,8 +5,8 @@ use Rattle.snoop_trace.specs.Words.{HasWord}
 use Rattle.snoop_trace.specs.declared.step.Op.{Op}
 use Rattle.snoop_trace.specs.declared.step.Op.TheVariants.{Load, Store, Evict}
 use Rattle.snoop_model.specs.declared.line.Access.{Access}
-use Rattle.snoop_model.specs.Pictures.Situation.{Situation}
-use Rattle.snoop_model.specs.Pictures.Sound.{line_at}
+use Rattle.snoop_model.specs.Pictures.Picture.{held_by}
+use Rattle.snoop_model.specs.Pictures.Situation.{Situation, picture_of}
 use Rattle.snoop_model.specs.Invariant.Invariant.{Invariant}
 
 -- the word of an operation within
@@ -16,9 +16,9 @@ operation_held s count word (Store value) held within = inl (subst (λ (n : ℕ)
 operation_held s count word Evict held within = inr refl
 
 -- the word of an operation that waits
-pub waiting_held : (s : Situation) (count core block : ℕ) → s.shape.words ≡ count → Invariant s → IfSome (line_at s.caches core block).waiting (λ access. access.word < count)
-waiting_held s count core block held inductive = go (line_at s.caches core block).waiting refl
+pub waiting_held : (s : Situation) (count core block : ℕ) → s.shape.words ≡ count → Invariant s → IfSome (held_by (picture_of s block) core).waiting (λ access. access.word < count)
+waiting_held s count core block held inductive = go (held_by (picture_of s block) core).waiting refl
   where
-    go : (o : Option Access) → (line_at s.caches core block).waiting ≡ o → IfSome o (λ access. access.word < count)
+    go : (o : Option Access) → (held_by (picture_of s block) core).waiting ≡ o → IfSome o (λ access. access.word < count)
     go None is = tt
     go (Some access) is = subst (λ (n : ℕ). access.word < n) held (inductive.accesses core block access is).0

@@ -5,10 +5,19 @@ use Rattle.std.specs.List.{range_with_len, list_any}
 use Rattle.snoop_rules.specs.declared.names.CacheState.{CacheState}
 use Rattle.snoop_rules.specs.declared.names.CacheState.TheVariants.{I}
 use Rattle.snoop_model.specs.Pictures.Lines.{Line}
-use Rattle.snoop_model.specs.Pictures.Sound.{IsProper, line_at}
+use Rattle.snoop_model.specs.Pictures.Picture.{held_at}
+use Rattle.snoop_model.specs.Pictures.Sound.{IsProper}
 use Rattle.snoop_machine.specs.declared.holders.Holders.{Holders}
 use Rattle.snoop_machine.specs.Holders.{AreHolders}
 use Rattle.snoop_machine.specs.Cache.{Contents, no_cache, line_in, blocks_of, row_in}
+
+-- what each core holds of the block
+abbrev pub row_of : List (List Line) → ℕ → List Line
+row_of rows block = slice_index_or rows block []
+
+-- what the core holds of the block
+abbrev pub line_at : List (List Line) → ℕ → ℕ → Line
+line_at rows core block = held_at (row_of rows block) core
 
 -- what callers see of the lines: what each core holds, by block and then by core; the blocks that each core's map has a line for; and for how many more it has room
 pub record Held : Type 0 where

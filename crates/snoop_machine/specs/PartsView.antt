@@ -1,14 +1,18 @@
 -- What is seen of a machine's parts, and what holds between them.
 -- Source: this project's profile.
-use Rattle.std.specs.Prelude.{◌≡◌, ◌<◌, ◌≤◌, ℕ, min, length, List, [], ◌∷◌, map}
+use Rattle.std.specs.Prelude.{◌≡◌, ◌≢◌, ◌<◌, ◌≤◌, ℕ, min, length, List, [], ◌∷◌, map, Contains, Option, Some, slice_index_or}
 use Rattle.snoop_trace.specs.Extent.{Extent}
 use Rattle.snoop_trace.specs.declared.protocol.Protocol.{Protocol}
-use Rattle.snoop_bus.specs.Traffic.{Traffic, Waiting}
+use Rattle.snoop_rules.specs.declared.names.Request.{Request}
+use Rattle.snoop_rules.specs.Waits.{waiting_request}
+use Rattle.snoop_bus.specs.Traffic.{Open, Traffic, Waiting, waiting_of, transaction_on}
 use Rattle.snoop_history.specs.Journal.{Journal}
-use Rattle.snoop_machine.specs.Lines.{Held}
-use Rattle.snoop_model.specs.Pictures.Lines.{MemLine}
-use Rattle.snoop_model.specs.Pictures.Sound.{IsSound}
+use Rattle.snoop_model.specs.Pictures.Lines.{Line, MemLine}
+use Rattle.snoop_model.specs.Pictures.Picture.{Picture}
+use Rattle.snoop_model.specs.Pictures.Situation.{nothing_there}
+use Rattle.snoop_model.specs.Pictures.Sound.{IsProper}
 use Rattle.snoop_model.specs.Moves.Standing.{Standing}
+use Rattle.snoop_machine.specs.Lines.{Held, line_at}
 
 -- the parts of a machine, however it holds the words of a block
 pub record Fields : Type 0 where
@@ -27,6 +31,16 @@ fields protocol shape lines memory bus log = record { protocol = protocol; shape
 abbrev pub queues_of : List Waiting → List (List ℕ)
 queues_of queues = map (λ queue. map (λ r. r.1) queue.requests) queues
 
+-- what stands for memory's line of a block that there isn't
+abbrev pub no_memory : MemLine
+no_memory = nothing_there.memory
+
+-- the picture of each block: its lines, memory's line and its open transaction
+abbrev pub pictures_of : List (List Line) → List MemLine → List (Option Open) → List Picture
+pictures_of (row ∷ rows) (memory ∷ memories) (transaction ∷ transactions) =
+    record { caches = row; memory = memory; transaction = transaction } ∷ pictures_of rows memories transactions
+pictures_of _ _ _ = []
+
 -- for how many more requests that need a line there is room: the queue needs a place for each, and the map too
 abbrev pub places_of : List Waiting → List ℕ → List ℕ
 places_of (queue ∷ queues) (spare ∷ spares) = min queue.room spare ∷ places_of queues spares
@@ -39,9 +53,7 @@ standing m =
       situation = record {
         protocol = m.protocol;
         shape = m.shape;
-        caches = m.lines.rows;
-        memory = m.memory;
-        transactions = m.bus.transactions;
+        pictures = pictures_of m.lines.rows m.memory m.bus.transactions;
         queues = queues_of m.bus.queues;
         log = m.log.items;
       };
@@ -51,10 +63,25 @@ standing m =
       lines = m.lines.lines;
     }
 
--- what the parts of every machine keep, where a block holds so many words
-pub record IsWhole (count : ℕ) (m : Fields) : Type 0 where
+-- no block stands twice
+abbrev pub IsEachOnce : List (Request × ℕ) → Type 0
+IsEachOnce requests = (j k : ℕ) (d : Request × ℕ) → j < k → k < length requests → (slice_index_or requests j d).1 ≢ (slice_index_or requests k d).1
+
+-- lines, queues and open transactions fit together
+pub record IsSound (shape : Extent) (caches : List (List Line)) (bus : Traffic) : Type 0 where
+  pub rows : length caches ≡ shape.blocks
+  pub row : (block : ℕ) → block < shape.blocks → length (slice_index_or caches block []) ≡ shape.cores
+  pub queues : length bus.queues ≡ shape.cores
+  pub transactions : length bus.transactions ≡ shape.blocks
+  pub proper : (core block : ℕ) → IsProper (line_at caches core block)
+  pub opened : (block : ℕ) (transaction : Open) → transaction_on bus block ≡ Some transaction → (transaction.block ≡ block) × (transaction.core < shape.cores)
+  pub queued : (core block : ℕ) (request : Request) → Contains (waiting_of bus core).requests (request, block) → waiting_request (line_at caches core block).state ≡ Some request
+  pub waits : (core block : ℕ) (request : Request) → waiting_request (line_at caches core block).state ≡ Some request → Contains (waiting_of bus core).requests (request, block)
+  pub once : (core : ℕ) → IsEachOnce (waiting_of bus core).requests
+
+-- what is kept beside the lines and the bus is as large as the shape says, and a block holds so many words
+pub record IsSized (count : ℕ) (m : Fields) : Type 0 where
   pub few : m.shape.cores < 257
-  pub sound : IsSound m.shape m.lines.rows m.bus
   pub lines : length m.lines.lines ≡ m.shape.cores
   pub memory : length m.memory ≡ m.shape.blocks
   pub cores : m.log.cores ≡ m.shape.cores
@@ -62,3 +89,8 @@ pub record IsWhole (count : ℕ) (m : Fields) : Type 0 where
   pub words : m.log.words ≡ m.shape.words
   pub held : m.shape.words ≡ count
   pub few_words : count ≤ 64
+
+-- what the parts of every machine keep
+pub record IsWhole (count : ℕ) (m : Fields) : Type 0 where
+  pub sound : IsSound m.shape m.lines.rows m.bus
+  pub sized : IsSized count m

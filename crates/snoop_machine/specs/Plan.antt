@@ -20,7 +20,8 @@ use Rattle.snoop_machine.specs.declared.plan.Plan.TheVariants.{Ask, Order, Write
 use Rattle.snoop_model.specs.Moves.Standing.{Standing, has_line}
 use Rattle.snoop_model.specs.Moves.Prepared.{room_to_issue}
 use Rattle.snoop_model.specs.Pictures.Situation.{Situation, picture_of}
-use Rattle.snoop_model.specs.Pictures.Sound.{IsProper, line_at}
+use Rattle.snoop_model.specs.Pictures.Picture.{held_by}
+use Rattle.snoop_model.specs.Pictures.Sound.{IsProper}
 use Rattle.snoop_model.specs.Moves.Move.{Fills, ArrivesAtMemory, IsWithin, TakesMemRow, came_of, next_did}
 use Rattle.snoop_machine.specs.Asked.{Asked, TakesAsk}
 use Rattle.snoop_model.specs.Pictures.Message.{IsMessage}
@@ -57,12 +58,12 @@ pub record IsClosing (s : Situation) (block : ℕ) (closing : Open) (memory : Me
 
 -- the rows were found for what the plan says
 abbrev pub IsPlan : Situation → Plan → Type 0
-IsPlan s (Ask core block word asking way) = IsWithin s core block × TakesAsk s.protocol (line_at s.caches core block) word asking way × IsProper (line_at s.caches core block) × HasWord s.shape word asking
+IsPlan s (Ask core block word asking way) = IsWithin s core block × TakesAsk s.protocol (held_by (picture_of s block) core) word asking way × IsProper (held_by (picture_of s block) core) × HasWord s.shape word asking
 IsPlan s (Order core request block message memory) = (core < s.shape.cores) × CanBeOrdered s core request block message memory
 IsPlan s (Writeback block closing memory) = (block < s.shape.blocks) × IsClosing s block closing memory × (closing.request ≡ PutM)
 IsPlan s (Fill block closing memory filled) =
     (block < s.shape.blocks) × IsClosing s block closing memory × (closing.request ≢ PutM)
-    × Fills closing s.protocol (line_at s.caches closing.core block) filled.line filled.access filled.value
+    × Fills closing s.protocol (held_by (picture_of s block) closing.core) filled.line filled.access filled.value
     × IsWord s.shape filled.access.word
 
 -- a plan for this step

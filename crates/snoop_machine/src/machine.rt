@@ -24,7 +24,7 @@ ghost use Rattle.snoop_model.specs.Runs.Safe.{IsSafe};
 ghost use Rattle.snoop_model.specs.Runs.Once.{OnceMore};
 ghost use Rattle.snoop_model.specs.Runs.Runs.{HasRun};
 
-use crate::any_parts::AnyParts;
+use crate::any_parts::{AnyParts, each};
 use snoop_bus::Open;
 use snoop_history::{Item, Log};
 use snoop_model::{Refused, Reply};
@@ -126,14 +126,14 @@ impl Machine {
     pub fn protocol(&self) -> Protocol
         ensures { result ≡ self.now.situation.protocol }
     {
-        self.parts.protocol()
+        each!(&self.parts, parts => parts.protocol())
     }
 
     /// How many cores and blocks there are, and how many bytes and words a block.
     pub fn shape(&self) -> Shape
         ensures { result ≡ self.now.situation.shape }
     {
-        self.parts.shape()
+        each!(&self.parts, parts => parts.shape())
     }
 
     /// The core's state of the block, or `None` outside the shape.
@@ -141,7 +141,7 @@ impl Machine {
         ensures inside { core < self.now.situation.shape.cores → block < self.now.situation.shape.blocks → result ≡ Some (state_of self.now.situation core block) }
         ensures outside { IfSome result (λ _. (core < self.now.situation.shape.cores) × (block < self.now.situation.shape.blocks)) }
     {
-        self.parts.state(core, block)
+        each!(&self.parts, parts => parts.state(core, block))
     }
 
     /// The value of a word that the core keeps, which is that of the last store to it, or `None` outside the shape and in a
@@ -161,7 +161,7 @@ impl Machine {
         ensures inside { block < self.now.situation.shape.blocks → result ≡ Some (picture_of self.now.situation block).memory.state }
         ensures outside { IfSome result (λ _. block < self.now.situation.shape.blocks) }
     {
-        self.parts.mem_state(block)
+        each!(&self.parts, parts => parts.mem_state(block))
     }
 
     /// Memory's value of a word, or `None` outside the shape.
@@ -169,7 +169,7 @@ impl Machine {
         ensures inside { block < self.now.situation.shape.blocks → word < self.now.situation.shape.words → result ≡ Some (word_at (picture_of self.now.situation block).memory.value word) }
         ensures outside { IfSome result (λ _. (block < self.now.situation.shape.blocks) × (word < self.now.situation.shape.words)) }
     {
-        self.parts.mem_value(block, word)
+        each!(&self.parts, parts => parts.mem_value(block, word))
     }
 
     /// The block's open transaction, if there is one; `None` outside the shape.
@@ -179,21 +179,21 @@ impl Machine {
         // The words that a block doesn't have are 0.
         ensures padded { IfSome result (λ opened. AreZeroFrom self.now.situation.shape.words opened.value) }
     {
-        self.parts.open(block)
+        each!(&self.parts, parts => parts.open(block))
     }
 
     /// The core whose transaction is open on the block, or `None` where none is, and outside the shape.
     pub fn requestor(&self, block: u32) -> Option<u32>
         ensures { result ≡ option_map (λ opened. opened.core) (picture_of self.now.situation block).transaction }
     {
-        self.parts.requestor(block)
+        each!(&self.parts, parts => parts.requestor(block))
     }
 
     /// Whether a request of the core waits to be ordered; false outside the shape.
     pub fn waiting(&self, core: u32) -> bool
         ensures { IsTrue result ↔ (0 < length (queue_of self.now.situation.queues core)) }
     {
-        self.parts.waiting(core)
+        each!(&self.parts, parts => parts.waiting(core))
     }
 
     /// The oldest request of the core that waits to be ordered, and its block: that of the core's next Order. `None` where
@@ -202,7 +202,7 @@ impl Machine {
         ensures some { IfSome result (λ head. IsHead self.now.situation core head.0 head.1) }
         ensures empty { IfNone result (slice_get (queue_of self.now.situation.queues core) 0 ≡ None) }
     {
-        self.parts.head(core)
+        each!(&self.parts, parts => parts.head(core))
     }
 
     /// The place of the core's request for the block among those that wait, the oldest's being 1; `None` where it does not
@@ -210,7 +210,7 @@ impl Machine {
     pub fn place(&self, core: u32, block: u32) -> Option<usize>
         ensures { result ≡ place_in (queue_of self.now.situation.queues core) block }
     {
-        self.parts.place(core, block)
+        each!(&self.parts, parts => parts.place(core, block))
     }
 
     /// Whether the core's request for the block waits to be ordered; false outside the shape.
@@ -219,7 +219,11 @@ impl Machine {
         ensures outside { result ≡ true → (core < self.now.situation.shape.cores) × (block < self.now.situation.shape.blocks) }
     {
         let shape = self.shape();
-        core < shape.cores() && block < shape.blocks() && self.parts.waits_on(core, block)
+        if core < shape.cores() && block < shape.blocks() {
+            each!(&self.parts, parts => parts.waits_on(core, block))
+        } else {
+            false
+        }
     }
 
     /// How many lines the core's map has, or `None` outside the shape: one for each block in which the core isn't in
@@ -229,7 +233,7 @@ impl Machine {
         ensures held { HasHeldLines self.now core }
         ensures outside { IfSome result (λ _. core < self.now.situation.shape.cores) }
     {
-        self.parts.lines(core)
+        each!(&self.parts, parts => parts.lines(core))
     }
 
     /// The history of all that was performed, ordered and answered.
@@ -237,7 +241,7 @@ impl Machine {
         ensures items { result.now.items ≡ self.now.situation.log }
         ensures shape { (result.now.cores ≡ self.now.situation.shape.cores) × (result.now.blocks ≡ self.now.situation.shape.blocks) × (result.now.words ≡ self.now.situation.shape.words) }
     {
-        self.parts.log()
+        each!(&self.parts, parts => parts.log())
     }
 }
 

@@ -1,10 +1,9 @@
 //! What an Order does to the lines of its block, and who sends.
-ghost use Rattle.std.specs.Prelude.{◌≡◌, ◌↔◌, IsTrue, ℕ, ◌<◌, ◌≤◌, List, [], length, Some, slice_index_or, slice_set, unwrap_or, if◌then◌else◌};
+ghost use Rattle.std.specs.Prelude.{◌≡◌, ◌↔◌, IsTrue, ℕ, ◌<◌, ◌≤◌, [], length, Some, slice_index_or, slice_set, unwrap_or, if◌then◌else◌};
 ghost use Rattle.snoop_trace.specs.Words.{zero_words};
 ghost use Rattle.snoop_rules.specs.Waits.{waiting_request};
-ghost use Rattle.snoop_rules.specs.Takers.{seen_by, at_memory, carries_value};
+ghost use Rattle.snoop_rules.specs.Takers.{seen_by, carries_value};
 ghost use Rattle.snoop_model.specs.Pictures.Picture.{held_at};
-ghost use Rattle.snoop_model.specs.Pictures.Sends.{value_sent};
 ghost use Rattle.snoop_model.specs.Moves.LookUps.{HasRow};
 ghost use Rattle.snoop_model.specs.Moves.SenderTable.{FollowsSenderTable};
 ghost use Rattle.snoop_model.specs.Pictures.Message.{free_picture, IsMessage, memory_message};
@@ -15,48 +14,10 @@ use crate::ask::moved_to;
 use crate::lines::Lines;
 use snoop_model::{Line, MemLine, Message};
 use snoop_rules::{
-    CacheAction, CacheEvent, CacheState, MemAction, MemCell, MemEvent, Payload, Protocol, Request,
-    cache_cell, mem_cell,
+    CacheAction, CacheState, MemAction, MemCell, Payload, Protocol, Request, cache_cell,
+    carries_value, event_at_memory, event_seen, mem_cell,
 };
 use snoop_trace::{Block, Kept};
-
-/// What a core sees of a request, its own or another's.
-pub(crate) fn event_seen(core: u32, requestor: u32, request: Request) -> CacheEvent
-    ensures { result ≡ seen_by core requestor request }
-{
-    if core == requestor {
-        match request {
-            Request::GetS => CacheEvent::OwnGetS,
-            Request::GetM => CacheEvent::OwnGetM,
-            Request::PutM => CacheEvent::OwnPutM,
-        }
-    } else {
-        match request {
-            Request::GetS => CacheEvent::OtherGetS,
-            Request::GetM => CacheEvent::OtherGetM,
-            Request::PutM => CacheEvent::OtherPutM,
-        }
-    }
-}
-
-pub(crate) fn event_at_memory(request: Request) -> MemEvent
-    ensures { result ≡ at_memory request }
-{
-    match request {
-        Request::GetS => MemEvent::GetS,
-        Request::GetM => MemEvent::GetM,
-        Request::PutM => MemEvent::PutM,
-    }
-}
-
-pub(crate) fn carries(payload: Payload) -> bool
-    ensures { result ≡ carries_value payload }
-{
-    match payload {
-        Payload::Data | Payload::DataE => true,
-        Payload::NoData | Payload::NoDataE => false,
-    }
-}
 
 fn is_same(one: CacheState, other: CacheState) -> bool
     ensures { IsTrue result ↔ (one ≡ other) }
@@ -102,7 +63,7 @@ fn words_for<B: Block>(line: Line<Kept<B>>, payload: Payload) -> Kept<B>
     requires { B.count ≤ 64 }
     ensures { result ≡ (if carries_value payload then unwrap_or line.kept zero_words else zero_words) }
 {
-    if carries(payload) {
+    if carries_value(payload) {
         line.kept.unwrap_or(Kept::zero())
     } else {
         Kept::zero()
@@ -117,7 +78,7 @@ fn message_of_memory<B: Block>(memory: MemLine<Kept<B>>, cell: MemCell) -> Optio
     match cell.action {
         MemAction::Send(payload) => Some(Message {
             payload,
-            value: if carries(payload) {
+            value: if carries_value(payload) {
                 memory.value
             } else {
                 Kept::zero()

@@ -4,11 +4,12 @@ ghost use Rattle.snoop_trace.specs.Words.{AreZeroFrom, word_at};
 ghost use Rattle.snoop_bus.specs.Queues.{place_in, queue_of};
 ghost use Rattle.snoop_rules.specs.Waits.{waiting_request};
 ghost use Rattle.snoop_model.specs.Pictures.Picture.{first_memory, held_by};
-ghost use Rattle.snoop_model.specs.Pictures.Situation.{no_memory, picture_of, reset, state_of};
-ghost use Rattle.snoop_model.specs.Pictures.Sound.{IsProper, keeps, line_at};
+ghost use Rattle.snoop_model.specs.Pictures.Situation.{picture_of, reset, state_of};
+ghost use Rattle.snoop_model.specs.Pictures.Sound.{IsProper, keeps};
 ghost use Rattle.snoop_model.specs.Moves.Move.{next_did};
 ghost use Rattle.snoop_model.specs.Moves.Standing.{lines_of};
 ghost use Rattle.snoop_model.specs.Moves.Holding.{HasHeldLines};
+ghost use Rattle.snoop_machine.specs.PartsView.{no_memory};
 
 mod ask;
 mod order;
@@ -20,7 +21,7 @@ use snoop_blocks::BlockTable;
 use snoop_bus::{Bus, Open};
 use snoop_history::{Did, Log};
 use snoop_model::{Access, Line, MemLine};
-use snoop_rules::{CacheState, MemState, Protocol};
+use snoop_rules::{CacheState, MemState, Protocol, waits};
 use snoop_trace::{Block, Kept, NoMemory, Op, Shape};
 use std::alloc::Global;
 use std::marker::Model;
@@ -144,7 +145,7 @@ impl<B: Block> Parts<B> {
         ensures outside { IfSome result (λ _. block < self.now.situation.shape.blocks) }
     {
         if block < self.shape.blocks() {
-            Some(self.memory.get_or(block, no_memory()).state)
+            Some(self.memory_line(block).state)
         } else {
             None
         }
@@ -156,7 +157,7 @@ impl<B: Block> Parts<B> {
         ensures outside { IfSome result (λ _. (block < self.now.situation.shape.blocks) × (word < self.now.situation.shape.words)) }
     {
         if block < self.shape.blocks() && word < self.shape.words() {
-            Some(self.memory.get_or(block, no_memory()).value.at(word))
+            Some(self.memory_line(block).value.at(word))
         } else {
             None
         }
@@ -182,7 +183,7 @@ impl<B: Block> Parts<B> {
     pub(crate) fn requestor(&self, block: u32) -> Option<u32>
         ensures { result ≡ option_map (λ opened. opened.core) (picture_of self.now.situation block).transaction }
     {
-        let opened = self.bus.open(block)?;
+        let opened = self.transaction(block)?;
         Some(opened.core)
     }
 
@@ -236,10 +237,27 @@ impl<B: Block> Parts<B> {
     fn line(&self, core: u32, block: u32) -> Line<Kept<B>>
         requires core { core < self.now.situation.shape.cores }
         requires block { block < self.now.situation.shape.blocks }
-        ensures line { result ≡ line_at self.now.situation.caches core block }
+        ensures line { result ≡ held_by (picture_of self.now.situation block) core }
         ensures proper { IsProper result }
     {
         self.lines.get(core, block)
+    }
+
+    /// What memory holds of the block.
+    #[inline(always)]
+    fn memory_line(&self, block: u32) -> MemLine<Kept<B>>
+        ensures { result ≡ (picture_of self.now.situation block).memory }
+    {
+        self.memory.get_or(block, no_memory())
+    }
+
+    /// The block's open transaction.
+    #[inline(always)]
+    fn transaction(&self, block: u32) -> Option<Open<Kept<B>>>
+        ensures value { result ≡ (picture_of self.now.situation block).transaction }
+        ensures within { IfSome result (λ opened. (opened.block ≡ block) × (opened.core < self.now.situation.shape.cores)) }
+    {
+        self.bus.open(block)
     }
 
     /// The core's next operation, as the history will have it.
@@ -279,19 +297,4 @@ fn first_state(protocol: Protocol) -> MemState
         Protocol::Msi => MemState::IorS,
         Protocol::Mesi => MemState::I,
     }
-}
-
-/// A request waits in this state.
-fn waits(state: CacheState) -> bool
-    ensures { result ≡ is_some (waiting_request state) }
-{
-    matches!(
-        &state,
-        CacheState::IsAd
-            | CacheState::ImAd
-            | CacheState::SmAd
-            | CacheState::MiA
-            | CacheState::EiA
-            | CacheState::IiA
-    )
 }

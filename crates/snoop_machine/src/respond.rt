@@ -8,8 +8,8 @@ ghost use Rattle.snoop_model.specs.Moves.Move.{Fills, ArrivesAtMemory, written};
 use snoop_bus::Open;
 use snoop_model::{Access, Line, MemLine};
 use snoop_rules::{
-    CacheAction, CacheEvent, MemAction, MemEvent, MemState, Payload, Protocol, Request, cache_cell,
-    mem_cell,
+    CacheAction, CacheEvent, MemAction, Payload, Protocol, arrival_at_memory, cache_cell, mem_cell,
+    takes_payload,
 };
 use snoop_trace::{Block, Kept, Op};
 use std::alloc::AllocError;
@@ -90,14 +90,11 @@ pub(crate) fn arrive<B: Block>(
     requires { IsTrue (takes_payload closing.now.request memory.state) → IsSomeAnd (arrival_at_memory closing.now.payload) (HasMemRow protocol memory.state) }
     ensures { ArrivesAtMemory closing.now protocol memory result }
 {
-    if !takes(closing.request, memory.state) {
+    if !takes_payload(closing.request, memory.state) {
         return memory;
     }
-    let event = match closing.payload {
-        Payload::Data => MemEvent::Data,
-        Payload::NoData => MemEvent::NoData,
-        Payload::NoDataE => MemEvent::NoDataE,
-        Payload::DataE => unreachable!(),
+    let Some(event) = arrival_at_memory(closing.payload) else {
+        unreachable!();
     };
     let Some(cell) = mem_cell(protocol, memory.state, event) else {
         unreachable!();
@@ -106,17 +103,6 @@ pub(crate) fn arrive<B: Block>(
         state: cell.next,
         value: written(cell.action, closing.value, memory.value),
     }
-}
-
-/// Whether memory takes the message of a request's transaction.
-fn takes(request: Request, memory: MemState) -> bool
-    ensures { result ≡ takes_payload request memory }
-{
-    matches!(request, Request::PutM)
-        || matches!(
-            memory,
-            MemState::IorSD | MemState::MD | MemState::ID | MemState::SD | MemState::EorMD
-        )
 }
 
 /// Memory's words after an action, of those that came and those that it held.

@@ -1,9 +1,13 @@
 mod memory;
 
 use crate::writers::{Failure, Stopping};
-use snoop_rules::{CacheState, Protocol, Which, may_load, may_store, write_table};
-use snoop_trace::WriteFault;
+use snoop_rules::{
+    CACHE_EVENTS, CACHE_STATES, CacheEvent, CacheState, MEM_EVENTS, MEM_STATES, MemEvent, MemState,
+    Payload, Protocol, Request, Which, arrival, arrival_at_memory, carries_value, event_asked,
+    event_at_memory, event_seen, may_load, may_store, takes_payload, waits, write_table,
+};
 use snoop_trace::streams::AnyWriter;
+use snoop_trace::{Op, WriteFault};
 use std::alloc::Global;
 use std::test::Fail;
 
@@ -257,6 +261,38 @@ fn readers_and_writers() -> Result<(), Fail> {
                 Err((protocol, *state))?
             }
         }
+    }
+    Ok(())
+}
+
+#[test]
+fn controllers_meet_events() -> Result<(), Fail> {
+    if event_asked(Op::Store(5)) != CacheEvent::Store
+        || event_seen(1, 0, Request::GetM) != CacheEvent::OtherGetM
+        || event_at_memory(Request::PutM) != MemEvent::PutM
+    {
+        Err("asked or ordered")?
+    }
+    if arrival(Payload::DataE) != Some(CacheEvent::DataE)
+        || arrival_at_memory(Payload::NoData) != Some(MemEvent::NoData)
+        || !takes_payload(Request::GetS, MemState::SD)
+        || carries_value(Payload::NoDataE)
+    {
+        Err("came")?
+    }
+    if !waits(CacheState::MiA) || waits(CacheState::IsD) {
+        Err("waits")?
+    }
+    Ok(())
+}
+
+#[test]
+fn tables_have_an_order() -> Result<(), Fail> {
+    if CACHE_STATES[0] != CacheState::I || CACHE_EVENTS[0] != CacheEvent::Load {
+        Err("caches")?
+    }
+    if MEM_STATES[0] != MemState::IorS || MEM_EVENTS[0] != MemEvent::GetS {
+        Err("memory")?
     }
     Ok(())
 }

@@ -7,7 +7,7 @@ ghost use Rattle.snoop_rules.specs.TableOrder.{cache_events, memory_events};
 ghost use Rattle.snoop_rules.specs.TableText.{cache_line_at, cache_text, memory_line_at, memory_text, row_line, table_text};
 
 use crate::names::{CacheEvent, CacheState, MemEvent, MemState};
-use crate::table::{EVENTS, MEM_EVENTS, MEM_STATES, STATES, cache_cell, mem_cell};
+use crate::table::{CACHE_EVENTS, CACHE_STATES, MEM_EVENTS, MEM_STATES, cache_cell, mem_cell};
 use snoop_trace::streams::{Sink, write_whole};
 use snoop_trace::{NoMemory, Protocol, WriteFault};
 use std::alloc::Global;
@@ -48,7 +48,7 @@ pub fn write_table<W: Sink>(
 fn push_cache_table(out: &mut Vec<u8>, protocol: Protocol) -> Result<(), NoMemory>
     ensures ok { OnOk result (out.new.items ≡ out.old.items ++ cache_text protocol) }
 {
-    for state in &STATES {
+    for state in &CACHE_STATES {
         push_cache_rows(out, protocol, *state)?;
     }
     Ok(())
@@ -58,7 +58,7 @@ fn push_cache_table(out: &mut Vec<u8>, protocol: Protocol) -> Result<(), NoMemor
 fn push_cache_rows(out: &mut Vec<u8>, protocol: Protocol, state: CacheState) -> Result<(), NoMemory>
     ensures ok { OnOk result (out.new.items ≡ out.old.items ++ flat_map (cache_line_at protocol state) cache_events) }
 {
-    for event in &EVENTS {
+    for event in &CACHE_EVENTS {
         push_cache_row(out, protocol, state, *event)?;
     }
     Ok(())

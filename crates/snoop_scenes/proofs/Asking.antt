@@ -1,6 +1,6 @@
 -- An Ask played.
 use Rattle.std.proofs.Common.{◌≡◌, ℕ, List, true, ◌++◌, Option, Some, None, Ok, Err, inl, inr, ◌⊎◌, refl}
-use Rattle.std.specs.Prelude.{slice_set, option_to_list}
+use Rattle.std.specs.Prelude.{option_to_list}
 use Rattle.snoop_trace.specs.Words.{HasWord}
 use Rattle.snoop_trace.specs.declared.step.Op.{Op}
 use Rattle.snoop_trace.specs.declared.step.Op.TheVariants as op
@@ -17,8 +17,8 @@ use Rattle.snoop_model.specs.Pictures.Lines.{Line}
 use Rattle.snoop_model.specs.declared.replies.Reply.{Reply}
 use Rattle.snoop_model.specs.declared.replies.Reply.TheVariants as reply
 use Rattle.snoop_model.specs.declared.replies.Refused.TheVariants.{Stalled}
-use Rattle.snoop_model.specs.Pictures.Picture.{held_by, kept_on}
-use Rattle.snoop_model.specs.Pictures.Situation.{Situation, picture_of, state_of}
+use Rattle.snoop_model.specs.Pictures.Picture.{held_by, with_line, kept_on}
+use Rattle.snoop_model.specs.Pictures.Situation.{Situation, picture_of, with_picture, state_of}
 use Rattle.snoop_model.specs.Moves.Move.{hit_reply, next_did, moves_to, kept_waiting, queues_after, IsWithin, IsAbsent, Asks}
 use Rattle.snoop_model.specs.Runs.Run.{GoesFirst}
 use Rattle.snoop_scenes.proofs.Deciding.{if_some}
@@ -33,8 +33,7 @@ evicts_nothing _ _ = None
 -- where an Ask by a row leads
 abbrev pub leads : Situation → ℕ → ℕ → CacheAction → Line → Option Item → Situation
 leads old core block act held entry =
-    record old {
-      caches = slice_set old.caches block (slice_set (picture_of old block).caches core held);
+    record (with_picture old block (with_line (picture_of old block) core held)) {
       queues = queues_after act old.queues core block;
       log = old.log ++ option_to_list entry;
     }

@@ -22,7 +22,7 @@ play old (step ∷ steps) =
     if_some (played old step) λ now is.
     if_some (play now.new steps) λ rest is.
     Some (record {
-      frames = ((step, now.outcome), controllers now.new.caches now.new.memory) ∷ rest.frames;
+      frames = ((step, now.outcome), controllers now.new.pictures) ∷ rest.frames;
       new = rest.new;
       runs = (now.new, (now.goes, rest.runs));
       passes = (now.new, (now.goes, refl, rest.passes));

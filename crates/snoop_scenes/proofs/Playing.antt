@@ -32,7 +32,7 @@ played old (Order core) =
     if_some (waiting_request (state_of old core block)) λ request waits.
     on_bus old core block (ltb-true core old.shape.cores there) first request waits (picture_of old block).transaction refl)
     (λ empty.
-    if_some (waits_on_none old.caches core) λ none is.
+    if_some (waits_on_none old.pictures core) λ none is.
     Some (orders_nothing old core (ltb-true core old.shape.cores there) none)))
     (λ outside. Some (orders_no_core old core (ltb-false core old.shape.cores outside)))
 played old (Respond block) =

@@ -9,10 +9,9 @@ use Rattle.snoop_trace.specs.declared.step.Op.TheVariants as op
 use Rattle.snoop_trace.specs.declared.step.Step.TheVariants.{Ask, Order, Respond}
 use Rattle.snoop_rules.specs.declared.names.Request.{Request}
 use Rattle.snoop_rules.specs.Waits.{waiting_request}
-use Rattle.snoop_model.specs.Pictures.Lines.{Line}
 use Rattle.snoop_model.specs.declared.replies.Refused.TheVariants.{NoCore, NoBlock, NothingWaiting, NoTransaction}
-use Rattle.snoop_model.specs.Pictures.Picture.{held_at}
-use Rattle.snoop_model.specs.Pictures.Situation.{Situation, picture_of}
+use Rattle.snoop_model.specs.Pictures.Picture.{Picture, held_by}
+use Rattle.snoop_model.specs.Pictures.Situation.{Situation, picture_of, nothing_there}
 use Rattle.snoop_model.specs.Moves.Refuses.{WaitsOnNone}
 use Rattle.snoop_scenes.proofs.Deciding.{by_found, by_test}
 use Rattle.snoop_scenes.proofs.Played.{Played}
@@ -46,18 +45,18 @@ module _ (old : Situation) (core block word : ℕ) (asking : Op) where
   abbrev pub asks_no_word : ¬ HasWord old.shape word asking → core < old.shape.cores → Played old (Ask core block word asking)
   asks_no_word none there = record { outcome = Err NoBlock; new = old; goes = ((there, inr none), refl) }
 
-pub none_of : (row : List Line) (rows : List (List Line)) (core : ℕ) → waiting_request (held_at row core).state ≡ None
-    → ((block : ℕ) (request : Request) → waiting_request (held_at (slice_index_or rows block []) core).state ≡ Some request → ⊥)
-    → (block : ℕ) (request : Request) → waiting_request (held_at (slice_index_or (row ∷ rows) block []) core).state ≡ Some request → ⊥
-none_of row rows core first rest zero request waits = let clash : ◌≡◌ {A = Option Request} None (Some request) = sym first ∙ waits in cc
-none_of row rows core first rest (suc block) request waits = rest block request waits
+pub none_of : (picture : Picture) (pictures : List Picture) (core : ℕ) → waiting_request (held_by picture core).state ≡ None
+    → ((block : ℕ) (request : Request) → waiting_request (held_by (slice_index_or pictures block nothing_there) core).state ≡ Some request → ⊥)
+    → (block : ℕ) (request : Request) → waiting_request (held_by (slice_index_or (picture ∷ pictures) block nothing_there) core).state ≡ Some request → ⊥
+none_of picture pictures core first rest zero request waits = let clash : ◌≡◌ {A = Option Request} None (Some request) = sym first ∙ waits in cc
+none_of picture pictures core first rest (suc block) request waits = rest block request waits
 
 -- the core waits on none of the blocks
-abbrev pub waits_on_none : (rows : List (List Line)) (core : ℕ) → Option ((block : ℕ) (request : Request) → waiting_request (held_at (slice_index_or rows block []) core).state ≡ Some request → ⊥)
+abbrev pub waits_on_none : (pictures : List Picture) (core : ℕ) → Option ((block : ℕ) (request : Request) → waiting_request (held_by (slice_index_or pictures block nothing_there) core).state ≡ Some request → ⊥)
 waits_on_none [] core = Some (λ block request waits. cc)
-waits_on_none (row ∷ rows) core =
-    by_found (waiting_request (held_at row core).state) (λ request waits. None) λ first.
-    by_found (waits_on_none rows core) (λ rest is. Some (none_of row rows core first rest)) (λ none. None)
+waits_on_none (picture ∷ pictures) core =
+    by_found (waiting_request (held_by picture core).state) (λ request waits. None) λ first.
+    by_found (waits_on_none pictures core) (λ rest is. Some (none_of picture pictures core first rest)) (λ none. None)
 
 -- An Order of a core that is not there, or that waits for nothing.
 module _ (old : Situation) (core : ℕ) where

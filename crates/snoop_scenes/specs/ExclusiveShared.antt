@@ -8,7 +8,7 @@ use Rattle.snoop_rules.specs.declared.names.Request.TheVariants.{GetS}
 use Rattle.snoop_rules.specs.declared.names.Payload.TheVariants.{Data, DataE}
 use Rattle.snoop_history.specs.declared.items.Item.{Item}
 use Rattle.snoop_model.specs.Pictures.Situation.{Situation}
-use Rattle.snoop_scenes.specs.Scene.{two_cores, Frame, ◌⟶◌, load, order, respond, issued, ordered, came, memory, core, loads, sent, answered, holds, remembers, states, at_rest}
+use Rattle.snoop_scenes.specs.Scene.{two_cores, Frame, ◌⟶◌, load, order, respond, issued, ordered, came, memory, core, loads, sent, answered, holds, remembers, states, closed, at_rest}
 
 -- the steps, what each is answered, and the states after it: core 0's, core 1's and memory's
 abbrev pub frames : List Frame
@@ -32,4 +32,4 @@ history =
 
 -- where they lead
 abbrev pub end : Situation
-end = at_rest Mesi two_cores ((holds state.S 0 ∷ holds state.S 0 ∷ []) ∷ []) (remembers mem.S 0 ∷ []) history
+end = at_rest Mesi two_cores (closed (holds state.S 0) (holds state.S 0) (remembers mem.S 0) ∷ []) history

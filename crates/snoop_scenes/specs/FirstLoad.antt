@@ -9,7 +9,7 @@ use Rattle.snoop_rules.specs.declared.names.Payload.TheVariants.{Data}
 use Rattle.snoop_history.specs.declared.items.Item.{Item}
 use Rattle.snoop_model.specs.Pictures.Picture.{nothing_held}
 use Rattle.snoop_model.specs.Pictures.Situation.{Situation}
-use Rattle.snoop_scenes.specs.Scene.{two_cores, Frame, ◌⟶◌, load, order, respond, issued, ordered, came, memory, loads, sent, answered, holds, remembers, states, at_rest}
+use Rattle.snoop_scenes.specs.Scene.{two_cores, Frame, ◌⟶◌, load, order, respond, issued, ordered, came, memory, loads, sent, answered, holds, remembers, states, closed, at_rest}
 
 -- the steps, what each is answered, and the states after it: core 0's, core 1's and memory's
 abbrev pub frames : List Frame
@@ -28,4 +28,4 @@ history =
 
 -- where they lead
 abbrev pub end : Situation
-end = at_rest Msi two_cores ((holds state.S 0 ∷ nothing_held ∷ []) ∷ []) (remembers mem.IorS 0 ∷ []) history
+end = at_rest Msi two_cores (closed (holds state.S 0) nothing_held (remembers mem.IorS 0) ∷ []) history

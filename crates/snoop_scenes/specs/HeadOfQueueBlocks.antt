@@ -11,7 +11,7 @@ use Rattle.snoop_model.specs.declared.replies.Refused.TheVariants.{BusTaken}
 use Rattle.snoop_history.specs.declared.items.Item.{Item}
 use Rattle.snoop_model.specs.Pictures.Picture.{nothing_held}
 use Rattle.snoop_model.specs.Pictures.Situation.{Situation}
-use Rattle.snoop_scenes.specs.Scene.{two_blocks, Frame, ◌⟶◌, load, order, respond, issued, ordered, came, refused, memory, loads, sent, answered, holds, remembers, at_rest}
+use Rattle.snoop_scenes.specs.Scene.{two_blocks, Frame, ◌⟶◌, load, order, respond, issued, ordered, came, refused, memory, loads, sent, answered, holds, remembers, closed, at_rest}
 
 -- the steps, what each is answered, and the states after it: core 0's, core 1's and memory's
 abbrev pub frames : List Frame
@@ -41,4 +41,4 @@ history =
 
 -- where they lead
 abbrev pub end : Situation
-end = at_rest Msi two_blocks ((holds state.S 0 ∷ holds state.S 0 ∷ []) ∷ (holds state.S 0 ∷ nothing_held ∷ []) ∷ []) (remembers mem.IorS 0 ∷ remembers mem.IorS 0 ∷ []) history
+end = at_rest Msi two_blocks (closed (holds state.S 0) (holds state.S 0) (remembers mem.IorS 0) ∷ closed (holds state.S 0) nothing_held (remembers mem.IorS 0) ∷ []) history

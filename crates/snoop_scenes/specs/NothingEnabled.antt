@@ -8,7 +8,7 @@ use Rattle.snoop_model.specs.declared.replies.Refused.TheVariants.{NothingWaitin
 use Rattle.snoop_history.specs.declared.items.Item.{Item}
 use Rattle.snoop_model.specs.Pictures.Picture.{nothing_held}
 use Rattle.snoop_model.specs.Pictures.Situation.{Situation}
-use Rattle.snoop_scenes.specs.Scene.{two_cores, Frame, ◌⟶◌, order, respond, refused, remembers, states, at_rest}
+use Rattle.snoop_scenes.specs.Scene.{two_cores, Frame, ◌⟶◌, order, respond, refused, remembers, states, closed, at_rest}
 
 -- the steps, what each is answered, and the states after it: core 0's, core 1's and memory's
 abbrev pub frames : List Frame
@@ -26,4 +26,4 @@ history =
 
 -- where they lead
 abbrev pub end : Situation
-end = at_rest Msi two_cores ((nothing_held ∷ nothing_held ∷ []) ∷ []) (remembers mem.IorS 0 ∷ []) history
+end = at_rest Msi two_cores (closed nothing_held nothing_held (remembers mem.IorS 0) ∷ []) history

@@ -10,7 +10,7 @@ use Rattle.snoop_rules.specs.declared.names.Payload.TheVariants.{Data, NoData}
 use Rattle.snoop_history.specs.declared.items.Item.{Item}
 use Rattle.snoop_model.specs.Pictures.Picture.{nothing_held}
 use Rattle.snoop_model.specs.Pictures.Situation.{Situation}
-use Rattle.snoop_scenes.specs.Scene.{two_cores, Frame, ◌⟶◌, store, evict, order, respond, issued, ordered, came, memory, core, stores, nothing, sent, answered, remembers, states, at_rest}
+use Rattle.snoop_scenes.specs.Scene.{two_cores, Frame, ◌⟶◌, store, evict, order, respond, issued, ordered, came, memory, core, stores, nothing, sent, answered, remembers, states, closed, at_rest}
 
 -- the steps, what each is answered, and the states after it: core 0's, core 1's and memory's
 abbrev pub frames : List Frame
@@ -44,4 +44,4 @@ history =
 
 -- where they lead
 abbrev pub end : Situation
-end = at_rest Mesi two_cores ((nothing_held ∷ nothing_held ∷ []) ∷ []) (remembers mem.I 9 ∷ []) history
+end = at_rest Mesi two_cores (closed nothing_held nothing_held (remembers mem.I 9) ∷ []) history

@@ -10,7 +10,7 @@ use Rattle.snoop_rules.specs.declared.names.Payload.TheVariants.{Data, NoData}
 use Rattle.snoop_model.specs.declared.replies.Refused.TheVariants.{Stalled}
 use Rattle.snoop_history.specs.declared.items.Item.{Item}
 use Rattle.snoop_model.specs.Pictures.Situation.{Situation}
-use Rattle.snoop_scenes.specs.Scene.{two_cores, Frame, ◌⟶◌, load, store, evict, order, respond, issued, ordered, came, refused, memory, core, loads, stores, nothing, sent, answered, holds, remembers, states, at_rest}
+use Rattle.snoop_scenes.specs.Scene.{two_cores, Frame, ◌⟶◌, load, store, evict, order, respond, issued, ordered, came, refused, memory, core, loads, stores, nothing, sent, answered, holds, remembers, states, closed, at_rest}
 
 -- the steps, what each is answered, and the states after it: core 0's, core 1's and memory's
 abbrev pub frames : List Frame
@@ -45,4 +45,4 @@ history =
 
 -- where they lead
 abbrev pub end : Situation
-end = at_rest Msi two_cores ((holds state.S 9 ∷ holds state.S 9 ∷ []) ∷ []) (remembers mem.IorS 9 ∷ []) history
+end = at_rest Msi two_cores (closed (holds state.S 9) (holds state.S 9) (remembers mem.IorS 9) ∷ []) history

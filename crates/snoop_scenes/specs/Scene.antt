@@ -22,7 +22,8 @@ use Rattle.snoop_model.specs.Pictures.Lines.{Line, MemLine}
 use Rattle.snoop_model.specs.declared.replies.Reply.{Reply}
 use Rattle.snoop_model.specs.declared.replies.Reply.TheVariants as reply
 use Rattle.snoop_model.specs.declared.replies.Refused.{Refused}
-use Rattle.snoop_model.specs.Pictures.Picture.{held_at}
+use Rattle.snoop_model.specs.Pictures.Picture.{Picture, held_by}
+use Rattle.snoop_model.specs.Pictures.Message.{free_picture}
 use Rattle.snoop_model.specs.Pictures.Situation.{Situation, reset}
 use Rattle.snoop_model.specs.Runs.Run.{GoesFirst}
 
@@ -195,15 +196,17 @@ holds state value = holds_words state (one_word value)
 abbrev pub remembers : MemState → ℕ → MemLine
 remembers state value = record { state = state; value = one_word value }
 
--- a situation in which no request waits and no transaction is open
-abbrev pub at_rest : Protocol → Extent → List (List Line) → List MemLine → List Item → Situation
-at_rest protocol shape caches memory log =
+-- what core 0, core 1 and memory hold of a block on which no transaction is open
+abbrev pub closed : Line → Line → MemLine → Picture
+closed first second memory = free_picture (first ∷ second ∷ []) memory
+
+-- a situation in which the blocks have these pictures and no request waits
+abbrev pub at_rest : Protocol → Extent → List Picture → List Item → Situation
+at_rest protocol shape pictures log =
     record {
       protocol = protocol;
       shape = shape;
-      caches = caches;
-      memory = memory;
-      transactions = replicate shape.blocks None;
+      pictures = pictures;
       queues = replicate shape.cores [];
       log = log;
     }
@@ -231,15 +234,14 @@ abbrev pub values_of : List Item → List (ℕ × ℕ)
 values_of items = map {B = ℕ × ℕ} (λ block. (block, flat items block 0)) (touched items)
 
 -- the states of the first two cores and of memory, by block
-abbrev pub controllers : List (List Line) → List MemLine → List Controllers
-controllers (row ∷ rows) (line ∷ lines) = ((held_at row 0).state, (held_at row 1).state, line.state) ∷ controllers rows lines
-controllers _ _ = []
+abbrev pub controllers : List Picture → List Controllers
+controllers pictures = map {B = Controllers} (λ picture. ((held_by picture 0).state, (held_by picture 1).state, picture.memory.state)) pictures
 
 -- from old, each frame's step is answered as it says and leaves its states, and the last one leads to new
 abbrev pub PassesFrom : Situation → List Frame → Situation → Type 0
 PassesFrom old [] new = new ≡ old
 PassesFrom old (frame ∷ frames) new =
-    (middle : Situation) × (GoesFirst old frame.0.0 frame.0.1 middle × (controllers middle.caches middle.memory ≡ frame.1) × PassesFrom middle frames new)
+    (middle : Situation) × (GoesFirst old frame.0.0 frame.0.1 middle × (controllers middle.pictures ≡ frame.1) × PassesFrom middle frames new)
 
 -- from reset, the machine passes through the frames
 abbrev pub PassesThrough : Protocol → Extent → List Frame → Situation → Type 0

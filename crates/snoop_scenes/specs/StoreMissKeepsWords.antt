@@ -11,7 +11,7 @@ use Rattle.snoop_rules.specs.declared.names.Payload.TheVariants.{Data}
 use Rattle.snoop_history.specs.declared.items.Item.{Item}
 use Rattle.snoop_model.specs.Pictures.Picture.{nothing_held}
 use Rattle.snoop_model.specs.Pictures.Situation.{Situation}
-use Rattle.snoop_scenes.specs.Scene.{two_words, Frame, ◌⟶◌, load_word, store_word, order, respond, hit, issued, ordered, came, memory, core, hit_load, missed_store, at_word, one_word, performed, sent, answered, holds_words, remembers, states, at_rest}
+use Rattle.snoop_scenes.specs.Scene.{two_words, Frame, ◌⟶◌, load_word, store_word, order, respond, hit, issued, ordered, came, memory, core, hit_load, missed_store, at_word, one_word, performed, sent, answered, holds_words, remembers, states, closed, at_rest}
 
 -- the steps, what each is answered, and the states after it: core 0's, core 1's and memory's
 abbrev pub frames : List Frame
@@ -39,4 +39,4 @@ history =
 
 -- where they lead: core 1 has both values
 abbrev pub end : Situation
-end = at_rest Msi two_words ((nothing_held ∷ holds_words state.M (slice_set (one_word 7) 1 9) ∷ []) ∷ []) (remembers mem.M 0 ∷ []) history
+end = at_rest Msi two_words (closed nothing_held (holds_words state.M (slice_set (one_word 7) 1 9)) (remembers mem.M 0) ∷ []) history

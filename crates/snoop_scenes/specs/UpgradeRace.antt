@@ -11,7 +11,7 @@ use Rattle.snoop_model.specs.declared.replies.Refused.TheVariants.{BusTaken}
 use Rattle.snoop_history.specs.declared.items.Item.{Item}
 use Rattle.snoop_model.specs.Pictures.Picture.{nothing_held}
 use Rattle.snoop_model.specs.Pictures.Situation.{Situation}
-use Rattle.snoop_scenes.specs.Scene.{two_cores, Frame, ◌⟶◌, load, store, order, respond, issued, ordered, came, refused, memory, core, loads, stores, sent, answered, holds, remembers, states, at_rest}
+use Rattle.snoop_scenes.specs.Scene.{two_cores, Frame, ◌⟶◌, load, store, order, respond, issued, ordered, came, refused, memory, core, loads, stores, sent, answered, holds, remembers, states, closed, at_rest}
 
 -- the steps, what each is answered, and the states after it: core 0's, core 1's and memory's
 abbrev pub frames : List Frame
@@ -46,4 +46,4 @@ history =
 
 -- where they lead
 abbrev pub end : Situation
-end = at_rest Msi two_cores ((holds state.M 5 ∷ nothing_held ∷ []) ∷ []) (remembers mem.M 0 ∷ []) history
+end = at_rest Msi two_cores (closed (holds state.M 5) nothing_held (remembers mem.M 0) ∷ []) history

@@ -1,5 +1,5 @@
 //! An Ask: found, and made.
-ghost use Rattle.std.specs.Prelude.{◌≡◌, ◌≢◌, ◌+◌, ◌<◌, ℕ, [], ◌∷◌, ◌++◌, slice_index, slice_index_or, slice_set, IfOk, IfErr, None, Some, true, Err};
+ghost use Rattle.std.specs.Prelude.{◌≡◌, ◌≢◌, ◌<◌, ℕ, [], ◌∷◌, ◌++◌, slice_index, IfOk, IfErr, None, Some, true, Err};
 ghost use Rattle.snoop_trace.specs.declared.step.Step.TheVariants.{Ask};
 ghost use Rattle.snoop_trace.specs.Words.{HasWord, IsWord};
 ghost use Rattle.snoop_rules.specs.Waits.{waiting_request};
@@ -8,7 +8,9 @@ ghost use Rattle.snoop_history.specs.declared.items.Item.TheVariants.{Did as Ite
 ghost use Rattle.snoop_rules.specs.declared.names.CacheState.TheVariants.{I};
 ghost use Rattle.snoop_model.specs.Moves.Standing.{KeepsRoom, has_line};
 ghost use Rattle.snoop_machine.specs.Following.{LosesLines};
-ghost use Rattle.snoop_model.specs.Pictures.Sound.{IsProper, line_at};
+ghost use Rattle.snoop_model.specs.Pictures.Picture.{held_by, with_line};
+ghost use Rattle.snoop_model.specs.Pictures.Situation.{picture_of, state_of, with_picture};
+ghost use Rattle.snoop_model.specs.Pictures.Sound.{IsProper};
 ghost use Rattle.snoop_model.specs.Moves.Move.{MovesAsk, next_did, hit_reply as reply_to_hit};
 ghost use Rattle.snoop_machine.specs.Asked.{TakesAsk};
 ghost use Rattle.snoop_model.specs.Moves.StepMove.{IsDenied};
@@ -66,9 +68,9 @@ impl<B: Block> Parts<B> {
     ) -> Reply
         requires core { core < self.old.situation.shape.cores }
         requires block { block < self.old.situation.shape.blocks }
-        requires found { TakesAsk self.old.situation.protocol (line_at self.old.situation.caches core block) word op asked }
+        requires found { TakesAsk self.old.situation.protocol (held_by (picture_of self.old.situation block) core) word op asked }
         requires word { HasWord self.old.situation.shape word op }
-        requires proper { IsProper (line_at self.old.situation.caches core block) }
+        requires proper { IsProper (held_by (picture_of self.old.situation block) core) }
         requires room { HasRoomToAsk self.old core block asked }
         ensures moved { MovesAsk self.old.situation core block word op result self.new.situation (entry_of_ask self.old.situation.log core block word op asked) }
         ensures room { KeepsRoom self.old self.new }
@@ -97,10 +99,10 @@ impl<B: Block> Parts<B> {
         requires core { core < self.old.situation.shape.cores }
         requires block { block < self.old.situation.shape.blocks }
         requires room { (has_line self.old core block ≡ true) × (0 < slice_index self.old.rooms core) }
-        requires idle { waiting_request (line_at self.old.situation.caches core block).state ≡ None }
+        requires idle { waiting_request (state_of self.old.situation core block) ≡ None }
         requires waits { waiting_request line.state ≡ Some request }
         requires proper { IsProper line }
-        ensures written { self.new.situation ≡ record self.old.situation { caches = slice_set self.old.situation.caches block (slice_set (slice_index_or self.old.situation.caches block []) core line); queues = after_issue self.old.situation.queues core block } }
+        ensures written { self.new.situation ≡ record (with_picture self.old.situation block (with_line (picture_of self.old.situation block) core line)) { queues = after_issue self.old.situation.queues core block } }
         ensures room { KeepsRoom self.old self.new }
         ensures lines { (k : ℕ) → LosesLines self.old self.new k }
     {
@@ -113,10 +115,10 @@ impl<B: Block> Parts<B> {
     fn put_line(&mut self, core: u32, block: u32, line: Line<Kept<B>>)
         requires core { core < self.old.situation.shape.cores }
         requires block { block < self.old.situation.shape.blocks }
-        requires same { waiting_request line.state ≡ waiting_request (line_at self.old.situation.caches core block).state }
-        requires held { (line_at self.old.situation.caches core block).state ≢ I }
+        requires same { waiting_request line.state ≡ waiting_request (state_of self.old.situation core block) }
+        requires held { state_of self.old.situation core block ≢ I }
         requires proper { IsProper line }
-        ensures written { self.new.situation ≡ record self.old.situation { caches = slice_set self.old.situation.caches block (slice_set (slice_index_or self.old.situation.caches block []) core line) } }
+        ensures written { self.new.situation ≡ with_picture self.old.situation block (with_line (picture_of self.old.situation block) core line) }
         ensures room { KeepsRoom self.old self.new }
         ensures lines { (k : ℕ) → LosesLines self.old self.new k }
     {
@@ -130,15 +132,15 @@ impl<B: Block> Parts<B> {
         requires block { block < self.old.situation.shape.blocks }
         requires word { IsWord self.old.situation.shape access.word }
         requires room { 0 < self.old.room }
-        requires same { waiting_request line.state ≡ waiting_request (line_at self.old.situation.caches core block).state }
-        requires held { (line_at self.old.situation.caches core block).state ≢ I }
+        requires same { waiting_request line.state ≡ waiting_request (state_of self.old.situation core block) }
+        requires held { state_of self.old.situation core block ≢ I }
         requires proper { IsProper line }
-        ensures written { self.new.situation ≡ record self.old.situation { caches = slice_set self.old.situation.caches block (slice_set (slice_index_or self.old.situation.caches block []) core line); log = self.old.situation.log ++ ItemDid (next_did self.old.situation.log core block access.word access.op value true) ∷ [] } }
+        ensures written { self.new.situation ≡ record (with_picture self.old.situation block (with_line (picture_of self.old.situation block) core line)) { log = self.old.situation.log ++ ItemDid (next_did self.old.situation.log core block access.word access.op value true) ∷ [] } }
         ensures room { KeepsRoom self.old self.new }
         ensures lines { (k : ℕ) → LosesLines self.old self.new k }
     {
         let did = self.next_did(core, block, access, value, true);
-        self.lines.set(core, block, line);
+        self.put_line(core, block, line);
         self.log.push(Item::Did(did));
     }
 }

@@ -15,12 +15,11 @@ ghost use Rattle.snoop_model.specs.Moves.StepMove.{IsDenied};
 ghost use Rattle.snoop_machine.specs.Plan.{IsPlanFor};
 ghost use Rattle.snoop_model.specs.Invariant.Invariant.{Invariant};
 
-use super::{Parts, no_memory};
-use crate::order::event_at_memory;
+use super::Parts;
 use crate::plan::Plan;
 use snoop_history::{Item, Sent};
 use snoop_model::{MemLine, Message, Refused};
-use snoop_rules::{MemState, Request, mem_cell};
+use snoop_rules::{MemState, Request, event_at_memory, mem_cell};
 use snoop_trace::{Block, Kept};
 
 impl<B: Block> Parts<B> {
@@ -45,10 +44,10 @@ impl<B: Block> Parts<B> {
         let Some((request, block)) = self.head(core) else {
             return Err(Refused::NothingWaiting);
         };
-        if self.bus.open(block).is_some() {
+        if self.transaction(block).is_some() {
             return Err(Refused::BusTaken(block));
         }
-        let memory = self.memory.get_or(block, no_memory());
+        let memory = self.memory_line(block);
         let Some(cell) = mem_cell(self.protocol, memory.state, event_at_memory(request)) else {
             unreachable!();
         };
@@ -84,7 +83,7 @@ impl<B: Block> Parts<B> {
         ensures room { KeepsRoom self.old self.new }
         ensures lines { (k : ℕ) → LosesLines self.old self.new k }
     {
-        let before = self.memory.get_or(block, no_memory());
+        let before = self.memory_line(block);
         self.lines.take_rows(self.protocol, core, request, block);
         let after = MemLine {
             state: memory,

@@ -1,12 +1,12 @@
 //! A Respond: found, and made.
-ghost use Rattle.std.specs.Prelude.{◌≡◌, ◌≢◌, ◌<◌, ℕ, IfOk, IfErr, IfSome, Some, None, Err};
+ghost use Rattle.std.specs.Prelude.{◌≡◌, ◌≢◌, ◌<◌, ℕ, IfOk, IfErr, Some, None, Err};
 ghost use Rattle.snoop_trace.specs.declared.step.Step.TheVariants.{Respond};
 ghost use Rattle.snoop_trace.specs.Words.{IsWord};
 ghost use Rattle.snoop_rules.specs.declared.names.Request.TheVariants.{PutM};
 ghost use Rattle.snoop_model.specs.Moves.Standing.{KeepsRoom};
 ghost use Rattle.snoop_machine.specs.Following.{LosesLines};
 ghost use Rattle.snoop_model.specs.Pictures.Situation.{picture_of};
-ghost use Rattle.snoop_model.specs.Pictures.Sound.{line_at};
+ghost use Rattle.snoop_model.specs.Pictures.Picture.{held_by};
 ghost use Rattle.snoop_model.specs.Moves.Move.{Fills, ArrivesAtMemory, Responds, came_of};
 ghost use Rattle.snoop_model.specs.Moves.StepMove.{IsDenied};
 ghost use Rattle.snoop_machine.specs.Plan.{IsPlanFor};
@@ -14,7 +14,7 @@ ghost use Rattle.snoop_model.specs.Invariant.Invariant.{Invariant};
 ghost use Rattle.snoop_model.specs.Moves.Refuses.{Refuses};
 ghost use Rattle.snoop_model.specs.declared.replies.Refused.{Refused};
 
-use super::{Parts, no_memory};
+use super::Parts;
 use crate::plan::Plan;
 use crate::respond::{Filled, arrive, fill};
 use snoop_bus::Open;
@@ -24,14 +24,6 @@ use snoop_rules::Request;
 use snoop_trace::{Block, Kept};
 
 impl<B: Block> Parts<B> {
-    /// The block's open transaction.
-    fn transaction(&self, block: u32) -> Option<Open<Kept<B>>>
-        ensures value { result ≡ (picture_of self.now.situation block).transaction }
-        ensures within { IfSome result (λ closing. (closing.block ≡ block) × (closing.core < self.now.situation.shape.cores)) }
-    {
-        self.bus.open(block)
-    }
-
     /// What a Respond will do, of a block that there is.
     #[inline(always)]
     pub(super) fn plan_respond(&self, block: u32) -> Result<Plan<Kept<B>>, Refused>
@@ -44,7 +36,7 @@ impl<B: Block> Parts<B> {
         let Some(closing) = self.transaction(block) else {
             return Err(Refused::NoTransaction);
         };
-        let before = self.memory.get_or(block, no_memory());
+        let before = self.memory_line(block);
         let memory = arrive(self.protocol, before, &closing);
         if matches!(&closing.request, Request::PutM) {
             return Ok(Plan::Writeback {
@@ -71,7 +63,9 @@ impl<B: Block> Parts<B> {
         closing: Open<Kept<B>>,
         memory: MemLine<Kept<B>>,
     )
+        requires core { closing.core < self.old.situation.shape.cores }
         requires block { block < self.old.situation.shape.blocks }
+        requires its { closing.block ≡ block }
         requires room { 0 < self.old.room }
         requires opened { (picture_of self.old.situation block).transaction ≡ Some closing }
         requires put { closing.request ≡ PutM }
@@ -100,7 +94,7 @@ impl<B: Block> Parts<B> {
         requires room { 0 < self.old.room }
         requires opened { (picture_of self.old.situation block).transaction ≡ Some closing }
         requires get { closing.request ≢ PutM }
-        requires filled { Fills closing self.old.situation.protocol (line_at self.old.situation.caches closing.core block) filled.line filled.access filled.value }
+        requires filled { Fills closing self.old.situation.protocol (held_by (picture_of self.old.situation block) closing.core) filled.line filled.access filled.value }
         requires word { IsWord self.old.situation.shape filled.access.word }
         requires memory { ArrivesAtMemory closing self.old.situation.protocol (picture_of self.old.situation block).memory memory }
         ensures responded { Responds self.old.situation block closing (Some result) self.new.situation }

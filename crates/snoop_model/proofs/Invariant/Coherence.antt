@@ -1,6 +1,6 @@
 -- What the invariant says of a situation: one writer, current copies and memory, all rows, one sender.
 use Rattle.std.proofs.Common.{◌≡◌, ◌≢◌, ℕ, true, false, not, ◌||◌, List, [], length, Option, Some, None, refl, ◌⊎◌, inl, inr, ap, sym, ◌∙◌, subst, arith}
-use Rattle.std.specs.Prelude.{◌<◌, slice_index_or, IfSome, IsSomeAnd}
+use Rattle.std.specs.Prelude.{◌<◌, IfSome, IsSomeAnd, ◌≤◌}
 use Rattle.std.proofs.lemmas.Bool.{cases_lt, and_parts, eq-eqb}
 use Rattle.std.proofs.lemmas.List.{get_or_past}
 use Rattle.std.proofs.lemmas.Option.{same_Some}
@@ -28,8 +28,8 @@ use Rattle.snoop_history.specs.History.{flat_words}
 use Rattle.snoop_history.specs.Totals.{is_put_m}
 use Rattle.snoop_bus.specs.Traffic.{Open}
 use Rattle.snoop_model.specs.Pictures.Lines.{Line}
-use Rattle.snoop_model.specs.Pictures.Picture.{Picture, held_at, held_by, nothing_held}
-use Rattle.snoop_model.specs.Pictures.Situation.{Situation, picture_of, state_of, Waits, CanOrder}
+use Rattle.snoop_model.specs.Pictures.Picture.{Picture, held_by, nothing_held}
+use Rattle.snoop_model.specs.Pictures.Situation.{Situation, picture_of, state_of, Waits, CanOrder, nothing_there}
 use Rattle.snoop_model.specs.Moves.Move.{IsWithin}
 use Rattle.snoop_model.specs.Moves.LookUps.{HasRow, HasMemRow, ConsultsCache, ConsultsMemory, FindsRows}
 use Rattle.snoop_model.specs.Pictures.OneWriter.{OneWriter, IsWriter}
@@ -49,6 +49,10 @@ use Rattle.snoop_model.proofs.Tables.SenderLines.{led_line, sender_state}
 use Rattle.snoop_model.proofs.Tables.StateTests.{is_hit, hit_rule, owner_reads, brings_data, resting_rule}
 use Rattle.snoop_model.specs.Pictures.Sound.{keeps}
 
+-- a block outside the shape has nothing
+outside : (s : Situation) → Invariant s → (block : ℕ) → s.shape.blocks ≤ block → picture_of s block ≡ nothing_there
+outside s g block past = let long = g.shaped.pictures in get_or_past s.pictures block nothing_there (omega arith)
+
 -- a core and a block within the shape, or a core that holds nothing of it
 pub place : (s : Situation) → Invariant s → (core block : ℕ) → IsWithin s core block ⊎ (held_by (picture_of s block) core ≡ nothing_held)
 place s g core block = elim (cases_lt block s.shape.blocks) [
@@ -59,9 +63,7 @@ place s g core block = elim (cases_lt block s.shape.blocks) [
         inr (get_or_past (picture_of s block).caches core nothing_held (omega arith))
   ]
   | inr past ↦
-      let long : length s.caches ≡ s.shape.blocks = g.shaped.rows in
-      let empty : slice_index_or s.caches block [] ≡ [] = get_or_past s.caches block [] (omega arith) in
-      inr (ap (λ (x : List Line). held_at x core) empty ∙ get_or_past [] core nothing_held (omega arith))
+      inr (ap (λ (x : Picture). held_by x core) (outside s g block past) ∙ get_or_past [] core nothing_held (omega arith))
 ]
 
 -- a core that holds nothing may neither read nor write, and waits for nothing
@@ -158,8 +160,7 @@ opened_within : (s : Situation) → Invariant s → (block : ℕ) (o : Open) →
 opened_within s g block o is = elim (cases_lt block s.shape.blocks) [
   | inl within ↦ within
   | inr past ↦
-      let long : length s.transactions ≡ s.shape.blocks = g.shaped.transactions in
-      let empty : (picture_of s block).transaction ≡ None = get_or_past s.transactions block None (omega arith) in
+      let empty : (picture_of s block).transaction ≡ None = ap (λ (x : Picture). x.transaction) (outside s g block past) in
       cc
 ]
 

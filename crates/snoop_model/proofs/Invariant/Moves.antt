@@ -26,22 +26,18 @@ use Rattle.snoop_bus.specs.Queues.{after_order}
 use Rattle.snoop_bus.specs.Traffic.{Open}
 use Rattle.snoop_model.specs.declared.replies.Reply.{Reply}
 use Rattle.snoop_model.specs.declared.line.Access.{Access}
-use Rattle.snoop_model.specs.Pictures.Lines.{Line, MemLine}
-use Rattle.snoop_model.specs.Pictures.Picture.{Picture, held_at, held_by, nothing_held}
-use Rattle.snoop_model.specs.Pictures.Situation.{Situation, picture_of, with_picture}
+use Rattle.snoop_model.specs.Pictures.Lines.{Line}
+use Rattle.snoop_model.specs.Pictures.Picture.{Picture, held_at, held_by, nothing_held, with_line}
+use Rattle.snoop_model.specs.Pictures.Situation.{Situation, picture_of}
 use Rattle.snoop_model.specs.Moves.Move.{Takes, FillsRequestor, ArrivesFor, Asks, Orders, Responds, IsWithin, MoveOn, kept_waiting, queues_after, came_of}
 use Rattle.snoop_model.specs.Invariant.Block.{BlockInvariant}
 use Rattle.snoop_model.specs.Invariant.Invariant.{Invariant}
 use Rattle.snoop_model.proofs.OneBlock.Operation.{did_in, flat_after, IsLawful}
-use Rattle.snoop_model.proofs.OneBlock.OfBlocks.{asked_picture, asked_other, next_picture, next_other}
+use Rattle.snoop_model.proofs.OneBlock.OfBlocks.{changed, in_pictures, picture_here, picture_elsewhere, shaped_after}
 use Rattle.snoop_model.proofs.Invariant.FlatMemory.{IsOn, FollowsIn, flat_logged, legal_logged, next_lawful}
 use Rattle.snoop_model.proofs.OneBlock.AskStep.{ask_keeps}
 use Rattle.snoop_model.proofs.OneBlock.OrderStep.{order_keeps}
 use Rattle.snoop_model.proofs.OneBlock.RespondStep.{respond_keeps}
-
--- one block changes, and these lists with it
-abbrev changed : Situation → List (List Line) → List MemLine → List (Option Open) → List (List ℕ) → Option Item → Situation
-changed old caches memory transactions queues entry = record old { caches = caches; memory = memory; transactions = transactions; queues = queues; log = old.log ++ option_to_list entry }
 
 -- the operation's core, block and word are within the shape
 abbrev IsLogged : Situation → Did → Type 0
@@ -60,49 +56,41 @@ all_logged P log (Some entry) was now =
     one_logged (item.Came came None) here = All-nil P
 
 -- what is to be shown of a move
-pub record Keeps (old : Situation) (block : ℕ) (caches : List (List Line)) (memory : List MemLine) (transactions : List (Option Open)) (queues : List (List ℕ)) (entry : Option Item) : Type 0 where
-  pub as_many_rows : length caches ≡ length old.caches
-  pub as_much_memory : length memory ≡ length old.memory
+pub record Keeps (old : Situation) (block : ℕ) (next : Picture) (queues : List (List ℕ)) (entry : Option Item) : Type 0 where
+  pub within : block < old.shape.blocks
+  pub as_wide : length next.caches ≡ length (picture_of old block).caches
   pub as_many_queues : length queues ≡ length old.queues
-  pub as_many_transactions : length transactions ≡ length old.transactions
-  pub others : (b : ℕ) → b ≢ block → picture_of (changed old caches memory transactions queues entry) b ≡ picture_of old b
-  pub row : length (picture_of (changed old caches memory transactions queues entry) block).caches ≡ old.shape.cores
-  pub opened : (o : Open) → (picture_of (changed old caches memory transactions queues entry) block).transaction ≡ Some o → o.block ≡ block
+  pub opened : (o : Open) → next.transaction ≡ Some o → o.block ≡ block
   pub on : IsOn block (did_in entry)
-  pub block_after : BlockInvariant old.protocol old.shape.cores (flat_after (flat_words old.log block) (did_in entry)) (picture_of (changed old caches memory transactions queues entry) block)
+  pub block_after : BlockInvariant old.protocol old.shape.cores (flat_after (flat_words old.log block) (did_in entry)) next
   pub follows : FollowsIn old.log entry
-  pub accesses : (core : ℕ) (access : Access) → (held_by (picture_of (changed old caches memory transactions queues entry) block) core).waiting ≡ Some access → IsWord old.shape access.word
+  pub accesses : (core : ℕ) (access : Access) → (held_by next core).waiting ≡ Some access → IsWord old.shape access.word
   pub logged : IfSome (did_in entry) (IsLogged old)
 
-kept : (old : Situation) (block : ℕ) (caches : List (List Line)) (memory : List MemLine) (transactions : List (Option Open)) (queues : List (List ℕ)) (entry : Option Item) → Invariant old → Keeps old block caches memory transactions queues entry → Invariant (changed old caches memory transactions queues entry)
-kept old block caches memory transactions queues entry g k =
-    let new : Situation = changed old caches memory transactions queues entry in
+kept : (old : Situation) (block : ℕ) (next : Picture) (queues : List (List ℕ)) (entry : Option Item) → Invariant old → Keeps old block next queues entry → Invariant (changed old block next queues (old.log ++ option_to_list entry))
+kept old block next queues entry g k =
+    let log = old.log ++ option_to_list entry in
+    let new : Situation = changed old block next queues log in
+    let here : picture_of new block ≡ next = picture_here old block next queues log (in_pictures old block g.shaped k.within) in
+    let others : (b : ℕ) → b ≢ block → picture_of new b ≡ picture_of old b = picture_elsewhere old block next queues log in
+    let at : (b : ℕ) → b ≡ block → picture_of new b ≡ next = λ b e. ap (picture_of new) e ∙ here in
     record {
-      shaped = record {
-        rows = k.as_many_rows ∙ g.shaped.rows;
-        memory = k.as_much_memory ∙ g.shaped.memory;
-        queues = k.as_many_queues ∙ g.shaped.queues;
-        transactions = k.as_many_transactions ∙ g.shaped.transactions;
-        row = λ b b_in. elim (eqb_tells b block) as (λ _. length (picture_of new b).caches ≡ old.shape.cores) [
-          | inl h ↦ subst (λ (x : ℕ). length (picture_of new x).caches ≡ old.shape.cores) (sym h.1) k.row
-          | inr h ↦ ap (λ (x : Picture). length x.caches) (k.others b h.1) ∙ g.shaped.row b b_in
-        ];
-      };
+      shaped = shaped_after old block next queues log g.shaped k.as_wide k.as_many_queues;
       opened = λ b o is_open. elim (eqb_tells b block) as (λ _. o.block ≡ b) [
-        | inl h ↦ k.opened o (subst (λ (x : ℕ). (picture_of new x).transaction ≡ Some o) h.1 is_open) ∙ sym h.1
-        | inr h ↦ g.opened b o (ap (λ (x : Picture). x.transaction) (sym (k.others b h.1)) ∙ is_open)
+        | inl h ↦ k.opened o (ap (λ (x : Picture). x.transaction) (sym (at b h.1)) ∙ is_open) ∙ sym h.1
+        | inr h ↦ g.opened b o (ap (λ (x : Picture). x.transaction) (sym (others b h.1)) ∙ is_open)
       ];
       blocks = λ b b_in.
           let v : flat_words new.log b ≡ cond (eqb block b) (flat_after (flat_words old.log b) (did_in entry)) (flat_words old.log b) = flat_logged old.log entry block b k.on in
           subst (λ (x : List ℕ). BlockInvariant old.protocol old.shape.cores x (picture_of new b)) (sym v) (elim (eqb_tells block b) as (λ _. BlockInvariant old.protocol old.shape.cores (cond (eqb block b) (flat_after (flat_words old.log b) (did_in entry)) (flat_words old.log b)) (picture_of new b)) [
-            | inl h ↦ rw h.0 (subst (λ (x : ℕ). BlockInvariant old.protocol old.shape.cores (flat_after (flat_words old.log x) (did_in entry)) (picture_of new x)) h.1 k.block_after)
-            | inr h ↦ rw h.0 (subst (λ (x : Picture). BlockInvariant old.protocol old.shape.cores (flat_words old.log b) x) (sym (k.others b (λ e. h.1 (sym e)))) (g.blocks b b_in))
+            | inl h ↦ rw h.0 (subst (λ (x : Picture). BlockInvariant old.protocol old.shape.cores (flat_after (flat_words old.log b) (did_in entry)) x) (sym (at b (sym h.1))) (subst (λ (x : ℕ). BlockInvariant old.protocol old.shape.cores (flat_after (flat_words old.log x) (did_in entry)) next) h.1 k.block_after))
+            | inr h ↦ rw h.0 (subst (λ (x : Picture). BlockInvariant old.protocol old.shape.cores (flat_words old.log b) x) (sym (others b (λ e. h.1 (sym e)))) (g.blocks b b_in))
           ]);
       legal = legal_logged old.log entry g.legal k.follows;
       logged = all_logged (IsLogged old) old.log entry g.logged k.logged;
       accesses = λ core b access waits. elim (eqb_tells b block) as (λ _. IsWord old.shape access.word) [
-        | inl h ↦ k.accesses core access (subst (λ (x : ℕ). (held_by (picture_of new x) core).waiting ≡ Some access) h.1 waits)
-        | inr h ↦ g.accesses core b access (ap (λ (x : Picture). (held_by x core).waiting) (sym (k.others b h.1)) ∙ waits)
+        | inl h ↦ k.accesses core access (ap (λ (x : Picture). (held_by x core).waiting) (sym (at b h.1)) ∙ waits)
+        | inr h ↦ g.accesses core b access (ap (λ (x : Picture). (held_by x core).waiting) (sym (others b h.1)) ∙ waits)
       ];
     }
 
@@ -166,70 +154,54 @@ pub ask_moves : (old : Situation) (core block word : ℕ) (asking : Op) (answer 
 ask_moves old core block word asking answer new entry g within there a =
     let before : Picture = picture_of old block in
     let cores : length before.caches ≡ old.shape.cores = g.shaped.row block within.1 in
-    let after : Picture = record before { caches = slice_set before.caches core a.held } in
-    let in_caches : block < length old.caches = subst (λ (n : ℕ). block < n) (sym g.shaped.rows) within.1 in
+    let after : Picture = with_line before core a.held in
     let in_row : core < length before.caches = subst (λ (n : ℕ). core < n) (sym cores) within.0 in
     let k = ask_keeps old core block word asking answer new entry a old.shape.cores (flat_words old.log block) (g.blocks block within.1) within.0 in_row in
-    let caches = slice_set old.caches block after.caches in
     let queues = queues_after a.row.action old.queues core block in
-    let log = old.log ++ option_to_list entry in
-    let here : picture_of (changed old caches old.memory old.transactions queues entry) block ≡ after = asked_picture old block after.caches queues log in_caches in
-    let whole : Keeps old block caches old.memory old.transactions queues entry = record {
-      as_many_rows = length-set old.caches block after.caches;
-      as_much_memory = refl;
+    let whole : Keeps old block after queues entry = record {
+      within = within.1;
+      as_wide = length-set before.caches core a.held;
       as_many_queues = as_many_after a.row.action old.queues core block;
-      as_many_transactions = refl;
-      others = λ b apart. asked_other old block b after.caches queues log apart;
-      row = ap (λ (x : Picture). length x.caches) here ∙ (length-set before.caches core a.held ∙ cores);
       opened = λ o is_open. g.opened block o is_open;
       on = takes_on a.row.action a.row.next old.log core block word asking (held_by before core) a.held answer entry a.taken;
-      block_after = subst (λ (x : Picture). BlockInvariant old.protocol old.shape.cores (flat_after (flat_words old.log block) (did_in entry)) x) (sym here) k.0;
+      block_after = k.0;
       follows = takes_follows a.row.action a.row.next old.log core block word asking (held_by before core) a.held answer entry a.taken
           (λ hit. (hit_word old a.row.next old.log core block word asking (held_by before core) a.held answer entry there (subst (λ (x : CacheAction). Takes x a.row.next old.log core block word asking (held_by before core) a.held answer entry) hit a.taken)).1) k.1;
       logged = takes_logged old a.row.action a.row.next old.log core block word asking (held_by before core) a.held answer entry a.taken within there;
       accesses = λ c access waits.
-          let now : (held_by after c).waiting ≡ Some access = ap (λ (x : Picture). (held_by x c).waiting) (sym here) ∙ waits in
           elim (eqb_tells c core) as (λ _. IsWord old.shape access.word) [
             | inl h ↦ takes_access old a.row.action a.row.next old.log core block word asking (held_by before core) a.held answer entry a.taken there (g.accesses core block) access
-                (ap (λ (x : Line). x.waiting) (sym (get_or-set_same before.caches core a.held nothing_held in_row)) ∙ subst (λ (x : ℕ). (held_by after x).waiting ≡ Some access) h.1 now)
-            | inr h ↦ g.accesses c block access (ap (λ (x : Line). x.waiting) (sym (get_or-set_other before.caches core c a.held nothing_held h.1)) ∙ now)
+                (ap (λ (x : Line). x.waiting) (sym (get_or-set_same before.caches core a.held nothing_held in_row)) ∙ subst (λ (x : ℕ). (held_by after x).waiting ≡ Some access) h.1 waits)
+            | inr h ↦ g.accesses c block access (ap (λ (x : Line). x.waiting) (sym (get_or-set_other before.caches core c a.held nothing_held h.1)) ∙ waits)
           ];
     } in
-    subst Invariant (sym a.after) (kept old block caches old.memory old.transactions queues entry g whole)
+    subst Invariant (sym a.after) (kept old block after queues entry g whole)
 
 pub order_moves : (old : Situation) (core block : ℕ) (q : Request) (new : Situation) → Invariant old → IsWithin old core block → Orders old core block q new → Invariant new
 order_moves old core block q new g within o =
     let before : Picture = picture_of old block in
     let cores : length before.caches ≡ old.shape.cores = g.shaped.row block within.1 in
     let in_row : core < length before.caches = subst (λ (n : ℕ). core < n) (sym cores) within.0 in
-    let at : (n : ℕ) → n ≡ old.shape.blocks → block < n = λ n e. subst (λ (x : ℕ). block < x) (sym e) within.1 in
     let good : BlockInvariant old.protocol (length before.caches) (flat_words old.log block) before = subst (λ (n : ℕ). BlockInvariant old.protocol n (flat_words old.log block) before) (sym cores) (g.blocks block within.1) in
     let k = subst (λ (n : ℕ). BlockInvariant old.protocol n (flat_words old.log block) o.next) cores (order_keeps old core block q new (flat_words old.log block) good in_row o) in
-    let w = with_picture old block o.next in
     let entry : Option Item = Some (item.Sent (record { core = core; request = q; block = block })) in
     let queues = after_order old.queues core block in
-    let log = old.log ++ option_to_list entry in
-    let here : picture_of (changed old w.caches w.memory w.transactions queues entry) block ≡ o.next = next_picture old block o.next queues log (at (length old.caches) g.shaped.rows) (at (length old.memory) g.shaped.memory) (at (length old.transactions) g.shaped.transactions) in
-    let whole : Keeps old block w.caches w.memory w.transactions queues entry = record {
-      as_many_rows = length-set old.caches block o.next.caches;
-      as_much_memory = length-set old.memory block o.next.memory;
+    let whole : Keeps old block o.next queues entry = record {
+      within = within.1;
+      as_wide = o.taken.same_length;
       as_many_queues = length-set old.queues core _;
-      as_many_transactions = length-set old.transactions block o.next.transaction;
-      others = λ b apart. next_other old block b o.next queues log apart;
-      row = ap (λ (x : Picture). length x.caches) here ∙ (o.taken.same_length ∙ cores);
-      opened = λ t is_open. opened_block o.next.transaction _ t o.opened (ap (λ (x : Picture). x.transaction) (sym here) ∙ is_open);
+      opened = λ t is_open. opened_block o.next.transaction _ t o.opened is_open;
       on = tt;
       logged = tt;
-      block_after = subst (λ (x : Picture). BlockInvariant old.protocol old.shape.cores (flat_words old.log block) x) (sym here) k;
+      block_after = k;
       follows = tt;
       accesses = λ c access waits.
-          let now : (held_by o.next c).waiting ≡ Some access = ap (λ (x : Picture). (held_by x c).waiting) (sym here) ∙ waits in
           elim (cases_lt c (length before.caches)) as (λ _. IsWord old.shape access.word) [
-            | inl inside ↦ g.accesses c block access (sym (ap (λ (x : Line). x.waiting) (o.taken.rows c inside).2) ∙ now)
-            | inr past ↦ no_access old.shape nothing_held refl access (ap (λ (x : Line). x.waiting) (sym (get_or_past o.next.caches c nothing_held (subst (λ (n : ℕ). n ≤ c) (sym o.taken.same_length) past))) ∙ now)
+            | inl inside ↦ g.accesses c block access (sym (ap (λ (x : Line). x.waiting) (o.taken.rows c inside).2) ∙ waits)
+            | inr past ↦ no_access old.shape nothing_held refl access (ap (λ (x : Line). x.waiting) (sym (get_or_past o.next.caches c nothing_held (subst (λ (n : ℕ). n ≤ c) (sym o.taken.same_length) past))) ∙ waits)
           ];
     } in
-    subst Invariant (sym o.after) (kept old block w.caches w.memory w.transactions queues entry g whole)
+    subst Invariant (sym o.after) (kept old block o.next queues entry g whole)
   where
     opened_block : (found : Option Open) (t u : Open) → found ≡ Some t → found ≡ Some u → u.block ≡ t.block
     opened_block found t u e f = let same : t ≡ u = cc in ap (λ (x : Open). x.block) (sym same)
@@ -285,28 +257,21 @@ respond_moves old block closing did new g within r =
     let cores : length before.caches ≡ old.shape.cores = g.shaped.row block within in
     let placed : closing.block ≡ block = g.opened block closing r.opened in
     let in_row : closing.core < length before.caches = subst (λ (n : ℕ). closing.core < n) (sym cores) ((g.blocks block within).requestor_in closing r.opened) in
-    let at : (n : ℕ) → n ≡ old.shape.blocks → block < n = λ n e. subst (λ (x : ℕ). block < x) (sym e) within in
     let k = respond_keeps old block closing did new r old.shape.cores (flat_words old.log block) (g.blocks block within) in_row in
-    let w = with_picture old block r.next in
     let entry : Option Item = Some (item.Came (came_of closing) did) in
-    let log = old.log ++ option_to_list entry in
-    let here : picture_of (changed old w.caches w.memory w.transactions old.queues entry) block ≡ r.next = next_picture old block r.next old.queues log (at (length old.caches) g.shaped.rows) (at (length old.memory) g.shaped.memory) (at (length old.transactions) g.shaped.transactions) in
-    let whole : Keeps old block w.caches w.memory w.transactions old.queues entry = record {
-      as_many_rows = length-set old.caches block r.next.caches;
-      as_much_memory = length-set old.memory block r.next.memory;
+    let whole : Keeps old block r.next old.queues entry = record {
+      within = within;
+      as_wide = arrives_length closing.request closing old.protocol old.log before.caches r.next.caches did r.requestor;
       as_many_queues = refl;
-      as_many_transactions = length-set old.transactions block r.next.transaction;
-      others = λ b apart. next_other old block b r.next old.queues log apart;
-      row = ap (λ (x : Picture). length x.caches) here ∙ (arrives_length closing.request closing old.protocol old.log before.caches r.next.caches did r.requestor ∙ cores);
-      opened = λ t is_open. absurd (none_open r.next.transaction t r.closed (ap (λ (x : Picture). x.transaction) (sym here) ∙ is_open));
+      opened = λ t is_open. absurd (none_open r.next.transaction t r.closed is_open);
       on = arrives_on closing.request block closing old.protocol old.log before.caches r.next.caches did placed r.requestor;
-      block_after = subst (λ (x : Picture). BlockInvariant old.protocol old.shape.cores (flat_after (flat_words old.log block) did) x) (sym here) k.0;
+      block_after = k.0;
       follows = arrives_follow closing.request block closing old.protocol old.log before.caches r.next.caches did placed r.requestor (λ access waits. (g.accesses closing.core block access waits).1) k.1;
       logged = arrives_logged old closing.request closing old.protocol old.log before.caches r.next.caches did
           ((g.blocks block within).requestor_in closing r.opened, subst (λ (b : ℕ). b < old.shape.blocks) (sym placed) within) r.requestor (g.accesses closing.core block);
-      accesses = λ c access waits. arrives_access old.shape closing.request closing old.protocol old.log before.caches r.next.caches did in_row r.requestor (λ d. g.accesses d block) c access (ap (λ (x : Picture). (held_by x c).waiting) (sym here) ∙ waits);
+      accesses = λ c access waits. arrives_access old.shape closing.request closing old.protocol old.log before.caches r.next.caches did in_row r.requestor (λ d. g.accesses d block) c access waits;
     } in
-    subst Invariant (sym r.after) (kept old block w.caches w.memory w.transactions old.queues entry g whole)
+    subst Invariant (sym r.after) (kept old block r.next old.queues entry g whole)
   where
     none_open : (found : Option Open) (t : Open) → found ≡ None → found ≡ Some t → ⊥
     none_open found t e f = cc

@@ -1,6 +1,6 @@
 -- Each open transaction is on a line of the table of senders, after each step of a run.
-use Rattle.std.proofs.Common.{◌≡◌, ℕ, ◌<◌, ◌∷◌, List, [], Option, Some, None, inl, inr, ap, sym, subst}
-use Rattle.std.specs.Prelude.{IfSome, Result, Ok, Err}
+use Rattle.std.proofs.Common.{◌≡◌, ℕ, ◌<◌, ◌∷◌, List, [], Option, Some, None, inl, inr, ap, sym, subst, refl, ◌++◌}
+use Rattle.std.specs.Prelude.{IfSome, Result, Ok, Err, option_to_list}
 use Rattle.std.proofs.lemmas.Bool.Decides.{eqb_tells}
 use Rattle.snoop_trace.specs.Extent.{Extent}
 use Rattle.snoop_trace.specs.declared.step.Step.{Step}
@@ -15,16 +15,16 @@ use Rattle.snoop_history.specs.declared.items.Item.{Item}
 use Rattle.snoop_bus.specs.Traffic.{Open}
 use Rattle.snoop_model.specs.declared.replies.Reply.{Reply}
 use Rattle.snoop_model.specs.declared.replies.Refused.{Refused}
-use Rattle.snoop_model.specs.Pictures.Picture.{Picture, held_by}
+use Rattle.snoop_model.specs.Pictures.Picture.{Picture, held_by, with_line}
 use Rattle.snoop_model.specs.Pictures.Situation.{Situation, picture_of, reset}
-use Rattle.snoop_model.specs.Moves.Move.{Orders, Responds, IsWithin, MoveOn}
+use Rattle.snoop_model.specs.Moves.Move.{Orders, Responds, IsWithin, MoveOn, queues_after}
 use Rattle.snoop_model.specs.Moves.SenderTable.{IsLine, IsOnLine}
 use Rattle.snoop_model.specs.Runs.Run.{Goes, RunFrom}
 use Rattle.snoop_model.specs.Invariant.Invariant.{Invariant}
 use Rattle.snoop_model.specs.Invariant.MachineKeeps.{AreOnLines}
 use Rattle.snoop_model.proofs.OneBlock.AfterMoves.{order_other_block, respond_other_block}
-use Rattle.snoop_model.proofs.Lists.Facts.{replicated}
-use Rattle.snoop_model.proofs.Invariant.Runs.{goes_keeps, refusal_same}
+use Rattle.snoop_model.proofs.OneBlock.OfBlocks.{same_everywhere}
+use Rattle.snoop_model.proofs.Invariant.Runs.{goes_keeps, refusal_same, reset_open}
 use Rattle.snoop_model.proofs.Invariant.TableLines.{order_is_by_table, respond_is_by_table}
 
 abbrev OnLine : Protocol → Picture → Type 0
@@ -54,11 +54,15 @@ respond_on_lines old block closing did new g lines within r b =
       | inr h ↦ subst (OnLine old.protocol) (sym (respond_other_block old block closing did new g within r b h.1)) (lines b)
     ])
 
+-- all but the lines
+abbrev without_lines : Picture → Picture
+without_lines picture = record picture { caches = [] }
+
 -- a move keeps the lines: an Ask changes neither memory nor a transaction
 pub move_on_lines : (block : ℕ) (old : Situation) (step : Step) (answer : Reply) (new : Situation) (entry : Option Item) → Invariant old → AreOnLines old → MoveOn block old step answer new entry → AreOnLines new
 move_on_lines block old (Ask core on word asking) answer new entry g lines m = elim m.moves as (λ _. AreOnLines new) [
   | inl idle ↦ subst AreOnLines (sym idle.3) lines
-  | inr a ↦ subst AreOnLines (sym a.after) lines
+  | inr a ↦ subst AreOnLines (sym a.after) (λ b. subst (OnLine old.protocol) (sym (same_everywhere old block (with_line (picture_of old block) core a.held) (queues_after a.row.action old.queues core block) (old.log ++ option_to_list entry) without_lines refl b)) (lines b))
 ]
 move_on_lines block old (Order core) answer new entry g lines m = order_on_lines old core block m.request new g lines m.within m.orders
 move_on_lines block old (Respond on) answer new entry g lines m = respond_on_lines old block m.closing m.did new g lines m.within m.responds
@@ -74,4 +78,4 @@ run_on_lines [] (outcome ∷ outcomes) old new g lines r = absurd r
 run_on_lines (step ∷ steps) [] old new g lines r = absurd r
 
 pub reset_on_lines : (p : Protocol) (shape : Extent) → AreOnLines (reset p shape)
-reset_on_lines p shape block = rw (replicated {X = Option Open} shape.blocks block None) tt
+reset_on_lines p shape block = rw (reset_open p shape block) tt

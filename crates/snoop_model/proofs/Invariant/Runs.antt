@@ -1,5 +1,5 @@
 -- The invariant holds at reset, and after each step of a run.
-use Rattle.std.proofs.Common.{Some, ◌≡◌, ℕ, zero, suc, map, ◌+◌, ◌<◌, List, [], ◌∷◌, length, replicate, true, false, Option, None, refl, inl, inr, ap, sym, ◌∙◌, subst, arith, get_or}
+use Rattle.std.proofs.Common.{Some, ◌≡◌, ℕ, zero, suc, map, ◌+◌, ◌<◌, ◌≤◌, List, [], ◌∷◌, length, replicate, true, false, Option, None, refl, inl, inr, ap, sym, ◌∙◌, subst, arith}
 use Rattle.std.specs.Prelude.{Result, Ok, Err}
 use Rattle.std.proofs.lemmas.Bool.{cases_lt}
 use Rattle.std.proofs.lemmas.List.{length-replicate, get_or-replicate, get_or_past}
@@ -11,26 +11,22 @@ use Rattle.snoop_history.specs.History.{flat, flat_words}
 use Rattle.snoop_trace.specs.declared.step.Step.{Step}
 use Rattle.snoop_trace.specs.declared.protocol.Protocol.{Protocol}
 use Rattle.snoop_trace.specs.declared.protocol.Protocol.TheVariants as protocol
-use Rattle.snoop_bus.specs.Traffic.{Open}
 use Rattle.snoop_model.specs.declared.line.Access.{Access}
 use Rattle.snoop_model.specs.Pictures.Lines.{Line}
 use Rattle.snoop_model.specs.declared.replies.Reply.{Reply}
 use Rattle.snoop_model.specs.declared.replies.Refused.{Refused}
 use Rattle.snoop_model.specs.declared.replies.Refused.TheVariants.{NoMemory}
-use Rattle.snoop_model.specs.Pictures.Picture.{Picture, held_at, held_by, nothing_held, first_memory}
-use Rattle.snoop_model.specs.Pictures.Situation.{Situation, picture_of, reset, no_memory}
+use Rattle.snoop_model.specs.Pictures.Picture.{Picture, held_by, nothing_held}
+use Rattle.snoop_model.specs.Pictures.Situation.{Situation, picture_of, reset, untouched, nothing_there}
 use Rattle.snoop_model.specs.Pictures.Sound.{keeps, IsProper}
 use Rattle.snoop_model.specs.Moves.Move.{IsWithin}
 use Rattle.snoop_model.specs.Runs.Run.{IsRefusal, Goes, RunFrom}
 use Rattle.snoop_model.specs.Invariant.Fits.{claims_of, is_owner, is_sharer, is_clean, wait_fits, in_protocol, same, fits}
 use Rattle.snoop_model.specs.Invariant.Block.{BlockInvariant}
 use Rattle.snoop_model.specs.Invariant.Invariant.{Invariant}
+use Rattle.snoop_model.specs.Invariant.WellKept.{IsShaped}
 use Rattle.snoop_model.proofs.Lists.Facts.{replicated}
 use Rattle.snoop_model.proofs.Invariant.Moves.{move_keeps}
-
--- a block at reset
-abbrev untouched : Protocol → ℕ → Picture
-untouched p n = record { caches = replicate n nothing_held; memory = record { state = first_memory p; value = zero_words }; transaction = None }
 
 pub nothing_proper : IsProper nothing_held
 nothing_proper = record { kept = refl; waiting = refl }
@@ -67,23 +63,33 @@ untouched_block protocol.Mesi n = record {
 }
 
 reset_picture : (p : Protocol) (shape : Extent) (block : ℕ) → block < shape.blocks → picture_of (reset p shape) block ≡ untouched p shape.cores
-reset_picture p shape block within =
-    let caches : get_or (replicate shape.blocks (replicate shape.cores nothing_held)) block [] ≡ replicate shape.cores nothing_held = get_or-replicate shape.blocks block (replicate shape.cores nothing_held) [] within in
-    let memory = get_or-replicate shape.blocks block (record { state = first_memory p; value = zero_words }) no_memory within in
-    let transaction : ◌≡◌ {A = Option Open} (get_or (replicate shape.blocks None) block None) None = replicated shape.blocks block None in
-    rw (caches, memory, transaction) refl
+reset_picture p shape block within = get_or-replicate shape.blocks block (untouched p shape.cores) nothing_there within
 
-reset_open : (p : Protocol) (shape : Extent) (block : ℕ) → (picture_of (reset p shape) block).transaction ≡ None
-reset_open p shape block = replicated shape.blocks block None
+-- a block outside the shape has nothing
+reset_past : (p : Protocol) (shape : Extent) (block : ℕ) → shape.blocks ≤ block → picture_of (reset p shape) block ≡ nothing_there
+reset_past p shape block past =
+    let long = length-replicate shape.blocks (untouched p shape.cores) in
+    get_or_past (replicate shape.blocks (untouched p shape.cores)) block nothing_there (omega arith)
+
+pub reset_open : (p : Protocol) (shape : Extent) (block : ℕ) → (picture_of (reset p shape) block).transaction ≡ None
+reset_open p shape block = elim (cases_lt block shape.blocks) [
+  | inl inside ↦ ap (λ (x : Picture). x.transaction) (reset_picture p shape block inside)
+  | inr past ↦ ap (λ (x : Picture). x.transaction) (reset_past p shape block past)
+]
 
 -- each line at reset
 pub reset_line : (p : Protocol) (shape : Extent) (core block : ℕ) → held_by (picture_of (reset p shape) block) core ≡ nothing_held
 reset_line p shape core block = elim (cases_lt block shape.blocks) [
   | inl inside ↦ ap (λ (x : Picture). held_by x core) (reset_picture p shape block inside) ∙ replicated shape.cores core nothing_held
-  | inr past ↦
-      let long = length-replicate shape.blocks (replicate shape.cores nothing_held) in
-      ap (λ (l : List Line). held_at l core) (get_or_past (replicate shape.blocks (replicate shape.cores nothing_held)) block [] (omega arith)) ∙ get_or_past [] core nothing_held (omega arith)
+  | inr past ↦ ap (λ (x : Picture). held_by x core) (reset_past p shape block past) ∙ get_or_past [] core nothing_held (omega arith)
 ]
+
+pub reset_shaped : (p : Protocol) (shape : Extent) → IsShaped (reset p shape)
+reset_shaped p shape = record {
+  pictures = length-replicate shape.blocks (untouched p shape.cores);
+  row = λ b within. ap (λ (x : Picture). length x.caches) (reset_picture p shape b within) ∙ length-replicate shape.cores nothing_held;
+  queues = length-replicate shape.cores [];
+}
 
 -- flat memory at reset
 flat_reset : (block : ℕ) → flat_words [] block ≡ zero_words
@@ -95,13 +101,7 @@ flat_reset block = sym (replicate-map 64 0)
 
 pub reset_invariant : (p : Protocol) (shape : Extent) → Invariant (reset p shape)
 reset_invariant p shape = record {
-  shaped = record {
-    rows = length-replicate shape.blocks (replicate shape.cores nothing_held);
-    row = λ b b_in. ap (λ (x : Picture). length x.caches) (reset_picture p shape b b_in) ∙ length-replicate shape.cores nothing_held;
-    memory = length-replicate shape.blocks (record { state = first_memory p; value = zero_words });
-    queues = length-replicate shape.cores [];
-    transactions = length-replicate shape.blocks None;
-  };
+  shaped = reset_shaped p shape;
   opened = λ b o is_open. (let none = reset_open p shape b in cc);
   blocks = λ b b_in. subst (BlockInvariant p shape.cores (flat_words [] b)) (sym (reset_picture p shape b b_in)) (subst (λ (ws : List ℕ). BlockInvariant p shape.cores ws (untouched p shape.cores)) (sym (flat_reset b)) (untouched_block p shape.cores));
   accesses = λ core b access waits. (let none = reset_line p shape core b in let e : ◌≡◌ {A = Option Access} None (Some access) = ap (λ (x : Line). x.waiting) (sym none) ∙ waits in cc);

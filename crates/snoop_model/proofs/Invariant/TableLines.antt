@@ -1,5 +1,5 @@
 -- Each Order that is taken is a line of the table of senders, and each Respond settles memory by the line of its transaction.
-use Rattle.std.proofs.Common.{◌≡◌, ℕ, ◌<◌, ◌++◌, ◌∷◌, [], length, Option, Some, None, refl, inl, inr, sym, ◌∙◌, ap, subst}
+use Rattle.std.proofs.Common.{◌≡◌, ℕ, ◌<◌, Option, Some, None, refl, inl, inr, sym, ◌∙◌, ap, subst}
 use Rattle.std.specs.Prelude.{IfSome}
 use Rattle.std.proofs.lemmas.Option.{same_Some}
 use Rattle.snoop_trace.specs.declared.step.Step.TheVariants.{Ask, Order, Respond}
@@ -16,37 +16,26 @@ use Rattle.snoop_rules.specs.declared.names.Payload.TheVariants as payload
 use Rattle.snoop_rules.specs.declared.names.MemCell.{MemCell}
 use Rattle.snoop_rules.specs.WhoSends.{Goes, SentAs}
 use Rattle.snoop_history.specs.declared.items.Did.{Did}
-use Rattle.snoop_history.specs.declared.items.Item.TheVariants as item
 use Rattle.snoop_bus.specs.Traffic.{Open}
-use Rattle.snoop_bus.specs.Queues.{after_order}
 use Rattle.snoop_model.specs.Pictures.Picture.{Picture}
 use Rattle.snoop_model.specs.Pictures.Situation.{Situation, picture_of}
 use Rattle.snoop_model.specs.Pictures.Sends.{Sends, value_sent}
-use Rattle.snoop_model.specs.Moves.Move.{IsWithin, Settles, Orders, Responds, ArrivesAtMemory, came_of}
+use Rattle.snoop_model.specs.Moves.Move.{IsWithin, Settles, Orders, Responds, ArrivesAtMemory}
 use Rattle.snoop_model.specs.Moves.SenderTable.{IsLine, IsOnLine, IsOrderedByTable, IsSettledByTable, IsOpenByTable, MovesAreByTable, GoesByTable}
 use Rattle.snoop_model.specs.Invariant.Invariant.{Invariant}
 use Rattle.snoop_model.specs.Invariant.MachineKeeps.{AreOnLines}
 use Rattle.snoop_model.proofs.Invariant.Coherence.{orders_follow_sender_table}
-use Rattle.snoop_model.proofs.OneBlock.OfBlocks.{next_picture}
+use Rattle.snoop_model.proofs.OneBlock.AfterMoves.{order_here, respond_here}
 use Rattle.snoop_model.proofs.Runs.AreOne.{sends_one}
-
--- a block that there is has its place in each list
-in_lists : (s : Situation) → Invariant s → (block : ℕ) → block < s.shape.blocks → (block < length s.caches) × (block < length s.memory) × (block < length s.transactions)
-in_lists s g block within =
-    let at : (n : ℕ) → n ≡ s.shape.blocks → block < n = λ n e. subst (λ (x : ℕ). block < x) (sym e) within in
-    (at (length s.caches) g.shaped.rows, at (length s.memory) g.shaped.memory, at (length s.transactions) g.shaped.transactions)
 
 pub order_is_by_table : (s : Situation) → Invariant s → (core block : ℕ) (q : Request) (new : Situation) → IsWithin s core block → Orders s core block q new → IsOrderedByTable s core block q new
 order_is_by_table s g core block q new within o =
     let p = s.protocol in
     let before : Picture = picture_of s block in
     let f = orders_follow_sender_table s g core block q o.ready in
-    let lists = in_lists s g block within.1 in
     let from : f.from ≡ o.from = o.sent.alone f.from f.payload f.sent.sends in
     let payload : f.payload ≡ o.payload = sends_one p before core q o.from f.payload o.payload (subst (λ (x : Option ℕ). Sends p before core q x f.payload) from f.sent.sends) o.sent.sends in
-    let there : picture_of new block ≡ o.next =
-    ap (λ (x : Situation). picture_of x block) o.after
-    ∙ next_picture s block o.next (after_order s.queues core block) (s.log ++ item.Sent (record { core = core; request = q; block = block }) ∷ []) lists.0 lists.1 lists.2 in
+    let there : picture_of new block ≡ o.next = order_here s core block q new g within o in
     let memory : f.next ≡ (picture_of new block).memory.state = (f.ordered.2 ∙ (ap (λ (row : MemCell). row.next) (same_Some _ _ (sym f.ordered.1 ∙ o.memory.1)) ∙ sym o.memory.2)) ∙ sym (ap (λ (x : Picture). x.memory.state) there) in
     record {
       from = o.from;
@@ -60,9 +49,7 @@ order_is_by_table s g core block q new within o =
 
 pub respond_is_by_table : (s : Situation) → Invariant s → (block : ℕ) (closing : Open) (did : Option Did) (new : Situation) → block < s.shape.blocks → Responds s block closing did new → IsSettledByTable s block new
 respond_is_by_table s g block closing did new within r =
-    let lists = in_lists s g block within in
-    let there : picture_of new block ≡ r.next =
-    ap (λ (x : Situation). picture_of x block) r.after ∙ next_picture s block r.next s.queues (s.log ++ item.Came (came_of closing) did ∷ []) lists.0 lists.1 lists.2 in
+    let there : picture_of new block ≡ r.next = respond_here s block closing did new g within r in
     record {
       closing = closing;
       opened = r.opened;

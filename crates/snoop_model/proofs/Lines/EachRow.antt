@@ -1,6 +1,6 @@
 -- The loop in which each core takes its row.
-use Rattle.std.proofs.Common.{◌≡◌, ℕ, ◌+◌, ◌<◌, ◌≤◌, List, [], length, sym, ◌∙◌, ap, subst, arith, inl, inr}
-use Rattle.std.specs.Prelude.{slice_index_or, slice_set}
+use Rattle.std.proofs.Common.{◌≡◌, ℕ, ◌+◌, ◌<◌, ◌≤◌, List, length, sym, ◌∙◌, ap, subst, arith, inl, inr}
+use Rattle.std.specs.Prelude.{slice_set}
 use Rattle.std.proofs.lemmas.Bool.{cases_eq, cases_lt}
 use Rattle.std.proofs.lemmas.List.{length-set, get_or-set_same, get_or-set_other}
 use Rattle.snoop_trace.specs.declared.protocol.Protocol.{Protocol}
@@ -12,9 +12,6 @@ use Rattle.snoop_rules.specs.Takers.{seen_by}
 use Rattle.snoop_model.specs.Pictures.Lines.{Line}
 use Rattle.snoop_model.specs.Pictures.Picture.{held_at, nothing_held}
 use Rattle.snoop_model.specs.Moves.Move.{TakesRow, moves_to}
-
-abbrev pub row_of : List (List Line) → ℕ → List Line
-row_of caches block = slice_index_or caches block []
 
 -- the cores below n have taken their rows, and the others have not
 pub record Taking (protocol : Protocol) (requestor : ℕ) (request : Request) (old new : List Line) (n : ℕ) : Type 0 where

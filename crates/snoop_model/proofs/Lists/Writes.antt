@@ -1,6 +1,6 @@
 -- What a write in one place does to a list of lists, and to sums over it.
-use Rattle.std.proofs.Common.{◌≡◌, ℕ, zero, suc, ◌+◌, ◌<◌, ◌≤◌, List, [], ◌∷◌, ◌++◌, length, filter, not, Bool, false, cond, Option, Some, None, refl, sym, ◌∙◌, ap, subst, arith, inl, inr, ◌⊎◌}
-use Rattle.std.specs.Prelude.{slice_index_or, slice_set, slice_get, All, ◌==◌, sum_by, count_by, is_some}
+use Rattle.std.proofs.Common.{◌≡◌, ℕ, zero, suc, ◌+◌, ◌<◌, ◌≤◌, List, [], ◌∷◌, ◌++◌, length, filter, not, Bool, false, cond, Option, Some, None, refl, sym, ◌∙◌, ap, subst, arith, inl, inr, ◌⊎◌, true}
+use Rattle.std.specs.Prelude.{slice_index_or, slice_set, slice_get, All, ◌==◌, sum_by, count_by}
 use Rattle.std.proofs.lemmas.Bool.{eq-eqb, cases_lt}
 use Rattle.std.proofs.lemmas.Option.{same_Some}
 use Rattle.std.proofs.lemmas.List.{set_past, get_or_past, length_push}
@@ -26,14 +26,6 @@ first_within xs i x h = elim (cases_lt i (length xs)) [
   | inr ge ↦
       let e : slice_index_or xs i [] ≡ [] = get_or_past xs i [] ge in
       let clash : ◌≡◌ {A = Option _} None (Some x) = sym (ap (λ l. slice_get l 0) e) ∙ h in
-      cc
-]
-
-pub some_within : {A : Type 0} (xs : List (Option A)) (i : ℕ) (x : A) → slice_index_or xs i None ≡ Some x → i < length xs
-some_within xs i x h = elim (cases_lt i (length xs)) [
-  | inl lt ↦ lt
-  | inr ge ↦
-      let clash : ◌≡◌ {A = Option _} None (Some x) = sym (get_or_past xs i None ge) ∙ h in
       cc
 ]
 
@@ -80,22 +72,20 @@ sum_ordered lines core block first =
     let left : List ℕ = filter (λ b. not (b == block)) (queue_of lines core) in
     omega (arith, sum_by-set (λ (l : List ℕ). length l) lines core left [] (first_within lines core block first), left_shorter (queue_of lines core) block first)
 
-abbrev pub open_one : {A : Type 0} → Option A → ℕ
-open_one t = cond (is_some t) 1 0
+-- 1 where it is so, else 0
+abbrev pub one : Bool → ℕ
+one t = cond t 1 0
 
-open_small : {A : Type 0} (t : Option A) → open_one t ≤ 1
-open_small None = omega arith
-open_small (Some a) = omega arith
+pub one_small : (t : Bool) → one t ≤ 1
+one_small true = omega arith
+one_small false = omega arith
 
--- one more is open at most, and one fewer where one closes
-pub count_opened : {A : Type 0} (ts : List (Option A)) (block : ℕ) (t : Option A) → count_by is_some (slice_set ts block t) ≤ count_by is_some ts + 1
-count_opened ts block t = elim (cases_lt block (length ts)) [
-  | inl lt ↦ omega (arith, sum_by-set (λ x. open_one x) ts block t None lt, open_small t)
-  | inr ge ↦ let e : count_by is_some (slice_set ts block t) ≡ count_by is_some ts = ap (λ l. count_by is_some l) (set_past ts block t ge) in omega arith
+-- how many pass a test before and after a write, which past the end of the list does nothing
+pub count_set : {A : Type 0} (test : A → Bool) (xs : List A) (i : ℕ) (a d : A) → test d ≡ false → count_by test (slice_set xs i a) + one (test (slice_index_or xs i d)) ≤ count_by test xs + one (test a)
+count_set test xs i a d none = elim (cases_lt i (length xs)) [
+  | inl lt ↦ omega (arith, sum_by-set (λ x. one (test x)) xs i a d lt)
+  | inr ge ↦
+      let same : count_by test (slice_set xs i a) ≡ count_by test xs = ap (λ l. count_by test l) (set_past xs i a ge) in
+      let nothing : one (test (slice_index_or xs i d)) ≡ 0 = ap (λ x. one (test x)) (get_or_past xs i d ge) ∙ ap one none in
+      omega arith
 ]
-
-pub count_closed : {A : Type 0} (ts : List (Option A)) (block : ℕ) (t : Option A) (x : A) → slice_index_or ts block None ≡ Some x → t ≡ None → count_by is_some (slice_set ts block t) + 1 ≤ count_by is_some ts
-count_closed ts block t x was is =
-    let before : open_one (slice_index_or ts block None) ≡ 1 = ap (λ o. open_one o) was in
-    let after : open_one t ≡ 0 = ap (λ o. open_one o) is in
-    omega (arith, sum_by-set (λ o. open_one o) ts block t None (some_within ts block x was), before, after)

@@ -18,7 +18,7 @@ use Rattle.snoop_history.specs.declared.items.Did.{Did}
 use Rattle.snoop_history.specs.declared.items.Item.{Item}
 use Rattle.snoop_model.specs.declared.replies.Reply.{Reply}
 use Rattle.snoop_model.specs.Pictures.Lines.{Line}
-use Rattle.snoop_model.specs.Pictures.Picture.{Picture, held_by, nothing_held}
+use Rattle.snoop_model.specs.Pictures.Picture.{Picture, held_by, nothing_held, with_line}
 use Rattle.snoop_model.specs.Pictures.Situation.{Situation, picture_of}
 use Rattle.snoop_model.specs.Pictures.Sound.{keeps, IsProper}
 use Rattle.snoop_model.specs.Moves.Move.{Takes, Asks}
@@ -112,7 +112,7 @@ module _ (s : Situation) (core block word : ℕ) (asking : Op) (answer : Reply) 
   before = picture_of s block
 
   abbrev after : Picture
-  after = record before { caches = slice_set before.caches core asks.held }
+  after = with_line before core asks.held
 
   here : held_by after core ≡ asks.held
   here = get_or-set_same before.caches core asks.held nothing_held in_row
@@ -144,7 +144,7 @@ module _ (s : Situation) (core block word : ℕ) (asking : Op) (answer : Reply) 
   ]
 
   -- an Ask keeps the invariant of a picture, and a load that it performs gives the flat value
-  pub ask_keeps : BlockInvariant s.protocol n (flat_after flat (did_in entry)) (record (picture_of s block) { caches = slice_set (picture_of s block).caches core asks.held }) × IsLawful flat (did_in entry)
+  pub ask_keeps : BlockInvariant s.protocol n (flat_after flat (did_in entry)) (with_line (picture_of s block) core asks.held) × IsLawful flat (did_in entry)
   ask_keeps =
       let hit_reads = rule AskTests.ask_hit_reads AskTests.ask_hit_reads_holds in
       let carry = rule AskTests.ask_carries AskTests.ask_carries_holds in

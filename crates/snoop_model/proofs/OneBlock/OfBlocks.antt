@@ -1,13 +1,14 @@
--- The pictures of the blocks after a move.
-use Rattle.std.proofs.Common.{◌≡◌, ◌≢◌, ℕ, ◌<◌, List, [], length, Option, None, ap, ◌∙◌}
-use Rattle.std.specs.Prelude.{slice_index_or, slice_set}
-use Rattle.std.proofs.lemmas.List.{get_or-set_same, get_or-set_other}
+-- One block has a new picture, and the others are as they were.
+use Rattle.std.proofs.Common.{◌≡◌, ◌≢◌, ℕ, ◌<◌, List, length, Option, inl, inr, ap, sym, ◌∙◌, subst}
+use Rattle.std.proofs.lemmas.List.{length-set, get_or-set_same, get_or-set_other}
 use Rattle.snoop_rules.specs.declared.names.MemState.{MemState}
 use Rattle.snoop_bus.specs.Traffic.{Open}
 use Rattle.snoop_history.specs.declared.items.Item.{Item}
 use Rattle.snoop_model.specs.Pictures.Lines.{Line, MemLine}
 use Rattle.snoop_model.specs.Pictures.Picture.{Picture}
-use Rattle.snoop_model.specs.Pictures.Situation.{Situation, picture_of, with_picture, no_memory}
+use Rattle.snoop_model.specs.Pictures.Situation.{Situation, picture_of, with_picture, nothing_there}
+use Rattle.snoop_model.specs.Invariant.WellKept.{IsShaped}
+use Rattle.snoop_model.proofs.Lists.Writes.{set_cases}
 
 pub same_picture : (caches caches' : List Line) (memory memory' : MemLine) (transaction transaction' : Option Open)
     → caches ≡ caches' → memory ≡ memory' → transaction ≡ transaction'
@@ -20,32 +21,31 @@ same_picture caches caches' memory memory' transaction transaction' e f h =
 pub same_memory : (state state' : MemState) (value value' : List ℕ) → state ≡ state' → value ≡ value' → ◌≡◌ {A = MemLine} (record { state = state; value = value }) (record { state = state'; value = value' })
 same_memory state state' value value' e f = ap (λ (x : MemState). record { state = x; value = value }) e ∙ ap (λ (x : List ℕ). record { state = state'; value = x }) f
 
--- the block that an Ask changes
-pub asked_picture : (s : Situation) (block : ℕ) (row : List Line) (queues : List (List ℕ)) (log : List Item) → block < length s.caches
-    → picture_of (record s { caches = slice_set s.caches block row; queues = queues; log = log }) block ≡ record (picture_of s block) { caches = row }
-asked_picture s block row queues log within =
-    ap (λ (x : List Line). record { caches = x; memory = (picture_of s block).memory; transaction = (picture_of s block).transaction }) (get_or-set_same s.caches block row [] within)
+-- a block of the shape has a picture
+pub in_pictures : (s : Situation) (block : ℕ) → IsShaped s → block < s.shape.blocks → block < length s.pictures
+in_pictures s block shaped within = subst (λ (n : ℕ). block < n) (sym shaped.pictures) within
 
-pub asked_other : (s : Situation) (block b : ℕ) (row : List Line) (queues : List (List ℕ)) (log : List Item) → b ≢ block
-    → picture_of (record s { caches = slice_set s.caches block row; queues = queues; log = log }) b ≡ picture_of s b
-asked_other s block b row queues log apart =
-    ap (λ (x : List Line). record { caches = x; memory = (picture_of s b).memory; transaction = (picture_of s b).transaction }) (get_or-set_other s.caches block b row [] apart)
+-- the situation after a move
+abbrev pub changed : Situation → ℕ → Picture → List (List ℕ) → List Item → Situation
+changed s block next queues log = record (with_picture s block next) { queues = queues; log = log }
 
--- the block that has a new picture
-pub next_picture : (s : Situation) (block : ℕ) (next : Picture) (queues : List (List ℕ)) (log : List Item) → block < length s.caches → block < length s.memory → block < length s.transactions
-    → picture_of (record (with_picture s block next) { queues = queues; log = log }) block ≡ next
-next_picture s block next queues log in_caches in_memory in_transactions =
-    let memory : slice_index_or (slice_set s.memory block next.memory) block no_memory ≡ next.memory = get_or-set_same s.memory block next.memory no_memory in_memory in
-    same_picture _ next.caches _ next.memory _ next.transaction
-    (get_or-set_same s.caches block next.caches [] in_caches)
-    memory
-    (get_or-set_same s.transactions block next.transaction None in_transactions)
+module _ (s : Situation) (block : ℕ) (next : Picture) (queues : List (List ℕ)) (log : List Item) where
+  pub picture_here : block < length s.pictures → picture_of (changed s block next queues log) block ≡ next
+  picture_here within = get_or-set_same s.pictures block next nothing_there within
 
-pub next_other : (s : Situation) (block b : ℕ) (next : Picture) (queues : List (List ℕ)) (log : List Item) → b ≢ block
-    → picture_of (record (with_picture s block next) { queues = queues; log = log }) b ≡ picture_of s b
-next_other s block b next queues log apart =
-    let memory = get_or-set_other s.memory block b next.memory no_memory apart in
-    same_picture _ (picture_of s b).caches _ (picture_of s b).memory _ (picture_of s b).transaction
-    (get_or-set_other s.caches block b next.caches [] apart)
-    memory
-    (get_or-set_other s.transactions block b next.transaction None apart)
+  pub picture_elsewhere : (b : ℕ) → b ≢ block → picture_of (changed s block next queues log) b ≡ picture_of s b
+  picture_elsewhere b apart = get_or-set_other s.pictures block b next nothing_there apart
+
+  -- what the new picture leaves as it was is so of every block
+  pub same_everywhere : {A : Type 0} (f : Picture → A) → f next ≡ f (picture_of s block) → (b : ℕ) → f (picture_of (changed s block next queues log) b) ≡ f (picture_of s b)
+  same_everywhere f same b = elim (set_cases s.pictures block b next nothing_there) [
+    | inl p ↦ ap f p.1 ∙ (same ∙ ap (λ (x : ℕ). f (picture_of s x)) (sym p.0))
+    | inr e ↦ ap f e
+  ]
+
+  pub shaped_after : IsShaped s → length next.caches ≡ length (picture_of s block).caches → length queues ≡ length s.queues → IsShaped (changed s block next queues log)
+  shaped_after shaped as_wide as_many = record {
+    pictures = length-set s.pictures block next ∙ shaped.pictures;
+    row = λ b within. same_everywhere (λ (x : Picture). length x.caches) as_wide b ∙ shaped.row b within;
+    queues = as_many ∙ shaped.queues;
+  }

@@ -1,10 +1,7 @@
 -- A machine is well kept at reset, and stays so.
-use Rattle.std.proofs.Common.{◌≡◌, ℕ, List, [], length, replicate, Option, Some, None, sym, ◌∙◌, ap, subst, arith, inl, inr}
+use Rattle.std.proofs.Common.{◌≡◌, ℕ, List, [], Option, Some, None, sym, ◌∙◌, ap, subst, arith, inl, inr}
 use Rattle.std.specs.Prelude.{All, Contains}
-use Rattle.std.proofs.lemmas.Bool.{cases_lt}
-use Rattle.std.proofs.lemmas.List.{length-replicate, get_or-replicate, get_or_past}
 use Rattle.snoop_trace.specs.Extent.{Extent}
-use Rattle.snoop_trace.specs.Words.{zero_words}
 use Rattle.snoop_trace.specs.declared.step.Step.TheVariants.{Ask, Order, Respond}
 use Rattle.snoop_trace.specs.declared.protocol.Protocol.{Protocol}
 use Rattle.snoop_rules.specs.declared.names.Request.{Request}
@@ -13,12 +10,12 @@ use Rattle.snoop_bus.specs.Traffic.{Open}
 use Rattle.snoop_bus.specs.Queues.{queue_of}
 use Rattle.snoop_model.specs.declared.line.Access.{Access}
 use Rattle.snoop_model.specs.Pictures.Lines.{Line}
-use Rattle.snoop_model.specs.Pictures.Picture.{first_memory, held_at, held_by, nothing_held}
-use Rattle.snoop_model.specs.Pictures.Situation.{Situation, picture_of, reset}
+use Rattle.snoop_model.specs.Pictures.Situation.{Situation, reset}
 use Rattle.snoop_model.specs.Turns.Serving.{IsServing}
 use Rattle.snoop_model.specs.Invariant.WellKept.{IsWellKept, awaited_request}
 use Rattle.snoop_model.specs.Turns.TurnRule.{StartsWell, KeepsWell}
 use Rattle.snoop_model.proofs.Lists.Facts.{replicated}
+use Rattle.snoop_model.proofs.Invariant.Runs.{reset_line, reset_open, reset_shaped}
 use Rattle.snoop_model.proofs.Queues.Asks.{kept_asks}
 use Rattle.snoop_model.proofs.Queues.Orders.{kept_orders}
 use Rattle.snoop_model.proofs.Queues.Responds.{kept_responds}
@@ -29,44 +26,27 @@ keeps_well s t (Ask core on word asking) answer entry kept move = elim move.1.1.
   | inr asks ↦ kept_asks s t core move.0 word asking answer entry kept move.1.1.within asks
 ]
 keeps_well s t (Order core) answer entry kept move =
-    kept_orders s t kept core move.0 move.1.1.request move.1.1.within.0 move.1.1.within.1 move.1.1.orders
+    kept_orders s t core move.0 move.1.1.request kept move.1.1.within move.1.1.orders
 keeps_well s t (Respond on) answer entry kept move =
-    kept_responds s t kept move.0 move.1.1.closing move.1.1.did move.1.1.within move.1.1.responds
+    kept_responds s t move.0 move.1.1.closing move.1.1.did kept move.1.1.within move.1.1.responds
 
 module _ (protocol : Protocol) (shape : Extent) where
-  line_is : (k b : ℕ) → held_by (picture_of (reset protocol shape) b) k ≡ nothing_held
-  line_is k b = elim (cases_lt b shape.blocks) [
-    | inl lt ↦ ap (λ (r : List Line). held_at r k) (get_or-replicate shape.blocks b (replicate shape.cores nothing_held) [] lt) ∙ replicated shape.cores k nothing_held
-    | inr ge ↦
-        (let n = length-replicate shape.blocks (replicate shape.cores nothing_held) in
-        ap (λ (r : List Line). held_at r k) (get_or_past (replicate shape.blocks (replicate shape.cores nothing_held)) b [] (omega arith)))
-  ]
-
   queue_is : (k : ℕ) → queue_of (reset protocol shape).queues k ≡ []
   queue_is k = replicated shape.cores k []
 
-  open_is : (b : ℕ) → (picture_of (reset protocol shape) b).transaction ≡ None
-  open_is b = replicated shape.blocks b None
-
   kept_reset : IsWellKept (reset protocol shape)
   kept_reset = record {
-    shaped = record {
-      rows = length-replicate shape.blocks (replicate shape.cores nothing_held);
-      row = λ b h. ap length (get_or-replicate shape.blocks b (replicate shape.cores nothing_held) [] h) ∙ length-replicate shape.cores nothing_held;
-      memory = length-replicate shape.blocks (record { state = first_memory protocol; value = zero_words });
-      queues = length-replicate shape.cores [];
-      transactions = length-replicate shape.blocks None;
-    };
-    queued = λ k b q h. (let clash : ◌≡◌ {A = Option Request} None (Some q) = sym (ap (λ (x : Line). waiting_request x.state) (line_is k b)) ∙ h in cc);
+    shaped = reset_shaped protocol shape;
+    queued = λ k b q h. (let clash : ◌≡◌ {A = Option Request} None (Some q) = sym (ap (λ (x : Line). waiting_request x.state) (reset_line protocol shape k b)) ∙ h in cc);
     waits = λ k b h. (let P : List ℕ → Type 0 = λ l. Contains l b in let there : Contains [] b = subst P (queue_is k) h in let lt = there.1 in absurd (omega arith));
-    awaits = λ k b q h. (let clash : ◌≡◌ {A = Option Request} None (Some q) = sym (ap (λ (x : Line). awaited_request x.state) (line_is k b)) ∙ h in cc);
-    operations = λ k b access h. (let clash : ◌≡◌ {A = Option Access} None (Some access) = sym (ap (λ (x : Line). x.waiting) (line_is k b)) ∙ h in cc);
+    awaits = λ k b q h. (let clash : ◌≡◌ {A = Option Request} None (Some q) = sym (ap (λ (x : Line). awaited_request x.state) (reset_line protocol shape k b)) ∙ h in cc);
+    operations = λ k b access h. (let clash : ◌≡◌ {A = Option Access} None (Some access) = sym (ap (λ (x : Line). x.waiting) (reset_line protocol shape k b)) ∙ h in cc);
   }
 
   serving_reset : (under_way : ℕ → Option ℕ) → IsServing under_way (reset protocol shape)
   serving_reset under_way = record {
     waits = λ k. (let P : List ℕ → Type 0 = λ l. All (λ b. under_way k ≡ Some b) l in subst P (sym (queue_is k)) (λ i d lt. absurd (omega arith)));
-    opened = λ b o h. (let clash : ◌≡◌ {A = Option Open} None (Some o) = sym (open_is b) ∙ h in cc);
+    opened = λ b o h. (let clash : ◌≡◌ {A = Option Open} None (Some o) = sym (reset_open protocol shape b) ∙ h in cc);
   }
 
 pub starts_well : StartsWell

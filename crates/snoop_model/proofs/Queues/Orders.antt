@@ -1,21 +1,25 @@
 -- A machine stays well kept at an Order.
-use Rattle.std.proofs.Common.{◌≡◌, ℕ, ◌<◌, zero, suc, List, [], ◌∷◌, length, filter, not, cond, Bool, true, false, Option, Some, None, sym, ◌∙◌, ap, subst, arith, inl, inr, ◌⊎◌, get_or}
-use Rattle.std.specs.Prelude.{slice_index_or, Contains, ◌==◌}
+use Rattle.std.proofs.Common.{◌≡◌, ℕ, ◌<◌, zero, suc, List, [], ◌∷◌, length, filter, not, cond, Bool, true, false, Option, Some, None, sym, ◌∙◌, ap, subst, arith, inl, inr, ◌⊎◌, get_or, refl}
+use Rattle.std.specs.Prelude.{Contains, ◌==◌}
 use Rattle.std.proofs.lemmas.Bool.{false≢true, cases_eq, cases_lt, eq-eqb, ne_eqb}
 use Rattle.std.proofs.lemmas.List.{length-set, get_or-set_same, get_or-set_other, get_or_past}
 use Rattle.std.proofs.lemmas.List.Elements.{All-contains, All-contains_itself, All-filter, filter_passes}
 use Rattle.snoop_rules.specs.declared.names.Request.{Request}
 use Rattle.snoop_rules.specs.Takers.{seen_by}
 use Rattle.snoop_rules.specs.Waits.{waiting_request}
-use Rattle.snoop_bus.specs.Queues.{queue_of}
+use Rattle.snoop_bus.specs.Queues.{queue_of, after_order}
+use Rattle.snoop_bus.specs.Traffic.{Open}
 use Rattle.snoop_model.specs.declared.line.Access.{Access}
 use Rattle.snoop_model.specs.Pictures.Lines.{Line}
-use Rattle.snoop_model.specs.Pictures.Picture.{held_at, held_by, nothing_held}
+use Rattle.snoop_model.specs.Pictures.Picture.{held_by, nothing_held, Picture, held_at}
 use Rattle.snoop_model.specs.Pictures.Situation.{Situation, picture_of, state_of}
-use Rattle.snoop_model.specs.Moves.Move.{Orders, TakesRow}
+use Rattle.snoop_model.specs.Moves.Move.{Orders, TakesRow, TakesRows, IsWithin}
 use Rattle.snoop_model.proofs.Tables.Rows.{own-waits, other-waits}
 use Rattle.snoop_model.specs.Invariant.WellKept.{IsWellKept, HasOpen, awaited_request}
 use Rattle.snoop_model.proofs.Tables.WaitingRows.{has_missed, awaited-own, awaited-other, missed-ordered}
+use Rattle.snoop_model.proofs.OneBlock.OfBlocks.{changed, in_pictures, picture_here, picture_elsewhere, shaped_after}
+use Rattle.snoop_history.specs.declared.items.Item.{Item}
+use Rattle.snoop_trace.specs.declared.protocol.Protocol.{Protocol}
 
 -- what a filter leaves is what was there and passes
 pub contains_filtered : (p : ℕ → Bool) (xs : List ℕ) (x : ℕ) → Contains (filter p xs) x → Contains xs x
@@ -39,66 +43,73 @@ filter_keeps p (y ∷ ys) x h pass = at (λ there. filter_keeps p ys x there pas
         rw passes (0, omega arith, e)
     at rest (suc k) l e = kept_behind (p y) y x (filter p ys) (rest (k, omega arith, e))
 
-module _ (s t : Situation) (kept : IsWellKept s) (core block : ℕ) (request : Request) (has_core : core < s.shape.cores) (has_block : block < s.shape.blocks) (orders : Orders s core block request t) where
-  in_caches : block < length s.caches
-  in_caches = let e = kept.shaped.rows in omega arith
+-- who waits once each core has taken its row: the requestor no longer, each other core as before
+module _ (p : Protocol) (core : ℕ) (request : Request) (old new : List Line) (taken : TakesRows p core request old new) where
+  pub own_waits : core < length old → waiting_request (held_at new core).state ≡ None
+  own_waits inside =
+      let row = taken.rows core inside in
+      ap (λ (x : Line). waiting_request x.state) row.2 ∙ own-waits p (held_at old core).state core request row.0.action row.0.next row.1
+
+  pub others_wait : (k : ℕ) → (k ≡ core → ⊥) → waiting_request (held_at new k).state ≡ waiting_request (held_at old k).state
+  others_wait k ne = elim (cases_lt k (length old)) [
+    | inl lt ↦
+        (let row = taken.rows k lt in
+        ap (λ (x : Line). waiting_request x.state) row.2 ∙ other-waits p (held_at old k).state k core request row.0.action row.0.next ne row.1)
+    | inr ge ↦
+        (let same = taken.same_length in
+        ap (λ (x : Line). waiting_request x.state) (get_or_past new k nothing_held (omega arith) ∙ sym (get_or_past old k nothing_held ge)))
+  ]
+
+module _ (s : Situation) (kept : IsWellKept s) (core block : ℕ) (request : Request) (next : Picture) (log : List Item) (has_core : core < s.shape.cores) (has_block : block < s.shape.blocks)
+    (taken : TakesRows s.protocol core request (picture_of s block).caches next.caches)
+    (opened : (transaction : Open) × ((next.transaction ≡ Some transaction) × (transaction.core ≡ core) × (transaction.request ≡ request))) where
+  abbrev t : Situation
+  t = changed s block next (after_order s.queues core block) log
 
   in_queues : core < length s.queues
   in_queues = let e = kept.shaped.queues in omega arith
 
-  in_transactions : block < length s.transactions
-  in_transactions = let e = kept.shaped.transactions in omega arith
+  here : picture_of (changed s block next (after_order s.queues core block) log) block ≡ next
+  here = picture_here s block next (after_order s.queues core block) log (in_pictures s block kept.shaped has_block)
 
-  new_row : slice_index_or t.caches block [] ≡ orders.next.caches
-  new_row = ap (λ (x : Situation). slice_index_or x.caches block []) orders.after ∙ get_or-set_same s.caches block orders.next.caches [] in_caches
+  elsewhere : (b : ℕ) → (b ≡ block → ⊥) → picture_of (changed s block next (after_order s.queues core block) log) b ≡ picture_of s b
+  elsewhere b apart = picture_elsewhere s block next (after_order s.queues core block) log b apart
 
-  -- the block's lines
-  line_here : (k : ℕ) → held_by (picture_of t block) k ≡ held_at orders.next.caches k
-  line_here k = ap (λ r. held_at r k) new_row
+  line_here : (k : ℕ) → held_by (picture_of (changed s block next (after_order s.queues core block) log) block) k ≡ held_by next k
+  line_here k = ap (λ (x : Picture). held_by x k) here
 
-  line_elsewhere : (k b : ℕ) → (b ≡ block → ⊥) → held_by (picture_of t b) k ≡ held_by (picture_of s b) k
-  line_elsewhere k b ne = ap (λ (x : Situation). held_by (picture_of x b) k) orders.after ∙ ap (λ r. held_at r k) (get_or-set_other s.caches block b orders.next.caches [] ne)
+  queue_own : queue_of (after_order s.queues core block) core ≡ filter (λ b. not (b == block)) (queue_of s.queues core)
+  queue_own = get_or-set_same s.queues core (filter (λ b. not (b == block)) (queue_of s.queues core)) [] in_queues
 
-  queue_own : queue_of t.queues core ≡ filter (λ b. not (b == block)) (queue_of s.queues core)
-  queue_own = ap (λ (x : Situation). queue_of x.queues core) orders.after ∙ get_or-set_same s.queues core (filter (λ b. not (b == block)) (queue_of s.queues core)) [] in_queues
-
-  queue_other : (k : ℕ) → (k ≡ core → ⊥) → queue_of t.queues k ≡ queue_of s.queues k
-  queue_other k ne = ap (λ (x : Situation). queue_of x.queues k) orders.after ∙ get_or-set_other s.queues core k (filter (λ b. not (b == block)) (queue_of s.queues core)) [] ne
-
-  open_here : (picture_of t block).transaction ≡ orders.next.transaction
-  open_here = ap (λ (x : Situation). (picture_of x block).transaction) orders.after ∙ get_or-set_same s.transactions block orders.next.transaction None in_transactions
-
-  open_elsewhere : (b : ℕ) → (b ≡ block → ⊥) → (picture_of t b).transaction ≡ (picture_of s b).transaction
-  open_elsewhere b ne = ap (λ (x : Situation). (picture_of x b).transaction) orders.after ∙ get_or-set_other s.transactions block b orders.next.transaction None ne
+  queue_other : (k : ℕ) → (k ≡ core → ⊥) → queue_of (after_order s.queues core block) k ≡ queue_of s.queues k
+  queue_other k ne = get_or-set_other s.queues core k (filter (λ b. not (b == block)) (queue_of s.queues core)) [] ne
 
   -- a core that there is takes its row, and past them nothing is held
   row_or_past : (k : ℕ) → (k < length (picture_of s block).caches) ⊎ ((held_by (picture_of t block) k ≡ nothing_held) × (held_by (picture_of s block) k ≡ nothing_held))
   row_or_past k = elim (cases_lt k (length (picture_of s block).caches)) [
     | inl lt ↦ inl lt
     | inr ge ↦
-        (let same = orders.taken.same_length in
-        inr (line_here k ∙ get_or_past orders.next.caches k nothing_held (omega arith), get_or_past (picture_of s block).caches k nothing_held ge))
+        (let same = taken.same_length in
+        inr (line_here k ∙ get_or_past next.caches k nothing_held (omega arith), get_or_past (picture_of s block).caches k nothing_held ge))
   ]
 
   waits_other : (k : ℕ) → (k ≡ core → ⊥) → waiting_request (state_of t k block) ≡ waiting_request (state_of s k block)
-  waits_other k ne = elim (row_or_past k) [
-    | inl lt ↦
-        (let row = orders.taken.rows k lt in
-        ap (λ (x : Line). waiting_request x.state) (line_here k ∙ row.2) ∙ other-waits s.protocol (state_of s k block) k core request row.0.action row.0.next ne row.1)
-    | inr past ↦ ap (λ (x : Line). waiting_request x.state) (past.0 ∙ sym past.1)
-  ]
+  waits_other k ne = ap (λ (x : Line). waiting_request x.state) (line_here k) ∙ others_wait s.protocol core request (picture_of s block).caches next.caches taken k ne
 
-  own_row : TakesRow s.protocol (seen_by core core request) (held_by (picture_of s block) core) (held_by orders.next core)
-  own_row = orders.taken.rows core (let b = kept.shaped.row block has_block in omega arith)
+  in_row : core < length (picture_of s block).caches
+  in_row = let b = kept.shaped.row block has_block in omega arith
+
+  own_row : TakesRow s.protocol (seen_by core core request) (held_by (picture_of s block) core) (held_by next core)
+  own_row = taken.rows core in_row
 
   waits_own : waiting_request (state_of t core block) ≡ None
-  waits_own = ap (λ (x : Line). waiting_request x.state) (line_here core ∙ own_row.2) ∙ own-waits s.protocol (state_of s core block) core request own_row.0.action own_row.0.next own_row.1
+  waits_own = ap (λ (x : Line). waiting_request x.state) (line_here core) ∙ own_waits s.protocol core request (picture_of s block).caches next.caches taken in_row
 
   -- a wait elsewhere, or of another core, is as it was
   waits_same : (k b : ℕ) → ((k ≡ core) × (b ≡ block)) ⊎ (waiting_request (state_of t k b) ≡ waiting_request (state_of s k b))
   waits_same k b = elim (cases_eq b block) [
     | inl f ↦ elim (cases_eq k core) [ inl e ↦ inl (e, f) | inr ne ↦ inr (rw f (waits_other k ne)) ]
-    | inr nf ↦ inr (ap (λ (x : Line). waiting_request x.state) (line_elsewhere k b nf))
+    | inr nf ↦ inr (ap (λ (x : Picture). waiting_request (held_by x k).state) (elsewhere b nf))
   ]
 
   not_here : (k b : ℕ) (q : Request) → (k ≡ core) × (b ≡ block) → waiting_request (state_of t k b) ≡ Some q → ⊥
@@ -107,22 +118,22 @@ module _ (s t : Situation) (kept : IsWellKept s) (core block : ℕ) (request : R
       let clash : ◌≡◌ {A = Option Request} None (Some q) = sym none ∙ h in
       cc
 
-  still_queued : (k b : ℕ) → (((k ≡ core) × (b ≡ block)) → ⊥) → Contains (queue_of s.queues k) b → Contains (queue_of t.queues k) b
+  still_queued : (k b : ℕ) → (((k ≡ core) × (b ≡ block)) → ⊥) → Contains (queue_of s.queues k) b → Contains (queue_of (after_order s.queues core block) k) b
   still_queued k b apart h = elim (cases_eq k core) [
     | inl e ↦
         (let Q : List ℕ → Type 0 = λ l. Contains l b in
         let R : ℕ → Type 0 = λ j. Contains (queue_of s.queues j) b in
         let differs : not (b == block) ≡ true = ap not (ne_eqb b block (λ f. apart (e, f))) in
-        subst Q (sym (ap (λ j. queue_of t.queues j) e ∙ queue_own)) (filter_keeps (λ x. not (x == block)) (queue_of s.queues core) b (subst R e h) differs))
+        subst Q (sym (ap (λ j. queue_of (after_order s.queues core block) j) e ∙ queue_own)) (filter_keeps (λ x. not (x == block)) (queue_of s.queues core) b (subst R e h) differs))
     | inr ne ↦ (let Q : List ℕ → Type 0 = λ l. Contains l b in subst Q (sym (queue_other k ne)) h)
   ]
 
-  was_queued : (k b : ℕ) → Contains (queue_of t.queues k) b → (((k ≡ core) × (b ≡ block)) → ⊥) × Contains (queue_of s.queues k) b
+  was_queued : (k b : ℕ) → Contains (queue_of (after_order s.queues core block) k) b → (((k ≡ core) × (b ≡ block)) → ⊥) × Contains (queue_of s.queues k) b
   was_queued k b h = elim (cases_eq k core) [
     | inl e ↦
         (let Q : List ℕ → Type 0 = λ l. Contains l b in
         let R : ℕ → Type 0 = λ j. Contains (queue_of s.queues j) b in
-        let left : Contains (filter (λ x. not (x == block)) (queue_of s.queues core)) b = subst Q (ap (λ j. queue_of t.queues j) e ∙ queue_own) h in
+        let left : Contains (filter (λ x. not (x == block)) (queue_of s.queues core)) b = subst Q (ap (λ j. queue_of (after_order s.queues core block) j) e ∙ queue_own) h in
         let passes : not (b == block) ≡ true = filtered_passes (λ x. not (x == block)) (queue_of s.queues core) b left in
         (λ at. absurd (false≢true (sym (ap not (eq-eqb b block at.1)) ∙ passes)), subst R (sym e) (contains_filtered (λ x. not (x == block)) (queue_of s.queues core) b left)))
     | inr ne ↦ (let Q : List ℕ → Type 0 = λ l. Contains l b in (λ at. ne at.0, subst Q (queue_other k ne) h))
@@ -131,14 +142,14 @@ module _ (s t : Situation) (kept : IsWellKept s) (core block : ℕ) (request : R
   awaits_here : (k : ℕ) (q : Request) → awaited_request (state_of t k block) ≡ Some q → HasOpen t k block q
   awaits_here k q h = elim (cases_eq k core) [
     | inl e ↦
-        (let here : awaited_request own_row.0.next ≡ Some q =
+        (let now : awaited_request own_row.0.next ≡ Some q =
         ap (λ (x : Line). awaited_request x.state) (sym (line_here core ∙ own_row.2)) ∙ (ap (λ j. awaited_request (state_of t j block)) (sym e) ∙ h) in
-        let its : q ≡ request = awaited-own s.protocol (state_of s core block) core request q own_row.0.action own_row.0.next own_row.1 here in
-        (_, (open_here ∙ orders.opened, sym e, sym its)))
+        let its : q ≡ request = awaited-own s.protocol (state_of s core block) core request q own_row.0.action own_row.0.next own_row.1 now in
+        (opened.0, (ap (λ (x : Picture). x.transaction) here ∙ opened.1.0, opened.1.1 ∙ sym e, opened.1.2 ∙ sym its)))
     | inr ne ↦
         (let none : awaited_request (state_of t k block) ≡ None = elim (row_or_past k) [
           | inl lt ↦
-              (let row = orders.taken.rows k lt in
+              (let row = taken.rows k lt in
               ap (λ (x : Line). awaited_request x.state) (line_here k ∙ row.2) ∙ awaited-other s.protocol (state_of s k block) k core request row.0.action row.0.next ne row.1)
           | inr past ↦ ap (λ (x : Line). awaited_request x.state) past.0
         ] in
@@ -149,31 +160,16 @@ module _ (s t : Situation) (kept : IsWellKept s) (core block : ℕ) (request : R
   missed_here : (k : ℕ) (access : Access) → (held_by (picture_of t block) k).waiting ≡ Some access → has_missed (state_of t k block) ≡ true
   missed_here k access h = elim (row_or_past k) [
     | inl lt ↦
-        (let row = orders.taken.rows k lt in
+        (let row = taken.rows k lt in
         let is = line_here k ∙ row.2 in
         ap (λ (x : Line). has_missed x.state) is
         ∙ missed-ordered s.protocol (state_of s k block) k core request row.0.action row.0.next row.1 (kept.operations k block access (sym (ap (λ (x : Line). x.waiting) is) ∙ h)))
     | inr past ↦ (let clash : ◌≡◌ {A = Option Access} None (Some access) = sym (ap (λ (x : Line). x.waiting) past.0) ∙ h in cc)
   ]
 
-  pub kept_orders : IsWellKept t
-  kept_orders = record {
-    shaped = record {
-      rows = ap (λ (x : Situation). length x.caches) orders.after ∙ (length-set s.caches block orders.next.caches ∙ (kept.shaped.rows ∙ ap (λ (x : Situation). x.shape.blocks) (sym orders.after)));
-      row = λ b h. elim (cases_eq b block) [
-        | inl e ↦ rw e (ap length new_row ∙ (orders.taken.same_length ∙ (kept.shaped.row block has_block ∙ ap (λ (x : Situation). x.shape.cores) (sym orders.after))))
-        | inr ne ↦
-            (let P : Situation → Type 0 = λ x. b < x.shape.blocks in
-            ap (λ (x : Situation). length (slice_index_or x.caches b [])) orders.after
-            ∙ (ap length (get_or-set_other s.caches block b orders.next.caches [] ne) ∙ (kept.shaped.row b (subst P orders.after h) ∙ ap (λ (x : Situation). x.shape.cores) (sym orders.after))))
-      ];
-      memory = ap (λ (x : Situation). length x.memory) orders.after
-          ∙ (length-set s.memory block orders.next.memory ∙ (kept.shaped.memory ∙ ap (λ (x : Situation). x.shape.blocks) (sym orders.after)));
-      queues = ap (λ (x : Situation). length x.queues) orders.after
-          ∙ (length-set s.queues core (filter (λ b. not (b == block)) (queue_of s.queues core)) ∙ (kept.shaped.queues ∙ ap (λ (x : Situation). x.shape.cores) (sym orders.after)));
-      transactions = ap (λ (x : Situation). length x.transactions) orders.after
-          ∙ (length-set s.transactions block orders.next.transaction ∙ (kept.shaped.transactions ∙ ap (λ (x : Situation). x.shape.blocks) (sym orders.after)));
-    };
+  kept_ordered : IsWellKept (changed s block next (after_order s.queues core block) log)
+  kept_ordered = record {
+    shaped = shaped_after s block next (after_order s.queues core block) log kept.shaped taken.same_length (length-set s.queues core (filter (λ b. not (b == block)) (queue_of s.queues core)));
     queued = λ k b q h. elim (waits_same k b) [
       | inl e ↦ absurd (not_here k b q e h)
       | inr same ↦ still_queued k b (λ e. not_here k b q e h) (kept.queued k b q (sym same ∙ h))
@@ -185,8 +181,9 @@ module _ (s t : Situation) (kept : IsWellKept s) (core block : ℕ) (request : R
     awaits = λ k b q h. elim (cases_eq b block) [
       | inl f ↦ (let P : ℕ → Type 0 = λ x. HasOpen t k x q in let Q : ℕ → Type 0 = λ x. awaited_request (state_of t k x) ≡ Some q in subst P (sym f) (awaits_here k q (subst Q f h)))
       | inr nf ↦
-          (let had = kept.awaits k b q (ap (λ (x : Line). awaited_request x.state) (sym (line_elsewhere k b nf)) ∙ h) in
-          (had.0, (open_elsewhere b nf ∙ had.1.0, had.1.1, had.1.2)))
+          (let same = elsewhere b nf in
+          let had = kept.awaits k b q (ap (λ (x : Picture). awaited_request (held_by x k).state) (sym same) ∙ h) in
+          (had.0, (ap (λ (x : Picture). x.transaction) same ∙ had.1.0, had.1.1, had.1.2)))
     ];
     operations = λ k b access h. elim (cases_eq b block) [
       | inl f ↦
@@ -194,7 +191,11 @@ module _ (s t : Situation) (kept : IsWellKept s) (core block : ℕ) (request : R
           let Q : ℕ → Type 0 = λ x. (held_by (picture_of t x) k).waiting ≡ Some access in
           subst P (sym f) (missed_here k access (subst Q f h)))
       | inr nf ↦
-          (let same = line_elsewhere k b nf in
-          ap (λ (x : Line). has_missed x.state) same ∙ kept.operations k b access (ap (λ (x : Line). x.waiting) (sym same) ∙ h))
+          (let same = elsewhere b nf in
+          ap (λ (x : Picture). has_missed (held_by x k).state) same ∙ kept.operations k b access (ap (λ (x : Picture). (held_by x k).waiting) (sym same) ∙ h))
     ];
   }
+
+pub kept_orders : (s t : Situation) (core block : ℕ) (request : Request) → IsWellKept s → IsWithin s core block → Orders s core block request t → IsWellKept t
+kept_orders s t core block request kept within orders =
+    subst IsWellKept (sym orders.after) (kept_ordered s kept core block request orders.next _ within.0 within.1 orders.taken (_, (orders.opened, refl, refl)))

@@ -1,6 +1,6 @@
 -- Each core's queue has exactly the blocks on which it waits, each once, after each step of a run.
-use Rattle.std.proofs.Common.{◌≡◌, ◌≢◌, ℕ, ◌<◌, ◌+◌, not, cond, eqb, List, [], ◌∷◌, ◌++◌, length, replicate, filter, Option, refl, ◌⊎◌, inl, inr, ap, sym, ◌∙◌, subst, arith}
-use Rattle.std.specs.Prelude.{is_some, slice_set, Result, Ok, Err}
+use Rattle.std.proofs.Common.{◌≡◌, ℕ, ◌<◌, ◌+◌, not, cond, eqb, List, [], ◌∷◌, ◌++◌, length, replicate, filter, Option, refl, ◌⊎◌, inl, inr, ap, sym, ◌∙◌, subst, arith}
+use Rattle.std.specs.Prelude.{is_some, Result, Ok, Err, option_to_list}
 use Rattle.std.proofs.lemmas.Bool.{cases_lt}
 use Rattle.std.proofs.lemmas.Bool.Decides.{eqb_tells}
 use Rattle.std.proofs.lemmas.List.{length-replicate, get_or-replicate, get_or-set_same, get_or-set_other, get_or_past}
@@ -13,9 +13,8 @@ use Rattle.snoop_rules.specs.declared.names.CacheState.{CacheState}
 use Rattle.snoop_rules.specs.declared.names.CacheAction.{CacheAction}
 use Rattle.snoop_rules.specs.declared.names.CacheAction.TheVariants as action
 use Rattle.snoop_rules.specs.declared.names.Request.{Request}
-use Rattle.snoop_rules.specs.declared.names.Request.TheVariants as request
 use Rattle.snoop_rules.specs.Cell.{Cell}
-use Rattle.snoop_rules.specs.Takers.{asked, seen_by}
+use Rattle.snoop_rules.specs.Takers.{asked}
 use Rattle.snoop_rules.specs.Waits.{waiting_request}
 use Rattle.snoop_history.specs.declared.items.Did.{Did}
 use Rattle.snoop_history.specs.declared.items.Item.{Item}
@@ -24,15 +23,19 @@ use Rattle.snoop_bus.specs.Traffic.{Open}
 use Rattle.snoop_model.specs.Pictures.Lines.{Line}
 use Rattle.snoop_model.specs.declared.replies.Reply.{Reply}
 use Rattle.snoop_model.specs.declared.replies.Refused.{Refused}
-use Rattle.snoop_model.specs.Pictures.Picture.{Picture, held_at, held_by, nothing_held}
+use Rattle.snoop_model.specs.Pictures.Picture.{Picture, held_at, held_by}
 use Rattle.snoop_model.specs.Pictures.Situation.{Situation, picture_of, state_of, reset}
-use Rattle.snoop_model.specs.Moves.Move.{Takes, FillsRequestor, ArrivesFor, Asks, Orders, Responds, IsWithin, MoveOn, queues_after}
+use Rattle.snoop_model.specs.Moves.Move.{Takes, Asks, Orders, Responds, IsWithin, MoveOn, queues_after}
 use Rattle.snoop_model.specs.Runs.Run.{Goes, RunFrom}
 use Rattle.snoop_model.specs.Runs.Once.{one_if}
 use Rattle.snoop_model.specs.Pictures.InQueue.{IsInQueue}
 use Rattle.snoop_model.specs.Invariant.Invariant.{Invariant}
-use Rattle.snoop_model.proofs.Tables.Rows.{issue-waits, hit-waits, drop-waits, own-waits, other-waits, fill-waits}
-use Rattle.snoop_model.proofs.OneBlock.AfterMoves.{ask_line, ask_other_core, ask_other_block, order_here, order_other_block, respond_here, respond_other_block}
+use Rattle.snoop_model.proofs.Tables.Rows.{issue-waits, hit-waits, drop-waits}
+use Rattle.snoop_model.proofs.OneBlock.AfterMoves.{order_here, order_other_block}
+use Rattle.snoop_model.proofs.OneBlock.OfBlocks.{in_pictures, same_everywhere}
+use Rattle.snoop_model.proofs.Lines.OneLine.{lined, line_here, line_cases, same_lines}
+use Rattle.snoop_model.proofs.Queues.Orders.{own_waits, others_wait}
+use Rattle.snoop_model.proofs.Queues.Responds.{arrives_waits}
 use Rattle.snoop_model.proofs.Lists.Facts.{either_way}
 use Rattle.snoop_model.proofs.Lists.QueueCounts.{times, times_push, times_without}
 use Rattle.snoop_model.proofs.Invariant.Runs.{goes_keeps, refusal_same, reset_line}
@@ -58,17 +61,6 @@ ask_waits p action.Stall next log c b word asking old new answer entry queues ro
 ask_waits p action.FillLoad next log c b word asking old new answer entry queues row t = absurd t
 ask_waits p action.FillStore next log c b word asking old new answer entry queues row t = absurd t
 ask_waits p (action.Send sent target) next log c b word asking old new answer entry queues row t = absurd t
-
--- the pictures of the other cores and blocks are as they were
-others_waits : (old new : Situation) (c b core block : ℕ) → ((k : ℕ) → k ≢ c → held_by (picture_of new b) k ≡ held_by (picture_of old b) k) → ((k : ℕ) → k ≢ b → picture_of new k ≡ picture_of old k)
-    → ((core ≡ c) × (block ≡ b)) ⊎ (waits (state_of new core block) ≡ waits (state_of old core block))
-others_waits old new c b core block cores blocks = elim (eqb_tells block b) [
-  | inr h ↦ inr (ap (λ (x : Picture). waits (held_by x core).state) (blocks block h.1))
-  | inl h ↦ elim (eqb_tells core c) [
-    | inl i ↦ inl (i.1, h.1)
-    | inr i ↦ inr (subst (λ (y : ℕ). waits (state_of new core y) ≡ waits (state_of old core y)) (sym h.1) (ap (λ (x : Line). waits x.state) (cores core i.1)))
-  ]
-]
 
 -- each core's queue has the blocks on which it waits
 abbrev pub AreQueued : Situation → Type 0
@@ -114,46 +106,36 @@ issued old new c b q within queues was is others core block =
 
 ask_queued : (old : Situation) (c b word : ℕ) (asking : Op) (answer : Reply) (new : Situation) (entry : Option Item) → Invariant old → AreQueued old → IsWithin old c b → Asks old c b word asking answer new entry → AreQueued new
 ask_queued old c b word asking answer new entry g q within a =
-    let queues : new.queues ≡ queues_after a.row.action old.queues c b = ap (λ (s : Situation). s.queues) a.after in
+    let queues = queues_after a.row.action old.queues c b in
+    let log = old.log ++ option_to_list entry in
+    let next : Situation = lined old c b a.held queues log in
     let in_queues : c < length old.queues = subst (λ (n : ℕ). c < n) (sym g.shaped.queues) within.0 in
-    let line = ask_line old c b word asking answer new entry g within a in
-    let others = λ (core block : ℕ). others_waits old new c b core block (ask_other_core old c b word asking answer new entry g within a) (ask_other_block old c b word asking answer new entry g within a) in
-    let here : (x : ℕ) → waits a.held.state ≡ x → waits (state_of new c b) ≡ x = λ x e. ap (λ (y : Line). waits y.state) line ∙ e in
-    elim (ask_waits old.protocol a.row.action a.row.next old.log c b word asking (held_by (picture_of old b) c) a.held answer entry old.queues a.is_row a.taken) [
-      | inl i ↦ issued old new c b q in_queues (queues ∙ i.0) i.1.0 (here 1 i.1.1) others
-      | inr i ↦ left_alone old new q (queues ∙ i.0) (λ core block. elim (others core block) [
-        | inr e ↦ e
-        | inl at ↦
-            let P : (x y : ℕ) → Type 0 = λ x y. waits (state_of new x y) ≡ waits (state_of old x y) in
-            subst (λ (x : ℕ). P x block) (sym at.0) (subst (P c) (sym at.1) (here (waits (state_of old c b)) i.1))
-      ])
-    ]
+    let in_row : c < length (picture_of old b).caches = subst (λ (n : ℕ). c < n) (sym (g.shaped.row b within.1)) within.0 in
+    let here = ap (λ (x : Line). waits x.state) (line_here old c b a.held queues log (in_pictures old b g.shaped within.1) in_row) in
+    let others : (core block : ℕ) → ((core ≡ c) × (block ≡ b)) ⊎ (waits (state_of next core block) ≡ waits (state_of old core block)) =
+    λ core block. elim (line_cases old c b a.held queues log core block) [ inl p ↦ inl (p.0, p.1) | inr e ↦ inr (ap (λ (x : Line). waits x.state) e) ] in
+    subst AreQueued (sym a.after) (elim (ask_waits old.protocol a.row.action a.row.next old.log c b word asking (held_by (picture_of old b) c) a.held answer entry old.queues a.is_row a.taken) [
+      | inl i ↦ issued old next c b q in_queues i.0 i.1.0 (here ∙ i.1.1) others
+      | inr i ↦ left_alone old next q i.0 (same_lines old c b a.held queues log (λ (x : Line). waits x.state) i.1)
+    ])
 
 -- who waits after an Order: its core no longer, the others as before
-order_waits : (old : Situation) (c b : ℕ) (q : Request) (new : Situation) (o : Orders old c b q new) (k : ℕ) → waits (held_by o.next k).state ≡ cond (eqb k c) 0 (waits (held_by (picture_of old b) k).state)
-order_waits old c b q new o k = elim (cases_lt k (length (picture_of old b).caches)) [
-  | inl inside ↦
-      let row = o.taken.rows k inside in
-      let state : waits (held_by o.next k).state ≡ waits row.0.next = ap (λ (x : Line). waits x.state) row.2 in
-      elim (eqb_tells k c) as (λ _. waits (held_by o.next k).state ≡ cond (eqb k c) 0 (waits (held_by (picture_of old b) k).state)) [
-        | inl h ↦
-            let P : ℕ → Type 0 = λ x. Cell old.protocol (held_by (picture_of old b) x).state (seen_by x c q) row.0.action row.0.next in
-            let own = own-waits old.protocol (held_by (picture_of old b) c).state c q row.0.action row.0.next (subst P h.1 row.1) in
-            rw h.0 (state ∙ ap (λ (x : Option Request). one_if (is_some x)) own)
-        | inr h ↦ rw h.0 (state ∙ same_waits row.0.next (held_by (picture_of old b) k).state (other-waits old.protocol (held_by (picture_of old b) k).state k c q row.0.action row.0.next h.1 row.1))
-      ]
-  | inr past ↦
-      let long = o.taken.same_length in
-      let e : waits (held_by o.next k).state ≡ 0 = ap (λ (x : Line). waits x.state) (get_or_past o.next.caches k nothing_held (omega arith)) in
-      let f : waits (held_by (picture_of old b) k).state ≡ 0 = ap (λ (x : Line). waits x.state) (get_or_past (picture_of old b).caches k nothing_held past) in
-      e ∙ (either_way (eqb k c) 0 ∙ ap (λ (n : ℕ). cond (eqb k c) 0 n) (sym f))
-]
+order_waits : (old : Situation) (c b : ℕ) (q : Request) (new : Situation) → c < length (picture_of old b).caches → (o : Orders old c b q new) (k : ℕ) → waits (held_by o.next k).state ≡ cond (eqb k c) 0 (waits (held_by (picture_of old b) k).state)
+order_waits old c b q new inside o k =
+    let before : List Line = (picture_of old b).caches in
+    elim (eqb_tells k c) as (λ _. waits (held_by o.next k).state ≡ cond (eqb k c) 0 (waits (held_by (picture_of old b) k).state)) [
+      | inl h ↦
+          let P : ℕ → Type 0 = λ x. waits (held_by o.next x).state ≡ 0 in
+          rw h.0 (subst P (sym h.1) (ap (λ (x : Option Request). one_if (is_some x)) (own_waits old.protocol c q before o.next.caches o.taken inside)))
+      | inr h ↦ rw h.0 (same_waits (held_by o.next k).state (held_at before k).state (others_wait old.protocol c q before o.next.caches o.taken k h.1))
+    ]
 
 order_queued : (old : Situation) (c b : ℕ) (q : Request) (new : Situation) → Invariant old → AreQueued old → IsWithin old c b → Orders old c b q new → AreQueued new
 order_queued old c b q new g k within o core block =
     let queues : new.queues ≡ after_order old.queues c b = ap (λ (s : Situation). s.queues) o.after in
     let left : List ℕ = filter (λ x. not (eqb x b)) (queue_of old.queues c) in
     let inside : c < length old.queues = subst (λ (n : ℕ). c < n) (sym g.shaped.queues) within.0 in
+    let in_row : c < length (picture_of old b).caches = subst (λ (n : ℕ). c < n) (sym (g.shaped.row b within.1)) within.0 in
     let was = k core block in
     let now : queue_of new.queues core ≡ queue_of (after_order old.queues c b) core = ap (λ (l : List (List ℕ)). queue_of l core) queues in
     let queue : times block (queue_of new.queues core) ≡ cond (eqb core c) (cond (eqb b block) 0 (times block (queue_of old.queues core))) (times block (queue_of old.queues core)) = elim (eqb_tells core c) as (λ _. times block (queue_of new.queues core) ≡ cond (eqb core c) (cond (eqb b block) 0 (times block (queue_of old.queues core))) (times block (queue_of old.queues core))) [
@@ -165,39 +147,17 @@ order_queued old c b q new g k within o core block =
     let state : waits (state_of new core block) ≡ cond (eqb core c) (cond (eqb b block) 0 (waits (state_of old core block))) (waits (state_of old core block)) = elim (eqb_tells b block) as (λ _. waits (state_of new core block) ≡ cond (eqb core c) (cond (eqb b block) 0 (waits (state_of old core block))) (waits (state_of old core block))) [
       | inl h ↦
           let P : ℕ → Type 0 = λ y. waits (state_of new core y) ≡ cond (eqb core c) 0 (waits (state_of old core y)) in
-          rw h.0 (subst P h.1 (ap (λ (x : Picture). waits (held_by x core).state) (order_here old c b q new g within o) ∙ order_waits old c b q new o core))
+          rw h.0 (subst P h.1 (ap (λ (x : Picture). waits (held_by x core).state) (order_here old c b q new g within o) ∙ order_waits old c b q new in_row o core))
       | inr h ↦ rw h.0 (ap (λ (x : Picture). waits (held_by x core).state) (order_other_block old c b q new g within o block (λ e. h.1 (sym e))) ∙ either_way (eqb core c) (waits (state_of old core block)))
     ] in
     queue ∙ (ap (λ (n : ℕ). cond (eqb core c) (cond (eqb b block) 0 n) n) was ∙ sym state)
 
--- a response changes no wait
-fills_waits : (closing : Open) (p : Protocol) (log : List Item) (old new : List Line) (did : Option Did) → closing.core < length old → FillsRequestor closing p log old new did → (k : ℕ) → waits (held_at new k).state ≡ waits (held_at old k).state
-fills_waits closing p log old new did inside f k =
-    let now : held_at new k ≡ held_at (slice_set old closing.core f.line) k = ap (λ (l : List Line). held_at l k) f.held in
-    elim (eqb_tells k closing.core) [
-      | inr h ↦ ap (λ (x : Line). waits x.state) (now ∙ get_or-set_other old closing.core k f.line nothing_held h.1)
-      | inl h ↦
-          let P : ℕ → Type 0 = λ x. waits (held_at (slice_set old closing.core f.line) x).state ≡ waits (held_at old x).state in
-          let here : waits (held_at (slice_set old closing.core f.line) closing.core).state ≡ waits (held_at old closing.core).state =
-          ap (λ (x : Line). waits x.state) (get_or-set_same old closing.core f.line nothing_held inside ∙ f.fills.held)
-          ∙ same_waits f.fills.row.next (held_at old closing.core).state (fill-waits p (held_at old closing.core).state f.fills.event f.fills.row.action f.fills.row.next f.asking.op f.fills.fill f.fills.is_row) in
-          ap (λ (x : Line). waits x.state) now ∙ subst P (sym h.1) here
-    ]
-
-arrives_waits : (q : Request) (closing : Open) (p : Protocol) (log : List Item) (old new : List Line) (did : Option Did) → closing.core < length old → ArrivesFor q closing p log old new did → (k : ℕ) → waits (held_at new k).state ≡ waits (held_at old k).state
-arrives_waits request.GetS closing p log old new did inside a k = fills_waits closing p log old new did inside a k
-arrives_waits request.GetM closing p log old new did inside a k = fills_waits closing p log old new did inside a k
-arrives_waits request.PutM closing p log old new did inside a k = ap (λ (l : List Line). waits (held_at l k).state) a.0
-
-respond_queued : (old : Situation) (b : ℕ) (closing : Open) (did : Option Did) (new : Situation) → Invariant old → AreQueued old → b < old.shape.blocks → Responds old b closing did new → AreQueued new
-respond_queued old b closing did new g q within r =
-    let inside : closing.core < length (picture_of old b).caches = subst (λ (n : ℕ). closing.core < n) (sym (g.shaped.row b within)) ((g.blocks b within).requestor_in closing r.opened) in
-    left_alone old new q (ap (λ (s : Situation). s.queues) r.after) (λ core block. elim (eqb_tells block b) [
-      | inl h ↦
-          let P : ℕ → Type 0 = λ y. waits (state_of new core y) ≡ waits (state_of old core y) in
-          subst P (sym h.1) (ap (λ (x : Picture). waits (held_by x core).state) (respond_here old b closing did new g within r) ∙ arrives_waits closing.request closing old.protocol old.log (picture_of old b).caches r.next.caches did inside r.requestor core)
-      | inr h ↦ ap (λ (x : Picture). waits (held_by x core).state) (respond_other_block old b closing did new g within r block h.1)
-    ])
+respond_queued : (old : Situation) (b : ℕ) (closing : Open) (did : Option Did) (new : Situation) → AreQueued old → Responds old b closing did new → AreQueued new
+respond_queued old b closing did new q r =
+    left_alone old new q (ap (λ (s : Situation). s.queues) r.after) (λ core block.
+    ap (λ (s : Situation). waits (state_of s core block)) r.after
+    ∙ same_everywhere old b r.next old.queues old.log (λ (x : Picture). waits (held_by x core).state)
+    (same_waits (held_by r.next core).state (state_of old core b) (arrives_waits closing old.protocol old.log (picture_of old b).caches r.next.caches did r.requestor core)) block)
 
 -- a move keeps the queues
 pub move_queued : (block : ℕ) (old : Situation) (step : Step) (answer : Reply) (new : Situation) (entry : Option Item) → Invariant old → AreQueued old → MoveOn block old step answer new entry → AreQueued new
@@ -206,7 +166,7 @@ move_queued block old (Ask core on word asking) answer new entry g q m = elim m.
   | inr a ↦ ask_queued old core block word asking answer new entry g q m.within a
 ]
 move_queued block old (Order core) answer new entry g q m = order_queued old core block m.request new g q m.within m.orders
-move_queued block old (Respond on) answer new entry g q m = respond_queued old block m.closing m.did new g q m.within m.responds
+move_queued block old (Respond on) answer new entry g q m = respond_queued old block m.closing m.did new q m.responds
 
 goes_queued : (old : Situation) (step : Step) (outcome : Result Reply Refused) (new : Situation) → Invariant old → AreQueued old → Goes old step outcome new → AreQueued new
 goes_queued old step (Ok answer) new g q m = move_queued m.1.0 old step answer new m.0 g q m.1.1

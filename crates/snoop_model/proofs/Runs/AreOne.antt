@@ -36,7 +36,7 @@ use Rattle.snoop_model.specs.declared.replies.Reply.{Reply}
 use Rattle.snoop_model.specs.declared.replies.Reply.TheVariants as reply
 use Rattle.snoop_model.specs.declared.replies.Refused.{Refused}
 use Rattle.snoop_model.specs.declared.replies.Refused.TheVariants.{NoCore, NoBlock, Stalled, NothingWaiting, BusTaken, NoTransaction, NoMemory}
-use Rattle.snoop_model.specs.Pictures.Picture.{Picture, held_at, held_by, nothing_held}
+use Rattle.snoop_model.specs.Pictures.Picture.{Picture, held_at, held_by, nothing_held, with_line}
 use Rattle.snoop_model.specs.Pictures.Situation.{Situation, picture_of, with_picture, state_of}
 use Rattle.snoop_model.specs.Pictures.Sends.{Sends, value_sent}
 use Rattle.snoop_model.specs.Moves.Move.{TakesRow, Takes, FillsRequestor, ArrivesFor, ArrivesAtMemory, Asks, Orders, Responds, IsAbsent, IsWithin, FirstMove, Performs, moves_to, next_did, queues_after, came_of, written}
@@ -231,8 +231,7 @@ takes_one (action.Send payload target) next log core block word asking old new n
 
 -- the situation after an Ask, by its action, its line and its item
 abbrev asked_after : Situation → ℕ → ℕ → CacheAction → Line → Option Item → Situation
-asked_after s core block act held entry = record s {
-  caches = slice_set s.caches block (slice_set (picture_of s block).caches core held);
+asked_after s core block act held entry = record (with_picture s block (with_line (picture_of s block) core held)) {
   queues = queues_after act s.queues core block;
   log = s.log ++ option_to_list entry;
 }

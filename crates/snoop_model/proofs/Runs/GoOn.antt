@@ -38,7 +38,7 @@ use Rattle.snoop_model.specs.declared.replies.Reply.{Reply}
 use Rattle.snoop_model.specs.declared.replies.Reply.TheVariants as reply
 use Rattle.snoop_model.specs.declared.replies.Refused.{Refused}
 use Rattle.snoop_model.specs.declared.replies.Refused.TheVariants.{NoCore, NoBlock, Stalled, NothingWaiting, BusTaken, NoTransaction}
-use Rattle.snoop_model.specs.Pictures.Picture.{Picture, held_at, held_by, kept_on}
+use Rattle.snoop_model.specs.Pictures.Picture.{Picture, held_at, held_by, kept_on, with_line}
 use Rattle.snoop_model.specs.Pictures.Situation.{Situation, picture_of, with_picture, state_of, Waits, CanOrder, StandsFirst}
 use Rattle.snoop_model.specs.Pictures.Sends.{value_sent}
 use Rattle.snoop_model.specs.Pictures.Sound.{keeps, request_for, missed_request, IsProper}
@@ -101,8 +101,7 @@ ask_rule p s o act next row =
 
 -- the situation after an Ask
 after_ask : Situation → ℕ → ℕ → CacheAction → Line → Option Item → Situation
-after_ask s core block act held entry = record s {
-  caches = slice_set s.caches block (slice_set (picture_of s block).caches core held);
+after_ask s core block act held entry = record (with_picture s block (with_line (picture_of s block) core held)) {
   queues = queues_after act s.queues core block;
   log = s.log ++ option_to_list entry;
 }

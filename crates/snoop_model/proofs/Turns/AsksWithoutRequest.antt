@@ -1,6 +1,6 @@
 -- An Ask that issues no request leaves its core with no step.
-use Rattle.std.proofs.Common.{◌≡◌, ◌≢◌, ℕ, ◌⊎◌, inl, inr, false, ◌==◌, Option, Some, None, refl, sym, ap, ◌∙◌, subst, arith}
-use Rattle.std.specs.Prelude.{slice_index_or, Contains}
+use Rattle.std.proofs.Common.{◌≡◌, ◌≢◌, ℕ, ◌⊎◌, inl, inr, false, ◌==◌, Option, Some, None, refl, sym, ap, ◌∙◌, subst, arith, ◌++◌}
+use Rattle.std.specs.Prelude.{Contains, option_to_list}
 use Rattle.std.proofs.lemmas.List.Elements.{All-contains}
 use Rattle.std.proofs.lemmas.Bool.Decides.{nat_tests}
 use Rattle.snoop_trace.specs.declared.step.Op.{Op}
@@ -19,6 +19,7 @@ use Rattle.snoop_model.specs.Pictures.Situation.{Situation, picture_of, state_of
 use Rattle.snoop_model.specs.Moves.Move.{FirstMove, Asks, Takes, queues_after, IsAbsent}
 use Rattle.snoop_model.specs.Turns.Turn.{step_under_way}
 use Rattle.snoop_model.specs.Runs.Owed.{AskedOnce}
+use Rattle.snoop_model.proofs.Lines.OneLine.{same_open}
 
 -- nothing of the core waits or is open
 idle_turn : (core block : ℕ) (w : Option Request) (o : Option Open) → ((r : Request) → w ≢ Some r) → ((t : Open) → o ≡ Some t → t.core ≢ core) → step_under_way w o core block ≡ None
@@ -33,7 +34,7 @@ none_some : (o : Option ℕ) (b : ℕ) → o ≡ None → o ≡ Some b → ⊥
 none_some o b e f = cc
 
 -- the queues and the transactions are as before
-same_queues : (s t : Situation) (core block word : ℕ) (asking : Op) (answer : Reply) (entry : Option Item) → FirstMove s (Ask core block word asking) answer t entry → ((request : Request) → answer ≢ Issued request) → (t.queues ≡ s.queues) × (t.transactions ≡ s.transactions)
+same_queues : (s t : Situation) (core block word : ℕ) (asking : Op) (answer : Reply) (entry : Option Item) → FirstMove s (Ask core block word asking) answer t entry → ((request : Request) → answer ≢ Issued request) → (t.queues ≡ s.queues) × ((b : ℕ) → (picture_of t b).transaction ≡ (picture_of s b).transaction)
 same_queues s t core block word asking answer entry m other = by_kind m.1.1.moves
   where
     by_act : (a : Asks s core m.0 word asking answer t entry) → (act : CacheAction) → a.row.action ≡ act → queues_after a.row.action s.queues core m.0 ≡ s.queues
@@ -45,13 +46,13 @@ same_queues s t core block word asking answer entry m other = by_kind m.1.1.move
     by_act a action.Drop e = rw e refl
     by_act a _ e = rw e refl
 
-    by_kind : IsAbsent s core m.0 asking answer t entry ⊎ Asks s core m.0 word asking answer t entry → (t.queues ≡ s.queues) × (t.transactions ≡ s.transactions)
-    by_kind (inl absent) = (ap (λ (x : Situation). x.queues) absent.3, ap (λ (x : Situation). x.transactions) absent.3)
-    by_kind (inr a) = (ap (λ (x : Situation). x.queues) a.after ∙ by_act a a.row.action refl, ap (λ (x : Situation). x.transactions) a.after)
+    by_kind : IsAbsent s core m.0 asking answer t entry ⊎ Asks s core m.0 word asking answer t entry → (t.queues ≡ s.queues) × ((b : ℕ) → (picture_of t b).transaction ≡ (picture_of s b).transaction)
+    by_kind (inl absent) = (ap (λ (x : Situation). x.queues) absent.3, λ b. ap (λ (x : Situation). (picture_of x b).transaction) absent.3)
+    by_kind (inr a) = (ap (λ (x : Situation). x.queues) a.after ∙ by_act a a.row.action refl, λ b. ap (λ (x : Situation). (picture_of x b).transaction) a.after ∙ same_open s core m.0 a.held (queues_after a.row.action s.queues core m.0) (s.log ++ option_to_list entry) b)
 
 pub asked_once : AskedOnce
 asked_once s t under_way core block word asking answer entry serving idle kept m other =
     let same = same_queues s t core block word asking answer entry m other in
     idle_turn core block (waiting_request (state_of t core block)) (picture_of t block).transaction
     (λ r w. none_some (under_way core) block idle (All-contains (λ b. under_way core ≡ Some b) (queue_of s.queues core) block (serving.waits core) (subst (λ q. Contains (queue_of q core) block) same.0 (kept.queued core block r w))))
-    (λ o is c. none_some (under_way o.core) block (ap under_way c ∙ idle) (serving.opened block o (ap (λ l. slice_index_or l block None) (sym same.1) ∙ is)))
+    (λ o is c. none_some (under_way o.core) block (ap under_way c ∙ idle) (serving.opened block o (sym (same.1 block) ∙ is)))

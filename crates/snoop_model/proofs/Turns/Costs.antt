@@ -1,16 +1,17 @@
 -- Each step is paid for by the Asks.
-use Rattle.std.proofs.Common.{◌≡◌, ℕ, ◌+◌, ◌*◌, ◌≤◌, List, length, Option, ap, arith, inl, inr}
+use Rattle.std.proofs.Common.{◌≡◌, ℕ, ◌+◌, ◌*◌, ◌≤◌, List, length, Option, ap, arith, inl, inr, refl}
 use Rattle.std.specs.Prelude.{sum_by, count_by, is_some, slice_set}
 use Rattle.snoop_trace.specs.declared.step.Step.TheVariants.{Ask, Order, Respond}
 use Rattle.snoop_rules.specs.declared.names.CacheAction.{CacheAction}
 use Rattle.snoop_rules.specs.declared.names.CacheAction.TheVariants as action
 use Rattle.snoop_bus.specs.Traffic.{Open}
 use Rattle.snoop_bus.specs.Queues.{after_order}
-use Rattle.snoop_model.specs.Pictures.Situation.{Situation}
+use Rattle.snoop_model.specs.Pictures.Situation.{Situation, picture_of, nothing_there}
+use Rattle.snoop_model.specs.Pictures.Picture.{Picture, with_line}
 use Rattle.snoop_model.specs.Moves.Move.{queues_after}
-use Rattle.snoop_model.specs.Turns.Serving.{owed}
+use Rattle.snoop_model.specs.Turns.Serving.{owed, is_open}
 use Rattle.snoop_model.specs.Turns.TurnRule.{Pays}
-use Rattle.snoop_model.proofs.Lists.Writes.{sum_issued, sum_ordered, count_opened, count_closed}
+use Rattle.snoop_model.proofs.Lists.Writes.{sum_issued, sum_ordered, one, one_small, count_set}
 
 sum_asked : (act : CacheAction) (lines : List (List ℕ)) (core block : ℕ) → sum_by length (queues_after act lines core block) ≤ sum_by length lines + 1
 sum_asked (action.Issue request) lines core block = sum_issued lines core block
@@ -22,21 +23,24 @@ sum_asked action.FillLoad lines core block = omega arith
 sum_asked action.FillStore lines core block = omega arith
 sum_asked (action.Send payload target) lines core block = omega arith
 
-abbrev owes : List (List ℕ) → List (Option Open) → ℕ
-owes lines transactions = 2 * sum_by length lines + count_by is_some transactions
+abbrev owes : List (List ℕ) → List Picture → ℕ
+owes queues pictures = 2 * sum_by length queues + count_by is_open pictures
 
 pub pays : Pays
 pays s t (Ask core on word asking) answer entry move = elim move.1.1.moves [
   | inl absent ↦ let e : owed t ≡ owed s = ap (λ (x : Situation). owed x) absent.3 in omega arith
   | inr asks ↦
-      let e : owed t ≡ owes (queues_after asks.row.action s.queues core move.0) s.transactions = ap (λ (x : Situation). owed x) asks.after in
-      omega (arith, e, sum_asked asks.row.action s.queues core move.0)
+      let next : Picture = with_line (picture_of s move.0) core asks.held in
+      let e : owed t ≡ owes (queues_after asks.row.action s.queues core move.0) (slice_set s.pictures move.0 next) = ap (λ (x : Situation). owed x) asks.after in
+      omega (arith, e, sum_asked asks.row.action s.queues core move.0, count_set is_open s.pictures move.0 next nothing_there refl)
 ]
 pays s t (Order core) answer entry move =
     let orders = move.1.1.orders in
-    let e : owed t ≡ owes (after_order s.queues core move.0) (slice_set s.transactions move.0 orders.next.transaction) = ap (λ (x : Situation). owed x) orders.after in
-    omega (arith, e, sum_ordered s.queues core move.0 move.1.0, count_opened s.transactions move.0 orders.next.transaction)
+    let e : owed t ≡ owes (after_order s.queues core move.0) (slice_set s.pictures move.0 orders.next) = ap (λ (x : Situation). owed x) orders.after in
+    omega (arith, e, sum_ordered s.queues core move.0 move.1.0, count_set is_open s.pictures move.0 orders.next nothing_there refl, one_small (is_open orders.next))
 pays s t (Respond on) answer entry move =
     let responds = move.1.1.responds in
-    let e : owed t ≡ owes s.queues (slice_set s.transactions move.0 responds.next.transaction) = ap (λ (x : Situation). owed x) responds.after in
-    omega (arith, e, count_closed s.transactions move.0 responds.next.transaction move.1.1.closing responds.opened responds.closed)
+    let e : owed t ≡ owes s.queues (slice_set s.pictures move.0 responds.next) = ap (λ (x : Situation). owed x) responds.after in
+    let was : one (is_open (picture_of s move.0)) ≡ 1 = ap (λ (o : Option Open). one (is_some o)) responds.opened in
+    let is : one (is_open responds.next) ≡ 0 = ap (λ (o : Option Open). one (is_some o)) responds.closed in
+    omega (arith, e, count_set is_open s.pictures move.0 responds.next nothing_there refl, was, is)

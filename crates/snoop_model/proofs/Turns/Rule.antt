@@ -18,8 +18,8 @@ use Rattle.snoop_bus.specs.Queues.{queue_of}
 use Rattle.snoop_model.specs.declared.line.Access.{Access}
 use Rattle.snoop_model.specs.declared.replies.Refused.{Refused}
 use Rattle.snoop_model.specs.declared.replies.Refused.TheVariants.{NoCore, NoBlock, Stalled, NothingWaiting, BusTaken, NoTransaction, NoMemory}
-use Rattle.snoop_model.specs.Pictures.Picture.{held_by}
-use Rattle.snoop_model.specs.Pictures.Situation.{Situation, picture_of, state_of, Waits}
+use Rattle.snoop_model.specs.Pictures.Picture.{held_by, Picture, with_line}
+use Rattle.snoop_model.specs.Pictures.Situation.{Situation, picture_of, state_of, Waits, nothing_there}
 use Rattle.snoop_model.specs.Moves.Move.{queues_after}
 use Rattle.snoop_model.specs.Moves.Refuses.{Refuses}
 use Rattle.snoop_model.specs.Turns.Turn.{step_under_way}
@@ -118,14 +118,14 @@ module _ (s : Situation) (before after : ℕ → Option ℕ) (serving : IsServin
   asked_waits action.FillStore core block its k = still_waits k
   asked_waits (action.Send payload target) core block its k = still_waits k
 
-  -- an open transaction where one block's was written
-  set_opened : (place : ℕ) (new : Option Open) → ((o : Open) → new ≡ Some o → after o.core ≡ Some place)
-      → (block : ℕ) (o : Open) → slice_index_or (slice_set s.transactions place new) block None ≡ Some o → after o.core ≡ Some block
-  set_opened place new its block o is = elim (set_cases s.transactions place block new None) [
+  -- an open transaction where one block's picture was written
+  set_opened : (place : ℕ) (next : Picture) → ((o : Open) → next.transaction ≡ Some o → after o.core ≡ Some place)
+      → (block : ℕ) (o : Open) → (slice_index_or (slice_set s.pictures place next) block nothing_there).transaction ≡ Some o → after o.core ≡ Some block
+  set_opened place next its block o is = elim (set_cases s.pictures place block next nothing_there) [
     | inl p ↦
         let P : ℕ → Type 0 = λ b. after o.core ≡ Some b in
-        subst P (sym p.0) (its o (sym p.1 ∙ is))
-    | inr e ↦ still_opened block o (sym e ∙ is)
+        subst P (sym p.0) (its o (ap (λ (x : Picture). x.transaction) (sym p.1) ∙ is))
+    | inr e ↦ still_opened block o (ap (λ (x : Picture). x.transaction) (sym e) ∙ is)
   ]
 
 pub serves_on : ServesOn
@@ -137,7 +137,7 @@ serves_on s t before after (Ask core on word asking) answer entry serving move e
           let Q : ℕ → Type 0 = λ b. after core ≡ Some b in
           subst P (sym asks.after) (record {
             waits = asked_waits s before after serving extends asks.row.action core move.0 (subst Q move.1.1.on_block its);
-            opened = still_opened s before after serving extends;
+            opened = set_opened s before after serving extends move.0 (with_line (picture_of s move.0) core asks.held) (still_opened s before after serving extends move.0);
           })
     ]
 serves_on s t before after (Order core) answer entry serving move extends its =
@@ -146,7 +146,7 @@ serves_on s t before after (Order core) answer entry serving move extends its =
     let here : after core ≡ Some move.0 = extends core move.0 (all_first (λ b. before core ≡ Some b) (queue_of s.queues core) move.0 (serving.waits core) move.1.0) in
     subst P (sym orders.after) (record {
       waits = all_ordered (λ c b. after c ≡ Some b) s.queues core move.0 (still_waits s before after serving extends);
-      opened = set_opened s before after serving extends move.0 orders.next.transaction
+      opened = set_opened s before after serving extends move.0 orders.next
           (λ o is. let same = same_Some _ _ (sym orders.opened ∙ is) in
           let Q : ℕ → Type 0 = λ c. after c ≡ Some move.0 in
           subst Q (ap (λ (x : Open). x.core) same) here);
@@ -156,7 +156,7 @@ serves_on s t before after (Respond on) answer entry serving move extends its =
     let responds = move.1.1.responds in
     subst P (sym responds.after) (record {
       waits = still_waits s before after serving extends;
-      opened = set_opened s before after serving extends move.0 responds.next.transaction
+      opened = set_opened s before after serving extends move.0 responds.next
           (λ o is. let clash : ◌≡◌ {A = Option Open} None (Some o) = sym responds.closed ∙ is in cc);
     })
 

@@ -24,13 +24,11 @@ abbrev pub HasOpen : Situation → ℕ → ℕ → Request → Type 0
 HasOpen s core block request =
     (transaction : Open) × (((picture_of s block).transaction ≡ Some transaction) × (transaction.core ≡ core) × (transaction.request ≡ request))
 
--- the parts of a situation are as long as its shape says
+-- there is a picture for each block, which has a line for each core, and a queue for each core
 pub record IsShaped (s : Situation) : Type 0 where
-  pub rows : length s.caches ≡ s.shape.blocks
+  pub pictures : length s.pictures ≡ s.shape.blocks
   pub row : (block : ℕ) → block < s.shape.blocks → length (picture_of s block).caches ≡ s.shape.cores
-  pub memory : length s.memory ≡ s.shape.blocks
   pub queues : length s.queues ≡ s.shape.cores
-  pub transactions : length s.transactions ≡ s.shape.blocks
 
 -- lists are as long as the shape says, and queues, open transactions and waiting operations are as the states of the lines say
 pub record IsWellKept (s : Situation) : Type 0 where

@@ -33,7 +33,7 @@ use Rattle.snoop_bus.specs.Traffic.{Open}
 use Rattle.snoop_bus.specs.Queues.{after_issue, after_order}
 use Rattle.snoop_model.specs.declared.replies.Reply.{Reply}
 use Rattle.snoop_model.specs.declared.replies.Reply.TheVariants as reply
-use Rattle.snoop_model.specs.Pictures.Picture.{Picture, held_at, held_by, kept_on}
+use Rattle.snoop_model.specs.Pictures.Picture.{Picture, held_at, held_by, with_line, kept_on}
 use Rattle.snoop_model.specs.Pictures.Situation.{Situation, picture_of, with_picture, state_of, CanOrder, StandsFirst}
 use Rattle.snoop_model.specs.Pictures.Lines.{Line, MemLine}
 use Rattle.snoop_model.specs.declared.line.Access.{Access}
@@ -182,8 +182,7 @@ pub record Asks (old : Situation) (core block word : ℕ) (asking : Op) (answer 
   pub is_row : cell_of old.protocol (state_of old core block) (asked asking) ≡ Some row
   pub held : Line
   pub taken : Takes row.action row.next old.log core block word asking (held_by (picture_of old block) core) held answer entry
-  pub after : new ≡ record old {
-    caches = slice_set old.caches block (slice_set (picture_of old block).caches core held);
+  pub after : new ≡ record (with_picture old block (with_line (picture_of old block) core held)) {
     queues = queues_after row.action old.queues core block;
     log = old.log ++ option_to_list entry;
   }

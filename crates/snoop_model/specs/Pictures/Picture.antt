@@ -1,6 +1,6 @@
 -- The picture of a block: what each core, memory and the bus hold of it.
 -- Source: "A Primer on Memory Consistency and Cache Coherence", 2nd edition, chapter 7, system model.
-use Rattle.std.specs.Prelude.{ℕ, List, Option, None, slice_index_or}
+use Rattle.std.specs.Prelude.{ℕ, List, Option, None, slice_index_or, slice_set}
 use Rattle.snoop_trace.specs.Words.{Data}
 use Rattle.snoop_trace.specs.declared.protocol.Protocol.{Protocol}
 use Rattle.snoop_trace.specs.declared.protocol.Protocol.TheVariants.{Msi, Mesi}
@@ -28,6 +28,10 @@ held_at caches core = slice_index_or caches core nothing_held
 -- what a core holds of the block
 abbrev pub held_by : Picture → ℕ → Line
 held_by picture core = held_at picture.caches core
+
+-- the core holds this, and all else is as it was
+abbrev pub with_line : Picture → ℕ → Line → Picture
+with_line picture core line = record picture { caches = slice_set picture.caches core line }
 
 -- memory's state at reset
 abbrev pub first_memory : Protocol → MemState

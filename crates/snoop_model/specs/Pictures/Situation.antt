@@ -1,6 +1,6 @@
 -- The machine as its callers see it.
 -- Source: this project's profile.
-use Rattle.std.specs.Prelude.{◌≡◌, ℕ, List, [], Option, Some, None, slice_get, slice_index_or, slice_set, replicate}
+use Rattle.std.specs.Prelude.{◌≡◌, ℕ, List, [], Some, None, slice_get, slice_index_or, slice_set, replicate}
 use Rattle.snoop_trace.specs.Extent.{Extent}
 use Rattle.snoop_trace.specs.Words.{zero_words}
 use Rattle.snoop_trace.specs.declared.protocol.Protocol.{Protocol}
@@ -9,55 +9,48 @@ use Rattle.snoop_rules.specs.declared.names.Request.{Request}
 use Rattle.snoop_rules.specs.Waits.{waiting_request}
 use Rattle.snoop_history.specs.declared.items.Item.{Item}
 use Rattle.snoop_model.specs.Pictures.Picture.{Picture, first_memory, nothing_held, held_by}
-use Rattle.snoop_model.specs.Pictures.Lines.{Line, MemLine}
-use Rattle.snoop_bus.specs.Traffic.{Open}
 use Rattle.snoop_bus.specs.Queues.{queue_of}
 use Rattle.snoop_rules.specs.declared.names.MemState.TheVariants.{IorS}
 
--- what each core and memory hold of each block, the open transactions, each core's queue, and the log
+-- the picture of each block, each core's queue, and the log
 pub record Situation : Type 0 where
   pub protocol : Protocol
   pub shape : Extent
-  pub caches : List (List Line)
-  pub memory : List MemLine
-  pub transactions : List (Option Open)
+  pub pictures : List Picture
   pub queues : List (List ℕ)
   pub log : List Item
 
--- every cache in I, nothing waiting, no transaction open, memory with 0
+-- a block at reset: every cache in I, memory with 0, no transaction open
+abbrev pub untouched : Protocol → ℕ → Picture
+untouched protocol cores =
+    record {
+      caches = replicate cores nothing_held;
+      memory = record { state = first_memory protocol; value = zero_words };
+      transaction = None;
+    }
+
+-- every block untouched, and nothing waiting
 abbrev pub reset : Protocol → Extent → Situation
 reset protocol shape =
     record {
       protocol = protocol;
       shape = shape;
-      caches = replicate shape.blocks (replicate shape.cores nothing_held);
-      memory = replicate shape.blocks (record { state = first_memory protocol; value = zero_words });
-      transactions = replicate shape.blocks None;
+      pictures = replicate shape.blocks (untouched protocol shape.cores);
       queues = replicate shape.cores [];
       log = [];
     }
 
--- what stands for memory outside the shape
-abbrev pub no_memory : MemLine
-no_memory = record { state = IorS; value = zero_words }
+-- what stands for the picture of a block outside the shape
+abbrev pub nothing_there : Picture
+nothing_there = record { caches = []; memory = record { state = IorS; value = zero_words }; transaction = None }
 
 -- the picture of a block
 abbrev pub picture_of : Situation → ℕ → Picture
-picture_of s block =
-    record {
-      caches = slice_index_or s.caches block [];
-      memory = slice_index_or s.memory block no_memory;
-      transaction = slice_index_or s.transactions block None;
-    }
+picture_of s block = slice_index_or s.pictures block nothing_there
 
 -- the block has this picture, and the others are as they were
 abbrev pub with_picture : Situation → ℕ → Picture → Situation
-with_picture s block picture =
-    record s {
-      caches = slice_set s.caches block picture.caches;
-      memory = slice_set s.memory block picture.memory;
-      transactions = slice_set s.transactions block picture.transaction;
-    }
+with_picture s block picture = record s { pictures = slice_set s.pictures block picture }
 
 -- the core's state of the block
 abbrev pub state_of : Situation → ℕ → ℕ → CacheState

@@ -1,10 +1,11 @@
 -- What holds between the turns of cores that have one work at a time, and what their steps cost.
 -- Source: this project's profile.
-use Rattle.std.specs.Prelude.{◌≡◌, ℕ, ◌+◌, ◌*◌, length, All, Option, Some, is_some, sum_by, count_by, ⊤}
+use Rattle.std.specs.Prelude.{◌≡◌, ℕ, ◌+◌, ◌*◌, Bool, length, All, Option, Some, is_some, sum_by, count_by, ⊤}
 use Rattle.snoop_trace.specs.declared.step.Step.{Step}
 use Rattle.snoop_trace.specs.declared.step.Step.TheVariants.{Ask, Order, Respond}
 use Rattle.snoop_bus.specs.Traffic.{Open}
 use Rattle.snoop_bus.specs.Queues.{queue_of}
+use Rattle.snoop_model.specs.Pictures.Picture.{Picture}
 use Rattle.snoop_model.specs.Pictures.Situation.{Situation, picture_of}
 
 -- a core waits, and has a transaction open, only on the block of its work under way
@@ -18,9 +19,13 @@ IsUnderWay under_way (Ask core block word asking) = under_way core ≡ Some bloc
 IsUnderWay under_way (Order core) = ⊤
 IsUnderWay under_way (Respond block) = ⊤
 
+-- a transaction is open on the block of this picture
+abbrev pub is_open : Picture → Bool
+is_open picture = is_some picture.transaction
+
 -- the steps still to come for what was asked: two for each request that waits, and one for each open transaction
 abbrev pub owed : Situation → ℕ
-owed s = 2 * sum_by length s.queues + count_by is_some s.transactions
+owed s = 2 * sum_by length s.queues + count_by is_open s.pictures
 
 -- what a step pays in: an Ask three, of which one is its own
 abbrev pub paid : Step → ℕ

@@ -10,4 +10,4 @@ returns-in-Stall-default-default-clause-refused g c =
     let cell = c.in-Some.cell in
     let P : CacheEvent → Type 0 = λ event. Cell c.args.protocol c.args.line.state event cell.action cell.next in
     let Q : CacheAction → Type 0 = λ act. Cell c.args.protocol c.args.line.state (asked c.args.op) act cell.next in
-    (refl, (cell.next, subst Q c.in-Stall-default-default.is-0 (subst P c.event_of.ensures c.in-Some.ensures.row)))
+    (refl, (cell.next, subst Q c.in-Stall-default-default.is-0 (subst P c.event_asked.ensures c.in-Some.ensures.row)))

@@ -1,5 +1,5 @@
-use Rattle.std.proofs.Common.{◌≡◌, ◌∙◌, ◌<◌, ℕ, Bool, true, false, List, Option, Some, None, refl, sym, ap, subst}
-use Rattle.std.specs.Prelude.{is_some, slice_set}
+use Rattle.std.proofs.Common.{◌≡◌, ◌∙◌, ◌<◌, ℕ, true, false, List, Option, Some, None, sym, ap, subst}
+use Rattle.std.specs.Prelude.{is_some}
 use Rattle.snoop_trace.specs.declared.step.Step.{Step}
 use Rattle.snoop_trace.specs.declared.step.Step.TheVariants.{Respond}
 use Rattle.snoop_rules.specs.Waits.{waiting_request}
@@ -11,7 +11,7 @@ use Rattle.snoop_model.specs.Moves.Move.{FirstMove}
 use Rattle.snoop_model.specs.Invariant.WellKept.{IsWellKept}
 use Rattle.snoop_trace.specs.declared.step.Work.{Work}
 use Rattle.snoop_bench.specs.Locked.{Locked, record_of}
-use Rattle.snoop_bench.specs.Recording.{Recording, Takes}
+use Rattle.snoop_bench.specs.Recording.{Takes}
 use Rattle.snoop_bench.specs.Keeps.{AreUnderWay, locked}
 use Rattle.snoop_bench.specs.Turns.{Finishes, TurnsIn}
 use Rattle.snoop_bench.specs.Turns.Case.{ends}
@@ -19,22 +19,21 @@ use Rattle.snoop_bench.specs.Faults.{IsInside}
 use Rattle.snoop_bench.specs.Works.{access_of, work_at}
 use Rattle.snoop_bench.proofs.Within.{turn_within}
 use Rattle.snoop_bench.proofs.Turning.{Stepped, serving_step, over_keeps}
-use Rattle.snoop_bench.proofs.Closing.{its_own, no_request, closed_after}
+use Rattle.snoop_bench.proofs.Closing.{a_response, no_request, closed_after}
 use Rattle.snoop_bench.proofs.Outcomes.{finishes, last_is}
-use Rattle.snoop_bench.proofs.bench.Bench.finish.Goals.{After-over}
 use Rattle.snoop_bench.proofs.bench.Bench.finish.Goals as goal
 
 -- the work has no step left, and the works stay under way until it is put out
 abbrev Finished : Situation → Situation → Step → List (Option Work) → ℕ → Work → Type 0
 Finished s t step works core work = (step ≡ Respond work.block) × (turn_of t core work.block work.word work.op true ≡ None) × AreUnderWay works t
 
-finished : Rattle.snoop_model.specs.Turns.TurnRule.TurnRule → (s t : Situation) (step : Step) (answer : Rattle.snoop_model.specs.declared.replies.Reply.Reply) (works : List (Option Work)) (core : ℕ) (work : Work) → AreUnderWay works s → IsWellKept s → core < s.shape.cores
+finished : Rattle.snoop_model.specs.Turns.TurnRule.TurnRule → (s t : Situation) (step : Step) (answer : Rattle.snoop_model.specs.declared.replies.Reply.Reply) (works : List (Option Work)) (core : ℕ) (work : Work) → AreUnderWay works s → IsWellKept s
     → Stepped s t step answer → turn_of s core work.block work.word work.op true ≡ Some step → is_some (waiting_request (state_of s core work.block)) ≡ false → Finished s t step works core work
-finished rule s t step answer works core work u well inside m turn none =
-    let own = its_own core work.block (waiting_request (state_of s core work.block)) (picture_of s work.block).transaction step turn none in
-    let move : FirstMove s (Respond work.block) answer t m.entry = subst (λ (x : Step). FirstMove s x answer t m.entry) own.0 m.move in (
-      own.0,
-      closed_after s t core work.block work.word work.op answer m.entry own.1.0 well inside (no_request (waiting_request (state_of s core work.block)) none) own.1.1.0 own.1.1.1 move,
+finished rule s t step answer works core work u well m turn none =
+    let is = a_response core work.block (waiting_request (state_of s core work.block)) (picture_of s work.block).transaction step turn none in
+    let move : FirstMove s (Respond work.block) answer t m.entry = subst (λ (x : Step). FirstMove s x answer t m.entry) is m.move in (
+      is,
+      closed_after s t core work.block work.word work.op answer m.entry well (no_request (waiting_request (state_of s core work.block)) none) move,
       serving_step rule s t core work.block work.word work.op step answer works u m turn,
     )
 
@@ -52,11 +51,10 @@ invariant_of-self-2 g c =
     let well : IsWellKept t = subst IsWellKept c.machine-2.ensures c.coherent-2.ensures.well_kept in
     let took = c.in_ok-take.ensures.takes in
     let its = ap (λ (l : Locked). work_at l.works c.args.core) c.self.view_is ∙ c.requires.its in
-    let inside = subst (λ (l : Locked). IsInside c.args.core c.args.work l) (sym c.self.view_is) c.requires.inside in
     let turn = ap (λ (l : Locked). turn_of l.situation c.args.core c.args.work.block c.args.work.word c.args.work.op true) c.self.view_is ∙ c.requires.step in
     let none = ap (λ (l : Locked). is_some (waiting_request (state_of l.situation c.args.core c.args.work.block))) c.self.view_is ∙ c.requires.waits in
     let m : Stepped s t c.args.step c.in_ok-take.field-0 = record { entry = took.item; move = took.move; once = c.in_ok-take.ensures.once; cores = ap (λ (e : Rattle.snoop_trace.specs.Extent.Extent). e.cores) c.take.ensures.stays.1; kept = well } in
-    let f = finished c.turns_are_served.ensures s t c.args.step c.in_ok-take.field-0 c.self.inside.works.items c.args.core c.args.work c.self.invariant before inside.0 m turn none in
+    let f = finished c.turns_are_served.ensures s t c.args.step c.in_ok-take.field-0 c.self.inside.works.items c.args.core c.args.work c.self.invariant before m turn none in
     subst (λ (l : List (Option Work)). AreUnderWay l t) (sym c.set_work.ensures) (over_keeps c.turns_are_served.ensures t c.self.inside.works.items c.args.core c.args.work f.2 well its f.1)
 
 pub returns-clause-ok : goal.returns-clause-ok
@@ -71,7 +69,7 @@ returns-clause-ok g c =
     let turn = ap (λ (l : Locked). turn_of l.situation c.args.core c.args.work.block c.args.work.word c.args.work.op true) c.self.view_is ∙ c.requires.step in
     let none = ap (λ (l : Locked). is_some (waiting_request (state_of l.situation c.args.core c.args.work.block))) c.self.view_is ∙ c.requires.waits in
     let m : Stepped s t c.args.step c.in_ok-take.field-0 = record { entry = took.item; move = took.move; once = c.in_ok-take.ensures.once; cores = ap (λ (e : Rattle.snoop_trace.specs.Extent.Extent). e.cores) c.take.ensures.stays.1; kept = well } in
-    let f = finished c.turns_are_served.ensures s t c.args.step c.in_ok-take.field-0 c.self.inside.works.items c.args.core c.args.work c.self.invariant before inside.0 m turn none in
+    let f = finished c.turns_are_served.ensures s t c.args.step c.in_ok-take.field-0 c.self.inside.works.items c.args.core c.args.work c.self.invariant before m turn none in
     let cores : c.args.core < c.log.result.now.cores = subst (λ (n : ℕ). c.args.core < n) (sym (c.log.ensures.shape.0 ∙ ap (λ (x : Situation). x.shape.cores) c.machine-3.ensures ∙ m.cores)) inside.0 in
     let last : c.last-last.result ≡ last_of t.log c.args.core =
     last_is c.log.result.now.cores c.args.core c.log.result.now.items c.last-last.result c.last-last.ensures cores

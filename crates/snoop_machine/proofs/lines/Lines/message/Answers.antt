@@ -15,11 +15,11 @@ use Rattle.snoop_model.specs.Pictures.Picture.{held_at}
 use Rattle.snoop_model.specs.Pictures.Message.{free_picture}
 use Rattle.snoop_model.specs.Pictures.Sends.{sent_by}
 use Rattle.snoop_model.proofs.Lines.TheSender.{Silent-none, Silent-more, Silent-past, Silent-all, IsMessage-sent, IsMessage-memory}
-use Rattle.snoop_model.proofs.Lines.EachRow.{row_of}
 use Rattle.snoop_machine.proofs.ConcernedCores.{concerned_within, waits_within, Cell-passed}
 use Rattle.snoop_machine.proofs.lines.Lines.message.Given.{Over}
 use Rattle.snoop_machine.proofs.lines.Lines.message.Goals as goal
 use Rattle.snoop_machine.proofs.lines.Lines.message.Goals.{In-Some-cache_cell, In-Some-next}
+use Rattle.snoop_machine.specs.Lines.{row_of}
 
 pub returns-in-Some-message_of_memory : goal.returns-in-Some-message_of_memory
 returns-in-Some-message_of_memory g c =

@@ -1,8 +1,8 @@
 use Rattle.std.proofs.Common.{◌≤◌, ◌-◌, length}
 use Rattle.snoop_model.specs.Pictures.Message.{free_picture}
 use Rattle.snoop_model.proofs.Lines.TheSender.{SilentBelow}
-use Rattle.snoop_model.proofs.Lines.EachRow.{row_of}
 use Rattle.snoop_machine.proofs.lines.Lines.message.Given as goal
+use Rattle.snoop_machine.specs.Lines.{row_of}
 
 abbrev pub invariant-loop-core : goal.invariant-loop-core
 invariant-loop-core g l = SilentBelow l.protocol (free_picture (row_of l.self.rows l.block) l.fn.memory) l.requestor l.request l.from × (l.from ≤ length (row_of l.self.rows l.block))

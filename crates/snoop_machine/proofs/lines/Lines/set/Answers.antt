@@ -4,13 +4,12 @@ use Rattle.std.specs.Map.{lookup}
 use Rattle.std.proofs.lemmas.Grind.{common_steps}
 use Rattle.std.proofs.lemmas.List.{get_or_read, get_or_default, length-set, get_or-set_same, get_or-set_other}
 use Rattle.snoop_rules.specs.declared.names.CacheState.TheVariants.{I}
-use Rattle.snoop_model.specs.Pictures.Sound.{line_at}
 use Rattle.snoop_machine.specs.declared.holders.Holders.{Holders}
 use Rattle.snoop_model.specs.Invariant.Fits.{is_owner}
 use Rattle.snoop_model.specs.Pictures.Sound.{keeps}
 use Rattle.snoop_machine.specs.Holders.{HaveMoved}
 use Rattle.snoop_machine.specs.Cache.{Contents, no_cache, line_in, blocks_of}
-use Rattle.snoop_machine.specs.Lines.{Held, no_holders, rows_of, gone}
+use Rattle.snoop_machine.specs.Lines.{Held, no_holders, rows_of, gone, line_at}
 use Rattle.snoop_machine.proofs.ProperLines.{settled}
 use Rattle.snoop_machine.proofs.MapRows.{rows-set, blocks-at, length-blocks_of}
 use Rattle.snoop_machine.proofs.LineMaps.{in_rows, writable_placed, blocks_seen, gone-none, gone-one, is_I}

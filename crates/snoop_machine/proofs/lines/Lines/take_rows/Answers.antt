@@ -10,14 +10,14 @@ use Rattle.snoop_rules.specs.Cell.{Cell, cell_of}
 use Rattle.snoop_rules.specs.Takers.{seen_by}
 use Rattle.snoop_model.specs.Pictures.Lines.{Line}
 use Rattle.snoop_model.specs.Pictures.Picture.{held_at, nothing_held}
-use Rattle.snoop_model.specs.Pictures.Sound.{IsProper, line_at}
+use Rattle.snoop_model.specs.Pictures.Sound.{IsProper}
 use Rattle.snoop_model.specs.Moves.Move.{moves_to}
 use Rattle.snoop_model.specs.Moves.LookUps.{HasRow}
 use Rattle.snoop_model.proofs.Tables.Rows.{IsProper-order}
 use Rattle.snoop_machine.proofs.ProperLines.{moves_to_same}
-use Rattle.snoop_machine.specs.Lines.{gone}
+use Rattle.snoop_machine.specs.Lines.{gone, row_of, line_at}
 use Rattle.snoop_machine.proofs.LinesGoing.{LinesGo-set, row_after}
-use Rattle.snoop_model.proofs.Lines.EachRow.{Taking, Taking-more, Taking-past, row_of}
+use Rattle.snoop_model.proofs.Lines.EachRow.{Taking, Taking-more, Taking-past}
 use Rattle.snoop_machine.proofs.ConcernedCores.{concerned_within, TakesRow-passed, Cell-leaves}
 use Rattle.snoop_machine.proofs.lines.Lines.take_rows.Given.{Over}
 use Rattle.snoop_machine.proofs.lines.Lines.take_rows.Goals as goal

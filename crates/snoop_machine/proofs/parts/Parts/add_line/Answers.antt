@@ -1,18 +1,18 @@
-use Rattle.std.proofs.Common.{◌≡◌, ◌<◌, ◌≤◌, ◌++◌, ◌∷◌, [], ◌∙◌, ℕ, List, sym, ap, subst, length, arith}
+use Rattle.std.proofs.Common.{◌≡◌, ◌<◌, ◌≤◌, ◌++◌, ◌∷◌, [], ◌∙◌, ℕ, List, sym, ap, subst, length, arith, refl}
 use Rattle.std.specs.Prelude.{slice_set, slice_index, slice_index_or}
 use Rattle.std.proofs.lemmas.Grind.{common_steps}
 use Rattle.std.proofs.lemmas.Result.{err_from_is_err_and}
 use Rattle.std.proofs.lemmas.List.{length-set}
 use Rattle.snoop_bus.specs.Traffic.{Traffic, Waiting, waiting_of}
-use Rattle.snoop_machine.specs.PartsView.{Fields, fields, places_of}
+use Rattle.snoop_machine.specs.PartsView.{Fields, fields, places_of, IsSound}
 use Rattle.snoop_model.specs.Pictures.Lines.{Line}
 use Rattle.snoop_model.specs.Moves.Standing.{Standing}
-use Rattle.snoop_model.specs.Pictures.Sound.{IsSound}
 use Rattle.snoop_machine.proofs.Room.{held_in, held_in-set, keeps_room, places-full, places-map, places-queue}
 use Rattle.snoop_machine.proofs.QueueViews.{queues_of-room, same_traffic, IsSound-room}
 use Rattle.snoop_machine.proofs.parts.Parts.add_line.Given.{Over}
 use Rattle.snoop_machine.proofs.parts.Parts.add_line.Goals as goal
 use Rattle.snoop_machine.proofs.parts.Parts.add_line.Goals.{After-put_ahead}
+use Rattle.snoop_machine.proofs.PictureViews.{core_in, sized_on}
 
 rows : (g : Over) (c : After-put_ahead g) → c.put_ahead.new.self.rows ≡ c.self.inside.lines.rows
 rows g c = c.put_ahead.ensures.rows ∙ c.reserve.ensures.rows
@@ -23,8 +23,7 @@ invariant_of-self-2 g c =
     let bus = m.bus in
     let core = c.args.core in
     let room = (waiting_of c.reserve-2.new.self core).room in
-    let P : Standing → Type 0 = λ s. core < s.situation.shape.cores in
-    let in_cores : core < m.shape.cores = subst P (sym c.self.view_is) c.requires.core in
+    let in_cores = core_in m c.self.invariant c.args.self.now c.self.view_is core c.requires.core in
     let in_queues : core < length bus.queues = omega (arith, c.self.invariant.sound.queues) in
     let after : Traffic = record bus { queues = slice_set bus.queues core (record { requests = (waiting_of bus core).requests; room = room }) } in
     let same : c.reserve-2.new.self ≡ after = same_traffic c.reserve-2.new.self after c.reserve-2.ensures.queue c.reserve-2.ensures.transactions in
@@ -32,16 +31,11 @@ invariant_of-self-2 g c =
     let R : List (List Line) → Type 0 = λ caches. IsSound m.shape caches c.reserve-2.new.self in
     record {
       sound = subst R (sym (rows g (goal.at.invariant_of-self-2 g c).After-put_ahead)) (subst Q (sym same) (IsSound-room m.shape m.lines.rows bus core room in_queues c.self.invariant.sound));
-      few = c.self.invariant.few;
-      lines = ap (λ (lines : List (List ℕ)). length lines) c.put_ahead.ensures.lines
+      sized = sized_on m _ c.self.invariant.sized refl
+          (ap (λ (lines : List (List ℕ)). length lines) c.put_ahead.ensures.lines
           ∙ (length-set c.reserve.new.self.lines core (slice_index_or c.reserve.new.self.lines core [] ++ c.args.block ∷ [])
-          ∙ (ap (λ (lines : List (List ℕ)). length lines) c.reserve.ensures.lines ∙ c.self.invariant.lines));
-      memory = c.self.invariant.memory;
-      cores = c.self.invariant.cores;
-      blocks = c.self.invariant.blocks;
-      words = c.self.invariant.words;
-      held = c.self.invariant.held;
-      few_words = c.self.invariant.few_words;
+          ∙ ap (λ (lines : List (List ℕ)). length lines) c.reserve.ensures.lines))
+          refl (refl, refl, refl);
     }
 
 pub returns-in_err-reserve-clause-full : goal.returns-in_err-reserve-clause-full
@@ -83,8 +77,7 @@ pub returns-clause-room : goal.returns-clause-room
 returns-clause-room g c =
     let m = (fields c.self.inside.protocol c.self.inside.shape c.self.inside.lines c.self.inside.memory c.self.inside.bus c.self.inside.log) in
     let core = c.args.core in
-    let P : Standing → Type 0 = λ s. core < s.situation.shape.cores in
-    let in_cores : core < m.shape.cores = subst P (sym c.self.view_is) c.requires.core in
+    let in_cores = core_in m c.self.invariant c.args.self.now c.self.view_is core c.requires.core in
     let in_queues : core < length m.bus.queues = omega (arith, c.self.invariant.sound.queues) in
     let queue : Waiting = record { requests = (waiting_of m.bus core).requests; room = (waiting_of c.reserve-2.new.self core).room } in
     let more = c.reserve-2.ensures.room in

@@ -1,28 +1,40 @@
-use Rattle.std.proofs.Common.{◌≡◌, ◌<◌, ◌++◌, ◌∷◌, [], List, length, Some, None, false, ◌∙◌, refl, sym, ap, subst}
-use Rattle.std.specs.Prelude.{slice_set}
+use Rattle.std.proofs.Common.{◌≡◌, ◌++◌, ◌∷◌, [], List, length, Some, None, false, ◌∙◌, refl, sym, ap, subst, inl, Option}
+use Rattle.std.specs.Prelude.{slice_set, option_map}
 use Rattle.std.proofs.lemmas.List.{length-set}
 use Rattle.snoop_rules.specs.Waits.{waiting_request}
+use Rattle.snoop_rules.specs.declared.names.Request.{Request}
 use Rattle.snoop_history.specs.Journal.{Journal}
 use Rattle.snoop_history.specs.declared.items.Did.{Did}
 use Rattle.snoop_history.specs.declared.items.Came.{Came}
 use Rattle.snoop_history.specs.declared.items.Item.TheVariants as item
 use Rattle.snoop_bus.specs.Traffic.{Traffic}
 use Rattle.snoop_model.specs.Pictures.Lines.{Line, MemLine}
-use Rattle.snoop_model.specs.Pictures.Picture.{Picture}
+use Rattle.snoop_model.specs.Pictures.Picture.{Picture, held_by}
 use Rattle.snoop_model.specs.Moves.Standing.{Standing}
 use Rattle.snoop_model.specs.Pictures.Situation.{Situation, picture_of, with_picture}
-use Rattle.snoop_model.specs.Pictures.Sound.{IsSound, IsProper, line_at}
-use Rattle.snoop_machine.specs.PartsView.{fields, queues_of}
+use Rattle.snoop_model.specs.Pictures.Sound.{IsProper, request_for, missed_request}
+use Rattle.snoop_machine.specs.PartsView.{fields, standing, pictures_of, queues_of, IsSound}
+use Rattle.snoop_machine.specs.Lines.{row_of, line_at}
 use Rattle.snoop_model.specs.Moves.Move.{Fills, ArrivesFor, ArrivesAtMemory, Responds, came_of, next_did}
-use Rattle.snoop_model.proofs.Lines.EachRow.{row_of}
-use Rattle.snoop_model.proofs.Lines.OneLine.{placed}
+use Rattle.snoop_model.specs.declared.line.Access.{Access}
+use Rattle.snoop_machine.proofs.PlacedLines.{placed}
 use Rattle.snoop_machine.proofs.LineWrites.{IsSound-line}
 use Rattle.snoop_machine.proofs.QueueViews.{IsSound-close}
 use Rattle.snoop_model.proofs.Tables.Rows.{fill-waits, IsProper-fill}
 use Rattle.snoop_machine.proofs.Responses.{Arrives-get}
-use Rattle.snoop_machine.proofs.QueueHeads.{same_situation}
 use Rattle.snoop_machine.proofs.Following.{follows-set}
+use Rattle.snoop_machine.proofs.parts.Parts.finish_get.Given.{Over}
 use Rattle.snoop_machine.proofs.parts.Parts.finish_get.Goals as goal
+use Rattle.snoop_machine.proofs.parts.Parts.finish_get.Goals.{After-next_did-did}
+use Rattle.snoop_machine.proofs.PictureViews.{seen, picture-written, same_situation, core_in, block_in, sized_on, logged_on}
+
+-- the fill, on the line that the caches hold
+fills_here : (g : Over) (c : After-next_did-did g) → Fills c.args.closing c.self.inside.protocol (line_at c.self.inside.lines.rows c.args.closing.core c.args.block) c.args.filled.line c.args.filled.access c.args.filled.value
+fills_here g c =
+    let m = (fields c.self.inside.protocol c.self.inside.shape c.self.inside.lines c.self.inside.memory c.self.inside.bus c.self.inside.log) in
+    let T : Standing → Type 0 = λ x. Fills c.args.closing x.situation.protocol (held_by (picture_of c.args.self.now.situation c.args.block) c.args.closing.core) c.args.filled.line c.args.filled.access c.args.filled.value in
+    let U : Picture → Type 0 = λ x. Fills c.args.closing m.protocol (held_by x c.args.closing.core) c.args.filled.line c.args.filled.access c.args.filled.value in
+    subst U (seen m c.self.invariant c.args.self.now c.self.view_is c.args.block) (subst T (sym c.self.view_is) c.requires.filled)
 
 pub invariant_of-self : goal.invariant_of-self
 invariant_of-self g c =
@@ -30,28 +42,19 @@ invariant_of-self g c =
     let block = c.args.block in
     let core = c.args.closing.core in
     let filled = c.args.filled in
-    let P : Standing → Type 0 = λ x. core < x.situation.shape.cores in
-    let Q : Standing → Type 0 = λ x. block < x.situation.shape.blocks in
-    let T : Standing → Type 0 = λ x. Fills c.args.closing x.situation.protocol (line_at x.situation.caches core block) filled.line filled.access filled.value in
-    let f : Fills c.args.closing m.protocol (line_at m.lines.rows core block) filled.line filled.access filled.value = subst T (sym c.self.view_is) c.requires.filled in
+    let f = fills_here g (goal.at.invariant_of-self g c).After-next_did-did in
     let I : Line → Type 0 = λ x. IsProper x in
     let proper : IsProper filled.line = subst I (sym f.held) (IsProper-fill m.protocol (line_at m.lines.rows core block).state f.event f.row.action f.row.next filled.access.op f.after f.fill f.is_row) in
     let same : waiting_request filled.line.state ≡ waiting_request (line_at m.lines.rows core block).state =
     ap (λ (x : Line). waiting_request x.state) f.held ∙ fill-waits m.protocol (line_at m.lines.rows core block).state f.event f.row.action f.row.next filled.access.op f.fill f.is_row in
-    let in_blocks : block < m.shape.blocks = subst Q (sym c.self.view_is) c.requires.block in
-    let placed_sound = IsSound-line m.shape m.lines.rows m.bus c.self.invariant.sound core block filled.line (subst P (sym c.self.view_is) c.requires.core) in_blocks proper same in
+    let in_cores = core_in m c.self.invariant c.args.self.now c.self.view_is core c.requires.core in
+    let in_blocks = block_in m c.self.invariant c.args.self.now c.self.view_is block c.requires.block in
+    let placed_sound = IsSound-line m.shape m.lines.rows m.bus c.self.invariant.sound core block filled.line in_cores in_blocks proper same in
     let S : List (List Line) → Type 0 = λ caches. IsSound m.shape caches c.finish.new.self in
     let R : Traffic → Type 0 = λ bus. IsSound m.shape (placed m.lines.rows core block filled.line) bus in
     record {
-      few = c.self.invariant.few;
-      lines = c.set.ensures.many ∙ c.self.invariant.lines;
       sound = subst S (sym c.set.ensures.rows) (subst R (sym c.finish.ensures.after) (IsSound-close m.shape (placed m.lines.rows core block filled.line) m.bus block in_blocks placed_sound));
-      memory = ap (λ (l : List MemLine). length l) c.set-2.ensures ∙ (length-set m.memory c.args.block c.args.memory ∙ c.self.invariant.memory);
-      cores = ap (λ (j : Journal). j.cores) c.push.ensures ∙ c.self.invariant.cores;
-      blocks = ap (λ (j : Journal). j.blocks) c.push.ensures ∙ c.self.invariant.blocks;
-      words = ap (λ (j : Journal). j.words) c.push.ensures ∙ c.self.invariant.words;
-      held = c.self.invariant.held;
-      few_words = c.self.invariant.few_words;
+      sized = sized_on m _ c.self.invariant.sized refl c.set.ensures.many (ap (λ (l : List MemLine). length l) c.set-2.ensures ∙ length-set m.memory c.args.block c.args.memory) (logged_on m.log c.push.new.self _ _ c.push.ensures);
     }
 
 pub returns-clause-responded : goal.returns-clause-responded
@@ -61,43 +64,50 @@ returns-clause-responded g c =
     let closing = c.args.closing in
     let core = c.args.closing.core in
     let filled = c.args.filled in
-    let P : Standing → Type 0 = λ x. core < x.situation.shape.cores in
-    let Q : Standing → Type 0 = λ x. block < x.situation.shape.blocks in
-    let in_cores : core < m.shape.cores = subst P (sym c.self.view_is) c.requires.core in
-    let in_blocks : block < m.shape.blocks = subst Q (sym c.self.view_is) c.requires.block in
     let D : Standing → Did = λ x. next_did x.situation.log core closing.block filled.access.word filled.access.op filled.value false in
     let did_is : c.next_did-did.result ≡ next_did m.log.items core closing.block filled.access.word filled.access.op filled.value false = c.next_did-did.ensures ∙ sym (ap D c.self.view_is) in
     let did = c.next_did-did.result in
-    let old : Situation = record { protocol = m.protocol; shape = m.shape; caches = m.lines.rows; memory = m.memory; transactions = m.bus.transactions; queues = queues_of m.bus.queues; log = m.log.items } in
+    let old : Situation = (standing m).situation in
     let is : old ≡ c.args.self.now.situation = ap (λ (x : Standing). x.situation) c.self.view_is in
-    let new : Situation = record { protocol = m.protocol; shape = m.shape; caches = c.set.new.self.rows; memory = c.set-2.new.self; transactions = c.finish.new.self.transactions; queues = queues_of c.finish.new.self.queues; log = c.push.new.self.items } in
+    let new : Situation = record { protocol = m.protocol; shape = m.shape; pictures = pictures_of c.set.new.self.rows c.set-2.new.self c.finish.new.self.transactions; queues = queues_of c.finish.new.self.queues; log = c.push.new.self.items } in
     let G : Situation → Type 0 = λ x. Responds x block closing (Some did) new in
     let F : Situation → Type 0 = λ x. (picture_of x block).transaction ≡ Some closing in
     let N : Situation → Type 0 = λ x. ArrivesAtMemory closing x.protocol (picture_of x block).memory c.args.memory in
-    let T : Situation → Type 0 = λ x. Fills closing x.protocol (line_at x.caches core block) filled.line filled.access filled.value in
     let next : Picture = record { caches = slice_set (row_of m.lines.rows block) core filled.line; memory = c.args.memory; transaction = None } in
-    let A : Did → Type 0 = λ d. ArrivesFor closing.request closing m.protocol m.log.items (row_of m.lines.rows block) (slice_set (row_of m.lines.rows block) core filled.line) (Some d) in
+    let A : Did → Type 0 = λ d. ArrivesFor closing.request closing m.protocol m.log.items (row_of m.lines.rows block) next.caches (Some d) in
+    let B : Picture → Type 0 = λ x. ArrivesFor closing.request closing m.protocol m.log.items x.caches next.caches (Some did) in
     subst G is (record {
       opened = subst F (sym is) c.requires.opened;
       next = next;
-      requestor = subst A (sym did_is) (Arrives-get closing m.protocol m.log.items (row_of m.lines.rows block) filled c.requires.get (subst T (sym is) c.requires.filled));
+      requestor = subst B (sym (seen m c.self.invariant (standing m) refl block)) (subst A (sym did_is) (Arrives-get closing m.protocol m.log.items (row_of m.lines.rows block) filled c.requires.get (fills_here g (goal.at.returns-clause-responded g c).After-next_did-did)));
       memory = subst N (sym is) c.requires.memory;
       closed = refl;
       after = same_situation new (record (with_picture old block next) { log = m.log.items ++ item.Came (came_of closing) (Some did) ∷ [] })
-          refl refl c.set.ensures.rows c.set-2.ensures
-          (ap (λ (b : Traffic). b.transactions) c.finish.ensures.after) (ap (λ (b : Traffic). queues_of b.queues) c.finish.ensures.after)
+          refl refl
+          (picture-written m block next c.set.new.self.rows c.set-2.new.self c.finish.new.self.transactions c.set.ensures.rows c.set-2.ensures (ap (λ (b : Traffic). b.transactions) c.finish.ensures.after))
+          (ap (λ (b : Traffic). queues_of b.queues) c.finish.ensures.after)
           (ap (λ (j : Journal). j.items) c.push.ensures ∙ ap (λ (x : Came). m.log.items ++ item.Came x (Some did) ∷ []) c.came.ensures);
     })
 
 pub set-requires-clause-proper : goal.set-requires-clause-proper
 set-requires-clause-proper g c =
     let I : Line → Type 0 = λ x. IsProper x in
-    let S : Standing → Type 0 = λ x. Fills c.args.closing x.situation.protocol (line_at x.situation.caches c.args.closing.core c.args.block) c.args.filled.line c.args.filled.access c.args.filled.value in
-    let m = (fields c.self.inside.protocol c.self.inside.shape c.self.inside.lines c.self.inside.memory c.self.inside.bus c.self.inside.log) in
-    let its : Fills c.args.closing m.protocol (line_at m.lines.rows c.args.closing.core c.args.block) c.args.filled.line c.args.filled.access c.args.filled.value = subst S (sym c.self.view_is) c.requires.filled in
-    subst I (sym its.held) (IsProper-fill m.protocol (line_at m.lines.rows c.args.closing.core c.args.block).state its.event its.row.action its.row.next c.args.filled.access.op its.after its.fill its.is_row)
+    let its = fills_here g (goal.at.set-requires-clause-proper g c).After-next_did-did in
+    subst I (sym its.held) (IsProper-fill c.self.inside.protocol (line_at c.self.inside.lines.rows c.args.closing.core c.args.block).state its.event its.row.action its.row.next c.args.filled.access.op its.after its.fill its.is_row)
+
+-- an operation waits in the line, so it is not in I
+pub set-requires-clause-place : goal.set-requires-clause-place
+set-requires-clause-place g c =
+    let its = fills_here g (goal.at.set-requires-clause-place g c).After-next_did-did in
+    let held = c.self.invariant.sound.proper c.args.closing.core c.args.block in
+    inl (λ e. (let clash : ◌≡◌ {A = Option Request} (Some (request_for c.args.filled.access.op)) None =
+    sym (ap (λ (o : Option Access). option_map (λ access. request_for access.op) o) its.waited) ∙ (held.waiting ∙ ap missed_request e) in cc))
 
 pub returns-clause-lines : goal.returns-clause-lines
 returns-clause-lines g c =
-    follows-set (fields c.self.inside.protocol c.self.inside.shape c.self.inside.lines c.self.inside.memory c.self.inside.bus c.self.inside.log) c.args.self.now c.self.view_is _ c.args.block c.set.new.self refl refl c.self.invariant c.args.closing.core c.args.filled.line c.requires.core c.requires.block
+    let m = (fields c.self.inside.protocol c.self.inside.shape c.self.inside.lines c.self.inside.memory c.self.inside.bus c.self.inside.log) in
+    let next : Picture = record { caches = slice_set (row_of m.lines.rows c.args.block) c.args.closing.core c.args.filled.line; memory = c.args.memory; transaction = None } in
+    follows-set m c.self.invariant c.args.self.now c.self.view_is _ c.args.block next c.set.new.self c.requires.block
+    (picture-written m c.args.block next c.set.new.self.rows c.set-2.new.self c.finish.new.self.transactions c.set.ensures.rows c.set-2.ensures (ap (λ (b : Traffic). b.transactions) c.finish.ensures.after)) refl
+    c.args.closing.core c.args.filled.line c.requires.core refl
     c.set.ensures.rows c.set.ensures.lines c.set.ensures.others

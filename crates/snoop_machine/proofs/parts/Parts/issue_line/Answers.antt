@@ -1,63 +1,69 @@
-use Rattle.std.proofs.Common.{◌≡◌, ◌<◌, ◌≤◌, ◌+◌, ◌-◌, ◌++◌, ◌∷◌, [], ℕ, length, None, sym, ap, subst, List, arith, ◌∙◌, refl}
+use Rattle.std.proofs.Common.{◌≡◌, ◌<◌, ◌≤◌, ◌+◌, ◌-◌, ◌++◌, ◌∷◌, [], ℕ, length, sym, ap, subst, List, arith, ◌∙◌, refl, Option}
 use Rattle.std.proofs.lemmas.List.{length-append}
-use Rattle.std.specs.Prelude.{slice_set, slice_index_or}
+use Rattle.std.specs.Prelude.{slice_set}
 use Rattle.snoop_rules.specs.Waits.{waiting_request}
 use Rattle.snoop_rules.specs.declared.names.Request.{Request}
-use Rattle.snoop_bus.specs.Traffic.{Traffic, Waiting, waiting_of}
+use Rattle.snoop_bus.specs.Traffic.{Traffic, Waiting, waiting_of, Open}
 use Rattle.snoop_bus.specs.Queues.{after_issue}
 use Rattle.snoop_model.specs.Pictures.Lines.{Line}
 use Rattle.snoop_model.specs.Moves.Standing.{Standing}
-use Rattle.snoop_model.specs.Pictures.Situation.{Situation}
-use Rattle.snoop_model.specs.Pictures.Sound.{IsSound, line_at}
+use Rattle.snoop_model.specs.Pictures.Situation.{Situation, picture_of, with_picture}
+use Rattle.snoop_model.specs.Pictures.Picture.{Picture, with_line}
 use Rattle.snoop_machine.proofs.Room.{held_in, held_in-set, keeps_room}
 use Rattle.snoop_machine.proofs.LineWrites.{IsSound-issue}
-use Rattle.snoop_model.proofs.Lines.OneLine.{placed}
+use Rattle.snoop_machine.proofs.PlacedLines.{placed}
 use Rattle.snoop_machine.proofs.QueueViews.{queues_of-issue, same_traffic}
 use Rattle.snoop_machine.proofs.Following.{follows-set}
-use Rattle.snoop_machine.specs.PartsView.{Fields, fields}
+use Rattle.snoop_machine.specs.PartsView.{Fields, fields, standing, pictures_of, queues_of, IsSound}
+use Rattle.snoop_machine.proofs.parts.Parts.issue_line.Given.{Over}
 use Rattle.snoop_machine.proofs.parts.Parts.issue_line.Goals as goal
+use Rattle.snoop_machine.proofs.parts.Parts.issue_line.Goals.{After-issue}
+use Rattle.snoop_machine.proofs.PictureViews.{seen, state_seen, line-written, core_in, block_in, sized_on, same_situation}
 
 pub invariant_of-self : goal.invariant_of-self
 invariant_of-self g c =
     let m = (fields c.self.inside.protocol c.self.inside.shape c.self.inside.lines c.self.inside.memory c.self.inside.bus c.self.inside.log) in
+    let now = c.args.self.now in
+    let view = c.self.view_is in
     let core = c.args.core in
     let room = (waiting_of m.bus core).room - 1 in
-    let P : Standing → Type 0 = λ s. core < s.situation.shape.cores in
-    let Q : Standing → Type 0 = λ s. c.args.block < s.situation.shape.blocks in
-    let R : Standing → Type 0 = λ s. waiting_request (line_at s.situation.caches core c.args.block).state ≡ None in
+    let idle = sym (ap waiting_request (state_seen m c.self.invariant now view core c.args.block)) ∙ c.requires.idle in
     let after : Traffic = record m.bus { queues = slice_set m.bus.queues core (record { requests = (waiting_of m.bus core).requests ++ (c.args.request, c.args.block) ∷ []; room = room }) } in
     let same : c.issue.new.self ≡ after = same_traffic c.issue.new.self after c.issue.ensures.queue c.issue.ensures.transactions in
-    let S : List (List Line) → Type 0 = λ caches. IsSound m.shape caches c.issue.new.self in
+    let S : List (List Line) → Type 0 = λ rows. IsSound m.shape rows c.issue.new.self in
     let T : Traffic → Type 0 = λ bus. IsSound m.shape (placed m.lines.rows core c.args.block c.args.line) bus in
     record {
       sound = subst S (sym c.set.ensures.rows) (subst T (sym same)
           (IsSound-issue m.shape m.lines.rows m.bus c.self.invariant.sound core c.args.block c.args.line
-          (subst P (sym c.self.view_is) c.requires.core) (subst Q (sym c.self.view_is) c.requires.block) c.requires.proper
-          c.args.request room (subst R (sym c.self.view_is) c.requires.idle) c.requires.waits));
-      few = c.self.invariant.few;
-      lines = c.set.ensures.many ∙ c.self.invariant.lines;
-      memory = c.self.invariant.memory;
-      cores = c.self.invariant.cores;
-      blocks = c.self.invariant.blocks;
-      words = c.self.invariant.words;
-      held = c.self.invariant.held;
-      few_words = c.self.invariant.few_words;
+          (core_in m c.self.invariant now view core c.requires.core) (block_in m c.self.invariant now view c.args.block c.requires.block) c.requires.proper
+          c.args.request room idle c.requires.waits));
+      sized = sized_on m _ c.self.invariant.sized refl c.set.ensures.many refl (refl, refl, refl);
     }
+
+-- the picture that the block has now
+wrote : (g : Over) (c : After-issue g)
+    → pictures_of c.set.new.self.rows c.self.inside.memory c.issue.new.self.transactions
+    ≡ slice_set (standing (fields c.self.inside.protocol c.self.inside.shape c.self.inside.lines c.self.inside.memory c.self.inside.bus c.self.inside.log)).situation.pictures c.args.block (with_line (picture_of c.args.self.now.situation c.args.block) c.args.core c.args.line)
+wrote g c =
+    let m = (fields c.self.inside.protocol c.self.inside.shape c.self.inside.lines c.self.inside.memory c.self.inside.bus c.self.inside.log) in
+    ap (λ (l : List (Option Open)). pictures_of c.set.new.self.rows m.memory l) c.issue.ensures.transactions
+    ∙ line-written m c.self.invariant c.args.self.now c.self.view_is c.args.block c.set.new.self.rows c.args.core c.args.line c.set.ensures.rows
 
 pub returns-clause-written : goal.returns-clause-written
 returns-clause-written g c =
     let m = (fields c.self.inside.protocol c.self.inside.shape c.self.inside.lines c.self.inside.memory c.self.inside.bus c.self.inside.log) in
     let room = (waiting_of m.bus c.args.core).room - 1 in
-    rw (c.issue.ensures.queue, queues_of-issue m.bus.queues c.args.core c.args.block room c.args.request, c.issue.ensures.transactions, c.set.ensures.rows)
-    (ap (λ (s : Standing). let t : Situation = record s.situation { caches = slice_set s.situation.caches c.args.block (slice_set (slice_index_or s.situation.caches c.args.block []) c.args.core c.args.line); queues = after_issue s.situation.queues c.args.core c.args.block } in t) c.self.view_is)
+    let next : Picture = with_line (picture_of c.args.self.now.situation c.args.block) c.args.core c.args.line in
+    same_situation _ (record (with_picture (standing m).situation c.args.block next) { queues = after_issue (queues_of m.bus.queues) c.args.core c.args.block })
+    refl refl (wrote g (goal.at.returns-clause-written g c).After-issue) (ap queues_of c.issue.ensures.queue ∙ queues_of-issue m.bus.queues c.args.core c.args.block room c.args.request) refl
+    ∙ ap (λ (s : Standing). let t : Situation = record (with_picture s.situation c.args.block next) { queues = after_issue s.situation.queues c.args.core c.args.block } in t) c.self.view_is
 
 pub returns-clause-room : goal.returns-clause-room
 returns-clause-room g c =
     let m = (fields c.self.inside.protocol c.self.inside.shape c.self.inside.lines c.self.inside.memory c.self.inside.bus c.self.inside.log) in
     let core = c.args.core in
     let before : Waiting = waiting_of m.bus core in
-    let P : Standing → Type 0 = λ s. core < s.situation.shape.cores in
-    let in_cores : core < m.shape.cores = subst P (sym c.self.view_is) c.requires.core in
+    let in_cores = core_in m c.self.invariant c.args.self.now c.self.view_is core c.requires.core in
     let in_queues : core < length m.bus.queues = omega (arith, c.self.invariant.sound.queues) in
     let requests : List (Request × ℕ) = before.requests ++ (c.args.request, c.args.block) ∷ [] in
     let queue : Waiting = record { requests = requests; room = before.room - 1 } in
@@ -68,5 +74,9 @@ returns-clause-room g c =
 
 pub returns-clause-lines : goal.returns-clause-lines
 returns-clause-lines g c =
-    follows-set (fields c.self.inside.protocol c.self.inside.shape c.self.inside.lines c.self.inside.memory c.self.inside.bus c.self.inside.log) c.args.self.now c.self.view_is _ c.args.block c.set.new.self refl refl c.self.invariant c.args.core c.args.line c.requires.core c.requires.block
+    let m = (fields c.self.inside.protocol c.self.inside.shape c.self.inside.lines c.self.inside.memory c.self.inside.bus c.self.inside.log) in
+    let now = c.args.self.now in
+    follows-set m c.self.invariant now c.self.view_is _ c.args.block (with_line (picture_of now.situation c.args.block) c.args.core c.args.line) c.set.new.self c.requires.block
+    (wrote g (goal.at.returns-clause-lines g c).After-issue) refl
+    c.args.core c.args.line c.requires.core (ap (λ (x : Picture). (with_line x c.args.core c.args.line).caches) (seen m c.self.invariant now c.self.view_is c.args.block))
     c.set.ensures.rows c.set.ensures.lines c.set.ensures.others

@@ -1,60 +1,60 @@
 use Rattle.std.proofs.Common.{◌≡◌, ◌<◌, Option, Some, None, refl, sym, ap, subst, ◌∙◌, false}
-use Rattle.std.specs.Prelude.{ℕ, length, slice_index_or, is_some}
+use Rattle.std.specs.Prelude.{ℕ, length, is_some}
 use Rattle.snoop_trace.specs.declared.step.Step.TheVariants.{Order}
 use Rattle.snoop_rules.specs.declared.names.MemEvent.{MemEvent}
 use Rattle.snoop_rules.specs.declared.names.MemCell.{MemCell}
 use Rattle.snoop_rules.specs.MemoryCell.{MemoryCell}
 use Rattle.snoop_rules.specs.Possible.{IsMemImpossible}
 use Rattle.snoop_rules.specs.Takers.{at_memory, seen_by}
+use Rattle.snoop_rules.specs.Waits.{waiting_request}
 use Rattle.snoop_bus.specs.Traffic.{Open}
-use Rattle.snoop_bus.specs.Traffic.{transaction_on}
 use Rattle.snoop_model.specs.Pictures.Lines.{MemLine}
 use Rattle.snoop_model.specs.Pictures.Picture.{Picture, held_by}
 use Rattle.snoop_model.specs.Moves.Standing.{Standing}
-use Rattle.snoop_model.specs.Pictures.Situation.{picture_of, no_memory}
+use Rattle.snoop_model.specs.Pictures.Situation.{picture_of}
 use Rattle.snoop_model.specs.Moves.LookUps.{HasRow}
 use Rattle.snoop_model.specs.Moves.SenderTable.{FollowsSenderTable}
 use Rattle.snoop_model.specs.Pictures.Message.{free_picture, IsMessage}
 use Rattle.snoop_model.specs.Moves.Move.{TakesMemRow}
-use Rattle.snoop_model.proofs.Lines.EachRow.{row_of}
 use Rattle.snoop_model.proofs.Invariant.Coherence.{orders_follow_sender_table, finds_rows}
+use Rattle.snoop_model.proofs.OneBlock.OfBlocks.{same_picture}
 use Rattle.snoop_machine.specs.declared.plan.Plan.TheVariants as plan
 use Rattle.snoop_machine.proofs.Plans.{plan-allowed}
 use Rattle.snoop_machine.specs.PartsView.{fields}
+use Rattle.snoop_machine.specs.Lines.{row_of}
 use Rattle.snoop_machine.proofs.parts.Parts.plan_order.Given.{Over}
 use Rattle.snoop_machine.proofs.parts.Parts.plan_order.Goals as goal
 use Rattle.snoop_machine.proofs.parts.Parts.plan_order.Goals.{In-Some-mem_cell}
+use Rattle.snoop_machine.proofs.PictureViews.{seen, picture_in, state_seen}
 
 none_from_is_some : (o : Option Open) → is_some o ≡ false → o ≡ None
 none_from_is_some None h = refl
 none_from_is_some (Some x) h = cc
 
--- what memory holds
-memory_is : (g : Over) (c : In-Some-mem_cell g) → c.get_or-memory.result ≡ slice_index_or c.self.inside.memory c.in-Some.block no_memory
-memory_is g c = c.get_or-memory.ensures ∙ ap (λ (x : MemLine). slice_index_or c.self.inside.memory c.in-Some.block x) c.no_memory.ensures
+free_here : (g : Over) (c : In-Some-mem_cell g) → (picture_of c.args.self.now.situation c.in-Some.block).transaction ≡ None
+free_here g c = none_from_is_some _ (ap is_some (sym c.transaction.ensures.value) ∙ (sym c.is_some.ensures ∙ c.if-is_some.false))
 
 -- the block that stands first has no open transaction, and this picture
-picture : (g : Over) (c : In-Some-mem_cell g) → free_picture (row_of c.self.inside.lines.rows c.in-Some.block) c.get_or-memory.result ≡ picture_of c.args.self.now.situation c.in-Some.block
+picture : (g : Over) (c : In-Some-mem_cell g) → free_picture (row_of c.self.inside.lines.rows c.in-Some.block) c.memory_line-memory.result ≡ picture_of c.args.self.now.situation c.in-Some.block
 picture g c =
     let m = (fields c.self.inside.protocol c.self.inside.shape c.self.inside.lines c.self.inside.memory c.self.inside.bus c.self.inside.log) in
-    let free : transaction_on m.bus c.in-Some.block ≡ None = none_from_is_some _ (ap is_some (sym c.open.ensures) ∙ (sym c.is_some.ensures ∙ c.if-is_some.false)) in
-    ap (λ (x : MemLine). free_picture (row_of m.lines.rows c.in-Some.block) x) (memory_is g c)
-    ∙ (ap (λ (o : Option Open). let p : Picture = record (free_picture (row_of m.lines.rows c.in-Some.block) (slice_index_or m.memory c.in-Some.block no_memory)) { transaction = o } in p) (sym free)
-    ∙ ap (λ (s : Standing). picture_of s.situation c.in-Some.block) c.self.view_is)
+    let now : Picture = picture_of c.args.self.now.situation c.in-Some.block in
+    let shown : picture_in m c.in-Some.block ≡ now = sym (seen m c.self.invariant c.args.self.now c.self.view_is c.in-Some.block) in
+    same_picture _ now.caches _ now.memory _ now.transaction (ap (λ (x : Picture). x.caches) shown) c.memory_line-memory.ensures (sym (free_here g c))
 
 protocol : (g : Over) (c : In-Some-mem_cell g) → c.self.inside.protocol ≡ c.args.self.now.situation.protocol
 protocol g c = ap (λ (s : Standing). s.situation.protocol) c.self.view_is
 
 memory_row : (g : Over) (c : In-Some-mem_cell g) → TakesMemRow c.args.self.now.situation.protocol (at_memory c.in-Some.request) (picture_of c.args.self.now.situation c.in-Some.block).memory.state c.in-Some-mem_cell.cell.next
 memory_row g c =
-    let P : MemEvent → Type 0 = λ e. MemoryCell c.self.inside.protocol c.get_or-memory.result.state e c.in-Some-mem_cell.cell.action c.in-Some-mem_cell.cell.next in
+    let P : MemEvent → Type 0 = λ e. MemoryCell c.self.inside.protocol c.memory_line-memory.result.state e c.in-Some-mem_cell.cell.action c.in-Some-mem_cell.cell.next in
     let Q : Picture → Type 0 = λ p. TakesMemRow c.self.inside.protocol (at_memory c.in-Some.request) p.memory.state c.in-Some-mem_cell.cell.next in
     rw (← protocol g c) (subst Q (picture g c) (c.in-Some-mem_cell.cell, subst P c.event_at_memory.ensures c.in-Some-mem_cell.ensures.row, refl))
 
-free_here : (g : Over) (c : In-Some-mem_cell g) → (picture_of c.args.self.now.situation c.in-Some.block).transaction ≡ None
-free_here g c =
-    let free : transaction_on c.self.inside.bus c.in-Some.block ≡ None = none_from_is_some _ (ap is_some (sym c.open.ensures) ∙ (sym c.is_some.ensures ∙ c.if-is_some.false)) in
-    sym (ap (λ (s : Standing). (picture_of s.situation c.in-Some.block).transaction) c.self.view_is) ∙ free
+pub message-message-requires-clause-waits : goal.message-message-requires-clause-waits
+message-message-requires-clause-waits g c =
+    let m = (fields c.self.inside.protocol c.self.inside.shape c.self.inside.lines c.self.inside.memory c.self.inside.bus c.self.inside.log) in
+    sym (ap waiting_request (state_seen m c.self.invariant c.args.self.now c.self.view_is c.args.core c.in-Some.block)) ∙ c.in-Some.ensures.some.waits
 
 -- each core has its row for a waiting request on a free block
 pub message-message-requires-clause-rows : goal.message-message-requires-clause-rows
@@ -94,20 +94,13 @@ returns-clause-exactly g c =
 pub unreachable-requires : goal.unreachable-requires
 unreachable-requires g c =
     let s = c.args.self.now.situation in
-    let m = (fields c.self.inside.protocol c.self.inside.shape c.self.inside.lines c.self.inside.memory c.self.inside.bus c.self.inside.log) in
     let block = c.in-Some.block in
     let request = c.in-Some.request in
-    let head = c.in-Some.ensures.some in
-    let closed : transaction_on m.bus block ≡ None = none_from_is_some _ (ap is_some (sym c.open.ensures) ∙ (sym c.is_some.ensures ∙ c.if-is_some.false)) in
-    let free : (picture_of s block).transaction ≡ None = sym (ap (λ (x : Standing). (picture_of x.situation block).transaction) c.self.view_is) ∙ closed in
-    let W : Standing → Type 0 = λ x. block < x.situation.shape.blocks in
-    let within : block < m.shape.blocks = subst W (sym c.self.view_is) head.within in
-    let long = c.self.invariant.memory in
-    let held : c.get_or-memory.result ≡ slice_index_or m.memory block no_memory = c.get_or-memory.ensures ∙ ap (λ (x : MemLine). slice_index_or m.memory block x) c.no_memory.ensures in
-    let P : MemEvent → Type 0 = λ event. IsMemImpossible m.protocol c.get_or-memory.result.state event in
-    let Q : MemLine → Type 0 = λ x. IsMemImpossible m.protocol x.state (at_memory request) in
-    let R : Standing → Type 0 = λ x. IsMemImpossible x.situation.protocol (picture_of x.situation block).memory.state (at_memory request) in
-    let none : IsMemImpossible s.protocol (picture_of s block).memory.state (at_memory request) = subst R c.self.view_is (subst Q held (subst P c.event_at_memory.ensures c.in_default-mem_cell.ensures.impossible)) in
-    let line = orders_follow_sender_table s c.requires.inductive c.args.core block request (head.waits, free) in
+    let free : (picture_of s block).transaction ≡ None = none_from_is_some _ (ap is_some (sym c.transaction.ensures.value) ∙ (sym c.is_some.ensures ∙ c.if-is_some.false)) in
+    let P : MemEvent → Type 0 = λ event. IsMemImpossible c.self.inside.protocol c.memory_line-memory.result.state event in
+    let Q : MemLine → Type 0 = λ x. IsMemImpossible c.self.inside.protocol x.state (at_memory request) in
+    let R : Standing → Type 0 = λ x. IsMemImpossible x.situation.protocol (picture_of s block).memory.state (at_memory request) in
+    let none : IsMemImpossible s.protocol (picture_of s block).memory.state (at_memory request) = subst R c.self.view_is (subst Q c.memory_line-memory.ensures (subst P c.event_at_memory.ensures c.in_default-mem_cell.ensures.impossible)) in
+    let line = orders_follow_sender_table s c.requires.inductive c.args.core block request (c.in-Some.ensures.some.waits, free) in
     let clash : ◌≡◌ {A = Option MemCell} None (Some line.ordered.0) = sym none ∙ line.ordered.1 in
     cc

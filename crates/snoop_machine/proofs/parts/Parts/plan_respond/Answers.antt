@@ -1,12 +1,12 @@
 use Rattle.std.proofs.Common.{◌≡◌, ◌≢◌, true, false, refl, sym, ap, ◌∙◌, subst}
-use Rattle.std.specs.Prelude.{IsSomeAnd, IsTrue, slice_index_or}
+use Rattle.std.specs.Prelude.{IsSomeAnd, IsTrue}
 use Rattle.snoop_trace.specs.declared.step.Step.TheVariants.{Respond}
 use Rattle.snoop_rules.specs.declared.names.Request.TheVariants.{PutM}
 use Rattle.snoop_rules.specs.Takers.{arrival, arrival_at_memory, takes_payload}
 use Rattle.snoop_model.specs.Pictures.Lines.{Line, MemLine}
 use Rattle.snoop_model.specs.Moves.Standing.{Standing}
 use Rattle.snoop_model.specs.Pictures.Situation.{picture_of}
-use Rattle.snoop_model.specs.Pictures.Sound.{line_at}
+use Rattle.snoop_model.specs.Pictures.Picture.{held_by}
 use Rattle.snoop_model.specs.Moves.LookUps.{HasRow, HasMemRow}
 use Rattle.snoop_model.proofs.Invariant.Coherence.{finds_rows}
 use Rattle.snoop_machine.proofs.WordsHeld.{waiting_held}
@@ -19,9 +19,9 @@ arrive-memory-requires g c =
     let block = c.args.block in
     let closing = c.in-Some.closing in
     let P : MemLine → Type 0 = λ x. IsTrue (takes_payload closing.request x.state) → IsSomeAnd (arrival_at_memory closing.payload) (HasMemRow c.self.inside.protocol x.state) in
-    let Q : Standing → Type 0 = λ x. IsTrue (takes_payload closing.request (picture_of x.situation block).memory.state) → IsSomeAnd (arrival_at_memory closing.payload) (HasMemRow x.situation.protocol (picture_of x.situation block).memory.state) in
+    let Q : Standing → Type 0 = λ x. IsTrue (takes_payload closing.request (picture_of s block).memory.state) → IsSomeAnd (arrival_at_memory closing.payload) (HasMemRow x.situation.protocol (picture_of s block).memory.state) in
     let finds = finds_rows s c.requires.inductive (Respond block) in
-    subst P (sym (c.get_or-before.ensures ∙ ap (λ (x : MemLine). slice_index_or c.self.inside.memory block x) c.no_memory.ensures)) (subst Q (sym c.self.view_is)
+    subst P (sym c.memory_line-before.ensures) (subst Q (sym c.self.view_is)
     (λ takes. finds.memory block (arrival_at_memory closing.payload) (closing, (refl, sym c.transaction.ensures.value ∙ c.in-Some.is, takes, refl))))
 
 pub fill-filled-requires-clause-possible : goal.fill-filled-requires-clause-possible
@@ -32,7 +32,7 @@ fill-filled-requires-clause-possible g c =
       | in-PutM w ↦ λ e. (let clash : true ≡ false = sym w.matches-is ∙ c.if-matches.false in cc)
       | in_default-matches w ↦ w.in_default-matches.not-PutM
     ] in
-    let line = line_at s.caches closing.core c.args.block in
+    let line = held_by (picture_of s c.args.block) closing.core in
     let P : Line → Type 0 = λ x. IsSomeAnd (arrival closing.payload) (HasRow c.self.inside.protocol x.state) in
     let Q : Standing → Type 0 = λ x. IsSomeAnd (arrival closing.payload) (HasRow x.situation.protocol line.state) in
     let finds = finds_rows s c.requires.inductive (Respond c.args.block) in
@@ -41,5 +41,5 @@ fill-filled-requires-clause-possible g c =
 
 pub fill-filled-requires-clause-word : goal.fill-filled-requires-clause-word
 fill-filled-requires-clause-word g c =
-    let held = sym (ap (λ (x : Standing). x.situation.shape.words) c.self.view_is) ∙ c.self.invariant.held in
+    let held = sym (ap (λ (x : Standing). x.situation.shape.words) c.self.view_is) ∙ c.self.invariant.sized.held in
     rw c.line-line.ensures.line (waiting_held c.args.self.now.situation _ c.in-Some.closing.core c.args.block held c.requires.inductive)

@@ -2,7 +2,7 @@ use Rattle.std.proofs.Common.{sym, subst}
 use Rattle.std.proofs.lemmas.Result.{err_from_is_err_and}
 use Rattle.snoop_model.specs.Pictures.Situation.{Situation}
 use Rattle.snoop_machine.specs.Plan.{IsPlanFor}
-use Rattle.snoop_machine.proofs.Plans.{RefusedFor-memory, IsPrepared-plan}
+use Rattle.snoop_machine.proofs.Plans.{RefusedFor-memory, IsPrepared-plan, IsFull-plan}
 use Rattle.snoop_machine.proofs.Holding.{HoldsOn-room}
 use Rattle.snoop_machine.proofs.parts.Parts.prepare.Goals as goal
 
@@ -10,6 +10,9 @@ pub returns-in_err-make_room-clause-refused : goal.returns-in_err-make_room-clau
 returns-in_err-make_room-clause-refused g c =
     let p = err_from_is_err_and c.from_residual.result c.from_residual.ensures.1 in
     rw (p.1, p.2) (RefusedFor-memory c.args.self.now.situation c.args.step c.in-Ok.plan c.in-Ok.ensures.found, c.in_err-make_room.ensures.refused)
+
+pub returns-in_err-make_room-clause-full : goal.returns-in_err-make_room-clause-full
+returns-in_err-make_room-clause-full g c = λ e. IsFull-plan c.args.self.now c.args.step c.in-Ok.plan c.in-Ok.ensures.found c.in_err-make_room.ensures.full
 
 pub returns-clause-prepared : goal.returns-clause-prepared
 returns-clause-prepared g c =

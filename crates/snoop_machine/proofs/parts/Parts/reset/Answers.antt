@@ -1,31 +1,34 @@
-use Rattle.snoop_model.specs.Pictures.Picture.{first_memory}
+use Rattle.snoop_model.specs.Pictures.Picture.{first_memory, nothing_held}
 use Rattle.snoop_model.specs.Pictures.Lines.{MemLine, Line}
 use Rattle.snoop_rules.specs.declared.names.MemState.{MemState}
 use Rattle.snoop_model.specs.Pictures.Situation.{reset}
-use Rattle.std.proofs.Common.{rules, ◌≡◌, ℕ, List, [], length, replicate, refl, sym, ap, subst, ◌∙◌}
+use Rattle.std.proofs.Common.{rules, ◌≡◌, ℕ, List, [], length, replicate, refl, sym, ap, subst, ◌∙◌, Option, None}
 use Rattle.snoop_trace.specs.Words.{zero_words}
 use Rattle.snoop_history.specs.Journal.{Journal}
-use Rattle.snoop_model.specs.Pictures.Sound.{IsSound}
 use Rattle.std.specs.Prelude.{slice_index_or}
 use Rattle.std.proofs.lemmas.List.{length-replicate}
 use Rattle.snoop_model.proofs.Lists.Facts.{replicated}
 use Rattle.snoop_machine.proofs.AtReset.{IsSound-reset, queues_of-reset}
-use Rattle.snoop_machine.proofs.QueueHeads.{same_situation}
 use Rattle.snoop_machine.proofs.parts.Parts.reset.Goals as goal
+use Rattle.snoop_machine.proofs.PictureViews.{pictures_of-replicate, same_situation}
+use Rattle.snoop_machine.specs.PartsView.{IsSound, pictures_of}
+use Rattle.snoop_bus.specs.Traffic.{Open}
 
 pub invariant_of-result : goal.invariant_of-result
 invariant_of-result g c =
     let S : List (List Line) → Type 0 = λ caches. IsSound c.args.shape caches c.in_ok-bus.bus in
     record {
-      few = search rules;
-      lines = ap (λ (l : List (List ℕ)). length l) c.in_ok-lines.ensures.lines ∙ length-replicate c.args.shape.cores [];
+      sized = record {
+        few = search rules;
+        lines = ap (λ (l : List (List ℕ)). length l) c.in_ok-lines.ensures.lines ∙ length-replicate c.args.shape.cores [];
+        memory = ap (λ (l : List MemLine). length l) c.in_ok-memory.ensures ∙ (length-replicate c.blocks-2.result (record { state = c.first_state.result; value = c.zero.result }) ∙ c.blocks-2.ensures.value);
+        cores = ap (λ (j : Journal). j.cores) c.in_ok-log.ensures;
+        blocks = ap (λ (j : Journal). j.blocks) c.in_ok-log.ensures;
+        words = ap (λ (j : Journal). j.words) c.in_ok-log.ensures;
+        held = c.requires.words;
+        few_words = search rules;
+      };
       sound = subst S (sym c.in_ok-lines.ensures.rows) (IsSound-reset c.args.shape c.in_ok-bus.bus c.in_ok-bus.ensures.queues.0 c.in_ok-bus.ensures.queues.1 c.in_ok-bus.ensures.transactions);
-      memory = ap (λ (l : List MemLine). length l) c.in_ok-memory.ensures ∙ (length-replicate c.blocks-2.result (record { state = c.first_state.result; value = c.zero.result }) ∙ c.blocks-2.ensures.value);
-      cores = ap (λ (j : Journal). j.cores) c.in_ok-log.ensures;
-      blocks = ap (λ (j : Journal). j.blocks) c.in_ok-log.ensures;
-      words = ap (λ (j : Journal). j.words) c.in_ok-log.ensures;
-      held = c.requires.words;
-      few_words = search rules;
     }
 
 pub returns-clause-situation : goal.returns-clause-situation
@@ -35,7 +38,12 @@ returns-clause-situation g c =
     ∙ (ap (λ (n : ℕ). let l : List MemLine = replicate n (record { state = c.first_state.result; value = c.zero.result }) in l) c.blocks-2.ensures.value
     ∙ (ap (λ (x : MemState). let l : List MemLine = replicate c.args.shape.blocks (record { state = x; value = c.zero.result }) in l) c.first_state.ensures
     ∙ ap (λ (ws : List ℕ). let l : List MemLine = replicate c.args.shape.blocks (record { state = first_memory c.args.protocol; value = ws }) in l) c.zero.ensures)) in
-    same_situation _ (reset c.args.protocol c.args.shape) refl refl c.in_ok-lines.ensures.rows items c.in_ok-bus.ensures.transactions
+    let shape = c.args.shape in
+    let blank = ap (λ (l : List (List Line)). pictures_of l c.in_ok-memory.memory c.in_ok-bus.bus.transactions) c.in_ok-lines.ensures.rows
+    ∙ (ap (λ (l : List MemLine). pictures_of (replicate shape.blocks (replicate shape.cores nothing_held)) l c.in_ok-bus.bus.transactions) items
+    ∙ (ap (λ (l : List (Option Open)). pictures_of (replicate shape.blocks (replicate shape.cores nothing_held)) (replicate shape.blocks (record { state = first_memory c.args.protocol; value = zero_words })) l) c.in_ok-bus.ensures.transactions
+    ∙ pictures_of-replicate shape.blocks (replicate shape.cores nothing_held) _ None)) in
+    same_situation _ (reset c.args.protocol c.args.shape) refl refl blank
     (queues_of-reset c.in_ok-bus.bus.queues c.in_ok-bus.ensures.queues.1 ∙ ap (λ (n : ℕ). let l : List (List ℕ) = replicate n [] in l) c.in_ok-bus.ensures.queues.0)
     (ap (λ (j : Journal). j.items) c.in_ok-log.ensures)
 

@@ -1,8 +1,9 @@
 use Rattle.std.proofs.Common.{◌≡◌, ℕ, List, ◌<◌, ◌≤◌, ◌+◌, ◌++◌, ◌∷◌, [], length, drop, Option, Some, None, ◌∙◌, refl, sym, ap, subst, arith}
-use Rattle.std.specs.Prelude.{◌==◌, not, filter, slice_set, slice_index_or, IsSome, IfSome}
+use Rattle.std.specs.Prelude.{◌==◌, not, filter, slice_set, IsSome, IfSome}
 use Rattle.std.proofs.lemmas.List.{length-set, length-append, length-drop}
 use Rattle.snoop_rules.specs.declared.names.Request.{Request}
 use Rattle.snoop_rules.specs.Takers.{at_memory, seen_by}
+use Rattle.snoop_rules.specs.Waits.{waiting_request}
 use Rattle.snoop_history.specs.Journal.{Journal}
 use Rattle.snoop_history.specs.declared.items.Item.TheVariants as item
 use Rattle.snoop_bus.specs.Traffic.{Open}
@@ -11,36 +12,36 @@ use Rattle.snoop_bus.specs.Queues.{after_order}
 use Rattle.snoop_model.specs.Pictures.Lines.{MemLine}
 use Rattle.snoop_model.specs.Pictures.Picture.{Picture, held_by}
 use Rattle.snoop_model.specs.Moves.Standing.{Standing}
-use Rattle.snoop_model.specs.Pictures.Situation.{Situation, picture_of, no_memory, Waits}
-use Rattle.snoop_model.specs.Pictures.Sends.{value_sent}
-use Rattle.snoop_model.specs.Pictures.Sound.{IsSound}
-use Rattle.snoop_machine.specs.PartsView.{Fields, fields, queues_of}
-use Rattle.snoop_model.specs.Moves.Move.{Orders}
+use Rattle.snoop_model.specs.Pictures.Situation.{Situation, picture_of, with_picture, Waits, StandsFirst}
+use Rattle.snoop_machine.specs.PartsView.{Fields, fields, standing, pictures_of, queues_of, IsSound}
+use Rattle.snoop_machine.specs.Lines.{row_of}
+use Rattle.snoop_model.specs.Moves.Move.{Orders, TakesRows}
 use Rattle.snoop_model.specs.Pictures.Message.{IsMessage}
 use Rattle.snoop_model.specs.Moves.LookUps.{HasRow}
-use Rattle.snoop_model.specs.Moves.OrderMove.{IsHead}
 use Rattle.snoop_model.specs.Moves.Move.{TakesMemRow}
 use Rattle.snoop_machine.proofs.Room.{held_in, held_in-set, keeps_room}
-use Rattle.snoop_model.proofs.Lines.EachRow.{row_of}
-use Rattle.snoop_machine.proofs.QueueHeads.{head_from_line, same_situation}
+use Rattle.snoop_machine.proofs.QueueHeads.{head_from_line}
 use Rattle.snoop_machine.proofs.AfterOrders.{IsSound-order, blocks_of-rest}
 use Rattle.snoop_machine.proofs.QueueViews.{queues_of-set, queue_of-queues_of, same_traffic}
 use Rattle.snoop_machine.proofs.Following.{follows-rows}
 use Rattle.snoop_machine.proofs.parts.Parts.start.Given.{Over}
 use Rattle.snoop_machine.proofs.parts.Parts.start.Goals as goal
 use Rattle.snoop_machine.proofs.parts.Parts.start.Goals.{After-take_rows, After-start}
+use Rattle.snoop_machine.proofs.PictureViews.{seen, state_seen, picture-written, same_situation, core_in, block_in, sized_on, logged_on}
 
 pub take_rows-requires-clause-rows : goal.take_rows-requires-clause-rows
 take_rows-requires-clause-rows g c =
-    let P : Standing → Type 0 = λ s. (k : ℕ) → k < length (picture_of s.situation c.args.block).caches → HasRow s.situation.protocol (held_by (picture_of s.situation c.args.block) k).state (seen_by k c.args.core c.args.request) in
-    subst P (sym c.self.view_is) c.requires.message.rows
+    let m = (fields c.self.inside.protocol c.self.inside.shape c.self.inside.lines c.self.inside.memory c.self.inside.bus c.self.inside.log) in
+    let P : Standing → Type 0 = λ s. (k : ℕ) → k < length (picture_of c.args.self.now.situation c.args.block).caches → HasRow s.situation.protocol (held_by (picture_of c.args.self.now.situation c.args.block) k).state (seen_by k c.args.core c.args.request) in
+    let Q : Picture → Type 0 = λ x. (k : ℕ) → k < length x.caches → HasRow m.protocol (held_by x k).state (seen_by k c.args.core c.args.request) in
+    subst Q (seen m c.self.invariant c.args.self.now c.self.view_is c.args.block) (subst P (sym c.self.view_is) c.requires.message.rows)
 
 head : (g : Over) (c : After-take_rows g) → head_of c.self.inside.bus c.args.core ≡ Some (c.args.request, c.args.block)
 head g c =
     let m = (fields c.self.inside.protocol c.self.inside.shape c.self.inside.lines c.self.inside.memory c.self.inside.bus c.self.inside.log) in
-    let P : Standing → Type 0 = λ s. IsHead s.situation c.args.core c.args.request c.args.block in
-    let h : IsHead _ c.args.core c.args.request c.args.block = subst P (sym c.self.view_is) c.requires.head in
-    head_from_line m.shape m.lines.rows m.bus c.self.invariant.sound c.args.core c.args.request c.args.block h.first h.waits
+    let P : Standing → Type 0 = λ s. StandsFirst s.situation c.args.core c.args.block in
+    head_from_line m.shape m.lines.rows m.bus c.self.invariant.sound c.args.core c.args.request c.args.block (subst P (sym c.self.view_is) c.requires.head.first)
+    (sym (ap waiting_request (state_seen m c.self.invariant c.args.self.now c.self.view_is c.args.core c.args.block)) ∙ c.requires.head.waits)
 
 pub start-requires-clause-head : goal.start-requires-clause-head
 start-requires-clause-head g c =
@@ -51,8 +52,8 @@ start-requires-clause-head g c =
 pub start-requires-clause-free : goal.start-requires-clause-free
 start-requires-clause-free g c =
     let d = (goal.at.start-requires-clause-free g c).After-take_rows in
-    let Q : Standing → Type 0 = λ s. (picture_of s.situation c.args.block).transaction ≡ None in
-    let free : transaction_on c.self.inside.bus c.args.block ≡ None = subst Q (sym c.self.view_is) c.requires.free in
+    let m = (fields c.self.inside.protocol c.self.inside.shape c.self.inside.lines c.self.inside.memory c.self.inside.bus c.self.inside.log) in
+    let free : transaction_on c.self.inside.bus c.args.block ≡ None = sym (ap (λ (x : Picture). x.transaction) (seen m c.self.invariant c.args.self.now c.self.view_is c.args.block)) ∙ c.requires.free in
     let P : Option (Request × ℕ) → Type 0 = λ o. IfSome o (λ head. transaction_on c.self.inside.bus head.1 ≡ None) in
     subst P (sym (head g d)) free
 
@@ -67,8 +68,8 @@ invariant_of-self g c =
     let d = (goal.at.invariant_of-self g c).After-take_rows in
     let h = head g d in
     let s = starts g (goal.at.invariant_of-self g c).After-start h in
-    let P : Standing → Type 0 = λ x. c.args.core < x.situation.shape.cores in
-    let Q : Standing → Type 0 = λ x. c.args.block < x.situation.shape.blocks in
+    let in_cores = core_in m c.self.invariant c.args.self.now c.self.view_is c.args.core c.requires.core in
+    let in_blocks = block_in m c.self.invariant c.args.self.now c.self.view_is c.args.block c.requires.head.within in
     let after : Traffic = record {
       queues = slice_set m.bus.queues c.args.core (record { requests = drop 1 (waiting_of m.bus c.args.core).requests; room = s.room });
       transactions = slice_set m.bus.transactions c.args.block (Some (record { core = c.args.core; request = c.args.request; block = c.args.block; payload = c.args.message.payload; value = c.args.message.value; from = c.args.message.from }));
@@ -76,17 +77,11 @@ invariant_of-self g c =
     let same : c.start.new.self ≡ after = same_traffic c.start.new.self after s.queues s.transactions in
     let R : Traffic → Type 0 = λ bus. IsSound m.shape c.take_rows.new.self.rows bus in
     record {
-      few = c.self.invariant.few;
-      lines = c.take_rows.ensures.many ∙ c.self.invariant.lines;
       sound = subst R (sym same)
           (IsSound-order m.shape m.lines.rows c.take_rows.new.self.rows m.bus m.protocol c.args.core c.args.block c.args.request c.args.message.payload c.args.message.value c.args.message.from
-          c.self.invariant.sound (subst P (sym c.self.view_is) c.requires.core) (subst Q (sym c.self.view_is) c.requires.head.within) h c.take_rows.ensures.others c.take_rows.ensures.taken s.room);
-      memory = ap (λ (l : List MemLine). length l) c.set.ensures ∙ (length-set m.memory c.args.block (record { state = c.args.memory; value = c.get_or-before.result.value }) ∙ c.self.invariant.memory);
-      cores = ap (λ (j : Journal). j.cores) c.push.ensures ∙ c.self.invariant.cores;
-      blocks = ap (λ (j : Journal). j.blocks) c.push.ensures ∙ c.self.invariant.blocks;
-      words = ap (λ (j : Journal). j.words) c.push.ensures ∙ c.self.invariant.words;
-      held = c.self.invariant.held;
-      few_words = c.self.invariant.few_words;
+          c.self.invariant.sound in_cores in_blocks h c.take_rows.ensures.others c.take_rows.ensures.taken s.room);
+      sized = sized_on m _ c.self.invariant.sized refl c.take_rows.ensures.many
+          (ap (λ (l : List MemLine). length l) c.set.ensures ∙ length-set m.memory c.args.block (record { state = c.args.memory; value = c.memory_line-before.result.value })) (logged_on m.log c.push.new.self _ _ c.push.ensures);
     }
 
 pub returns-clause-ordered : goal.returns-clause-ordered
@@ -99,20 +94,21 @@ returns-clause-ordered g c =
     let block = c.args.block in
     let request = c.args.request in
     let message = c.args.message in
-    let old : Situation = record { protocol = m.protocol; shape = m.shape; caches = m.lines.rows; memory = m.memory; transactions = m.bus.transactions; queues = queues_of m.bus.queues; log = m.log.items } in
+    let old : Situation = (standing m).situation in
     let is : old ≡ c.args.self.now.situation = ap (λ (x : Standing). x.situation) c.self.view_is in
-    let new : Situation = record { protocol = m.protocol; shape = m.shape; caches = c.take_rows.new.self.rows; memory = c.set.new.self; transactions = c.start.new.self.transactions; queues = queues_of c.start.new.self.queues; log = c.push.new.self.items } in
+    let new : Situation = record { protocol = m.protocol; shape = m.shape; pictures = pictures_of c.take_rows.new.self.rows c.set.new.self c.start.new.self.transactions; queues = queues_of c.start.new.self.queues; log = c.push.new.self.items } in
     let G : Situation → Type 0 = λ x. Orders x core block request new in
     let W : Situation → Type 0 = λ x. Waits x core block request in
     let F : Situation → Type 0 = λ x. (picture_of x block).transaction ≡ None in
     let M : Situation → Type 0 = λ x. IsMessage x.protocol (picture_of x block) core request message in
     let N : Situation → Type 0 = λ x. TakesMemRow x.protocol (at_memory request) (picture_of x block).memory.state c.args.memory in
+    let R : Picture → Type 0 = λ x. TakesRows m.protocol core request x.caches (row_of c.take_rows.new.self.rows block) in
     let sent : IsMessage m.protocol (picture_of old block) core request message = subst M (sym is) c.requires.message in
-    let value : c.get_or-before.result ≡ slice_index_or m.memory block no_memory = c.get_or-before.ensures ∙ ap (λ (x : MemLine). slice_index_or m.memory block x) c.no_memory.ensures in
+    let held : c.memory_line-before.result ≡ (picture_of old block).memory = c.memory_line-before.ensures ∙ ap (λ (x : Situation). (picture_of x block).memory) (sym is) in
     let next : Picture = record {
       caches = row_of c.take_rows.new.self.rows block;
-      memory = record { state = c.args.memory; value = (picture_of old block).memory.value };
-      transaction = Some (record { core = core; request = request; block = block; payload = message.payload; value = value_sent (picture_of old block) message.from message.payload; from = message.from });
+      memory = record { state = c.args.memory; value = c.memory_line-before.result.value };
+      transaction = Some (record { core = core; request = request; block = block; payload = message.payload; value = message.value; from = message.from });
     } in
     subst G is (record {
       ready = (subst W (sym is) c.requires.head.waits, subst F (sym is) c.requires.free);
@@ -120,21 +116,16 @@ returns-clause-ordered g c =
       payload = message.payload;
       sent = sent.only;
       next = next;
-      taken = c.take_rows.ensures.taken;
+      taken = subst R (sym (seen m c.self.invariant (standing m) refl block)) c.take_rows.ensures.taken;
       memory = subst N (sym is) c.requires.memory;
-      value = refl;
-      opened = refl;
+      value = ap (λ (x : MemLine). x.value) held;
+      opened = ap (λ (x : List ℕ). let o : Option Open = Some (record { core = core; request = request; block = block; payload = message.payload; value = x; from = message.from }) in o) sent.value;
       after = same_situation new
-          (record old {
-            caches = slice_set m.lines.rows block next.caches;
-            memory = slice_set m.memory block next.memory;
-            transactions = slice_set m.bus.transactions block next.transaction;
+          (record (with_picture old block next) {
             queues = after_order old.queues core block;
             log = m.log.items ++ item.Sent (record { core = core; request = request; block = block }) ∷ [];
           })
-          refl refl c.take_rows.ensures.others
-          (c.set.ensures ∙ ap (λ (x : MemLine). slice_set m.memory block (let r : MemLine = record { state = c.args.memory; value = x.value } in r)) value)
-          (s.transactions ∙ ap (λ (x : List ℕ). slice_set m.bus.transactions block (let o : Option Open = Some (record { core = core; request = request; block = block; payload = message.payload; value = x; from = message.from }) in o)) sent.value)
+          refl refl (picture-written m block next c.take_rows.new.self.rows c.set.new.self c.start.new.self.transactions c.take_rows.ensures.others c.set.ensures s.transactions)
           (ap queues_of s.queues ∙ (queues_of-set m.bus.queues core (record { requests = drop 1 (waiting_of m.bus core).requests; room = s.room })
           ∙ ap (λ l. slice_set (queues_of m.bus.queues) core l)
           (blocks_of-rest (waiting_of m.bus core).requests request block h (c.self.invariant.sound.once core) ∙ ap (filter (λ x. not (x == block))) (sym (queue_of-queues_of m.bus.queues core)))))
@@ -148,8 +139,7 @@ returns-clause-room g c =
     let s = starts g (goal.at.returns-clause-room g c).After-start (head g d) in
     let core = c.args.core in
     let before : Waiting = waiting_of m.bus core in
-    let P : Standing → Type 0 = λ x. core < x.situation.shape.cores in
-    let in_cores : core < m.shape.cores = subst P (sym c.self.view_is) c.requires.core in
+    let in_cores = core_in m c.self.invariant c.args.self.now c.self.view_is core c.requires.core in
     let in_queues : core < length m.bus.queues = omega (arith, c.self.invariant.sound.queues) in
     let queue : Waiting = record { requests = drop 1 before.requests; room = s.room } in
     let fewer = length-drop 1 before.requests in
@@ -172,4 +162,13 @@ returns-clause-room g c =
     keeps_room m new c.args.self.now c.self.view_is items kept
 
 pub returns-clause-lines : goal.returns-clause-lines
-returns-clause-lines g c = follows-rows (fields c.self.inside.protocol c.self.inside.shape c.self.inside.lines c.self.inside.memory c.self.inside.bus c.self.inside.log) c.args.self.now c.self.view_is _ c.args.block c.take_rows.new.self refl refl c.take_rows.ensures.others c.take_rows.ensures.lines
+returns-clause-lines g c =
+    let m = (fields c.self.inside.protocol c.self.inside.shape c.self.inside.lines c.self.inside.memory c.self.inside.bus c.self.inside.log) in
+    let s = starts g (goal.at.returns-clause-lines g c).After-start (head g (goal.at.returns-clause-lines g c).After-take_rows) in
+    let next : Picture = record {
+      caches = row_of c.take_rows.new.self.rows c.args.block;
+      memory = record { state = c.args.memory; value = c.memory_line-before.result.value };
+      transaction = Some (record { core = c.args.core; request = c.args.request; block = c.args.block; payload = c.args.message.payload; value = c.args.message.value; from = c.args.message.from });
+    } in
+    follows-rows m c.self.invariant c.args.self.now c.self.view_is _ c.args.block next c.take_rows.new.self c.requires.head.within
+    (picture-written m c.args.block next c.take_rows.new.self.rows c.set.new.self c.start.new.self.transactions c.take_rows.ensures.others c.set.ensures s.transactions) refl refl c.take_rows.ensures.lines

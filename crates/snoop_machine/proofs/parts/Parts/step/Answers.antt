@@ -5,7 +5,7 @@ use Rattle.snoop_model.specs.Pictures.Situation.{Situation}
 use Rattle.snoop_model.specs.Moves.Move.{FirstMove}
 use Rattle.snoop_machine.specs.Plan.{step_of, entry_of}
 use Rattle.snoop_model.proofs.Runs.Prepared.{prepared-log}
-use Rattle.snoop_machine.proofs.Plans.{RefusedFor-memory}
+use Rattle.snoop_machine.proofs.Plans.{RefusedFor-memory, IsFull-plan}
 use Rattle.snoop_machine.proofs.Holding.{HoldsOn-taken}
 use Rattle.snoop_machine.proofs.parts.Parts.step.Goals as goal
 
@@ -13,6 +13,9 @@ pub returns-in_err-make_room-clause-refused : goal.returns-in_err-make_room-clau
 returns-in_err-make_room-clause-refused g c =
     let p = err_from_is_err_and c.from_residual.result c.from_residual.ensures.1 in
     rw (p.1, p.2) (RefusedFor-memory c.args.self.now.situation c.args.step c.in-Ok.plan c.in-Ok.ensures.found, c.in_err-make_room.ensures.refused)
+
+pub returns-in_err-make_room-clause-full : goal.returns-in_err-make_room-clause-full
+returns-in_err-make_room-clause-full g c = λ e. IsFull-plan c.args.self.now c.args.step c.in-Ok.plan c.in-Ok.ensures.found c.in_err-make_room.ensures.full
 
 pub returns-clause-prepared : goal.returns-clause-prepared
 returns-clause-prepared g c =

@@ -3,7 +3,9 @@ use Rattle.snoop_rules.specs.Takers.{asked}
 use Rattle.snoop_rules.specs.Waits.{waiting_request}
 use Rattle.snoop_machine.specs.Asked.{Asked}
 use Rattle.snoop_model.specs.Pictures.Lines.{Line}
-use Rattle.snoop_model.specs.Pictures.Sound.{IsProper, line_at}
+use Rattle.snoop_model.specs.Pictures.Sound.{IsProper}
+use Rattle.snoop_model.specs.Pictures.Picture.{held_by}
+use Rattle.snoop_model.specs.Pictures.Situation.{picture_of}
 use Rattle.snoop_machine.specs.Asked.{TakesAsk}
 use Rattle.snoop_model.proofs.Tables.Rows.{issue-waits, drop-waits, IsProper-issue, IsProper-hit, IsProper-drop}
 use Rattle.snoop_machine.proofs.parts.Parts.take_ask.Goals as goal
@@ -11,7 +13,7 @@ use Rattle.snoop_machine.proofs.parts.Parts.take_ask.Goals as goal
 pub hit_line-requires-clause-proper : goal.hit_line-requires-clause-proper
 hit_line-requires-clause-proper g c =
     let s = c.args.self.now.situation in
-    let line = line_at s.caches c.args.core c.args.block in
+    let line = held_by (picture_of s c.args.block) c.args.core in
     let P : Asked → Type 0 = λ way. TakesAsk s.protocol line c.args.word c.args.op way in
     let t = subst P c.in-Hit.is c.requires.found in
     let Q : Line → Type 0 = λ x. IsProper x in
@@ -20,7 +22,7 @@ hit_line-requires-clause-proper g c =
 pub issue_line-requires-clause-waits : goal.issue_line-requires-clause-waits
 issue_line-requires-clause-waits g c =
     let s = c.args.self.now.situation in
-    let line = line_at s.caches c.args.core c.args.block in
+    let line = held_by (picture_of s c.args.block) c.args.core in
     let P : Asked → Type 0 = λ way. TakesAsk s.protocol line c.args.word c.args.op way in
     let t = subst P c.in-Issue.is c.requires.found in
     ap (λ (x : Line). waiting_request x.state) t.1.1 ∙ (issue-waits s.protocol line.state (asked c.args.op) c.in-Issue.request t.0 t.1.0).1
@@ -28,7 +30,7 @@ issue_line-requires-clause-waits g c =
 pub issue_line-requires-clause-proper : goal.issue_line-requires-clause-proper
 issue_line-requires-clause-proper g c =
     let s = c.args.self.now.situation in
-    let line = line_at s.caches c.args.core c.args.block in
+    let line = held_by (picture_of s c.args.block) c.args.core in
     let P : Asked → Type 0 = λ way. TakesAsk s.protocol line c.args.word c.args.op way in
     let t = subst P c.in-Issue.is c.requires.found in
     let Q : Line → Type 0 = λ x. IsProper x in
@@ -37,7 +39,7 @@ issue_line-requires-clause-proper g c =
 pub put_line-requires-clause-proper : goal.put_line-requires-clause-proper
 put_line-requires-clause-proper g c =
     let s = c.args.self.now.situation in
-    let line = line_at s.caches c.args.core c.args.block in
+    let line = held_by (picture_of s c.args.block) c.args.core in
     let P : Asked → Type 0 = λ way. TakesAsk s.protocol line c.args.word c.args.op way in
     let t = subst P c.in-Drop.is c.requires.found in
     let Q : Line → Type 0 = λ x. IsProper x in
@@ -46,7 +48,7 @@ put_line-requires-clause-proper g c =
 pub put_line-requires-clause-same : goal.put_line-requires-clause-same
 put_line-requires-clause-same g c =
     let s = c.args.self.now.situation in
-    let line = line_at s.caches c.args.core c.args.block in
+    let line = held_by (picture_of s c.args.block) c.args.core in
     let P : Asked → Type 0 = λ way. TakesAsk s.protocol line c.args.word c.args.op way in
     let t = subst P c.in-Drop.is c.requires.found in
     ap (λ (x : Line). waiting_request x.state) t.1.1 ∙ drop-waits s.protocol line.state (asked c.args.op) t.0 t.1.0
