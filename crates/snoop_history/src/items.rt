@@ -9,20 +9,20 @@ use snoop_rules::{Payload, Request};
 /// A performed operation: the core's operation of this number, counted from 0.
 #[derive(Clone, Copy, Debug, PartialEq, Eq)]
 pub struct Did {
-    /// The core that performed it.
-    pub core: u32,
     /// How many operations the core had performed before.
     pub number: u64,
+    /// The core that performed it.
+    pub core: u32,
     /// The block that was read or written.
     pub block: u32,
     /// The word of it.
     pub word: u32,
     /// Whether it was a load; a store otherwise.
     pub load: bool,
-    /// The value that was loaded or stored.
-    pub value: u64,
     /// Whether it was performed when it was asked for, with no request.
     pub hit: bool,
+    /// The value that was loaded or stored.
+    pub value: u64,
 }
 
 /// A request was ordered on the bus.

@@ -24,22 +24,24 @@ fn nothing<B: Block>() -> Line<Kept<B>>
     }
 }
 
-/// A line as a map holds it: the word of the operation that waits lies beside the state, where it takes no memory of its own.
+/// A line as a map holds it: whether an operation waits, and its word, lie beside the state, where they take no memory of their own.
 #[derive(Drop)]
 struct Entry<B: Block> {
     state: CacheState,
+    is_waiting: bool,
     word: u32,
     kept: Option<Kept<B>>,
-    waiting: Option<Op>,
+    /// The operation, if one waits.
+    op: Op,
 }
 
 impl<B: Block> Model for Entry<B> {
-    ghost use Rattle.std.specs.Prelude.{option_map};
+    ghost use Rattle.std.specs.Prelude.{Some, None, if◌then◌else◌};
     ghost use Rattle.snoop_model.specs.Pictures.Lines.{Line};
 
     ghost Value = { Line };
 
-    ghost view = { λ e. record { state = e.state; kept = e.kept; waiting = option_map (λ op. record { word = e.word; op = op }) e.waiting } };
+    ghost view = { λ e. record { state = e.state; kept = e.kept; waiting = if e.is_waiting then Some (record { word = e.word; op = e.op }) else None } };
 }
 
 impl<B: Block> Entry<B> {
@@ -49,15 +51,17 @@ impl<B: Block> Entry<B> {
         match line.waiting {
             Some(Access { word, op }) => Entry {
                 state: line.state,
+                is_waiting: true,
                 word,
                 kept: line.kept,
-                waiting: Some(op),
+                op,
             },
             None => Entry {
                 state: line.state,
+                is_waiting: false,
                 word: 0,
                 kept: line.kept,
-                waiting: None,
+                op: Op::Load,
             },
         }
     }
@@ -69,12 +73,13 @@ impl<B: Block> Entry<B> {
         Line {
             state: self.state,
             kept: self.kept,
-            waiting: match self.waiting {
-                Some(op) => Some(Access {
+            waiting: if self.is_waiting {
+                Some(Access {
                     word: self.word,
-                    op,
-                }),
-                None => None,
+                    op: self.op,
+                })
+            } else {
+                None
             },
         }
     }
