@@ -33,10 +33,7 @@ I,issue GetS/IS_AD,issue GetM/IM_AD,,,,,none/I,none/I,none/I,,
 
 #[test]
 fn writes_the_memory_matrices(rt: HostRuntime) -> Result<(), Fail> {
-    for (protocol, matrix) in [
-        (Protocol::Msi, MSI_MEMORY),
-        (Protocol::Mesi, MESI_MEMORY),
-    ] {
+    for (protocol, matrix) in [(Protocol::Msi, MSI_MEMORY), (Protocol::Mesi, MESI_MEMORY)] {
         let mut text = Vec::new(rt.alloc());
         write_matrix(rt.alloc(), &mut text, protocol, Which::Memory)?;
         if text.as_slice() != matrix.as_bytes() {
