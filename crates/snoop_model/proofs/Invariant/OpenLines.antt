@@ -25,7 +25,7 @@ use Rattle.snoop_model.specs.Invariant.MachineKeeps.{AreOnLines}
 use Rattle.snoop_model.proofs.OneBlock.AfterMoves.{order_other_block, respond_other_block}
 use Rattle.snoop_model.proofs.OneBlock.OfBlocks.{same_everywhere}
 use Rattle.snoop_model.proofs.Invariant.Runs.{goes_keeps, refusal_same, reset_open}
-use Rattle.snoop_model.proofs.Invariant.TableLines.{order_is_by_table, respond_is_by_table}
+use Rattle.snoop_model.proofs.Invariant.TableLines.{order_is_by_table, respond_settles}
 
 abbrev OnLine : Protocol → Picture → Type 0
 OnLine p picture = IfSome picture.transaction (λ o. (done : MemState) × IsOnLine p o picture.memory.state done)
@@ -50,7 +50,7 @@ respond_on_lines : (old : Situation) (block : ℕ) (closing : Open) (did : Optio
 respond_on_lines old block closing did new g lines within r b =
     let p : new.protocol ≡ old.protocol = ap (λ (s : Situation). s.protocol) r.after in
     subst (λ (x : Protocol). OnLine x (picture_of new b)) (sym p) (elim (eqb_tells b block) as (λ _. OnLine old.protocol (picture_of new b)) [
-      | inl h ↦ subst (λ (x : ℕ). OnLine old.protocol (picture_of new x)) (sym h.1) (rw (respond_is_by_table old g block closing did new within r).closed tt)
+      | inl h ↦ subst (λ (x : ℕ). OnLine old.protocol (picture_of new x)) (sym h.1) (rw (respond_settles old g block closing did new within r).closed tt)
       | inr h ↦ subst (OnLine old.protocol) (sym (respond_other_block old block closing did new g within r b h.1)) (lines b)
     ])
 
