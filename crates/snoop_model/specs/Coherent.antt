@@ -18,7 +18,7 @@ use Rattle.snoop_model.specs.Pictures.Sound.{IsProper}
 use Rattle.snoop_model.specs.Pictures.InQueue.{IsInQueue}
 use Rattle.snoop_model.specs.Moves.Move.{IsWithin, Orders}
 use Rattle.snoop_model.specs.Moves.LookUps.{FindsRows}
-use Rattle.snoop_model.specs.Moves.SenderTable.{IsOrderedByTable, IsOpenByTable}
+use Rattle.snoop_model.specs.Moves.SenderTable.{IsLine, IsOpenByTable}
 use Rattle.snoop_model.specs.Runs.Once.{Once}
 
 -- a coherent machine
@@ -40,7 +40,7 @@ pub record IsCoherent (s : Situation) : Type 0 where
   -- such an Order can be made: each controller takes its row for it, and exactly one sends
   pub orders : (core block : ℕ) (request : Request) → CanOrder s core block request → (new : Situation) × Orders s core block request new
   -- each Order that is taken next, of any block, is a line of the table of senders
-  pub by_table : (core block : ℕ) (request : Request) (new : Situation) → IsWithin s core block → Orders s core block request new → IsOrderedByTable s core block request new
+  pub by_table : (core block : ℕ) (request : Request) (new : Situation) (made : Orders s core block request new) → IsLine s.protocol (picture_of s block) core request made.from made.payload made.next.memory.state
   -- an open transaction is on such a line, and a Respond taken next closes it and leaves memory as the line says
   pub on_table : (block : ℕ) → IfSome (picture_of s block).transaction (IsOpenByTable s block)
   -- a core keeps words of a block exactly where its state may read, and an operation waits exactly where one has missed

@@ -20,7 +20,7 @@ use Rattle.snoop_model.specs.Moves.StepMove.{RefusedFor}
 use Rattle.snoop_model.specs.Invariant.Invariant.{Invariant}
 use Rattle.snoop_model.specs.Invariant.MachineKeeps.{AreOnLines, MachineKeeps}
 use Rattle.snoop_model.specs.Runs.Safe.{IsSafe}
-use Rattle.snoop_model.proofs.Invariant.TableLines.{order_is_by_table, open_is_by_table}
+use Rattle.snoop_model.proofs.Invariant.TableLines.{order_is_line, open_is_by_table}
 use Rattle.snoop_model.proofs.Invariant.OpenLines.{reset_on_lines, move_on_lines}
 use Rattle.snoop_model.proofs.Invariant.Coherence.{has_one_writer, readers_current, memory_current, names_its_block, finds_rows, place}
 use Rattle.snoop_model.proofs.Invariant.Runs.{reset_invariant, nothing_proper}
@@ -58,7 +58,7 @@ is_coherent s g on_lines queued = record {
   opened = names_its_block s g;
   possible = finds_rows s g;
   orders = order_made s g;
-  by_table = order_is_by_table s g;
+  by_table = order_is_line s g;
   on_table = open_is_by_table s g on_lines;
   proper = all_proper s g;
   queued = queued;

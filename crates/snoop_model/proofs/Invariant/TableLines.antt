@@ -19,33 +19,27 @@ use Rattle.snoop_history.specs.declared.items.Did.{Did}
 use Rattle.snoop_bus.specs.Traffic.{Open}
 use Rattle.snoop_model.specs.Pictures.Picture.{Picture}
 use Rattle.snoop_model.specs.Pictures.Situation.{Situation, picture_of}
-use Rattle.snoop_model.specs.Pictures.Sends.{Sends, value_sent}
+use Rattle.snoop_model.specs.Pictures.Sends.{Sends}
 use Rattle.snoop_model.specs.Moves.Move.{IsWithin, Settles, Orders, Responds, ArrivesAtMemory}
-use Rattle.snoop_model.specs.Moves.SenderTable.{IsLine, IsOnLine, IsOrderedByTable, IsOpenByTable}
+use Rattle.snoop_model.specs.Moves.SenderTable.{IsLine, IsOnLine, IsOpenByTable}
 use Rattle.snoop_model.specs.Invariant.Invariant.{Invariant}
 use Rattle.snoop_model.specs.Invariant.MachineKeeps.{AreOnLines}
 use Rattle.snoop_model.proofs.Invariant.Coherence.{orders_follow_sender_table}
-use Rattle.snoop_model.proofs.OneBlock.AfterMoves.{order_here, respond_here}
+use Rattle.snoop_model.proofs.OneBlock.AfterMoves.{respond_here}
 use Rattle.snoop_model.proofs.Runs.AreOne.{sends_one}
 
-pub order_is_by_table : (s : Situation) → Invariant s → (core block : ℕ) (q : Request) (new : Situation) → IsWithin s core block → Orders s core block q new → IsOrderedByTable s core block q new
-order_is_by_table s g core block q new within o =
+-- an Order is a line of the table
+pub order_is_line : (s : Situation) → Invariant s → (core block : ℕ) (q : Request) (new : Situation) (made : Orders s core block q new) → IsLine s.protocol (picture_of s block) core q made.from made.payload made.next.memory.state
+order_is_line s g core block q new o =
     let p = s.protocol in
     let before : Picture = picture_of s block in
     let f = orders_follow_sender_table s g core block q o.ready in
     let from : f.from ≡ o.from = o.sent.alone f.from f.payload f.sent.sends in
     let payload : f.payload ≡ o.payload = sends_one p before core q o.from f.payload o.payload (subst (λ (x : Option ℕ). Sends p before core q x f.payload) from f.sent.sends) o.sent.sends in
-    let there : picture_of new block ≡ o.next = order_here s core block q new g within o in
-    let memory : f.next ≡ (picture_of new block).memory.state = (f.ordered.2 ∙ (ap (λ (row : MemCell). row.next) (same_Some _ _ (sym f.ordered.1 ∙ o.memory.1)) ∙ sym o.memory.2)) ∙ sym (ap (λ (x : Picture). x.memory.state) there) in
-    record {
-      from = o.from;
-      payload = o.payload;
-      value = value_sent before o.from o.payload;
-      opened = ap (λ (x : Picture). x.transaction) there ∙ o.opened;
-      is_line = subst (λ (m : MemState). IsLine p before core q o.from o.payload m) memory
-          (subst (λ (x : Payload). IsLine p before core q o.from x f.next) payload
-          (subst (λ (x : Option ℕ). IsLine p before core q x f.payload f.next) from f.is_line));
-    }
+    let memory : f.next ≡ o.next.memory.state = f.ordered.2 ∙ (ap (λ (row : MemCell). row.next) (same_Some _ _ (sym f.ordered.1 ∙ o.memory.1)) ∙ sym o.memory.2) in
+    subst (λ (m : MemState). IsLine p before core q o.from o.payload m) memory
+    (subst (λ (x : Payload). IsLine p before core q o.from x f.next) payload
+    (subst (λ (x : Option ℕ). IsLine p before core q x f.payload f.next) from f.is_line))
 
 -- a Respond that led from old to new closed the block's transaction, and memory took its row for the response, or stayed where it takes none
 pub record IsSettled (old : Situation) (block : ℕ) (new : Situation) : Type 0 where

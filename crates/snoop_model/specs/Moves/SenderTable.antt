@@ -1,7 +1,6 @@
 -- Each Order and each open transaction goes by the table of senders.
 -- Source: "A Primer on Memory Consistency and Cache Coherence", 2nd edition, chapter 7; MESI's memory is this project's profile.
 use Rattle.std.specs.Prelude.{◌≡◌, ℕ, Option, Some, None, option_map}
-use Rattle.snoop_trace.specs.Words.{Data}
 use Rattle.snoop_trace.specs.declared.step.Step.TheVariants.{Respond}
 use Rattle.snoop_trace.specs.declared.protocol.Protocol.{Protocol}
 use Rattle.snoop_rules.specs.declared.names.CacheState.{CacheState}
@@ -36,14 +35,6 @@ pub record FollowsSenderTable (protocol : Protocol) (before : Picture) (core : �
   pub sent : IsOnlySender protocol before core request from payload
   pub ordered : TakesMemRow protocol (at_memory request) before.memory.state next
   pub is_line : IsLine protocol before core request from payload next
-
--- an Order that led from old to new is a line of the table
-pub record IsOrderedByTable (old : Situation) (core block : ℕ) (request : Request) (new : Situation) : Type 0 where
-  pub from : Option ℕ
-  pub payload : Payload
-  pub value : Data
-  pub opened : (picture_of new block).transaction ≡ Some (record { core = core; request = request; block = block; payload = payload; value = value; from = from })
-  pub is_line : IsLine old.protocol (picture_of old block) core request from payload (picture_of new block).memory.state
 
 -- the open transaction is on a line of the table: its request and its payload, sent by memory where the line says so, and else by a core; memory's state is the line's after the Order, and `done` is the line's after the Respond; at a PutM the sender is the requestor itself
 pub record IsOnLine (protocol : Protocol) (transaction : Open) (memory done : MemState) : Type 0 where
