@@ -1,7 +1,6 @@
 //! The counts of each block, as a table.
 ghost use Rattle.std.specs.Prelude.{◌≡◌, ◌<◌, ◌≤◌, ◌++◌, ◌∷◌, [], ℕ, true, List, All, IfOk, OnOk, map, if◌then◌else◌};
 ghost use Rattle.std.specs.List.{flat_map};
-ghost use Rattle.snoop_trace.specs.Output.{address_of};
 ghost use Rattle.snoop_counts.specs.BlockTally.{CountsBlocks};
 ghost use Rattle.snoop_counts.specs.ByBlock.{block_line, block_table, blocks_named, blocks_shown, sharing_fields, with_requests};
 ghost use Rattle.snoop_counts.specs.Counted.{is_named};
@@ -41,13 +40,6 @@ static BLOCK_COUNTS: [Count; 21] = [
     Count::NoTransaction,
 ];
 
-// The first address of a block.
-fn address_of(shape: Shape, block: u32) -> u64
-    ensures { result ≡ address_of shape block }
-{
-    block as u64 * shape.block_bytes() as u64
-}
-
 // Appends how many cores a line of the block names, how many loaded of it, and how many stored in it.
 fn push_sharing(
     out: &mut Vec<u8>,
@@ -82,7 +74,7 @@ fn push_block(
         Some(row) => {
             push_decimal(out, block as u64)?;
             push_byte(out, b',')?;
-            push_decimal(out, address_of(shape, block))?;
+            push_decimal(out, shape.address_of(block))?;
             push_sharing(out, tally, shape.cores(), block)?;
             push_counts(out, &row, &BLOCK_COUNTS)?;
             push_byte(out, b'\n')

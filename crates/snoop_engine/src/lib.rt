@@ -3,6 +3,7 @@
 //! lines and its report is a `View`.
 #![tactic(auto)]
 
+mod actions;
 mod counts;
 mod counts_text;
 mod deal;
@@ -12,7 +13,6 @@ mod fault;
 mod lane;
 mod line;
 mod literals;
-mod names;
 mod packed;
 mod run;
 mod script;

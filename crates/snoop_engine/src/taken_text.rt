@@ -5,10 +5,8 @@ ghost use Rattle.std.specs.Fmt.{decimal};
 ghost use Rattle.snoop_rules.specs.Names.{event_name, memory_event_name, memory_state_name, state_name};
 ghost use Rattle.snoop_engine.specs.States.{core_field, done_text, kept_at, kept_text, memory_done_text, memory_met_text, memory_now_text, memory_text, memory_value_at, met_text, now_text, number_field, place_text, reply_field, step_fields, taken_text, value_text};
 
+use crate::actions::{push_action, push_memory_action};
 use crate::line::{push_numbered, push_outcome};
-use crate::names::{
-    event_name, memory_event_name, memory_state_name, push_action, push_memory_action,
-};
 use crate::taken::{Taken, memory_at, state_at};
 use snoop_machine::{Machine, Refused, Reply};
 use snoop_rules::{CacheEvent, CacheState, MemEvent, MemState, Protocol, cache_cell, mem_cell};
@@ -72,7 +70,7 @@ fn push_event(out: &mut Vec<u8>, event: Option<CacheEvent>) -> Result<(), NoMemo
 {
     match event {
         None => Ok(()),
-        Some(event) => push_text(out, event_name(event)),
+        Some(event) => push_text(out, event.name()),
     }
 }
 
@@ -131,9 +129,9 @@ fn push_memory_met(
 ) -> Result<(), NoMemory>
     ensures { OnOk result (out.new.items ≡ out.old.items ++ memory_met_text protocol event before) }
 {
-    push_text(out, memory_event_name(event))?;
+    push_text(out, event.name())?;
     push_byte(out, b',')?;
-    push_text(out, memory_state_name(before))?;
+    push_text(out, before.name())?;
     push_byte(out, b',')?;
     push_memory_done(out, protocol, before, event)?;
     push_byte(out, b',')
@@ -153,7 +151,7 @@ fn push_memory_state(out: &mut Vec<u8>, state: Option<MemState>) -> Result<(), N
 {
     match state {
         None => Ok(()),
-        Some(state) => push_text(out, memory_state_name(state)),
+        Some(state) => push_text(out, state.name()),
     }
 }
 

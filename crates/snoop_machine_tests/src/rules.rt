@@ -4,7 +4,7 @@ mod memory;
 use crate::writers::{Failure, Stopping};
 use snoop_rules::{
     CACHE_EVENTS, CACHE_STATES, CacheEvent, CacheState, MEM_EVENTS, MEM_STATES, MemEvent, MemState,
-    Payload, Protocol, Request, Which, arrival, arrival_at_memory, carries_value, event_asked,
+    Payload, Protocol, Request, Target, Which, arrival, arrival_at_memory, carries_value, event_asked,
     event_at_memory, event_seen, may_load, may_store, takes_payload, waits, write_table,
 };
 use snoop_trace::streams::AnyWriter;
@@ -294,6 +294,17 @@ fn tables_have_an_order() -> Result<(), Fail> {
     }
     if MEM_STATES[0] != MemState::IorS || MEM_EVENTS[0] != MemEvent::GetS {
         Err("memory")?
+    }
+    Ok(())
+}
+
+#[test]
+fn names_of_the_tables() -> Result<(), Fail> {
+    if CacheEvent::OwnGetM.name() != "OwnGetM" || MemEvent::NoDataE.name() != "NoDataE" {
+        Err("events")?
+    }
+    if MemState::SD.name() != "S_D" || Target::Both.name() != "requestor and memory" {
+        Err("states and takers")?
     }
     Ok(())
 }

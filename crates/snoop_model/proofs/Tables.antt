@@ -9,3 +9,4 @@ pub mod RespondTests
 pub mod SenderTests
 pub mod SenderLines
 pub mod EvictInI
+pub mod SentBy

@@ -1,23 +1,24 @@
 -- Coherence: what holds after any steps that a machine at reset takes or refuses, in any order.
 -- Source: chapters 2 and 7 of "A Primer on Memory Consistency and Cache Coherence", 2nd edition; the rest is this project's profile.
-use Rattle.std.specs.Prelude.{◌≡◌, ◌<◌, ℕ, List, All, Result}
+use Rattle.std.specs.Prelude.{◌≡◌, ◌<◌, ℕ, List, All, Result, IfSome}
 use Rattle.snoop_trace.specs.Extent.{Extent}
 use Rattle.snoop_trace.specs.Words.{IsWord}
 use Rattle.snoop_trace.specs.declared.step.Step.{Step}
 use Rattle.snoop_trace.specs.declared.protocol.Protocol.{Protocol}
+use Rattle.snoop_rules.specs.declared.names.Request.{Request}
 use Rattle.snoop_history.specs.History.{flat_words, operations, Legal}
 use Rattle.snoop_model.specs.declared.replies.Reply.{Reply}
 use Rattle.snoop_model.specs.declared.replies.Refused.{Refused}
 use Rattle.snoop_model.specs.Pictures.Picture.{held_by}
-use Rattle.snoop_model.specs.Pictures.Situation.{Situation, picture_of}
+use Rattle.snoop_model.specs.Pictures.Situation.{Situation, picture_of, CanOrder}
 use Rattle.snoop_model.specs.Pictures.OneWriter.{OneWriter}
 use Rattle.snoop_model.specs.Pictures.Current.{IsCurrent}
 use Rattle.snoop_model.specs.Pictures.MemoryCurrent.{IsMemoryCurrent, NamesItsBlock}
 use Rattle.snoop_model.specs.Pictures.Sound.{IsProper}
 use Rattle.snoop_model.specs.Pictures.InQueue.{IsInQueue}
-use Rattle.snoop_model.specs.Moves.Move.{IsWithin}
+use Rattle.snoop_model.specs.Moves.Move.{IsWithin, Orders}
 use Rattle.snoop_model.specs.Moves.LookUps.{FindsRows}
-use Rattle.snoop_model.specs.Moves.SenderTable.{OrdersFollowSenderTable, GoesByTable}
+use Rattle.snoop_model.specs.Moves.SenderTable.{IsLine, IsOpenByTable}
 use Rattle.snoop_model.specs.Runs.Once.{Once}
 
 -- a coherent machine
@@ -36,10 +37,12 @@ pub record IsCoherent (s : Situation) : Type 0 where
   pub opened : (block : ℕ) → NamesItsBlock s block
   -- no step meets an impossible cell, nor would an Order of a waiting request of any free block
   pub possible : (step : Step) → FindsRows s step
-  -- such an Order would have exactly one sender, and be a line of the table of senders
-  pub lines : OrdersFollowSenderTable s.protocol s
-  -- each Order that is taken next, of any block, is a line of that table. An open transaction is on such a line, and a Respond taken next leaves memory as the line says
-  pub by_table : GoesByTable s
+  -- such an Order can be made: each controller takes its row for it, and exactly one sends
+  pub orders : (core block : ℕ) (request : Request) → CanOrder s core block request → (new : Situation) × Orders s core block request new
+  -- each Order that is taken next, of any block, is a line of the table of senders
+  pub by_table : (core block : ℕ) (request : Request) (new : Situation) (made : Orders s core block request new) → IsLine s.protocol (picture_of s block) core request made.from made.payload made.next.memory.state
+  -- an open transaction is on such a line, and a Respond taken next closes it and leaves memory as the line says
+  pub on_table : (block : ℕ) → IfSome (picture_of s block).transaction (IsOpenByTable s block)
   -- a core keeps words of a block exactly where its state may read, and an operation waits exactly where one has missed
   pub proper : (core block : ℕ) → IsProper (held_by (picture_of s block) core)
   -- each core's queue has the blocks on which it waits to be ordered, each once

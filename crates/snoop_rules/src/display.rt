@@ -8,7 +8,7 @@ use crate::names::{
 use std::fmt;
 
 impl CacheState {
-    /// The state's name in the tables.
+    /// The state's name in the cache tables.
     pub fn name(self) -> &'static str
         ensures { result.now ≡ state_name self }
     {
@@ -38,11 +38,12 @@ impl fmt::Display for CacheState {
     }
 }
 
-impl fmt::Display for CacheEvent {
-    ghost output = { λ event. Some (event_name event) };
-
-    fn fmt<W: fmt::Write>(&self, f: &mut fmt::Formatter<W>) -> fmt::Result {
-        f.write_str(match self {
+impl CacheEvent {
+    /// The event's name in the cache tables.
+    pub fn name(self) -> &'static str
+        ensures { result.now ≡ event_name self }
+    {
+        match self {
             CacheEvent::Load => "Load",
             CacheEvent::Store => "Store",
             CacheEvent::Evict => "Evict",
@@ -54,15 +55,24 @@ impl fmt::Display for CacheEvent {
             CacheEvent::OtherPutM => "OtherPutM",
             CacheEvent::Data => "Data",
             CacheEvent::DataE => "DataE",
-        })
+        }
     }
 }
 
-impl fmt::Display for MemState {
-    ghost output = { λ state. Some (memory_state_name state) };
+impl fmt::Display for CacheEvent {
+    ghost output = { λ event. Some (event_name event) };
 
     fn fmt<W: fmt::Write>(&self, f: &mut fmt::Formatter<W>) -> fmt::Result {
-        f.write_str(match self {
+        f.write_str(self.name())
+    }
+}
+
+impl MemState {
+    /// The state's name in the memory tables.
+    pub fn name(self) -> &'static str
+        ensures { result.now ≡ memory_state_name self }
+    {
+        match self {
             MemState::IorS => "IorS",
             MemState::M => "M",
             MemState::IorSD => "IorS_D",
@@ -73,7 +83,31 @@ impl fmt::Display for MemState {
             MemState::ID => "I_D",
             MemState::SD => "S_D",
             MemState::EorMD => "EorM_D",
-        })
+        }
+    }
+}
+
+impl fmt::Display for MemState {
+    ghost output = { λ state. Some (memory_state_name state) };
+
+    fn fmt<W: fmt::Write>(&self, f: &mut fmt::Formatter<W>) -> fmt::Result {
+        f.write_str(self.name())
+    }
+}
+
+impl MemEvent {
+    /// The event's name in the memory tables.
+    pub fn name(self) -> &'static str
+        ensures { result.now ≡ memory_event_name self }
+    {
+        match self {
+            MemEvent::GetS => "GetS",
+            MemEvent::GetM => "GetM",
+            MemEvent::PutM => "PutM",
+            MemEvent::Data => "Data",
+            MemEvent::NoData => "NoData",
+            MemEvent::NoDataE => "NoDataE",
+        }
     }
 }
 
@@ -81,14 +115,7 @@ impl fmt::Display for MemEvent {
     ghost output = { λ event. Some (memory_event_name event) };
 
     fn fmt<W: fmt::Write>(&self, f: &mut fmt::Formatter<W>) -> fmt::Result {
-        f.write_str(match self {
-            MemEvent::GetS => "GetS",
-            MemEvent::GetM => "GetM",
-            MemEvent::PutM => "PutM",
-            MemEvent::Data => "Data",
-            MemEvent::NoData => "NoData",
-            MemEvent::NoDataE => "NoDataE",
-        })
+        f.write_str(self.name())
     }
 }
 
@@ -135,15 +162,24 @@ impl fmt::Display for Payload {
     }
 }
 
+impl Target {
+    /// To whom, as the tables have it.
+    pub fn name(self) -> &'static str
+        ensures { result.now ≡ target_name self }
+    {
+        match self {
+            Target::Requestor => "requestor",
+            Target::Memory => "memory",
+            Target::Both => "requestor and memory",
+        }
+    }
+}
+
 impl fmt::Display for Target {
     ghost output = { λ target. Some (target_name target) };
 
     fn fmt<W: fmt::Write>(&self, f: &mut fmt::Formatter<W>) -> fmt::Result {
-        f.write_str(match self {
-            Target::Requestor => "requestor",
-            Target::Memory => "memory",
-            Target::Both => "requestor and memory",
-        })
+        f.write_str(self.name())
     }
 }
 

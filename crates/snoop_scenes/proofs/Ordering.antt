@@ -26,10 +26,10 @@ use Rattle.snoop_model.specs.declared.replies.Reply.TheVariants as reply
 use Rattle.snoop_model.specs.declared.replies.Refused.TheVariants.{BusTaken}
 use Rattle.snoop_model.specs.Pictures.Picture.{Picture, held_at, held_by}
 use Rattle.snoop_model.specs.Pictures.Situation.{Situation, picture_of, with_picture, state_of}
-use Rattle.snoop_model.specs.Pictures.Sends.{sent_by, sent_by_memory, Sends, IsOnlySender, value_sent}
+use Rattle.snoop_model.specs.Pictures.Sends.{Sends, IsOnlySender, value_sent}
+use Rattle.snoop_model.proofs.Tables.SentBy.{sending, sending_memory, sent_by, sent_by_memory}
 use Rattle.snoop_model.specs.Moves.Move.{moves_to, TakesRow, TakesRows}
 use Rattle.snoop_model.specs.Runs.Run.{GoesFirst}
-use Rattle.snoop_model.proofs.Lines.TheSender.{sending, sending_memory}
 use Rattle.snoop_scenes.proofs.Deciding.{if_true, if_some}
 use Rattle.snoop_scenes.proofs.Rows.{RowAt, row_at, MemoryRowAt, memory_row_at}
 use Rattle.snoop_scenes.proofs.Played.{Played}
@@ -85,13 +85,13 @@ module _ (protocol : Protocol) (core : ℕ) (request : Request) (memory : MemSta
 
   -- a controller sends where its row does
   pub memory_says : (m : Payload) → Sent None m → third.act ≡ mem_action.Send m
-  memory_says m sent = sending_memory third.act third.next m (sym (ap sent_by_memory third.row) ∙ sent)
+  memory_says m sent = sending_memory third.act m (sym (ap sent_by_memory third.row) ∙ ap sent_by_memory sent.1)
 
   pub first_says : (m : Payload) → Sent (Some 0) m → (target : Target) × (first.act ≡ action.Send m target)
-  first_says m sent = sending first.act first.next m (sym (ap sent_by first.row) ∙ sent.1)
+  first_says m sent = sending first.act m (sym (ap sent_by first.row) ∙ ap sent_by sent.1.1.1)
 
   pub second_says : (m : Payload) → Sent (Some 1) m → (target : Target) × (second.act ≡ action.Send m target)
-  second_says m sent = sending second.act second.next m (sym (ap sent_by second.row) ∙ sent.1)
+  second_says m sent = sending second.act m (sym (ap sent_by second.row) ∙ ap sent_by sent.1.1.1)
 
   -- what follows from memory's message, and from each core's, follows from any
   pub by_sender : (from : Option ℕ) → ((m : Payload) → Sent None m → None ≡ from) → ((m : Payload) → Sent (Some 0) m → Some 0 ≡ from)
@@ -107,7 +107,7 @@ module _ (protocol : Protocol) (core : ℕ) (request : Request) (memory : MemSta
     from = None;
     payload = payload;
     sent = record {
-      sends = (let P : MemAction → Type 0 = λ act. MemoryCell protocol memory (at_memory request) act third.next in ap sent_by_memory (subst P is third.row));
+      sends = (let P : MemAction → Type 0 = λ act. MemoryCell protocol memory (at_memory request) act third.next in (third.next, subst P is third.row));
       alone = by_sender None (λ m sent. refl) (λ m sent. absurd (let does = first_says m sent in f m does.0 does.1)) (λ m sent. absurd (let does = second_says m sent in s m does.0 does.1));
     };
   }
@@ -121,7 +121,7 @@ module _ (protocol : Protocol) (core : ℕ) (request : Request) (memory : MemSta
       sends = (
           let P : CacheAction → Type 0 = λ act. Cell protocol a.state (seen_by 0 core request) act first.next in
           let there : 0 < 2 = omega arith in
-          (there, ap sent_by (subst P is first.row)));
+          (there, (target, (first.next, subst P is first.row))));
       alone = by_sender (Some 0) (λ m sent. absurd (q m (memory_says m sent))) (λ m sent. refl) (λ m sent. absurd (let does = second_says m sent in s m does.0 does.1));
     };
   }
@@ -135,7 +135,7 @@ module _ (protocol : Protocol) (core : ℕ) (request : Request) (memory : MemSta
       sends = (
           let P : CacheAction → Type 0 = λ act. Cell protocol b.state (seen_by 1 core request) act second.next in
           let there : 1 < 2 = omega arith in
-          (there, ap sent_by (subst P is second.row)));
+          (there, (target, (second.next, subst P is second.row))));
       alone = by_sender (Some 1) (λ m sent. absurd (q m (memory_says m sent))) (λ m sent. absurd (let does = first_says m sent in f m does.0 does.1)) (λ m sent. refl);
     };
   }

@@ -26,13 +26,6 @@ fn last_byte(shape: Shape, block: u32) -> u64
     ((block as u64 + 1) * shape.block_bytes() as u64).saturating_sub(1)
 }
 
-// The first byte of a block.
-fn first_byte(shape: Shape, block: u32) -> u64
-    ensures { result ≡ address_of shape block }
-{
-    block as u64 * shape.block_bytes() as u64
-}
-
 /// Appends the protocol, the block and its bytes, and an empty line.
 pub(crate) fn push_heading(out: &mut Vec<u8>, machine: &Machine, block: u32) -> Result<(), NoMemory>
     ensures { OnOk result (out.new.items ≡ out.old.items ++ heading_text machine.now.situation.protocol machine.now.situation.shape block) }
@@ -40,7 +33,7 @@ pub(crate) fn push_heading(out: &mut Vec<u8>, machine: &Machine, block: u32) -> 
     let shape = machine.shape();
     push_text(out, capitals(machine.protocol()))?;
     push_numbered(out, ", block ", block as u64)?;
-    push_numbered(out, " (bytes ", first_byte(shape, block))?;
+    push_numbered(out, " (bytes ", shape.address_of(block))?;
     push_numbered(out, " to ", last_byte(shape, block))?;
     push_text(out, ")\n\n")
 }

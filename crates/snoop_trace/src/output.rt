@@ -15,7 +15,7 @@ use crate::fault::{NoMemory, WriteFault};
 use crate::protocol::Protocol;
 use crate::shape::Shape;
 use crate::step::{Op, Step};
-use crate::streams::step_text::{address_of, word_address};
+use crate::streams::step_text::word_address;
 use crate::streams::{Sink, write_whole};
 use csv::{Writer, WriterBuilder};
 use itoa::Buffer;
@@ -151,7 +151,7 @@ fn write_record(records: &mut Writer<Vec<u8>>, shape: Shape, step: Step) -> Resu
             op,
         } => write_ask(records, shape, core, block, word, op),
         Step::Order { core } => write_one(records, b'O', core as u64),
-        Step::Respond { block } => write_one(records, b'R', address_of(shape, block)),
+        Step::Respond { block } => write_one(records, b'R', shape.address_of(block)),
     }
 }
 
@@ -170,7 +170,7 @@ fn write_ask(
 {
     match op {
         Op::Load => write_two(records, b'L', core, word_address(shape, block, word)),
-        Op::Evict => write_two(records, b'E', core, address_of(shape, block)),
+        Op::Evict => write_two(records, b'E', core, shape.address_of(block)),
         Op::Store(value) => {
             write_three(records, b'S', core, word_address(shape, block, word), value)
         }

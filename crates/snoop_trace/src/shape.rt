@@ -2,6 +2,7 @@
 ghost use Rattle.std.specs.Prelude.{◌≡◌, ◌≤◌, ◌<◌, ◌↔◌, Err, IsTrue};
 ghost use Rattle.std.specs.Result.{OkIff};
 ghost use Rattle.snoop_trace.specs.Extent.{IsBlockCount, IsBlockSize, IsCoreCount, IsWithinLimits, IsWordCount};
+ghost use Rattle.snoop_trace.specs.Output.{address_of};
 ghost use Rattle.snoop_trace.specs.Words.{HasWord};
 
 use crate::step::Op;
@@ -216,6 +217,14 @@ impl Shape {
         } else {
             None
         }
+    }
+
+    /// The first address of a block, if need be of one outside the shape.
+    #[inline(always)]
+    pub fn address_of(&self, block: u32) -> u64
+        ensures { result ≡ address_of self.now block }
+    {
+        block as u64 * self.block_bytes as u64
     }
 }
 

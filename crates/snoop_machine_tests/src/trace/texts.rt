@@ -211,5 +211,8 @@ fn words_of_addresses() -> Result<(), Fail> {
     if shape.words() != 4 || Shape::new(2, 4, 64)?.words() != 1 || words != [0, 0, 1, 3] {
         Err(words)?
     }
+    if shape.address_of(2) != 128 || shape.block_of(shape.address_of(3)) != Some(3) {
+        Err(shape.address_of(2))?
+    }
     Ok(())
 }

@@ -17,15 +17,16 @@ use Rattle.snoop_model.specs.declared.replies.Reply.{Reply}
 use Rattle.snoop_model.specs.declared.replies.Refused.{Refused}
 use Rattle.snoop_model.specs.Pictures.Picture.{Picture, held_by, with_line}
 use Rattle.snoop_model.specs.Pictures.Situation.{Situation, picture_of, reset}
+use Rattle.snoop_model.specs.Pictures.Sends.{value_sent}
 use Rattle.snoop_model.specs.Moves.Move.{Orders, Responds, IsWithin, MoveOn, queues_after}
 use Rattle.snoop_model.specs.Moves.SenderTable.{IsLine, IsOnLine}
 use Rattle.snoop_model.specs.Runs.Run.{Goes, RunFrom}
 use Rattle.snoop_model.specs.Invariant.Invariant.{Invariant}
 use Rattle.snoop_model.specs.Invariant.MachineKeeps.{AreOnLines}
-use Rattle.snoop_model.proofs.OneBlock.AfterMoves.{order_other_block, respond_other_block}
+use Rattle.snoop_model.proofs.OneBlock.AfterMoves.{order_here, order_other_block, respond_other_block}
 use Rattle.snoop_model.proofs.OneBlock.OfBlocks.{same_everywhere}
 use Rattle.snoop_model.proofs.Invariant.Runs.{goes_keeps, refusal_same, reset_open}
-use Rattle.snoop_model.proofs.Invariant.TableLines.{order_is_by_table, respond_is_by_table}
+use Rattle.snoop_model.proofs.Invariant.TableLines.{order_is_line, respond_settles}
 
 abbrev OnLine : Protocol → Picture → Type 0
 OnLine p picture = IfSome picture.transaction (λ o. (done : MemState) × IsOnLine p o picture.memory.state done)
@@ -41,8 +42,9 @@ order_on_lines old core block q new g lines within o b =
     let p : new.protocol ≡ old.protocol = ap (λ (s : Situation). s.protocol) o.after in
     subst (λ (x : Protocol). OnLine x (picture_of new b)) (sym p) (elim (eqb_tells b block) as (λ _. OnLine old.protocol (picture_of new b)) [
       | inl h ↦
-          let by = order_is_by_table old g core block q new within o in
-          subst (λ (x : ℕ). OnLine old.protocol (picture_of new x)) (sym h.1) (rw by.opened (ordered_on_line old.protocol (picture_of old block) core block by.value q by.from by.payload _ by.is_line))
+          let there : picture_of new block ≡ o.next = order_here old core block q new g within o in
+          subst (λ (x : ℕ). OnLine old.protocol (picture_of new x)) (sym h.1) (subst (OnLine old.protocol) (sym there)
+          (rw o.opened (ordered_on_line old.protocol (picture_of old block) core block (value_sent (picture_of old block) o.from o.payload) q o.from o.payload _ (order_is_line old g core block q new o))))
       | inr h ↦ subst (OnLine old.protocol) (sym (order_other_block old core block q new g within o b h.1)) (lines b)
     ])
 
@@ -50,7 +52,7 @@ respond_on_lines : (old : Situation) (block : ℕ) (closing : Open) (did : Optio
 respond_on_lines old block closing did new g lines within r b =
     let p : new.protocol ≡ old.protocol = ap (λ (s : Situation). s.protocol) r.after in
     subst (λ (x : Protocol). OnLine x (picture_of new b)) (sym p) (elim (eqb_tells b block) as (λ _. OnLine old.protocol (picture_of new b)) [
-      | inl h ↦ subst (λ (x : ℕ). OnLine old.protocol (picture_of new x)) (sym h.1) (rw (respond_is_by_table old g block closing did new within r).closed tt)
+      | inl h ↦ subst (λ (x : ℕ). OnLine old.protocol (picture_of new x)) (sym h.1) (rw (respond_settles old g block closing did new within r).closed tt)
       | inr h ↦ subst (OnLine old.protocol) (sym (respond_other_block old block closing did new g within r b h.1)) (lines b)
     ])
 

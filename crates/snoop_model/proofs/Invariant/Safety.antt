@@ -20,10 +20,11 @@ use Rattle.snoop_model.specs.Moves.StepMove.{RefusedFor}
 use Rattle.snoop_model.specs.Invariant.Invariant.{Invariant}
 use Rattle.snoop_model.specs.Invariant.MachineKeeps.{AreOnLines, MachineKeeps}
 use Rattle.snoop_model.specs.Runs.Safe.{IsSafe}
-use Rattle.snoop_model.proofs.Invariant.TableLines.{goes_by_table}
+use Rattle.snoop_model.proofs.Invariant.TableLines.{order_is_line, open_is_by_table}
 use Rattle.snoop_model.proofs.Invariant.OpenLines.{reset_on_lines, move_on_lines}
-use Rattle.snoop_model.proofs.Invariant.Coherence.{has_one_writer, readers_current, memory_current, names_its_block, finds_rows, orders_follow_sender_table, place}
+use Rattle.snoop_model.proofs.Invariant.Coherence.{has_one_writer, readers_current, memory_current, names_its_block, finds_rows, place}
 use Rattle.snoop_model.proofs.Invariant.Runs.{reset_invariant, nothing_proper}
+use Rattle.snoop_model.proofs.Runs.GoOn.{order_made}
 use Rattle.snoop_model.proofs.Queues.Runs.{reset_queued, move_queued}
 use Rattle.snoop_model.proofs.Queues.Moves.{starts_well, keeps_well}
 use Rattle.snoop_model.proofs.Invariant.Steps.{first_keeps}
@@ -56,8 +57,9 @@ is_coherent s g on_lines queued = record {
   memory = memory_current s g;
   opened = names_its_block s g;
   possible = finds_rows s g;
-  lines = orders_follow_sender_table s g;
-  by_table = goes_by_table s g on_lines;
+  orders = order_made s g;
+  by_table = order_is_line s g;
+  on_table = open_is_by_table s g on_lines;
   proper = all_proper s g;
   queued = queued;
 }

@@ -2,7 +2,7 @@
 use Rattle.std.proofs.Common.{◌≡◌, ℕ, ◌<◌, Option, Some, None, refl, inl, inr, sym, ◌∙◌, ap, subst}
 use Rattle.std.specs.Prelude.{IfSome}
 use Rattle.std.proofs.lemmas.Option.{same_Some}
-use Rattle.snoop_trace.specs.declared.step.Step.TheVariants.{Ask, Order, Respond}
+use Rattle.snoop_trace.specs.declared.step.Step.TheVariants.{Respond}
 use Rattle.snoop_trace.specs.declared.protocol.Protocol.{Protocol}
 use Rattle.snoop_trace.specs.declared.protocol.Protocol.TheVariants as protocol
 use Rattle.snoop_rules.specs.declared.names.CacheState.{CacheState}
@@ -19,36 +19,37 @@ use Rattle.snoop_history.specs.declared.items.Did.{Did}
 use Rattle.snoop_bus.specs.Traffic.{Open}
 use Rattle.snoop_model.specs.Pictures.Picture.{Picture}
 use Rattle.snoop_model.specs.Pictures.Situation.{Situation, picture_of}
-use Rattle.snoop_model.specs.Pictures.Sends.{Sends, value_sent}
+use Rattle.snoop_model.specs.Pictures.Sends.{Sends}
 use Rattle.snoop_model.specs.Moves.Move.{IsWithin, Settles, Orders, Responds, ArrivesAtMemory}
-use Rattle.snoop_model.specs.Moves.SenderTable.{IsLine, IsOnLine, IsOrderedByTable, IsSettledByTable, IsOpenByTable, MovesAreByTable, GoesByTable}
+use Rattle.snoop_model.specs.Moves.SenderTable.{IsLine, IsOnLine, IsOpenByTable}
 use Rattle.snoop_model.specs.Invariant.Invariant.{Invariant}
 use Rattle.snoop_model.specs.Invariant.MachineKeeps.{AreOnLines}
 use Rattle.snoop_model.proofs.Invariant.Coherence.{orders_follow_sender_table}
-use Rattle.snoop_model.proofs.OneBlock.AfterMoves.{order_here, respond_here}
+use Rattle.snoop_model.proofs.OneBlock.AfterMoves.{respond_here}
 use Rattle.snoop_model.proofs.Runs.AreOne.{sends_one}
 
-pub order_is_by_table : (s : Situation) → Invariant s → (core block : ℕ) (q : Request) (new : Situation) → IsWithin s core block → Orders s core block q new → IsOrderedByTable s core block q new
-order_is_by_table s g core block q new within o =
+-- an Order is a line of the table
+pub order_is_line : (s : Situation) → Invariant s → (core block : ℕ) (q : Request) (new : Situation) (made : Orders s core block q new) → IsLine s.protocol (picture_of s block) core q made.from made.payload made.next.memory.state
+order_is_line s g core block q new o =
     let p = s.protocol in
     let before : Picture = picture_of s block in
     let f = orders_follow_sender_table s g core block q o.ready in
     let from : f.from ≡ o.from = o.sent.alone f.from f.payload f.sent.sends in
     let payload : f.payload ≡ o.payload = sends_one p before core q o.from f.payload o.payload (subst (λ (x : Option ℕ). Sends p before core q x f.payload) from f.sent.sends) o.sent.sends in
-    let there : picture_of new block ≡ o.next = order_here s core block q new g within o in
-    let memory : f.next ≡ (picture_of new block).memory.state = (f.ordered.2 ∙ (ap (λ (row : MemCell). row.next) (same_Some _ _ (sym f.ordered.1 ∙ o.memory.1)) ∙ sym o.memory.2)) ∙ sym (ap (λ (x : Picture). x.memory.state) there) in
-    record {
-      from = o.from;
-      payload = o.payload;
-      value = value_sent before o.from o.payload;
-      opened = ap (λ (x : Picture). x.transaction) there ∙ o.opened;
-      is_line = subst (λ (m : MemState). IsLine p before core q o.from o.payload m) memory
-          (subst (λ (x : Payload). IsLine p before core q o.from x f.next) payload
-          (subst (λ (x : Option ℕ). IsLine p before core q x f.payload f.next) from f.is_line));
-    }
+    let memory : f.next ≡ o.next.memory.state = f.ordered.2 ∙ (ap (λ (row : MemCell). row.next) (same_Some _ _ (sym f.ordered.1 ∙ o.memory.1)) ∙ sym o.memory.2) in
+    subst (λ (m : MemState). IsLine p before core q o.from o.payload m) memory
+    (subst (λ (x : Payload). IsLine p before core q o.from x f.next) payload
+    (subst (λ (x : Option ℕ). IsLine p before core q x f.payload f.next) from f.is_line))
 
-pub respond_is_by_table : (s : Situation) → Invariant s → (block : ℕ) (closing : Open) (did : Option Did) (new : Situation) → block < s.shape.blocks → Responds s block closing did new → IsSettledByTable s block new
-respond_is_by_table s g block closing did new within r =
+-- a Respond that led from old to new closed the block's transaction, and memory took its row for the response, or stayed where it takes none
+pub record IsSettled (old : Situation) (block : ℕ) (new : Situation) : Type 0 where
+  pub closing : Open
+  pub opened : (picture_of old block).transaction ≡ Some closing
+  pub settled : ArrivesAtMemory closing old.protocol (picture_of old block).memory (picture_of new block).memory
+  pub closed : (picture_of new block).transaction ≡ None
+
+pub respond_settles : (s : Situation) → Invariant s → (block : ℕ) (closing : Open) (did : Option Did) (new : Situation) → block < s.shape.blocks → Responds s block closing did new → IsSettled s block new
+respond_settles s g block closing did new within r =
     let there : picture_of new block ≡ r.next = respond_here s block closing did new g within r in
     record {
       closing = closing;
@@ -56,12 +57,6 @@ respond_is_by_table s g block closing did new within r =
       settled = subst (λ (x : Picture). ArrivesAtMemory closing s.protocol (picture_of s block).memory x.memory) (sym there) r.memory;
       closed = ap (λ (x : Picture). x.transaction) there ∙ r.closed;
     }
-
--- each move from a coherent situation is by the table
-moves_are_by_table : (s : Situation) → Invariant s → MovesAreByTable s
-moves_are_by_table s g block (Order core) answer new entry m = (m.request, (m.orders.ready, order_is_by_table s g core block m.request new m.within m.orders))
-moves_are_by_table s g block (Respond on) answer new entry m = respond_is_by_table s g block m.closing m.did new m.within m.responds
-moves_are_by_table s g block (Ask core on word asking) answer new entry m = tt
 
 -- memory's row for the response leads to the line's last column
 module _ (sent : Payload) (next done new : MemState) (act : MemAction) where
@@ -99,8 +94,8 @@ module _ (sent : Payload) (next done new : MemState) (act : MemAction) where
   ]
   line_settles _ _ _ sender l = absurd l
 
--- a Respond taken next leaves memory in the last state of its transaction's line
-open_is_by_table : (s : Situation) → Invariant s → AreOnLines s → (block : ℕ) → IfSome (picture_of s block).transaction (IsOpenByTable s block)
+-- a Respond taken next closes the transaction and leaves memory in the last state of its line
+pub open_is_by_table : (s : Situation) → Invariant s → AreOnLines s → (block : ℕ) → IfSome (picture_of s block).transaction (IsOpenByTable s block)
 open_is_by_table s g lines block = go (picture_of s block).transaction refl (lines block)
   where
     OnLine : Open → Type 0
@@ -113,12 +108,8 @@ open_is_by_table s g lines block = go (picture_of s block).transaction refl (lin
           done = line.0;
           on_line = line.1;
           settled = λ answer new entry m.
-              let by = respond_is_by_table s g block m.closing m.did new m.within m.responds in
+              let by = respond_settles s g block m.closing m.did new m.within m.responds in
               let same : by.closing ≡ o = cc in
               let settles : Settles s.protocol o.request o.payload (picture_of s block).memory.state by.settled.act (picture_of new block).memory.state = subst (λ (x : Open). Settles s.protocol x.request x.payload (picture_of s block).memory.state by.settled.act (picture_of new block).memory.state) same by.settled.settled in
-              line_settles o.payload (picture_of s block).memory.state line.0 (picture_of new block).memory.state by.settled.act s.protocol o.request line.1.before _ line.1.line settles;
+              (by.closed, line_settles o.payload (picture_of s block).memory.state line.0 (picture_of new block).memory.state by.settled.act s.protocol o.request line.1.before _ line.1.line settles);
         }
-
--- from a coherent situation whose open transactions are on lines of the table all goes by the table
-pub goes_by_table : (s : Situation) → Invariant s → AreOnLines s → GoesByTable s
-goes_by_table s g lines = record { opened = open_is_by_table s g lines; moves = moves_are_by_table s g }

@@ -18,10 +18,11 @@ use Rattle.snoop_rules.specs.MemoryCell.{MemoryCell}
 use Rattle.snoop_rules.specs.Takers.{seen_by, at_memory}
 use Rattle.snoop_model.specs.Pictures.Lines.{Message}
 use Rattle.snoop_model.specs.Pictures.Picture.{Picture, held_by}
-use Rattle.snoop_model.specs.Pictures.Sends.{sent_by, sent_by_memory, Sends, value_sent}
+use Rattle.snoop_model.specs.Pictures.Sends.{Sends, value_sent}
 use Rattle.snoop_model.specs.Moves.LookUps.{HasRow}
 use Rattle.snoop_model.specs.Moves.SenderTable.{FollowsSenderTable}
 use Rattle.snoop_model.specs.Pictures.Message.{IsMessage, memory_message}
+use Rattle.snoop_model.proofs.Tables.SentBy.{sent_by, sent_by_memory, sending}
 
 -- memory, or a core below n
 abbrev pub IsBelow : ℕ → Option ℕ → Type 0
@@ -36,22 +37,6 @@ below_more : (n : ℕ) (other : Option ℕ) → IsBelow (n + 1) other → (other
 below_more n None below = inr tt
 below_more n (Some k) below = elim (cases_eq k n) [ inl e ↦ inl (ap Some e) | inr ne ↦ inr (omega arith) ]
 
--- a row that sends has the action
-pub sending : (act : CacheAction) (next : CacheState) (payload : Payload) → sent_by (Some (record { action = act; next = next })) ≡ Some payload → (target : Target) × (act ≡ action.Send payload target)
-sending (action.Send sent target) next payload h = (target, ap (λ (x : Payload). action.Send x target) (same_Some _ _ h))
-sending action.None next payload h = cc
-sending action.Hit next payload h = cc
-sending action.Stall next payload h = cc
-sending (action.Issue request) next payload h = cc
-sending action.Drop next payload h = cc
-sending action.FillLoad next payload h = cc
-sending action.FillStore next payload h = cc
-
-pub sending_memory : (act : MemAction) (next : MemState) (payload : Payload) → sent_by_memory (Some (record { action = act; next = next })) ≡ Some payload → act ≡ mem_action.Send payload
-sending_memory (mem_action.Send sent) next payload h = ap (λ (x : Payload). mem_action.Send x) (same_Some _ _ h)
-sending_memory mem_action.None next payload h = cc
-sending_memory mem_action.Write next payload h = cc
-
 -- the next core sends nothing
 module _ (p : Protocol) (before : Picture) (core : ℕ) (request : Request) (n : ℕ) where
   quiet : (act : CacheAction) (next : CacheState) → Cell p (held_by before n).state (seen_by n core request) act next → ((payload : Payload) (target : Target) → act ≡ action.Send payload target → ⊥)
@@ -60,7 +45,7 @@ module _ (p : Protocol) (before : Picture) (core : ℕ) (request : Request) (n :
   quiet act next row silent (Some k) payload e sends =
       let P : ℕ → Type 0 = λ j. sent_by (cell_of p (held_by before j).state (seen_by j core request)) ≡ Some payload in
       let same : k ≡ n = cc in
-      let does = sending act next payload (sym (ap sent_by row) ∙ subst P same sends.1) in
+      let does = sending act payload (sym (ap sent_by row) ∙ subst P same (ap sent_by sends.1.1.1)) in
       silent payload does.0 does.1
 
   pub Silent-more : (act : CacheAction) (next : CacheState) → SilentBelow p before core request n → Cell p (held_by before n).state (seen_by n core request) act next
@@ -75,12 +60,12 @@ module _ (p : Protocol) (before : Picture) (core : ℕ) (request : Request) wher
   Silent-none mem_action.None next row none = silent
     where
       silent : (other : Option ℕ) (payload : Payload) → IsBelow 0 other → ¬ Sends p before core request other payload
-      silent None payload below sends = let e : ◌≡◌ {A = Option Payload} None (Some payload) = sym (ap sent_by_memory row) ∙ sends in cc
+      silent None payload below sends = let e : ◌≡◌ {A = Option Payload} None (Some payload) = sym (ap sent_by_memory row) ∙ ap sent_by_memory sends.1 in cc
       silent (Some k) payload below sends = absurd (omega arith)
   Silent-none mem_action.Write next row none = silent
     where
       silent : (other : Option ℕ) (payload : Payload) → IsBelow 0 other → ¬ Sends p before core request other payload
-      silent None payload below sends = let e : ◌≡◌ {A = Option Payload} None (Some payload) = sym (ap sent_by_memory row) ∙ sends in cc
+      silent None payload below sends = let e : ◌≡◌ {A = Option Payload} None (Some payload) = sym (ap sent_by_memory row) ∙ ap sent_by_memory sends.1 in cc
       silent (Some k) payload below sends = absurd (omega arith)
 
   sends_below : (other : Option ℕ) (payload : Payload) → Sends p before core request other payload → IsBelow (length before.caches) other
@@ -104,7 +89,7 @@ module _ (p : Protocol) (before : Picture) (core : ℕ) (request : Request) wher
     pub IsMessage-memory : (m : Message) (act : MemAction) (next : MemState) → MemoryCell p before.memory.state (at_memory request) act next → memory_message act before.memory.value ≡ Some m → IsMessage p before core request m
     IsMessage-memory m (mem_action.Send payload) next row is =
         let same = same_Some _ _ is in
-        subst (IsMessage p before core request) same (IsMessage-sent _ (ap sent_by_memory row) refl)
+        subst (IsMessage p before core request) same (IsMessage-sent _ (next, row) refl)
     IsMessage-memory m mem_action.None next row is = cc
     IsMessage-memory m mem_action.Write next row is = cc
 

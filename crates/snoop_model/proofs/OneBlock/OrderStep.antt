@@ -21,7 +21,8 @@ use Rattle.snoop_bus.specs.Traffic.{Open}
 use Rattle.snoop_model.specs.Pictures.Lines.{Line}
 use Rattle.snoop_model.specs.Pictures.Picture.{Picture, held_by}
 use Rattle.snoop_model.specs.Pictures.Situation.{Situation, picture_of}
-use Rattle.snoop_model.specs.Pictures.Sends.{sent_by, sent_by_memory, Sends, value_at, value_sent}
+use Rattle.snoop_model.specs.Pictures.Sends.{Sends, value_at, value_sent}
+use Rattle.snoop_model.proofs.Tables.SentBy.{sent_by, sent_by_memory}
 use Rattle.snoop_model.specs.Moves.Move.{moves_to, TakesRow, TakesRows, Orders}
 use Rattle.snoop_model.specs.Pictures.Sound.{keeps, IsProper}
 use Rattle.snoop_model.specs.Invariant.Fits.{Claims, claims_of, is_clean, same, fits}
@@ -140,18 +141,18 @@ payload_of_requestor (Some x) b pl sent e f = cc
 
 pub sent_payload : (p : Protocol) (flat : List ℕ) (before : Picture) (c : ℕ) (q : Request) (l : Looked p flat before c q) (from : Option ℕ) (sent : Payload) → Sends p before c q from sent → sent ≡ l.pl
 sent_payload p flat before c q l None sent sends =
-    let e : sent_by_memory (Some l.mc) ≡ Some sent = ap sent_by_memory (sym l.is_mc) ∙ sends in
+    let e : sent_by_memory (Some l.mc) ≡ Some sent = ap sent_by_memory (sym l.is_mc) ∙ ap sent_by_memory sends.1 in
     payload_of_memory (sent_by (Some l.oc)) (sent_by_memory (Some l.mc)) (is_put_m q) l.good.claims.owned l.pl sent (end_of p flat before c q l OrderTests.requestor_sends OrderTests.requestor_sends_holds) (end_of p flat before c q l OrderTests.memory_sends OrderTests.memory_sends_holds) l.is_pl e
 sent_payload p flat before c q l (Some d) sent sends =
     elim (eqb_tells d c) as (λ _. sent ≡ l.pl) [
       | inl h ↦
           let row : cell_of p (held_by before d).state (seen_by d c q) ≡ Some l.oc = subst (λ (x : ℕ). cell_of p (held_by before x).state (seen_by x c q) ≡ Some l.oc) (sym h.1) (ap (λ (e : CacheEvent). cell_of p (held_by before c).state e) (seen_own c q) ∙ l.is_oc) in
-          let e : sent_by (Some l.oc) ≡ Some sent = ap sent_by (sym row) ∙ sends.1 in
+          let e : sent_by (Some l.oc) ≡ Some sent = ap sent_by (sym row) ∙ ap sent_by sends.1.1.1 in
           payload_of_requestor (sent_by (Some l.oc)) (sent_by_memory (Some l.mc)) l.pl sent l.is_pl e
       | inr h ↦
           let x = other_cell p flat before c q l d sends.0 in
           let row : cell_of p (held_by before d).state (seen_by d c q) ≡ Some x.0 = ap (λ (e : CacheEvent). cell_of p (held_by before d).state e) (seen_other d c q h.1) ∙ x.1 in
-          let e : sent_by (Some x.0) ≡ Some sent = ap sent_by (sym row) ∙ sends.1 in
+          let e : sent_by (Some x.0) ≡ Some sent = ap sent_by (sym row) ∙ ap sent_by sends.1.1.1 in
           let t = other_of p flat before c q l OrderTests.other_sends_data OrderTests.other_sends_data_holds d sends.0 h.1 x.0 x.1 in
           let both : (is_data sent && is_data l.pl) ≡ true = given_at (sent_by (Some x.0)) (λ (y : Payload). is_data y && is_data l.pl) sent e t in
           let parts = and_parts (is_data sent) (is_data l.pl) both in
@@ -228,7 +229,7 @@ order_fresh p flat before c q l h =
 -- the value that a sender can send is the block's
 pub sender_value : (p : Protocol) (flat : List ℕ) (before : Picture) (c : ℕ) (q : Request) (l : Looked p flat before c q) (from : Option ℕ) (sent : Payload) → Sends p before c q from sent → carries_value sent ≡ true → value_at before from ≡ flat
 sender_value p flat before c q l None sent sends carrying =
-    let e : sent_by_memory (Some l.mc) ≡ Some sent = ap sent_by_memory (sym l.is_mc) ∙ sends in
+    let e : sent_by_memory (Some l.mc) ≡ Some sent = ap sent_by_memory (sym l.is_mc) ∙ ap sent_by_memory sends.1 in
     let t = end_of p flat before c q l OrderTests.memory_sends_fresh OrderTests.memory_sends_fresh_holds in
     l.good.fresh (implied (is_some (sent_by_memory (Some l.mc))) l.good.claims.fresh t (some_true (sent_by_memory (Some l.mc)) sent e))
 sender_value p flat before c q l (Some d) sent sends carrying =
@@ -236,7 +237,7 @@ sender_value p flat before c q l (Some d) sent sends carrying =
     elim (eqb_tells d c) as (λ _. keeps (held_by before d).state ≡ true) [
       | inl h ↦
           let row : cell_of p (held_by before d).state (seen_by d c q) ≡ Some l.oc = subst (λ (x : ℕ). cell_of p (held_by before x).state (seen_by x c q) ≡ Some l.oc) (sym h.1) (ap (λ (e : CacheEvent). cell_of p (held_by before c).state e) (seen_own c q) ∙ l.is_oc) in
-          let e : sent_by (Some l.oc) ≡ Some sent = ap sent_by (sym row) ∙ sends.1 in
+          let e : sent_by (Some l.oc) ≡ Some sent = ap sent_by (sym row) ∙ ap sent_by sends.1.1.1 in
           let t = same_is (is_some (sent_by (Some l.oc))) (is_put_m q) (end_of p flat before c q l OrderTests.requestor_sends OrderTests.requestor_sends_holds) in
           let put : is_put_m q ≡ true = sym t ∙ some_true (sent_by (Some l.oc)) sent e in
           let carry : carries_value l.pl ≡ true = ap carries_value (sym (sent_payload p flat before c q l (Some d) sent sends)) ∙ carrying in
@@ -246,7 +247,7 @@ sender_value p flat before c q l (Some d) sent sends carrying =
       | inr h ↦
           let x = other_cell p flat before c q l d sends.0 in
           let row : cell_of p (held_by before d).state (seen_by d c q) ≡ Some x.0 = ap (λ (e : CacheEvent). cell_of p (held_by before d).state e) (seen_other d c q h.1) ∙ x.1 in
-          let e : sent_by (Some x.0) ≡ Some sent = ap sent_by (sym row) ∙ sends.1 in
+          let e : sent_by (Some x.0) ≡ Some sent = ap sent_by (sym row) ∙ ap sent_by sends.1.1.1 in
           let t = same_is (is_some (sent_by (Some x.0))) (owns l.good.owner d && not (is_put_m q)) (other_of p flat before c q l OrderTests.other_sends OrderTests.other_sends_holds d sends.0 h.1 x.0 x.1) in
           let both : (owns l.good.owner d && not (is_put_m q)) ≡ true = sym t ∙ some_true (sent_by (Some x.0)) sent e in
           let owning : owns l.good.owner d ≡ true = (and_parts (owns l.good.owner d) (not (is_put_m q)) both).0 in

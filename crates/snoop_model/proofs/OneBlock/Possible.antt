@@ -19,7 +19,8 @@ use Rattle.snoop_rules.proofs.Every.{all_states-at}
 use Rattle.snoop_history.specs.Totals.{is_put_m}
 use Rattle.snoop_bus.specs.Traffic.{Open}
 use Rattle.snoop_model.specs.Pictures.Picture.{Picture, held_by}
-use Rattle.snoop_model.specs.Pictures.Sends.{sent_by, sent_by_memory, Sends, IsOnlySender}
+use Rattle.snoop_model.specs.Pictures.Sends.{Sends, IsOnlySender}
+use Rattle.snoop_model.proofs.Tables.SentBy.{sent_by, sent_by_memory, sends_row, memory_sends_row}
 use Rattle.snoop_model.specs.Invariant.Fits.{claims_of, in_protocol, fits}
 use Rattle.snoop_model.specs.Invariant.Block.{BlockInvariant, talk_of, awaited, owns}
 use Rattle.snoop_model.proofs.Tables.Every.{either-at, same_is, some_of, when_at}
@@ -76,20 +77,20 @@ meant q c owner = cond (is_put_m q) (Some c) owner
 
 only : (p : Protocol) (flat : List ℕ) (before : Picture) (c : ℕ) (q : Request) (l : Looked p flat before c q) → Roles p flat before c q l → (another : Option ℕ) (sent : Payload) → Sends p before c q another sent → another ≡ meant q c l.good.owner
 only p flat before c q l roles None sent sends =
-    let e : is_some (sent_by_memory (Some l.mc)) ≡ true = some_true (sent_by_memory (Some l.mc)) sent (ap sent_by_memory (sym l.is_mc) ∙ sends) in
+    let e : is_some (sent_by_memory (Some l.mc)) ≡ true = some_true (sent_by_memory (Some l.mc)) sent (ap sent_by_memory (sym l.is_mc) ∙ ap sent_by_memory sends.1) in
     let h = and_parts (not (is_put_m q)) (not l.good.claims.owned) (sym roles.memory ∙ e) in
     let no_put = not_true (is_put_m q) h.0 in
     let no_owner : is_some l.good.owner ≡ false = l.good.is_owned ∙ not_true l.good.claims.owned h.1 in
     sym (rw no_put (none_of l.good.owner no_owner))
 only p flat before c q l roles (Some d) sent sends = elim (eqb_tells d c) as (λ _. Some d ≡ meant q c l.good.owner) [
   | inl h ↦
-      let e : is_some (sent_by (Some l.oc)) ≡ true = some_true (sent_by (Some l.oc)) sent (ap sent_by (sym (own_row p flat before c q l d h.1)) ∙ sends.1) in
+      let e : is_some (sent_by (Some l.oc)) ≡ true = some_true (sent_by (Some l.oc)) sent (ap sent_by (sym (own_row p flat before c q l d h.1)) ∙ ap sent_by sends.1.1.1) in
       let put : is_put_m q ≡ true = sym roles.requestor ∙ e in
       rw put (ap (λ (x : ℕ). Some x) h.1)
   | inr h ↦
       let x = other_cell p flat before c q l d sends.0 in
       let row : cell_of p (held_by before d).state (seen_by d c q) ≡ Some x.0 = ap (λ (e : CacheEvent). cell_of p (held_by before d).state e) (seen_other d c q h.1) ∙ x.1 in
-      let e : is_some (sent_by (Some x.0)) ≡ true = some_true (sent_by (Some x.0)) sent (ap sent_by (sym row) ∙ sends.1) in
+      let e : is_some (sent_by (Some x.0)) ≡ true = some_true (sent_by (Some x.0)) sent (ap sent_by (sym row) ∙ ap sent_by sends.1.1.1) in
       let both = and_parts (owns l.good.owner d) (not (is_put_m q)) (sym (roles.others d sends.0 h.1 x.0 x.1) ∙ e) in
       rw (not_true (is_put_m q) both.1) (sym (owner_is l.good.owner d both.0))
 ]
@@ -108,7 +109,7 @@ sent_put p flat before c q l roles put =
     let who : meant q c l.good.owner ≡ Some c = rw put refl in
     record {
       payload = x.0;
-      sends = subst (λ (w : Option ℕ). Sends p before c q w x.0) (sym who) (l.requestor_in, ap sent_by row ∙ x.1);
+      sends = subst (λ (w : Option ℕ). Sends p before c q w x.0) (sym who) (l.requestor_in, sends_row _ _ (ap sent_by row ∙ x.1));
       order_line = subst (λ (w : Option ℕ). follows_sender_table p q before.memory.state (sender_as before c w) l.pl l.mc.next ≡ true) (sym who) (rw (eq-eqb c c refl) line);
     }
 
@@ -120,7 +121,7 @@ sent_memory p flat before c q l roles no_put unowned =
     let who : meant q c l.good.owner ≡ None = rw no_put (none_of l.good.owner (l.good.is_owned ∙ unowned)) in
     record {
       payload = x.0;
-      sends = subst (λ (w : Option ℕ). Sends p before c q w x.0) (sym who) (ap sent_by_memory l.is_mc ∙ x.1);
+      sends = subst (λ (w : Option ℕ). Sends p before c q w x.0) (sym who) (memory_sends_row _ _ (ap sent_by_memory l.is_mc ∙ x.1));
       order_line = subst (λ (w : Option ℕ). follows_sender_table p q before.memory.state (sender_as before c w) l.pl l.mc.next ≡ true) (sym who) line;
     }
 
@@ -137,7 +138,7 @@ sent_owner p flat before c q l roles no_put d is_d =
     let who : meant q c l.good.owner ≡ Some d = rw no_put is_d in
     record {
       payload = x.0;
-      sends = subst (λ (w : Option ℕ). Sends p before c q w x.0) (sym who) (d_in, ap sent_by row ∙ x.1);
+      sends = subst (λ (w : Option ℕ). Sends p before c q w x.0) (sym who) (d_in, sends_row _ _ (ap sent_by row ∙ x.1));
       order_line = subst (λ (w : Option ℕ). follows_sender_table p q before.memory.state (sender_as before c w) l.pl l.mc.next ≡ true) (sym who) (rw (not_eqb d c apart) line);
     }
 

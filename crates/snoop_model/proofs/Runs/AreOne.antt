@@ -39,6 +39,7 @@ use Rattle.snoop_model.specs.declared.replies.Refused.TheVariants.{NoCore, NoBlo
 use Rattle.snoop_model.specs.Pictures.Picture.{Picture, held_at, held_by, nothing_held, with_line}
 use Rattle.snoop_model.specs.Pictures.Situation.{Situation, picture_of, with_picture, state_of}
 use Rattle.snoop_model.specs.Pictures.Sends.{Sends, value_sent}
+use Rattle.snoop_model.proofs.Tables.SentBy.{sent_by, sent_by_memory}
 use Rattle.snoop_model.specs.Moves.Move.{TakesRow, Takes, FillsRequestor, ArrivesFor, ArrivesAtMemory, Asks, Orders, Responds, IsAbsent, IsWithin, FirstMove, Performs, moves_to, next_did, queues_after, came_of, written}
 use Rattle.snoop_model.specs.Moves.Refuses.{Refuses, IsStall, WaitsOnNone}
 use Rattle.snoop_model.specs.Runs.Run.{GoesFirst, FirstRunFrom}
@@ -267,8 +268,8 @@ same_row xs ys long each = same_lists xs ys long (λ k d h. get_or_default xs k 
 
 -- a sender sends one payload
 pub sends_one : (p : Protocol) (before : Picture) (core : ℕ) (q : Request) (from : Option ℕ) (payload payload' : Payload) → Sends p before core q from payload → Sends p before core q from payload' → payload ≡ payload'
-sends_one p before core q None payload payload' a b = same_some (sym a ∙ b)
-sends_one p before core q (Some d) payload payload' a b = same_some (sym a.1 ∙ b.1)
+sends_one p before core q None payload payload' a b = same_some (sym (ap sent_by_memory a.1) ∙ ap sent_by_memory b.1)
+sends_one p before core q (Some d) payload payload' a b = same_some (sym (ap sent_by a.1.1.1) ∙ ap sent_by b.1.1.1)
 
 -- the transaction that an Order opens
 abbrev opening : Picture → ℕ → ℕ → Request → Option ℕ → Payload → Option Open

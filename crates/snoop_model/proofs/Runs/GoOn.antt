@@ -42,7 +42,7 @@ use Rattle.snoop_model.specs.Pictures.Picture.{Picture, held_at, held_by, kept_o
 use Rattle.snoop_model.specs.Pictures.Situation.{Situation, picture_of, with_picture, state_of, Waits, CanOrder, StandsFirst}
 use Rattle.snoop_model.specs.Pictures.Sends.{value_sent}
 use Rattle.snoop_model.specs.Pictures.Sound.{keeps, request_for, missed_request, IsProper}
-use Rattle.snoop_model.specs.Moves.Move.{TakesRow, FillsRequestor, ArrivesFor, ArrivesAtMemory, FirstMove, IsWithin, came_of, moves_to, kept_waiting, next_did, queues_after, written}
+use Rattle.snoop_model.specs.Moves.Move.{TakesRow, Orders, FillsRequestor, ArrivesFor, ArrivesAtMemory, FirstMove, IsWithin, came_of, moves_to, kept_waiting, next_did, queues_after, written}
 use Rattle.snoop_model.specs.Runs.Run.{GoesFirst, FirstRunFrom}
 use Rattle.snoop_model.specs.Invariant.WellKept.{IsWellKept}
 use Rattle.snoop_model.specs.Turns.TurnRule.{KeepsWell}
@@ -237,9 +237,9 @@ lines_at P (suc n) find =
     let first = find 0 (omega arith) in
     line_before P n first.0 first.1 (lines_at (λ k. P (suc k)) n (λ k h. find (suc k) (omega arith)))
 
--- an Order on the block that stands first, free
-order_free : (s : Situation) → Invariant s → (core block : ℕ) (q : Request) → StandsFirst s core block → CanOrder s core block q → LeadsOn s (Order core)
-order_free s g core block q first ready =
+-- an Order of a request that can be ordered
+pub order_made : (s : Situation) → Invariant s → (core block : ℕ) (q : Request) → CanOrder s core block q → (new : Situation) × Orders s core block q new
+order_made s g core block q ready =
     let p = s.protocol in
     let before : Picture = picture_of s block in
     let finds : (k : ℕ) → HasRow p (held_by before k).state (seen_by k core q) = λ k. (finds_rows s g (Order core)).cache k block (Some (seen_by k core q)) (q, (ready, refl)) in
@@ -248,31 +248,28 @@ order_free s g core block q first ready =
     let opened : Open = record { core = core; request = q; block = block; payload = line.payload; value = value_sent before line.from line.payload; from = line.from } in
     let next : Picture = record { caches = rows.0; memory = record { state = line.next; value = before.memory.value }; transaction = Some opened } in
     let sent : Item = item.Sent (record { core = core; request = q; block = block }) in
-    let new : Situation = record (with_picture s block next) { queues = after_order s.queues core block; log = s.log ++ sent ∷ [] } in
-    moved s (Order core) (reply.Ordered q) new (Some sent) (
-      block,
-      (
-        first,
-        record {
-          request = q;
-          within = waits_within s g core block q ready.0;
-          answered = refl;
-          logged = refl;
-          orders = record {
-            ready = ready;
-            from = line.from;
-            payload = line.payload;
-            sent = line.sent;
-            next = next;
-            taken = record { same_length = rows.1.0; rows = rows.1.1 };
-            memory = line.ordered;
-            value = refl;
-            opened = refl;
-            after = refl;
-          };
-        },
-      ),
+    let new : Situation = record (with_picture s block next) { queues = after_order s.queues core block; log = s.log ++ sent ∷ [] } in (
+      new,
+      record {
+        ready = ready;
+        from = line.from;
+        payload = line.payload;
+        sent = line.sent;
+        next = next;
+        taken = record { same_length = rows.1.0; rows = rows.1.1 };
+        memory = line.ordered;
+        value = refl;
+        opened = refl;
+        after = refl;
+      },
     )
+
+-- an Order on the block that stands first, free
+order_free : (s : Situation) → Invariant s → (core block : ℕ) (q : Request) → StandsFirst s core block → CanOrder s core block q → LeadsOn s (Order core)
+order_free s g core block q first ready =
+    let made = order_made s g core block q ready in
+    let sent : Item = item.Sent (record { core = core; request = q; block = block }) in
+    moved s (Order core) (reply.Ordered q) made.0 (Some sent) (block, (first, record { request = q; within = waits_within s g core block q ready.0; answered = refl; logged = refl; orders = made.1 }))
 
 pub first_in : (queue : List ℕ) (block : ℕ) → slice_get queue 0 ≡ Some block → Contains queue block
 first_in [] block e = cc

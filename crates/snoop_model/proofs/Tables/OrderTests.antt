@@ -15,7 +15,7 @@ use Rattle.snoop_rules.specs.Cell.{cell_of}
 use Rattle.snoop_rules.specs.MemoryCell.{memory_cell_of}
 use Rattle.snoop_rules.proofs.Every.{all_protocols, all_protocols-at, all_states, all_states-at, all_memories, all_memories-at, all_requests, all_requests-at}
 use Rattle.snoop_history.specs.Totals.{is_put_m, is_data}
-use Rattle.snoop_model.specs.Pictures.Sends.{sent_by, sent_by_memory}
+use Rattle.snoop_model.proofs.Tables.SentBy.{sent_by, sent_by_memory}
 use Rattle.snoop_model.specs.Invariant.Fits.{Claims, claims_of, is_owner, is_sharer, is_clean, wait_fits, in_protocol, same, fits}
 use Rattle.snoop_model.proofs.Tables.Every.{either, either-at, when, when_at, given, given_at}
 use Rattle.snoop_model.proofs.Tables.SenderTests.{Memory, Core, Requestor, is_sender_line, follows_sender_table}

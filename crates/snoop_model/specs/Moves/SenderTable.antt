@@ -1,9 +1,7 @@
--- Each Order, each open transaction and each Respond goes by the table of senders.
+-- Each Order and each open transaction goes by the table of senders.
 -- Source: "A Primer on Memory Consistency and Cache Coherence", 2nd edition, chapter 7; MESI's memory is this project's profile.
-use Rattle.std.specs.Prelude.{◌≡◌, ℕ, Option, Some, None, IfSome, option_map, ⊤}
-use Rattle.snoop_trace.specs.Words.{Data}
-use Rattle.snoop_trace.specs.declared.step.Step.{Step}
-use Rattle.snoop_trace.specs.declared.step.Step.TheVariants.{Ask, Order, Respond}
+use Rattle.std.specs.Prelude.{◌≡◌, ℕ, Option, Some, None, option_map}
+use Rattle.snoop_trace.specs.declared.step.Step.TheVariants.{Respond}
 use Rattle.snoop_trace.specs.declared.protocol.Protocol.{Protocol}
 use Rattle.snoop_rules.specs.declared.names.CacheState.{CacheState}
 use Rattle.snoop_rules.specs.declared.names.MemState.{MemState}
@@ -18,7 +16,7 @@ use Rattle.snoop_bus.specs.Traffic.{Open}
 use Rattle.snoop_model.specs.declared.replies.Reply.{Reply}
 use Rattle.snoop_model.specs.Pictures.Picture.{Picture, held_by}
 use Rattle.snoop_model.specs.Pictures.Situation.{Situation, picture_of, CanOrder}
-use Rattle.snoop_model.specs.Moves.Move.{TakesMemRow, Settles, ArrivesAtMemory, MoveOn}
+use Rattle.snoop_model.specs.Moves.Move.{TakesMemRow, Settles, MoveOn}
 use Rattle.snoop_model.specs.Pictures.Sends.{IsOnlySender}
 
 -- the core's request is met as a line of the table says: memory's state before it, the sender's state and payload, and memory's state after it and after the response; at a PutM the sender is the requestor itself
@@ -38,31 +36,6 @@ pub record FollowsSenderTable (protocol : Protocol) (before : Picture) (core : �
   pub ordered : TakesMemRow protocol (at_memory request) before.memory.state next
   pub is_line : IsLine protocol before core request from payload next
 
--- an Order that led from old to new is a line of the table
-pub record IsOrderedByTable (old : Situation) (core block : ℕ) (request : Request) (new : Situation) : Type 0 where
-  pub from : Option ℕ
-  pub payload : Payload
-  pub value : Data
-  pub opened : (picture_of new block).transaction ≡ Some (record { core = core; request = request; block = block; payload = payload; value = value; from = from })
-  pub is_line : IsLine old.protocol (picture_of old block) core request from payload (picture_of new block).memory.state
-
--- a Respond that led from old to new closed the block's transaction, and memory took its row for the response, or stayed where it takes none
-pub record IsSettledByTable (old : Situation) (block : ℕ) (new : Situation) : Type 0 where
-  pub closing : Open
-  pub opened : (picture_of old block).transaction ≡ Some closing
-  pub settled : ArrivesAtMemory closing old.protocol (picture_of old block).memory (picture_of new block).memory
-  pub closed : (picture_of new block).transaction ≡ None
-
--- the step, on this block, is by the table, where it is an Order or a Respond
-abbrev pub IsByTable : ℕ → Situation → Step → Situation → Type 0
-IsByTable block old (Order core) new = (request : Request) × (CanOrder old core block request × IsOrderedByTable old core block request new)
-IsByTable block old (Respond on) new = IsSettledByTable old block new
-IsByTable block old (Ask core on word asking) new = ⊤
-
--- each move from here is by the table
-abbrev pub MovesAreByTable : Situation → Type 0
-MovesAreByTable s = (block : ℕ) (step : Step) (answer : Reply) (new : Situation) (entry : Option Item) → MoveOn block s step answer new entry → IsByTable block s step new
-
 -- the open transaction is on a line of the table: its request and its payload, sent by memory where the line says so, and else by a core; memory's state is the line's after the Order, and `done` is the line's after the Respond; at a PutM the sender is the requestor itself
 pub record IsOnLine (protocol : Protocol) (transaction : Open) (memory done : MemState) : Type 0 where
   pub before : MemState
@@ -70,16 +43,11 @@ pub record IsOnLine (protocol : Protocol) (transaction : Open) (memory done : Me
   pub line : SentAs protocol transaction.request before (option_map (λ _. held) transaction.from) transaction.payload memory done
   pub writeback : transaction.request ≡ PutM → transaction.from ≡ Some transaction.core
 
--- the block's open transaction is on a line of the table with memory's state now, and a Respond taken next leaves memory in that line's last state
+-- the block's open transaction is on a line of the table with memory's state now, and a Respond taken next closes it and leaves memory in that line's last state
 pub record IsOpenByTable (s : Situation) (block : ℕ) (transaction : Open) : Type 0 where
   pub done : MemState
   pub on_line : IsOnLine s.protocol transaction (picture_of s block).memory.state done
-  pub settled : (answer : Reply) (new : Situation) (entry : Option Item) → MoveOn block s (Respond block) answer new entry → (picture_of new block).memory.state ≡ done
-
--- each open transaction, and each move from here, is by the table
-pub record GoesByTable (s : Situation) : Type 0 where
-  pub opened : (block : ℕ) → IfSome (picture_of s block).transaction (IsOpenByTable s block)
-  pub moves : MovesAreByTable s
+  pub settled : (answer : Reply) (new : Situation) (entry : Option Item) → MoveOn block s (Respond block) answer new entry → ((picture_of new block).transaction ≡ None) × ((picture_of new block).memory.state ≡ done)
 
 -- every request that can be ordered would have exactly one sender, and be a line of the protocol's table
 abbrev pub OrdersFollowSenderTable : Protocol → Situation → Type 0

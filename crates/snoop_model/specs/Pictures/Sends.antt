@@ -3,44 +3,23 @@
 use Rattle.std.specs.Prelude.{◌≡◌, ℕ, ◌<◌, length, Option, Some, None, unwrap_or, if◌then◌else◌}
 use Rattle.snoop_trace.specs.Words.{Data, zero_words}
 use Rattle.snoop_trace.specs.declared.protocol.Protocol.{Protocol}
-use Rattle.snoop_rules.specs.declared.names.CacheAction.{CacheAction}
 use Rattle.snoop_rules.specs.declared.names.CacheAction.TheVariants as action
-use Rattle.snoop_rules.specs.declared.names.MemAction.{MemAction}
 use Rattle.snoop_rules.specs.declared.names.MemAction.TheVariants as mem_action
 use Rattle.snoop_rules.specs.declared.names.Request.{Request}
 use Rattle.snoop_rules.specs.declared.names.Payload.{Payload}
-use Rattle.snoop_rules.specs.declared.names.CacheCell.{CacheCell}
-use Rattle.snoop_rules.specs.declared.names.MemCell.{MemCell}
-use Rattle.snoop_rules.specs.Cell.{cell_of}
-use Rattle.snoop_rules.specs.MemoryCell.{memory_cell_of}
+use Rattle.snoop_rules.specs.declared.names.CacheState.{CacheState}
+use Rattle.snoop_rules.specs.declared.names.MemState.{MemState}
+use Rattle.snoop_rules.specs.declared.names.Target.{Target}
+use Rattle.snoop_rules.specs.Cell.{Cell}
+use Rattle.snoop_rules.specs.MemoryCell.{MemoryCell}
 use Rattle.snoop_rules.specs.Takers.{seen_by, at_memory, carries_value}
 use Rattle.snoop_model.specs.Pictures.Picture.{Picture, held_by}
 
--- the payload of a cache's action, if it sends
-abbrev pub payload_sent : CacheAction → Option Payload
-payload_sent (action.Send payload target) = Some payload
-payload_sent _ = None
-
--- the payload of memory's action, if it sends
-abbrev pub memory_payload : MemAction → Option Payload
-memory_payload (mem_action.Send payload) = Some payload
-memory_payload _ = None
-
--- the payload that a core's row sends, if there is a row and it sends
-abbrev pub sent_by : Option CacheCell → Option Payload
-sent_by None = None
-sent_by (Some row) = payload_sent row.action
-
--- the payload that memory's row sends, if there is a row and it sends
-abbrev pub sent_by_memory : Option MemCell → Option Payload
-sent_by_memory None = None
-sent_by_memory (Some row) = memory_payload row.action
-
--- the controller, memory or a core, sends this payload when the core's request is ordered
+-- the controller, memory or a core, sends this payload when the core's request is ordered: its row for the request is to send it
 abbrev pub Sends : Protocol → Picture → ℕ → Request → Option ℕ → Payload → Type 0
-Sends protocol before core request None payload = sent_by_memory (memory_cell_of protocol before.memory.state (at_memory request)) ≡ Some payload
+Sends protocol before core request None payload = (next : MemState) × MemoryCell protocol before.memory.state (at_memory request) (mem_action.Send payload) next
 Sends protocol before core request (Some sender) payload =
-    (sender < length before.caches) × (sent_by (cell_of protocol (held_by before sender).state (seen_by sender core request)) ≡ Some payload)
+    (sender < length before.caches) × ((target : Target) × ((next : CacheState) × Cell protocol (held_by before sender).state (seen_by sender core request) (action.Send payload target) next))
 
 -- it sends, and no other controller does
 pub record IsOnlySender (protocol : Protocol) (before : Picture) (core : ℕ) (request : Request) (from : Option ℕ) (payload : Payload) : Type 0 where

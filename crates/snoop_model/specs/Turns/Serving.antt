@@ -20,12 +20,12 @@ IsUnderWay under_way (Order core) = ⊤
 IsUnderWay under_way (Respond block) = ⊤
 
 -- a transaction is open on the block of this picture
-abbrev pub is_open : Picture → Bool
-is_open picture = is_some picture.transaction
+abbrev pub has_transaction : Picture → Bool
+has_transaction picture = is_some picture.transaction
 
 -- the steps still to come for what was asked: two for each request that waits, and one for each open transaction
 abbrev pub owed : Situation → ℕ
-owed s = 2 * sum_by length s.queues + count_by is_open s.pictures
+owed s = 2 * sum_by length s.queues + count_by has_transaction s.pictures
 
 -- what a step pays in: an Ask three, of which one is its own
 abbrev pub paid : Step → ℕ

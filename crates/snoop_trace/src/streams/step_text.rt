@@ -1,7 +1,7 @@
 //! The text of one step.
 ghost use Rattle.std.specs.Prelude.{◌≡◌, ◌++◌, ◌∷◌, [], OnOk, codes};
 ghost use Rattle.std.specs.Fmt.{decimal};
-ghost use Rattle.snoop_trace.specs.Output.{address_of, step_text, word_address};
+ghost use Rattle.snoop_trace.specs.Output.{step_text, word_address};
 ghost use Rattle.snoop_trace.specs.declared.step.Step.TheVariants.{Ask};
 
 use crate::fault::NoMemory;
@@ -9,18 +9,11 @@ use crate::shape::Shape;
 use crate::step::{Op, Step};
 use crate::streams::append::{push_byte, push_decimal};
 
-// The first address of a block.
-pub(crate) fn address_of(shape: Shape, block: u32) -> u64
-    ensures { result ≡ address_of shape block }
-{
-    block as u64 * shape.block_bytes() as u64
-}
-
 // The first address of a word of a block.
 pub(crate) fn word_address(shape: Shape, block: u32, word: u32) -> u64
     ensures { result ≡ word_address shape block word }
 {
-    address_of(shape, block) + word as u64 * (shape.block_bytes() / shape.words()) as u64
+    shape.address_of(block) + word as u64 * (shape.block_bytes() / shape.words()) as u64
 }
 
 /// Appends a comma and a number.
@@ -63,7 +56,7 @@ fn push_ask(
 {
     match op {
         Op::Load => push_two(out, b'L', core, word_address(shape, block, word)),
-        Op::Evict => push_two(out, b'E', core, address_of(shape, block)),
+        Op::Evict => push_two(out, b'E', core, shape.address_of(block)),
         Op::Store(value) => {
             push_two(out, b'S', core, word_address(shape, block, word))?;
             push_field(out, value)
@@ -87,6 +80,6 @@ pub fn push_step(out: &mut Vec<u8>, shape: Shape, step: Step) -> Result<(), NoMe
             op,
         } => push_ask(out, shape, core, block, word, op),
         Step::Order { core } => push_one(out, b'O', core as u64),
-        Step::Respond { block } => push_one(out, b'R', address_of(shape, block)),
+        Step::Respond { block } => push_one(out, b'R', shape.address_of(block)),
     }
 }

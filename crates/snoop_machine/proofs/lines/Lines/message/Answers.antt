@@ -13,7 +13,7 @@ use Rattle.snoop_rules.specs.Takers.{seen_by, carries_value}
 use Rattle.snoop_model.specs.Pictures.Lines.{Line}
 use Rattle.snoop_model.specs.Pictures.Picture.{held_at}
 use Rattle.snoop_model.specs.Pictures.Message.{free_picture}
-use Rattle.snoop_model.specs.Pictures.Sends.{sent_by}
+use Rattle.snoop_model.proofs.Tables.SentBy.{sent_by, sends_row}
 use Rattle.snoop_model.proofs.Lines.TheSender.{Silent-none, Silent-more, Silent-past, Silent-all, IsMessage-sent, IsMessage-memory}
 use Rattle.snoop_machine.proofs.ConcernedCores.{concerned_within, waits_within, Cell-passed}
 use Rattle.snoop_machine.proofs.lines.Lines.message.Given.{Over}
@@ -61,7 +61,7 @@ returns-in-Send g c =
     let core = c.in-Some-next.core in
     let P : CacheAction → Type 0 = λ act. Cell c.args.protocol (held_at (row_of c.args.self.now.rows c.args.block) core).state (seen_by core c.args.requestor c.args.request) act c.in-Some-cache_cell.cell.next in
     IsMessage-sent c.args.protocol before c.args.requestor c.args.request c.requires.rows c.requires.line (record { payload = c.in-Send.payload; value = c.words_for.result; from = Some core })
-    (within_row g (goal.at.returns-in-Send g c).In-Some-next, ap sent_by (subst P c.in-Send.is (row g d)))
+    (within_row g (goal.at.returns-in-Send g c).In-Some-next, sends_row _ _ (ap sent_by (subst P c.in-Send.is (row g d))))
     (c.words_for.ensures ∙ ap (λ (line : Line). if carries_value c.in-Send.payload then unwrap_or line.kept zero_words else zero_words) c.get-line.ensures.line)
 
 pub loop-core-init : goal.loop-core-init

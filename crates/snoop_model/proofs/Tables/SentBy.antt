@@ -1,0 +1,60 @@
+-- What a row sends, as a test.
+use Rattle.std.proofs.Common.{◌≡◌, Option, Some, None, refl, ap}
+use Rattle.std.proofs.lemmas.Option.{same_Some}
+use Rattle.snoop_rules.specs.declared.names.CacheAction.{CacheAction}
+use Rattle.snoop_rules.specs.declared.names.CacheAction.TheVariants as action
+use Rattle.snoop_rules.specs.declared.names.CacheCell.{CacheCell}
+use Rattle.snoop_rules.specs.declared.names.CacheState.{CacheState}
+use Rattle.snoop_rules.specs.declared.names.MemAction.{MemAction}
+use Rattle.snoop_rules.specs.declared.names.MemAction.TheVariants as mem_action
+use Rattle.snoop_rules.specs.declared.names.MemCell.{MemCell}
+use Rattle.snoop_rules.specs.declared.names.MemState.{MemState}
+use Rattle.snoop_rules.specs.declared.names.Payload.{Payload}
+use Rattle.snoop_rules.specs.declared.names.Target.{Target}
+
+-- the payload of a cache's action, if it sends
+abbrev pub payload_sent : CacheAction → Option Payload
+payload_sent (action.Send payload target) = Some payload
+payload_sent _ = None
+
+-- the payload of memory's action, if it sends
+abbrev pub memory_payload : MemAction → Option Payload
+memory_payload (mem_action.Send payload) = Some payload
+memory_payload _ = None
+
+-- the payload that a core's row sends, if there is a row and it sends
+abbrev pub sent_by : Option CacheCell → Option Payload
+sent_by None = None
+sent_by (Some row) = payload_sent row.action
+
+-- the payload that memory's row sends, if there is a row and it sends
+abbrev pub sent_by_memory : Option MemCell → Option Payload
+sent_by_memory None = None
+sent_by_memory (Some row) = memory_payload row.action
+
+-- an action that sends
+pub sending : (act : CacheAction) (payload : Payload) → payload_sent act ≡ Some payload → (target : Target) × (act ≡ action.Send payload target)
+sending (action.Send sent target) payload h = (target, ap (λ (x : Payload). action.Send x target) (same_Some _ _ h))
+sending action.None payload h = cc
+sending action.Hit payload h = cc
+sending action.Stall payload h = cc
+sending (action.Issue request) payload h = cc
+sending action.Drop payload h = cc
+sending action.FillLoad payload h = cc
+sending action.FillStore payload h = cc
+
+pub sending_memory : (act : MemAction) (payload : Payload) → memory_payload act ≡ Some payload → act ≡ mem_action.Send payload
+sending_memory (mem_action.Send sent) payload h = ap (λ (x : Payload). mem_action.Send x) (same_Some _ _ h)
+sending_memory mem_action.None payload h = cc
+sending_memory mem_action.Write payload h = cc
+
+-- a row that sends
+pub sends_row : (found : Option CacheCell) (payload : Payload) → sent_by found ≡ Some payload → (target : Target) × ((next : CacheState) × (found ≡ Some (record { action = action.Send payload target; next = next })))
+sends_row None payload h = cc
+sends_row (Some row) payload h =
+    let does = sending row.action payload h in
+    (does.0, (row.next, ap (λ (act : CacheAction). let o : Option CacheCell = Some (record { action = act; next = row.next }) in o) does.1))
+
+pub memory_sends_row : (found : Option MemCell) (payload : Payload) → sent_by_memory found ≡ Some payload → (next : MemState) × (found ≡ Some (record { action = mem_action.Send payload; next = next }))
+memory_sends_row None payload h = cc
+memory_sends_row (Some row) payload h = (row.next, ap (λ (act : MemAction). let o : Option MemCell = Some (record { action = act; next = row.next }) in o) (sending_memory row.action payload h))
