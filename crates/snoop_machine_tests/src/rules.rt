@@ -4,8 +4,9 @@ mod memory;
 use crate::writers::{Failure, Stopping};
 use snoop_rules::{
     CACHE_EVENTS, CACHE_STATES, CacheEvent, CacheState, MEM_EVENTS, MEM_STATES, MemEvent, MemState,
-    Payload, Protocol, Request, Target, Which, arrival, arrival_at_memory, carries_value, event_asked,
-    event_at_memory, event_seen, may_load, may_store, takes_payload, waits, write_table,
+    Payload, Protocol, Request, Target, Which, arrival, arrival_at_memory, carries_value,
+    event_asked, event_at_memory, event_seen, may_load, may_store, takes_payload, waits,
+    write_table,
 };
 use snoop_trace::streams::AnyWriter;
 use snoop_trace::{Op, WriteFault};
