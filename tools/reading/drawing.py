@@ -3,8 +3,8 @@ from typing import NamedTuple
 
 from . import pictures
 from .machine import WAITING
-from .runs import see
-from .texts import Refused, records
+from .runs import given_steps, see
+from .texts import Refused
 
 MAY_WRITE, MAY_READ, AT_ONCE, REFUSED, ISSUED, WAITS, ORDERED, SENDS, WAITS_FOR_DATA, LEFT, RIGHT, WIRE, BROKEN = "▓░■✗○┊●◆│◀▶─╌"
 IN_ASCII = str.maketrans("▓░■✗○┊●◆│◀▶─╌", "#+*xo:@%|<>-~")
@@ -127,7 +127,7 @@ def count_of_rows(options, given):
 
 def as_text(options, text):
     """The heads, the situation before the first drawn step, a line for each drawn step, and the legend."""
-    given = records(options, text)
+    given = given_steps(options, text)
     panels = panels_of(options, given)
     if (count_of_rows(options, given) + 1) * (sum(len(cores) + 2 for _, cores in panels) + 1) > MOST_CELLS:
         raise Refused("TooLarge")

@@ -50,13 +50,18 @@ def digits_of_values(given):
 
 
 def check_choice(options):
-    """Refuses a block outside the shape, a range without a step, and the first blocks where no blocks are counted."""
+    """Refuses an order of rows where there are none, a block outside the shape, a range without a step, the first blocks where no blocks
+    are counted, and stretches of no steps."""
+    if options.serial and options.command != "run" and options.of != "rows":
+        raise Refused("BadSerial")
     if options.block is not None and not options.block < options.blocks:
         raise Refused("BadBlock")
     if not 1 <= options.first <= options.last:
         raise Refused("BadRange")
     if options.top is not None and options.by != "block":
         raise Refused("BadTop")
+    if options.every == 0:
+        raise Refused("BadEvery")
 
 
 def is_shown(options, step):

@@ -3,8 +3,8 @@ from typing import NamedTuple
 
 from . import pictures
 from .machine import WAITING
-from .runs import see
-from .texts import Refused, records
+from .runs import given_steps, see
+from .texts import Refused
 
 MOST_CELLS = 20_000
 MARGIN, TOP, STEP, EVENT, FOOT = 12, 28, 42, 24, 70  # a row is STEP high; in its upper part, EVENT high, stands what happens
@@ -268,7 +268,7 @@ def heading(page, drawn):
 
 def as_svg(options, text):
     """The whole drawing: of a first run over the steps the columns, of a second one the rows."""
-    given = records(options, text)
+    given = given_steps(options, text)
     seen = list(see(options, given)[1])
     drawn = [step for step in seen if pictures.is_shown(options, step)]
     page = page_of(options, given, drawn, seen)
