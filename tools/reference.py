@@ -10,7 +10,7 @@ text is reported as the program reports it (a line on standard error, status 1, 
   states   the states of each block after each step, as `snoop states`; with --as csv a line for each controller that takes a row of its
            table; with --as markdown a table of one block, as in examples/README.md
   counts   with --by row, core, block or word, or with --every N, how often what happens, as `snoop counts`
-  draw     a drawing in plain text, or with --as svg in SVG, as `snoop draw`
+  draw     a drawing in plain text, or with --as svg or html in these, as `snoop draw`
   lint     what is wrong with a text, as `snoop lint`
   views    of a text of steps each of VIEWS, in a folder: N.words has the words, and N.shown the view
   getters  all that a machine's getters answer after each step, as crates/snoop_getters prints it
@@ -37,13 +37,14 @@ import os
 import pathlib
 import sys
 
-from reading import counts, drawing, getters, lint, made, pictures, runs, states, svg
+from reading import counts, drawing, getters, html, lint, made, pictures, runs, states, svg
+from reading.svg import STYLES
 from reading.texts import Faulty, Refused
 
 MAKERS = {"storm": made.storm, "crowd": made.crowd, "table": made.table}
 STATES = {"text": states.as_text, "csv": states.as_csv, "markdown": states.as_markdown}
 COUNTS = {"row": counts.by_row, "core": counts.by_core, "block": counts.by_block, "word": counts.by_word, None: counts.by_steps}
-DRAWINGS = {"text": drawing.as_text, "svg": svg.as_svg}
+DRAWINGS = {"text": drawing.as_text, "svg": svg.as_svg, "html": html.as_html}
 VIEWS = ("states", "states --as csv", "states --block 0 --from 3 --to 90", "counts --by row", "counts --by core",
          "counts --by block", "counts --by block --top 1", "draw --to 500", "draw --ascii --from 2 --to 500", "draw --block 0 --from 3 --to 300", "lint", "lint --of rows --most 3")
 
@@ -74,8 +75,10 @@ def asked(words):
     parser.add_argument("--of", choices=("steps", "rows"), default="steps", help="states, counts, draw, lint: what the text is (default steps)")
     parser.add_argument("--serial", action="store_true", help="rows: each is served whole before the next one of the text is asked")
     parser.add_argument("--rows", action="store_true", help="storm: rows in place of steps")
-    parser.add_argument("--as", dest="form", default="text", choices=("text", "csv", "markdown", "svg"), help="states, draw: the form (default text)")
-    parser.add_argument("--ascii", action="store_true", help="draw: in ASCII")
+    parser.add_argument("--as", dest="form", default="text", choices=("text", "csv", "markdown", "svg", "html"), help="states, draw: the form (default text)")
+    parser.add_argument("--ascii", action="store_true", help="draw --as text: in ASCII")
+    parser.add_argument("--shown", type=int, metavar="N", help="draw --as svg, html: the first rows, so many of them (default all)")
+    parser.add_argument("--theme", choices=STYLES, default="auto", help="draw --as svg, html: the colours (default auto)")
     parser.add_argument("--block", type=int, metavar="N", help="states, draw: this block alone (in Markdown block 0, if none is chosen)")
     parser.add_argument("--from", dest="first", type=int, default=1, metavar="N", help="states, draw: the number of the first step that is shown (default 1)")
     parser.add_argument("--to", dest="last", type=int, default=2**64 - 1, metavar="N", help="states, draw: the number of the last one")

@@ -113,13 +113,6 @@ def panel_of(machine, step, block, cores, widths):
                  link_of(machine, step, has_memory), pictures.of_memory(machine, block) if has_memory else "")
 
 
-def panels_of(options, given):
-    """The blocks that are drawn, rising, each with its cores."""
-    asking = pictures.asking(options, given)
-    blocks = sorted(asking) if options.block is None else [options.block]
-    return [(block, asking.get(block, [])) for block in blocks]
-
-
 def count_of_rows(options, given):
     """How many steps of the text are within the range."""
     return len(range(options.first, min(options.last, len(given)) + 1))
@@ -128,7 +121,7 @@ def count_of_rows(options, given):
 def as_text(options, text):
     """The heads, the situation before the first drawn step, a line for each drawn step, and the legend."""
     given = given_steps(options, text)
-    panels = panels_of(options, given)
+    panels = pictures.panels_of(options, given)
     if (count_of_rows(options, given) + 1) * (sum(len(cores) + 2 for _, cores in panels) + 1) > MOST_CELLS:
         raise Refused("TooLarge")
     widths = widths_of(options, given)

@@ -44,6 +44,13 @@ def asking(options, given):
     return {block: sorted(cores) for block, cores in found.items()}
 
 
+def panels_of(options, given):
+    """The blocks that are drawn, rising, each with its cores."""
+    found = asking(options, given)
+    blocks = sorted(found) if options.block is None else [options.block]
+    return [(block, found.get(block, [])) for block in blocks]
+
+
 def digits_of_values(given):
     """The digits of the largest value that the text stores."""
     return len(str(max((numbers[-1] for kind, numbers in given if kind == "S"), default=0)))
