@@ -45,11 +45,11 @@ show();
 
 
 def as_html(options, text):
-    """A page of sheets; the first row of a further one is what the sheet before it leaves."""
+    """A page of sheets, up to that of the last row that is shown; the first row of a further one is what the sheet before it leaves."""
     canvas, above, drawn = drawing_of(options, text)
     shown = len(drawn) if options.shown is None else options.shown
     out = HEAD.replace("SCHEME", "light dark" if options.theme == "auto" else options.theme) + STYLES[options.theme] + MIDDLE
-    for begin in range(0, max(len(drawn), 1), ROWS):
+    for begin in range(0, max(min(shown, len(drawn)), 1), ROWS):
         rows = drawn[begin:begin + ROWS]
         out += sheet(canvas, above, rows, shown - begin)
         above = rows and Above(rows[-1].step.number, rows[-1].cells)

@@ -111,8 +111,7 @@ def canvas_of(options, given):
     for block, asking in pictures.panels_of(options, given):
         panels.append(panel_at(options, block, asking, x, options.words * (stored + 1) - 1))
         x = panels[-1].end + PANEL_GAP
-    replies = panels[-1].end + 16 if panels else x
-    return Canvas(options, panels, numbers, replies, MARGIN + max(LEAST_WIDTH, replies + 8 * (23 + cores + stored)))
+    return Canvas(options, panels, numbers, x, MARGIN + max(LEAST_WIDTH, x + 8 * (23 + cores + stored)))
 
 
 def text(x, y, words, kind):
@@ -304,21 +303,26 @@ def legend(y, protocol):
             + right(556, 580, z + 7, "g") + text(588, z + 11, "message", "t") + cross(664, z + 7) + text(674, z + 11, "refused", "t"))
 
 
+def heading(canvas, panel, column, bottom):
+    """What stands above a column, and behind it."""
+    out, begins = "", panel.block * canvas.options.block_bytes
+    if column is panel.bus:
+        out += text(panel.x, 20, f"Block {panel.block}, bytes {begins} to {begins + canvas.options.block_bytes - 1}", "t")
+        out += box(column.x, 64, column.end - column.x, bottom - 64, "bus")
+    return out + text(column.x + 8, 44, column.name, "s") + line(column.x, 64, column.x, bottom, "l")
+
+
 def sheet(canvas, above, drawn, shown, style=""):
-    """A sheet of rows, of which so many are shown; none is shown, nor the first row, where the number is negative."""
+    """A sheet of rows, of which so many are shown."""
     protocol, bottom = canvas.options.protocol, TOP + STEP * (len(drawn) + 1)
     width, height = canvas.width, bottom + FOOT
     out = f'<svg xmlns="http://www.w3.org/2000/svg" viewBox="0 0 {width} {height}" width="{width}" height="{height}">\n'
     out += f"<title>Snoop, {protocol.upper()}, {len(drawn)} steps drawn</title>\n{style}"
     out += box(0, 0, width, height, "paper") + text(MARGIN, 20, protocol.upper(), "s")
-    for panel in canvas.panels:
-        begins, bus = panel.block * canvas.options.block_bytes, panel.bus
-        out += text(panel.x, 20, f"Block {panel.block}, bytes {begins} to {begins + canvas.options.block_bytes - 1}", "t")
-        out += box(bus.x, 64, bus.end - bus.x, bottom - 64, "bus")
-        out += "".join(text(column.x + 8, 44, column.name, "s") + line(column.x, 64, column.x, bottom, "l") for column in panel.columns())
-    if above and shown >= 0:
+    out += "".join(heading(canvas, panel, column, bottom) for panel in canvas.panels for column in panel.columns())
+    if above:
         out += first_row(canvas, above)
-    for place, one in enumerate(drawn[:max(shown, 0)], 1):
+    for place, one in enumerate(drawn[:shown], 1):
         out += row(canvas, TOP + STEP * place, above, one)
         above = Above(one.step.number, one.cells)
     return out + legend(bottom + 18, protocol) + "</svg>\n"
