@@ -33,6 +33,7 @@ function marks(path) {
   found.push("a path of another kind: " + path.getAttribute("d"));
   return [];
 }
+if (!document.querySelector("svg")) found.push("there is no picture");
 for (const svg of document.querySelectorAll("svg")) {
   const picture = {left: 0, top: 0, right: svg.viewBox.baseVal.width, bottom: svg.viewBox.baseVal.height};
   const words = [...svg.querySelectorAll("text")].map(text => {

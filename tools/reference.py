@@ -12,7 +12,7 @@ text is reported as the program reports it (a line on standard error, status 1, 
   counts   with --by row, core, block or word, or with --every N, how often what happens, as `snoop counts`
   draw     a drawing in plain text, or with --as svg or html in these, as `snoop draw`
   lint     what is wrong with a text, as `snoop lint`
-  views    of a text of steps each of VIEWS, in a folder: N.words has the words, and N.shown the view
+  views    of a text of steps, or with --of rows of rows, each of VIEWS, in a folder: N.words has the words, and N.shown the view
   getters  all that a machine's getters answer after each step, as crates/snoop_getters prints it
   storm    makes a text of random steps, or with --rows of random rows
   crowd    the output of a long text, or a text of many rows, as a rule writes it, without the machine below
@@ -24,7 +24,9 @@ text is reported as the program reports it (a line on standard error, status 1, 
     tools/reference.py states --protocol mesi < examples/silent_upgrade.steps
     tools/reference.py states --block 1 < examples/two_blocks_open.steps
     tools/reference.py counts --by core < examples/upgrade_race.steps
+    tools/reference.py counts --every 6 < examples/upgrade_race.steps
     tools/reference.py draw --ascii < examples/upgrade_race.steps
+    tools/reference.py draw --as svg --of rows --serial < examples/order_of_a_trace.rows > order.svg
     tools/reference.py lint --of rows < examples/upgrade_race.steps
     tools/reference.py getters --protocol mesi --cores 2 --blocks 1 < examples/silent_upgrade.steps
     tools/reference.py storm --cores 8 --blocks 3 --count 1000 > storm.steps
@@ -45,8 +47,19 @@ MAKERS = {"storm": made.storm, "crowd": made.crowd, "table": made.table}
 STATES = {"text": states.as_text, "csv": states.as_csv, "markdown": states.as_markdown}
 COUNTS = {"row": counts.by_row, "core": counts.by_core, "block": counts.by_block, "word": counts.by_word, None: counts.by_steps}
 DRAWINGS = {"text": drawing.as_text, "svg": svg.as_svg, "html": html.as_html}
-VIEWS = ("states", "states --as csv", "states --block 0 --from 3 --to 90", "counts --by row", "counts --by core",
-         "counts --by block", "counts --by block --top 1", "draw --to 500", "draw --ascii --from 2 --to 500", "draw --block 0 --from 3 --to 300", "lint", "lint --of rows --most 3")
+# What is shown of a text of steps, and of one of rows. The choices keep drawings of 64 cores and 6 blocks small enough.
+VIEWS = {
+    "steps": ("states", "states --block 0 --from 3 --to 90", "states --as csv", "states --as csv --block 0 --from 3 --to 90",
+              "counts --by row", "counts --by core", "counts --by block", "counts --by block --top 1", "counts --by word", "counts --every 7",
+              "draw --to 500", "draw --ascii --from 2 --to 500", "draw --block 0 --from 3 --to 300",
+              "draw --as svg --to 45", "draw --as svg --theme light --block 0 --from 3 --to 300 --shown 9", "draw --as svg --theme dark --from 40 --to 60",
+              "draw --as html --block 0 --to 400", "draw --as html --theme dark --from 2 --to 45 --shown 30",
+              "lint", "lint --of rows --most 3"),
+    "rows": ("states --of rows", "states --of rows --serial", "states --as csv --of rows", "states --as csv --of rows --serial --block 0 --from 3 --to 90",
+             "counts --by row --of rows --serial", "counts --by core --of rows", "counts --by block --of rows --serial", "counts --by word --of rows",
+             "counts --every 100 --of rows --serial", "draw --of rows --to 500", "draw --ascii --of rows --serial --to 500",
+             "draw --as svg --of rows --to 45", "draw --as html --of rows --serial --block 0 --to 400", "lint --of rows"),
+}
 
 
 def reading(options):
@@ -72,7 +85,7 @@ def asked(words):
     parser.add_argument("--blocks", type=int, default=4, help="how many blocks of memory, 1 to 65536 (default 4)")
     parser.add_argument("--block-bytes", type=int, default=64, help="bytes of a block, a power of two up to 4096 (default 64)")
     parser.add_argument("--words", type=int, default=1, help="words of a block, a power of two up to 64; several have 8 bytes or more each (default 1)")
-    parser.add_argument("--of", choices=("steps", "rows"), default="steps", help="states, counts, draw, lint: what the text is (default steps)")
+    parser.add_argument("--of", choices=("steps", "rows"), default="steps", help="states, counts, draw, lint, views: what the text is (default steps)")
     parser.add_argument("--serial", action="store_true", help="rows: each is served whole before the next one of the text is asked")
     parser.add_argument("--rows", action="store_true", help="storm: rows in place of steps")
     parser.add_argument("--as", dest="form", default="text", choices=("text", "csv", "markdown", "svg", "html"), help="states, draw: the form (default text)")
@@ -96,8 +109,8 @@ def asked(words):
         parser.error("no such words: a power of two up to 64, and 8 bytes or more for each of several")
     if (options.command in ("crowd", "views")) != (options.name is not None) or (options.command == "crowd" and options.name not in made.CROWDS):
         parser.error("`crowd` takes a name of a crowd and `views` a folder, and no other command does")
-    if options.of == "rows" and options.command not in ("states", "counts", "draw", "lint"):
-        parser.error("only `states`, `counts`, `draw` and `lint` take --of")
+    if options.of == "rows" and options.command not in ("states", "counts", "draw", "lint", "views"):
+        parser.error("only `states`, `counts`, `draw`, `lint` and `views` take --of")
     if options.serial and options.command not in ("run", "states", "counts", "draw"):
         parser.error("only `run`, `states`, `counts` and `draw` take --serial")
     if (options.by is not None) + (options.every is not None) != (options.command == "counts"):
@@ -123,8 +136,8 @@ def answer(options, read):
 
 def write_views(options, words, text):
     """Writes each view of a text into a folder, with its words beside it."""
-    shape = words[words.index(options.name) + 1:]
-    for number, view in enumerate(VIEWS):
+    shape = [word for word in words[words.index(options.name) + 1:] if word not in ("--of", options.of)]
+    for number, view in enumerate(VIEWS[options.of]):
         path = pathlib.Path(options.name, str(number))
         path.with_suffix(".words").write_text(f"{view}\n")
         with path.with_suffix(".shown").open("w", encoding="utf-8") as shown, contextlib.redirect_stdout(shown):
