@@ -32,6 +32,7 @@ text is reported as the program reports it (a line on standard error, status 1, 
     tools/reference.py storm --cores 8 --blocks 3 --count 1000 > storm.steps
     tools/reference.py crowd all_cores_store | sed -n 's/: .*//p' | ./snoop steps --cores 256
     tools/reference.py table --protocol mesi --which memory
+    tools/reference.py table --as matrix
 """
 import argparse
 import contextlib
@@ -88,7 +89,8 @@ def asked(words):
     parser.add_argument("--of", choices=("steps", "rows"), default="steps", help="states, counts, draw, lint, views: what the text is (default steps)")
     parser.add_argument("--serial", action="store_true", help="rows: each is served whole before the next one of the text is asked")
     parser.add_argument("--rows", action="store_true", help="storm: rows in place of steps")
-    parser.add_argument("--as", dest="form", default="text", choices=("text", "csv", "markdown", "svg", "html"), help="states, draw: the form (default text)")
+    parser.add_argument("--as", dest="form", default="text", choices=("text", "csv", "markdown", "svg", "html", "rows", "matrix"),
+                        help="states, draw, table: the form (default text, of a table rows)")
     parser.add_argument("--ascii", action="store_true", help="draw --as text: in ASCII")
     parser.add_argument("--shown", type=int, metavar="N", help="draw --as svg, html: the first rows, so many of them (default all)")
     parser.add_argument("--theme", choices=STYLES, default="auto", help="draw --as svg, html: the colours (default auto)")
