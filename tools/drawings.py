@@ -148,7 +148,7 @@ def look(path, paper, is_dark):
         page.write_text(drawing.replace("</body>", script(is_page, paper) + "</body>"), encoding="utf-8")
         words = [os.environ.get("CHROMIUM", "chromium"), "--headless=new", "--no-sandbox", "--disable-gpu", f"--user-data-dir={folder}/profile",
                  f"--blink-settings=preferredColorScheme={0 if is_dark else 1}", "--virtual-time-budget=10000", "--dump-dom", page.as_uri()]
-        done = subprocess.run(words, capture_output=True, text=True, check=False, timeout=120)
+        done = subprocess.run(words, stdin=subprocess.DEVNULL, capture_output=True, text=True, check=False, timeout=120)
     left = re.search(r"<samp>(.*?)</samp>", done.stdout, re.S)
     return json.loads(html.unescape(left[1])) if left else [f"the browser answers nothing (status {done.returncode})"]
 
