@@ -24,8 +24,10 @@ PROGRAM = os.environ.get("SNOOP", pathlib.Path(__file__).resolve().parent.parent
 SHAPES = [(1, 1, 1, 1), (2, 4, 64, 1), (2, 4, 64, 1), (2, 4, 64, 1), (3, 2, 4096, 1), (4, 16, 1, 1), (256, 4, 64, 1), (1, 300, 2, 1),
           (2, 4, 64, 8), (2, 4, 64, 2), (3, 2, 4096, 64), (4, 16, 16, 2), (2, 4, 512, 64)]
 # What is asked of a text of steps, and of one of rows.
-VIEWS = {"steps": ["steps", "steps", "states", "states --as csv", "counts --by row", "counts --by core", "counts --by block", "draw", "lint"],
-         "run": ["run", "run --serial", "lint --of rows"]}
+VIEWS = {"steps": ["steps", "steps", "states", "states --as csv", "states --as csv --block 0 --from 2", "counts --by row", "counts --by core", "counts --by block",
+                   "counts --by word", "counts --every 2", "draw", "draw --as svg", "draw --as html --shown 3", "lint"],
+         "run": ["run", "run --serial", "states --of rows", "states --as csv --of rows --serial", "counts --by core --of rows", "counts --every 3 --of rows --serial",
+                 "draw --of rows", "draw --as svg --of rows --serial", "lint --of rows"]}
 LINE_ENDS = [b"\n", b"\n", b"\n", b"\r\n", b"\r", b"\n\n", b"\r\n\r\n"]
 HOSTILE = [b"", b" ", b"-1", b"+1", b"0x", b"0X1", b"0xg", b"1.0", b"1e3", b"\xff", b"\xc3\xa9", b"\x00", b"18446744073709551615",
            b"18446744073709551616", b"0xffffffffffffffff", b"0x10000000000000000", b"0" * 40 + b"1", b"99999999999999999999999999", b"4294967296"]

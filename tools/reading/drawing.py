@@ -3,8 +3,8 @@ from typing import NamedTuple
 
 from . import pictures
 from .machine import WAITING
-from .runs import see
-from .texts import Refused, records
+from .runs import given_steps, see
+from .texts import Refused
 
 MAY_WRITE, MAY_READ, AT_ONCE, REFUSED, ISSUED, WAITS, ORDERED, SENDS, WAITS_FOR_DATA, LEFT, RIGHT, WIRE, BROKEN = "▓░■✗○┊●◆│◀▶─╌"
 IN_ASCII = str.maketrans("▓░■✗○┊●◆│◀▶─╌", "#+*xo:@%|<>-~")
@@ -113,13 +113,6 @@ def panel_of(machine, step, block, cores, widths):
                  link_of(machine, step, has_memory), pictures.of_memory(machine, block) if has_memory else "")
 
 
-def panels_of(options, given):
-    """The blocks that are drawn, rising, each with its cores."""
-    asking = pictures.asking(options, given)
-    blocks = sorted(asking) if options.block is None else [options.block]
-    return [(block, asking.get(block, [])) for block in blocks]
-
-
 def count_of_rows(options, given):
     """How many steps of the text are within the range."""
     return len(range(options.first, min(options.last, len(given)) + 1))
@@ -127,8 +120,8 @@ def count_of_rows(options, given):
 
 def as_text(options, text):
     """The heads, the situation before the first drawn step, a line for each drawn step, and the legend."""
-    given = records(options, text)
-    panels = panels_of(options, given)
+    given = given_steps(options, text)
+    panels = pictures.panels_of(options, given)
     if (count_of_rows(options, given) + 1) * (sum(len(cores) + 2 for _, cores in panels) + 1) > MOST_CELLS:
         raise Refused("TooLarge")
     widths = widths_of(options, given)

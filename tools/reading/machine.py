@@ -1,4 +1,5 @@
 """The protocol: the tables of docs/PROTOCOL.md, and a machine that moves by them, with each block of each core in plain dictionaries."""
+import collections
 import pathlib
 import re
 from typing import NamedTuple, Optional
@@ -94,6 +95,8 @@ class Machine:
         self.cores, self.blocks = cores, blocks
         first = "IorS" if protocol == "msi" else "I"
         self.line = Sparse(Line("I", None, None))
+        self.holders = collections.defaultdict(set)  # of each block the cores that are not in I
+        assert all(self.cache["I", f"Other{request}"] == ("none", "I") for request in ("GetS", "GetM", "PutM"))
         self.memory = Sparse((first, (0,) * words))
         self.open = {}
         self.queues = {c: [] for c in range(cores)}
@@ -101,6 +104,7 @@ class Machine:
 
     def put(self, core, block, state, kept, waiting):
         self.line[core, block] = Line(state, kept if state in READABLE else None, waiting)
+        (self.holders[block].discard if state == "I" else self.holders[block].add)(core)
 
     def ask(self, core, block, word, op):
         state, kept, waiting = self.line[core, block]
@@ -131,7 +135,7 @@ class Machine:
             return f"refused BusTaken {block}"
         request = WAITING[self.line[core, block].state]
         senders, afters = [], {}
-        for other in range(self.cores):
+        for other in self.holders[block]:  # the others are in I, where they do nothing
             state, kept, _ = self.line[other, block]
             action, afters[other] = self.cache[state, ("Own" if other == core else "Other") + request]
             if sent(action):

@@ -70,7 +70,19 @@ def crowd(options):
         print(lines)
 
 
+EVENTS = ("Load Store Evict OwnGetS OwnGetM OwnPutM OtherGetS OtherGetM OtherPutM Data DataE".split(), "GetS GetM PutM Data NoData NoDataE".split())
+
+
 def table(options):
-    """The rows of a table, a line each."""
-    for row in rows()[options.protocol][options.which == "memory"]:
-        print(",".join(row))
+    """The rows of a table, a line each, or with --as matrix a line for each state and a column for each event, both as they have rows."""
+    is_memory = options.which == "memory"
+    given = rows()[options.protocol][is_memory]
+    if options.form != "matrix":
+        for row in given:
+            print(",".join(row))
+        return
+    cells = {(state, event): f"{action}/{after}" for state, event, action, after in given}
+    events = [event for event in EVENTS[is_memory] if any(met == event for _, met in cells)]
+    print(",".join(["state", *events]))
+    for state in dict.fromkeys(state for state, _ in cells):
+        print(",".join([state, *(cells.get((state, event), "") for event in events)]))

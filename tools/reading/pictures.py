@@ -44,19 +44,31 @@ def asking(options, given):
     return {block: sorted(cores) for block, cores in found.items()}
 
 
+def panels_of(options, given):
+    """The blocks that are drawn, rising, each with its cores."""
+    found = asking(options, given)
+    blocks = sorted(found) if options.block is None else [options.block]
+    return [(block, found.get(block, [])) for block in blocks]
+
+
 def digits_of_values(given):
     """The digits of the largest value that the text stores."""
     return len(str(max((numbers[-1] for kind, numbers in given if kind == "S"), default=0)))
 
 
 def check_choice(options):
-    """Refuses a block outside the shape, a range without a step, and the first blocks where no blocks are counted."""
+    """Refuses an order of rows where there are none, a block outside the shape, a range without a step, the first blocks where no blocks
+    are counted, and stretches of no steps."""
+    if options.serial and options.command != "run" and options.of != "rows":
+        raise Refused("BadSerial")
     if options.block is not None and not options.block < options.blocks:
         raise Refused("BadBlock")
     if not 1 <= options.first <= options.last:
         raise Refused("BadRange")
     if options.top is not None and options.by != "block":
         raise Refused("BadTop")
+    if options.every == 0:
+        raise Refused("BadEvery")
 
 
 def is_shown(options, step):

@@ -1,4 +1,5 @@
 """Runs of steps and of rows: the line of each step, what each controller does at it, and the report from the whole history."""
+import collections
 from typing import NamedTuple, Optional, Union
 
 from .machine import Came, Did, Machine, Sent, WAITING
@@ -117,8 +118,7 @@ def met(machine, options, kind, numbers):
         if block in machine.open:
             return core, block, [(core, None)]
         request = WAITING[machine.line[core, block].state]
-        holders = [other for other in range(machine.cores) if machine.line[other, block].state != "I"]
-        return core, block, [(other, ("Own" if other == core else "Other") + request) for other in holders] + [("memory", request)]
+        return core, block, [(other, ("Own" if other == core else "Other") + request) for other in sorted(machine.holders[block])] + [("memory", request)]
     block = place_of(options, numbers[0])[0]
     if block not in machine.open:
         return None, block, [(None, None)]
@@ -153,13 +153,12 @@ def see(options, given):
     return machine, taken()
 
 
-def run(options, text):
-    """The lines of the steps that serve the rows, then the report: in each round each core has one turn, by rising
-    number, and does its rows in the order of the text, one after another."""
-    lines = Lines(options)
-    left = {core: [] for core in range(options.cores)}
-    for kind, numbers in records(options, text):
-        left[numbers[0]].append((*place_of(options, numbers[1]), operation(kind, numbers)))
+def serve(lines, given):
+    """Takes the steps that serve rows: in each round each core has one turn, by rising number, and does its rows in the order of the
+    text, one after another."""
+    left = {core: collections.deque() for core in range(lines.options.cores)}
+    for kind, numbers in given:
+        left[numbers[0]].append((*place_of(lines.options, numbers[1]), operation(kind, numbers)))
     asked_for = {}  # by core, the block of the row that was asked for and is not over
 
     def turn(core):
@@ -176,23 +175,41 @@ def run(options, text):
                 return lines.respond(block)
             # another core's turn has brought the answer: the next row comes at once
         if left[core]:
-            block, word, op = left[core].pop(0)
+            block, word, op = left[core].popleft()
             if lines.ask(core, block, word, op).startswith("issued"):
                 asked_for[core] = block
 
     while asked_for or any(left.values()):
-        for core in range(options.cores):
+        for core in range(lines.options.cores):
             turn(core)
-    lines.report()
 
 
-def run_serial(options, text):
-    """The lines of the steps that serve the rows one after another, in the order of the text, then the report: where a
-    row issues a request, that is ordered and answered before the next row is asked."""
-    lines = Lines(options)
-    for kind, numbers in records(options, text):
-        block, word = place_of(options, numbers[1])
+def serve_serially(lines, given):
+    """Takes the steps that serve rows one after another, in the order of the text: where a row issues a request, that is ordered and
+    answered before the next row is asked."""
+    for kind, numbers in given:
+        block, word = place_of(lines.options, numbers[1])
         if lines.ask(numbers[0], block, word, operation(kind, numbers)).startswith("issued"):
             lines.order(numbers[0])
             lines.respond(block)
+
+
+def run(options, text):
+    """The lines of the steps that serve the rows, then the report."""
+    lines = Lines(options)
+    (serve_serially if options.serial else serve)(lines, records(options, text))
     lines.report()
+
+
+def given_steps(options, text):
+    """The steps of a text: its own, or those that serve its rows, each read again from its line."""
+    if options.of == "steps":
+        return records(options, text)
+    taken = []
+
+    def take(line):
+        kind, *numbers = line.partition(":")[0].split(",")
+        taken.append((kind, list(map(int, numbers))))
+
+    (serve_serially if options.serial else serve)(Lines(options, take), records(options, text))
+    return taken

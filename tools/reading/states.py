@@ -3,15 +3,15 @@ import csv
 import sys
 
 from . import pictures
-from .runs import see
-from .texts import place_of, records, shown_values
+from .runs import given_steps, see
+from .texts import place_of, shown_values
 
 
 def as_markdown(options, text):
     """A Markdown table with a row for each step: its line, the states of one block in the cores that ever hold it and in memory, and
     memory's value (its values, where the block has several words); what a step changes is bold."""
     block = options.block or 0
-    machine, steps = see(options, records(options, text))
+    machine, steps = see(options, given_steps(options, text))
 
     def held():
         state, values = machine.memory[block]
@@ -39,7 +39,7 @@ def kept(machine, block, controller):
 
 def as_csv(options, text):
     """A line for each controller that takes a row of its table at a step, and one for a step at which none does."""
-    machine, steps = see(options, records(options, text))
+    machine, steps = see(options, given_steps(options, text))
     out = csv.writer(sys.stdout, lineterminator="\n")
     out.writerow("step record reply block controller event before action after value place".split())
     for step in steps:
@@ -53,7 +53,7 @@ def as_csv(options, text):
 
 def as_text(options, text):
     """A table for each block that a shown step is of, with what each step changes, and what is left at the end."""
-    given = records(options, text)
+    given = given_steps(options, text)
     asking = pictures.asking(options, given)
     machine, steps = see(options, given)
     values = options.words * (pictures.digits_of_values(given) + 1)

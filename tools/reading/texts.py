@@ -1,4 +1,5 @@
 """What texts of steps and of rows may contain, by docs/TEXTS.md, and how values are written."""
+import functools
 import re
 
 
@@ -26,6 +27,9 @@ def fields_of(text):
     follows the quote that closes it is part of the field as it stands, up to a comma or the end of the line; a quote that is never closed
     takes the rest of the text; blank lines are no records."""
     text = text.removeprefix(BYTE_ORDER_MARK)
+    if b'"' not in text:
+        yield from ((line.start(), line[0].split(b",")) for line in re.finditer(rb"[^\r\n]+", text))
+        return
     at, end = 0, len(text)
     while at < end:
         if text[at] in b"\r\n":
@@ -57,9 +61,13 @@ def fields_of(text):
         yield begin, record
 
 
+NUMBER = re.compile(rb"[0-9]+|0x[0-9A-Fa-f]+")
+
+
+@functools.lru_cache(100_000)
 def number(field):
     """The number that a field writes, if it writes one below 2^64."""
-    if not re.fullmatch(rb"[0-9]+|0x[0-9A-Fa-f]+", field):
+    if not NUMBER.fullmatch(field):
         return None
     digits = field[2:] if field.startswith(b"0x") else field
     digits = digits.lstrip(b"0") or b"0"
@@ -119,7 +127,7 @@ def fault_of(place, record, of_rows, options):
 def records(options, text):
     """The letter and the numbers of each record but a heading; a text with a fault is refused whole."""
     read = []
-    of_rows = options.command == "run"
+    of_rows = options.command == "run" or options.of == "rows"
     for place, (_, record) in enumerate(fields_of(text), 1):
         fault = fault_of(place, record, of_rows, options)
         if fault:
