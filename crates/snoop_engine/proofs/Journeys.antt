@@ -14,7 +14,7 @@ use Rattle.snoop_model.specs.declared.replies.Refused.{Refused}
 use Rattle.snoop_model.specs.Pictures.Picture.{Picture}
 use Rattle.snoop_model.specs.Pictures.Situation.{Situation, reset, untouched}
 use Rattle.snoop_model.specs.Runs.Run.{FirstRunFrom}
-use Rattle.snoop_model.specs.Turns.Serving.{owed, is_open}
+use Rattle.snoop_model.specs.Turns.Serving.{owed, has_transaction}
 use Rattle.snoop_engine.proofs.TakenLemmas.{run_more}
 use Rattle.snoop_trace.specs.declared.step.Work.{Work}
 use Rattle.snoop_engine.specs.Todo.{todo_of, left_in, works_of}
@@ -37,11 +37,11 @@ none_wait : (n : ℕ) → sum_by length (replicate n (the_queue [])) ≡ 0
 none_wait zero = refl
 none_wait (suc n) = omega (arith, sum_by-cons (λ (q : List ℕ). length q) [] (replicate n []), none_wait n)
 
-none_open : (protocol : Protocol) (cores n : ℕ) → count_by is_open (replicate n (untouched protocol cores)) ≡ 0
+none_open : (protocol : Protocol) (cores n : ℕ) → count_by has_transaction (replicate n (untouched protocol cores)) ≡ 0
 none_open protocol cores zero = refl
 none_open protocol cores (suc n) =
     let first : Picture = untouched protocol cores in
-    omega (arith, sum_by-cons (λ (picture : Picture). cond (is_open picture) 1 0) first (replicate n first), none_open protocol cores n)
+    omega (arith, sum_by-cons (λ (picture : Picture). cond (has_transaction picture) 1 0) first (replicate n first), none_open protocol cores n)
 
 pub owed_reset : (protocol : Protocol) (shape : Extent) → owed (reset protocol shape) ≡ 0
 owed_reset protocol shape = omega (arith, none_wait shape.cores, none_open protocol shape.cores shape.blocks)
