@@ -21,3 +21,5 @@ pub mod SimulatedView
 pub mod Numbers
 pub mod Counts
 pub mod Tallies
+pub mod Chosen
+pub mod Choice

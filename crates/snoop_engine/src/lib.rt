@@ -3,6 +3,7 @@
 //! lines and its report is a `View`.
 #![tactic(auto)]
 
+mod choice;
 mod counts;
 mod counts_text;
 mod deal;
@@ -26,6 +27,7 @@ mod taken_text;
 mod tally;
 mod view;
 
+pub use choice::{Choice, ChoiceFault};
 pub use counts::simulate_counts;
 pub use fault::SimFault;
 pub use line::push_outcome;
