@@ -23,3 +23,5 @@ pub mod Counts
 pub mod Tallies
 pub mod Chosen
 pub mod Choice
+pub mod Inputs
+pub mod InOrder

@@ -7,9 +7,8 @@ ghost use Rattle.snoop_trace.specs.declared.fault.TextFault.TheVariants as text_
 ghost use Rattle.snoop_engine.specs.SimulatedView.{BeginsToShow, ShowsRun, SimulatesView};
 ghost use Rattle.snoop_states.specs.Whole.{states_table_text};
 
-use crate::choice::Choice;
 use crate::tables::Tables;
-use snoop_engine::{SimFault, show_steps};
+use snoop_engine::{Choice, SimFault, show_steps};
 use snoop_machine::laws::runs_go_on;
 use snoop_trace::streams::{Sink, Source};
 use snoop_trace::{Protocol, Shape, Step, WriteFault, read_steps};

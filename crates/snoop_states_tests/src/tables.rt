@@ -1,6 +1,7 @@
 //! Whole texts of states as tables, worked out by hand.
 
-use snoop_states::{Choice, ChoiceFault, simulate_states_table};
+use snoop_engine::{Choice, ChoiceFault};
+use snoop_states::simulate_states_table;
 use snoop_trace::{Protocol, Shape};
 use std::alloc::Global;
 use std::test::Fail;
