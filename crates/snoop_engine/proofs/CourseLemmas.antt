@@ -1,7 +1,8 @@
 -- Courses, step by step, and the rows that they serve.
-use Rattle.std.proofs.Common.{◌≡◌, ℕ, ◌+◌, ◌*◌, ◌<◌, ◌≤◌, Bool, true, false, cond, Option, Some, None, List, [], ◌∷◌, ◌++◌, length, length-append, map, map-append, drop, refl, sym, ◌∙◌, ap, subst, arith, append_assoc, append-nil, get_or}
+use Rattle.std.proofs.Common.{◌≡◌, ℕ, ◌+◌, ◌*◌, ◌<◌, ◌≤◌, Bool, true, false, cond, Option, Some, None, List, [], ◌∷◌, ◌++◌, length, length-append, map, drop, refl, sym, ◌∙◌, ap, subst, arith, append_assoc, append-nil, get_or}
 use Rattle.std.specs.Prelude.{Result, Ok, Err, IsOk, IfOk, IfSome, IfNone, All, option_to_list}
 use Rattle.std.specs.List.{cons_option}
+use Rattle.std.proofs.lemmas.List.{length-map, map-append}
 use Rattle.std.proofs.lemmas.List.Elements.{All-cons, All-nil}
 use Rattle.snoop_trace.specs.Extent.{Extent}
 use Rattle.snoop_trace.specs.declared.fault.NoMemory.{NoMemory}
@@ -52,9 +53,14 @@ module _ (first now : List Step → List (Result Reply Refused) → Situation �
 
   pub gathered_all : (final : Situation) → now [] [] final → (outcomes : List (Result Reply Refused)) × ((end : Situation) × first steps outcomes end)
   gathered_all final h =
-      let all : first (steps ++ []) (far.outcomes ++ []) final = far.leads [] [] final h in
-      (far.outcomes, (final, subst (λ (l : List Step). first l far.outcomes final) (append-nil steps)
-      (subst (λ (l : List (Result Reply Refused)). first (steps ++ []) l final) (append-nil far.outcomes) all)))
+      let all : first (steps ++ []) (far.outcomes ++ []) final = far.leads [] [] final h in (
+        far.outcomes,
+        (
+          final,
+          subst (λ (l : List Step). first l far.outcomes final) (append-nil steps)
+              (subst (λ (l : List (Result Reply Refused)). first (steps ++ []) l final) (append-nil far.outcomes) all),
+        ),
+      )
 
 -- a core's Asks, one step more at the head
 asks_first : (core : ℕ) (step : Step) (steps : List Step) → option_to_list (ask_of core step) ++ asks_of steps core ≡ asks_of (step ∷ steps) core
@@ -112,13 +118,9 @@ module _ (old new : InOrder) (step : Step) (answer : Reply) (follows : FollowsIn
   fewer_in_order =
       let pays = turn_rule.pays old.situation new.situation step answer follows.entry follows.move in
       let asked : length (all_asks (step ∷ [])) ≡ length follows.takes_up.first =
-      ap (λ (l : List Step). length l) follows.takes_up.asked ∙ length-map follows.takes_up.first in
+      ap (λ (l : List Step). length l) follows.takes_up.asked ∙ length-map follows.takes_up.first (ask_for old.situation.shape) in
       let left : length old.left ≡ length follows.takes_up.first + length new.left = ap (λ (l : List Row). length l) follows.takes_up.left ∙ length-append follows.takes_up.first new.left in
       omega (arith, pays, paid_asks step, asked, left)
-    where
-      length-map : (rows : List Row) → length (map (ask_for old.situation.shape) rows) ≡ length rows
-      length-map [] = refl
-      length-map (row ∷ rows) = ap (λ (n : ℕ). n + 1) (length-map rows)
 
   module _ (steps : List Step) (outcomes : List (Result Reply Refused)) (final : Situation) (h : EndsInOrder new steps outcomes final) where
     same : new.situation.shape ≡ old.situation.shape

@@ -1,6 +1,7 @@
 -- A driver that serves rows one after another: what its steps need, and what they keep.
-use Rattle.std.proofs.Common.{◌≡◌, ℕ, ◌/◌, ◌<◌, Bool, true, Option, Some, None, List, [], ◌∷◌, ◌++◌, refl, sym, ◌∙◌, ap, subst}
+use Rattle.std.proofs.Common.{◌≡◌, ℕ, ◌/◌, ◌<◌, Bool, true, false, Option, Some, None, List, [], ◌∷◌, ◌++◌, refl, sym, ◌∙◌, ap, subst}
 use Rattle.std.specs.Prelude.{All, IfNone, IfSome}
+use Rattle.std.proofs.lemmas.List.Elements.{All-head, All-tail}
 use Rattle.snoop_trace.specs.Extent.{Extent, IsWithinLimits}
 use Rattle.snoop_trace.specs.Grammar.{IsRowWithin, word_asked}
 use Rattle.snoop_trace.specs.declared.step.Row.{Row}
@@ -89,6 +90,22 @@ module _ (s : Situation) (row : Row) (limits : IsWithinLimits s.shape) (within :
     asked = ap (λ (step : Step). step ∷ []) begun_asks;
     rest = λ asks. at_rest s serves;
   }
+
+-- the first row that is left, and the others
+pub begun_within : (s : Situation) (left rest : List Row) (row : Row) → left ≡ row ∷ rest → All (IsRowWithin s.shape) left → IsRowWithin s.shape row × All (IsRowWithin s.shape) rest
+begun_within s left rest row first within =
+    let all : All (IsRowWithin s.shape) (row ∷ rest) = subst (λ (l : List Row). All (IsRowWithin s.shape) l) first within in
+    (All-head (IsRowWithin s.shape) row rest all, All-tail (IsRowWithin s.shape) row rest all)
+
+-- a row may be under way before it is asked
+pub begun_fit : (s : Situation) (left rest : List Row) (row : Row) (old : Option Row) → IsInOrder s left old → ServesOnly s.shape nothing s → left ≡ row ∷ rest → IsInOrder s rest (Some row)
+begun_fit s left rest row old fit serves first =
+    let within = begun_within s left rest row first fit.within in
+    record { limits = fit.limits; within = within.1; begun = within.0; serves = serves_any s.shape s (under_way s.shape (Some row)) serves }
+
+pub none_and : {X : Type 0} (r : Option X) (P Q : Type 0) → Q → IfNone r P → IfNone r (P × Q)
+none_and None P Q q p = (p, q)
+none_and (Some x) P Q q p = tt
 
 -- a move keeps what holds between steps
 pub in_order_moves : (s t : Situation) (left : List Row) (row : Option Row) (step : Step) (answer : Reply) (entry : Option Item) → IsInOrder s left row → IsUnderWay (under_way s.shape row) step

@@ -32,13 +32,13 @@ pub record StepsServeSerially (protocol : Protocol) (shape : Extent) (rows : Lis
   pub serves : ServesSerially protocol shape rows steps outcomes final
 
 -- a text, where its bytes are known, was read whole, and these steps come of it
-abbrev pub GivesSteps : Input → Protocol → Extent → Option (List ℕ) → List Step → Type 0
-GivesSteps Steps protocol shape text steps = Reads protocol shape text (Ok steps)
-GivesSteps Rows protocol shape text steps = (rows : List Row) × (ReadsRows shape text (Ok rows) × StepsServe protocol shape rows steps)
-GivesSteps SerialRows protocol shape text steps = (rows : List Row) × (ReadsRows shape text (Ok rows) × StepsServeSerially protocol shape rows steps)
+abbrev pub GivesSteps : Protocol → Extent → Input → Option (List ℕ) → List Step → Type 0
+GivesSteps protocol shape Steps text steps = Reads protocol shape text (Ok steps)
+GivesSteps protocol shape Rows text steps = (rows : List Row) × (ReadsRows shape text (Ok rows) × StepsServe protocol shape rows steps)
+GivesSteps protocol shape SerialRows text steps = (rows : List Row) × (ReadsRows shape text (Ok rows) × StepsServeSerially protocol shape rows steps)
 
 -- it was refused by this fault
-abbrev pub IsRefusedText : Input → Protocol → Extent → Option (List ℕ) → TextFault → Type 0
-IsRefusedText Steps protocol shape text fault = Reads protocol shape text (Err fault)
-IsRefusedText Rows protocol shape text fault = ReadsRows shape text (Err fault)
-IsRefusedText SerialRows protocol shape text fault = ReadsRows shape text (Err fault)
+abbrev pub IsRefusedText : Protocol → Extent → Input → Option (List ℕ) → TextFault → Type 0
+IsRefusedText protocol shape Steps text fault = Reads protocol shape text (Err fault)
+IsRefusedText protocol shape Rows text fault = ReadsRows shape text (Err fault)
+IsRefusedText protocol shape SerialRows text fault = ReadsRows shape text (Err fault)

@@ -1,5 +1,5 @@
 //! The steps that come of a text.
-ghost use Rattle.std.specs.Prelude.{◌≡◌, ◌≢◌, true, All, Err, IfErr, IfOk, List, Result};
+ghost use Rattle.std.specs.Prelude.{◌≡◌, ◌≢◌, ◌++◌, ◌∷◌, [], true, All, Err, IfErr, IfOk, List, OnOk, Result};
 ghost use Rattle.snoop_model.specs.Pictures.Situation.{Situation};
 ghost use Rattle.snoop_model.specs.declared.replies.Refused.{Refused as Cause};
 ghost use Rattle.snoop_model.specs.declared.replies.Reply.{Reply as Answer};
@@ -25,8 +25,8 @@ pub fn read_input<R: Source>(
     shape: Shape,
     input: Input,
 ) -> Result<Vec<Step>, TextFault>
-    ensures steps { IfOk result (λ steps. GivesSteps input protocol shape (R.remaining reader.old) steps.items) }
-    ensures fault { IfErr result (IsRefusedText input protocol shape (R.remaining reader.old)) }
+    ensures steps { IfOk result (λ steps. GivesSteps protocol shape input (R.remaining reader.old) steps.items) }
+    ensures fault { IfErr result (IsRefusedText protocol shape input (R.remaining reader.old)) }
     ensures never_blamed { R.never_fails ≡ true → result ≢ Err TextFault.Read }
     ensures blamed { BlamesReader (R.failed reader.old) (R.failed reader.new) (result ≡ Err TextFault.Read) }
 {
@@ -77,7 +77,17 @@ fn gather<C: Course>(alloc: Global, course: &mut C) -> Result<Vec<Step>, NoMemor
 {
     let mut steps = Vec::new(alloc);
     while let Some((step, _)) = course.advance()? {
-        steps.push(step).map_err(|_| NoMemory)?;
+        add(&mut steps, step)?;
     }
     Ok(steps)
+}
+
+/// Adds a step.
+fn add(steps: &mut Vec<Step>, step: Step) -> Result<(), NoMemory>
+    ensures { OnOk result (steps.new.items ≡ steps.old.items ++ step ∷ []) }
+{
+    match steps.push(step) {
+        Ok(()) => Ok(()),
+        Err(_) => Err(NoMemory),
+    }
 }

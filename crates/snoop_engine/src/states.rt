@@ -10,6 +10,7 @@ ghost use Rattle.snoop_engine.specs.States.{header_text, shown_text, states_text
 
 use crate::choice::Choice;
 use crate::fault::SimFault;
+use crate::input::Input;
 use crate::seen::Seen;
 use crate::show::simulate_view;
 use crate::taken::Taken;
@@ -21,7 +22,7 @@ use snoop_trace::streams::{Sink, Source, push_text};
 use snoop_trace::{NoMemory, Shape};
 use std::alloc::Global;
 
-/// Reads a text of steps for the protocol and the shape to its end, takes them in order on a machine at reset, and writes
+/// Reads a text to its end, takes the steps that come of it in order on a machine at reset, for the protocol and the shape, and writes
 /// a line for each controller that takes a row of its table at one of the steps that are shown. A step that is refused
 /// because it is out of memory ends the simulation.
 pub fn simulate_states<R: Source, W: Sink>(
@@ -30,9 +31,10 @@ pub fn simulate_states<R: Source, W: Sink>(
     writer: &mut W,
     protocol: Protocol,
     shape: Shape,
+    input: Input,
     choice: Choice,
 ) -> Result<(), SimFault>
-    ensures does { SimulatesView protocol shape (λ frames final. states_text shape choice frames) (R.remaining reader.old) result (W.contents writer.old) (W.contents writer.new) }
+    ensures does { SimulatesView protocol shape input (λ frames final. states_text shape choice frames) (R.remaining reader.old) result (W.contents writer.old) (W.contents writer.new) }
     // A refused text leaves the writer as it was.
     ensures unwritten { (fault : TextFault) → result ≡ Err (SimFault.Text fault) → writer.new ≡ writer.old }
 
@@ -47,7 +49,7 @@ pub fn simulate_states<R: Source, W: Sink>(
         choice,
         fields: Vec::new(alloc),
     };
-    simulate_view(alloc, reader, writer, protocol, shape, &mut view)
+    simulate_view(alloc, reader, writer, protocol, shape, input, &mut view)
 }
 
 /// The view of a run as its states: the names of the fields, and then the lines of each step that is shown.
