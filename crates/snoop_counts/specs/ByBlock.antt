@@ -9,7 +9,8 @@ use Rattle.snoop_history.specs.Totals.{capped}
 use Rattle.snoop_model.specs.Pictures.Situation.{Situation}
 use Rattle.snoop_engine.specs.Frames.{Frame}
 use Rattle.snoop_counts.specs.CoreTable.{count_fields}
-use Rattle.snoop_counts.specs.Counted.{counted_of, happenings, is_named}
+use Rattle.snoop_counts.specs.Counted.{counted_of, is_named}
+use Rattle.snoop_counts.specs.Happenings.{happenings}
 use Rattle.snoop_counts.specs.Sharers.{is_shared_by}
 use Rattle.snoop_counts.specs.declared.ranking.Ranked.{Ranked}
 use Rattle.snoop_counts.specs.declared.count.Count.{Count}
@@ -23,12 +24,13 @@ sharers counted cores seen block = length (filter (is_shared_by counted seen blo
 
 -- the names of the fields
 abbrev pub block_header : List ℕ
-block_header = codes "block,address,cores,readers,writers,loads,load_hits,stores,store_hits,gets,getm,putm,from_memory,from_caches,writebacks,clean,stale,upgrades,upgrades_lost,invalidated,taken,downgraded,overtaken,stalled,bus_taken,no_transaction\n"
+block_header = codes "block,address,cores,readers,writers,loads,load_hits,stores,store_hits,gets,getm,putm,from_memory,from_caches,writebacks,clean,stale,misses,cold,given_up,true_sharing,false_sharing,upgrades,upgrades_lost,invalidated,taken,downgraded,overtaken,stalled,bus_taken,no_transaction\n"
 
 -- the counts of a block, in the order of the fields
 abbrev pub block_counts : List Count
 block_counts =
     count.Loads ∷ count.LoadHits ∷ count.Stores ∷ count.StoreHits ∷ count.GetS ∷ count.GetM ∷ count.PutM ∷ count.FromMemory ∷ count.FromCaches ∷ count.Writebacks ∷ count.Clean ∷ count.Stale
+    ∷ count.Misses ∷ count.Cold ∷ count.GivenUp ∷ count.TrueSharing ∷ count.FalseSharing
     ∷ count.Upgrades ∷ count.UpgradesLost ∷ count.Invalidated ∷ count.Taken ∷ count.Downgraded ∷ count.Overtaken ∷ count.Stalled ∷ count.BusTaken ∷ count.NoTransaction ∷ []
 
 -- how many cores a line of the block names, how many performed a load of it, and how many a store
@@ -69,4 +71,4 @@ block_table shape top seen = block_header ++ flat_map (λ shown. block_line shap
 
 -- the table of a run
 abbrev pub counts_by_block : Extent → Option ℕ → List Frame → Situation → List ℕ
-counts_by_block shape top frames final = block_table shape top (happenings frames final.log)
+counts_by_block shape top frames final = block_table shape top (happenings frames)

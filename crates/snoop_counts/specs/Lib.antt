@@ -1,4 +1,7 @@
 pub mod Counted
+pub mod Causes
+pub mod Happenings
+pub mod LastSteps
 pub mod Tally
 pub mod CoreTable
 pub mod Views

@@ -1,15 +1,27 @@
 //! What each count counts, and for whom.
-ghost use Rattle.std.specs.Prelude.{◌≡◌, None};
-ghost use Rattle.snoop_counts.specs.Counted.{block_named, core_counted, core_named, counts, counts_refusal, counts_row, has_row, is_downgrade, is_from_cache, is_invalidation, is_lost_upgrade, is_overtaking, is_refused, is_taking, is_upgrade, own_block, own_core, requestor_of, sender_of, subject_of};
+ghost use Rattle.std.specs.Prelude.{◌≡◌, false, None};
+ghost use Rattle.std.specs.Option.{option_map_or};
+ghost use Rattle.snoop_counts.specs.Counted.{block_named, core_counted, core_named, counts, counts_cause, counts_refusal, counts_row, has_row, is_downgrade, is_from_cache, is_giving_up, is_invalidation, is_loss, is_lost_upgrade, is_miss, is_overtaking, is_refused, is_taking, is_upgrade, own_block, own_core, requestor_of, sender_of, subject_of};
 ghost use Rattle.snoop_counts.specs.declared.count.Happening.TheVariants as happening;
 ghost use Rattle.snoop_history.specs.declared.items.Item.TheVariants as item;
 
-use crate::count::{Count, Happening, Subjects};
+use crate::count::{Cause, Count, Happening, Subjects};
 use snoop_engine::Taken;
 use snoop_history::{Came, Did, Item, Sent};
 use snoop_machine::{Refused, Reply};
 use snoop_rules::{CacheEvent, CacheState, Payload, Request};
 use snoop_trace::Step;
+
+/// A miss: an operation is performed with data that came because the core had no copy.
+pub(crate) fn is_miss(state: CacheState, event: CacheEvent) -> bool
+    ensures { result ≡ is_miss state event }
+{
+    matches!(
+        (state, event),
+        (CacheState::IsD, CacheEvent::Data | CacheEvent::DataE)
+            | (CacheState::ImD, CacheEvent::Data)
+    )
+}
 
 fn is_upgrade(state: CacheState, event: CacheEvent) -> bool
     ensures { result ≡ is_upgrade state event }
@@ -58,6 +70,26 @@ fn is_overtaking(state: CacheState, event: CacheEvent) -> bool
         (
             CacheState::EiA | CacheState::MiA,
             CacheEvent::OtherGetS | CacheEvent::OtherGetM
+        )
+    )
+}
+
+/// The core's copy is lost to another's GetM.
+pub(crate) fn is_loss(state: CacheState, event: CacheEvent) -> bool
+    ensures { result ≡ is_loss state event }
+{
+    is_invalidation(state, event) || is_taking(state, event)
+}
+
+/// The core gives its copy up.
+pub(crate) fn is_giving_up(state: CacheState, event: CacheEvent) -> bool
+    ensures { result ≡ is_giving_up state event }
+{
+    matches!(
+        (state, event),
+        (
+            CacheState::S | CacheState::E | CacheState::M,
+            CacheEvent::Evict
         )
     )
 }
@@ -123,6 +155,7 @@ fn counts_row(count: Count, state: CacheState, event: CacheEvent) -> bool
     ensures { result ≡ counts_row count state event }
 {
     match count {
+        Count::Misses => is_miss(state, event),
         Count::Upgrades => is_upgrade(state, event),
         Count::UpgradesLost => is_lost_upgrade(state, event),
         Count::Invalidated | Count::Invalidates => is_invalidation(state, event),
@@ -171,6 +204,19 @@ fn counts_outcome(count: Count, outcome: Result<Reply, Refused>) -> bool
     }
 }
 
+// Whether a miss is counted by its cause, if it is one.
+fn counts_cause(count: Count, cause: Option<Cause>) -> bool
+    ensures { result ≡ option_map_or (counts_cause count) cause false }
+{
+    match (count, cause) {
+        (Count::Cold, Some(Cause::Cold)) => true,
+        (Count::GivenUp, Some(Cause::GivenUp)) => true,
+        (Count::TrueSharing, Some(Cause::TrueSharing)) => true,
+        (Count::FalseSharing, Some(Cause::FalseSharing)) => true,
+        _ => false,
+    }
+}
+
 /// Whether it is counted.
 pub(crate) fn counts(count: Count, happening: Happening) -> bool
     ensures { result ≡ counts count happening }
@@ -181,10 +227,12 @@ pub(crate) fn counts(count: Count, happening: Happening) -> bool
             step: _,
             outcome,
             line,
+            cause,
         } => {
             matches!(count, Count::Lines)
                 || counts_row_of(count, line)
                 || counts_outcome(count, outcome)
+                || counts_cause(count, cause)
         }
     }
 }
@@ -271,5 +319,6 @@ pub(crate) fn subject_of(subjects: Subjects, count: Count, happening: Happening)
     match subjects {
         Subjects::Cores => core_counted(count, happening),
         Subjects::Blocks => own_block(happening),
+        Subjects::Machine => Some(0),
     }
 }

@@ -1,21 +1,17 @@
 //! Counters, a row of them for each core or block.
-ghost use Rattle.std.specs.Prelude.{◌≡◌, ◌<◌, ◌++◌, ◌∷◌, [], ℕ, List, IfOk, map};
+ghost use Rattle.std.specs.Prelude.{◌≡◌, ◌<◌, ◌++◌, ◌∷◌, [], ℕ, List, IfOk};
 ghost use Rattle.snoop_counts.specs.Tally.{HasCounted, IsRowOf, counter_in, raised, raised_by, raised_row};
 ghost use Rattle.snoop_counts.specs.declared.count.Happening.{Happening};
-ghost use Rattle.snoop_counts.specs.declared.count.Happening.TheVariants as happening;
 ghost use Rattle.snoop_counts.specs.declared.count.Subjects.{Subjects};
 
 use crate::count::{Count, Happening, Subjects};
 use crate::counted::{counts, subject_of};
 use snoop_blocks::BlockTable;
-use snoop_engine::Taken;
-use snoop_history::Log;
-use snoop_machine::{Refused, Reply};
-use snoop_trace::{NoMemory, Step};
+use snoop_trace::NoMemory;
 use std::alloc::Global;
 
 // All counts, by their places in a row.
-static COUNTS: [Count; 25] = [
+static COUNTS: [Count; 30] = [
     Count::Loads,
     Count::LoadHits,
     Count::Stores,
@@ -28,6 +24,11 @@ static COUNTS: [Count; 25] = [
     Count::Writebacks,
     Count::Clean,
     Count::Stale,
+    Count::Misses,
+    Count::Cold,
+    Count::GivenUp,
+    Count::TrueSharing,
+    Count::FalseSharing,
     Count::Upgrades,
     Count::UpgradesLost,
     Count::Invalidated,
@@ -46,7 +47,7 @@ static COUNTS: [Count; 25] = [
 /// A counter for each count.
 #[derive(Clone, Copy, Debug)]
 pub(crate) struct Counters {
-    counters: [u64; 25],
+    counters: [u64; 30],
 }
 
 impl Counters {
@@ -78,7 +79,7 @@ impl Tally {
     pub(crate) fn new(alloc: Global, subjects: Subjects, count: u32) -> Result<Self, NoMemory>
         ensures { IfOk result (HasCounted subjects count []) }
     {
-        let empty = Counters { counters: [0; 25] };
+        let empty = Counters { counters: [0; 30] };
         match BlockTable::new(alloc, count, empty) {
             Ok(rows) => Ok(Tally { subjects, rows }),
             Err(_) => Err(NoMemory),
@@ -125,27 +126,12 @@ impl Tally {
         }
     }
 
-    /// Counts the lines of a step.
-    pub(crate) fn add_lines(&mut self, step: Step, outcome: Result<Reply, Refused>, lines: &[Taken])
-        ensures { (whose : Subjects) (many : ℕ) (seen : List Happening) → HasCounted whose many seen self.old → HasCounted whose many (seen ++ map (happening.Line step outcome) lines.now) self.new }
+    /// Counts all of this.
+    pub(crate) fn add_all(&mut self, happenings: &[Happening])
+        ensures { (whose : Subjects) (many : ℕ) (seen : List Happening) → HasCounted whose many seen self.old → HasCounted whose many (seen ++ happenings.now) self.new }
     {
-        for line in lines {
-            self.add(Happening::Line {
-                step,
-                outcome,
-                line: *line,
-            });
-        }
-    }
-
-    /// Counts the items of a history.
-    pub(crate) fn add_items(&mut self, log: &Log)
-        ensures { (whose : Subjects) (many : ℕ) (seen : List Happening) → HasCounted whose many seen self.old → HasCounted whose many (seen ++ map happening.Item log.now.items) self.new }
-    {
-        for place in 0..log.len() {
-            if let Some(item) = log.item(place) {
-                self.add(Happening::Item(item));
-            }
+        for happening in happenings {
+            self.add(*happening);
         }
     }
 }
