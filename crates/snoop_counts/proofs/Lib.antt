@@ -3,3 +3,4 @@ pub mod RowLemmas
 pub mod ViewLemmas
 pub mod SharerLemmas
 pub mod BlockLemmas
+pub mod CauseLemmas

@@ -4,11 +4,10 @@ use Rattle.std.specs.Prelude.{◌≢◌, ◌&&◌, Option, Some, None, replicate
 use Rattle.std.specs.List.{range_with_len}
 use Rattle.std.specs.Option.{option_map_or}
 use Rattle.std.proofs.lemmas.Bool.{cases_eq, eq-eqb, ne_eqb}
-use Rattle.std.proofs.lemmas.List.{get_or-map, get_or-replicate, map_more, length-replicate, length-set, take_all}
+use Rattle.std.proofs.lemmas.List.{get_or-map, get_or-replicate, length-replicate, length-set, take_more}
 use Rattle.std.proofs.lemmas.List.Elements.{filter-append}
 use Rattle.std.proofs.lemmas.List.FromFn.{get_or-range_with_len}
-use Rattle.std.proofs.lemmas.Option.{get_or_from_slice_get, none-some, slice_get-get_or, slice_get_within}
-use Rattle.snoop_history.specs.declared.items.Item.{Item}
+use Rattle.std.proofs.lemmas.Option.{slice_get-get_or}
 use Rattle.snoop_history.specs.Journal.{counted}
 use Rattle.snoop_history.specs.Totals.{capped}
 use Rattle.snoop_counts.specs.Counted.{counts, is_counted, is_it, subject_of, times}
@@ -16,7 +15,6 @@ use Rattle.snoop_counts.specs.Tally.{Tallies, all_counts, counter_in, empty_row,
 use Rattle.snoop_counts.specs.declared.count.Count.{Count}
 use Rattle.snoop_counts.specs.declared.count.Count.TheVariants as count
 use Rattle.snoop_counts.specs.declared.count.Happening.{Happening}
-use Rattle.snoop_counts.specs.declared.count.Happening.TheVariants as happening
 use Rattle.snoop_counts.specs.declared.count.Subjects.{Subjects}
 use Rattle.snoop_counts.specs.declared.tally.Counters.{Counters}
 
@@ -254,24 +252,6 @@ tallies_none whose n = record {
       ap (λ (row : Counters). counter_in row c) (get_or-replicate n s empty_row empty_row lt) ∙ get_or-replicate 30 (number c) 0 0 below;
 }
 
--- an item that there is, is found
-pub found : {X : Type 0} (items : List X) (place : ℕ) → place < length items → slice_get items place ≡ None → ⊥
-found [] place lt none = omega arith
-found (entry ∷ items) zero lt none = none-some entry (sym none)
-found (entry ∷ items) (suc place) lt none = found items place (omega arith) none
-
--- one more element of a list
-pub mapped_more : {X : Type 0} (f : X → Happening) (seen : List Happening) (xs : List X) (i : ℕ) (d : X) → i < length xs
-    → (seen ++ map f (take i xs)) ++ f (get_or xs i d) ∷ [] ≡ seen ++ map f (take (i + 1) xs)
-mapped_more f seen xs i d lt = append_assoc seen (map f (take i xs)) (f (get_or xs i d) ∷ []) ∙ ap (λ (l : List Happening). seen ++ l) (sym (map_more f xs i d lt))
-
--- at the end of the list
-pub mapped_all : {X : Type 0} (f : X → Happening) (seen : List Happening) (xs : List X) (i : ℕ) → length xs ≤ i → seen ++ map f (take i xs) ≡ seen ++ map f xs
-mapped_all f seen xs i over = ap (λ l. seen ++ map f l) (take_all i xs over)
-
--- one item more
-pub item_more : (seen : List Happening) (items : List Item) (place : ℕ) (entry : Item) → slice_get items place ≡ Some entry
-    → (seen ++ map happening.Item (take place items)) ++ happening.Item entry ∷ [] ≡ seen ++ map happening.Item (take (place + 1) items)
-item_more seen items place entry is =
-    ap (λ (e : Item). (seen ++ map happening.Item (take place items)) ++ happening.Item e ∷ []) (sym (get_or_from_slice_get items place entry entry is))
-    ∙ mapped_more happening.Item seen items place entry (slice_get_within items place entry is)
+-- one more of these, after others
+pub one_happening_more : (seen all : List Happening) (i : ℕ) (d : Happening) → i < length all → (seen ++ take i all) ++ get_or all i d ∷ [] ≡ seen ++ take (i + 1) all
+one_happening_more seen all i d lt = append_assoc seen (take i all) (get_or all i d ∷ []) ∙ ap (λ (l : List Happening). seen ++ l) (sym (take_more all i d lt))

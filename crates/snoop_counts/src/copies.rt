@@ -2,7 +2,7 @@
 ghost use Rattle.std.specs.Prelude.{◌≡◌, ◌+◌, ◌++◌, ◌∷◌, [], List, OnOk, length};
 ghost use Rattle.snoop_engine.specs.Frames.{Frame};
 ghost use Rattle.snoop_engine.specs.Taken.{lines_of};
-ghost use Rattle.snoop_counts.specs.Causes.{cause_after, cause_of, operation_in};
+ghost use Rattle.snoop_counts.specs.Causes.{cause_after, cause_of, operation_in, word_of};
 ghost use Rattle.snoop_counts.specs.LastSteps.{Follows, MarksLines, MarksStore};
 
 use crate::count::Cause;
@@ -12,6 +12,16 @@ use snoop_engine::Taken;
 use snoop_history::Did;
 use snoop_trace::NoMemory;
 use std::alloc::Global;
+
+// The word of the operation.
+fn word_of(operation: Option<Did>) -> u32
+    ensures { result ≡ word_of operation }
+{
+    match operation {
+        None => 0,
+        Some(did) => did.word,
+    }
+}
 
 /// The numbers of the last steps in which each core gave up and lost a copy of each block, and in which each word was stored to.
 #[derive(Drop)]
@@ -63,8 +73,7 @@ impl Copies {
                 event: Some(event),
                 before,
             } if is_miss(before, event) => {
-                let word = operation.map_or(0, |did| did.word);
-                Some(self.cause_of_miss(block, core, word))
+                Some(self.cause_of_miss(block, core, word_of(operation)))
             }
             _ => None,
         }

@@ -1,9 +1,8 @@
-use Rattle.std.proofs.Common.{ℕ, List, ◌++◌, map, take}
+use Rattle.std.proofs.Common.{ℕ, List, ◌++◌, take}
 use Rattle.snoop_counts.specs.BlockTally.{CountsBlocks}
 use Rattle.snoop_counts.specs.declared.count.Happening.{Happening}
-use Rattle.snoop_counts.specs.declared.count.Happening.TheVariants.{Line}
-use Rattle.snoop_counts.proofs.block_tally.BlockTally.add_lines.Given as goal
+use Rattle.snoop_counts.proofs.block_tally.BlockTally.add_all.Given as goal
 
--- the lines so far are counted
-abbrev pub invariant-loop-line : goal.invariant-loop-line
-invariant-loop-line l = (blocks : ℕ) (seen : List Happening) → CountsBlocks blocks seen l.fn.self → CountsBlocks blocks (seen ++ map (Line l.step l.outcome) (take l.line-index l.lines)) l.self
+-- those so far are counted
+abbrev pub invariant-loop-happening : goal.invariant-loop-happening
+invariant-loop-happening l = (blocks : ℕ) (seen : List Happening) → CountsBlocks blocks seen l.fn.self → CountsBlocks blocks (seen ++ take l.happening-index l.happenings) l.self
