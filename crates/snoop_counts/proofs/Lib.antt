@@ -4,3 +4,4 @@ pub mod ViewLemmas
 pub mod SharerLemmas
 pub mod BlockLemmas
 pub mod CauseLemmas
+pub mod WindowLemmas

@@ -14,7 +14,7 @@ nothing_shown before (f ∷ fs) = nothing_shown (before ++ f ∷ []) fs
 pub quiet_view : (ending : List Frame → Situation → List ℕ) (frames : List Frame) (final : Situation) → view_text [] (λ (fs : List Frame) (f : Frame). []) ending frames final ≡ ending frames final
 quiet_view ending frames final = ap (λ (t : List ℕ). t ++ ending frames final) (nothing_shown [] frames)
 
-seen_on : (earlier frames : List Frame) (frame : Frame) → seen_after earlier (frames ++ frame ∷ []) ≡ seen_after earlier frames ++ seen_in (earlier ++ frames) frame
+pub seen_on : (earlier frames : List Frame) (frame : Frame) → seen_after earlier (frames ++ frame ∷ []) ≡ seen_after earlier frames ++ seen_in (earlier ++ frames) frame
 seen_on earlier [] frame = append-nil (seen_in earlier frame) ∙ ap (λ (l : List Frame). seen_in l frame) (sym (append-nil earlier))
 seen_on earlier (f ∷ fs) frame =
     ap (λ (l : List Happening). seen_in earlier f ++ l)

@@ -11,16 +11,12 @@ use Rattle.snoop_engine.specs.Frames.{Frame}
 use Rattle.snoop_counts.specs.CoreTable.{count_fields}
 use Rattle.snoop_counts.specs.Counted.{counted_of, is_named}
 use Rattle.snoop_counts.specs.Happenings.{happenings}
-use Rattle.snoop_counts.specs.Sharers.{is_shared_by}
+use Rattle.snoop_counts.specs.Sharers.{sharers}
 use Rattle.snoop_counts.specs.declared.ranking.Ranked.{Ranked}
 use Rattle.snoop_counts.specs.declared.count.Count.{Count}
 use Rattle.snoop_counts.specs.declared.count.Count.TheVariants as count
 use Rattle.snoop_counts.specs.declared.count.Happening.{Happening}
 use Rattle.snoop_counts.specs.declared.count.Subjects.TheVariants.{Blocks}
-
--- for how many of so many cores something of the block is counted
-abbrev pub sharers : Count → ℕ → List Happening → ℕ → ℕ
-sharers counted cores seen block = length (filter (is_shared_by counted seen block) (range_with_len 0 cores))
 
 -- the names of the fields
 abbrev pub block_header : List ℕ
@@ -36,7 +32,7 @@ block_counts =
 -- how many cores a line of the block names, how many performed a load of it, and how many a store
 abbrev pub sharing_fields : ℕ → List Happening → ℕ → List ℕ
 sharing_fields cores seen block =
-    codes "," ++ decimal (sharers count.Lines cores seen block) ++ codes "," ++ decimal (sharers count.Loads cores seen block) ++ codes "," ++ decimal (sharers count.Stores cores seen block)
+    codes "," ++ decimal (sharers Blocks count.Lines cores seen block) ++ codes "," ++ decimal (sharers Blocks count.Loads cores seen block) ++ codes "," ++ decimal (sharers Blocks count.Stores cores seen block)
 
 -- the line of a block
 abbrev pub block_line : Extent → List Happening → ℕ → List ℕ

@@ -1,13 +1,13 @@
 -- Why a core had no copy at a miss.
 -- Source: this project's profile.
-use Rattle.std.specs.Prelude.{ℕ, ◌-◌, ◌==◌, ◌&&◌, Bool, not, List, length, false, nat_lt, reverse, slice_get, Option, Some, None, if◌then◌else◌}
+use Rattle.std.specs.Prelude.{ℕ, ◌-◌, ◌&&◌, Bool, List, length, false, nat_lt, reverse, slice_get, Option, Some, None, if◌then◌else◌}
 use Rattle.std.specs.List.{list_any, position_or_len}
 use Rattle.std.specs.Option.{option_map_or}
 use Rattle.snoop_rules.specs.declared.names.CacheEvent.{CacheEvent}
 use Rattle.snoop_rules.specs.declared.names.CacheState.{CacheState}
 use Rattle.snoop_history.specs.declared.items.Did.{Did}
 use Rattle.snoop_history.specs.declared.items.Item.{Item}
-use Rattle.snoop_history.specs.History.{operation_of}
+use Rattle.snoop_history.specs.History.{is_store_to, operation_of}
 use Rattle.snoop_engine.specs.Frames.{Frame}
 use Rattle.snoop_engine.specs.Taken.{lines_of}
 use Rattle.snoop_engine.specs.declared.taken.Taken.{Taken}
@@ -40,13 +40,9 @@ item_of frame = slice_get frame.after.log (length frame.before.log)
 abbrev pub operation_in : Frame → Option Did
 operation_in frame = option_map_or operation_of (item_of frame) None
 
--- the operation is a store to the word of the block
-abbrev pub stores_to : ℕ → ℕ → Did → Bool
-stores_to block word did = not did.load && did.block == block && did.word == word
-
 -- in the step the word of the block is stored to
 abbrev pub is_stored_to : ℕ → ℕ → Frame → Bool
-is_stored_to block word frame = option_map_or (stores_to block word) (operation_in frame) false
+is_stored_to block word frame = option_map_or (is_store_to block word) (operation_in frame) false
 
 -- the core has lost its copy later than it has given one up
 abbrev pub has_lost : List Frame → ℕ → ℕ → Bool

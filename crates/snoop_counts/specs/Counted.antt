@@ -1,6 +1,6 @@
 -- What is counted of a run: the items, the rows and the refused steps of each count.
 -- Source: "A Primer on Memory Consistency and Cache Coherence", 2nd edition, chapter 7, whose rows they are; which of them are counted together is this project's profile.
-use Rattle.std.specs.Prelude.{ℕ, ◌==◌, ◌&&◌, ◌||◌, Bool, true, false, not, is_some, is_none, List, filter, length, nat_lt, Option, Some, None, Result, Ok, Err}
+use Rattle.std.specs.Prelude.{ℕ, ◌+◌, ◌*◌, ◌^◌, ◌==◌, ◌&&◌, ◌||◌, Bool, true, false, not, is_some, is_none, List, filter, length, nat_lt, Option, Some, None, Result, Ok, Err, if◌then◌else◌}
 use Rattle.std.specs.Option.{option_map_or}
 use Rattle.snoop_trace.specs.declared.step.Step.TheVariants.{Order}
 use Rattle.snoop_rules.specs.declared.names.CacheEvent.{CacheEvent}
@@ -10,6 +10,7 @@ use Rattle.snoop_rules.specs.declared.names.CacheState.TheVariants.{IsD, ImD, S,
 use Rattle.snoop_history.specs.declared.items.Came.{Came}
 use Rattle.snoop_history.specs.declared.items.Item.{Item}
 use Rattle.snoop_history.specs.declared.items.Item.TheVariants as item
+use Rattle.snoop_history.specs.History.{operation_of}
 use Rattle.snoop_history.specs.Totals.{capped, is_data, is_get_m, is_get_s, is_no_data, is_no_data_e, is_put_m, ordered, performed, responded}
 use Rattle.snoop_history.specs.Within.{block_of, core_of}
 use Rattle.snoop_model.specs.declared.replies.Reply.{Reply}
@@ -123,6 +124,7 @@ counts_item count.Writebacks = responded (λ came. is_put_m came.request && is_d
 counts_item count.Clean = responded (λ came. is_put_m came.request && is_no_data_e came.payload)
 counts_item count.Stale = responded (λ came. is_put_m came.request && is_no_data came.payload)
 counts_item count.Supplied = responded is_from_cache
+counts_item count.Operations = performed (λ did. true)
 counts_item _ = λ entry. false
 
 -- the rows of a core that a count counts
@@ -198,6 +200,19 @@ abbrev pub own_block : Happening → Option ℕ
 own_block (happening.Item entry) = Some (block_of entry)
 own_block (happening.Line step outcome line why) = block_named line
 
+-- the place of a word of a block among all words, where a block has so many
+abbrev pub place_of_word : ℕ → ℕ → ℕ → ℕ
+place_of_word words block word = block * words + word
+
+-- a place that a number of 32 bits can name
+abbrev pub named_place : ℕ → Option ℕ
+named_place place = if nat_lt place (2 ^ 32) then Some place else None
+
+-- the place of the word of the operation that an item performs
+abbrev pub own_word : ℕ → Happening → Option ℕ
+own_word words (happening.Item entry) = option_map_or (λ did. named_place (place_of_word words did.block did.word)) (operation_of entry) None
+own_word words (happening.Line step outcome line why) = None
+
 -- the core whose Order the line is of
 abbrev pub requestor_of : Happening → Option ℕ
 requestor_of (happening.Line (Order core) outcome line why) = Some core
@@ -218,6 +233,7 @@ core_counted _ = own_core
 abbrev pub subject_of : Subjects → Count → Happening → Option ℕ
 subject_of subjects.Cores counted = core_counted counted
 subject_of subjects.Blocks counted = own_block
+subject_of (subjects.Words words) counted = own_word words
 subject_of subjects.Machine counted = λ seen. Some 0
 
 -- it is the subject

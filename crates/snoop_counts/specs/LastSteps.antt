@@ -4,9 +4,10 @@ use Rattle.std.specs.Prelude.{◌≡◌, ℕ, Bool, false, List, Option, slice_g
 use Rattle.std.specs.List.{list_any}
 use Rattle.std.specs.Option.{option_map_or}
 use Rattle.snoop_history.specs.declared.items.Did.{Did}
+use Rattle.snoop_history.specs.History.{is_store_to}
 use Rattle.snoop_engine.specs.Frames.{Frame}
 use Rattle.snoop_engine.specs.declared.taken.Taken.{Taken}
-use Rattle.snoop_counts.specs.Causes.{gives_up, is_stored_to, last_step, loses, stores_to, takes_row}
+use Rattle.snoop_counts.specs.Causes.{gives_up, is_stored_to, last_step, loses, takes_row}
 use Rattle.snoop_counts.specs.Counted.{is_giving_up, is_loss}
 use Rattle.snoop_counts.specs.declared.copies.Copies.{Copies}
 use Rattle.snoop_counts.specs.declared.last_steps.LastSteps.{LastSteps}
@@ -30,7 +31,7 @@ pub record MarksLines (number : ℕ) (lines : List Taken) (old new : Copies) : T
 pub record MarksStore (number : ℕ) (operation : Option Did) (old new : Copies) : Type 0 where
   pub given_up : new.given_up ≡ old.given_up
   pub lost : new.lost ≡ old.lost
-  pub stored : Marks (λ block word. option_map_or (stores_to block word) operation false) number old.stored new.stored
+  pub stored : Marks (λ block word. option_map_or (is_store_to block word) operation false) number old.stored new.stored
 
 -- the numbers are those of the last steps that pass the test
 pub record HasLastSteps (test : ℕ → ℕ → Frame → Bool) (frames : List Frame) (last : LastSteps) : Type 0 where

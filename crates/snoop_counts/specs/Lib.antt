@@ -8,3 +8,6 @@ pub mod Views
 pub mod Sharers
 pub mod ByBlock
 pub mod BlockTally
+pub mod BySteps
+pub mod WordTally
+pub mod ByWord

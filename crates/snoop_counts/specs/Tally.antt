@@ -43,6 +43,7 @@ number count.BusTaken = 26
 number count.NothingWaiting = 27
 number count.NoTransaction = 28
 number count.Lines = 29
+number count.Operations = 30
 
 -- all counts, by their places
 abbrev pub all_counts : List Count
@@ -50,7 +51,7 @@ all_counts =
     count.Loads ∷ count.LoadHits ∷ count.Stores ∷ count.StoreHits ∷ count.GetS ∷ count.GetM ∷ count.PutM ∷ count.FromMemory ∷ count.FromCaches ∷ count.Writebacks ∷ count.Clean ∷ count.Stale
     ∷ count.Misses ∷ count.Cold ∷ count.GivenUp ∷ count.TrueSharing ∷ count.FalseSharing
     ∷ count.Upgrades ∷ count.UpgradesLost ∷ count.Invalidated ∷ count.Taken ∷ count.Downgraded ∷ count.Overtaken ∷ count.Invalidates ∷ count.Supplied
-    ∷ count.Stalled ∷ count.BusTaken ∷ count.NothingWaiting ∷ count.NoTransaction ∷ count.Lines ∷ []
+    ∷ count.Stalled ∷ count.BusTaken ∷ count.NothingWaiting ∷ count.NoTransaction ∷ count.Lines ∷ count.Operations ∷ []
 
 -- what a row has of a count
 abbrev pub counter_in : Counters → Count → ℕ
@@ -58,7 +59,7 @@ counter_in row counted = slice_index row.counters (number counted)
 
 -- a row that has counted nothing
 abbrev pub empty_row : Counters
-empty_row = record { counters = replicate 30 0 }
+empty_row = record { counters = replicate 31 0 }
 
 -- the row with one more of a count; a counter stops at the largest u64
 abbrev pub raised_row : Count → Counters → Counters
@@ -78,7 +79,7 @@ row_at rows subject = slice_index_or rows subject empty_row
 
 -- the rows say how often each count was counted for each subject
 pub record Tallies (whose : Subjects) (rows : List Counters) (seen : List Happening) : Type 0 where
-  pub long : (subject : ℕ) → subject < length rows → length (row_at rows subject).counters ≡ 30
+  pub long : (subject : ℕ) → subject < length rows → length (row_at rows subject).counters ≡ 31
   pub counted : (subject : ℕ) (counted : Count) → subject < length rows → counter_in (row_at rows subject) counted ≡ counted_of whose seen subject counted
 
 -- the tally is of these subjects, of which there are so many, and has counted what has happened

@@ -1,7 +1,7 @@
 //! What the table by block counts.
 ghost use Rattle.std.specs.Prelude.{◌≡◌, ◌<◌, ◌≤◌, ◌++◌, ◌∷◌, [], ℕ, List, IfOk};
 ghost use Rattle.snoop_counts.specs.BlockTally.{CountsBlocks};
-ghost use Rattle.snoop_counts.specs.ByBlock.{sharers};
+ghost use Rattle.snoop_counts.specs.Sharers.{sharers};
 ghost use Rattle.snoop_counts.specs.Tally.{IsRowOf};
 ghost use Rattle.snoop_counts.specs.declared.count.Count.TheVariants as count;
 ghost use Rattle.snoop_counts.specs.declared.count.Happening.{Happening as Seen};
@@ -29,9 +29,9 @@ impl BlockTally {
     {
         Ok(BlockTally {
             tally: Tally::new(alloc, Subjects::Blocks, blocks)?,
-            named: Sharers::new(alloc, Count::Lines, blocks)?,
-            readers: Sharers::new(alloc, Count::Loads, blocks)?,
-            writers: Sharers::new(alloc, Count::Stores, blocks)?,
+            named: Sharers::new(alloc, Subjects::Blocks, Count::Lines, blocks)?,
+            readers: Sharers::new(alloc, Subjects::Blocks, Count::Loads, blocks)?,
+            writers: Sharers::new(alloc, Subjects::Blocks, Count::Stores, blocks)?,
         })
     }
 
@@ -63,21 +63,21 @@ impl BlockTally {
 
     /// How many of so many cores a line of the block names.
     pub(crate) fn cores(&self, block: u32, cores: u32) -> u64
-        ensures { (blocks : ℕ) (seen : List Seen) → CountsBlocks blocks seen self.now → block < blocks → cores ≤ 256 → result ≡ sharers count.Lines cores seen block }
+        ensures { (blocks : ℕ) (seen : List Seen) → CountsBlocks blocks seen self.now → block < blocks → cores ≤ 256 → result ≡ sharers Blocks count.Lines cores seen block }
     {
         self.named.of(block, cores)
     }
 
     /// How many of them performed a load of it.
     pub(crate) fn readers(&self, block: u32, cores: u32) -> u64
-        ensures { (blocks : ℕ) (seen : List Seen) → CountsBlocks blocks seen self.now → block < blocks → cores ≤ 256 → result ≡ sharers count.Loads cores seen block }
+        ensures { (blocks : ℕ) (seen : List Seen) → CountsBlocks blocks seen self.now → block < blocks → cores ≤ 256 → result ≡ sharers Blocks count.Loads cores seen block }
     {
         self.readers.of(block, cores)
     }
 
     /// How many of them performed a store in it.
     pub(crate) fn writers(&self, block: u32, cores: u32) -> u64
-        ensures { (blocks : ℕ) (seen : List Seen) → CountsBlocks blocks seen self.now → block < blocks → cores ≤ 256 → result ≡ sharers count.Stores cores seen block }
+        ensures { (blocks : ℕ) (seen : List Seen) → CountsBlocks blocks seen self.now → block < blocks → cores ≤ 256 → result ≡ sharers Blocks count.Stores cores seen block }
     {
         self.writers.of(block, cores)
     }

@@ -66,17 +66,19 @@ impl Copies {
     pub(crate) fn cause_of(&self, operation: Option<Did>, line: Taken) -> Option<Cause>
         ensures { (frames : List Frame) → Follows frames self.now → result ≡ cause_of frames operation line }
     {
-        match line {
-            Taken::Core {
-                core,
-                block,
-                event: Some(event),
-                before,
-            } if is_miss(before, event) => {
-                Some(self.cause_of_miss(block, core, word_of(operation)))
-            }
-            _ => None,
+        let Taken::Core {
+            core,
+            block,
+            event: Some(event),
+            before,
+        } = line
+        else {
+            return None;
+        };
+        if !is_miss(before, event) {
+            return None;
         }
+        Some(self.cause_of_miss(block, core, word_of(operation)))
     }
 
     // Writes what a line says of a copy.

@@ -67,6 +67,8 @@ pub(crate) enum Count {
     NoTransaction,
     /// Lines of steps. No field has them: whoever has none is left out.
     Lines,
+    /// Operations that were performed. No field has them: they say which blocks and words are shared.
+    Operations,
 }
 
 /// Why a core had no copy at a miss: how its last one went.
@@ -99,6 +101,8 @@ pub(crate) enum Happening {
 pub(crate) enum Subjects {
     Cores,
     Blocks,
+    /// The words of all blocks, of which each has so many.
+    Words(u32),
     /// All of the machine's, as one.
     Machine,
 }

@@ -1,6 +1,8 @@
 //! Counters, a row of them for each core or block.
-ghost use Rattle.std.specs.Prelude.{◌≡◌, ◌<◌, ◌++◌, ◌∷◌, [], ℕ, List, IfOk};
-ghost use Rattle.snoop_counts.specs.Tally.{HasCounted, IsRowOf, counter_in, raised, raised_by, raised_row};
+ghost use Rattle.std.specs.Prelude.{◌≡◌, ◌<◌, ◌++◌, ◌∷◌, [], ℕ, List, IfOk, IsSomeAnd};
+ghost use Rattle.snoop_counts.specs.Counted.{counted_of};
+ghost use Rattle.snoop_counts.specs.Tally.{HasCounted, IsRowOf, counter_in, empty_row, raised, raised_by, raised_row};
+ghost use Rattle.snoop_counts.specs.declared.count.Count.{Count as Counted};
 ghost use Rattle.snoop_counts.specs.declared.count.Happening.{Happening};
 ghost use Rattle.snoop_counts.specs.declared.count.Subjects.{Subjects};
 
@@ -11,7 +13,7 @@ use snoop_trace::NoMemory;
 use std::alloc::Global;
 
 // All counts, by their places in a row.
-static COUNTS: [Count; 30] = [
+static COUNTS: [Count; 31] = [
     Count::Loads,
     Count::LoadHits,
     Count::Stores,
@@ -42,15 +44,23 @@ static COUNTS: [Count; 30] = [
     Count::NothingWaiting,
     Count::NoTransaction,
     Count::Lines,
+    Count::Operations,
 ];
 
 /// A counter for each count.
 #[derive(Clone, Copy, Debug)]
 pub(crate) struct Counters {
-    counters: [u64; 30],
+    counters: [u64; 31],
 }
 
 impl Counters {
+    // Nothing is counted yet.
+    fn none() -> Counters
+        ensures { result ≡ empty_row }
+    {
+        Counters { counters: [0; 31] }
+    }
+
     /// Counts one more; the counter stops at the largest `u64`.
     fn raise(&mut self, count: Count)
         ensures { self.new ≡ raised_row count self.old }
@@ -79,11 +89,18 @@ impl Tally {
     pub(crate) fn new(alloc: Global, subjects: Subjects, count: u32) -> Result<Self, NoMemory>
         ensures { IfOk result (HasCounted subjects count []) }
     {
-        let empty = Counters { counters: [0; 30] };
-        match BlockTable::new(alloc, count, empty) {
+        match BlockTable::new(alloc, count, Counters::none()) {
             Ok(rows) => Ok(Tally { subjects, rows }),
             Err(_) => Err(NoMemory),
         }
+    }
+
+    /// The counters of a subject.
+    pub(crate) fn row(&self, subject: u32) -> Option<Counters>
+        ensures { (whose : Subjects) (many : ℕ) (seen : List Happening) → HasCounted whose many seen self.now → subject < many
+            → IsSomeAnd result (λ row. (counted : Counted) → counter_in row counted ≡ counted_of whose seen subject counted) }
+    {
+        self.rows.get(subject)
     }
 
     /// The counters of a subject, if a line names it.
@@ -93,6 +110,15 @@ impl Tally {
         self.rows
             .get(subject)
             .filter(|row| row.of(Count::Lines) > 0)
+    }
+
+    /// Nothing is counted yet, for one subject.
+    pub(crate) fn restart(&mut self)
+        ensures { (whose : Subjects) (seen : List Happening) → HasCounted whose 1 seen self.old → HasCounted whose 1 [] self.new }
+    {
+        if self.rows.get(0).is_some() {
+            self.rows.set(0, Counters::none());
+        }
     }
 
     // Counts one more for the subject.

@@ -1,7 +1,9 @@
 //! What can be counted of each step of a run.
-ghost use Rattle.std.specs.Prelude.{◌≡◌, ◌++◌, ◌∷◌, [], List, OnOk, map};
+ghost use Rattle.std.specs.Prelude.{◌≡◌, ◌++◌, ◌∷◌, [], List, None, OnOk, map, option_to_list};
+ghost use Rattle.std.specs.Option.{option_map_or};
 ghost use Rattle.snoop_trace.specs.Extent.{Extent};
 ghost use Rattle.snoop_trace.specs.declared.protocol.Protocol.{Protocol};
+ghost use Rattle.snoop_history.specs.History.{operation_of};
 ghost use Rattle.snoop_model.specs.Pictures.Situation.{Situation};
 ghost use Rattle.snoop_engine.specs.Frames.{Frame};
 ghost use Rattle.snoop_engine.specs.Views.{IsNext, frame_seen};
@@ -13,10 +15,68 @@ ghost use Rattle.snoop_counts.specs.declared.count.Happening.TheVariants as happ
 
 use crate::copies::Copies;
 use crate::count::Happening;
-use snoop_engine::Seen;
+use snoop_engine::{Seen, Taken};
 use snoop_history::{Did, Item, Log};
-use snoop_trace::NoMemory;
+use snoop_machine::{Refused, Reply};
+use snoop_trace::{NoMemory, Step};
 use std::alloc::Global;
+
+// The operation that an item performs, if any.
+fn operation_of(item: Option<Item>) -> Option<Did>
+    ensures { result ≡ option_map_or operation_of item None }
+{
+    match item {
+        None => None,
+        Some(item) => item.did(),
+    }
+}
+
+fn push(all: &mut Vec<Happening>, happening: Happening) -> Result<(), NoMemory>
+    ensures { OnOk result (all.new.items ≡ all.old.items ++ happening ∷ []) }
+{
+    match all.push(happening) {
+        Ok(()) => Ok(()),
+        Err(_) => Err(NoMemory),
+    }
+}
+
+// Writes the lines of a step anew, with the causes of misses.
+fn write_lines(
+    all: &mut Vec<Happening>,
+    copies: &Copies,
+    step: Step,
+    outcome: Result<Reply, Refused>,
+    lines: &[Taken],
+    operation: Option<Did>,
+) -> Result<(), NoMemory>
+    ensures { (frames : List Frame) → Follows frames copies.now → OnOk result (all.new.items ≡ map (λ line. happening.Line step outcome line (cause_of frames operation line)) lines.now) }
+{
+    all.clear();
+    for line in lines {
+        let line = *line;
+        let cause = copies.cause_of(operation, line);
+        push(
+            all,
+            Happening::Line {
+                step,
+                outcome,
+                line,
+                cause,
+            },
+        )?;
+    }
+    Ok(())
+}
+
+// Appends an item, if there is one.
+fn push_item(all: &mut Vec<Happening>, item: Option<Item>) -> Result<(), NoMemory>
+    ensures { OnOk result (all.new.items ≡ all.old.items ++ map happening.Item (option_to_list item)) }
+{
+    match item {
+        None => Ok(()),
+        Some(item) => push(all, Happening::Item(item)),
+    }
+}
 
 /// Follows a run, and says of its last step what can be counted.
 #[derive(Drop)]
@@ -40,36 +100,6 @@ impl Watch {
         }
     }
 
-    fn push(&mut self, happening: Happening) -> Result<(), NoMemory>
-        ensures seen { OnOk result (self.new.seen.items ≡ self.old.seen.items ++ happening ∷ []) }
-        ensures copies { self.new.copies ≡ self.old.copies }
-        ensures items { self.new.items ≡ self.old.items }
-    {
-        match self.seen.push(happening) {
-            Ok(()) => Ok(()),
-            Err(_) => Err(NoMemory),
-        }
-    }
-
-    // Appends the lines of the step, with the causes of misses.
-    fn push_lines(&mut self, seen: Seen<'_>, operation: Option<Did>) -> Result<(), NoMemory>
-        ensures seen { (frames : List Frame) → Follows frames self.old.copies
-            → OnOk result (self.new.seen.items ≡ self.old.seen.items ++ map (λ line. happening.Line seen.entry.step seen.entry.outcome line (cause_of frames operation line)) seen.entry.lines.now) }
-        ensures copies { self.new.copies ≡ self.old.copies }
-        ensures items { self.new.items ≡ self.old.items }
-    {
-        for line in seen.lines {
-            let cause = self.copies.cause_of(operation, *line);
-            self.push(Happening::Line {
-                step: seen.step,
-                outcome: seen.outcome,
-                line: *line,
-                cause,
-            })?;
-        }
-        Ok(())
-    }
-
     /// Sees the next step, after which the history is this.
     pub(crate) fn see(&mut self, log: &Log, seen: Seen<'_>) -> Result<(), NoMemory>
         ensures { (protocol : Protocol) (shape : Extent) (frames : List Frame) (before after : Situation)
@@ -78,13 +108,17 @@ impl Watch {
             × (self.new.seen.items ≡ seen_in frames (frame_seen before seen.entry after))) }
     {
         let item = log.item(self.items);
-        let operation = item.and_then(Item::did);
+        let operation = operation_of(item);
         self.items = log.len();
-        self.seen.clear();
-        self.push_lines(seen, operation)?;
-        if let Some(item) = item {
-            self.push(Happening::Item(item))?;
-        }
+        write_lines(
+            &mut self.seen,
+            &self.copies,
+            seen.step,
+            seen.outcome,
+            seen.lines,
+            operation,
+        )?;
+        push_item(&mut self.seen, item)?;
         self.copies.follow(seen.number, seen.lines, operation)
     }
 

@@ -1,8 +1,12 @@
 //! Each table, of a worked text.
 
-use snoop_counts::{simulate_counts_by_block, simulate_counts_by_core};
+use snoop_counts::{
+    simulate_counts_by_block, simulate_counts_by_core, simulate_counts_by_steps,
+    simulate_counts_by_word,
+};
 use snoop_rules::Protocol;
 use snoop_trace::Shape;
+use std::num::NonZeroU64;
 use std::test::Fail;
 
 /// Two cores store, and each has a copy to read: core 0's upgrade is lost.
@@ -38,6 +42,29 @@ const SHARED_FALSELY_BY_CORE: &str = "\
 core,loads,load_hits,stores,store_hits,gets,getm,putm,from_memory,from_caches,writebacks,clean,stale,misses,cold,given_up,true_sharing,false_sharing,upgrades,upgrades_lost,invalidated,taken,downgraded,overtaken,invalidates,supplied,stalled,bus_taken,nothing_waiting
 0,0,0,2,0,0,2,0,1,1,0,0,0,2,1,0,0,1,0,0,0,1,1,0,0,2,0,0,0
 1,2,1,1,0,1,1,0,0,2,0,0,0,2,1,0,1,0,0,0,0,1,0,0,0,1,0,0,0
+";
+
+const SHARED_FALSELY_BY_WORD: &str = "\
+block,word,address,cores,readers,writers,loads,load_hits,stores,store_hits
+0,0,0,2,1,1,1,0,2,0
+0,1,8,1,1,1,1,1,1,0
+0,2,16,0,0,0,0,0,0,0
+0,3,24,0,0,0,0,0,0,0
+0,4,32,0,0,0,0,0,0,0
+0,5,40,0,0,0,0,0,0,0
+0,6,48,0,0,0,0,0,0,0
+0,7,56,0,0,0,0,0,0,0
+";
+
+/// No block has two cores.
+const NO_WORDS: &str = "block,word,address,cores,readers,writers,loads,load_hits,stores,store_hits\n";
+
+/// The race, for each six steps: the last line has one.
+const RACE_BY_STEPS: &str = "\
+first,last,loads,load_hits,stores,store_hits,gets,getm,putm,from_memory,from_caches,writebacks,clean,stale,misses,cold,given_up,true_sharing,false_sharing,upgrades,upgrades_lost,invalidated,taken,downgraded,overtaken,invalidates,supplied,stalled,bus_taken,nothing_waiting,no_transaction
+1,6,2,0,0,0,2,0,0,2,0,0,0,0,2,2,0,0,0,0,0,0,0,0,0,0,0,0,0,0,0
+7,12,0,0,1,0,0,2,0,1,0,0,0,0,0,0,0,0,0,1,1,1,1,0,0,1,0,0,1,0,0
+13,13,0,0,1,0,0,0,0,0,1,0,0,0,1,0,0,1,0,0,0,0,0,0,0,0,1,0,0,0,0
 ";
 
 /// Core 0 evicts a block, but core 1's load of it is ordered first; core 1 evicts it too. Then each asks for it again.
@@ -109,6 +136,48 @@ fn causes_of_copies_that_were_given_up(rt: HostRuntime) -> Result<(), Fail> {
     simulate_counts_by_block(alloc, &mut text, &mut out, Protocol::Msi, shape, None)?;
     if out.as_slice() != GIVEN_UP_BY_BLOCK.as_bytes() {
         return Err("by block")?;
+    }
+    Ok(())
+}
+
+#[test]
+fn counts_of_shared_words(rt: HostRuntime) -> Result<(), Fail> {
+    let alloc = rt.alloc();
+    let shape = Shape::with_words(2, 4, 64, 8)?;
+    let mut text = SHARED_FALSELY.as_bytes();
+    let mut out = Vec::new(alloc);
+    simulate_counts_by_word(alloc, &mut text, &mut out, Protocol::Msi, shape)?;
+    if out.as_slice() != SHARED_FALSELY_BY_WORD.as_bytes() {
+        return Err("by word")?;
+    }
+    Ok(())
+}
+
+#[test]
+fn words_of_no_shared_block(rt: HostRuntime) -> Result<(), Fail> {
+    let alloc = rt.alloc();
+    let shape = Shape::new(2, 4, 64)?;
+    let mut text = TWO_BLOCKS.as_bytes();
+    let mut out = Vec::new(alloc);
+    simulate_counts_by_word(alloc, &mut text, &mut out, Protocol::Msi, shape)?;
+    if out.as_slice() != NO_WORDS.as_bytes() {
+        return Err("by word")?;
+    }
+    Ok(())
+}
+
+#[test]
+fn counts_of_each_six_steps(rt: HostRuntime) -> Result<(), Fail> {
+    let alloc = rt.alloc();
+    let shape = Shape::new(2, 4, 64)?;
+    let Some(six) = NonZeroU64::new(6) else {
+        return Err("six")?;
+    };
+    let mut text = RACE.as_bytes();
+    let mut out = Vec::new(alloc);
+    simulate_counts_by_steps(alloc, &mut text, &mut out, Protocol::Msi, shape, six)?;
+    if out.as_slice() != RACE_BY_STEPS.as_bytes() {
+        return Err("by steps")?;
     }
     Ok(())
 }

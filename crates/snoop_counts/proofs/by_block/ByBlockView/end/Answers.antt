@@ -15,4 +15,4 @@ returns-in-Some c first frames has run =
     let same : c.shape.result ≡ machine.shape = c.shape.ensures in
     on_ok_weaker c.push_block_table.result
     (λ e. e ∙ ap (λ (s : Extent). out ++ block_table s c.args.self.now.top all) same ∙ ap (λ (top : Option ℕ). out ++ block_table machine.shape top all) has.0)
-    (c.push_block_table.ensures all (subst (λ (s : Extent). CountsBlocks s.blocks all c.in-Some.tally.now) (sym same) (rw c.in-Some.is at has.1.1)))
+    (c.push_block_table.ensures all (subst (λ (s : Extent). CountsBlocks s.blocks all c.in-Some.tally) (sym same) (rw c.in-Some.is at has.1.1)))

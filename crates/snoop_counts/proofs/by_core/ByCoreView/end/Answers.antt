@@ -13,4 +13,4 @@ returns-in-Some c first frames has run =
     let all = happenings frames in
     let same : machine.shape.cores ≡ c.cores.result = sym (c.cores.ensures.value ∙ ap (λ (s : Extent). s.cores) c.shape.ensures) in
     on_ok_weaker c.push_core_table.result (λ e. e ∙ ap (λ (n : ℕ). c.args.out.now.items ++ core_table n all) (sym same))
-    (c.push_core_table.ensures all (subst (λ (n : ℕ). HasCounted Cores n all c.in-Some.tally.now) same (rw c.in-Some.is at has.1)))
+    (c.push_core_table.ensures all (subst (λ (n : ℕ). HasCounted Cores n all c.in-Some.tally) same (rw c.in-Some.is at has.1)))
