@@ -5,3 +5,5 @@ pub mod SharerLemmas
 pub mod BlockLemmas
 pub mod CauseLemmas
 pub mod WindowLemmas
+pub mod LawLemmas
+pub mod TotalLemmas

@@ -59,6 +59,9 @@ module _ (every : ℕ) (some : 0 < every) (frames : List Frame) (frame : Frame) 
     left_is : number % every ≡ (length frames + 1) % every
     left_is = ap (λ (k : ℕ). k % every) (is ∙ omega arith)
 
+    pub numbered : number ≡ length next
+    numbered = is ∙ sym (longer ∙ omega arith)
+
     -- no line yet
     pub goes_on : (number % every ≡ 0 → ⊥) → seen_last (length frames % every) frames ++ seen_in frames frame ≡ seen_last (length next % every) next
     goes_on not = counted_more ∙ elim (left_over (length frames) every some) [
@@ -92,11 +95,11 @@ none_begun size =
     ap (λ (l : List Frame). seen_after (take k []) l) (drop_all k [] (omega arith))
 
 -- the steps that are left over at the end
-pub left_line : (every : ℕ) (frames : List Frame) (final : Situation) (steps get : ℕ) → steps ≡ length frames → get ≡ every → 0 < steps % get
-    → steps_fields (steps - (steps % get - 1)) steps (seen_last (length frames % every) frames) ≡ steps_left every frames final
-left_line every frames final steps get is same some =
+pub left_line : (every : ℕ) (frames : List Frame) (final : Situation) (steps get first : ℕ) → steps ≡ length frames → get ≡ every → 0 < steps % get → first ≡ steps - (steps % get - 1)
+    → steps_fields first steps (seen_last (length frames % every) frames) ≡ steps_left every frames final
+left_line every frames final steps get first is same some begins =
     let left : steps % get ≡ length frames % every = λ i. is i % same i in
-    let from : steps - (steps % get - 1) ≡ length frames + 1 - length frames % every = omega (arith, is, left, some) in
+    let from : first ≡ length frames + 1 - length frames % every = omega (arith, is, left, some, begins) in
     let more : length frames % every ≡ 0 → ⊥ = λ e. let none : steps % get ≡ 0 = left ∙ e in omega arith in
     (λ i. steps_fields (from i) (is i) (seen_last (length frames % every) frames))
     ∙ ap (λ (b : Bool). if b then [] else steps_line (length frames % every) frames) (sym (ne_eqb (length frames % every) 0 more))

@@ -11,3 +11,4 @@ pub mod BlockTally
 pub mod BySteps
 pub mod WordTally
 pub mod ByWord
+pub mod Laws

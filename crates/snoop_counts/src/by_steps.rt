@@ -1,5 +1,5 @@
 //! The view of the counts of each so many steps.
-ghost use Rattle.std.specs.Prelude.{◌≡◌, ◌≢◌, ◌++◌, ◌∷◌, [], true, Err, List, OnOk, codes};
+ghost use Rattle.std.specs.Prelude.{◌≡◌, ◌≢◌, ◌-◌, ◌++◌, ◌∷◌, [], true, Err, List, OnOk, codes};
 ghost use Rattle.std.specs.Fmt.{decimal};
 ghost use Rattle.std.specs.Int.NonZero.{non_zero_u64_get};
 ghost use Rattle.snoop_trace.specs.Output.{BlamesWriter};
@@ -68,6 +68,13 @@ struct BySteps {
     tally: Option<Tally>,
 }
 
+// The number of the first of so many steps, by that of the last.
+fn first_of(last: u64, size: u64) -> u64
+    ensures { result ≡ last - (size - 1) }
+{
+    last.saturating_sub(size.saturating_sub(1))
+}
+
 // Appends the line of the steps from the first to the last.
 fn push_steps(out: &mut Vec<u8>, tally: &Tally, first: u64, last: u64) -> Result<(), NoMemory>
     ensures { (seen : List Happening) → HasCounted Whole 1 seen tally.now
@@ -125,7 +132,7 @@ impl View for BySteps {
                 if seen.number % every != 0 {
                     return Ok(());
                 }
-                push_steps(out, tally, seen.number - (every - 1), seen.number)?;
+                push_steps(out, tally, first_of(seen.number, every), seen.number)?;
                 tally.restart();
                 Ok(())
             }
@@ -136,7 +143,7 @@ impl View for BySteps {
         let left = self.steps % self.every.get();
         match &self.tally {
             Some(tally) if left > 0 => {
-                push_steps(out, tally, self.steps - (left - 1), self.steps)
+                push_steps(out, tally, first_of(self.steps, left), self.steps)
             }
             _ => Ok(()),
         }

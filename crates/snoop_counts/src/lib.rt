@@ -14,6 +14,7 @@ mod core_table;
 mod count;
 mod counted;
 mod last_steps;
+pub mod laws;
 mod ranking;
 mod sharers;
 mod tally;

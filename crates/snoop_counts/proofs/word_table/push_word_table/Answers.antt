@@ -12,6 +12,6 @@ loop-block-preserved c seen far =
 pub returns : goal.returns
 returns c seen far =
     let old : List ℕ = c.args.out.now.items in
-    let all : c.loop-block.block ≡ c.args.shape.blocks = ? in
+    let all : c.loop-block.block ≡ c.args.shape.blocks = omega (arith, c.loop-block-test.false, c.loop-block.auto.block-end, c.blocks-block-end.ensures.value) in
     c.loop-block.invariant seen far ∙ ap (λ (n : ℕ). (old ++ word_header) ++ flat_map (word_lines c.args.shape seen) (range_with_len 0 n)) all
     ∙ append_assoc old word_header (flat_map (word_lines c.args.shape seen) (range_with_len 0 c.args.shape.blocks))
