@@ -3,3 +3,7 @@ pub mod RowLemmas
 pub mod ViewLemmas
 pub mod SharerLemmas
 pub mod BlockLemmas
+pub mod CauseLemmas
+pub mod WindowLemmas
+pub mod LawLemmas
+pub mod TotalLemmas

@@ -4,11 +4,10 @@ use Rattle.std.specs.Prelude.{◌≢◌, ◌&&◌, Option, Some, None, replicate
 use Rattle.std.specs.List.{range_with_len}
 use Rattle.std.specs.Option.{option_map_or}
 use Rattle.std.proofs.lemmas.Bool.{cases_eq, eq-eqb, ne_eqb}
-use Rattle.std.proofs.lemmas.List.{get_or-map, get_or-replicate, map_more, length-replicate, length-set, take_all}
+use Rattle.std.proofs.lemmas.List.{get_or-map, get_or-replicate, length-replicate, length-set, take_more}
 use Rattle.std.proofs.lemmas.List.Elements.{filter-append}
 use Rattle.std.proofs.lemmas.List.FromFn.{get_or-range_with_len}
-use Rattle.std.proofs.lemmas.Option.{get_or_from_slice_get, none-some, slice_get-get_or, slice_get_within}
-use Rattle.snoop_history.specs.declared.items.Item.{Item}
+use Rattle.std.proofs.lemmas.Option.{slice_get-get_or}
 use Rattle.snoop_history.specs.Journal.{counted}
 use Rattle.snoop_history.specs.Totals.{capped}
 use Rattle.snoop_counts.specs.Counted.{counts, is_counted, is_it, subject_of, times}
@@ -16,7 +15,6 @@ use Rattle.snoop_counts.specs.Tally.{Tallies, all_counts, counter_in, empty_row,
 use Rattle.snoop_counts.specs.declared.count.Count.{Count}
 use Rattle.snoop_counts.specs.declared.count.Count.TheVariants as count
 use Rattle.snoop_counts.specs.declared.count.Happening.{Happening}
-use Rattle.snoop_counts.specs.declared.count.Happening.TheVariants as happening
 use Rattle.snoop_counts.specs.declared.count.Subjects.{Subjects}
 use Rattle.snoop_counts.specs.declared.tally.Counters.{Counters}
 
@@ -34,6 +32,11 @@ at_place count.FromCaches = refl
 at_place count.Writebacks = refl
 at_place count.Clean = refl
 at_place count.Stale = refl
+at_place count.Misses = refl
+at_place count.Cold = refl
+at_place count.GivenUp = refl
+at_place count.TrueSharing = refl
+at_place count.FalseSharing = refl
 at_place count.Upgrades = refl
 at_place count.UpgradesLost = refl
 at_place count.Invalidated = refl
@@ -47,9 +50,10 @@ at_place count.BusTaken = refl
 at_place count.NothingWaiting = refl
 at_place count.NoTransaction = refl
 at_place count.Lines = refl
+at_place count.Operations = refl
 
--- there are 25 places
-pub place_below : (c : Count) → number c < 25
+-- there are 31 places
+pub place_below : (c : Count) → number c < 31
 place_below count.Loads = omega arith
 place_below count.LoadHits = omega arith
 place_below count.Stores = omega arith
@@ -62,6 +66,11 @@ place_below count.FromCaches = omega arith
 place_below count.Writebacks = omega arith
 place_below count.Clean = omega arith
 place_below count.Stale = omega arith
+place_below count.Misses = omega arith
+place_below count.Cold = omega arith
+place_below count.GivenUp = omega arith
+place_below count.TrueSharing = omega arith
+place_below count.FalseSharing = omega arith
 place_below count.Upgrades = omega arith
 place_below count.UpgradesLost = omega arith
 place_below count.Invalidated = omega arith
@@ -75,13 +84,14 @@ place_below count.BusTaken = omega arith
 place_below count.NothingWaiting = omega arith
 place_below count.NoTransaction = omega arith
 place_below count.Lines = omega arith
+place_below count.Operations = omega arith
 
 -- at each place stands the count of that place
-place_of : (i : ℕ) → i < 25 → number (get_or all_counts i count.Loads) ≡ i
+place_of : (i : ℕ) → i < 31 → number (get_or all_counts i count.Loads) ≡ i
 place_of i below =
-    let numbers : map number all_counts ≡ range_with_len 0 25 = refl in
+    let numbers : map number all_counts ≡ range_with_len 0 31 = refl in
     let there : i < length all_counts = omega arith in
-    let at : get_or (range_with_len 0 25) i 0 ≡ 0 + i = get_or-range_with_len 0 25 i 0 below in
+    let at : get_or (range_with_len 0 31) i 0 ≡ 0 + i = get_or-range_with_len 0 31 i 0 below in
     sym (get_or-map number all_counts i count.Loads 0 there) ∙ ap (λ (l : List ℕ). get_or l i 0) numbers ∙ at ∙ omega arith
 
 -- one more of a count of a subject
@@ -126,12 +136,12 @@ module _ (rows : List Counters) (subject : ℕ) (c : Count) where
   ]
 
   -- of this count
-  same_raised : (s : ℕ) → s < length rows → length (row_at rows s).counters ≡ 25 → counter_in (row_at (raised rows subject c) s) c ≡ counted (counter_in (row_at rows s) c) (is_it (Some subject) s)
+  same_raised : (s : ℕ) → s < length rows → length (row_at rows s).counters ≡ 31 → counter_in (row_at (raised rows subject c) s) c ≡ counted (counter_in (row_at rows s) c) (is_it (Some subject) s)
   same_raised s there long = elim (cases_eq subject s) [
     | inl e ↦
         let there' : subject < length rows = omega arith in
         let below = place_below c in
-        let long' : length (row_at rows subject).counters ≡ 25 = ap (λ (k : ℕ). length (row_at rows k).counters) e ∙ long in
+        let long' : length (row_at rows subject).counters ≡ 31 = ap (λ (k : ℕ). length (row_at rows k).counters) e ∙ long in
         let fits : number c < length (row_at rows subject).counters = omega arith in
         let up : counter_in (row_at (raised rows subject c) subject) c ≡ capped (counter_in (row_at rows subject) c + 1) =
         ap (λ (row : Counters). counter_in row c) (here_raised there')
@@ -163,7 +173,7 @@ module _ (rows : List Counters) (c : Count) where
   apart_up true None s other there ne = refl
   apart_up true (Some subject) s other there ne = apart_raised rows subject c s other there ne
 
-  same_up : (here : Bool) (found : Option ℕ) (s : ℕ) → s < length rows → length (row_at rows s).counters ≡ 25
+  same_up : (here : Bool) (found : Option ℕ) (s : ℕ) → s < length rows → length (row_at rows s).counters ≡ 31
       → counter_in (row_at (up rows c here found) s) c ≡ counted (counter_in (row_at rows s) c) (here && is_it found s)
   same_up false found s there long = refl
   same_up true None s there long = refl
@@ -173,7 +183,7 @@ module _ (rows : List Counters) (c : Count) where
 pub record Raises (whose : Subjects) (seen : Happening) (old new : List Counters) (upto : ℕ) : Type 0 where
   pub many : length new ≡ length old
   pub long : (s : ℕ) → s < length old → length (row_at new s).counters ≡ length (row_at old s).counters
-  pub done : (s : ℕ) (c : Count) → s < length old → length (row_at old s).counters ≡ 25 → number c < upto
+  pub done : (s : ℕ) (c : Count) → s < length old → length (row_at old s).counters ≡ 31 → number c < upto
       → counter_in (row_at new s) c ≡ counted (counter_in (row_at old s) c) (is_counted whose s c seen)
   pub left : (s : ℕ) (c : Count) → s < length old → upto ≤ number c → counter_in (row_at new s) c ≡ counter_in (row_at old s) c
 
@@ -182,7 +192,7 @@ raises_none whose seen rows = record { many = refl; long = λ s there. refl; don
 
 module _ (whose : Subjects) (seen : Happening) (old now : List Counters) (i : ℕ) (far : Raises whose seen old now i) where
   -- the next count
-  pub raises_more : i < 25 → Raises whose seen old (raised_by whose (get_or all_counts i count.Loads) seen now) (i + 1)
+  pub raises_more : i < 31 → Raises whose seen old (raised_by whose (get_or all_counts i count.Loads) seen now) (i + 1)
   raises_more below =
       let next : Count = get_or all_counts i count.Loads in
       let here : Bool = counts next seen in
@@ -195,7 +205,7 @@ module _ (whose : Subjects) (seen : Happening) (old now : List Counters) (i : �
           | inl e ↦
               let is : c ≡ next = sym (at_place c) ∙ ap (λ (k : ℕ). get_or all_counts k count.Loads) e in
               let before : counter_in (row_at now s) c ≡ counter_in (row_at old s) c = far.left s c there (omega arith) in
-              let long' : length (row_at now s).counters ≡ 25 = far.long s there ∙ long in
+              let long' : length (row_at now s).counters ≡ 31 = far.long s there ∙ long in
               ap (λ (x : Count). counter_in (row_at (up now next here found) s) x) is ∙ same_up now next here found s there' long'
               ∙ ap (λ (x : Count). counted (counter_in (row_at now s) x) (is_counted whose s x seen)) (sym is)
               ∙ ap (λ (n : ℕ). counted n (is_counted whose s c seen)) before
@@ -223,7 +233,7 @@ counted_capped n true = omega arith
 counted_capped n false = omega arith
 
 -- all counts have counted what has happened
-pub tallies_more : (whose : Subjects) (all : List Happening) (seen : Happening) (old new : List Counters) (upto : ℕ) → 25 ≤ upto → Raises whose seen old new upto → Tallies whose old all → Tallies whose new (all ++ seen ∷ [])
+pub tallies_more : (whose : Subjects) (all : List Happening) (seen : Happening) (old new : List Counters) (upto : ℕ) → 31 ≤ upto → Raises whose seen old new upto → Tallies whose old all → Tallies whose new (all ++ seen ∷ [])
 tallies_more whose all seen old new upto over far before = record {
   long = λ s there. far.long s (omega (arith, far.many)) ∙ before.long s (omega (arith, far.many));
   counted = λ s c there.
@@ -237,31 +247,13 @@ tallies_more whose all seen old new upto over far before = record {
 -- nothing is counted yet
 pub tallies_none : (whose : Subjects) (n : ℕ) → Tallies whose (replicate n empty_row) []
 tallies_none whose n = record {
-  long = λ s there. let lt : s < n = omega (arith, length-replicate {A = Counters} n empty_row) in ap (λ (row : Counters). length row.counters) (get_or-replicate n s empty_row empty_row lt) ∙ length-replicate {A = ℕ} 25 0;
+  long = λ s there. let lt : s < n = omega (arith, length-replicate {A = Counters} n empty_row) in ap (λ (row : Counters). length row.counters) (get_or-replicate n s empty_row empty_row lt) ∙ length-replicate {A = ℕ} 31 0;
   counted = λ s c there.
       let lt : s < n = omega (arith, length-replicate {A = Counters} n empty_row) in
       let below = place_below c in
-      ap (λ (row : Counters). counter_in row c) (get_or-replicate n s empty_row empty_row lt) ∙ get_or-replicate 25 (number c) 0 0 below;
+      ap (λ (row : Counters). counter_in row c) (get_or-replicate n s empty_row empty_row lt) ∙ get_or-replicate 31 (number c) 0 0 below;
 }
 
--- an item that there is, is found
-pub found : {X : Type 0} (items : List X) (place : ℕ) → place < length items → slice_get items place ≡ None → ⊥
-found [] place lt none = omega arith
-found (entry ∷ items) zero lt none = none-some entry (sym none)
-found (entry ∷ items) (suc place) lt none = found items place (omega arith) none
-
--- one more element of a list
-pub mapped_more : {X : Type 0} (f : X → Happening) (seen : List Happening) (xs : List X) (i : ℕ) (d : X) → i < length xs
-    → (seen ++ map f (take i xs)) ++ f (get_or xs i d) ∷ [] ≡ seen ++ map f (take (i + 1) xs)
-mapped_more f seen xs i d lt = append_assoc seen (map f (take i xs)) (f (get_or xs i d) ∷ []) ∙ ap (λ (l : List Happening). seen ++ l) (sym (map_more f xs i d lt))
-
--- at the end of the list
-pub mapped_all : {X : Type 0} (f : X → Happening) (seen : List Happening) (xs : List X) (i : ℕ) → length xs ≤ i → seen ++ map f (take i xs) ≡ seen ++ map f xs
-mapped_all f seen xs i over = ap (λ l. seen ++ map f l) (take_all i xs over)
-
--- one item more
-pub item_more : (seen : List Happening) (items : List Item) (place : ℕ) (entry : Item) → slice_get items place ≡ Some entry
-    → (seen ++ map happening.Item (take place items)) ++ happening.Item entry ∷ [] ≡ seen ++ map happening.Item (take (place + 1) items)
-item_more seen items place entry is =
-    ap (λ (e : Item). (seen ++ map happening.Item (take place items)) ++ happening.Item e ∷ []) (sym (get_or_from_slice_get items place entry entry is))
-    ∙ mapped_more happening.Item seen items place entry (slice_get_within items place entry is)
+-- one more of these, after others
+pub one_happening_more : (seen all : List Happening) (i : ℕ) (d : Happening) → i < length all → (seen ++ take i all) ++ get_or all i d ∷ [] ≡ seen ++ take (i + 1) all
+one_happening_more seen all i d lt = append_assoc seen (take i all) (get_or all i d ∷ []) ∙ ap (λ (l : List Happening). seen ++ l) (sym (take_more all i d lt))

@@ -1,13 +1,10 @@
 -- Views that write nothing before the end.
-use Rattle.std.proofs.Common.{◌≡◌, ℕ, List, [], ◌∷◌, ◌++◌, map, refl, ap, ◌∙◌}
-use Rattle.std.proofs.lemmas.List.{flat_map_more}
+use Rattle.std.proofs.Common.{◌≡◌, ℕ, List, [], ◌∷◌, ◌++◌, refl, sym, ap, append_assoc, append-nil, ◌∙◌}
 use Rattle.snoop_model.specs.Pictures.Situation.{Situation}
 use Rattle.snoop_engine.specs.Frames.{Frame}
-use Rattle.snoop_engine.specs.Taken.{lines_of}
 use Rattle.snoop_engine.specs.Views.{shown, view_text}
-use Rattle.snoop_engine.specs.declared.taken.Taken.{Taken}
-use Rattle.snoop_counts.specs.Counted.{seen_in, seen_in_all}
-use Rattle.snoop_counts.specs.declared.count.Happening.TheVariants as happening
+use Rattle.snoop_counts.specs.Happenings.{happenings, seen_after, seen_in}
+use Rattle.snoop_counts.specs.declared.count.Happening.{Happening}
 
 nothing_shown : (before frames : List Frame) → shown (λ (fs : List Frame) (f : Frame). []) before frames ≡ []
 nothing_shown before [] = refl
@@ -17,7 +14,13 @@ nothing_shown before (f ∷ fs) = nothing_shown (before ++ f ∷ []) fs
 pub quiet_view : (ending : List Frame → Situation → List ℕ) (frames : List Frame) (final : Situation) → view_text [] (λ (fs : List Frame) (f : Frame). []) ending frames final ≡ ending frames final
 quiet_view ending frames final = ap (λ (t : List ℕ). t ++ ending frames final) (nothing_shown [] frames)
 
--- the lines of one frame more
-pub seen_more : (frames : List Frame) (frame : Frame) (lines : List Taken) → lines ≡ lines_of frame.before frame.step frame.outcome
-    → seen_in_all frames ++ map (happening.Line frame.step frame.outcome) lines ≡ seen_in_all (frames ++ frame ∷ [])
-seen_more frames frame lines is = ap (λ (l : List Taken). seen_in_all frames ++ map (happening.Line frame.step frame.outcome) l) is ∙ flat_map_more seen_in [] frames frame
+pub seen_on : (earlier frames : List Frame) (frame : Frame) → seen_after earlier (frames ++ frame ∷ []) ≡ seen_after earlier frames ++ seen_in (earlier ++ frames) frame
+seen_on earlier [] frame = append-nil (seen_in earlier frame) ∙ ap (λ (l : List Frame). seen_in l frame) (sym (append-nil earlier))
+seen_on earlier (f ∷ fs) frame =
+    ap (λ (l : List Happening). seen_in earlier f ++ l)
+    (seen_on (earlier ++ f ∷ []) fs frame ∙ ap (λ (l : List Frame). seen_after (earlier ++ f ∷ []) fs ++ seen_in l frame) (append_assoc earlier (f ∷ []) fs))
+    ∙ sym (append_assoc (seen_in earlier f) (seen_after (earlier ++ f ∷ []) fs) (seen_in (earlier ++ f ∷ fs) frame))
+
+-- what can be counted of one frame more
+pub happenings_more : (frames : List Frame) (frame : Frame) (seen : List Happening) → seen ≡ seen_in frames frame → happenings frames ++ seen ≡ happenings (frames ++ frame ∷ [])
+happenings_more frames frame seen is = ap (λ (l : List Happening). happenings frames ++ l) is ∙ sym (seen_on [] frames frame)

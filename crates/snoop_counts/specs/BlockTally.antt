@@ -11,6 +11,6 @@ use Rattle.snoop_counts.specs.declared.count.Subjects.TheVariants.{Blocks}
 -- the counters, and the cores that a line names, that loaded and that stored, of so many blocks, after this has happened
 pub record CountsBlocks (blocks : ℕ) (seen : List Happening) (tally : BlockTally) : Type 0 where
   pub rows : HasCounted Blocks blocks seen tally.tally
-  pub named : HasMarked count.Lines blocks seen tally.named
-  pub readers : HasMarked count.Loads blocks seen tally.readers
-  pub writers : HasMarked count.Stores blocks seen tally.writers
+  pub named : HasMarked Blocks count.Lines blocks seen tally.named
+  pub readers : HasMarked Blocks count.Loads blocks seen tally.readers
+  pub writers : HasMarked Blocks count.Stores blocks seen tally.writers

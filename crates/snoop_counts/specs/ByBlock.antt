@@ -9,32 +9,30 @@ use Rattle.snoop_history.specs.Totals.{capped}
 use Rattle.snoop_model.specs.Pictures.Situation.{Situation}
 use Rattle.snoop_engine.specs.Frames.{Frame}
 use Rattle.snoop_counts.specs.CoreTable.{count_fields}
-use Rattle.snoop_counts.specs.Counted.{counted_of, happenings, is_named}
-use Rattle.snoop_counts.specs.Sharers.{is_shared_by}
+use Rattle.snoop_counts.specs.Counted.{counted_of, is_named}
+use Rattle.snoop_counts.specs.Happenings.{happenings}
+use Rattle.snoop_counts.specs.Sharers.{sharers}
 use Rattle.snoop_counts.specs.declared.ranking.Ranked.{Ranked}
 use Rattle.snoop_counts.specs.declared.count.Count.{Count}
 use Rattle.snoop_counts.specs.declared.count.Count.TheVariants as count
 use Rattle.snoop_counts.specs.declared.count.Happening.{Happening}
 use Rattle.snoop_counts.specs.declared.count.Subjects.TheVariants.{Blocks}
 
--- for how many of so many cores something of the block is counted
-abbrev pub sharers : Count → ℕ → List Happening → ℕ → ℕ
-sharers counted cores seen block = length (filter (is_shared_by counted seen block) (range_with_len 0 cores))
-
 -- the names of the fields
 abbrev pub block_header : List ℕ
-block_header = codes "block,address,cores,readers,writers,loads,load_hits,stores,store_hits,gets,getm,putm,from_memory,from_caches,writebacks,clean,stale,upgrades,upgrades_lost,invalidated,taken,downgraded,overtaken,stalled,bus_taken,no_transaction\n"
+block_header = codes "block,address,cores,readers,writers,loads,load_hits,stores,store_hits,gets,getm,putm,from_memory,from_caches,writebacks,clean,stale,misses,cold,given_up,true_sharing,false_sharing,upgrades,upgrades_lost,invalidated,taken,downgraded,overtaken,stalled,bus_taken,no_transaction\n"
 
 -- the counts of a block, in the order of the fields
 abbrev pub block_counts : List Count
 block_counts =
     count.Loads ∷ count.LoadHits ∷ count.Stores ∷ count.StoreHits ∷ count.GetS ∷ count.GetM ∷ count.PutM ∷ count.FromMemory ∷ count.FromCaches ∷ count.Writebacks ∷ count.Clean ∷ count.Stale
+    ∷ count.Misses ∷ count.Cold ∷ count.GivenUp ∷ count.TrueSharing ∷ count.FalseSharing
     ∷ count.Upgrades ∷ count.UpgradesLost ∷ count.Invalidated ∷ count.Taken ∷ count.Downgraded ∷ count.Overtaken ∷ count.Stalled ∷ count.BusTaken ∷ count.NoTransaction ∷ []
 
 -- how many cores a line of the block names, how many performed a load of it, and how many a store
 abbrev pub sharing_fields : ℕ → List Happening → ℕ → List ℕ
 sharing_fields cores seen block =
-    codes "," ++ decimal (sharers count.Lines cores seen block) ++ codes "," ++ decimal (sharers count.Loads cores seen block) ++ codes "," ++ decimal (sharers count.Stores cores seen block)
+    codes "," ++ decimal (sharers Blocks count.Lines cores seen block) ++ codes "," ++ decimal (sharers Blocks count.Loads cores seen block) ++ codes "," ++ decimal (sharers Blocks count.Stores cores seen block)
 
 -- the line of a block
 abbrev pub block_line : Extent → List Happening → ℕ → List ℕ
@@ -69,4 +67,4 @@ block_table shape top seen = block_header ++ flat_map (λ shown. block_line shap
 
 -- the table of a run
 abbrev pub counts_by_block : Extent → Option ℕ → List Frame → Situation → List ℕ
-counts_by_block shape top frames final = block_table shape top (happenings frames final.log)
+counts_by_block shape top frames final = block_table shape top (happenings frames)

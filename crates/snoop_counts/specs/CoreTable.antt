@@ -6,7 +6,8 @@ use Rattle.std.specs.List.{flat_map, range_with_len}
 use Rattle.snoop_trace.specs.Extent.{Extent}
 use Rattle.snoop_model.specs.Pictures.Situation.{Situation}
 use Rattle.snoop_engine.specs.Frames.{Frame}
-use Rattle.snoop_counts.specs.Counted.{counted_of, happenings, is_named}
+use Rattle.snoop_counts.specs.Counted.{counted_of, is_named}
+use Rattle.snoop_counts.specs.Happenings.{happenings}
 use Rattle.snoop_counts.specs.declared.count.Count.{Count}
 use Rattle.snoop_counts.specs.declared.count.Count.TheVariants as count
 use Rattle.snoop_counts.specs.declared.count.Happening.{Happening}
@@ -18,12 +19,13 @@ count_fields counts value = flat_map (λ counted. codes "," ++ decimal (value co
 
 -- the names of the fields
 abbrev pub core_header : List ℕ
-core_header = codes "core,loads,load_hits,stores,store_hits,gets,getm,putm,from_memory,from_caches,writebacks,clean,stale,upgrades,upgrades_lost,invalidated,taken,downgraded,overtaken,invalidates,supplied,stalled,bus_taken,nothing_waiting\n"
+core_header = codes "core,loads,load_hits,stores,store_hits,gets,getm,putm,from_memory,from_caches,writebacks,clean,stale,misses,cold,given_up,true_sharing,false_sharing,upgrades,upgrades_lost,invalidated,taken,downgraded,overtaken,invalidates,supplied,stalled,bus_taken,nothing_waiting\n"
 
 -- the counts of a core, in the order of the fields
 abbrev pub core_counts : List Count
 core_counts =
     count.Loads ∷ count.LoadHits ∷ count.Stores ∷ count.StoreHits ∷ count.GetS ∷ count.GetM ∷ count.PutM ∷ count.FromMemory ∷ count.FromCaches ∷ count.Writebacks ∷ count.Clean ∷ count.Stale
+    ∷ count.Misses ∷ count.Cold ∷ count.GivenUp ∷ count.TrueSharing ∷ count.FalseSharing
     ∷ count.Upgrades ∷ count.UpgradesLost ∷ count.Invalidated ∷ count.Taken ∷ count.Downgraded ∷ count.Overtaken ∷ count.Invalidates ∷ count.Supplied ∷ count.Stalled ∷ count.BusTaken ∷ count.NothingWaiting ∷ []
 
 -- the line of a core, if a line of a step names it
@@ -36,4 +38,4 @@ core_table cores seen = core_header ++ flat_map (core_line seen) (range_with_len
 
 -- the table of a run
 abbrev pub counts_by_core : Extent → List Frame → Situation → List ℕ
-counts_by_core shape frames final = core_table shape.cores (happenings frames final.log)
+counts_by_core shape frames final = core_table shape.cores (happenings frames)

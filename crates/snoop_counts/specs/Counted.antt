@@ -1,31 +1,38 @@
 -- What is counted of a run: the items, the rows and the refused steps of each count.
 -- Source: "A Primer on Memory Consistency and Cache Coherence", 2nd edition, chapter 7, whose rows they are; which of them are counted together is this project's profile.
-use Rattle.std.specs.Prelude.{ℕ, ◌==◌, ◌&&◌, ◌||◌, Bool, true, false, not, is_some, is_none, List, ◌++◌, map, filter, length, nat_lt, Option, Some, None, Result, Ok, Err}
-use Rattle.std.specs.List.{flat_map}
+use Rattle.std.specs.Prelude.{ℕ, ◌+◌, ◌*◌, ◌^◌, ◌==◌, ◌&&◌, ◌||◌, Bool, true, false, not, is_some, is_none, List, filter, length, nat_lt, Option, Some, None, Result, Ok, Err, if◌then◌else◌}
 use Rattle.std.specs.Option.{option_map_or}
 use Rattle.snoop_trace.specs.declared.step.Step.TheVariants.{Order}
 use Rattle.snoop_rules.specs.declared.names.CacheEvent.{CacheEvent}
-use Rattle.snoop_rules.specs.declared.names.CacheEvent.TheVariants.{OwnGetM, OtherGetS, OtherGetM}
+use Rattle.snoop_rules.specs.declared.names.CacheEvent.TheVariants.{Evict, OwnGetM, OtherGetS, OtherGetM, Data, DataE}
 use Rattle.snoop_rules.specs.declared.names.CacheState.{CacheState}
-use Rattle.snoop_rules.specs.declared.names.CacheState.TheVariants.{S, SmAd, E, M, EiA, MiA}
+use Rattle.snoop_rules.specs.declared.names.CacheState.TheVariants.{IsD, ImD, S, SmAd, E, M, EiA, MiA}
 use Rattle.snoop_history.specs.declared.items.Came.{Came}
 use Rattle.snoop_history.specs.declared.items.Item.{Item}
 use Rattle.snoop_history.specs.declared.items.Item.TheVariants as item
+use Rattle.snoop_history.specs.History.{operation_of}
 use Rattle.snoop_history.specs.Totals.{capped, is_data, is_get_m, is_get_s, is_no_data, is_no_data_e, is_put_m, ordered, performed, responded}
 use Rattle.snoop_history.specs.Within.{block_of, core_of}
 use Rattle.snoop_model.specs.declared.replies.Reply.{Reply}
 use Rattle.snoop_model.specs.declared.replies.Refused.{Refused}
 use Rattle.snoop_model.specs.declared.replies.Refused.TheVariants as refused
-use Rattle.snoop_engine.specs.Frames.{Frame}
-use Rattle.snoop_engine.specs.Taken.{lines_of}
 use Rattle.snoop_engine.specs.declared.taken.Taken.{Taken}
 use Rattle.snoop_engine.specs.declared.taken.Taken.TheVariants.{Core, Memory, Nobody}
+use Rattle.snoop_counts.specs.declared.count.Cause.{Cause}
+use Rattle.snoop_counts.specs.declared.count.Cause.TheVariants as cause
 use Rattle.snoop_counts.specs.declared.count.Count.{Count}
 use Rattle.snoop_counts.specs.declared.count.Count.TheVariants as count
 use Rattle.snoop_counts.specs.declared.count.Happening.{Happening}
 use Rattle.snoop_counts.specs.declared.count.Happening.TheVariants as happening
 use Rattle.snoop_counts.specs.declared.count.Subjects.{Subjects}
 use Rattle.snoop_counts.specs.declared.count.Subjects.TheVariants as subjects
+
+-- a miss: an operation is performed with data that came because the core had no copy
+abbrev pub is_miss : CacheState → CacheEvent → Bool
+is_miss IsD Data = true
+is_miss IsD DataE = true
+is_miss ImD Data = true
+is_miss _ _ = false
 
 -- an upgrade: the GetM is ordered while the core may read
 abbrev pub is_upgrade : CacheState → CacheEvent → Bool
@@ -62,6 +69,17 @@ is_overtaking EiA OtherGetM = true
 is_overtaking MiA OtherGetS = true
 is_overtaking MiA OtherGetM = true
 is_overtaking _ _ = false
+
+-- the core's copy is lost to another's GetM
+abbrev pub is_loss : CacheState → CacheEvent → Bool
+is_loss state event = is_invalidation state event || is_taking state event
+
+-- the core gives its copy up
+abbrev pub is_giving_up : CacheState → CacheEvent → Bool
+is_giving_up S Evict = true
+is_giving_up E Evict = true
+is_giving_up M Evict = true
+is_giving_up _ _ = false
 
 -- the line's state does not allow the operation yet
 abbrev pub is_stall : Refused → Bool
@@ -106,10 +124,12 @@ counts_item count.Writebacks = responded (λ came. is_put_m came.request && is_d
 counts_item count.Clean = responded (λ came. is_put_m came.request && is_no_data_e came.payload)
 counts_item count.Stale = responded (λ came. is_put_m came.request && is_no_data came.payload)
 counts_item count.Supplied = responded is_from_cache
+counts_item count.Operations = performed (λ did. true)
 counts_item _ = λ entry. false
 
 -- the rows of a core that a count counts
 abbrev pub counts_row : Count → CacheState → CacheEvent → Bool
+counts_row count.Misses = is_miss
 counts_row count.Upgrades = is_upgrade
 counts_row count.UpgradesLost = is_lost_upgrade
 counts_row count.Invalidated = is_invalidation
@@ -126,6 +146,14 @@ counts_refusal count.BusTaken = is_bus_taken
 counts_refusal count.NothingWaiting = is_nothing_waiting
 counts_refusal count.NoTransaction = is_no_transaction
 counts_refusal _ = λ cause. false
+
+-- the cause of a miss that a count counts
+abbrev pub counts_cause : Count → Cause → Bool
+counts_cause count.Cold cause.Cold = true
+counts_cause count.GivenUp cause.GivenUp = true
+counts_cause count.TrueSharing cause.TrueSharing = true
+counts_cause count.FalseSharing cause.FalseSharing = true
+counts_cause _ _ = false
 
 -- it is the count of all lines
 abbrev pub counts_lines : Count → Bool
@@ -144,10 +172,11 @@ abbrev pub is_refused : (Refused → Bool) → Result Reply Refused → Bool
 is_refused test (Ok answer) = false
 is_refused test (Err cause) = test cause
 
--- what a count counts: items, lines with rows, and lines of refused steps
+-- what a count counts: items, lines with rows, misses by their causes, and lines of refused steps
 abbrev pub counts : Count → Happening → Bool
 counts counted (happening.Item entry) = counts_item counted entry
-counts counted (happening.Line step outcome line) = counts_lines counted || has_row (counts_row counted) line || is_refused (counts_refusal counted) outcome
+counts counted (happening.Line step outcome line why) =
+    counts_lines counted || has_row (counts_row counted) line || is_refused (counts_refusal counted) outcome || option_map_or (counts_cause counted) why false
 
 -- the core that a line names, if any
 abbrev pub core_named : Taken → Option ℕ
@@ -164,16 +193,29 @@ block_named (Nobody core block) = block
 -- the core that an item is of, or that a line names
 abbrev pub own_core : Happening → Option ℕ
 own_core (happening.Item entry) = Some (core_of entry)
-own_core (happening.Line step outcome line) = core_named line
+own_core (happening.Line step outcome line why) = core_named line
 
 -- the block that an item is of, or that a line names
 abbrev pub own_block : Happening → Option ℕ
 own_block (happening.Item entry) = Some (block_of entry)
-own_block (happening.Line step outcome line) = block_named line
+own_block (happening.Line step outcome line why) = block_named line
+
+-- the place of a word of a block among all words, where a block has so many
+abbrev pub place_of_word : ℕ → ℕ → ℕ → ℕ
+place_of_word words block word = block * words + word
+
+-- a place that a number of 32 bits can name
+abbrev pub named_place : ℕ → Option ℕ
+named_place place = if nat_lt place (2 ^ 32) then Some place else None
+
+-- the place of the word of the operation that an item performs
+abbrev pub own_word : ℕ → Happening → Option ℕ
+own_word words (happening.Item entry) = option_map_or (λ did. named_place (place_of_word words did.block did.word)) (operation_of entry) None
+own_word words (happening.Line step outcome line why) = None
 
 -- the core whose Order the line is of
 abbrev pub requestor_of : Happening → Option ℕ
-requestor_of (happening.Line (Order core) outcome line) = Some core
+requestor_of (happening.Line (Order core) outcome line why) = Some core
 requestor_of _ = None
 
 -- the core that sent the response
@@ -191,6 +233,8 @@ core_counted _ = own_core
 abbrev pub subject_of : Subjects → Count → Happening → Option ℕ
 subject_of subjects.Cores counted = core_counted counted
 subject_of subjects.Blocks counted = own_block
+subject_of (subjects.Words words) counted = own_word words
+subject_of subjects.Machine counted = λ seen. Some 0
 
 -- it is the subject
 abbrev pub is_it : Option ℕ → ℕ → Bool
@@ -211,15 +255,3 @@ counted_of whose seen subject counted = capped (times whose seen subject counted
 -- the subject has a line: a line of a step names it
 abbrev pub is_named : Subjects → List Happening → ℕ → Bool
 is_named whose seen subject = nat_lt 0 (times whose seen subject count.Lines)
-
--- the lines of a step, with what was answered to it
-abbrev pub seen_in : Frame → List Happening
-seen_in frame = map (happening.Line frame.step frame.outcome) (lines_of frame.before frame.step frame.outcome)
-
--- the lines of all the steps
-abbrev pub seen_in_all : List Frame → List Happening
-seen_in_all frames = flat_map seen_in frames
-
--- what can be counted of a run: the lines of its steps, and the items of its history
-abbrev pub happenings : List Frame → List Item → List Happening
-happenings frames items = seen_in_all frames ++ map happening.Item items

@@ -1,7 +1,14 @@
 pub mod Counted
+pub mod Causes
+pub mod Happenings
+pub mod LastSteps
 pub mod Tally
 pub mod CoreTable
 pub mod Views
 pub mod Sharers
 pub mod ByBlock
 pub mod BlockTally
+pub mod BySteps
+pub mod WordTally
+pub mod ByWord
+pub mod Laws

@@ -25,26 +25,33 @@ number count.FromCaches = 8
 number count.Writebacks = 9
 number count.Clean = 10
 number count.Stale = 11
-number count.Upgrades = 12
-number count.UpgradesLost = 13
-number count.Invalidated = 14
-number count.Taken = 15
-number count.Downgraded = 16
-number count.Overtaken = 17
-number count.Invalidates = 18
-number count.Supplied = 19
-number count.Stalled = 20
-number count.BusTaken = 21
-number count.NothingWaiting = 22
-number count.NoTransaction = 23
-number count.Lines = 24
+number count.Misses = 12
+number count.Cold = 13
+number count.GivenUp = 14
+number count.TrueSharing = 15
+number count.FalseSharing = 16
+number count.Upgrades = 17
+number count.UpgradesLost = 18
+number count.Invalidated = 19
+number count.Taken = 20
+number count.Downgraded = 21
+number count.Overtaken = 22
+number count.Invalidates = 23
+number count.Supplied = 24
+number count.Stalled = 25
+number count.BusTaken = 26
+number count.NothingWaiting = 27
+number count.NoTransaction = 28
+number count.Lines = 29
+number count.Operations = 30
 
 -- all counts, by their places
 abbrev pub all_counts : List Count
 all_counts =
     count.Loads ∷ count.LoadHits ∷ count.Stores ∷ count.StoreHits ∷ count.GetS ∷ count.GetM ∷ count.PutM ∷ count.FromMemory ∷ count.FromCaches ∷ count.Writebacks ∷ count.Clean ∷ count.Stale
+    ∷ count.Misses ∷ count.Cold ∷ count.GivenUp ∷ count.TrueSharing ∷ count.FalseSharing
     ∷ count.Upgrades ∷ count.UpgradesLost ∷ count.Invalidated ∷ count.Taken ∷ count.Downgraded ∷ count.Overtaken ∷ count.Invalidates ∷ count.Supplied
-    ∷ count.Stalled ∷ count.BusTaken ∷ count.NothingWaiting ∷ count.NoTransaction ∷ count.Lines ∷ []
+    ∷ count.Stalled ∷ count.BusTaken ∷ count.NothingWaiting ∷ count.NoTransaction ∷ count.Lines ∷ count.Operations ∷ []
 
 -- what a row has of a count
 abbrev pub counter_in : Counters → Count → ℕ
@@ -52,7 +59,7 @@ counter_in row counted = slice_index row.counters (number counted)
 
 -- a row that has counted nothing
 abbrev pub empty_row : Counters
-empty_row = record { counters = replicate 25 0 }
+empty_row = record { counters = replicate 31 0 }
 
 -- the row with one more of a count; a counter stops at the largest u64
 abbrev pub raised_row : Count → Counters → Counters
@@ -72,7 +79,7 @@ row_at rows subject = slice_index_or rows subject empty_row
 
 -- the rows say how often each count was counted for each subject
 pub record Tallies (whose : Subjects) (rows : List Counters) (seen : List Happening) : Type 0 where
-  pub long : (subject : ℕ) → subject < length rows → length (row_at rows subject).counters ≡ 25
+  pub long : (subject : ℕ) → subject < length rows → length (row_at rows subject).counters ≡ 31
   pub counted : (subject : ℕ) (counted : Count) → subject < length rows → counter_in (row_at rows subject) counted ≡ counted_of whose seen subject counted
 
 -- the tally is of these subjects, of which there are so many, and has counted what has happened

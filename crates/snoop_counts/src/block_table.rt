@@ -16,7 +16,7 @@ use snoop_trace::{NoMemory, Shape};
 use std::alloc::Global;
 
 // The counts of a block, in the order of the fields.
-static BLOCK_COUNTS: [Count; 21] = [
+static BLOCK_COUNTS: [Count; 26] = [
     Count::Loads,
     Count::LoadHits,
     Count::Stores,
@@ -29,6 +29,11 @@ static BLOCK_COUNTS: [Count; 21] = [
     Count::Writebacks,
     Count::Clean,
     Count::Stale,
+    Count::Misses,
+    Count::Cold,
+    Count::GivenUp,
+    Count::TrueSharing,
+    Count::FalseSharing,
     Count::Upgrades,
     Count::UpgradesLost,
     Count::Invalidated,
@@ -156,7 +161,7 @@ pub(crate) fn push_block_table(
 {
     push_text(
         out,
-        "block,address,cores,readers,writers,loads,load_hits,stores,store_hits,gets,getm,putm,from_memory,from_caches,writebacks,clean,stale,upgrades,upgrades_lost,invalidated,taken,downgraded,overtaken,stalled,bus_taken,no_transaction\n",
+        "block,address,cores,readers,writers,loads,load_hits,stores,store_hits,gets,getm,putm,from_memory,from_caches,writebacks,clean,stale,misses,cold,given_up,true_sharing,false_sharing,upgrades,upgrades_lost,invalidated,taken,downgraded,overtaken,stalled,bus_taken,no_transaction\n",
     )?;
     let named = blocks_named(alloc, tally, shape.blocks())?;
     let shown = blocks_shown(alloc, named, top)?;

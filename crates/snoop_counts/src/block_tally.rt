@@ -1,20 +1,16 @@
 //! What the table by block counts.
-ghost use Rattle.std.specs.Prelude.{◌≡◌, ◌<◌, ◌≤◌, ◌++◌, ◌∷◌, [], ℕ, List, IfOk, map};
+ghost use Rattle.std.specs.Prelude.{◌≡◌, ◌<◌, ◌≤◌, ◌++◌, ◌∷◌, [], ℕ, List, IfOk};
 ghost use Rattle.snoop_counts.specs.BlockTally.{CountsBlocks};
-ghost use Rattle.snoop_counts.specs.ByBlock.{sharers};
+ghost use Rattle.snoop_counts.specs.Sharers.{sharers};
 ghost use Rattle.snoop_counts.specs.Tally.{IsRowOf};
 ghost use Rattle.snoop_counts.specs.declared.count.Count.TheVariants as count;
 ghost use Rattle.snoop_counts.specs.declared.count.Happening.{Happening as Seen};
-ghost use Rattle.snoop_counts.specs.declared.count.Happening.TheVariants as happening;
 ghost use Rattle.snoop_counts.specs.declared.count.Subjects.TheVariants.{Blocks};
 
 use crate::count::{Count, Happening, Subjects};
 use crate::sharers::Sharers;
 use crate::tally::{Counters, Tally};
-use snoop_engine::Taken;
-use snoop_history::Log;
-use snoop_machine::{Refused, Reply};
-use snoop_trace::{NoMemory, Step};
+use snoop_trace::NoMemory;
 use std::alloc::Global;
 
 /// The counters of each block, and the cores that a line of it names, that loaded of it and that stored in it.
@@ -33,9 +29,9 @@ impl BlockTally {
     {
         Ok(BlockTally {
             tally: Tally::new(alloc, Subjects::Blocks, blocks)?,
-            named: Sharers::new(alloc, Count::Lines, blocks)?,
-            readers: Sharers::new(alloc, Count::Loads, blocks)?,
-            writers: Sharers::new(alloc, Count::Stores, blocks)?,
+            named: Sharers::new(alloc, Subjects::Blocks, Count::Lines, blocks)?,
+            readers: Sharers::new(alloc, Subjects::Blocks, Count::Loads, blocks)?,
+            writers: Sharers::new(alloc, Subjects::Blocks, Count::Stores, blocks)?,
         })
     }
 
@@ -49,27 +45,12 @@ impl BlockTally {
         self.writers.add(happening);
     }
 
-    /// Counts the lines of a step.
-    pub(crate) fn add_lines(&mut self, step: Step, outcome: Result<Reply, Refused>, lines: &[Taken])
-        ensures { (blocks : ℕ) (seen : List Seen) → CountsBlocks blocks seen self.old → CountsBlocks blocks (seen ++ map (happening.Line step outcome) lines.now) self.new }
+    /// Counts all of this.
+    pub(crate) fn add_all(&mut self, happenings: &[Happening])
+        ensures { (blocks : ℕ) (seen : List Seen) → CountsBlocks blocks seen self.old → CountsBlocks blocks (seen ++ happenings.now) self.new }
     {
-        for line in lines {
-            self.add(Happening::Line {
-                step,
-                outcome,
-                line: *line,
-            });
-        }
-    }
-
-    /// Counts the items of a history.
-    pub(crate) fn add_items(&mut self, log: &Log)
-        ensures { (blocks : ℕ) (seen : List Seen) → CountsBlocks blocks seen self.old → CountsBlocks blocks (seen ++ map happening.Item log.now.items) self.new }
-    {
-        for place in 0..log.len() {
-            if let Some(item) = log.item(place) {
-                self.add(Happening::Item(item));
-            }
+        for happening in happenings {
+            self.add(*happening);
         }
     }
 
@@ -82,21 +63,21 @@ impl BlockTally {
 
     /// How many of so many cores a line of the block names.
     pub(crate) fn cores(&self, block: u32, cores: u32) -> u64
-        ensures { (blocks : ℕ) (seen : List Seen) → CountsBlocks blocks seen self.now → block < blocks → cores ≤ 256 → result ≡ sharers count.Lines cores seen block }
+        ensures { (blocks : ℕ) (seen : List Seen) → CountsBlocks blocks seen self.now → block < blocks → cores ≤ 256 → result ≡ sharers Blocks count.Lines cores seen block }
     {
         self.named.of(block, cores)
     }
 
     /// How many of them performed a load of it.
     pub(crate) fn readers(&self, block: u32, cores: u32) -> u64
-        ensures { (blocks : ℕ) (seen : List Seen) → CountsBlocks blocks seen self.now → block < blocks → cores ≤ 256 → result ≡ sharers count.Loads cores seen block }
+        ensures { (blocks : ℕ) (seen : List Seen) → CountsBlocks blocks seen self.now → block < blocks → cores ≤ 256 → result ≡ sharers Blocks count.Loads cores seen block }
     {
         self.readers.of(block, cores)
     }
 
     /// How many of them performed a store in it.
     pub(crate) fn writers(&self, block: u32, cores: u32) -> u64
-        ensures { (blocks : ℕ) (seen : List Seen) → CountsBlocks blocks seen self.now → block < blocks → cores ≤ 256 → result ≡ sharers count.Stores cores seen block }
+        ensures { (blocks : ℕ) (seen : List Seen) → CountsBlocks blocks seen self.now → block < blocks → cores ≤ 256 → result ≡ sharers Blocks count.Stores cores seen block }
     {
         self.writers.of(block, cores)
     }

@@ -9,6 +9,7 @@ ghost use Rattle.snoop_counts.specs.ByBlock.{counts_by_block};
 
 use crate::block_table::push_block_table;
 use crate::block_tally::BlockTally;
+use crate::watch::Watch;
 use snoop_engine::{Seen, SimFault, View, simulate_view};
 use snoop_machine::Machine;
 use snoop_rules::Protocol;
@@ -20,6 +21,7 @@ use std::alloc::Global;
 #[derive(Drop)]
 struct ByBlock {
     top: Option<u32>,
+    watch: Watch,
     tally: Option<BlockTally>,
 }
 
@@ -28,7 +30,7 @@ impl View for ByBlock {
     ghost use Rattle.snoop_counts.specs.ByBlock.{counts_by_block};
     ghost use Rattle.snoop_counts.specs.Views.{HasBegunByBlock};
 
-    ghost has_seen = { λ first protocol shape frames now. HasBegunByBlock shape.blocks frames first now };
+    ghost has_seen = { λ first protocol shape frames now. HasBegunByBlock protocol shape frames first now };
 
     ghost heading = { λ first protocol shape. [] };
 
@@ -37,30 +39,31 @@ impl View for ByBlock {
     ghost ending = { λ first protocol shape frames final. counts_by_block shape first.top frames final };
 
     fn begin(&mut self, out: &mut Vec<u8>, machine: &Machine) -> Result<(), NoMemory> {
+        let alloc = *out.allocator();
         let blocks = machine.shape().blocks();
-        self.tally = Some(BlockTally::new(*out.allocator(), blocks)?);
+        self.watch = Watch::new(alloc);
+        self.tally = Some(BlockTally::new(alloc, blocks)?);
         Ok(())
     }
 
     fn see(
         &mut self,
         _out: &mut Vec<u8>,
-        _machine: &Machine,
+        machine: &Machine,
         seen: Seen<'_>,
     ) -> Result<(), NoMemory> {
+        self.watch.see(machine.log(), seen)?;
         if let Some(tally) = &mut self.tally {
-            tally.add_lines(seen.step, seen.outcome, seen.lines);
+            tally.add_all(self.watch.happenings());
         }
         Ok(())
     }
 
     fn end(&mut self, out: &mut Vec<u8>, machine: &Machine) -> Result<(), NoMemory> {
-        let top = self.top;
-        match &mut self.tally {
+        match &self.tally {
             None => Ok(()),
             Some(tally) => {
-                tally.add_items(machine.log());
-                push_block_table(*out.allocator(), out, tally, machine.shape(), top)
+                push_block_table(*out.allocator(), out, tally, machine.shape(), self.top)
             }
         }
     }
@@ -88,6 +91,10 @@ pub fn simulate_counts_by_block<R: Source, W: Sink>(
     ensures read_blamed { BlamesReader (R.failed reader.old) (R.failed reader.new) (result ≡ Err (SimFault.Text text_fault.Read)) }
     ensures blamed { BlamesWriter (W.failed writer.old) (W.failed writer.new) (result ≡ Err SimFault.Write) }
 {
-    let mut view = ByBlock { top, tally: None };
+    let mut view = ByBlock {
+        top,
+        watch: Watch::new(alloc),
+        tally: None,
+    };
     simulate_view(alloc, reader, writer, protocol, shape, &mut view)
 }

@@ -10,6 +10,7 @@ ghost use Rattle.snoop_counts.specs.CoreTable.{counts_by_core};
 use crate::core_table::push_core_table;
 use crate::count::Subjects;
 use crate::tally::Tally;
+use crate::watch::Watch;
 use snoop_engine::{Seen, SimFault, View, simulate_view};
 use snoop_machine::Machine;
 use snoop_rules::Protocol;
@@ -20,16 +21,16 @@ use std::alloc::Global;
 /// Counts by core; there are no counters before the run begins.
 #[derive(Drop)]
 struct ByCore {
+    watch: Watch,
     tally: Option<Tally>,
 }
 
 impl View for ByCore {
     ghost use Rattle.std.specs.Prelude.{[]};
     ghost use Rattle.snoop_counts.specs.CoreTable.{counts_by_core};
-    ghost use Rattle.snoop_counts.specs.Views.{HasBegun};
-    ghost use Rattle.snoop_counts.specs.declared.count.Subjects.TheVariants.{Cores};
+    ghost use Rattle.snoop_counts.specs.Views.{HasBegunByCore};
 
-    ghost has_seen = { λ first protocol shape frames now. HasBegun Cores shape.cores frames now.tally };
+    ghost has_seen = { λ first protocol shape frames now. HasBegunByCore protocol shape frames now };
 
     ghost heading = { λ first protocol shape. [] };
 
@@ -38,30 +39,30 @@ impl View for ByCore {
     ghost ending = { λ first protocol shape frames final. counts_by_core shape frames final };
 
     fn begin(&mut self, out: &mut Vec<u8>, machine: &Machine) -> Result<(), NoMemory> {
+        let alloc = *out.allocator();
         let cores = machine.shape().cores();
-        self.tally = Some(Tally::new(*out.allocator(), Subjects::Cores, cores)?);
+        self.watch = Watch::new(alloc);
+        self.tally = Some(Tally::new(alloc, Subjects::Cores, cores)?);
         Ok(())
     }
 
     fn see(
         &mut self,
         _out: &mut Vec<u8>,
-        _machine: &Machine,
+        machine: &Machine,
         seen: Seen<'_>,
     ) -> Result<(), NoMemory> {
+        self.watch.see(machine.log(), seen)?;
         if let Some(tally) = &mut self.tally {
-            tally.add_lines(seen.step, seen.outcome, seen.lines);
+            tally.add_all(self.watch.happenings());
         }
         Ok(())
     }
 
     fn end(&mut self, out: &mut Vec<u8>, machine: &Machine) -> Result<(), NoMemory> {
-        match &mut self.tally {
+        match &self.tally {
             None => Ok(()),
-            Some(tally) => {
-                tally.add_items(machine.log());
-                push_core_table(out, tally, machine.shape().cores())
-            }
+            Some(tally) => push_core_table(out, tally, machine.shape().cores()),
         }
     }
 }
@@ -86,6 +87,9 @@ pub fn simulate_counts_by_core<R: Source, W: Sink>(
     ensures read_blamed { BlamesReader (R.failed reader.old) (R.failed reader.new) (result ≡ Err (SimFault.Text text_fault.Read)) }
     ensures blamed { BlamesWriter (W.failed writer.old) (W.failed writer.new) (result ≡ Err SimFault.Write) }
 {
-    let mut view = ByCore { tally: None };
+    let mut view = ByCore {
+        watch: Watch::new(alloc),
+        tally: None,
+    };
     simulate_view(alloc, reader, writer, protocol, shape, &mut view)
 }

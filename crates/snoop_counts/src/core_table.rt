@@ -11,7 +11,7 @@ use snoop_trace::NoMemory;
 use snoop_trace::streams::{push_byte, push_decimal, push_text};
 
 // The counts of a core, in the order of the fields.
-static CORE_COUNTS: [Count; 23] = [
+static CORE_COUNTS: [Count; 28] = [
     Count::Loads,
     Count::LoadHits,
     Count::Stores,
@@ -24,6 +24,11 @@ static CORE_COUNTS: [Count; 23] = [
     Count::Writebacks,
     Count::Clean,
     Count::Stale,
+    Count::Misses,
+    Count::Cold,
+    Count::GivenUp,
+    Count::TrueSharing,
+    Count::FalseSharing,
     Count::Upgrades,
     Count::UpgradesLost,
     Count::Invalidated,
@@ -74,7 +79,7 @@ pub(crate) fn push_core_table(out: &mut Vec<u8>, tally: &Tally, cores: u32) -> R
 {
     push_text(
         out,
-        "core,loads,load_hits,stores,store_hits,gets,getm,putm,from_memory,from_caches,writebacks,clean,stale,upgrades,upgrades_lost,invalidated,taken,downgraded,overtaken,invalidates,supplied,stalled,bus_taken,nothing_waiting\n",
+        "core,loads,load_hits,stores,store_hits,gets,getm,putm,from_memory,from_caches,writebacks,clean,stale,misses,cold,given_up,true_sharing,false_sharing,upgrades,upgrades_lost,invalidated,taken,downgraded,overtaken,invalidates,supplied,stalled,bus_taken,nothing_waiting\n",
     )?;
     for core in 0..cores {
         push_core(out, tally, core)?;

@@ -31,6 +31,16 @@ pub(crate) enum Count {
     Clean,
     /// Responses to PutM that came too late.
     Stale,
+    /// Operations that were performed with data that came because the core had no copy.
+    Misses,
+    /// Misses by cause: the core had no copy before.
+    Cold,
+    /// It gave its last copy up.
+    GivenUp,
+    /// It lost its last copy, and the word was stored to since.
+    TrueSharing,
+    /// It lost its last copy, and the word was not stored to since.
+    FalseSharing,
     /// GetMs that were ordered while the core might read.
     Upgrades,
     /// Upgrades that another's GetM came before.
@@ -57,9 +67,24 @@ pub(crate) enum Count {
     NoTransaction,
     /// Lines of steps. No field has them: whoever has none is left out.
     Lines,
+    /// Operations that were performed. No field has them: they say which blocks and words are shared.
+    Operations,
 }
 
-/// What is counted: an item of the history, or a line of a step with what was answered to the step.
+/// Why a core had no copy at a miss: how its last one went.
+#[derive(Clone, Copy, Debug)]
+pub(crate) enum Cause {
+    /// There was none.
+    Cold,
+    /// The core gave it up.
+    GivenUp,
+    /// Another core took it, and the word was stored to since.
+    TrueSharing,
+    /// Another core took it, and the word was not stored to since.
+    FalseSharing,
+}
+
+/// What is counted: an item of the history, or a line of a step with what was answered to the step; a miss has a cause.
 #[derive(Clone, Copy, Debug)]
 pub(crate) enum Happening {
     Item(Item),
@@ -67,6 +92,7 @@ pub(crate) enum Happening {
         step: Step,
         outcome: Result<Reply, Refused>,
         line: Taken,
+        cause: Option<Cause>,
     },
 }
 
@@ -75,4 +101,8 @@ pub(crate) enum Happening {
 pub(crate) enum Subjects {
     Cores,
     Blocks,
+    /// The words of all blocks, of which each has so many.
+    Words(u32),
+    /// All of the machine's, as one.
+    Machine,
 }

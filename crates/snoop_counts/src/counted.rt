@@ -1,15 +1,27 @@
 //! What each count counts, and for whom.
-ghost use Rattle.std.specs.Prelude.{◌≡◌, None};
-ghost use Rattle.snoop_counts.specs.Counted.{block_named, core_counted, core_named, counts, counts_refusal, counts_row, has_row, is_downgrade, is_from_cache, is_invalidation, is_lost_upgrade, is_overtaking, is_refused, is_taking, is_upgrade, own_block, own_core, requestor_of, sender_of, subject_of};
+ghost use Rattle.std.specs.Prelude.{◌≡◌, ◌||◌, false, None};
+ghost use Rattle.std.specs.Option.{option_map_or};
+ghost use Rattle.snoop_counts.specs.Counted.{block_named, core_counted, core_named, counts, counts_cause, counts_lines, counts_refusal, counts_row, has_row, is_downgrade, is_from_cache, is_giving_up, is_invalidation, is_loss, is_lost_upgrade, is_miss, is_overtaking, is_refused, is_taking, is_upgrade, named_place, own_block, own_core, own_word, requestor_of, sender_of, subject_of};
 ghost use Rattle.snoop_counts.specs.declared.count.Happening.TheVariants as happening;
 ghost use Rattle.snoop_history.specs.declared.items.Item.TheVariants as item;
 
-use crate::count::{Count, Happening, Subjects};
+use crate::count::{Cause, Count, Happening, Subjects};
 use snoop_engine::Taken;
 use snoop_history::{Came, Did, Item, Sent};
 use snoop_machine::{Refused, Reply};
 use snoop_rules::{CacheEvent, CacheState, Payload, Request};
 use snoop_trace::Step;
+
+/// A miss: an operation is performed with data that came because the core had no copy.
+pub(crate) fn is_miss(state: CacheState, event: CacheEvent) -> bool
+    ensures { result ≡ is_miss state event }
+{
+    matches!(
+        (state, event),
+        (CacheState::IsD, CacheEvent::Data | CacheEvent::DataE)
+            | (CacheState::ImD, CacheEvent::Data)
+    )
+}
 
 fn is_upgrade(state: CacheState, event: CacheEvent) -> bool
     ensures { result ≡ is_upgrade state event }
@@ -62,6 +74,26 @@ fn is_overtaking(state: CacheState, event: CacheEvent) -> bool
     )
 }
 
+/// The core's copy is lost to another's GetM.
+pub(crate) fn is_loss(state: CacheState, event: CacheEvent) -> bool
+    ensures { result ≡ is_loss state event }
+{
+    is_invalidation(state, event) || is_taking(state, event)
+}
+
+/// The core gives its copy up.
+pub(crate) fn is_giving_up(state: CacheState, event: CacheEvent) -> bool
+    ensures { result ≡ is_giving_up state event }
+{
+    matches!(
+        (state, event),
+        (
+            CacheState::S | CacheState::E | CacheState::M,
+            CacheEvent::Evict
+        )
+    )
+}
+
 // A core sent the response to a GetS or a GetM.
 fn is_from_cache(came: Came) -> bool
     ensures { result ≡ is_from_cache came }
@@ -77,6 +109,7 @@ fn counts_operation(count: Count, did: Did) -> bool
         Count::LoadHits => did.load && did.hit,
         Count::Stores => !did.load,
         Count::StoreHits => !did.load && did.hit,
+        Count::Operations => true,
         _ => false,
     }
 }
@@ -123,6 +156,7 @@ fn counts_row(count: Count, state: CacheState, event: CacheEvent) -> bool
     ensures { result ≡ counts_row count state event }
 {
     match count {
+        Count::Misses => is_miss(state, event),
         Count::Upgrades => is_upgrade(state, event),
         Count::UpgradesLost => is_lost_upgrade(state, event),
         Count::Invalidated | Count::Invalidates => is_invalidation(state, event),
@@ -171,6 +205,26 @@ fn counts_outcome(count: Count, outcome: Result<Reply, Refused>) -> bool
     }
 }
 
+// Whether a line is counted, the cause of a miss aside.
+fn counts_line(count: Count, outcome: Result<Reply, Refused>, line: Taken) -> bool
+    ensures { result ≡ (counts_lines count || has_row (counts_row count) line || is_refused (counts_refusal count) outcome) }
+{
+    matches!(count, Count::Lines) || counts_row_of(count, line) || counts_outcome(count, outcome)
+}
+
+// Whether a miss is counted by its cause, if it is one.
+fn counts_cause(count: Count, cause: Option<Cause>) -> bool
+    ensures { result ≡ option_map_or (counts_cause count) cause false }
+{
+    match (count, cause) {
+        (Count::Cold, Some(Cause::Cold)) => true,
+        (Count::GivenUp, Some(Cause::GivenUp)) => true,
+        (Count::TrueSharing, Some(Cause::TrueSharing)) => true,
+        (Count::FalseSharing, Some(Cause::FalseSharing)) => true,
+        _ => false,
+    }
+}
+
 /// Whether it is counted.
 pub(crate) fn counts(count: Count, happening: Happening) -> bool
     ensures { result ≡ counts count happening }
@@ -181,11 +235,8 @@ pub(crate) fn counts(count: Count, happening: Happening) -> bool
             step: _,
             outcome,
             line,
-        } => {
-            matches!(count, Count::Lines)
-                || counts_row_of(count, line)
-                || counts_outcome(count, outcome)
-        }
+            cause,
+        } => counts_line(count, outcome, line) || counts_cause(count, cause),
     }
 }
 
@@ -230,6 +281,30 @@ fn own_block(happening: Happening) -> Option<u32>
     }
 }
 
+// A place that a number of 32 bits can name.
+fn named_place(place: u64) -> Option<u32>
+    ensures { result ≡ named_place place }
+{
+    if place <= u32::MAX as u64 {
+        Some(place as u32)
+    } else {
+        None
+    }
+}
+
+// The place of the word of the operation that an item performs.
+fn own_word(words: u32, happening: Happening) -> Option<u32>
+    ensures { result ≡ own_word words happening }
+{
+    match happening {
+        Happening::Item(item) => match item.did() {
+            None => None,
+            Some(did) => named_place(did.block as u64 * words as u64 + did.word as u64),
+        },
+        Happening::Line { .. } => None,
+    }
+}
+
 // The core whose Order the line is of.
 fn requestor_of(happening: Happening) -> Option<u32>
     ensures { result ≡ requestor_of happening }
@@ -271,5 +346,7 @@ pub(crate) fn subject_of(subjects: Subjects, count: Count, happening: Happening)
     match subjects {
         Subjects::Cores => core_counted(count, happening),
         Subjects::Blocks => own_block(happening),
+        Subjects::Words(words) => own_word(words, happening),
+        Subjects::Machine => Some(0),
     }
 }

@@ -1,9 +1,9 @@
-//! For which cores something of each block was counted.
+//! For which cores something of each block, or each word, was counted.
 ghost use Rattle.std.specs.Prelude.{◌≡◌, ◌<◌, ◌≤◌, ◌++◌, ◌∷◌, [], ℕ, List, IfOk};
-ghost use Rattle.snoop_counts.specs.ByBlock.{sharers};
-ghost use Rattle.snoop_counts.specs.Sharers.{HasMarked, Puts};
+ghost use Rattle.snoop_counts.specs.Sharers.{HasMarked, Puts, sharers};
 ghost use Rattle.snoop_counts.specs.declared.count.Count.{Count as Counted};
 ghost use Rattle.snoop_counts.specs.declared.count.Happening.{Happening as Seen};
+ghost use Rattle.snoop_counts.specs.declared.count.Subjects.{Subjects as Whose};
 
 use crate::core_set::CoreSet;
 use crate::count::{Count, Happening, Subjects};
@@ -12,56 +12,67 @@ use snoop_blocks::BlockTable;
 use snoop_trace::NoMemory;
 use std::alloc::Global;
 
-/// For each block the cores for which this count has counted something of it.
+/// For each block, or each word, the cores for which this count has counted something of it.
 #[derive(Drop)]
 pub(crate) struct Sharers {
+    subjects: Subjects,
     count: Count,
     sets: BlockTable<CoreSet>,
 }
 
 impl Sharers {
-    /// Nothing is counted yet, for so many blocks.
-    pub(crate) fn new(alloc: Global, count: Count, blocks: u32) -> Result<Self, NoMemory>
-        ensures { IfOk result (HasMarked count blocks []) }
+    /// Nothing is counted yet, for so many subjects.
+    pub(crate) fn new(
+        alloc: Global,
+        subjects: Subjects,
+        count: Count,
+        many: u32,
+    ) -> Result<Self, NoMemory>
+        ensures { IfOk result (HasMarked subjects count many []) }
     {
-        match BlockTable::new(alloc, blocks, CoreSet::empty()) {
-            Ok(sets) => Ok(Sharers { count, sets }),
+        match BlockTable::new(alloc, many, CoreSet::empty()) {
+            Ok(sets) => Ok(Sharers {
+                subjects,
+                count,
+                sets,
+            }),
             Err(_) => Err(NoMemory),
         }
     }
 
-    // Puts the core into the set of the block, if there is one.
-    fn insert(&mut self, block: u32, core: u32)
+    // Puts the core into the set of the subject, if there is one.
+    fn insert(&mut self, subject: u32, core: u32)
+        ensures subjects { self.new.subjects ≡ self.old.subjects }
         ensures count { self.new.count ≡ self.old.count }
-        ensures puts { Puts block core self.old.sets self.new.sets }
+        ensures puts { Puts subject core self.old.sets self.new.sets }
     {
-        if let Some(mut set) = self.sets.get(block) {
+        if let Some(mut set) = self.sets.get(subject) {
             set.insert(core);
-            self.sets.set(block, set);
+            self.sets.set(subject, set);
         }
     }
 
-    /// Marks the core and the block of what has happened, if it is counted.
+    /// Marks the core and the subject of what has happened, if it is counted.
     pub(crate) fn add(&mut self, happening: Happening)
-        ensures { (counted : Counted) (blocks : ℕ) (seen : List Seen) → HasMarked counted blocks seen self.old → HasMarked counted blocks (seen ++ happening ∷ []) self.new }
+        ensures { (whose : Whose) (counted : Counted) (many : ℕ) (seen : List Seen) → HasMarked whose counted many seen self.old → HasMarked whose counted many (seen ++ happening ∷ []) self.new }
     {
         if !counts(self.count, happening) {
             return;
         }
-        let Some(block) = subject_of(Subjects::Blocks, self.count, happening) else {
+        let Some(subject) = subject_of(self.subjects, self.count, happening) else {
             return;
         };
         let Some(core) = subject_of(Subjects::Cores, self.count, happening) else {
             return;
         };
-        self.insert(block, core);
+        self.insert(subject, core);
     }
 
-    /// For how many of so many cores something of the block was counted.
-    pub(crate) fn of(&self, block: u32, cores: u32) -> u64
-        ensures { (counted : Counted) (blocks : ℕ) (seen : List Seen) → HasMarked counted blocks seen self.now → block < blocks → cores ≤ 256 → result ≡ sharers counted cores seen block }
+    /// For how many of so many cores something of the subject was counted.
+    pub(crate) fn of(&self, subject: u32, cores: u32) -> u64
+        ensures { (whose : Whose) (counted : Counted) (many : ℕ) (seen : List Seen) → HasMarked whose counted many seen self.now → subject < many → cores ≤ 256 → result ≡ sharers whose counted cores seen subject }
     {
-        match self.sets.get(block) {
+        match self.sets.get(subject) {
             None => 0,
             Some(set) => set.count(cores) as u64,
         }

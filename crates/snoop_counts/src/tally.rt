@@ -1,21 +1,19 @@
 //! Counters, a row of them for each core or block.
-ghost use Rattle.std.specs.Prelude.{◌≡◌, ◌<◌, ◌++◌, ◌∷◌, [], ℕ, List, IfOk, map};
-ghost use Rattle.snoop_counts.specs.Tally.{HasCounted, IsRowOf, counter_in, raised, raised_by, raised_row};
+ghost use Rattle.std.specs.Prelude.{◌≡◌, ◌<◌, ◌++◌, ◌∷◌, [], ℕ, List, IfOk, IsSomeAnd};
+ghost use Rattle.snoop_counts.specs.Counted.{counted_of};
+ghost use Rattle.snoop_counts.specs.Tally.{HasCounted, IsRowOf, counter_in, empty_row, raised, raised_by, raised_row};
+ghost use Rattle.snoop_counts.specs.declared.count.Count.{Count as Counted};
 ghost use Rattle.snoop_counts.specs.declared.count.Happening.{Happening};
-ghost use Rattle.snoop_counts.specs.declared.count.Happening.TheVariants as happening;
 ghost use Rattle.snoop_counts.specs.declared.count.Subjects.{Subjects};
 
 use crate::count::{Count, Happening, Subjects};
 use crate::counted::{counts, subject_of};
 use snoop_blocks::BlockTable;
-use snoop_engine::Taken;
-use snoop_history::Log;
-use snoop_machine::{Refused, Reply};
-use snoop_trace::{NoMemory, Step};
+use snoop_trace::NoMemory;
 use std::alloc::Global;
 
 // All counts, by their places in a row.
-static COUNTS: [Count; 25] = [
+static COUNTS: [Count; 31] = [
     Count::Loads,
     Count::LoadHits,
     Count::Stores,
@@ -28,6 +26,11 @@ static COUNTS: [Count; 25] = [
     Count::Writebacks,
     Count::Clean,
     Count::Stale,
+    Count::Misses,
+    Count::Cold,
+    Count::GivenUp,
+    Count::TrueSharing,
+    Count::FalseSharing,
     Count::Upgrades,
     Count::UpgradesLost,
     Count::Invalidated,
@@ -41,15 +44,23 @@ static COUNTS: [Count; 25] = [
     Count::NothingWaiting,
     Count::NoTransaction,
     Count::Lines,
+    Count::Operations,
 ];
 
 /// A counter for each count.
 #[derive(Clone, Copy, Debug)]
 pub(crate) struct Counters {
-    counters: [u64; 25],
+    counters: [u64; 31],
 }
 
 impl Counters {
+    // Nothing is counted yet.
+    fn none() -> Counters
+        ensures { result ≡ empty_row }
+    {
+        Counters { counters: [0; 31] }
+    }
+
     /// Counts one more; the counter stops at the largest `u64`.
     fn raise(&mut self, count: Count)
         ensures { self.new ≡ raised_row count self.old }
@@ -78,11 +89,18 @@ impl Tally {
     pub(crate) fn new(alloc: Global, subjects: Subjects, count: u32) -> Result<Self, NoMemory>
         ensures { IfOk result (HasCounted subjects count []) }
     {
-        let empty = Counters { counters: [0; 25] };
-        match BlockTable::new(alloc, count, empty) {
+        match BlockTable::new(alloc, count, Counters::none()) {
             Ok(rows) => Ok(Tally { subjects, rows }),
             Err(_) => Err(NoMemory),
         }
+    }
+
+    /// The counters of a subject.
+    pub(crate) fn row(&self, subject: u32) -> Option<Counters>
+        ensures { (whose : Subjects) (many : ℕ) (seen : List Happening) → HasCounted whose many seen self.now → subject < many
+            → IsSomeAnd result (λ row. (counted : Counted) → counter_in row counted ≡ counted_of whose seen subject counted) }
+    {
+        self.rows.get(subject)
     }
 
     /// The counters of a subject, if a line names it.
@@ -92,6 +110,15 @@ impl Tally {
         self.rows
             .get(subject)
             .filter(|row| row.of(Count::Lines) > 0)
+    }
+
+    /// Nothing is counted yet, for one subject.
+    pub(crate) fn restart(&mut self)
+        ensures { (whose : Subjects) (seen : List Happening) → HasCounted whose 1 seen self.old → HasCounted whose 1 [] self.new }
+    {
+        if self.rows.get(0).is_some() {
+            self.rows.set(0, Counters::none());
+        }
     }
 
     // Counts one more for the subject.
@@ -125,27 +152,12 @@ impl Tally {
         }
     }
 
-    /// Counts the lines of a step.
-    pub(crate) fn add_lines(&mut self, step: Step, outcome: Result<Reply, Refused>, lines: &[Taken])
-        ensures { (whose : Subjects) (many : ℕ) (seen : List Happening) → HasCounted whose many seen self.old → HasCounted whose many (seen ++ map (happening.Line step outcome) lines.now) self.new }
+    /// Counts all of this.
+    pub(crate) fn add_all(&mut self, happenings: &[Happening])
+        ensures { (whose : Subjects) (many : ℕ) (seen : List Happening) → HasCounted whose many seen self.old → HasCounted whose many (seen ++ happenings.now) self.new }
     {
-        for line in lines {
-            self.add(Happening::Line {
-                step,
-                outcome,
-                line: *line,
-            });
-        }
-    }
-
-    /// Counts the items of a history.
-    pub(crate) fn add_items(&mut self, log: &Log)
-        ensures { (whose : Subjects) (many : ℕ) (seen : List Happening) → HasCounted whose many seen self.old → HasCounted whose many (seen ++ map happening.Item log.now.items) self.new }
-    {
-        for place in 0..log.len() {
-            if let Some(item) = log.item(place) {
-                self.add(Happening::Item(item));
-            }
+        for happening in happenings {
+            self.add(*happening);
         }
     }
 }

@@ -1,21 +1,16 @@
-use Rattle.std.proofs.Common.{◌≡◌, ℕ, List, ◌++◌, map, sym, ap, subst, ◌∙◌}
+use Rattle.std.proofs.Common.{◌≡◌, ℕ, List, ◌++◌, sym, ap, subst, ◌∙◌}
 use Rattle.std.proofs.lemmas.Result.{on_ok_weaker}
 use Rattle.snoop_trace.specs.Extent.{Extent}
-use Rattle.snoop_history.specs.declared.items.Item.{Item}
 use Rattle.snoop_counts.specs.CoreTable.{core_table}
-use Rattle.snoop_counts.specs.Counted.{happenings, seen_in_all}
+use Rattle.snoop_counts.specs.Happenings.{happenings}
 use Rattle.snoop_counts.specs.Tally.{HasCounted}
-use Rattle.snoop_counts.specs.declared.count.Happening.TheVariants as happening
 use Rattle.snoop_counts.specs.declared.count.Subjects.TheVariants.{Cores}
 use Rattle.snoop_counts.proofs.by_core.ByCoreView.end.Goals as goal
 
 pub returns-in-Some : goal.returns-in-Some
 returns-in-Some c first frames has run =
     let machine = c.args.machine.now.situation in
-    let all = happenings frames machine.log in
-    let tally = c.add_items.new.self in
+    let all = happenings frames in
     let same : machine.shape.cores ≡ c.cores.result = sym (c.cores.ensures.value ∙ ap (λ (s : Extent). s.cores) c.shape.ensures) in
-    let far = subst (λ (items : List Item). HasCounted Cores machine.shape.cores (seen_in_all frames ++ map happening.Item items) tally) c.log.ensures.items
-    (c.add_items.ensures Cores machine.shape.cores (seen_in_all frames) (rw c.in-Some.is at has)) in
     on_ok_weaker c.push_core_table.result (λ e. e ∙ ap (λ (n : ℕ). c.args.out.now.items ++ core_table n all) (sym same))
-    (c.push_core_table.ensures all (subst (λ (n : ℕ). HasCounted Cores n all tally) same far))
+    (c.push_core_table.ensures all (subst (λ (n : ℕ). HasCounted Cores n all c.in-Some.tally) same (rw c.in-Some.is at has.1)))

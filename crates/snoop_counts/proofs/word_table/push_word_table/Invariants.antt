@@ -1,0 +1,11 @@
+use Rattle.std.proofs.Common.{◌≡◌, List, ◌++◌}
+use Rattle.std.specs.List.{flat_map, range_with_len}
+use Rattle.snoop_counts.specs.ByWord.{word_header, word_lines}
+use Rattle.snoop_counts.specs.WordTally.{CountsWords}
+use Rattle.snoop_counts.specs.declared.count.Happening.{Happening}
+use Rattle.snoop_counts.proofs.word_table.push_word_table.Given as goal
+
+-- the lines so far
+abbrev pub invariant-loop-block : goal.invariant-loop-block
+invariant-loop-block l = (seen : List Happening) → CountsWords l.shape seen l.tally
+    → l.out.items ≡ (l.fn.out.items ++ word_header) ++ flat_map (word_lines l.shape seen) (range_with_len 0 l.block)

@@ -1,0 +1,10 @@
+use Rattle.std.proofs.Common.{◌≡◌, List, ◌++◌}
+use Rattle.std.specs.List.{flat_map, range_with_len}
+use Rattle.snoop_counts.specs.ByWord.{word_line}
+use Rattle.snoop_counts.specs.WordTally.{CountsWords}
+use Rattle.snoop_counts.specs.declared.count.Happening.{Happening}
+use Rattle.snoop_counts.proofs.word_table.push_words.Given as goal
+
+-- the lines so far
+abbrev pub invariant-loop-word : goal.invariant-loop-word
+invariant-loop-word l = (seen : List Happening) → CountsWords l.shape seen l.tally → l.out.items ≡ l.fn.out.items ++ flat_map (word_line l.shape seen l.block) (range_with_len 0 l.word)

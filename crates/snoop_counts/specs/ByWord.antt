@@ -1,0 +1,54 @@
+-- The counts of each word of the blocks that cores share, as a text of fields.
+-- Source: the fields and their form are this project's profile.
+use Rattle.std.specs.Prelude.{ℕ, ◌+◌, ◌*◌, Bool, List, [], ◌∷◌, ◌++◌, codes, nat_lt, if◌then◌else◌}
+use Rattle.std.specs.Fmt.{decimal}
+use Rattle.std.specs.List.{flat_map, range_with_len}
+use Rattle.snoop_trace.specs.Extent.{Extent}
+use Rattle.snoop_trace.specs.Output.{word_address}
+use Rattle.snoop_model.specs.Pictures.Situation.{Situation}
+use Rattle.snoop_engine.specs.Frames.{Frame}
+use Rattle.snoop_counts.specs.CoreTable.{count_fields}
+use Rattle.snoop_counts.specs.Counted.{counted_of, place_of_word}
+use Rattle.snoop_counts.specs.Happenings.{happenings}
+use Rattle.snoop_counts.specs.Sharers.{sharers}
+use Rattle.snoop_counts.specs.declared.count.Count.{Count}
+use Rattle.snoop_counts.specs.declared.count.Count.TheVariants as count
+use Rattle.snoop_counts.specs.declared.count.Happening.{Happening}
+use Rattle.snoop_counts.specs.declared.count.Subjects.TheVariants.{Blocks, Words}
+
+-- the names of the fields
+abbrev pub word_header : List ℕ
+word_header = codes "block,word,address,cores,readers,writers,loads,load_hits,stores,store_hits\n"
+
+-- the counts of a word, in the order of the fields
+abbrev pub word_counts : List Count
+word_counts = count.Loads ∷ count.LoadHits ∷ count.Stores ∷ count.StoreHits ∷ []
+
+-- how many cores performed an operation on the word, how many a load of it, and how many a store
+abbrev pub word_sharing : Extent → List Happening → ℕ → List ℕ
+word_sharing shape seen place =
+    codes "," ++ decimal (sharers (Words shape.words) count.Operations shape.cores seen place) ++ codes "," ++ decimal (sharers (Words shape.words) count.Loads shape.cores seen place)
+    ++ codes "," ++ decimal (sharers (Words shape.words) count.Stores shape.cores seen place)
+
+-- the line of a word
+abbrev pub word_line : Extent → List Happening → ℕ → ℕ → List ℕ
+word_line shape seen block word =
+    let place = place_of_word shape.words block word in
+    decimal block ++ codes "," ++ decimal word ++ codes "," ++ decimal (word_address shape block word) ++ word_sharing shape seen place
+    ++ count_fields word_counts (counted_of (Words shape.words) seen place) ++ codes "\n"
+
+-- at least two cores performed an operation on the block
+abbrev pub is_shared : Extent → List Happening → ℕ → Bool
+is_shared shape seen block = nat_lt 1 (sharers Blocks count.Operations shape.cores seen block)
+
+-- the lines of the words of a block, where it is shared
+abbrev pub word_lines : Extent → List Happening → ℕ → List ℕ
+word_lines shape seen block = if is_shared shape seen block then flat_map (word_line shape seen block) (range_with_len 0 shape.words) else []
+
+-- the table
+abbrev pub word_table : Extent → List Happening → List ℕ
+word_table shape seen = word_header ++ flat_map (word_lines shape seen) (range_with_len 0 shape.blocks)
+
+-- the table of a run
+abbrev pub counts_by_word : Extent → List Frame → Situation → List ℕ
+counts_by_word shape frames final = word_table shape (happenings frames)

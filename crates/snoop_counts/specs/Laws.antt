@@ -1,0 +1,56 @@
+-- What holds of all tables of counts.
+-- Source: this project's profile.
+use Rattle.std.specs.Prelude.{◌≡◌, ℕ, ◌+◌, List, ◌++◌}
+use Rattle.std.specs.List.{range_with_len, sum_by}
+use Rattle.snoop_trace.specs.Extent.{Extent}
+use Rattle.snoop_history.specs.Totals.{totals_of}
+use Rattle.snoop_history.specs.declared.items.Item.{Item}
+use Rattle.snoop_history.specs.declared.items.Totals.{Totals}
+use Rattle.snoop_engine.specs.Frames.{Frame}
+use Rattle.snoop_counts.specs.Counted.{times}
+use Rattle.snoop_counts.specs.Happenings.{happenings, seen_after}
+use Rattle.snoop_counts.specs.declared.count.Count.{Count}
+use Rattle.snoop_counts.specs.declared.count.Count.TheVariants as count
+use Rattle.snoop_counts.specs.declared.count.Happening.{Happening}
+use Rattle.snoop_counts.specs.declared.count.Subjects.{Subjects}
+use Rattle.snoop_counts.specs.declared.count.Subjects.TheVariants.{Blocks, Cores}
+
+-- the sum of a count over so many subjects
+abbrev pub sum_of : Subjects → ℕ → List Happening → Count → ℕ
+sum_of whose many seen counted = sum_by (λ subject. times whose seen subject counted) (range_with_len 0 many)
+
+-- the sums of the twelve counts of the report
+abbrev pub sums_of : Subjects → ℕ → List Happening → Totals
+sums_of whose many seen =
+    record {
+      loads = sum_of whose many seen count.Loads;
+      load_hits = sum_of whose many seen count.LoadHits;
+      stores = sum_of whose many seen count.Stores;
+      store_hits = sum_of whose many seen count.StoreHits;
+      get_s = sum_of whose many seen count.GetS;
+      get_m = sum_of whose many seen count.GetM;
+      put_m = sum_of whose many seen count.PutM;
+      from_memory = sum_of whose many seen count.FromMemory;
+      from_caches = sum_of whose many seen count.FromCaches;
+      writebacks = sum_of whose many seen count.Writebacks;
+      clean = sum_of whose many seen count.Clean;
+      stale = sum_of whose many seen count.Stale;
+    }
+
+-- over all cores, and over all blocks, they are the report's
+pub record SumsAreTotals (shape : Extent) (frames : List Frame) (items : List Item) : Type 0 where
+  pub cores : sums_of Cores shape.cores (happenings frames) ≡ totals_of items
+  pub blocks : sums_of Blocks shape.blocks (happenings frames) ≡ totals_of items
+
+-- of every core, block and word, and of the machine, the misses are those of the four causes
+abbrev pub CausesAreAll : Type 0
+CausesAreAll =
+    (frames : List Frame) (whose : Subjects) (subject : ℕ) → let seen = happenings frames in
+    times whose seen subject count.Misses
+    ≡ times whose seen subject count.Cold + times whose seen subject count.GivenUp + times whose seen subject count.TrueSharing + times whose seen subject count.FalseSharing
+
+-- steps that are cut in two, at any place, have the counts of both parts together
+abbrev pub PartsAddUp : Type 0
+PartsAddUp =
+    (earlier first rest : List Frame) (whose : Subjects) (subject : ℕ) (counted : Count)
+    → times whose (seen_after earlier (first ++ rest)) subject counted ≡ times whose (seen_after earlier first) subject counted + times whose (seen_after (earlier ++ first) rest) subject counted

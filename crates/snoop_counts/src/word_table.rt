@@ -1,0 +1,124 @@
+//! The counts of each word of the blocks that cores share, as a table.
+ghost use Rattle.std.specs.Prelude.{◌≡◌, ◌<◌, ◌*◌, ◌++◌, List, OnOk};
+ghost use Rattle.snoop_trace.specs.Output.{word_address};
+ghost use Rattle.snoop_counts.specs.ByWord.{word_line, word_lines, word_sharing, word_table};
+ghost use Rattle.snoop_counts.specs.Counted.{place_of_word};
+ghost use Rattle.snoop_counts.specs.WordTally.{CountsWords};
+ghost use Rattle.snoop_counts.specs.declared.count.Happening.{Happening};
+
+use crate::core_table::push_counts;
+use crate::count::Count;
+use crate::word_tally::WordTally;
+use snoop_trace::streams::{push_byte, push_decimal, push_text};
+use snoop_trace::{NoMemory, Shape};
+
+// The counts of a word, in the order of the fields.
+static WORD_COUNTS: [Count; 4] = [
+    Count::Loads,
+    Count::LoadHits,
+    Count::Stores,
+    Count::StoreHits,
+];
+
+// The first address of a word of a block.
+fn word_address(shape: Shape, block: u32, word: u32) -> u64
+    ensures { result ≡ word_address shape block word }
+{
+    let bytes = shape.block_bytes();
+    block as u64 * bytes as u64 + word as u64 * (bytes / shape.words()) as u64
+}
+
+// The place of a word among all words.
+fn place_of_word(shape: Shape, block: u32, word: u32) -> u32
+    requires within { (block < shape.blocks) × (word < shape.words) }
+    ensures value { result ≡ place_of_word shape.words block word }
+    ensures there { result < shape.blocks * shape.words }
+{
+    shape.within_limits();
+    block * shape.words() + word
+}
+
+// Appends how many cores performed an operation on the word, how many a load of it, and how many a store.
+fn push_word_sharing(
+    out: &mut Vec<u8>,
+    shape: Shape,
+    tally: &WordTally,
+    place: u32,
+) -> Result<(), NoMemory>
+    ensures { (seen : List Happening) → CountsWords shape seen tally.now → place < shape.blocks * shape.words
+        → OnOk result (out.new.items ≡ out.old.items ++ word_sharing shape seen place) }
+{
+    let cores = shape.cores();
+    push_byte(out, b',')?;
+    push_decimal(out, tally.cores(place, cores))?;
+    push_byte(out, b',')?;
+    push_decimal(out, tally.readers(place, cores))?;
+    push_byte(out, b',')?;
+    push_decimal(out, tally.writers(place, cores))
+}
+
+// Appends the line of a word.
+fn push_word(
+    out: &mut Vec<u8>,
+    shape: Shape,
+    tally: &WordTally,
+    block: u32,
+    word: u32,
+) -> Result<(), NoMemory>
+    requires { (block < shape.blocks) × (word < shape.words) }
+    ensures { (seen : List Happening) → CountsWords shape seen tally.now
+        → OnOk result (out.new.items ≡ out.old.items ++ word_line shape seen block word) }
+{
+    let place = place_of_word(shape, block, word);
+    match tally.row(place) {
+        None => Ok(()),
+        Some(row) => {
+            push_decimal(out, block as u64)?;
+            push_byte(out, b',')?;
+            push_decimal(out, word as u64)?;
+            push_byte(out, b',')?;
+            push_decimal(out, word_address(shape, block, word))?;
+            push_word_sharing(out, shape, tally, place)?;
+            push_counts(out, &row, &WORD_COUNTS)?;
+            push_byte(out, b'\n')
+        }
+    }
+}
+
+// Appends the lines of the words of a block, if it is shared.
+fn push_words(
+    out: &mut Vec<u8>,
+    shape: Shape,
+    tally: &WordTally,
+    block: u32,
+) -> Result<(), NoMemory>
+    requires { block < shape.blocks }
+    ensures { (seen : List Happening) → CountsWords shape seen tally.now
+        → OnOk result (out.new.items ≡ out.old.items ++ word_lines shape seen block) }
+{
+    if !tally.is_shared(block, shape.cores()) {
+        return Ok(());
+    }
+    for word in 0..shape.words() {
+        push_word(out, shape, tally, block, word)?;
+    }
+    Ok(())
+}
+
+/// Appends the table.
+pub(crate) fn push_word_table(
+    out: &mut Vec<u8>,
+    tally: &WordTally,
+    shape: Shape,
+) -> Result<(), NoMemory>
+    ensures { (seen : List Happening) → CountsWords shape seen tally.now → OnOk result (out.new.items ≡ out.old.items ++ word_table shape seen) }
+{
+    push_text(
+        out,
+        "block,word,address,cores,readers,writers,loads,load_hits,stores,store_hits\n",
+    )?;
+    for block in 0..shape.blocks() {
+        push_words(out, shape, tally, block)?;
+    }
+    Ok(())
+}
