@@ -15,7 +15,7 @@ use Rattle.snoop_engine.specs.Todo.{Todo, todo_of, left_in}
 use Rattle.snoop_engine.specs.Round.{Progress, TakesUp, remaining}
 
 -- lanes that are alike at each core have as many rows left
-left_same : (xs ys : List Todo) → ((k : ℕ) → length (todo_of xs k).left ≡ length (todo_of ys k).left) → left_in xs ≡ left_in ys
+pub left_same : (xs ys : List Todo) → ((k : ℕ) → length (todo_of xs k).left ≡ length (todo_of ys k).left) → left_in xs ≡ left_in ys
 left_same [] [] same = refl
 left_same [] (y ∷ ys) same =
     let rest : left_in [] ≡ left_in ys = left_same [] ys (λ k. same (suc k)) in

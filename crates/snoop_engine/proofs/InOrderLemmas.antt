@@ -1,5 +1,5 @@
 -- A driver that serves rows one after another: what its steps need, and what they keep.
-use Rattle.std.proofs.Common.{◌≡◌, ℕ, ◌/◌, ◌<◌, Bool, true, false, Option, Some, None, List, [], ◌∷◌, ◌++◌, refl, sym, ◌∙◌, ap, subst}
+use Rattle.std.proofs.Common.{◌≡◌, ℕ, ◌/◌, ◌<◌, Bool, true, false, cond, Option, Some, None, List, [], ◌∷◌, ◌++◌, refl, sym, ◌∙◌, ap, subst}
 use Rattle.std.specs.Prelude.{All, IfNone, IfSome}
 use Rattle.std.proofs.lemmas.List.Elements.{All-head, All-tail}
 use Rattle.snoop_trace.specs.Extent.{Extent, IsWithinLimits}
@@ -106,6 +106,18 @@ begun_fit s left rest row old fit serves first =
 pub none_and : {X : Type 0} (r : Option X) (P Q : Type 0) → Q → IfNone r P → IfNone r (P × Q)
 none_and None P Q q p = (p, q)
 none_and (Some x) P Q q p = tt
+
+-- a step that asks nothing takes up nothing
+pub asks_nothing_more : (old new : InOrder) (step : Step) → is_ask step ≡ false → old.left ≡ new.left → TakesUpNext old step new
+asks_nothing_more old new step none same = record {
+  first = [];
+  left = same;
+  asked = ap (λ (b : Bool). cond b (step ∷ []) []) none;
+  rest = λ asks. absurd (clash (sym none ∙ asks));
+}
+  where
+    clash : false ≡ true → ⊥
+    clash e = cc
 
 -- a move keeps what holds between steps
 pub in_order_moves : (s t : Situation) (left : List Row) (row : Option Row) (step : Step) (answer : Reply) (entry : Option Item) → IsInOrder s left row → IsUnderWay (under_way s.shape row) step

@@ -21,3 +21,5 @@ pub mod CountedLemmas
 pub mod ShownLemmas
 pub mod CourseLemmas
 pub mod InOrderLemmas
+pub mod NowLemmas
+pub mod Completing

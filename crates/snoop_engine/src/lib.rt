@@ -3,15 +3,16 @@
 //! lines and its report is a `View`.
 #![tactic(auto)]
 
-mod actions;
 mod choice;
 mod counts;
 mod counts_text;
 mod course;
 mod deal;
+mod digits;
 mod driver;
 mod events;
 mod fault;
+mod fields;
 mod gather;
 mod input;
 mod lane;

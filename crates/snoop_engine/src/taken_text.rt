@@ -2,14 +2,22 @@
 ghost use Rattle.std.specs.Prelude.{◌≡◌, ◌++◌, [], List, ℕ, OnOk, Some, codes};
 ghost use Rattle.std.specs.Option.{option_map_or};
 ghost use Rattle.std.specs.Fmt.{decimal};
-ghost use Rattle.snoop_rules.specs.Names.{event_name, memory_event_name, memory_state_name, state_name};
+ghost use Rattle.snoop_rules.specs.Names.{memory_state_name, state_name};
+ghost use Rattle.snoop_model.specs.Pictures.Sound.{keeps};
+ghost use Rattle.snoop_engine.specs.Taken.{state_at};
 ghost use Rattle.snoop_engine.specs.States.{core_field, done_text, kept_at, kept_text, memory_done_text, memory_met_text, memory_now_text, memory_text, memory_value_at, met_text, now_text, number_field, place_text, reply_field, step_fields, taken_text, value_text};
 
-use crate::actions::{push_action, push_memory_action};
-use crate::line::{push_numbered, push_outcome};
+use crate::digits::push_short;
+use crate::fields::{
+    action_field, event_field, memory_action_field, memory_event_field, memory_state_field,
+    state_field,
+};
+use crate::line::push_outcome;
 use crate::taken::{Taken, memory_at, state_at};
 use snoop_machine::{Machine, Refused, Reply};
-use snoop_rules::{CacheEvent, CacheState, MemEvent, MemState, Protocol, cache_cell, mem_cell};
+use snoop_rules::{
+    CacheEvent, CacheState, MemEvent, MemState, Protocol, cache_cell, mem_cell, waits,
+};
 use snoop_trace::streams::{push_byte, push_decimal, push_step, push_text};
 use snoop_trace::{NoMemory, Shape, Step};
 
@@ -33,8 +41,11 @@ fn push_value(out: &mut Vec<u8>, word: u32, value: Option<u64>) -> Result<(), No
 {
     match value {
         None => Ok(()),
-        Some(value) if word == 0 => push_decimal(out, value),
-        Some(value) => push_numbered(out, " ", value),
+        Some(value) if word == 0 => push_short(out, value),
+        Some(value) => {
+            push_byte(out, b' ')?;
+            push_short(out, value)
+        }
     }
 }
 
@@ -61,47 +72,27 @@ fn push_place(out: &mut Vec<u8>, machine: &Machine, core: u32, block: u32) -> Re
 {
     match machine.place(core, block) {
         None => Ok(()),
-        Some(place) => push_decimal(out, place as u64),
+        Some(place) => push_short(out, place as u64),
     }
 }
 
-fn push_event(out: &mut Vec<u8>, event: Option<CacheEvent>) -> Result<(), NoMemory>
-    ensures { OnOk result (out.new.items ≡ out.old.items ++ option_map_or event_name event []) }
+// What a core does at its event, by its table.
+fn done_field(protocol: Protocol, before: CacheState, event: CacheEvent) -> &'static str
+    ensures { result.now ≡ done_text protocol before (Some event) ++ codes "," }
 {
-    match event {
-        None => Ok(()),
-        Some(event) => push_text(out, event.name()),
-    }
-}
-
-fn push_done(
-    out: &mut Vec<u8>,
-    protocol: Protocol,
-    before: CacheState,
-    event: Option<CacheEvent>,
-) -> Result<(), NoMemory>
-    ensures { OnOk result (out.new.items ≡ out.old.items ++ done_text protocol before event) }
-{
-    let Some(event) = event else {
-        return Ok(());
-    };
     match cache_cell(protocol, before, event) {
-        None => Ok(()),
-        Some(cell) => push_action(out, cell.action),
+        None => ",",
+        Some(cell) => action_field(cell.action),
     }
 }
 
-fn push_memory_done(
-    out: &mut Vec<u8>,
-    protocol: Protocol,
-    before: MemState,
-    event: MemEvent,
-) -> Result<(), NoMemory>
-    ensures { OnOk result (out.new.items ≡ out.old.items ++ memory_done_text protocol before event) }
+// What memory does at its event, by its table.
+fn memory_done_field(protocol: Protocol, before: MemState, event: MemEvent) -> &'static str
+    ensures { result.now ≡ memory_done_text protocol before event ++ codes "," }
 {
     match mem_cell(protocol, before, event) {
-        None => Ok(()),
-        Some(cell) => push_memory_action(out, cell.action),
+        None => ",",
+        Some(cell) => memory_action_field(cell.action),
     }
 }
 
@@ -113,12 +104,18 @@ fn push_met(
 ) -> Result<(), NoMemory>
     ensures { OnOk result (out.new.items ≡ out.old.items ++ met_text protocol event before) }
 {
-    push_event(out, event)?;
-    push_byte(out, b',')?;
-    push_text(out, before.name())?;
-    push_byte(out, b',')?;
-    push_done(out, protocol, before, event)?;
-    push_byte(out, b',')
+    match event {
+        None => {
+            push_byte(out, b',')?;
+            push_text(out, state_field(before))?;
+            push_byte(out, b',')
+        }
+        Some(event) => {
+            push_text(out, event_field(event))?;
+            push_text(out, state_field(before))?;
+            push_text(out, done_field(protocol, before, event))
+        }
+    }
 }
 
 fn push_memory_met(
@@ -129,40 +126,90 @@ fn push_memory_met(
 ) -> Result<(), NoMemory>
     ensures { OnOk result (out.new.items ≡ out.old.items ++ memory_met_text protocol event before) }
 {
-    push_text(out, event.name())?;
-    push_byte(out, b',')?;
-    push_text(out, before.name())?;
-    push_byte(out, b',')?;
-    push_memory_done(out, protocol, before, event)?;
-    push_byte(out, b',')
+    push_text(out, memory_event_field(event))?;
+    push_text(out, memory_state_field(before))?;
+    push_text(out, memory_done_field(protocol, before, event))
 }
 
+// Appends a core's state, if there is one, and a comma.
 fn push_state(out: &mut Vec<u8>, state: Option<CacheState>) -> Result<(), NoMemory>
-    ensures { OnOk result (out.new.items ≡ out.old.items ++ option_map_or state_name state []) }
+    ensures { OnOk result (out.new.items ≡ out.old.items ++ (option_map_or state_name state [] ++ codes ",")) }
 {
     match state {
-        None => Ok(()),
-        Some(state) => push_text(out, state.name()),
+        None => push_byte(out, b','),
+        Some(state) => push_text(out, state_field(state)),
     }
 }
 
+// Appends memory's state, if there is one, and a comma.
 fn push_memory_state(out: &mut Vec<u8>, state: Option<MemState>) -> Result<(), NoMemory>
-    ensures { OnOk result (out.new.items ≡ out.old.items ++ option_map_or memory_state_name state []) }
+    ensures { OnOk result (out.new.items ≡ out.old.items ++ (option_map_or memory_state_name state [] ++ codes ",")) }
 {
     match state {
-        None => Ok(()),
-        Some(state) => push_text(out, state.name()),
+        None => push_byte(out, b','),
+        Some(state) => push_text(out, memory_state_field(state)),
+    }
+}
+
+// Whether a core in this state keeps the words of the block.
+fn keeps(state: CacheState) -> bool
+    ensures { result ≡ keeps state }
+{
+    !matches!(
+        &state,
+        CacheState::I
+            | CacheState::IsAd
+            | CacheState::IsD
+            | CacheState::ImAd
+            | CacheState::ImD
+            | CacheState::IiA
+    )
+}
+
+// Appends the words that a core in this state keeps.
+fn push_kept_in(
+    out: &mut Vec<u8>,
+    machine: &Machine,
+    core: u32,
+    block: u32,
+    state: Option<CacheState>,
+) -> Result<(), NoMemory>
+    requires { state ≡ state_at machine.now.situation core block }
+    ensures { OnOk result (out.new.items ≡ out.old.items ++ kept_text machine.now.situation core block) }
+{
+    machine.coherent();
+    match state {
+        Some(state) if !keeps(state) => Ok(()),
+        _ => push_kept(out, machine, core, block),
+    }
+}
+
+// Appends the place of a core's request, which waits in some states alone.
+fn push_place_in(
+    out: &mut Vec<u8>,
+    machine: &Machine,
+    core: u32,
+    block: u32,
+    state: Option<CacheState>,
+) -> Result<(), NoMemory>
+    requires { state ≡ state_at machine.now.situation core block }
+    ensures { OnOk result (out.new.items ≡ out.old.items ++ place_text machine.now.situation core block) }
+{
+    machine.coherent();
+    match state {
+        Some(state) if !waits(state) => Ok(()),
+        _ => push_place(out, machine, core, block),
     }
 }
 
 fn push_now(out: &mut Vec<u8>, machine: &Machine, core: u32, block: u32) -> Result<(), NoMemory>
     ensures { OnOk result (out.new.items ≡ out.old.items ++ now_text machine.now.situation core block) }
 {
-    push_state(out, state_at(machine, core, block))?;
+    let state = state_at(machine, core, block);
+    push_state(out, state)?;
+    push_kept_in(out, machine, core, block, state)?;
     push_byte(out, b',')?;
-    push_kept(out, machine, core, block)?;
-    push_byte(out, b',')?;
-    push_place(out, machine, core, block)?;
+    push_place_in(out, machine, core, block, state)?;
     push_byte(out, b'\n')
 }
 
@@ -170,7 +217,6 @@ fn push_memory_now(out: &mut Vec<u8>, machine: &Machine, block: u32) -> Result<(
     ensures { OnOk result (out.new.items ≡ out.old.items ++ memory_now_text machine.now.situation block) }
 {
     push_memory_state(out, memory_at(machine, block))?;
-    push_byte(out, b',')?;
     push_memory_values(out, machine, block)?;
     push_text(out, ",\n")
 }
@@ -180,7 +226,7 @@ fn push_number(out: &mut Vec<u8>, number: Option<u32>) -> Result<(), NoMemory>
 {
     match number {
         None => Ok(()),
-        Some(number) => push_decimal(out, number as u64),
+        Some(number) => push_short(out, number as u64),
     }
 }
 
@@ -189,7 +235,10 @@ fn push_core(out: &mut Vec<u8>, core: Option<u32>) -> Result<(), NoMemory>
 {
     match core {
         None => Ok(()),
-        Some(core) => push_numbered(out, "core ", core as u64),
+        Some(core) => {
+            push_text(out, "core ")?;
+            push_short(out, core as u64)
+        }
     }
 }
 
@@ -197,8 +246,9 @@ fn push_core(out: &mut Vec<u8>, core: Option<u32>) -> Result<(), NoMemory>
 fn push_core_on(out: &mut Vec<u8>, block: u32, core: u32) -> Result<(), NoMemory>
     ensures { OnOk result (out.new.items ≡ out.old.items ++ (decimal block ++ codes ",core " ++ decimal core ++ codes ",")) }
 {
-    push_decimal(out, block as u64)?;
-    push_numbered(out, ",core ", core as u64)?;
+    push_short(out, block as u64)?;
+    push_text(out, ",core ")?;
+    push_short(out, core as u64)?;
     push_byte(out, b',')
 }
 
@@ -222,7 +272,7 @@ pub(crate) fn push_taken(out: &mut Vec<u8>, machine: &Machine, taken: Taken) -> 
             event,
             before,
         } => {
-            push_decimal(out, block as u64)?;
+            push_short(out, block as u64)?;
             push_text(out, ",memory,")?;
             push_memory_met(out, machine.protocol(), event, before)?;
             push_memory_now(out, machine, block)

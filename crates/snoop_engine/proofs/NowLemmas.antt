@@ -1,0 +1,60 @@
+-- What a core's line says nothing of: values in a state that may not be read, a place where no request waits.
+use Rattle.std.proofs.Common.{◌≡◌, ℕ, ◌+◌, ◌<◌, Bool, true, false, cond, Option, Some, None, List, [], ◌∷◌, ◌++◌, length, refl, sym, ◌∙◌, ap, arith}
+use Rattle.std.specs.Prelude.{◌&&◌, ◌==◌, count_by, is_some, nat_lt, not, option_map}
+use Rattle.std.specs.List.{flat_map, position_or_len, range_with_len}
+use Rattle.std.proofs.lemmas.Bool.{le-ltb}
+use Rattle.std.proofs.lemmas.List.Sums.{sum_by-cons}
+use Rattle.snoop_trace.specs.Words.{word_at}
+use Rattle.snoop_rules.specs.declared.names.CacheState.{CacheState}
+use Rattle.snoop_rules.specs.Waits.{waiting_request}
+use Rattle.snoop_bus.specs.Queues.{queue_of}
+use Rattle.snoop_model.specs.Pictures.InQueue.{IsInQueue}
+use Rattle.snoop_model.specs.Pictures.Picture.{held_by}
+use Rattle.snoop_model.specs.Pictures.Situation.{Situation, picture_of, state_of}
+use Rattle.snoop_model.specs.Pictures.Sound.{IsProper, keeps}
+use Rattle.snoop_model.specs.Runs.Once.{one_if}
+use Rattle.snoop_engine.specs.States.{kept_at, kept_text, number_field, place_text, value_text}
+use Rattle.snoop_engine.specs.Taken.{state_at}
+
+-- a state that is there is the core's
+state_is : (s : Situation) (core block : ℕ) (state : CacheState) → Some state ≡ state_at s core block → state ≡ state_of s core block
+state_is s core block state = of_test (nat_lt core s.shape.cores && nat_lt block s.shape.blocks)
+  where
+    of_test : (within : Bool) → Some state ≡ cond {A = Option CacheState} within (Some (state_of s core block)) None → state ≡ state_of s core block
+    of_test true e = cc
+    of_test false e = cc
+
+no_texts : (f : ℕ → List ℕ) → ((k : ℕ) → f k ≡ []) → (ks : List ℕ) → flat_map f ks ≡ []
+no_texts f none [] = refl
+no_texts f none (k ∷ ks) = ap (λ (t : List ℕ). t ++ flat_map f ks) (none k) ∙ no_texts f none ks
+
+pub none_kept : (s : Situation) (core block : ℕ) (state : CacheState) → Some state ≡ state_at s core block → IsProper (held_by (picture_of s block) core) → keeps state ≡ false → kept_text s core block ≡ []
+none_kept s core block state at proper unread =
+    let hidden : is_some (held_by (picture_of s block) core).kept ≡ false = proper.kept ∙ (ap keeps (sym (state_is s core block state at)) ∙ unread) in
+    no_texts (λ word. value_text word (kept_at s core block word)) (λ word. ap (value_text word) (nothing_at word hidden)) (range_with_len 0 s.shape.words)
+  where
+    of_kept : (kept : Option (List ℕ)) (within : Bool) (word : ℕ) → is_some kept ≡ false → cond {A = Option ℕ} within (option_map (λ ws. word_at ws word) kept) None ≡ None
+    of_kept None true word hidden = refl
+    of_kept None false word hidden = refl
+    of_kept (Some ws) within word hidden = cc
+
+    nothing_at : (word : ℕ) → is_some (held_by (picture_of s block) core).kept ≡ false → kept_at s core block word ≡ None
+    nothing_at word hidden = of_kept (held_by (picture_of s block) core).kept (nat_lt core s.shape.cores && nat_lt block s.shape.blocks && nat_lt word s.shape.words) word hidden
+
+none_before : (block : ℕ) (queue : List ℕ) → count_by (λ b. b == block) queue ≡ 0 → position_or_len (λ b. b == block) queue ≡ length queue
+none_before block [] none = refl
+none_before block (b ∷ bs) none = of_test (λ (rest : count_by (λ k. k == block) bs ≡ 0). none_before block bs rest) (b == block) (sum_by-cons (λ (k : ℕ). cond (k == block) 1 0) b bs)
+  where
+    of_test : (count_by (λ k. k == block) bs ≡ 0 → position_or_len (λ k. k == block) bs ≡ length bs) → (same : Bool)
+        → count_by (λ k. k == block) (b ∷ bs) ≡ cond same 1 0 + count_by (λ k. k == block) bs → cond (not same) (1 + position_or_len (λ k. k == block) bs) 0 ≡ length (b ∷ bs)
+    of_test again true counted = absurd (omega (arith, none, counted))
+    of_test again false counted = let rest = again (omega (arith, none, counted)) in omega (arith, rest)
+
+pub none_placed : (s : Situation) (core block : ℕ) (state : CacheState) → Some state ≡ state_at s core block → IsInQueue s core block → is_some (waiting_request state) ≡ false → place_text s core block ≡ []
+none_placed s core block state at queued still =
+    let idle : is_some (waiting_request (state_of s core block)) ≡ false = ap (λ (x : CacheState). is_some (waiting_request x)) (sym (state_is s core block state at)) ∙ still in
+    let none : count_by (λ b. b == block) (queue_of s.queues core) ≡ 0 = queued ∙ ap one_if idle in
+    let past : position_or_len (λ b. b == block) (queue_of s.queues core) ≡ length (queue_of s.queues core) = none_before block (queue_of s.queues core) none in
+    let after : nat_lt (position_or_len (λ b. b == block) (queue_of s.queues core)) (length (queue_of s.queues core)) ≡ false =
+    le-ltb (position_or_len (λ b. b == block) (queue_of s.queues core)) (length (queue_of s.queues core)) (omega (arith, past)) in
+    ap (λ (b : Bool). number_field (option_map (λ older. older + 1) (cond b (Some (position_or_len (λ k. k == block) (queue_of s.queues core))) None))) after
