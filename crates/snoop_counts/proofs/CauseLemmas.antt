@@ -37,7 +37,7 @@ module _ (test : ℕ → ℕ → Frame → Bool) (frames : List Frame) (frame : 
     number = λ block at.
         marks block at ∙ ap (λ (n : ℕ). if test block at frame then n else number_at old.rows.items block at) is
         ∙ ap (λ (n : ℕ). if test block at frame then 1 + length frames else n) (far.number block at)
-        ∙ sym (last_more (test block at) frames frame)
+        ∙ sym (last_more (test block at) frames frame);
   }
 
 either : (a b : Bool) (n k : ℕ) → (if b then n else (if a then n else k)) ≡ (if a || b then n else k)

@@ -30,7 +30,6 @@ use Rattle.snoop_counts.specs.declared.count.Happening.TheVariants as happening
 use Rattle.snoop_counts.specs.declared.count.Subjects.{Subjects}
 use Rattle.snoop_counts.specs.declared.count.Subjects.TheVariants as subjects
 
-
 -- parts add up
 seen_cut : (earlier first rest : List Frame) → seen_after earlier (first ++ rest) ≡ seen_after earlier first ++ seen_after (earlier ++ first) rest
 seen_cut earlier [] rest = ap (λ (l : List Frame). seen_after l rest) (sym (append-nil earlier))

@@ -5,6 +5,7 @@ use Rattle.std.specs.List.{flat_map, range_with_len, sum_by}
 use Rattle.std.specs.Option.{option_map_or}
 use Rattle.std.proofs.lemmas.Bool.{cases_eq, eq-eqb, ne_eqb}
 use Rattle.std.proofs.lemmas.List.Elements.{All-cons, All-head, All-nil, All-tail, filter-append}
+use Rattle.std.proofs.lemmas.List.Sums.{sum_by-cons}
 use Rattle.snoop_trace.specs.Extent.{Extent}
 use Rattle.snoop_trace.specs.declared.step.Step.{Step}
 use Rattle.snoop_trace.specs.declared.step.Step.TheVariants.{Ask, Order, Respond}
@@ -77,9 +78,17 @@ kept_mapped : {X Y : Type 0} (p : Y → Bool) (f : X → Y) (xs : List X) → le
 kept_mapped p f [] = refl
 kept_mapped p f (x ∷ xs) = kept_if (p (f x)) (f x) (filter p (map f xs)) ∙ ap (λ (n : ℕ). cond (p (f x)) 1 0 + n) (kept_mapped p f xs) ∙ sym (kept_if (p (f x)) x (filter (λ y. p (f y)) xs))
 
+-- one where it is true
+abbrev once : Bool → ℕ
+once b = cond b 1 0
+
 none_kept : {X Y : Type 0} (p : Y → Bool) (f : X → Y) → ((x : X) → p (f x) ≡ false) → (xs : List X) → length (filter p (map f xs)) ≡ 0
-none_kept p f no [] = refl
-none_kept p f no (x ∷ xs) = kept_if (p (f x)) (f x) (filter p (map f xs)) ∙ ap (λ (b : Bool). cond b 1 0 + length (filter p (map f xs))) (no x) ∙ none_kept p f no xs
+none_kept p f fails [] = refl
+none_kept p f fails (x ∷ xs) =
+    let here = kept_if (p (f x)) (f x) (filter p (map f xs)) in
+    let head : once (p (f x)) ≡ 0 = ap once (fails x) in
+    let rest = none_kept p f fails xs in
+    omega (arith, here, head, rest)
 
 -- a count of items alone
 module _ (c : Count) (of_lines : counts_lines c ≡ false) (of_rows : (state : CacheState) (event : CacheEvent) → counts_row c state event ≡ false) (of_refusals : (cause : Refused) → counts_refusal c cause ≡ false)
@@ -117,30 +126,46 @@ module _ (c : Count) (of_lines : counts_lines c ≡ false) (of_rows : (state : C
         let e1 = ap length (filter-append p (map of_line lines ++ map happening.Item items) rest) ∙ length-append (filter p (map of_line lines ++ map happening.Item items)) (filter p rest) in
         let e2 = ap length (filter-append p (map of_line lines) (map happening.Item items)) ∙ length-append (filter p (map of_line lines)) (filter p (map happening.Item items)) in
         let e3 = ap length (filter-append q items (items_in frames)) ∙ length-append (filter q items) (filter q (items_in frames)) in
-        e1 ∙ ap (λ (n : ℕ). n + length (filter p rest)) (e2 ∙ ap (λ (n : ℕ). n + length (filter p (map happening.Item items))) none ∙ here)
-        ∙ ap (λ (n : ℕ). length (filter q items) + n) later ∙ sym e3
+        let kept : length (filter p (map of_line lines ++ map happening.Item items)) ≡ length (filter q items) = omega (arith, e2, none, here) in
+        e1 ∙ ap (λ (n : ℕ). n + length (filter p rest)) kept ∙ ap (λ (n : ℕ). length (filter q items) + n) later ∙ sym e3
 
 sum_zero : (xs : List ℕ) → sum_by (λ (s : ℕ). 0) xs ≡ 0
 sum_zero [] = refl
-sum_zero (x ∷ xs) = let rest = sum_zero xs in omega arith
+sum_zero (x ∷ xs) =
+    let here = sum_by-cons (λ (s : ℕ). 0) x xs in
+    let rest = sum_zero xs in
+    omega (arith, here, rest)
 
 sum_two : (f g : ℕ → ℕ) (xs : List ℕ) → sum_by (λ s. f s + g s) xs ≡ sum_by f xs + sum_by g xs
 sum_two f g [] = refl
-sum_two f g (x ∷ xs) = let rest = sum_two f g xs in omega arith
+sum_two f g (x ∷ xs) =
+    let both = sum_by-cons (λ s. f s + g s) x xs in
+    let one = sum_by-cons f x xs in
+    let other = sum_by-cons g x xs in
+    let rest = sum_two f g xs in
+    omega (arith, both, one, other, rest)
 
 none_at : (k a n : ℕ) → k < a → sum_by (λ (s : ℕ). cond (k == s) 1 0) (range_with_len a n) ≡ 0
 none_at k a zero lt = refl
 none_at k a (suc n) lt =
+    let here = sum_by-cons (λ (s : ℕ). cond (k == s) 1 0) a (range_with_len (a + 1) n) in
+    let head : once (k == a) ≡ 0 = ap once (ne_eqb k a (λ e. absurd (omega arith))) in
     let rest = none_at k (a + 1) n (omega arith) in
-    ap (λ (b : Bool). cond b 1 0 + sum_by (λ (s : ℕ). cond (k == s) 1 0) (range_with_len (a + 1) n)) (ne_eqb k a (λ e. absurd (omega arith))) ∙ rest
+    omega (arith, here, head, rest)
 
 one_at : (k a n : ℕ) → a ≤ k → k < a + n → sum_by (λ (s : ℕ). cond (k == s) 1 0) (range_with_len a n) ≡ 1
 one_at k a zero le lt = absurd (omega arith)
 one_at k a (suc n) le lt =
-    let rest : ℕ = sum_by (λ (s : ℕ). cond (k == s) 1 0) (range_with_len (a + 1) n) in
+    let here = sum_by-cons (λ (s : ℕ). cond (k == s) 1 0) a (range_with_len (a + 1) n) in
     elim (cases_eq k a) [
-      | inl e ↦ ap (λ (b : Bool). cond b 1 0 + rest) (eq-eqb k a e) ∙ ap (λ (m : ℕ). 1 + m) (none_at k (a + 1) n (omega arith))
-      | inr ne ↦ ap (λ (b : Bool). cond b 1 0 + rest) (ne_eqb k a ne) ∙ one_at k (a + 1) n (omega arith) (omega arith)
+      | inl e ↦
+          let head : once (k == a) ≡ 1 = ap once (eq-eqb k a e) in
+          let rest = none_at k (a + 1) n (omega arith) in
+          omega (arith, here, head, rest)
+      | inr ne ↦
+          let head : once (k == a) ≡ 0 = ap once (ne_eqb k a ne) in
+          let rest = one_at k (a + 1) n (omega arith) (omega arith) in
+          omega (arith, here, head, rest)
     ]
 
 -- each element that passes is one subject's

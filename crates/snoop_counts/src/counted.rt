@@ -13,6 +13,7 @@ use snoop_rules::{CacheEvent, CacheState, Payload, Request};
 use snoop_trace::Step;
 
 /// A miss: an operation is performed with data that came because the core had no copy.
+#[inline(always)]
 pub(crate) fn is_miss(state: CacheState, event: CacheEvent) -> bool
     ensures { result ≡ is_miss state event }
 {
@@ -23,18 +24,21 @@ pub(crate) fn is_miss(state: CacheState, event: CacheEvent) -> bool
     )
 }
 
+#[inline(always)]
 fn is_upgrade(state: CacheState, event: CacheEvent) -> bool
     ensures { result ≡ is_upgrade state event }
 {
     matches!((state, event), (CacheState::SmAd, CacheEvent::OwnGetM))
 }
 
+#[inline(always)]
 fn is_lost_upgrade(state: CacheState, event: CacheEvent) -> bool
     ensures { result ≡ is_lost_upgrade state event }
 {
     matches!((state, event), (CacheState::SmAd, CacheEvent::OtherGetM))
 }
 
+#[inline(always)]
 fn is_invalidation(state: CacheState, event: CacheEvent) -> bool
     ensures { result ≡ is_invalidation state event }
 {
@@ -44,6 +48,7 @@ fn is_invalidation(state: CacheState, event: CacheEvent) -> bool
     )
 }
 
+#[inline(always)]
 fn is_taking(state: CacheState, event: CacheEvent) -> bool
     ensures { result ≡ is_taking state event }
 {
@@ -53,6 +58,7 @@ fn is_taking(state: CacheState, event: CacheEvent) -> bool
     )
 }
 
+#[inline(always)]
 fn is_downgrade(state: CacheState, event: CacheEvent) -> bool
     ensures { result ≡ is_downgrade state event }
 {
@@ -62,6 +68,7 @@ fn is_downgrade(state: CacheState, event: CacheEvent) -> bool
     )
 }
 
+#[inline(always)]
 fn is_overtaking(state: CacheState, event: CacheEvent) -> bool
     ensures { result ≡ is_overtaking state event }
 {
@@ -75,6 +82,7 @@ fn is_overtaking(state: CacheState, event: CacheEvent) -> bool
 }
 
 /// The core's copy is lost to another's GetM.
+#[inline(always)]
 pub(crate) fn is_loss(state: CacheState, event: CacheEvent) -> bool
     ensures { result ≡ is_loss state event }
 {
@@ -82,6 +90,7 @@ pub(crate) fn is_loss(state: CacheState, event: CacheEvent) -> bool
 }
 
 /// The core gives its copy up.
+#[inline(always)]
 pub(crate) fn is_giving_up(state: CacheState, event: CacheEvent) -> bool
     ensures { result ≡ is_giving_up state event }
 {
@@ -95,12 +104,14 @@ pub(crate) fn is_giving_up(state: CacheState, event: CacheEvent) -> bool
 }
 
 // A core sent the response to a GetS or a GetM.
+#[inline(always)]
 fn is_from_cache(came: Came) -> bool
     ensures { result ≡ is_from_cache came }
 {
     came.from.is_some() && !matches!(came.request, Request::PutM)
 }
 
+#[inline(always)]
 fn counts_operation(count: Count, did: Did) -> bool
     ensures { result ≡ counts count (happening.Item (item.Did did)) }
 {
@@ -114,6 +125,7 @@ fn counts_operation(count: Count, did: Did) -> bool
     }
 }
 
+#[inline(always)]
 fn counts_request(count: Count, sent: Sent) -> bool
     ensures { result ≡ counts count (happening.Item (item.Sent sent)) }
 {
@@ -126,6 +138,7 @@ fn counts_request(count: Count, sent: Sent) -> bool
 }
 
 // Whether a response is counted, the operation that it performed aside.
+#[inline(always)]
 fn counts_response(count: Count, came: Came) -> bool
     ensures { result ≡ counts count (happening.Item (item.Came came None)) }
 {
@@ -140,6 +153,7 @@ fn counts_response(count: Count, came: Came) -> bool
     }
 }
 
+#[inline(always)]
 fn counts_item(count: Count, item: Item) -> bool
     ensures { result ≡ counts count (happening.Item item) }
 {
@@ -152,6 +166,7 @@ fn counts_item(count: Count, item: Item) -> bool
 }
 
 // Whether a row that a core takes is counted.
+#[inline(always)]
 fn counts_row(count: Count, state: CacheState, event: CacheEvent) -> bool
     ensures { result ≡ counts_row count state event }
 {
@@ -168,6 +183,7 @@ fn counts_row(count: Count, state: CacheState, event: CacheEvent) -> bool
 }
 
 // Whether a refusal is counted.
+#[inline(always)]
 fn counts_refusal(count: Count, cause: Refused) -> bool
     ensures { result ≡ counts_refusal count cause }
 {
@@ -181,6 +197,7 @@ fn counts_refusal(count: Count, cause: Refused) -> bool
 }
 
 // Whether the row of a line is counted, if it has one.
+#[inline(always)]
 fn counts_row_of(count: Count, line: Taken) -> bool
     ensures { result ≡ has_row (counts_row count) line }
 {
@@ -196,6 +213,7 @@ fn counts_row_of(count: Count, line: Taken) -> bool
 }
 
 // Whether what was answered is a refusal that is counted.
+#[inline(always)]
 fn counts_outcome(count: Count, outcome: Result<Reply, Refused>) -> bool
     ensures { result ≡ is_refused (counts_refusal count) outcome }
 {
@@ -206,6 +224,7 @@ fn counts_outcome(count: Count, outcome: Result<Reply, Refused>) -> bool
 }
 
 // Whether a line is counted, the cause of a miss aside.
+#[inline(always)]
 fn counts_line(count: Count, outcome: Result<Reply, Refused>, line: Taken) -> bool
     ensures { result ≡ (counts_lines count || has_row (counts_row count) line || is_refused (counts_refusal count) outcome) }
 {
@@ -213,6 +232,7 @@ fn counts_line(count: Count, outcome: Result<Reply, Refused>, line: Taken) -> bo
 }
 
 // Whether a miss is counted by its cause, if it is one.
+#[inline(always)]
 fn counts_cause(count: Count, cause: Option<Cause>) -> bool
     ensures { result ≡ option_map_or (counts_cause count) cause false }
 {
@@ -226,6 +246,7 @@ fn counts_cause(count: Count, cause: Option<Cause>) -> bool
 }
 
 /// Whether it is counted.
+#[inline(always)]
 pub(crate) fn counts(count: Count, happening: Happening) -> bool
     ensures { result ≡ counts count happening }
 {
@@ -241,6 +262,7 @@ pub(crate) fn counts(count: Count, happening: Happening) -> bool
 }
 
 // The core that a line names, if any.
+#[inline(always)]
 fn core_named(line: Taken) -> Option<u32>
     ensures { result ≡ core_named line }
 {
@@ -252,6 +274,7 @@ fn core_named(line: Taken) -> Option<u32>
 }
 
 // The block that a line names, if any.
+#[inline(always)]
 fn block_named(line: Taken) -> Option<u32>
     ensures { result ≡ block_named line }
 {
@@ -262,6 +285,7 @@ fn block_named(line: Taken) -> Option<u32>
 }
 
 // The core that an item is of, or that a line names.
+#[inline(always)]
 fn own_core(happening: Happening) -> Option<u32>
     ensures { result ≡ own_core happening }
 {
@@ -272,6 +296,7 @@ fn own_core(happening: Happening) -> Option<u32>
 }
 
 // The block that an item is of, or that a line names.
+#[inline(always)]
 fn own_block(happening: Happening) -> Option<u32>
     ensures { result ≡ own_block happening }
 {
@@ -282,6 +307,7 @@ fn own_block(happening: Happening) -> Option<u32>
 }
 
 // A place that a number of 32 bits can name.
+#[inline(always)]
 fn named_place(place: u64) -> Option<u32>
     ensures { result ≡ named_place place }
 {
@@ -293,6 +319,7 @@ fn named_place(place: u64) -> Option<u32>
 }
 
 // The place of the word of the operation that an item performs.
+#[inline(always)]
 fn own_word(words: u32, happening: Happening) -> Option<u32>
     ensures { result ≡ own_word words happening }
 {
@@ -306,6 +333,7 @@ fn own_word(words: u32, happening: Happening) -> Option<u32>
 }
 
 // The core whose Order the line is of.
+#[inline(always)]
 fn requestor_of(happening: Happening) -> Option<u32>
     ensures { result ≡ requestor_of happening }
 {
@@ -319,6 +347,7 @@ fn requestor_of(happening: Happening) -> Option<u32>
 }
 
 // The core that sent the response.
+#[inline(always)]
 fn sender_of(happening: Happening) -> Option<u32>
     ensures { result ≡ sender_of happening }
 {
@@ -329,6 +358,7 @@ fn sender_of(happening: Happening) -> Option<u32>
 }
 
 // The core for which it is counted.
+#[inline(always)]
 fn core_counted(count: Count, happening: Happening) -> Option<u32>
     ensures { result ≡ core_counted count happening }
 {
@@ -340,6 +370,7 @@ fn core_counted(count: Count, happening: Happening) -> Option<u32>
 }
 
 /// For whom it is counted, if for anybody.
+#[inline(always)]
 pub(crate) fn subject_of(subjects: Subjects, count: Count, happening: Happening) -> Option<u32>
     ensures { result ≡ subject_of subjects count happening }
 {

@@ -62,6 +62,7 @@ impl Counters {
     }
 
     /// Counts one more; the counter stops at the largest `u64`.
+    #[inline(always)]
     fn raise(&mut self, count: Count)
         ensures { self.new ≡ raised_row count self.old }
     {
@@ -70,6 +71,7 @@ impl Counters {
     }
 
     /// How often the count was counted.
+    #[inline(always)]
     pub(crate) fn of(&self, count: Count) -> u64
         ensures { result ≡ counter_in self.now count }
     {
@@ -122,6 +124,7 @@ impl Tally {
     }
 
     // Counts one more for the subject.
+    #[inline(always)]
     fn raise(&mut self, subject: u32, count: Count)
         ensures { self.new ≡ record self.old { rows = raised self.old.rows subject count } }
     {
@@ -132,6 +135,7 @@ impl Tally {
     }
 
     // Counts the happening by this count, if it counts it.
+    #[inline(always)]
     fn count(&mut self, count: Count, happening: Happening)
         ensures { self.new ≡ record self.old { rows = raised_by self.old.subjects count happening self.old.rows } }
     {

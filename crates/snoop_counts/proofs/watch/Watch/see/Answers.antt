@@ -25,6 +25,6 @@ returns c protocol shape frames before after has next log =
     (λ follows. (
       record { follows = follows; items = λ here run. c.len-self.ensures ∙ ap (λ (l : List Item). length l) log ∙ sym (ap (λ (s : Situation). length s.log) (led_by_last frames frame (reset protocol shape) here run)) },
       c.in_ok-push_item.ensures ∙ (λ i. lines i ++ map happening.Item (option_to_list (item i)))
-      ∙ (λ i. map (λ (line : Taken). happening.Line seen.step seen.outcome line (cause_of frames (operation i) line)) (next.lines i) ++ map happening.Item (option_to_list (item_of frame))),
+          ∙ (λ i. map (λ (line : Taken). happening.Line seen.step seen.outcome line (cause_of frames (operation i) line)) (next.lines i) ++ map happening.Item (option_to_list (item_of frame))),
     ))
     (c.follow.ensures frames frame has.follows next.number next.lines operation)
