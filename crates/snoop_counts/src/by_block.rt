@@ -10,7 +10,7 @@ ghost use Rattle.snoop_counts.specs.ByBlock.{counts_by_block};
 use crate::block_table::push_block_table;
 use crate::block_tally::BlockTally;
 use crate::watch::Watch;
-use snoop_engine::{Seen, SimFault, View, simulate_view};
+use snoop_engine::{Input, Seen, SimFault, View, simulate_view};
 use snoop_machine::Machine;
 use snoop_rules::Protocol;
 use snoop_trace::streams::{Sink, Source};
@@ -69,18 +69,19 @@ impl View for ByBlock {
     }
 }
 
-/// Reads a text of steps for the protocol and the shape to its end, takes them in order on a machine at reset, and writes
-/// the counts of each block that a step is of, or of so many with most ordered requests, most first. A step that is refused
-/// because it is out of memory ends the simulation.
+/// Reads a text to its end, takes the steps that come of it in order on a machine at reset, for the protocol and the shape,
+/// and writes the counts of each block that a step is of, or of so many with most ordered requests, most first. A step that
+/// is refused because it is out of memory ends the simulation.
 pub fn simulate_counts_by_block<R: Source, W: Sink>(
     alloc: Global,
     reader: &mut R,
     writer: &mut W,
     protocol: Protocol,
     shape: Shape,
+    input: Input,
     top: Option<u32>,
 ) -> Result<(), SimFault>
-    ensures does { SimulatesView protocol shape (counts_by_block shape top) (R.remaining reader.old) result (W.contents writer.old) (W.contents writer.new) }
+    ensures does { SimulatesView protocol shape input (counts_by_block shape top) (R.remaining reader.old) result (W.contents writer.old) (W.contents writer.new) }
     // A refused text leaves the writer as it was.
     ensures unwritten { (fault : TextFault) → result ≡ Err (SimFault.Text fault) → writer.new ≡ writer.old }
 
@@ -96,5 +97,5 @@ pub fn simulate_counts_by_block<R: Source, W: Sink>(
         watch: Watch::new(alloc),
         tally: None,
     };
-    simulate_view(alloc, reader, writer, protocol, shape, &mut view)
+    simulate_view(alloc, reader, writer, protocol, shape, input, &mut view)
 }

@@ -11,7 +11,7 @@ use crate::core_table::push_core_table;
 use crate::count::Subjects;
 use crate::tally::Tally;
 use crate::watch::Watch;
-use snoop_engine::{Seen, SimFault, View, simulate_view};
+use snoop_engine::{Input, Seen, SimFault, View, simulate_view};
 use snoop_machine::Machine;
 use snoop_rules::Protocol;
 use snoop_trace::streams::{Sink, Source};
@@ -67,16 +67,18 @@ impl View for ByCore {
     }
 }
 
-/// Reads a text of steps for the protocol and the shape to its end, takes them in order on a machine at reset, and writes
-/// the counts of each core that a step names. A step that is refused because it is out of memory ends the simulation.
+/// Reads a text to its end, takes the steps that come of it in order on a machine at reset, for the protocol and the shape,
+/// and writes the counts of each core that a step names. A step that is refused because it is out of memory ends the
+/// simulation.
 pub fn simulate_counts_by_core<R: Source, W: Sink>(
     alloc: Global,
     reader: &mut R,
     writer: &mut W,
     protocol: Protocol,
     shape: Shape,
+    input: Input,
 ) -> Result<(), SimFault>
-    ensures does { SimulatesView protocol shape (counts_by_core shape) (R.remaining reader.old) result (W.contents writer.old) (W.contents writer.new) }
+    ensures does { SimulatesView protocol shape input (counts_by_core shape) (R.remaining reader.old) result (W.contents writer.old) (W.contents writer.new) }
     // A refused text leaves the writer as it was.
     ensures unwritten { (fault : TextFault) → result ≡ Err (SimFault.Text fault) → writer.new ≡ writer.old }
 
@@ -91,5 +93,5 @@ pub fn simulate_counts_by_core<R: Source, W: Sink>(
         watch: Watch::new(alloc),
         tally: None,
     };
-    simulate_view(alloc, reader, writer, protocol, shape, &mut view)
+    simulate_view(alloc, reader, writer, protocol, shape, input, &mut view)
 }

@@ -10,7 +10,7 @@ ghost use Rattle.snoop_counts.specs.ByWord.{counts_by_word};
 use crate::watch::Watch;
 use crate::word_table::push_word_table;
 use crate::word_tally::WordTally;
-use snoop_engine::{Seen, SimFault, View, simulate_view};
+use snoop_engine::{Input, Seen, SimFault, View, simulate_view};
 use snoop_machine::Machine;
 use snoop_rules::Protocol;
 use snoop_trace::streams::{Sink, Source};
@@ -65,17 +65,18 @@ impl View for ByWord {
     }
 }
 
-/// Reads a text of steps for the protocol and the shape to its end, takes them in order on a machine at reset, and writes
-/// the counts of each word of the blocks on which at least two cores performed an operation. A step that is refused because
-/// it is out of memory ends the simulation.
+/// Reads a text to its end, takes the steps that come of it in order on a machine at reset, for the protocol and the shape,
+/// and writes the counts of each word of the blocks on which at least two cores performed an operation. A step that is
+/// refused because it is out of memory ends the simulation.
 pub fn simulate_counts_by_word<R: Source, W: Sink>(
     alloc: Global,
     reader: &mut R,
     writer: &mut W,
     protocol: Protocol,
     shape: Shape,
+    input: Input,
 ) -> Result<(), SimFault>
-    ensures does { SimulatesView protocol shape (counts_by_word shape) (R.remaining reader.old) result (W.contents writer.old) (W.contents writer.new) }
+    ensures does { SimulatesView protocol shape input (counts_by_word shape) (R.remaining reader.old) result (W.contents writer.old) (W.contents writer.new) }
     // A refused text leaves the writer as it was.
     ensures unwritten { (fault : TextFault) → result ≡ Err (SimFault.Text fault) → writer.new ≡ writer.old }
 
@@ -90,5 +91,5 @@ pub fn simulate_counts_by_word<R: Source, W: Sink>(
         watch: Watch::new(alloc),
         tally: None,
     };
-    simulate_view(alloc, reader, writer, protocol, shape, &mut view)
+    simulate_view(alloc, reader, writer, protocol, shape, input, &mut view)
 }

@@ -4,6 +4,7 @@ use snoop_counts::{
     simulate_counts_by_block, simulate_counts_by_core, simulate_counts_by_steps,
     simulate_counts_by_word,
 };
+use snoop_engine::Input;
 use snoop_rules::Protocol;
 use snoop_trace::Shape;
 use std::num::NonZeroU64;
@@ -81,7 +82,7 @@ fn counts_of_an_upgrade_race(rt: HostRuntime) -> Result<(), Fail> {
     let shape = Shape::new(2, 4, 64)?;
     let mut text = RACE.as_bytes();
     let mut out = Vec::new(alloc);
-    simulate_counts_by_core(alloc, &mut text, &mut out, Protocol::Msi, shape)?;
+    simulate_counts_by_core(alloc, &mut text, &mut out, Protocol::Msi, shape, Input::Steps)?;
     if out.as_slice() != RACE_BY_CORE.as_bytes() {
         return Err("by core")?;
     }
@@ -94,7 +95,7 @@ fn counts_of_two_blocks(rt: HostRuntime) -> Result<(), Fail> {
     let shape = Shape::new(2, 4, 64)?;
     let mut text = TWO_BLOCKS.as_bytes();
     let mut out = Vec::new(alloc);
-    simulate_counts_by_block(alloc, &mut text, &mut out, Protocol::Msi, shape, None)?;
+    simulate_counts_by_block(alloc, &mut text, &mut out, Protocol::Msi, shape, Input::Steps, None)?;
     if out.as_slice() != TWO_BLOCKS_BY_BLOCK.as_bytes() {
         return Err("all blocks")?;
     }
@@ -107,7 +108,7 @@ fn block_of_most_requests(rt: HostRuntime) -> Result<(), Fail> {
     let shape = Shape::new(2, 4, 64)?;
     let mut text = TWO_BLOCKS.as_bytes();
     let mut out = Vec::new(alloc);
-    simulate_counts_by_block(alloc, &mut text, &mut out, Protocol::Msi, shape, Some(1))?;
+    simulate_counts_by_block(alloc, &mut text, &mut out, Protocol::Msi, shape, Input::Steps, Some(1))?;
     if out.as_slice() != FIRST_BLOCK.as_bytes() {
         return Err("one block")?;
     }
@@ -120,7 +121,7 @@ fn causes_of_shared_words(rt: HostRuntime) -> Result<(), Fail> {
     let shape = Shape::with_words(2, 4, 64, 8)?;
     let mut text = SHARED_FALSELY.as_bytes();
     let mut out = Vec::new(alloc);
-    simulate_counts_by_core(alloc, &mut text, &mut out, Protocol::Msi, shape)?;
+    simulate_counts_by_core(alloc, &mut text, &mut out, Protocol::Msi, shape, Input::Steps)?;
     if out.as_slice() != SHARED_FALSELY_BY_CORE.as_bytes() {
         return Err("by core")?;
     }
@@ -133,7 +134,7 @@ fn causes_of_copies_that_were_given_up(rt: HostRuntime) -> Result<(), Fail> {
     let shape = Shape::new(2, 4, 64)?;
     let mut text = GIVEN_UP.as_bytes();
     let mut out = Vec::new(alloc);
-    simulate_counts_by_block(alloc, &mut text, &mut out, Protocol::Msi, shape, None)?;
+    simulate_counts_by_block(alloc, &mut text, &mut out, Protocol::Msi, shape, Input::Steps, None)?;
     if out.as_slice() != GIVEN_UP_BY_BLOCK.as_bytes() {
         return Err("by block")?;
     }
@@ -146,7 +147,7 @@ fn counts_of_shared_words(rt: HostRuntime) -> Result<(), Fail> {
     let shape = Shape::with_words(2, 4, 64, 8)?;
     let mut text = SHARED_FALSELY.as_bytes();
     let mut out = Vec::new(alloc);
-    simulate_counts_by_word(alloc, &mut text, &mut out, Protocol::Msi, shape)?;
+    simulate_counts_by_word(alloc, &mut text, &mut out, Protocol::Msi, shape, Input::Steps)?;
     if out.as_slice() != SHARED_FALSELY_BY_WORD.as_bytes() {
         return Err("by word")?;
     }
@@ -159,7 +160,7 @@ fn words_of_no_shared_block(rt: HostRuntime) -> Result<(), Fail> {
     let shape = Shape::new(2, 4, 64)?;
     let mut text = TWO_BLOCKS.as_bytes();
     let mut out = Vec::new(alloc);
-    simulate_counts_by_word(alloc, &mut text, &mut out, Protocol::Msi, shape)?;
+    simulate_counts_by_word(alloc, &mut text, &mut out, Protocol::Msi, shape, Input::Steps)?;
     if out.as_slice() != NO_WORDS.as_bytes() {
         return Err("by word")?;
     }
@@ -175,7 +176,7 @@ fn counts_of_each_six_steps(rt: HostRuntime) -> Result<(), Fail> {
     };
     let mut text = RACE.as_bytes();
     let mut out = Vec::new(alloc);
-    simulate_counts_by_steps(alloc, &mut text, &mut out, Protocol::Msi, shape, six)?;
+    simulate_counts_by_steps(alloc, &mut text, &mut out, Protocol::Msi, shape, Input::Steps, six)?;
     if out.as_slice() != RACE_BY_STEPS.as_bytes() {
         return Err("by steps")?;
     }

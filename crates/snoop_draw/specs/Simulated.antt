@@ -6,9 +6,10 @@ use Rattle.snoop_trace.specs.declared.protocol.Protocol.{Protocol}
 use Rattle.snoop_trace.specs.declared.step.Step.{Step}
 use Rattle.snoop_model.specs.Pictures.Situation.{Situation}
 use Rattle.snoop_engine.specs.Frames.{Frame}
-use Rattle.snoop_engine.specs.Simulated.{Reads}
+use Rattle.snoop_engine.specs.Inputs.{GivesSteps, IsRefusedText}
 use Rattle.snoop_engine.specs.SimulatedView.{BeginsToShow, ShowsRun}
 use Rattle.snoop_engine.specs.declared.fault.SimFault.TheVariants.{Text, NoMemory, Write}
+use Rattle.snoop_engine.specs.declared.input.Input.{Input}
 use Rattle.snoop_draw.specs.declared.fault.DrawFault.{DrawFault}
 use Rattle.snoop_draw.specs.declared.fault.DrawFault.TheVariants.{Simulation, TooLarge}
 use Rattle.snoop_draw.specs.declared.marks.Charset.{Charset}
@@ -33,7 +34,7 @@ DrawsSteps protocol shape charset choice steps (Err (Simulation NoMemory)) old n
 DrawsSteps protocol shape charset choice steps (Err (Simulation Write)) old new = IsDrawable shape choice steps × BeginsToShow protocol shape (drawing protocol shape charset choice) steps old new
 DrawsSteps protocol shape charset choice steps (Err (Simulation (Text fault))) old new = ⊥
 
--- the whole text was read and its steps drawn, or a beginning of that; or the text was refused
-abbrev pub Draws : Protocol → Extent → Charset → Chosen → Option (List ℕ) → Result (Unit {0}) DrawFault → Option (List ℕ) → Option (List ℕ) → Type 0
-Draws protocol shape charset choice input (Err (Simulation (Text fault))) old new = Reads protocol shape input (Err fault)
-Draws protocol shape charset choice input result old new = (steps : List Step) × (Reads protocol shape input (Ok steps) × DrawsSteps protocol shape charset choice steps result old new)
+-- the whole text was read and what came of it drawn, or a beginning of that; or the text was refused
+abbrev pub Draws : Protocol → Extent → Input → Charset → Chosen → Option (List ℕ) → Result (Unit {0}) DrawFault → Option (List ℕ) → Option (List ℕ) → Type 0
+Draws protocol shape input charset choice bytes (Err (Simulation (Text fault))) old new = IsRefusedText protocol shape input bytes fault
+Draws protocol shape input charset choice bytes result old new = (steps : List Step) × (GivesSteps protocol shape input bytes steps × DrawsSteps protocol shape charset choice steps result old new)

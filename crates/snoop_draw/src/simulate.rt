@@ -1,4 +1,4 @@
-//! The command `draw`: the steps of a text, and the drawing of their run.
+//! The command `draw`: the steps that come of a text, and the drawing of their run.
 ghost use Rattle.std.specs.Prelude.{◌≡◌, ◌≢◌, true, Err};
 ghost use Rattle.snoop_trace.specs.Output.{BlamesWriter};
 ghost use Rattle.snoop_trace.specs.Text.{BlamesReader};
@@ -14,14 +14,14 @@ use crate::marks::Charset;
 use crate::panels::panels_for;
 use crate::size::is_small;
 use crate::widths::widths_for;
-use snoop_engine::{SimFault, show_steps};
+use snoop_engine::{Input, SimFault, read_input, show_steps};
 use snoop_rules::Protocol;
 use snoop_trace::streams::{Sink, Source};
-use snoop_trace::{Shape, Step, WriteFault, read_steps};
+use snoop_trace::{Shape, Step, WriteFault};
 use std::alloc::Global;
 
-/// Reads a text of steps for the protocol and the shape to its end, takes them in order on a machine at reset, and draws
-/// those that are chosen: a row for each, a panel for each block, a column for each core that asks for the block, the bus
+/// Reads a text to its end, takes the steps that come of it in order on a machine at reset, for the protocol and the shape,
+/// and draws those that are chosen: a row for each, a panel for each block, a column for each core that asks for the block, the bus
 /// and memory. All columns are known before the first byte is written, and a drawing of more than a million cells, which
 /// are the product of the chosen steps and the columns, one more of each, is refused by `TooLarge`. A step that is refused
 /// because it is out of memory ends the simulation.
@@ -31,10 +31,11 @@ pub fn simulate_drawing<R: Source, W: Sink>(
     writer: &mut W,
     protocol: Protocol,
     shape: Shape,
+    input: Input,
     charset: Charset,
     choice: Choice,
 ) -> Result<(), DrawFault>
-    ensures does { Draws protocol shape charset choice (R.remaining reader.old) result (W.contents writer.old) (W.contents writer.new) }
+    ensures does { Draws protocol shape input charset choice (R.remaining reader.old) result (W.contents writer.old) (W.contents writer.new) }
     // A refused text leaves the writer as it was, and so does a drawing that is too large.
     ensures unwritten { (fault : TextFault) → result ≡ Err (DrawFault.Simulation (SimFault.Text fault)) → writer.new ≡ writer.old }
     ensures too_large { result ≡ Err DrawFault.TooLarge → writer.new ≡ writer.old }
@@ -46,7 +47,7 @@ pub fn simulate_drawing<R: Source, W: Sink>(
     ensures read_blamed { BlamesReader (R.failed reader.old) (R.failed reader.new) (result ≡ Err (DrawFault.Simulation (SimFault.Text text_fault.Read))) }
     ensures blamed { BlamesWriter (W.failed writer.old) (W.failed writer.new) (result ≡ Err (DrawFault.Simulation SimFault.Write)) }
 {
-    let steps = read_steps(alloc, reader, protocol, shape).map_err(|fault| {
+    let steps = read_input(alloc, reader, protocol, shape, input).map_err(|fault| {
         DrawFault::Simulation(SimFault::Text(fault))
     })?;
     draw_steps(alloc, writer, protocol, shape, charset, choice, &steps)

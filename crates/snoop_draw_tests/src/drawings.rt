@@ -1,6 +1,7 @@
 //! Whole drawings.
 
 use snoop_draw::{Charset, Choice, simulate_drawing};
+use snoop_engine::Input;
 use snoop_trace::{Protocol, Shape};
 use std::alloc::Global;
 use std::test::Fail;
@@ -100,6 +101,7 @@ fn is_drawn(
         &mut drawn,
         Protocol::Msi,
         shape,
+        Input::Steps,
         charset,
         choice,
     )?;

@@ -1,7 +1,7 @@
 //! What is refused.
 
 use snoop_draw::{Charset, Choice, ChoiceFault, DrawFault, simulate_drawing};
-use snoop_engine::SimFault;
+use snoop_engine::{Input, SimFault};
 use snoop_trace::{Protocol, Shape, TextFault};
 use std::alloc::Global;
 use std::io::Write;
@@ -17,6 +17,7 @@ fn ends(alloc: Global, text: &[u8], shape: Shape, choice: Choice) -> Result<(), 
         &mut drawn,
         Protocol::Mesi,
         shape,
+        Input::Steps,
         Charset::Ascii,
         choice,
     )
