@@ -1,3 +1,4 @@
+mod matrix;
 mod memory;
 
 use crate::writers::{Failure, Stopping};

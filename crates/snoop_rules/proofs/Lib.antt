@@ -1,4 +1,6 @@
 pub mod Every
+pub mod FieldLemmas
+pub mod KeptLemmas
 pub mod LineLemmas
 pub mod MemRows
 pub mod Rows

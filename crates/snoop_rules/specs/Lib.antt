@@ -1,4 +1,5 @@
 pub mod Cell
+pub mod Matrix
 pub mod MemoryCell
 pub mod Names
 pub mod Possible

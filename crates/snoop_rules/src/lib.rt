@@ -3,6 +3,7 @@
 
 mod display;
 mod events;
+mod matrix;
 mod names;
 mod permission;
 mod table;
@@ -12,6 +13,7 @@ pub use events::{
     arrival, arrival_at_memory, carries_value, event_asked, event_at_memory, event_seen,
     takes_payload, waits,
 };
+pub use matrix::write_matrix;
 pub use names::{
     CacheAction, CacheCell, CacheEvent, CacheState, MemAction, MemCell, MemEvent, MemState,
     Payload, Request, Target,

@@ -1,0 +1,10 @@
+use Rattle.std.proofs.Common.{◌≡◌, ◌++◌, take, codes}
+use Rattle.std.specs.List.{filter, flat_map}
+use Rattle.snoop_rules.specs.Names.{event_name}
+use Rattle.snoop_rules.specs.TableOrder.{cache_events}
+use Rattle.snoop_rules.specs.Matrix.{is_cache_event}
+use Rattle.snoop_rules.proofs.matrix.push_cache_heading.Given as goal
+
+-- the names so far
+abbrev pub invariant-loop-event : goal.invariant-loop-event
+invariant-loop-event l = l.out.items ≡ (l.fn.out.items ++ codes "state") ++ flat_map (λ event. codes "," ++ event_name event) (filter (is_cache_event l.protocol) (take l.event-index cache_events))
