@@ -19,34 +19,34 @@ use Rattle.snoop_sim.specs.declared.options.Task.{Task}
 use Rattle.snoop_sim.specs.declared.options.Task.TheVariants.{Help, Table, Simulate, States, Draw}
 
 -- the commands, with the names that their options take
-abbrev commands : (steps run threads states forms counts groupings lint kinds draw drawings table tables : Names) → List App
-commands steps run threads states forms counts groupings lint kinds draw drawings table tables =
+abbrev commands : (steps run threads states forms counts groupings lint kinds draw drawings table tables layouts : Names) → List App
+commands steps run threads states forms counts groupings lint kinds draw drawings table tables layouts =
     simulation_app (codes "steps") steps [] ∷ simulation_app (codes "run") run (flag_rule (codes "serial") ∷ []) ∷ simulation_app (codes "threads") threads []
-    ∷ simulation_app (codes "states") states (form_rule forms ∷ choice_rules) ∷ simulation_app (codes "counts") counts (grouping_rule groupings ∷ top_rule ∷ []) ∷ simulation_app (codes "lint") lint (kind_rule kinds ∷ long_rule (codes "most") (codes "20") ∷ []) ∷ simulation_app (codes "draw") draw (form_rule drawings ∷ flag_rule (codes "ascii") ∷ choice_rules) ∷ table_app table tables ∷ []
+    ∷ simulation_app (codes "states") states (form_rule forms ∷ choice_rules) ∷ simulation_app (codes "counts") counts (grouping_rule groupings ∷ top_rule ∷ []) ∷ simulation_app (codes "lint") lint (kind_rule kinds ∷ long_rule (codes "most") (codes "20") ∷ []) ∷ simulation_app (codes "draw") draw (form_rule drawings ∷ flag_rule (codes "ascii") ∷ choice_rules) ∷ table_app table tables layouts ∷ []
 
 -- `clap` says what it finds in the words of such a command line
-is_simple_snoop : (steps run threads states forms counts groupings lint kinds draw drawings table tables : Names)
-    → is_simple (with_commands top_app (commands steps run threads states forms counts groupings lint kinds draw drawings table tables)) ≡ true
+is_simple_snoop : (steps run threads states forms counts groupings lint kinds draw drawings table tables layouts : Names)
+    → is_simple (with_commands top_app (commands steps run threads states forms counts groupings lint kinds draw drawings table tables layouts)) ≡ true
 unfolding clap_on_literals
-is_simple_snoop steps run threads states forms counts groupings lint kinds draw drawings table tables = refl
+is_simple_snoop steps run threads states forms counts groupings lint kinds draw drawings table tables layouts = refl
 
 -- and of which kinds its errors are
-is_free_snoop : (steps run threads states forms counts groupings lint kinds draw drawings table tables : Names)
-    → is_simple_and_free (with_commands top_app (commands steps run threads states forms counts groupings lint kinds draw drawings table tables)) ≡ true
+is_free_snoop : (steps run threads states forms counts groupings lint kinds draw drawings table tables layouts : Names)
+    → is_simple_and_free (with_commands top_app (commands steps run threads states forms counts groupings lint kinds draw drawings table tables layouts)) ≡ true
 unfolding clap_on_literals
-is_free_snoop steps run threads states forms counts groupings lint kinds draw drawings table tables = refl
+is_free_snoop steps run threads states forms counts groupings lint kinds draw drawings table tables layouts = refl
 
 -- one more command
 listed : {a b : App} {rest others : List App} → a ≡ b → rest ≡ others → a ∷ rest ≡ b ∷ others
 listed head tail = ap₂ (λ x xs. x ∷ xs) head tail
 
 -- a test that holds whatever lists the names are in
-tested : (test : App → Bool) → ((steps run threads states forms counts groupings lint kinds draw drawings table tables : Names)
-    → test (with_commands top_app (commands steps run threads states forms counts groupings lint kinds draw drawings table tables)) ≡ true) → (app : App) → IsSnoop app → test app ≡ true
-tested test holds app (steps', run', threads', states', counts', lint', draw', table', (steps, _, a), (run, _, b), (threads, _, c), (forms, _, (states, _, d)), (groupings, _, (counts, _, e)), (kinds, _, (lint, _, f)), (drawings, _, (draw, _, g)), (table, tables, _, _, h), is) =
-    let same : steps' ∷ run' ∷ threads' ∷ states' ∷ counts' ∷ lint' ∷ draw' ∷ table' ∷ [] ≡ commands steps run threads states forms counts groupings lint kinds draw drawings table tables =
+tested : (test : App → Bool) → ((steps run threads states forms counts groupings lint kinds draw drawings table tables layouts : Names)
+    → test (with_commands top_app (commands steps run threads states forms counts groupings lint kinds draw drawings table tables layouts)) ≡ true) → (app : App) → IsSnoop app → test app ≡ true
+tested test holds app (steps', run', threads', states', counts', lint', draw', table', (steps, _, a), (run, _, b), (threads, _, c), (forms, _, (states, _, d)), (groupings, _, (counts, _, e)), (kinds, _, (lint, _, f)), (drawings, _, (draw, _, g)), (table, tables, layouts, _, _, _, h), is) =
+    let same : steps' ∷ run' ∷ threads' ∷ states' ∷ counts' ∷ lint' ∷ draw' ∷ table' ∷ [] ≡ commands steps run threads states forms counts groupings lint kinds draw drawings table tables layouts =
     listed a (listed b (listed c (listed d (listed e (listed f (listed g (listed h refl))))))) in
-    ap test (is ∙ ap (with_commands top_app) same) ∙ holds steps run threads states forms counts groupings lint kinds draw drawings table tables
+    ap test (is ∙ ap (with_commands top_app) same) ∙ holds steps run threads states forms counts groupings lint kinds draw drawings table tables layouts
 
 pub is_free : (app : App) → IsSnoop app → is_simple_and_free app ≡ true
 is_free = tested is_simple_and_free is_free_snoop
@@ -61,7 +61,7 @@ pub asked : (app : App) (words : List Text) (command : Option (Text × List Row)
     → command ≡ subcommand_of app words → HasTask command task → Asks words task
 asked app words None task snoop well named has = absurd has
 asked app words (Some command) (Help help) snoop well named has = absurd has
-asked app words (Some command) (Table protocol which) snoop well named has = (app, snoop, (well, subst (λ c. HasTask c (Table protocol which)) named has))
+asked app words (Some command) (Table protocol which layout) snoop well named has = (app, snoop, (well, subst (λ c. HasTask c (Table protocol which layout)) named has))
 asked app words (Some command) (Simulate protocol shape engine) snoop well named has = (app, snoop, (well, subst (λ c. HasTask c (Simulate protocol shape engine)) named has))
 asked app words (Some command) (States protocol shape choice) snoop well named has = (app, snoop, (well, subst (λ c. HasTask c (States protocol shape choice)) named has))
 asked app words (Some command) (Draw protocol shape charset choice) snoop well named has = (app, snoop, (well, subst (λ c. HasTask c (Draw protocol shape charset choice)) named has))

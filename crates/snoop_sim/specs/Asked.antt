@@ -6,7 +6,7 @@ use Rattle.clap.specs.declared.error.kind.ErrorKind.{ErrorKind}
 use Rattle.clap.specs.declared.error.kind.ErrorKind.TheVariants.{DisplayHelp, DisplayVersion}
 use Rattle.snoop_trace.specs.Extent.{Extent}
 use Rattle.snoop_sim.specs.CommandLine.{IsSnoop}
-use Rattle.snoop_sim.specs.Options.{ChoosesAll, ChoosesSome, IsChoiceOf, IsGroupingOf, IsLongOf, IsShapeOf, IsShownOf, MisplacesTop, asks_serial, charset_named, kind_named, protocol_named, says, which_named}
+use Rattle.snoop_sim.specs.Options.{ChoosesAll, ChoosesSome, IsChoiceOf, IsGroupingOf, IsLongOf, IsShapeOf, IsShownOf, MisplacesTop, asks_serial, charset_named, kind_named, layout_named, protocol_named, says, which_named}
 use Rattle.snoop_engine.specs.declared.fault.SimFault.TheVariants.{NoMemory}
 use Rattle.snoop_sim.specs.declared.failure.Failure.{Failure}
 use Rattle.snoop_sim.specs.declared.failure.Failure.TheVariants.{BadChoice, BadTop, CommandLine, NoCommand, Shape, Simulation, Unchosen, Unshown}
@@ -28,7 +28,7 @@ IsEngineOf name options (Lint form most) = (name ≡ codes "lint") × (form ≡ 
 -- the task of a command with its options
 abbrev pub IsTaskOf : Text × List Row → Task → Type 0
 IsTaskOf command (Help help) = ⊥
-IsTaskOf (name, options) (Table protocol which) = (name ≡ codes "table") × (protocol ≡ protocol_named options) × (which ≡ which_named options)
+IsTaskOf (name, options) (Table protocol which layout) = (name ≡ codes "table") × (protocol ≡ protocol_named options) × (which ≡ which_named options) × (layout ≡ layout_named options)
 IsTaskOf (name, options) (Simulate protocol shape engine) = (protocol ≡ protocol_named options) × IsShapeOf options (Ok shape) × IsEngineOf name options engine
 IsTaskOf (name, options) (States protocol shape choice) = (protocol ≡ protocol_named options) × IsShapeOf options (Ok shape) × (name ≡ codes "states") × (says false (codes "as") (codes "csv") options ≡ false) × IsShownOf shape options (Ok choice)
 IsTaskOf (name, options) (Draw protocol shape charset choice) = (protocol ≡ protocol_named options) × IsShapeOf options (Ok shape) × (name ≡ codes "draw") × (charset ≡ charset_named options) × IsChoiceOf shape options (Ok choice)

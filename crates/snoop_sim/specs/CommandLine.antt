@@ -49,6 +49,10 @@ IsKinds names = AreNames (codes "steps" ∷ codes "rows" ∷ []) names
 abbrev pub IsTables : Names → Type 0
 IsTables names = AreNames (codes "cache" ∷ codes "memory" ∷ []) names
 
+-- those of `--as` of a table
+abbrev pub IsLayouts : Names → Type 0
+IsLayouts names = AreNames (codes "rows" ∷ codes "matrix" ∷ []) names
+
 -- those of `--as`
 abbrev pub IsForms : Names → Type 0
 IsForms names = AreNames (codes "text" ∷ codes "csv" ∷ []) names
@@ -76,6 +80,10 @@ kind_rule kinds = option_rule (codes "of") (codes "steps") (parser.Names kinds)
 -- the option `--as`, which is `text` where it is not given
 abbrev pub form_rule : Names → Rule
 form_rule forms = option_rule (codes "as") (codes "text") (parser.Names forms)
+
+-- the option `--as` of a table, which is `rows` where it is not given
+abbrev pub layout_rule : Names → Rule
+layout_rule layouts = option_rule (codes "as") (codes "rows") (parser.Names layouts)
 
 -- the options `--block`, `--from` and `--to`
 abbrev pub choice_rules : List Rule
@@ -106,8 +114,8 @@ abbrev pub simulation_app : Text → Names → List Rule → App
 simulation_app name protocols rules = with_rules (with_rules (new_app name) (machine_rules protocols)) rules
 
 -- the command that writes a table
-abbrev pub table_app : Names → Names → App
-table_app protocols tables = with_rules (new_app (codes "table")) (protocol_rule protocols ∷ option_rule (codes "which") (codes "cache") (parser.Names tables) ∷ [])
+abbrev pub table_app : Names → Names → Names → App
+table_app protocols tables layouts = with_rules (new_app (codes "table")) (protocol_rule protocols ∷ option_rule (codes "which") (codes "cache") (parser.Names tables) ∷ layout_rule layouts ∷ [])
 
 -- a command that simulates, with these options of its own
 abbrev pub IsSimulation : Text → List Rule → App → Type 0
@@ -143,7 +151,7 @@ IsDraw app = (forms : Names) × IsDrawings forms × IsSimulation (codes "draw") 
 
 -- the command `table`, as `clap` describes it
 abbrev pub IsTable : App → Type 0
-IsTable app = (protocols tables : Names) × IsProtocols protocols × IsTables tables × (app ≡ table_app protocols tables)
+IsTable app = (protocols tables layouts : Names) × IsProtocols protocols × IsTables tables × IsLayouts layouts × (app ≡ table_app protocols tables layouts)
 
 -- the program before its commands
 abbrev pub top_app : App

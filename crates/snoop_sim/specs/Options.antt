@@ -19,6 +19,8 @@ use Rattle.snoop_draw.specs.declared.marks.Charset.{Charset}
 use Rattle.snoop_draw.specs.declared.marks.Charset.TheVariants as charset
 use Rattle.snoop_lint.specs.declared.form.Form.{Form}
 use Rattle.snoop_lint.specs.declared.form.Form.TheVariants as form
+use Rattle.snoop_sim.specs.declared.options.Layout.{Layout}
+use Rattle.snoop_sim.specs.declared.options.Layout.TheVariants as layout
 use Rattle.snoop_sim.specs.declared.options.Grouping.{Grouping}
 use Rattle.snoop_sim.specs.declared.options.Grouping.TheVariants as grouping
 use Rattle.snoop_rules.specs.declared.table_text.Which.{Which}
@@ -39,6 +41,10 @@ asks_serial options = says false (codes "serial") (codes "true") options
 -- the memory controller's table where it is named; else the cache controllers'
 abbrev pub which_named : List Row → Which
 which_named options = if says false (codes "which") (codes "memory") options then Memory else Cache
+
+-- a matrix where it is named; else rows
+abbrev pub layout_named : List Row → Layout
+layout_named options = if says false (codes "as") (codes "matrix") options then layout.Matrix else layout.Rows
 
 -- ASCII characters where the flag is set
 abbrev pub charset_named : List Row → Charset

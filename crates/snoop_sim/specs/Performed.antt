@@ -6,6 +6,7 @@ use Rattle.snoop_trace.specs.Extent.{Extent}
 use Rattle.snoop_trace.specs.Output.{AppendsFront}
 use Rattle.snoop_trace.specs.Text.{BlamesReader}
 use Rattle.snoop_trace.specs.declared.protocol.Protocol.{Protocol}
+use Rattle.snoop_rules.specs.Matrix.{matrix_text}
 use Rattle.snoop_rules.specs.TableText.{table_text}
 use Rattle.clap.specs.Words.{Text}
 use Rattle.snoop_sim.specs.Asked.{Asks, Refuses}
@@ -31,6 +32,7 @@ use Rattle.snoop_sim.specs.declared.fault.ThreadsFault.TheVariants.{Text as Rows
 use Rattle.snoop_sim.specs.declared.failure.Failure.{Failure}
 use Rattle.snoop_sim.specs.declared.failure.Failure.TheVariants.{Simulation, Threads as ThreadsFailure, Lint as LintFailure, Drawing}
 use Rattle.snoop_sim.specs.declared.options.Grouping.TheVariants as grouping
+use Rattle.snoop_sim.specs.declared.options.Layout.TheVariants as layout
 use Rattle.snoop_sim.specs.declared.options.Engine.{Engine}
 use Rattle.snoop_sim.specs.declared.options.Engine.TheVariants.{Steps, Run, Serial, Threads, StateFields, Counts, Lint}
 use Rattle.snoop_sim.specs.declared.options.Task.{Task}
@@ -60,10 +62,11 @@ Runs protocol shape (Counts grouping.Core) input ending old new = EndsAs Simulat
 Runs protocol shape (Counts (grouping.Block top)) input ending old new = EndsAs Simulation ending (λ done. SimulatesView protocol shape (counts_by_block shape top) input done old new)
 Runs protocol shape (Lint form most) input ending old new = EndsAs LintFailure ending (λ done. Lints form most protocol shape input done old new)
 
--- what each task leaves: the text of help, the table, or its engine's output
+-- what each task leaves: the text of help, the table by rows or as a matrix, or its engine's output
 abbrev pub Performs : Task → Option (List ℕ) → Result (Unit {0}) Failure → Option (List ℕ) → Option (List ℕ) → Type 0
 Performs (Help help) input ending old new = (text : List ℕ) × EndsAs Simulation ending (λ done. Writes text done old new)
-Performs (Table protocol which) input ending old new = EndsAs Simulation ending (λ done. Writes (table_text protocol which) done old new)
+Performs (Table protocol which layout.Rows) input ending old new = EndsAs Simulation ending (λ done. Writes (table_text protocol which) done old new)
+Performs (Table protocol which layout.Matrix) input ending old new = EndsAs Simulation ending (λ done. Writes (matrix_text protocol which) done old new)
 Performs (Simulate protocol shape engine) input ending old new = Runs protocol shape engine input ending old new
 Performs (States protocol shape choice) input ending old new = EndsAs Simulation ending (λ done. SimulatesView protocol shape (states_table_text protocol shape choice) input done old new)
 Performs (Draw protocol shape charset choice) input ending old new = EndsAs Drawing ending (λ done. Draws protocol shape charset choice input done old new)

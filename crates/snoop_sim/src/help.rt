@@ -230,9 +230,11 @@ TooLarge: choose a block, or fewer steps."
 );
 
 pub(crate) static TABLE: &str = "\
-No input is read. Each line of output is a cell of the table: state, event, action
+No input is read. Each line of output is a row of the table: state, event, action
 and next state, with commas between.
-Example: snoop table --protocol mesi --which memory
+--as matrix: a line for each state, with a field for each event: action/next, or
+nothing where the state never meets the event. The first line names the events.
+Example: snoop table --protocol mesi --which memory --as matrix
 
 Exit statuses: snoop --help
 More in docs/PROTOCOL.md.";

@@ -2,8 +2,8 @@
 ghost use Rattle.std.specs.Prelude.{◌≡◌, ◌≢◌, ◌^◌, [], IfErr, IfOk, Ok, codes, false, map, string_bytes, true};
 ghost use Rattle.clap.specs.Words.{app_of, found_of, one_of, rows_of, rule_of, subcommand_rows_of};
 ghost use Rattle.snoop_sim.specs.Asked.{Asks, HasNoEngine, HasNoTask, HasTask, IsTaskOf, Refuses};
-ghost use Rattle.snoop_sim.specs.CommandLine.{IsCounts, IsDraw, IsForms, IsGroupings, IsKinds, IsLint, IsLocal, IsProtocols, IsRun, IsSimulation, IsSnoop, IsStates, IsSteps, IsTable, IsThreads, Names, choice_rules, flag_rule, form_rule, grouping_rule, kind_rule, number_rule, optional_rule, protocol_rule, top_app, with_rules};
-ghost use Rattle.snoop_sim.specs.Options.{ChoosesAll, ChoosesSome, IsChoiceOf, IsGroupingOf, IsNumberOf, IsReadAs, IsShapeOf, IsShownOf, MisplacesTop, asks_serial, charset_named, kind_named, protocol_named, says, which_named};
+ghost use Rattle.snoop_sim.specs.CommandLine.{IsCounts, IsDraw, IsForms, IsGroupings, IsKinds, IsLayouts, IsLint, IsLocal, IsProtocols, IsRun, IsSimulation, IsSnoop, IsStates, IsSteps, IsTable, IsThreads, Names, choice_rules, flag_rule, form_rule, grouping_rule, kind_rule, layout_rule, number_rule, optional_rule, protocol_rule, top_app, with_rules};
+ghost use Rattle.snoop_sim.specs.Options.{ChoosesAll, ChoosesSome, IsChoiceOf, IsGroupingOf, IsNumberOf, IsReadAs, IsShapeOf, IsShownOf, MisplacesTop, asks_serial, charset_named, kind_named, layout_named, protocol_named, says, which_named};
 
 use crate::failure::Failure;
 use crate::help;
@@ -20,7 +20,7 @@ use std::alloc::{AllocError, Global};
 #[derive(Debug, Drop)]
 pub(crate) enum Task {
     Help(Error),
-    Table(Protocol, Which),
+    Table(Protocol, Which, Layout),
     Simulate(Protocol, Shape, Engine),
     States(Protocol, Shape, Shown),
     Draw(Protocol, Shape, Charset, Choice),
@@ -38,6 +38,15 @@ pub(crate) enum Engine {
     Counts(Grouping),
     /// So many faulty records are named at most.
     Lint(Form, u64),
+}
+
+/// How a table is written.
+#[derive(Clone, Copy, Debug, PartialEq, Eq)]
+pub(crate) enum Layout {
+    /// A line for each of its rows.
+    Rows,
+    /// A line for each state, a column for each event.
+    Matrix,
 }
 
 /// What each line of counts is of.
@@ -61,6 +70,8 @@ static GROUPINGS: [&str; 3] = ["row", "core", "block"];
 
 static TABLES: [&str; 2] = ["cache", "memory"];
 
+static LAYOUTS: [&str; 2] = ["rows", "matrix"];
+
 /// The task that the words ask for; the first of them is the program's own name.
 pub(crate) fn task_in(alloc: Global, words: &[String]) -> Result<Task, Failure>
     ensures ok { IfOk result (Asks (map string_bytes words.now)) }
@@ -78,7 +89,11 @@ fn task_of(matches: &ArgMatches) -> Result<Task, Failure>
     ensures err { IfErr result (HasNoTask (subcommand_rows_of matches.now)) }
 {
     match matches.subcommand() {
-        Some(("table", options)) => Ok(Task::Table(protocol_in(options), which_in(options))),
+        Some(("table", options)) => Ok(Task::Table(
+            protocol_in(options),
+            which_in(options),
+            layout_in(options),
+        )),
         Some((name, options)) => simulation_of(name, options),
         None => Err(Failure::NoCommand),
     }
@@ -329,7 +344,8 @@ fn table<'a>(alloc: Global) -> Result<Command<'a>, AllocError>
         .about("Write a controller's table: state, event, action and next state")
         .after_help(help::TABLE)
         .arg(protocol(alloc))?
-        .arg(which)
+        .arg(which)?
+        .arg(layouts(alloc))
 }
 
 fn protocol<'a>(alloc: Global) -> Arg<'a>
@@ -383,6 +399,17 @@ fn kinds<'a>(alloc: Global) -> Arg<'a>
         .default_value("steps")
 }
 
+/// How a table is written, by rows if it is not given.
+fn layouts<'a>(alloc: Global) -> Arg<'a>
+    ensures { (result.global ≡ false) × ((layouts : Names) × IsLayouts layouts × (rule_of result ≡ layout_rule layouts)) }
+{
+    Arg::new(alloc, "as")
+        .long("as")
+        .help("A line for each row, or for each state with a field for each event")
+        .value_parser(ValueParser::Names(LAYOUTS.as_slice()))
+        .default_value("rows")
+}
+
 /// An option that may be left out.
 fn optional<'a>(alloc: Global, name: &'a str, values: ValueParser<'a>, help: &'a str) -> Arg<'a>
     ensures { (result.global ≡ false) × (rule_of result ≡ optional_rule name.entry.now values.entry) }
@@ -428,6 +455,17 @@ fn which_in(options: &ArgMatches) -> Which
         Which::Memory
     } else {
         Which::Cache
+    }
+}
+
+/// How the table is written.
+fn layout_in(options: &ArgMatches) -> Layout
+    ensures { result ≡ layout_named (rows_of (found_of options.now)) }
+{
+    if says(options, "as", "matrix") {
+        Layout::Matrix
+    } else {
+        Layout::Rows
     }
 }
 

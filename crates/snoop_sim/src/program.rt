@@ -7,7 +7,7 @@ ghost use Rattle.snoop_sim.specs.Status.{status_of};
 ghost use Rattle.snoop_sim.specs.Performed.{Ends, IsFailedRead, Leaves, Performs, Runs, Writes, status_of_ending};
 
 use crate::failure::Failure;
-use crate::options::{Engine, Grouping, Task, task_in};
+use crate::options::{Engine, Grouping, Layout, Task, task_in};
 use crate::threads::simulate_threads;
 use snoop_counts::{simulate_counts_by_block, simulate_counts_by_core};
 use snoop_draw::simulate_drawing;
@@ -15,7 +15,7 @@ use snoop_engine::{
     SimFault, simulate_counts, simulate_run, simulate_serial, simulate_states, simulate_steps,
 };
 use snoop_lint::lint_text;
-use snoop_rules::{Protocol, write_table};
+use snoop_rules::{Protocol, write_matrix, write_table};
 use snoop_states::simulate_states_table;
 use snoop_trace::Shape;
 use snoop_trace::streams::{Sink, Source, write_whole};
@@ -105,9 +105,14 @@ fn perform_task<T: Threads + Wait + Sync, R: Source, W: Sink>(
 {
     match task {
         Task::Help(help) => write_help(alloc, writer, &help).map_err(Failure::Simulation),
-        Task::Table(protocol, which) => write_table(alloc, writer, protocol, which)
+        Task::Table(protocol, which, Layout::Rows) => write_table(alloc, writer, protocol, which)
             .map_err(SimFault::from)
             .map_err(Failure::Simulation),
+        Task::Table(protocol, which, Layout::Matrix) => {
+            write_matrix(alloc, writer, protocol, which)
+                .map_err(SimFault::from)
+                .map_err(Failure::Simulation)
+        }
         Task::Simulate(protocol, shape, engine) => {
             simulate(rt, alloc, reader, writer, protocol, shape, engine)
         }

@@ -94,11 +94,25 @@ M_D,Data,write,IorS
 M_D,NoData,none,M
 ";
 
+/// The same as a matrix.
+const MSI_MEMORY_MATRIX: &[u8] = b"state,GetS,GetM,PutM,Data,NoData
+IorS,send Data/IorS,send Data/M,none/IorS_D,,
+M,none/IorS_D,none/M,none/M_D,,
+IorS_D,,,,write/IorS,none/IorS
+M_D,,,,write/IorS,none/M
+";
+
 /// A command line and its text, and what is written. Nothing is reported.
 type Answer = (&'static str, &'static [u8], &'static [u8]);
 
-static ANSWERS: [Answer; 2] = [
+static ANSWERS: [Answer; 4] = [
     ("snoop table --which memory --protocol MSI", b"", MSI_MEMORY),
+    ("snoop table --which memory --as rows", b"", MSI_MEMORY),
+    (
+        "snoop table --which memory --as matrix",
+        b"",
+        MSI_MEMORY_MATRIX,
+    ),
     (
         "snoop lint --of rows --most 0",
         b"L,0,0\n\nL,0,256\n",
