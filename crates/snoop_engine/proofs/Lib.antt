@@ -19,3 +19,5 @@ pub mod TrueLines
 pub mod TallyLemmas
 pub mod CountedLemmas
 pub mod ShownLemmas
+pub mod CourseLemmas
+pub mod InOrderLemmas

@@ -27,14 +27,14 @@ use Rattle.snoop_trace.proofs.WordPlaces.{word_there}
 use Rattle.snoop_engine.proofs.TakenLemmas.{line_texts_more, run_more, same_shape}
 
 -- a core whose block is under way
-here : (core block : ℕ) → only core block core ≡ Some block
+pub here : (core block : ℕ) → only core block core ≡ Some block
 here core block = ap (λ (b : Bool). cond {A = Option ℕ} b (Some block) None) (eq-eqb core core refl)
 
 away : (core block other : ℕ) → other ≢ core → nothing other ≡ only core block other
 away core block other ne = ap (λ (b : Bool). cond {A = Option ℕ} b (Some block) None) (sym (ne_eqb other core ne))
 
 -- a step of work under way is no Ask
-under_way_asks_nothing : (request : Option Request) (open_there : Option Open) (core block : ℕ) (step : Step) → step_under_way request open_there core block ≡ Some step
+pub under_way_asks_nothing : (request : Option Request) (open_there : Option Open) (core block : ℕ) (step : Step) → step_under_way request open_there core block ≡ Some step
     → (is_ask step ≡ false) × (paid step ≡ 0) × ((under_way : ℕ → Option ℕ) → IsUnderWay under_way step)
 under_way_asks_nothing (Some request) None core block step e =
     let P : Step → Type 0 = λ x. (is_ask x ≡ false) × (paid x ≡ 0) × ((under_way : ℕ → Option ℕ) → IsUnderWay under_way x) in

@@ -33,14 +33,14 @@ use Rattle.snoop_engine.proofs.SimulatedLemmas.{front_after, line_texts_on, runs
 use Rattle.snoop_engine.proofs.TakenLemmas.{report_words}
 
 -- a core's Asks are among the Asks of all cores
-asks_among : (core : ℕ) (steps : List Step) → asks_of steps core ≡ asks_of (all_asks steps) core
+pub asks_among : (core : ℕ) (steps : List Step) → asks_of steps core ≡ asks_of (all_asks steps) core
 asks_among core [] = refl
 asks_among core (Ask c block word asking ∷ steps) = ap (cons_option (ask_of core (Ask c block word asking))) (asks_among core steps)
 asks_among core (Order c ∷ steps) = asks_among core steps
 asks_among core (Respond block ∷ steps) = asks_among core steps
 
 -- those of the rows are the core's works
-asks_of_rows : (shape : Extent) (core : ℕ) (rows : List Row) → asks_of (map (ask_for shape) rows) core ≡ works_of shape rows core
+pub asks_of_rows : (shape : Extent) (core : ℕ) (rows : List Row) → asks_of (map (ask_for shape) rows) core ≡ works_of shape rows core
 asks_of_rows shape core [] = refl
 asks_of_rows shape core (row ∷ rows) = go (row.core == core) (asks_of_rows shape core rows)
   where

@@ -14,11 +14,12 @@ use Rattle.snoop_model.specs.Pictures.Situation.{Situation, reset}
 use Rattle.snoop_model.specs.Runs.Run.{GoesFirst, RunsGoOn, TheRun}
 use Rattle.snoop_engine.specs.Fault.{written}
 use Rattle.snoop_engine.specs.Frames.{AreFrames, Frame, FramesFrom, outcomes_of, steps_of}
-use Rattle.snoop_engine.specs.Simulated.{Reads}
+use Rattle.snoop_engine.specs.Inputs.{GivesSteps}
 use Rattle.snoop_engine.specs.SimulatedView.{BeginsToShow, ShowsRun, SimulatesView}
 use Rattle.snoop_engine.specs.Taken.{lines_of}
 use Rattle.snoop_engine.specs.Views.{IsNext, block_of, frame_seen, shown, view_text}
 use Rattle.snoop_engine.specs.declared.fault.SimFault.{SimFault}
+use Rattle.snoop_engine.specs.declared.input.Input.{Input}
 use Rattle.snoop_engine.specs.declared.fault.SimFault.TheVariants.{Text, NoMemory, Write}
 use Rattle.snoop_engine.specs.declared.seen.Seen.{Seen}
 use Rattle.snoop_engine.proofs.TrueLines.{lines_fit}
@@ -192,10 +193,10 @@ module _ (protocol : Protocol) (shape : Extent) (heading : List ℕ) (shows : Pr
     }
 
 -- a failed write, or out of memory, after the whole text was read
-pub simulates_view_front : (protocol : Protocol) (shape : Extent) (text : List Frame → Situation → List ℕ) (input : Option (List ℕ)) (steps : List Step) (fault : WriteFault) (result : Result (Unit {0}) SimFault) (old new : Option (List ℕ))
-    → result ≡ Err (written fault) → Reads protocol shape input (Ok steps) → BeginsToShow protocol shape text steps old new → SimulatesView protocol shape text input result old new
-simulates_view_front protocol shape text input steps write.Write result old new e reads begins = rw e (steps, (reads, begins))
-simulates_view_front protocol shape text input steps write.NoMemory result old new e reads begins = rw e (steps, (reads, begins))
+pub simulates_view_front : (protocol : Protocol) (shape : Extent) (input : Input) (text : List Frame → Situation → List ℕ) (bytes : Option (List ℕ)) (steps : List Step) (fault : WriteFault) (result : Result (Unit {0}) SimFault) (old new : Option (List ℕ))
+    → result ≡ Err (written fault) → GivesSteps protocol shape input bytes steps → BeginsToShow protocol shape text steps old new → SimulatesView protocol shape input text bytes result old new
+simulates_view_front protocol shape input text bytes steps write.Write result old new e gives begins = rw e (steps, (gives, begins))
+simulates_view_front protocol shape input text bytes steps write.NoMemory result old new e gives begins = rw e (steps, (gives, begins))
 
 -- another definition of the same text
 module _ (protocol : Protocol) (shape : Extent) (one other : List Frame → Situation → List ℕ)
@@ -220,8 +221,9 @@ module _ (protocol : Protocol) (shape : Extent) (one other : List Frame → Situ
     output = subst (λ (t : List ℕ). AppendsFront a b t) (same steps h.frames h.final h.run) h.output;
   }
 
-  pub same_view : (input : Option (List ℕ)) (result : Result (Unit {0}) SimFault) (a b : Option (List ℕ)) → SimulatesView protocol shape one input result a b → SimulatesView protocol shape other input result a b
-  same_view input (Ok u) a b h = (h.0, (h.1.0, same_shown h.0 a b h.1.1))
-  same_view input (Err (Text fault)) a b h = h
-  same_view input (Err NoMemory) a b h = (h.0, (h.1.0, same_begun h.0 a b h.1.1))
-  same_view input (Err Write) a b h = (h.0, (h.1.0, same_begun h.0 a b h.1.1))
+  pub same_view : (input : Input) (bytes : Option (List ℕ)) (result : Result (Unit {0}) SimFault) (a b : Option (List ℕ))
+      → SimulatesView protocol shape input one bytes result a b → SimulatesView protocol shape input other bytes result a b
+  same_view input bytes (Ok u) a b h = (h.0, (h.1.0, same_shown h.0 a b h.1.1))
+  same_view input bytes (Err (Text fault)) a b h = h
+  same_view input bytes (Err NoMemory) a b h = (h.0, (h.1.0, same_begun h.0 a b h.1.1))
+  same_view input bytes (Err Write) a b h = (h.0, (h.1.0, same_begun h.0 a b h.1.1))

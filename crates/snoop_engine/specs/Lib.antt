@@ -17,7 +17,11 @@ pub mod Taken
 pub mod States
 pub mod TrueLines
 pub mod Views
+pub mod Inputs
 pub mod SimulatedView
 pub mod Numbers
 pub mod Counts
 pub mod Tallies
+pub mod Chosen
+pub mod Choice
+pub mod InOrder

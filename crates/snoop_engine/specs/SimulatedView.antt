@@ -9,9 +9,10 @@ use Rattle.snoop_trace.specs.declared.protocol.Protocol.{Protocol}
 use Rattle.snoop_model.specs.Pictures.Situation.{Situation}
 use Rattle.snoop_model.specs.Runs.Run.{TheRun}
 use Rattle.snoop_engine.specs.Frames.{AreFrames, Frame, outcomes_of}
-use Rattle.snoop_engine.specs.Simulated.{Reads}
+use Rattle.snoop_engine.specs.Inputs.{GivesSteps, IsRefusedText}
 use Rattle.snoop_engine.specs.TrueLines.{ShowsRows}
 use Rattle.snoop_engine.specs.declared.fault.SimFault.{SimFault}
+use Rattle.snoop_engine.specs.declared.input.Input.{Input}
 use Rattle.snoop_engine.specs.declared.fault.SimFault.TheVariants.{Text, NoMemory, Write}
 
 -- the writer got this text of the frames of the run of the steps, whose lines are the rows that the controllers take
@@ -32,9 +33,9 @@ pub record BeginsToShow (protocol : Protocol) (shape : Extent) (text : List Fram
   pub rows : All ShowsRows frames
   pub output : AppendsFront old new (text frames final)
 
--- the whole text was read, and all of it shown, or a beginning of that; or the text was refused
-abbrev pub SimulatesView : Protocol → Extent → (List Frame → Situation → List ℕ) → Option (List ℕ) → Result (Unit {0}) SimFault → Option (List ℕ) → Option (List ℕ) → Type 0
-SimulatesView protocol shape text input (Ok u) old new = (steps : List Step) × (Reads protocol shape input (Ok steps) × ShowsRun protocol shape text steps old new)
-SimulatesView protocol shape text input (Err (Text fault)) old new = Reads protocol shape input (Err fault)
-SimulatesView protocol shape text input (Err NoMemory) old new = (steps : List Step) × (Reads protocol shape input (Ok steps) × BeginsToShow protocol shape text steps old new)
-SimulatesView protocol shape text input (Err Write) old new = (steps : List Step) × (Reads protocol shape input (Ok steps) × BeginsToShow protocol shape text steps old new)
+-- the whole text was read, and all that came of it was shown, or a beginning of that; or the text was refused
+abbrev pub SimulatesView : Protocol → Extent → Input → (List Frame → Situation → List ℕ) → Option (List ℕ) → Result (Unit {0}) SimFault → Option (List ℕ) → Option (List ℕ) → Type 0
+SimulatesView protocol shape input text bytes (Ok u) old new = (steps : List Step) × (GivesSteps protocol shape input bytes steps × ShowsRun protocol shape text steps old new)
+SimulatesView protocol shape input text bytes (Err (Text fault)) old new = IsRefusedText protocol shape input bytes fault
+SimulatesView protocol shape input text bytes (Err NoMemory) old new = (steps : List Step) × (GivesSteps protocol shape input bytes steps × BeginsToShow protocol shape text steps old new)
+SimulatesView protocol shape input text bytes (Err Write) old new = (steps : List Step) × (GivesSteps protocol shape input bytes steps × BeginsToShow protocol shape text steps old new)

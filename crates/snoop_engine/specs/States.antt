@@ -1,4 +1,4 @@
--- The states of a run as a text of fields: for each step a line for each controller that takes a row of its table.
+-- The states of a run as a text of fields: for each step that is shown a line for each controller that takes a row of its table.
 -- Source: the fields and their form are this project's profile.
 use Rattle.std.specs.Prelude.{ℕ, ◌+◌, ◌==◌, ◌&&◌, List, [], ◌∷◌, ◌++◌, codes, Option, Some, None, Result, Ok, option_map, nat_lt, if◌then◌else◌}
 use Rattle.std.specs.Fmt.{decimal}
@@ -22,9 +22,11 @@ use Rattle.snoop_model.specs.declared.replies.Reply.TheVariants.{Came}
 use Rattle.snoop_model.specs.declared.replies.Refused.{Refused}
 use Rattle.snoop_model.specs.Pictures.Picture.{held_by}
 use Rattle.snoop_model.specs.Pictures.Situation.{Situation, picture_of}
+use Rattle.snoop_engine.specs.Chosen.{Chosen, is_shown}
 use Rattle.snoop_engine.specs.Line.{outcome_text}
 use Rattle.snoop_engine.specs.Frames.{Frame}
 use Rattle.snoop_engine.specs.Taken.{lines_of, memory_at, state_at}
+use Rattle.snoop_engine.specs.Views.{block_of}
 use Rattle.snoop_engine.specs.declared.taken.Taken.{Taken}
 use Rattle.snoop_engine.specs.declared.taken.Taken.TheVariants.{Core, Memory, Nobody}
 
@@ -110,15 +112,19 @@ abbrev pub frame_text : Extent → ℕ → Frame → List ℕ
 frame_text shape number frame =
     flat_map (λ taken. step_fields shape number frame.step frame.outcome ++ taken_text frame.after taken) (lines_of frame.before frame.step frame.outcome)
 
--- the lines of steps, the first of which has this number
-abbrev pub frame_texts : Extent → ℕ → List Frame → List ℕ
-frame_texts shape number [] = []
-frame_texts shape number (frame ∷ frames) = frame_text shape number frame ++ frame_texts shape (number + 1) frames
+-- the lines of a step, if it is shown
+abbrev pub shown_text : Extent → Chosen → ℕ → Frame → List ℕ
+shown_text shape choice number frame = if is_shown choice (block_of frame.before frame.step) number then frame_text shape number frame else []
+
+-- the lines of those steps that are shown, where the first step has this number
+abbrev pub shown_texts : Extent → Chosen → ℕ → List Frame → List ℕ
+shown_texts shape choice number [] = []
+shown_texts shape choice number (frame ∷ frames) = shown_text shape choice number frame ++ shown_texts shape choice (number + 1) frames
 
 -- the names of the fields
 abbrev pub header_text : List ℕ
 header_text = codes "step,record,reply,block,controller,event,before,action,after,value,place\n"
 
 -- the whole text of some frames
-abbrev pub states_text : Extent → List Frame → List ℕ
-states_text shape frames = header_text ++ frame_texts shape 1 frames
+abbrev pub states_text : Extent → Chosen → List Frame → List ℕ
+states_text shape choice frames = header_text ++ shown_texts shape choice 1 frames

@@ -10,6 +10,7 @@ ghost use Rattle.snoop_engine.specs.Tallies.{Tallies};
 
 use crate::counts_text::push_counts;
 use crate::fault::SimFault;
+use crate::input::Input;
 use crate::seen::Seen;
 use crate::show::simulate_view;
 use crate::tally::Tally;
@@ -20,7 +21,7 @@ use snoop_trace::streams::{Sink, Source};
 use snoop_trace::{NoMemory, Shape};
 use std::alloc::Global;
 
-/// Reads a text of steps for the protocol and the shape to its end, takes them in order on a machine at reset, and writes
+/// Reads a text to its end, takes the steps that come of it in order on a machine at reset, for the protocol and the shape, and writes
 /// how often each row of the tables was taken. A step that is refused because it is out of memory ends the simulation.
 pub fn simulate_counts<R: Source, W: Sink>(
     alloc: Global,
@@ -28,8 +29,9 @@ pub fn simulate_counts<R: Source, W: Sink>(
     writer: &mut W,
     protocol: Protocol,
     shape: Shape,
+    input: Input,
 ) -> Result<(), SimFault>
-    ensures does { SimulatesView protocol shape (λ frames final. frames_counts_text protocol frames) (R.remaining reader.old) result (W.contents writer.old) (W.contents writer.new) }
+    ensures does { SimulatesView protocol shape input (λ frames final. frames_counts_text protocol frames) (R.remaining reader.old) result (W.contents writer.old) (W.contents writer.new) }
     // A refused text leaves the writer as it was.
     ensures unwritten { (fault : TextFault) → result ≡ Err (SimFault.Text fault) → writer.new ≡ writer.old }
 
@@ -41,7 +43,7 @@ pub fn simulate_counts<R: Source, W: Sink>(
     ensures blamed { BlamesWriter (W.failed writer.old) (W.failed writer.new) (result ≡ Err SimFault.Write) }
 {
     let mut tally = Tally::new();
-    simulate_view(alloc, reader, writer, protocol, shape, &mut tally)
+    simulate_view(alloc, reader, writer, protocol, shape, input, &mut tally)
 }
 
 /// The view of a run as counts: nothing is written before its end.

@@ -3,12 +3,16 @@
 //! lines and its report is a `View`.
 #![tactic(auto)]
 
+mod choice;
 mod counts;
 mod counts_text;
+mod course;
 mod deal;
 mod driver;
 mod events;
 mod fault;
+mod gather;
+mod input;
 mod lane;
 mod line;
 mod literals;
@@ -18,6 +22,7 @@ mod run;
 mod script;
 mod seen;
 mod serial;
+mod serial_driver;
 mod show;
 mod states;
 mod steps;
@@ -26,8 +31,11 @@ mod taken_text;
 mod tally;
 mod view;
 
+pub use choice::{Choice, ChoiceFault};
 pub use counts::simulate_counts;
 pub use fault::SimFault;
+pub use gather::read_input;
+pub use input::Input;
 pub use line::push_outcome;
 pub use run::simulate_run;
 pub use seen::Seen;

@@ -8,6 +8,8 @@ ghost use Rattle.snoop_engine.specs.SimulatedView.{BeginsToShow, ShowsRun, Simul
 ghost use Rattle.snoop_engine.specs.Views.{view_text};
 
 use crate::fault::SimFault;
+use crate::gather::read_input;
+use crate::input::Input;
 use crate::packed::StepQueue;
 use crate::script::Script;
 use crate::seen::Seen;
@@ -20,17 +22,18 @@ use snoop_trace::streams::{Sink, Source, gather_steps, spill, write_whole};
 use snoop_trace::{NoMemory, Shape, Step, WriteFault};
 use std::alloc::Global;
 
-/// Reads a text of steps for the protocol and the shape to its end, takes them in order on a machine at reset, and writes
-/// what the view shows of them. A step that is refused because it is out of memory ends the simulation.
+/// Reads a text to its end, takes the steps that come of it in order on a machine at reset, for the protocol and the shape,
+/// and writes what the view shows of them. A step that is refused because it is out of memory ends the simulation.
 pub fn simulate_view<R: Source, W: Sink, V: View>(
     alloc: Global,
     reader: &mut R,
     writer: &mut W,
     protocol: Protocol,
     shape: Shape,
+    input: Input,
     view: &mut V,
 ) -> Result<(), SimFault>
-    ensures does { SimulatesView protocol shape (view_text (V.heading view.old protocol shape) (V.shows view.old protocol shape) (V.ending view.old protocol shape)) (R.remaining reader.old) result (W.contents writer.old) (W.contents writer.new) }
+    ensures does { SimulatesView protocol shape input (view_text (V.heading view.old protocol shape) (V.shows view.old protocol shape) (V.ending view.old protocol shape)) (R.remaining reader.old) result (W.contents writer.old) (W.contents writer.new) }
     // A refused text leaves the writer as it was.
     ensures unwritten { (fault : TextFault) → result ≡ Err (SimFault.Text fault) → writer.new ≡ writer.old }
 
@@ -41,10 +44,54 @@ pub fn simulate_view<R: Source, W: Sink, V: View>(
     ensures read_blamed { BlamesReader (R.failed reader.old) (R.failed reader.new) (result ≡ Err (SimFault.Text text_fault.Read)) }
     ensures blamed { BlamesWriter (W.failed writer.old) (W.failed writer.new) (result ≡ Err SimFault.Write) }
 {
+    match input {
+        Input::Steps => view_steps(alloc, reader, writer, protocol, shape, view),
+        _ => view_input(alloc, reader, writer, protocol, shape, input, view),
+    }
+}
+
+/// Shows the steps of a text.
+fn view_steps<R: Source, W: Sink, V: View>(
+    alloc: Global,
+    reader: &mut R,
+    writer: &mut W,
+    protocol: Protocol,
+    shape: Shape,
+    view: &mut V,
+) -> Result<(), SimFault>
+    ensures does { SimulatesView protocol shape Input.Steps (view_text (V.heading view.old protocol shape) (V.shows view.old protocol shape) (V.ending view.old protocol shape)) (R.remaining reader.old) result (W.contents writer.old) (W.contents writer.new) }
+    ensures unwritten { (fault : TextFault) → result ≡ Err (SimFault.Text fault) → writer.new ≡ writer.old }
+    ensures reads { R.never_fails ≡ true → result ≢ Err (SimFault.Text text_fault.Read) }
+    ensures writes { W.never_fails ≡ true → result ≢ Err SimFault.Write }
+    ensures read_blamed { BlamesReader (R.failed reader.old) (R.failed reader.new) (result ≡ Err (SimFault.Text text_fault.Read)) }
+    ensures blamed { BlamesWriter (W.failed writer.old) (W.failed writer.new) (result ≡ Err SimFault.Write) }
+{
     let mut steps = gather_steps(alloc, reader, protocol, shape, StepQueue::new(alloc)).map_err(
         SimFault::Text,
     )?;
     show(alloc, writer, protocol, shape, &mut steps, view)?;
+    Ok(())
+}
+
+/// Shows the steps that come of a text; they are all known before the first is taken.
+fn view_input<R: Source, W: Sink, V: View>(
+    alloc: Global,
+    reader: &mut R,
+    writer: &mut W,
+    protocol: Protocol,
+    shape: Shape,
+    input: Input,
+    view: &mut V,
+) -> Result<(), SimFault>
+    ensures does { SimulatesView protocol shape input (view_text (V.heading view.old protocol shape) (V.shows view.old protocol shape) (V.ending view.old protocol shape)) (R.remaining reader.old) result (W.contents writer.old) (W.contents writer.new) }
+    ensures unwritten { (fault : TextFault) → result ≡ Err (SimFault.Text fault) → writer.new ≡ writer.old }
+    ensures reads { R.never_fails ≡ true → result ≢ Err (SimFault.Text text_fault.Read) }
+    ensures writes { W.never_fails ≡ true → result ≢ Err SimFault.Write }
+    ensures read_blamed { BlamesReader (R.failed reader.old) (R.failed reader.new) (result ≡ Err (SimFault.Text text_fault.Read)) }
+    ensures blamed { BlamesWriter (W.failed writer.old) (W.failed writer.new) (result ≡ Err SimFault.Write) }
+{
+    let steps = read_input(alloc, reader, protocol, shape, input).map_err(SimFault::Text)?;
+    show_steps(alloc, writer, protocol, shape, &steps, view)?;
     Ok(())
 }
 

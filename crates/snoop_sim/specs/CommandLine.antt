@@ -113,6 +113,10 @@ machine_rules protocols = protocol_rule protocols ∷ number_rule (codes "cores"
 abbrev pub simulation_app : Text → Names → List Rule → App
 simulation_app name protocols rules = with_rules (with_rules (new_app name) (machine_rules protocols)) rules
 
+-- a command that shows a run of steps or of rows, with options of its own after these
+abbrev pub view_app : Text → Names → Names → List Rule → App
+view_app name protocols kinds rules = simulation_app name protocols (kind_rule kinds ∷ flag_rule (codes "serial") ∷ rules)
+
 -- the command that writes a table
 abbrev pub table_app : Names → Names → Names → App
 table_app protocols tables layouts = with_rules (new_app (codes "table")) (protocol_rule protocols ∷ option_rule (codes "which") (codes "cache") (parser.Names tables) ∷ layout_rule layouts ∷ [])
@@ -120,6 +124,10 @@ table_app protocols tables layouts = with_rules (new_app (codes "table")) (proto
 -- a command that simulates, with these options of its own
 abbrev pub IsSimulation : Text → List Rule → App → Type 0
 IsSimulation name rules app = (protocols : Names) × IsProtocols protocols × (app ≡ simulation_app name protocols rules)
+
+-- a command that shows a run, with these options of its own
+abbrev pub IsView : Text → List Rule → App → Type 0
+IsView name rules app = (protocols kinds : Names) × IsProtocols protocols × IsKinds kinds × (app ≡ view_app name protocols kinds rules)
 
 -- the command `steps`
 abbrev pub IsSteps : App → Type 0
@@ -135,11 +143,11 @@ IsThreads = IsSimulation (codes "threads") []
 
 -- the command `states`
 abbrev pub IsStates : App → Type 0
-IsStates app = (forms : Names) × IsForms forms × IsSimulation (codes "states") (form_rule forms ∷ choice_rules) app
+IsStates app = (forms : Names) × IsForms forms × IsView (codes "states") (form_rule forms ∷ choice_rules) app
 
 -- the command `counts`
 abbrev pub IsCounts : App → Type 0
-IsCounts app = (groupings : Names) × IsGroupings groupings × IsSimulation (codes "counts") (grouping_rule groupings ∷ top_rule ∷ []) app
+IsCounts app = (groupings : Names) × IsGroupings groupings × IsView (codes "counts") (grouping_rule groupings ∷ top_rule ∷ []) app
 
 -- the command `lint`
 abbrev pub IsLint : App → Type 0
@@ -147,7 +155,7 @@ IsLint app = (kinds : Names) × IsKinds kinds × IsSimulation (codes "lint") (ki
 
 -- the command `draw`
 abbrev pub IsDraw : App → Type 0
-IsDraw app = (forms : Names) × IsDrawings forms × IsSimulation (codes "draw") (form_rule forms ∷ flag_rule (codes "ascii") ∷ choice_rules) app
+IsDraw app = (forms : Names) × IsDrawings forms × IsView (codes "draw") (form_rule forms ∷ flag_rule (codes "ascii") ∷ choice_rules) app
 
 -- the command `table`, as `clap` describes it
 abbrev pub IsTable : App → Type 0

@@ -1,6 +1,6 @@
 -- What the options of a command say.
 -- Source: this project's profile.
-use Rattle.std.specs.Prelude.{◌≡◌, ◌≢◌, ◌⊎◌, ◌<◌, ◌^◌, ℕ, List, Option, Some, None, Result, Ok, Err, Bool, if◌then◌else◌, codes, true, false, unwrap_or}
+use Rattle.std.specs.Prelude.{◌≡◌, ◌<◌, ◌^◌, ℕ, List, Option, Some, None, Result, Ok, Err, Bool, if◌then◌else◌, codes, true, false, unwrap_or}
 use Rattle.std.specs.Option.{option_map_or}
 use Rattle.std.specs.Str.Parse.{IsNumeral, digits_value, without_leading_plus}
 use Rattle.clap.specs.Words.{Row, Text, first_of, one_of, same_text}
@@ -9,12 +9,14 @@ use Rattle.snoop_trace.specs.declared.shape.ShapeFault.{ShapeFault}
 use Rattle.snoop_trace.specs.declared.shape.ShapeFault.TheVariants.{BadCores, BadBlocks, BadBytes, BadWords}
 use Rattle.snoop_trace.specs.declared.protocol.Protocol.{Protocol}
 use Rattle.snoop_trace.specs.declared.protocol.Protocol.TheVariants.{Msi, Mesi}
-use Rattle.snoop_states.specs.Choice.{IsChoice as IsShown}
-use Rattle.snoop_states.specs.Chosen.{Chosen as Shown}
-use Rattle.snoop_states.specs.declared.choice.ChoiceFault.{ChoiceFault as ShownFault}
-use Rattle.snoop_draw.specs.Choice.{IsChoice}
-use Rattle.snoop_draw.specs.Choices.{Chosen}
-use Rattle.snoop_draw.specs.declared.choice.ChoiceFault.{ChoiceFault}
+use Rattle.snoop_engine.specs.Choice.{IsChoice}
+use Rattle.snoop_engine.specs.Chosen.{Chosen}
+use Rattle.snoop_engine.specs.declared.choice.ChoiceFault.{ChoiceFault}
+use Rattle.snoop_engine.specs.declared.input.Input.{Input}
+use Rattle.snoop_engine.specs.declared.input.Input.TheVariants as input
+use Rattle.snoop_draw.specs.Choice.{IsChoice as IsDrawn}
+use Rattle.snoop_draw.specs.Choices.{Chosen as Drawn}
+use Rattle.snoop_draw.specs.declared.choice.ChoiceFault.{ChoiceFault as DrawnFault}
 use Rattle.snoop_draw.specs.declared.marks.Charset.{Charset}
 use Rattle.snoop_draw.specs.declared.marks.Charset.TheVariants as charset
 use Rattle.snoop_lint.specs.declared.form.Form.{Form}
@@ -53,6 +55,16 @@ charset_named options = if says false (codes "ascii") (codes "true") options the
 -- rows where they are named; else steps
 abbrev pub kind_named : List Row → Form
 kind_named options = if says false (codes "of") (codes "rows") options then form.Rows else form.Steps
+
+-- what the text is of, as `of` says, and in which order its rows are served, as `serial` says, which is for rows alone
+abbrev pub IsInputOf : List Row → Input → Type 0
+IsInputOf options input.Steps = (kind_named options ≡ form.Steps) × (asks_serial options ≡ false)
+IsInputOf options input.Rows = (kind_named options ≡ form.Rows) × (asks_serial options ≡ false)
+IsInputOf options input.SerialRows = (kind_named options ≡ form.Rows) × (asks_serial options ≡ true)
+
+-- `serial` is given without rows
+abbrev pub MisplacesSerial : List Row → Type 0
+MisplacesSerial options = (kind_named options ≡ form.Steps) × (asks_serial options ≡ true)
 
 -- a number below a limit, in decimal
 abbrev pub IsNumber : ℕ → Text → Type 0
@@ -107,21 +119,10 @@ IsChoiceOf shape options made = (block from to : Option ℕ)
     × IsReadAs (2 ^ 64) (one_of (codes "to") options) to
     × IsChoice shape block (unwrap_or from 0) (unwrap_or to 18446744073709551615) made
 
--- what they choose to be shown
-abbrev pub IsShownOf : Extent → List Row → Result Shown ShownFault → Type 0
-IsShownOf shape options made = (block from to : Option ℕ)
+-- what they choose to be drawn
+abbrev pub IsDrawnOf : Extent → List Row → Result Drawn DrawnFault → Type 0
+IsDrawnOf shape options made = (block from to : Option ℕ)
     × IsReadAs (2 ^ 32) (one_of (codes "block") options) block
     × IsReadAs (2 ^ 64) (one_of (codes "from") options) from
     × IsReadAs (2 ^ 64) (one_of (codes "to") options) to
-    × IsShown shape block (unwrap_or from 0) (unwrap_or to 18446744073709551615) made
-
--- they choose each block and each step
-abbrev pub ChoosesAll : List Row → Type 0
-ChoosesAll options = IsReadAs (2 ^ 32) (one_of (codes "block") options) None × IsReadAs (2 ^ 64) (one_of (codes "from") options) (Some 1)
-    × IsReadAs (2 ^ 64) (one_of (codes "to") options) None
-
--- they choose a block or some steps
-abbrev pub ChoosesSome : List Row → Type 0
-ChoosesSome options = ((block : ℕ) × IsReadAs (2 ^ 32) (one_of (codes "block") options) (Some block))
-    ⊎ ((from : Option ℕ) × IsReadAs (2 ^ 64) (one_of (codes "from") options) from × (from ≢ Some 1))
-    ⊎ ((to : ℕ) × IsReadAs (2 ^ 64) (one_of (codes "to") options) (Some to))
+    × IsDrawn shape block (unwrap_or from 0) (unwrap_or to 18446744073709551615) made

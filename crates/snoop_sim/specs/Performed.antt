@@ -34,9 +34,9 @@ use Rattle.snoop_sim.specs.declared.failure.Failure.TheVariants.{Simulation, Thr
 use Rattle.snoop_sim.specs.declared.options.Grouping.TheVariants as grouping
 use Rattle.snoop_sim.specs.declared.options.Layout.TheVariants as layout
 use Rattle.snoop_sim.specs.declared.options.Engine.{Engine}
-use Rattle.snoop_sim.specs.declared.options.Engine.TheVariants.{Steps, Run, Serial, Threads, StateFields, Counts, Lint}
+use Rattle.snoop_sim.specs.declared.options.Engine.TheVariants.{Steps, Run, Serial, Threads, Counts, Lint}
 use Rattle.snoop_sim.specs.declared.options.Task.{Task}
-use Rattle.snoop_sim.specs.declared.options.Task.TheVariants.{Help, Table, Simulate, States, Draw}
+use Rattle.snoop_sim.specs.declared.options.Task.TheVariants.{Help, Table, Simulate, States, StateFields, Draw}
 
 -- a text was written whole; or, out of memory, nothing; or, where a write failed, a beginning; there was none to refuse
 abbrev pub Writes : List ℕ → Result (Unit {0}) SimFault → Option (List ℕ) → Option (List ℕ) → Type 0
@@ -56,10 +56,9 @@ Runs protocol shape Steps input ending old new = EndsAs Simulation ending (λ do
 Runs protocol shape Run input ending old new = EndsAs Simulation ending (λ done. SimulatesRun protocol shape input done old new)
 Runs protocol shape Serial input ending old new = EndsAs Simulation ending (λ done. SimulatesSerial protocol shape input done old new)
 Runs protocol shape Threads input ending old new = EndsAs ThreadsFailure ending (λ done. SimulatesThreads protocol shape input done old new)
-Runs protocol shape StateFields input ending old new = EndsAs Simulation ending (λ done. SimulatesView protocol shape (λ frames final. states_text shape frames) input done old new)
-Runs protocol shape (Counts grouping.Row) input ending old new = EndsAs Simulation ending (λ done. SimulatesView protocol shape (λ frames final. frames_counts_text protocol frames) input done old new)
-Runs protocol shape (Counts grouping.Core) input ending old new = EndsAs Simulation ending (λ done. SimulatesView protocol shape (counts_by_core shape) input done old new)
-Runs protocol shape (Counts (grouping.Block top)) input ending old new = EndsAs Simulation ending (λ done. SimulatesView protocol shape (counts_by_block shape top) input done old new)
+Runs protocol shape (Counts input grouping.Row) text ending old new = EndsAs Simulation ending (λ done. SimulatesView protocol shape input (λ frames final. frames_counts_text protocol frames) text done old new)
+Runs protocol shape (Counts input grouping.Core) text ending old new = EndsAs Simulation ending (λ done. SimulatesView protocol shape input (counts_by_core shape) text done old new)
+Runs protocol shape (Counts input (grouping.Block top)) text ending old new = EndsAs Simulation ending (λ done. SimulatesView protocol shape input (counts_by_block shape top) text done old new)
 Runs protocol shape (Lint form most) input ending old new = EndsAs LintFailure ending (λ done. Lints form most protocol shape input done old new)
 
 -- what each task leaves: the text of help, the table by rows or as a matrix, or its engine's output
@@ -68,8 +67,9 @@ Performs (Help help) input ending old new = (text : List ℕ) × EndsAs Simulati
 Performs (Table protocol which layout.Rows) input ending old new = EndsAs Simulation ending (λ done. Writes (table_text protocol which) done old new)
 Performs (Table protocol which layout.Matrix) input ending old new = EndsAs Simulation ending (λ done. Writes (matrix_text protocol which) done old new)
 Performs (Simulate protocol shape engine) input ending old new = Runs protocol shape engine input ending old new
-Performs (States protocol shape choice) input ending old new = EndsAs Simulation ending (λ done. SimulatesView protocol shape (states_table_text protocol shape choice) input done old new)
-Performs (Draw protocol shape charset choice) input ending old new = EndsAs Drawing ending (λ done. Draws protocol shape charset choice input done old new)
+Performs (States protocol shape input choice) text ending old new = EndsAs Simulation ending (λ done. SimulatesView protocol shape input (states_table_text protocol shape choice) text done old new)
+Performs (StateFields protocol shape input choice) text ending old new = EndsAs Simulation ending (λ done. SimulatesView protocol shape input (λ frames final. states_text shape choice frames) text done old new)
+Performs (Draw protocol shape input charset choice) text ending old new = EndsAs Drawing ending (λ done. Draws protocol shape input charset choice text done old new)
 
 -- the task that the words ask for was performed; or nothing was begun for them, and nothing written
 abbrev pub Leaves : List Text → Option (List ℕ) → Result (Unit {0}) Failure → Option (List ℕ) → Option (List ℕ) → Type 0

@@ -2,17 +2,17 @@
 ghost use Rattle.std.specs.Prelude.{◌≡◌, ◌≢◌, ◌^◌, [], IfErr, IfOk, Ok, codes, false, map, string_bytes, true};
 ghost use Rattle.clap.specs.Words.{app_of, found_of, one_of, rows_of, rule_of, subcommand_rows_of};
 ghost use Rattle.snoop_sim.specs.Asked.{Asks, HasNoEngine, HasNoTask, HasTask, IsTaskOf, Refuses};
-ghost use Rattle.snoop_sim.specs.CommandLine.{IsCounts, IsDraw, IsForms, IsGroupings, IsKinds, IsLayouts, IsLint, IsLocal, IsProtocols, IsRun, IsSimulation, IsSnoop, IsStates, IsSteps, IsTable, IsThreads, Names, choice_rules, flag_rule, form_rule, grouping_rule, kind_rule, layout_rule, number_rule, optional_rule, protocol_rule, top_app, with_rules};
-ghost use Rattle.snoop_sim.specs.Options.{ChoosesAll, ChoosesSome, IsChoiceOf, IsGroupingOf, IsNumberOf, IsReadAs, IsShapeOf, IsShownOf, MisplacesTop, asks_serial, charset_named, kind_named, layout_named, protocol_named, says, which_named};
+ghost use Rattle.snoop_sim.specs.CommandLine.{IsCounts, IsDraw, IsForms, IsGroupings, IsKinds, IsLayouts, IsLint, IsLocal, IsProtocols, IsRun, IsSimulation, IsSnoop, IsStates, IsSteps, IsTable, IsThreads, IsView, Names, choice_rules, flag_rule, form_rule, grouping_rule, kind_rule, layout_rule, number_rule, optional_rule, protocol_rule, top_app, with_rules};
+ghost use Rattle.snoop_sim.specs.Options.{IsChoiceOf, IsDrawnOf, IsGroupingOf, IsInputOf, IsNumberOf, IsReadAs, IsShapeOf, MisplacesSerial, MisplacesTop, asks_serial, charset_named, kind_named, layout_named, protocol_named, says, which_named};
 
 use crate::failure::Failure;
 use crate::help;
 use clap::builder::ValueParser;
 use clap::{Arg, ArgAction, ArgMatches, Command, Error, value_parser};
-use snoop_draw::{Charset, Choice, ChoiceFault};
+use snoop_draw::{Charset, Choice as Drawn, ChoiceFault as DrawnFault};
+use snoop_engine::{Choice, ChoiceFault, Input};
 use snoop_lint::Form;
 use snoop_rules::{Protocol, Which};
-use snoop_states::{Choice as Shown, ChoiceFault as ShownFault};
 use snoop_trace::{Shape, ShapeFault};
 use std::alloc::{AllocError, Global};
 
@@ -22,8 +22,11 @@ pub(crate) enum Task {
     Help(Error),
     Table(Protocol, Which, Layout),
     Simulate(Protocol, Shape, Engine),
-    States(Protocol, Shape, Shown),
-    Draw(Protocol, Shape, Charset, Choice),
+    /// Its states, in tables.
+    States(Protocol, Shape, Input, Choice),
+    /// Its states, in fields.
+    StateFields(Protocol, Shape, Input, Choice),
+    Draw(Protocol, Shape, Input, Charset, Drawn),
 }
 
 /// What is done with a text.
@@ -33,9 +36,7 @@ pub(crate) enum Engine {
     Run,
     Serial,
     Threads,
-    /// The states of all steps, in fields.
-    StateFields,
-    Counts(Grouping),
+    Counts(Input, Grouping),
     /// So many faulty records are named at most.
     Lint(Form, u64),
 }
@@ -121,24 +122,28 @@ fn task_on(name: &str, options: &ArgMatches, shape: Shape) -> Result<Task, Failu
         "run" if is_serial(options) => Ok(Task::Simulate(protocol, shape, Engine::Serial)),
         "run" => Ok(Task::Simulate(protocol, shape, Engine::Run)),
         "threads" => Ok(Task::Simulate(protocol, shape, Engine::Threads)),
-        "states" if !says(options, "as", "csv") => {
-            Ok(Task::States(protocol, shape, shown_in(options, shape)?))
+        "states" => {
+            let input = input_in(options)?;
+            let choice = choice_in(options, shape)?;
+            if says(options, "as", "csv") {
+                Ok(Task::StateFields(protocol, shape, input, choice))
+            } else {
+                Ok(Task::States(protocol, shape, input, choice))
+            }
         }
-        "states" if chooses_all(options) => {
-            Ok(Task::Simulate(protocol, shape, Engine::StateFields))
-        }
-        "states" => Err(Failure::BadChoice),
         "counts" => {
+            let input = input_in(options)?;
             let grouping = grouping_in(options)?;
-            Ok(Task::Simulate(protocol, shape, Engine::Counts(grouping)))
+            Ok(Task::Simulate(protocol, shape, Engine::Counts(input, grouping)))
         }
         "lint" => {
             let most = long_in(options, "most").unwrap_or(0);
             Ok(Task::Simulate(protocol, shape, Engine::Lint(kind_in(options), most)))
         }
         "draw" => {
-            let choice = choice_in(options, shape)?;
-            Ok(Task::Draw(protocol, shape, charset_in(options), choice))
+            let input = input_in(options)?;
+            let choice = drawn_in(options, shape)?;
+            Ok(Task::Draw(protocol, shape, input, charset_in(options), choice))
         }
         _ => Err(Failure::NoCommand),
     }
@@ -214,10 +219,10 @@ fn threads<'a>(alloc: Global) -> Result<Command<'a>, AllocError>
 fn states<'a>(alloc: Global) -> Result<Command<'a>, AllocError>
     ensures { IfOk result (λ command. IsLocal command × IsStates (app_of command)) }
 {
-    let plain = simulation(
+    let plain = view(
         alloc,
         "states",
-        "Read steps; write the states that each block goes through",
+        "Read steps or rows; write the states that each block goes through",
         help::STATES,
     )?;
     choosing(alloc, plain.arg(forms(alloc, FORMS.as_slice()))?)
@@ -226,10 +231,10 @@ fn states<'a>(alloc: Global) -> Result<Command<'a>, AllocError>
 fn counts<'a>(alloc: Global) -> Result<Command<'a>, AllocError>
     ensures { IfOk result (λ command. IsLocal command × IsCounts (app_of command)) }
 {
-    simulation(
+    view(
         alloc,
         "counts",
-        "Read steps; write counts by row of the tables, by core or by block",
+        "Read steps or rows; write counts by row of the tables, by core or by block",
         help::COUNTS,
     )?
     .arg(groupings(alloc))?
@@ -263,10 +268,10 @@ fn lint<'a>(alloc: Global) -> Result<Command<'a>, AllocError>
 fn draw<'a>(alloc: Global) -> Result<Command<'a>, AllocError>
     ensures { IfOk result (λ command. IsLocal command × IsDraw (app_of command)) }
 {
-    let plain = simulation(
+    let plain = view(
         alloc,
         "draw",
-        "Read steps; draw what happens to each block",
+        "Read steps or rows; draw what happens to each block",
         help::DRAW,
     )?;
     let ascii = flag(alloc, "ascii", "Draw with ASCII characters alone");
@@ -295,6 +300,24 @@ fn choosing<'a>(alloc: Global, command: Command<'a>) -> Result<Command<'a>, Allo
             "to",
             value_parser!(u64),
             "Show steps up to this number",
+        ))
+}
+
+/// A command that shows a run of steps or of rows; the help says what it shows.
+fn view<'a>(
+    alloc: Global,
+    name: &'a str,
+    about: &'a str,
+    help: &'a str,
+) -> Result<Command<'a>, AllocError>
+    ensures { IfOk result (λ command. IsLocal command × IsView name.entry.now [] (app_of command)) }
+{
+    simulation(alloc, name, about, help)?
+        .arg(kinds(alloc))?
+        .arg(flag(
+            alloc,
+            "serial",
+            "Of rows: do each line whole before the next, in the order of the text",
         ))
 }
 
@@ -469,30 +492,16 @@ fn layout_in(options: &ArgMatches) -> Layout
     }
 }
 
-/// The block and the steps that are shown.
-fn shown_in(options: &ArgMatches, shape: Shape) -> Result<Shown, ShownFault>
-    ensures { IsShownOf shape (rows_of (found_of options.now)) result }
+/// The block and the steps that are drawn.
+fn drawn_in(options: &ArgMatches, shape: Shape) -> Result<Drawn, DrawnFault>
+    ensures { IsDrawnOf shape (rows_of (found_of options.now)) result }
 {
-    Shown::new(
+    Drawn::new(
         shape,
         short_in(options, "block"),
         long_in(options, "from").unwrap_or(0),
         long_in(options, "to").unwrap_or(u64::MAX),
     )
-}
-
-/// Whether each block and each step is chosen.
-fn chooses_all(options: &ArgMatches) -> bool
-    ensures all { result ≡ true → ChoosesAll (rows_of (found_of options.now)) }
-    ensures some { result ≡ false → ChoosesSome (rows_of (found_of options.now)) }
-{
-    if short_in(options, "block").is_some() {
-        return false;
-    }
-    match long_in(options, "from") {
-        Some(1) => long_in(options, "to").is_none(),
-        _ => false,
-    }
 }
 
 /// The characters that were named.
@@ -531,6 +540,19 @@ fn kind_in(options: &ArgMatches) -> Form
         Form::Rows
     } else {
         Form::Steps
+    }
+}
+
+/// What the text is of; `--serial` is for rows alone.
+fn input_in(options: &ArgMatches) -> Result<Input, Failure>
+    ensures ok { IfOk result (IsInputOf (rows_of (found_of options.now))) }
+    ensures err { IfErr result (λ failure. (failure ≡ Failure.BadSerial) × MisplacesSerial (rows_of (found_of options.now))) }
+{
+    match (kind_in(options), is_serial(options)) {
+        (Form::Steps, false) => Ok(Input::Steps),
+        (Form::Steps, true) => Err(Failure::BadSerial),
+        (Form::Rows, false) => Ok(Input::Rows),
+        (Form::Rows, true) => Ok(Input::SerialRows),
     }
 }
 

@@ -116,15 +116,21 @@ fn perform_task<T: Threads + Wait + Sync, R: Source, W: Sink>(
         Task::Simulate(protocol, shape, engine) => {
             simulate(rt, alloc, reader, writer, protocol, shape, engine)
         }
-        Task::States(protocol, shape, choice) => {
-            simulate_states_table(alloc, reader, writer, protocol, shape, choice).map_err(
+        Task::States(protocol, shape, input, choice) => {
+            simulate_states_table(alloc, reader, writer, protocol, shape, input, choice).map_err(
                 Failure::Simulation,
             )
         }
-        Task::Draw(protocol, shape, charset, choice) => {
-            simulate_drawing(alloc, reader, writer, protocol, shape, charset, choice).map_err(
-                Failure::Drawing,
+        Task::StateFields(protocol, shape, input, choice) => {
+            simulate_states(alloc, reader, writer, protocol, shape, input, choice).map_err(
+                Failure::Simulation,
             )
+        }
+        Task::Draw(protocol, shape, input, charset, choice) => {
+            simulate_drawing(
+                alloc, reader, writer, protocol, shape, input, charset, choice,
+            )
+            .map_err(Failure::Drawing)
         }
     }
 }
@@ -160,19 +166,18 @@ fn simulate<T: Threads + Wait + Sync, R: Source, W: Sink>(
         Engine::Threads => {
             simulate_threads(rt, alloc, reader, writer, protocol, shape).map_err(Failure::Threads)
         }
-        Engine::StateFields => {
-            simulate_states(alloc, reader, writer, protocol, shape).map_err(Failure::Simulation)
-        }
-        Engine::Counts(Grouping::Row) => {
-            simulate_counts(alloc, reader, writer, protocol, shape).map_err(Failure::Simulation)
-        }
-        Engine::Counts(Grouping::Core) => {
-            simulate_counts_by_core(alloc, reader, writer, protocol, shape).map_err(
+        Engine::Counts(input, Grouping::Row) => {
+            simulate_counts(alloc, reader, writer, protocol, shape, input).map_err(
                 Failure::Simulation,
             )
         }
-        Engine::Counts(Grouping::Block(top)) => {
-            simulate_counts_by_block(alloc, reader, writer, protocol, shape, top).map_err(
+        Engine::Counts(input, Grouping::Core) => {
+            simulate_counts_by_core(alloc, reader, writer, protocol, shape, input).map_err(
+                Failure::Simulation,
+            )
+        }
+        Engine::Counts(input, Grouping::Block(top)) => {
+            simulate_counts_by_block(alloc, reader, writer, protocol, shape, input, top).map_err(
                 Failure::Simulation,
             )
         }

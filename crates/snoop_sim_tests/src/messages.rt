@@ -67,10 +67,10 @@ static REFUSALS: [Refusal; 19] = [
     ("snoop run --words 16", b"", 2, b"snoop: BadWords\n"),
     ("snoop threads --words 128", b"", 2, b"snoop: BadWords\n"),
     (
-        "snoop states --as csv --block 0",
+        "snoop states --as csv --serial",
         b"X\n",
         2,
-        b"snoop: BadChoice\n",
+        b"snoop: BadSerial\n",
     ),
     ("snoop draw --block 4", b"", 2, b"snoop: BadBlock\n"),
     (

@@ -13,7 +13,8 @@ use Rattle.snoop_engine.specs.Views.{block_of}
 use Rattle.snoop_states.specs.declared.column.Column.{Column}
 use Rattle.snoop_states.specs.declared.widths.Widths.{Widths}
 use Rattle.snoop_states.specs.declared.table.Table.{Table}
-use Rattle.snoop_states.specs.Chosen.{Chosen, is_chosen, is_within, shown_block}
+use Rattle.snoop_engine.specs.Chosen.{Chosen, is_chosen, is_within}
+use Rattle.snoop_states.specs.Tables.{shown_block}
 use Rattle.snoop_states.specs.Seen.{AreTables, HalfBegun, HasRows, IsEmpty, IsGrownAt, IsStartedAt, IsTable}
 use Rattle.snoop_states.specs.Tables.{is_of}
 use Rattle.snoop_states.proofs.HoldsLemmas.{held_at, held_beside}

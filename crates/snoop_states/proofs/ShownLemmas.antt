@@ -13,7 +13,7 @@ use Rattle.snoop_engine.specs.Line.{line_text}
 use Rattle.snoop_states.specs.declared.column.Column.{Column}
 use Rattle.snoop_states.specs.declared.widths.Widths.{Widths}
 use Rattle.snoop_states.specs.Cells.{cell_text}
-use Rattle.snoop_states.specs.Chosen.{Chosen, is_within}
+use Rattle.snoop_engine.specs.Chosen.{Chosen, is_within}
 use Rattle.snoop_states.specs.Rows.{cells_text}
 use Rattle.snoop_states.specs.Tables.{Numbered, first_shown, is_of, led_to, numbered_from, rows_text, shown_of}
 

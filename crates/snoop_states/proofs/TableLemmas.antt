@@ -12,7 +12,7 @@ use Rattle.snoop_states.specs.declared.column.Column.{Column}
 use Rattle.snoop_states.specs.declared.widths.Widths.{Widths}
 use Rattle.snoop_states.specs.declared.table.Table.{Table}
 use Rattle.snoop_states.specs.Cells.{cell_text}
-use Rattle.snoop_states.specs.Chosen.{Chosen, is_within}
+use Rattle.snoop_engine.specs.Chosen.{Chosen, is_within}
 use Rattle.snoop_states.specs.Rows.{cells_text, names_text}
 use Rattle.snoop_states.specs.Seen.{HasCells, HasRows, IsEmpty, IsRowMore, IsTable}
 use Rattle.snoop_states.specs.Tables.{Numbered, first_row, first_shown, heading_text, is_of, led_to, rows_text, shown_of, table_text}

@@ -20,7 +20,7 @@ use Rattle.snoop_states.specs.declared.tables.Tables.{Tables}
 use Rattle.snoop_states.specs.declared.widths.Widths.{Widths}
 use Rattle.snoop_states.specs.Asked.{AreMarks, mark_at, mark_of}
 use Rattle.snoop_states.specs.AtEnd.{end_text}
-use Rattle.snoop_states.specs.Chosen.{Chosen, is_chosen}
+use Rattle.snoop_engine.specs.Chosen.{Chosen, is_chosen}
 use Rattle.snoop_states.specs.Columns.{columns_for, columns_of, is_asker}
 use Rattle.snoop_states.specs.Tables.{first_shown, shown_of, table_text}
 use Rattle.snoop_states.specs.Views.{IsFor, columns_in}

@@ -1,5 +1,3 @@
-pub mod Chosen
-pub mod Choice
 pub mod Widths
 pub mod Columns
 pub mod Asked

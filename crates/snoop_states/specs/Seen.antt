@@ -11,7 +11,7 @@ use Rattle.snoop_states.specs.declared.widths.Widths.{Widths}
 use Rattle.snoop_states.specs.declared.table.Cell.{Cell}
 use Rattle.snoop_states.specs.declared.table.Table.{Table}
 use Rattle.snoop_states.specs.Cells.{cell_text}
-use Rattle.snoop_states.specs.Chosen.{Chosen, is_chosen}
+use Rattle.snoop_engine.specs.Chosen.{Chosen, is_chosen}
 use Rattle.snoop_states.specs.Rows.{cells_text}
 use Rattle.snoop_states.specs.Tables.{Numbered, first_row, first_shown, led_to, rows_text, shown_of}
 

@@ -1,6 +1,6 @@
 -- The table of a block: a row for each of its steps that is shown.
 -- Source: this project's profile.
-use Rattle.std.specs.Prelude.{ℕ, ◌+◌, ◌-◌, ◌==◌, ◌&&◌, Bool, false, List, [], ◌∷◌, ◌++◌, codes, take, if◌then◌else◌}
+use Rattle.std.specs.Prelude.{ℕ, ◌+◌, ◌-◌, ◌==◌, ◌&&◌, Bool, false, List, [], ◌∷◌, ◌++◌, codes, take, Option, Some, None, if◌then◌else◌}
 use Rattle.std.specs.Fmt.{decimal}
 use Rattle.std.specs.List.{filter}
 use Rattle.std.specs.Option.{option_map_or}
@@ -9,13 +9,13 @@ use Rattle.snoop_trace.specs.Output.{address_of}
 use Rattle.snoop_trace.specs.declared.protocol.Protocol.{Protocol}
 use Rattle.snoop_trace.specs.declared.protocol.Protocol.TheVariants.{Msi, Mesi}
 use Rattle.snoop_model.specs.Pictures.Situation.{Situation, reset}
+use Rattle.snoop_engine.specs.Chosen.{Chosen, is_chosen, is_within}
 use Rattle.snoop_engine.specs.Frames.{Frame}
 use Rattle.snoop_engine.specs.Line.{line_text}
 use Rattle.snoop_engine.specs.Views.{block_of}
 use Rattle.snoop_states.specs.declared.column.Column.{Column}
 use Rattle.snoop_states.specs.declared.widths.Widths.{Widths}
 use Rattle.snoop_states.specs.Cells.{cell_text}
-use Rattle.snoop_states.specs.Chosen.{Chosen, is_within}
 use Rattle.snoop_states.specs.Rows.{cells_text, names_text}
 
 -- a frame, and the number of its step
@@ -35,6 +35,11 @@ is_of block frame = option_map_or (λ b. b == block) (block_of frame.before fram
 -- the frames of the block's steps that are shown
 abbrev pub shown_of : Chosen → ℕ → List Frame → List Numbered
 shown_of choice block frames = filter (λ n. is_within choice n.number && is_of block n.frame) (numbered_from 1 frames)
+
+-- the block in whose table a step stands that is of this block, if any, and has this number
+abbrev pub shown_block : Chosen → Option ℕ → ℕ → Option ℕ
+shown_block choice None number = None
+shown_block choice (Some block) number = if is_chosen choice.block block && is_within choice number then Some block else None
 
 -- where frames lead to
 abbrev pub led_to : Situation → List Frame → Situation

@@ -8,7 +8,7 @@ use Rattle.snoop_engine.specs.Frames.{Frame}
 use Rattle.snoop_states.specs.declared.column.Column.{Column}
 use Rattle.snoop_states.specs.declared.tables.Tables.{Tables}
 use Rattle.snoop_states.specs.Asked.{AreMarks, mark_at}
-use Rattle.snoop_states.specs.Chosen.{Chosen}
+use Rattle.snoop_engine.specs.Chosen.{Chosen}
 use Rattle.snoop_states.specs.Columns.{columns_for, is_asker}
 use Rattle.snoop_states.specs.Seen.{AreTables, IsTable}
 use Rattle.snoop_states.specs.Widths.{widths_of}

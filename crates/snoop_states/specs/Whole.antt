@@ -9,7 +9,7 @@ use Rattle.snoop_engine.specs.Frames.{Frame, steps_of}
 use Rattle.snoop_states.specs.declared.column.Column.{Column}
 use Rattle.snoop_states.specs.declared.widths.Widths.{Widths}
 use Rattle.snoop_states.specs.AtEnd.{end_text}
-use Rattle.snoop_states.specs.Chosen.{Chosen, is_chosen}
+use Rattle.snoop_engine.specs.Chosen.{Chosen, is_chosen}
 use Rattle.snoop_states.specs.Columns.{columns_of}
 use Rattle.snoop_states.specs.Tables.{first_shown, shown_of, table_text}
 use Rattle.snoop_states.specs.Widths.{widths_of}

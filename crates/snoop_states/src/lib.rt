@@ -4,7 +4,6 @@
 mod asked;
 mod at_end;
 mod cells;
-mod choice;
 mod column;
 mod heading;
 mod pieces;
@@ -13,5 +12,4 @@ mod table;
 mod tables;
 mod widths;
 
-pub use choice::{Choice, ChoiceFault};
 pub use simulate::simulate_states_table;

@@ -1,4 +1,4 @@
-//! The call that reads steps and writes the tables of their run.
+//! The call that reads a text and writes the tables of its run.
 ghost use Rattle.std.specs.Prelude.{◌≡◌, ◌≢◌, true, Err, OnErr, OnOk};
 ghost use Rattle.snoop_trace.specs.Output.{BlamesWriter};
 ghost use Rattle.snoop_trace.specs.Text.{BlamesReader};
@@ -7,16 +7,15 @@ ghost use Rattle.snoop_trace.specs.declared.fault.TextFault.TheVariants as text_
 ghost use Rattle.snoop_engine.specs.SimulatedView.{BeginsToShow, ShowsRun, SimulatesView};
 ghost use Rattle.snoop_states.specs.Whole.{states_table_text};
 
-use crate::choice::Choice;
 use crate::tables::Tables;
-use snoop_engine::{SimFault, show_steps};
+use snoop_engine::{Choice, Input, SimFault, read_input, show_steps};
 use snoop_machine::laws::runs_go_on;
 use snoop_trace::streams::{Sink, Source};
-use snoop_trace::{Protocol, Shape, Step, WriteFault, read_steps};
+use snoop_trace::{Protocol, Shape, Step, WriteFault};
 use std::alloc::Global;
 
-/// Reads a text of steps for the protocol and the shape to its end, takes them in order on a machine at reset, and writes
-/// a table for each block that a chosen step is of, and then which cores still wait and which blocks have an open
+/// Reads a text to its end, takes the steps that come of it in order on a machine at reset, for the protocol and the shape,
+/// and writes a table for each block that a chosen step is of, and then which cores still wait and which blocks have an open
 /// transaction. A step that is refused because it is out of memory ends the simulation.
 pub fn simulate_states_table<R: Source, W: Sink>(
     alloc: Global,
@@ -24,9 +23,10 @@ pub fn simulate_states_table<R: Source, W: Sink>(
     writer: &mut W,
     protocol: Protocol,
     shape: Shape,
+    input: Input,
     choice: Choice,
 ) -> Result<(), SimFault>
-    ensures does { SimulatesView protocol shape (states_table_text protocol shape choice) (R.remaining reader.old) result (W.contents writer.old) (W.contents writer.new) }
+    ensures does { SimulatesView protocol shape input (states_table_text protocol shape choice) (R.remaining reader.old) result (W.contents writer.old) (W.contents writer.new) }
     // A refused text leaves the writer as it was.
     ensures unwritten { (fault : TextFault) → result ≡ Err (SimFault.Text fault) → writer.new ≡ writer.old }
 
@@ -37,7 +37,7 @@ pub fn simulate_states_table<R: Source, W: Sink>(
     ensures read_blamed { BlamesReader (R.failed reader.old) (R.failed reader.new) (result ≡ Err (SimFault.Text text_fault.Read)) }
     ensures blamed { BlamesWriter (W.failed writer.old) (W.failed writer.new) (result ≡ Err SimFault.Write) }
 {
-    let steps = read_steps(alloc, reader, protocol, shape).map_err(SimFault::Text)?;
+    let steps = read_input(alloc, reader, protocol, shape, input).map_err(SimFault::Text)?;
     write_tables(alloc, writer, protocol, shape, choice, &steps)?;
     Ok(())
 }

@@ -5,7 +5,7 @@ ghost use Rattle.std.specs.Fmt.{decimal};
 ghost use Rattle.snoop_engine.specs.Frames.{Frame};
 ghost use Rattle.snoop_engine.specs.Line.{line_text};
 ghost use Rattle.snoop_states.specs.Cells.{cell_text};
-ghost use Rattle.snoop_states.specs.Chosen.{Chosen};
+ghost use Rattle.snoop_engine.specs.Chosen.{Chosen};
 ghost use Rattle.snoop_states.specs.Columns.{column_name, width_of};
 ghost use Rattle.snoop_states.specs.Rows.{below, names_text, padded, to_the_right};
 ghost use Rattle.snoop_states.specs.Seen.{HasCells, HasRows, IsEmpty, IsRowMore, IsTable, pair};

@@ -1,6 +1,7 @@
 //! Whole texts of states as tables, worked out by hand.
 
-use snoop_states::{Choice, ChoiceFault, simulate_states_table};
+use snoop_engine::{Choice, ChoiceFault, Input};
+use snoop_states::simulate_states_table;
 use snoop_trace::{Protocol, Shape};
 use std::alloc::Global;
 use std::test::Fail;
@@ -78,18 +79,62 @@ step  core 1          bus                   memory        line
 at the end: still waiting: core 1; still open: block 0
 ";
 
+/// Two cores ask for a block, one to read and one to write.
+const ROWS: &[u8] = b"L,0,0\nS,1,0,6\n";
+
+/// Side by side: both ask before the first request is ordered.
+const ROWS_TABLE: &str = "\
+MSI, block 0 (bytes 0 to 63)
+
+step  core 0        core 1        bus                 memory      line
+   0  I             I             free                IorS 0      at reset
+   1  IS_AD #1      .             .                   .           L,0,0: issued GetS
+   2  .             IM_AD #1      .                   .           S,1,0,6: issued GetM
+   3  IS_D          .             C0 GetS: Data 0     .           O,0: ordered GetS
+   4  S 0           .             free                .           R,0: Data from memory, load 0
+   5  I             IM_D          C1 GetM: Data 0     M (0)       O,1: ordered GetM
+   6  .             M 6           free                .           R,0: Data from memory, store 6
+
+at the end: nothing waits; nothing is open
+";
+
+/// One after another: the first is served before the second is asked.
+const SERIAL_TABLE: &str = "\
+MSI, block 0 (bytes 0 to 63)
+
+step  core 0        core 1        bus                 memory      line
+   0  I             I             free                IorS 0      at reset
+   1  IS_AD #1      .             .                   .           L,0,0: issued GetS
+   2  IS_D          .             C0 GetS: Data 0     .           O,0: ordered GetS
+   3  S 0           .             free                .           R,0: Data from memory, load 0
+   4  .             IM_AD #1      .                   .           S,1,0,6: issued GetM
+   5  I             IM_D          C1 GetM: Data 0     M (0)       O,1: ordered GetM
+   6  .             M 6           free                .           R,0: Data from memory, store 6
+
+at the end: nothing waits; nothing is open
+";
+
 /// Whether the tables of a text, with 2 cores and 4 blocks of 64 bytes, are these.
 fn writes(
     alloc: Global,
     text: &[u8],
     protocol: Protocol,
     shape: Shape,
+    input: Input,
     choice: Choice,
     output: &str,
 ) -> Result<bool, Fail> {
     let mut reader = text;
     let mut written = Vec::new(alloc);
-    simulate_states_table(alloc, &mut reader, &mut written, protocol, shape, choice)?;
+    simulate_states_table(
+        alloc,
+        &mut reader,
+        &mut written,
+        protocol,
+        shape,
+        input,
+        choice,
+    )?;
     Ok(written.as_slice() == output.as_bytes())
 }
 
@@ -99,8 +144,28 @@ fn an_upgrade_race(rt: HostRuntime) -> Result<(), Fail> {
     let shape = Shape::new(2, 4, 64)?;
     let all = Choice::new(shape, None, 1, u64::MAX)?;
     let one = Choice::new(shape, None, 12, 12)?;
-    assert!(rt; writes(rt.alloc(), RACE, Protocol::Msi, shape, all, RACE_TABLE)?);
-    assert!(rt; writes(rt.alloc(), RACE, Protocol::Msi, shape, one, CUT_TABLE)?);
+    assert!(rt;
+        writes(
+            rt.alloc(),
+            RACE,
+            Protocol::Msi,
+            shape,
+            Input::Steps,
+            all,
+            RACE_TABLE
+        )?
+    );
+    assert!(rt;
+        writes(
+            rt.alloc(),
+            RACE,
+            Protocol::Msi,
+            shape,
+            Input::Steps,
+            one,
+            CUT_TABLE
+        )?
+    );
     Ok(())
 }
 
@@ -109,10 +174,60 @@ fn an_upgrade_race(rt: HostRuntime) -> Result<(), Fail> {
 fn several_blocks(rt: HostRuntime) -> Result<(), Fail> {
     let shape = Shape::new(2, 4, 64)?;
     let second = Choice::new(shape, Some(1), 1, 100)?;
-    assert!(rt; writes(rt.alloc(), QUEUE, Protocol::Msi, shape, second, QUEUE_TABLE)?);
+    assert!(rt;
+        writes(
+            rt.alloc(),
+            QUEUE,
+            Protocol::Msi,
+            shape,
+            Input::Steps,
+            second,
+            QUEUE_TABLE
+        )?
+    );
     let shape = Shape::with_words(2, 4, 64, 2)?;
     let all = Choice::new(shape, None, 1, u64::MAX)?;
-    assert!(rt; writes(rt.alloc(), LEFT, Protocol::Mesi, shape, all, LEFT_TABLES)?);
+    assert!(rt;
+        writes(
+            rt.alloc(),
+            LEFT,
+            Protocol::Mesi,
+            shape,
+            Input::Steps,
+            all,
+            LEFT_TABLES
+        )?
+    );
+    Ok(())
+}
+
+/// The tables of rows, which are those of the steps that serve them.
+#[test]
+fn rows(rt: HostRuntime) -> Result<(), Fail> {
+    let shape = Shape::new(2, 4, 64)?;
+    let all = Choice::new(shape, None, 1, u64::MAX)?;
+    assert!(rt;
+        writes(
+            rt.alloc(),
+            ROWS,
+            Protocol::Msi,
+            shape,
+            Input::Rows,
+            all,
+            ROWS_TABLE
+        )?
+    );
+    assert!(rt;
+        writes(
+            rt.alloc(),
+            ROWS,
+            Protocol::Msi,
+            shape,
+            Input::SerialRows,
+            all,
+            SERIAL_TABLE
+        )?
+    );
     Ok(())
 }
 
@@ -125,6 +240,8 @@ fn choices(rt: HostRuntime) -> Result<(), Fail> {
     assert!(rt;
         choice.has_block(3) && !choice.has_block(2) && choice.has_number(5) && !choice.has_number(6)
     );
+    assert!(rt; choice.has_step(Some(3), 2) && !choice.has_step(Some(3), 1));
+    assert!(rt; !choice.has_step(Some(2), 2) && !choice.has_step(None, 2));
     assert!(rt; Choice::new(shape, Some(4), 0, 5) == Err(ChoiceFault::BadBlock));
     assert!(rt; Choice::new(shape, None, 0, 5) == Err(ChoiceFault::BadRange));
     assert!(rt; Choice::new(shape, None, 6, 5) == Err(ChoiceFault::BadRange));

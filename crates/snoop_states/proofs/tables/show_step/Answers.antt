@@ -9,7 +9,7 @@ use Rattle.snoop_model.specs.Pictures.Situation.{Situation}
 use Rattle.snoop_engine.specs.Line.{line_text}
 use Rattle.snoop_engine.specs.Views.{block_of}
 use Rattle.snoop_states.specs.declared.table.Table.{Table}
-use Rattle.snoop_states.specs.Chosen.{shown_block}
+use Rattle.snoop_states.specs.Tables.{shown_block}
 use Rattle.snoop_states.specs.Seen.{AreTables, HasRows, IsGrownAt, IsTable}
 use Rattle.snoop_states.proofs.SeenLemmas.{all_begun, all_stay, none_begun, none_grows, one_grows}
 use Rattle.snoop_states.proofs.tables.show_step.Goals as goal

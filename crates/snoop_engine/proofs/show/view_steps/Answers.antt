@@ -1,7 +1,8 @@
 use Rattle.std.proofs.Common.{rules, ◌≡◌, ◌∙◌, ap, Err, Ok}
 use Rattle.std.proofs.lemmas.Result.{err_from_is_err_and}
+use Rattle.snoop_engine.specs.declared.input.Input.TheVariants as input
 use Rattle.snoop_engine.proofs.ShownLemmas.{simulates_view_front}
-use Rattle.snoop_engine.proofs.show.simulate_view.Goals as goal
+use Rattle.snoop_engine.proofs.show.view_steps.Goals as goal
 
 pub returns-in_err-show-clause-does : goal.returns-in_err-show-clause-does
 returns-in_err-show-clause-does g c =
@@ -10,7 +11,7 @@ returns-in_err-show-clause-does g c =
     let is : c.gather_steps.result ≡ Ok c.in_ok-steps.steps = search rules in
     let read = rw is at c.gather_steps.ensures.read in
     let p = err_from_is_err_and c.from_residual-in_err-show.result c.from_residual-in_err-show.ensures.1 in
-    simulates_view_front c.args.protocol c.args.shape _ (g.R.Read.remaining c.args.reader.now) c.in_ok-steps.steps c.in_err-show.field-0.0 _ _ _
+    simulates_view_front c.args.protocol c.args.shape input.Steps _ (g.R.Read.remaining c.args.reader.now) c.in_ok-steps.steps c.in_err-show.field-0.0 _ _ _
     (p.1 ∙ ap (λ f. Err f) p.2) read c.in_err-show.ensures.front
 
 pub returns-clause-does : goal.returns-clause-does

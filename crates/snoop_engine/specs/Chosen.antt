@@ -1,7 +1,7 @@
 -- Which steps and which blocks are shown.
 -- Source: this project's profile.
-use Rattle.std.specs.Prelude.{ℕ, ◌&&◌, ◌==◌, Bool, true, nat_le, Option, Some, None, if◌then◌else◌}
-use Rattle.snoop_states.specs.declared.choice.Choice.TheInside.{Inside}
+use Rattle.std.specs.Prelude.{ℕ, ◌&&◌, ◌==◌, Bool, true, is_none, nat_le, Option, Some, None}
+use Rattle.snoop_engine.specs.declared.choice.Choice.TheInside.{Inside}
 
 -- the steps of one block, or of each, from one number to another
 pub record Chosen : Type 0 where
@@ -26,7 +26,7 @@ is_chosen (Some one) block = block == one
 abbrev pub is_within : Chosen → ℕ → Bool
 is_within choice number = nat_le choice.from number && nat_le number choice.to
 
--- the block in whose table a step stands that is of this block, if any, and has this number
-abbrev pub shown_block : Chosen → Option ℕ → ℕ → Option ℕ
-shown_block choice None number = None
-shown_block choice (Some block) number = if is_chosen choice.block block && is_within choice number then Some block else None
+-- the step of this block, if of any, and of this number is shown; where a block is named, a step of none is not
+abbrev pub is_shown : Chosen → Option ℕ → ℕ → Bool
+is_shown choice None number = is_within choice number && is_none choice.block
+is_shown choice (Some block) number = is_within choice number && is_chosen choice.block block

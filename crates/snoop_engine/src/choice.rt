@@ -27,7 +27,7 @@ pub struct Choice {
 
 impl Model for Choice {
     ghost use Rattle.std.specs.Prelude.{◌≤◌};
-    ghost use Rattle.snoop_states.specs.Chosen.{Chosen, chosen, fields};
+    ghost use Rattle.snoop_engine.specs.Chosen.{Chosen, chosen, fields};
 
     ghost Value = { Chosen };
 
@@ -39,8 +39,8 @@ impl Model for Choice {
 }
 
 impl Choice {
-    ghost use Rattle.snoop_states.specs.Choice.{IsBlock, IsChoice};
-    ghost use Rattle.snoop_states.specs.Chosen.{is_chosen, is_within};
+    ghost use Rattle.snoop_engine.specs.Choice.{IsBlock, IsChoice};
+    ghost use Rattle.snoop_engine.specs.Chosen.{is_chosen, is_shown, is_within};
 
     /// The steps numbered `from` to `to`, of the block alone where one is named.
     ///
@@ -95,6 +95,17 @@ impl Choice {
         ensures { result ≡ is_within self.now number }
     {
         self.from <= number && number <= self.to
+    }
+
+    /// Whether a step of this block, if of any, and of this number is shown. Where a block was named, a step of none is not.
+    pub fn has_step(&self, block: Option<u32>, number: u64) -> bool
+        ensures { result ≡ is_shown self.now block number }
+    {
+        self.has_number(number)
+            && match block {
+                None => self.block.is_none(),
+                Some(block) => self.has_block(block),
+            }
     }
 
     // Whether the block, if one is named, is one of the shape.

@@ -1,0 +1,22 @@
+use Rattle.std.proofs.Common.{rules, ◌≡◌, ◌∙◌, ap, Err, Ok}
+use Rattle.std.proofs.lemmas.Result.{err_from_is_err_and}
+use Rattle.snoop_engine.proofs.ShownLemmas.{simulates_view_front}
+use Rattle.snoop_engine.proofs.show.view_input.Goals as goal
+
+pub returns-in_err-show_steps-clause-does : goal.returns-in_err-show_steps-clause-does
+returns-in_err-show_steps-clause-does g c =
+    let a = c.map_err.ensures.cases in
+    let b = c.in_ok-steps.was in
+    let is : c.read_input.result ≡ Ok c.in_ok-steps.steps = search rules in
+    let gives = rw is at c.read_input.ensures.steps in
+    let p = err_from_is_err_and c.from_residual-in_err-show_steps.result c.from_residual-in_err-show_steps.ensures.1 in
+    simulates_view_front c.args.protocol c.args.shape c.args.input _ (g.R.Read.remaining c.args.reader.now) c.in_ok-steps.steps.items c.in_err-show_steps.field-0.0 _ _ _
+    (p.1 ∙ ap (λ f. Err f) p.2) gives (rw c.deref.ensures.value at c.in_err-show_steps.ensures.front)
+
+pub returns-clause-does : goal.returns-clause-does
+returns-clause-does g c =
+    let a = c.map_err.ensures.cases in
+    let b = c.in_ok-steps.was in
+    let is : c.read_input.result ≡ Ok c.in_ok-steps.steps = search rules in
+    let gives = rw is at c.read_input.ensures.steps in
+    (c.in_ok-steps.steps.items, (gives, rw c.deref.ensures.value at c.in_ok-show_steps.ensures.ok))

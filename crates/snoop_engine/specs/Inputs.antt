@@ -1,0 +1,44 @@
+-- The steps that come of a text: its own, or those of a run that serves its rows.
+-- Source: this project's profile.
+use Rattle.std.specs.Prelude.{ℕ, List, Option, Result, Ok, Err}
+use Rattle.snoop_trace.specs.Extent.{Extent}
+use Rattle.snoop_trace.specs.declared.fault.TextFault.{TextFault}
+use Rattle.snoop_trace.specs.declared.protocol.Protocol.{Protocol}
+use Rattle.snoop_trace.specs.declared.step.Row.{Row}
+use Rattle.snoop_trace.specs.declared.step.Step.{Step}
+use Rattle.snoop_model.specs.declared.replies.Reply.{Reply}
+use Rattle.snoop_model.specs.declared.replies.Refused.{Refused}
+use Rattle.snoop_model.specs.Pictures.Situation.{Situation}
+use Rattle.snoop_model.specs.Runs.Run.{TheRun}
+use Rattle.snoop_engine.specs.Serial.{ServesSerially}
+use Rattle.snoop_engine.specs.Served.{Serves}
+use Rattle.snoop_engine.specs.Simulated.{Reads}
+use Rattle.snoop_engine.specs.SimulatedRun.{ReadsRows}
+use Rattle.snoop_engine.specs.declared.input.Input.{Input}
+use Rattle.snoop_engine.specs.declared.input.Input.TheVariants.{Steps, Rows, SerialRows}
+
+-- the run of the steps serves the rows
+pub record StepsServe (protocol : Protocol) (shape : Extent) (rows : List Row) (steps : List Step) : Type 0 where
+  pub outcomes : List (Result Reply Refused)
+  pub final : Situation
+  pub run : TheRun protocol shape steps outcomes final
+  pub serves : Serves shape rows steps outcomes final
+
+-- the run of the steps serves the rows one after another, in the order of the text
+pub record StepsServeSerially (protocol : Protocol) (shape : Extent) (rows : List Row) (steps : List Step) : Type 0 where
+  pub outcomes : List (Result Reply Refused)
+  pub final : Situation
+  pub run : TheRun protocol shape steps outcomes final
+  pub serves : ServesSerially protocol shape rows steps outcomes final
+
+-- a text, where its bytes are known, was read whole, and these steps come of it
+abbrev pub GivesSteps : Protocol → Extent → Input → Option (List ℕ) → List Step → Type 0
+GivesSteps protocol shape Steps text steps = Reads protocol shape text (Ok steps)
+GivesSteps protocol shape Rows text steps = (rows : List Row) × (ReadsRows shape text (Ok rows) × StepsServe protocol shape rows steps)
+GivesSteps protocol shape SerialRows text steps = (rows : List Row) × (ReadsRows shape text (Ok rows) × StepsServeSerially protocol shape rows steps)
+
+-- it was refused by this fault
+abbrev pub IsRefusedText : Protocol → Extent → Input → Option (List ℕ) → TextFault → Type 0
+IsRefusedText protocol shape Steps text fault = Reads protocol shape text (Err fault)
+IsRefusedText protocol shape Rows text fault = ReadsRows shape text (Err fault)
+IsRefusedText protocol shape SerialRows text fault = ReadsRows shape text (Err fault)

@@ -1,0 +1,12 @@
+//! What a text is of.
+
+/// What a text is of, and how its steps come from it.
+#[derive(Clone, Copy, Debug, PartialEq, Eq)]
+pub enum Input {
+    /// Steps, taken as they stand.
+    Steps,
+    /// Rows of cores that go side by side: the steps are those of `simulate_run`.
+    Rows,
+    /// Rows that are served one after another: the steps are those of `simulate_serial`.
+    SerialRows,
+}
