@@ -8,13 +8,13 @@ use Rattle.clap.specs.declared.parser.matches.ArgMatches.{ArgMatches}
 use Rattle.clap.proofs.OnLiterals.{clap_on_literals}
 use Rattle.snoop_sim.specs.Asked.{Asks, HasNoTask, HasTask, IsShown, Refuses}
 use Rattle.snoop_sim.specs.Status.{status_of, status_of_fault}
-use Rattle.snoop_sim.specs.CommandLine.{IsSnoop, Names, choice_rules, flag_rule, form_rule, grouping_rule, kind_rule, long_rule, simulation_app, table_app, top_app, top_rule, view_app, with_commands}
+use Rattle.snoop_sim.specs.CommandLine.{IsSnoop, Names, choice_rules, every_rule, flag_rule, form_rule, grouping_rule, kind_rule, long_rule, simulation_app, table_app, top_app, top_rule, view_app, with_commands}
 use Rattle.snoop_draw.specs.declared.fault.DrawFault.{DrawFault}
 use Rattle.snoop_engine.specs.declared.fault.SimFault.TheVariants.{NoMemory}
 use Rattle.snoop_lint.specs.declared.fault.LintFault.{LintFault}
 use Rattle.snoop_sim.specs.declared.fault.ThreadsFault.{ThreadsFault}
 use Rattle.snoop_sim.specs.declared.failure.Failure.{Failure}
-use Rattle.snoop_sim.specs.declared.failure.Failure.TheVariants.{BadSerial, BadTop, CommandLine, NoCommand, NotUtf8, Shape, Simulation, Threads as ThreadsFailure, Lint as LintFailure, Drawing, Unchosen, Undrawn}
+use Rattle.snoop_sim.specs.declared.failure.Failure.TheVariants.{BadBy, BadEvery, BadSerial, BadTop, CommandLine, NoCommand, NotUtf8, Shape, Simulation, Threads as ThreadsFailure, Lint as LintFailure, Drawing, Unchosen, Undrawn}
 use Rattle.snoop_sim.specs.declared.options.Task.{Task}
 use Rattle.snoop_sim.specs.declared.options.Task.TheVariants.{Help, Table, Simulate, States, StateFields, Draw}
 
@@ -22,7 +22,7 @@ use Rattle.snoop_sim.specs.declared.options.Task.TheVariants.{Help, Table, Simul
 abbrev commands : (steps run threads states stated forms counts counted groupings lint kinds draw drawn drawings table tables layouts : Names) → List App
 commands steps run threads states stated forms counts counted groupings lint kinds draw drawn drawings table tables layouts =
     simulation_app (codes "steps") steps [] ∷ simulation_app (codes "run") run (flag_rule (codes "serial") ∷ []) ∷ simulation_app (codes "threads") threads []
-    ∷ view_app (codes "states") states stated (form_rule forms ∷ choice_rules) ∷ view_app (codes "counts") counts counted (grouping_rule groupings ∷ top_rule ∷ []) ∷ simulation_app (codes "lint") lint (kind_rule kinds ∷ long_rule (codes "most") (codes "20") ∷ []) ∷ view_app (codes "draw") draw drawn (form_rule drawings ∷ flag_rule (codes "ascii") ∷ choice_rules) ∷ table_app table tables layouts ∷ []
+    ∷ view_app (codes "states") states stated (form_rule forms ∷ choice_rules) ∷ view_app (codes "counts") counts counted (grouping_rule groupings ∷ top_rule ∷ every_rule ∷ []) ∷ simulation_app (codes "lint") lint (kind_rule kinds ∷ long_rule (codes "most") (codes "20") ∷ []) ∷ view_app (codes "draw") draw drawn (form_rule drawings ∷ flag_rule (codes "ascii") ∷ choice_rules) ∷ table_app table tables layouts ∷ []
 
 -- `clap` says what it finds in the words of such a command line
 is_simple_snoop : (steps run threads states stated forms counts counted groupings lint kinds draw drawn drawings table tables layouts : Names)
@@ -74,7 +74,9 @@ without_task app words command NoCommand snoop well named has = (app, snoop, (we
 without_task app words command (Shape fault) snoop well named has = (app, snoop, (well, subst (λ c. HasNoTask c (Shape fault)) named has))
 without_task app words command BadSerial snoop well named has = (app, snoop, (well, subst (λ c. HasNoTask c BadSerial) named has))
 without_task app words command (Undrawn fault) snoop well named has = (app, snoop, (well, subst (λ c. HasNoTask c (Undrawn fault)) named has))
+without_task app words command BadBy snoop well named has = (app, snoop, (well, subst (λ c. HasNoTask c BadBy) named has))
 without_task app words command BadTop snoop well named has = (app, snoop, (well, subst (λ c. HasNoTask c BadTop) named has))
+without_task app words command BadEvery snoop well named has = (app, snoop, (well, subst (λ c. HasNoTask c BadEvery) named has))
 without_task app words command NotUtf8 snoop well named has = (app, snoop, (well, subst (λ c. HasNoTask c NotUtf8) named has))
 without_task app words command (ThreadsFailure fault) snoop well named has = (app, snoop, (well, subst (λ c. HasNoTask c (ThreadsFailure fault)) named has))
 without_task app words command (LintFailure fault) snoop well named has = (app, snoop, (well, subst (λ c. HasNoTask c (LintFailure fault)) named has))
@@ -156,7 +158,9 @@ refused_status words (CommandLine error) refuses = two_is_not_four
 refused_status words NoCommand refuses = two_is_not_four
 refused_status words NotUtf8 refuses = two_is_not_four
 refused_status words (Shape fault) refuses = two_is_not_four
+refused_status words BadBy refuses = two_is_not_four
 refused_status words BadTop refuses = two_is_not_four
+refused_status words BadEvery refuses = two_is_not_four
 refused_status words BadSerial refuses = two_is_not_four
 refused_status words (Undrawn fault) refuses = two_is_not_four
 refused_status words (Unchosen fault) refuses = two_is_not_four

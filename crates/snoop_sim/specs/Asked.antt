@@ -6,11 +6,11 @@ use Rattle.clap.specs.declared.error.kind.ErrorKind.{ErrorKind}
 use Rattle.clap.specs.declared.error.kind.ErrorKind.TheVariants.{DisplayHelp, DisplayVersion}
 use Rattle.snoop_trace.specs.Extent.{Extent}
 use Rattle.snoop_sim.specs.CommandLine.{IsSnoop}
-use Rattle.snoop_sim.specs.Options.{IsChoiceOf, IsDrawnOf, IsGroupingOf, IsInputOf, IsLongOf, IsShapeOf, MisplacesSerial, MisplacesTop, asks_serial, charset_named, kind_named, layout_named, protocol_named, says, which_named}
+use Rattle.snoop_sim.specs.Options.{IsChoiceOf, IsDrawnOf, IsGroupingOf, IsInputOf, IsLongOf, IsShapeOf, HasNoGrouping, MisplacesSerial, asks_serial, charset_named, kind_named, layout_named, protocol_named, says, which_named}
 use Rattle.snoop_engine.specs.declared.fault.SimFault.TheVariants.{NoMemory}
 use Rattle.snoop_engine.specs.declared.input.Input.{Input}
 use Rattle.snoop_sim.specs.declared.failure.Failure.{Failure}
-use Rattle.snoop_sim.specs.declared.failure.Failure.TheVariants.{BadSerial, BadTop, CommandLine, NoCommand, Shape, Simulation, Unchosen, Undrawn}
+use Rattle.snoop_sim.specs.declared.failure.Failure.TheVariants.{BadBy, BadEvery, BadSerial, BadTop, CommandLine, NoCommand, Shape, Simulation, Unchosen, Undrawn}
 use Rattle.snoop_sim.specs.declared.options.Engine.{Engine}
 use Rattle.snoop_sim.specs.declared.options.Engine.TheVariants.{Steps, Run, Serial, Threads, Counts, Lint}
 use Rattle.snoop_sim.specs.declared.options.Task.{Task}
@@ -56,7 +56,9 @@ HasNoEngine name options shape NoCommand = (name ≢ codes "steps") × (name ≢
 HasNoEngine name options shape BadSerial = IsViewer name × MisplacesSerial options
 HasNoEngine name options shape (Unchosen fault) = (name ≡ codes "states") × ReadsInput options × IsChoiceOf shape options (Err fault)
 HasNoEngine name options shape (Undrawn fault) = (name ≡ codes "draw") × ReadsInput options × IsDrawnOf shape options (Err fault)
-HasNoEngine name options shape BadTop = (name ≡ codes "counts") × ReadsInput options × MisplacesTop options
+HasNoEngine name options shape BadBy = (name ≡ codes "counts") × ReadsInput options × HasNoGrouping options BadBy
+HasNoEngine name options shape BadTop = (name ≡ codes "counts") × ReadsInput options × HasNoGrouping options BadTop
+HasNoEngine name options shape BadEvery = (name ≡ codes "counts") × ReadsInput options × HasNoGrouping options BadEvery
 HasNoEngine name options shape failure = ⊥
 
 -- the command that was named has no task: its shape is refused, or it has no engine

@@ -59,7 +59,7 @@ IsForms names = AreNames (codes "text" ∷ codes "csv" ∷ []) names
 
 -- those of `--by`
 abbrev pub IsGroupings : Names → Type 0
-IsGroupings names = AreNames (codes "row" ∷ codes "core" ∷ codes "block" ∷ []) names
+IsGroupings names = AreNames (codes "row" ∷ codes "core" ∷ codes "block" ∷ codes "word" ∷ []) names
 
 -- a protocol, in either case
 abbrev pub protocol_rule : Names → Rule
@@ -69,9 +69,9 @@ protocol_rule protocols = record (option_rule (codes "protocol") (codes "msi") (
 abbrev pub flag_rule : Text → Rule
 flag_rule name = record (new_rule name) { long = Some name; action = Some SetTrue }
 
--- the option `--by`, which has to be there
+-- the option `--by`
 abbrev pub grouping_rule : Names → Rule
-grouping_rule groupings = record (new_rule (codes "by")) { long = Some (codes "by"); parser = Some (parser.Names groupings); required = true }
+grouping_rule groupings = optional_rule (codes "by") (parser.Names groupings)
 
 -- the option `--of`, which is `steps` where it is not given
 abbrev pub kind_rule : Names → Rule
@@ -93,6 +93,10 @@ choice_rules = optional_rule (codes "block") (parser.Signed (pos 0) (pos 4294967
 -- the option `--top`
 abbrev pub top_rule : Rule
 top_rule = optional_rule (codes "top") (parser.Signed (pos 0) (pos 4294967295))
+
+-- the option `--every`
+abbrev pub every_rule : Rule
+every_rule = optional_rule (codes "every") (parser.Unsigned 0 18446744073709551615)
 
 -- a command with these options too, in this order
 abbrev pub with_rules : App → List Rule → App
@@ -147,7 +151,7 @@ IsStates app = (forms : Names) × IsForms forms × IsView (codes "states") (form
 
 -- the command `counts`
 abbrev pub IsCounts : App → Type 0
-IsCounts app = (groupings : Names) × IsGroupings groupings × IsView (codes "counts") (grouping_rule groupings ∷ top_rule ∷ []) app
+IsCounts app = (groupings : Names) × IsGroupings groupings × IsView (codes "counts") (grouping_rule groupings ∷ top_rule ∷ every_rule ∷ []) app
 
 -- the command `lint`
 abbrev pub IsLint : App → Type 0

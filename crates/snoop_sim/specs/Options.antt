@@ -1,7 +1,8 @@
 -- What the options of a command say.
 -- Source: this project's profile.
-use Rattle.std.specs.Prelude.{◌≡◌, ◌<◌, ◌^◌, ℕ, List, Option, Some, None, Result, Ok, Err, Bool, if◌then◌else◌, codes, true, false, unwrap_or}
+use Rattle.std.specs.Prelude.{◌≡◌, ◌⊎◌, ◌<◌, ⊥, is_some, ◌^◌, ℕ, List, Option, Some, None, Result, Ok, Err, Bool, if◌then◌else◌, codes, true, false, unwrap_or}
 use Rattle.std.specs.Option.{option_map_or}
+use Rattle.std.specs.Int.NonZero.{non_zero_u64_get}
 use Rattle.std.specs.Str.Parse.{IsNumeral, digits_value, without_leading_plus}
 use Rattle.clap.specs.Words.{Row, Text, first_of, one_of, same_text}
 use Rattle.snoop_trace.specs.Extent.{Extent, IsBlockCount, IsBlockSize, IsCoreCount, IsWordCount}
@@ -23,6 +24,8 @@ use Rattle.snoop_lint.specs.declared.form.Form.{Form}
 use Rattle.snoop_lint.specs.declared.form.Form.TheVariants as form
 use Rattle.snoop_sim.specs.declared.options.Layout.{Layout}
 use Rattle.snoop_sim.specs.declared.options.Layout.TheVariants as layout
+use Rattle.snoop_sim.specs.declared.failure.Failure.{Failure}
+use Rattle.snoop_sim.specs.declared.failure.Failure.TheVariants.{BadBy, BadEvery, BadTop}
 use Rattle.snoop_sim.specs.declared.options.Grouping.{Grouping}
 use Rattle.snoop_sim.specs.declared.options.Grouping.TheVariants as grouping
 use Rattle.snoop_rules.specs.declared.table_text.Which.{Which}
@@ -76,15 +79,55 @@ IsReadAs limit None read = read ≡ None
 IsReadAs limit (Some text) (Some number) = IsNumber limit text × (number ≡ digits_value 10 (without_leading_plus text))
 IsReadAs limit (Some text) None = ¬ IsNumber limit text
 
--- what the lines of counts are of, as `by` says, and of how many blocks, as `top` says, which is for blocks alone
-abbrev pub IsGroupingOf : List Row → Grouping → Type 0
-IsGroupingOf options grouping.Row = (says false (codes "by") (codes "core") options ≡ false) × (says false (codes "by") (codes "block") options ≡ false) × IsReadAs (2 ^ 32) (one_of (codes "top") options) None
-IsGroupingOf options grouping.Core = (says false (codes "by") (codes "core") options ≡ true) × IsReadAs (2 ^ 32) (one_of (codes "top") options) None
-IsGroupingOf options (grouping.Block top) = (says false (codes "by") (codes "block") options ≡ true) × IsReadAs (2 ^ 32) (one_of (codes "top") options) top
+-- `by` is given
+abbrev pub names_grouping : List Row → Bool
+names_grouping options = is_some (first_of (codes "by") options)
 
--- `top` is given without blocks
-abbrev pub MisplacesTop : List Row → Type 0
-MisplacesTop options = (says false (codes "by") (codes "block") options ≡ false) × ((top : ℕ) × IsReadAs (2 ^ 32) (one_of (codes "top") options) (Some top))
+-- `top` is not given
+abbrev pub LacksTop : List Row → Type 0
+LacksTop options = IsReadAs (2 ^ 32) (one_of (codes "top") options) None
+
+-- what the lines of counts are of, as `by` says, and of how many blocks, as `top` says, which is for blocks alone
+abbrev pub IsNamed : List Row → Grouping → Type 0
+IsNamed options grouping.Row = (says false (codes "by") (codes "core") options ≡ false) × (says false (codes "by") (codes "block") options ≡ false) × (says false (codes "by") (codes "word") options ≡ false) × LacksTop options
+IsNamed options grouping.Core = (says false (codes "by") (codes "core") options ≡ true) × LacksTop options
+IsNamed options grouping.Word = (says false (codes "by") (codes "word") options ≡ true) × LacksTop options
+IsNamed options (grouping.Block top) = (says false (codes "by") (codes "block") options ≡ true) × IsReadAs (2 ^ 32) (one_of (codes "top") options) top
+IsNamed options (grouping.Steps every) = ⊥
+
+-- `top` is given
+abbrev pub HasTop : List Row → Type 0
+HasTop options = (top : ℕ) × IsReadAs (2 ^ 32) (one_of (codes "top") options) (Some top)
+
+-- `by` says nothing, for `top` is given without blocks
+abbrev pub HasNoNamed : List Row → Failure → Type 0
+HasNoNamed options BadTop = (says false (codes "by") (codes "block") options ≡ false) × HasTop options
+HasNoNamed options failure = ⊥
+
+-- each line is of so many steps
+abbrev pub IsSteps : ℕ → List Row → Grouping → Type 0
+IsSteps every options (grouping.Steps number) = (non_zero_u64_get number ≡ every) × LacksTop options
+IsSteps every options named = ⊥
+
+-- it is of none, or `top` is given
+abbrev pub HasNoSteps : ℕ → List Row → Failure → Type 0
+HasNoSteps every options BadTop = HasTop options
+HasNoSteps every options BadEvery = (every ≡ 0) × LacksTop options
+HasNoSteps every options failure = ⊥
+
+-- one of `by` and `every` is given, and says what the lines of counts are of
+abbrev pub IsGroupingOf : List Row → Grouping → Type 0
+IsGroupingOf options grouping =
+    ((names_grouping options ≡ true) × IsReadAs (2 ^ 64) (one_of (codes "every") options) None × IsNamed options grouping)
+    ⊎ ((every : ℕ) × (names_grouping options ≡ false) × IsReadAs (2 ^ 64) (one_of (codes "every") options) (Some every) × IsSteps every options grouping)
+
+-- neither is given, or both; or the one that is given says nothing
+abbrev pub HasNoGrouping : List Row → Failure → Type 0
+HasNoGrouping options BadBy = ((names_grouping options ≡ false) × IsReadAs (2 ^ 64) (one_of (codes "every") options) None)
+    ⊎ ((every : ℕ) × (names_grouping options ≡ true) × IsReadAs (2 ^ 64) (one_of (codes "every") options) (Some every))
+HasNoGrouping options failure =
+    ((names_grouping options ≡ true) × IsReadAs (2 ^ 64) (one_of (codes "every") options) None × HasNoNamed options failure)
+    ⊎ ((every : ℕ) × (names_grouping options ≡ false) × IsReadAs (2 ^ 64) (one_of (codes "every") options) (Some every) × HasNoSteps every options failure)
 
 -- the option's number of 64 bits; 0 where it has none
 abbrev pub IsLongOf : Text → List Row → ℕ → Type 0

@@ -1,6 +1,7 @@
 -- What the program leaves for what it was asked, and the status that it ends with.
 -- Source: this project's profile.
 use Rattle.std.specs.Prelude.{⊤, ◌≡◌, ◌⊎◌, ℕ, Bool, true, List, Option, Result, Ok, Err}
+use Rattle.std.specs.Int.NonZero.{non_zero_u64_get}
 use Rattle.std.specs.Io.KnownBytes.{Appends}
 use Rattle.snoop_trace.specs.Extent.{Extent}
 use Rattle.snoop_trace.specs.Output.{AppendsFront}
@@ -11,6 +12,8 @@ use Rattle.snoop_rules.specs.TableText.{table_text}
 use Rattle.clap.specs.Words.{Text}
 use Rattle.snoop_sim.specs.Asked.{Asks, Refuses}
 use Rattle.snoop_counts.specs.ByBlock.{counts_by_block}
+use Rattle.snoop_counts.specs.BySteps.{counts_by_steps}
+use Rattle.snoop_counts.specs.ByWord.{counts_by_word}
 use Rattle.snoop_counts.specs.CoreTable.{counts_by_core}
 use Rattle.snoop_engine.specs.Counts.{frames_counts_text}
 use Rattle.snoop_engine.specs.Simulated.{Simulates}
@@ -59,6 +62,8 @@ Runs protocol shape Threads input ending old new = EndsAs ThreadsFailure ending 
 Runs protocol shape (Counts input grouping.Row) text ending old new = EndsAs Simulation ending (λ done. SimulatesView protocol shape input (λ frames final. frames_counts_text protocol frames) text done old new)
 Runs protocol shape (Counts input grouping.Core) text ending old new = EndsAs Simulation ending (λ done. SimulatesView protocol shape input (counts_by_core shape) text done old new)
 Runs protocol shape (Counts input (grouping.Block top)) text ending old new = EndsAs Simulation ending (λ done. SimulatesView protocol shape input (counts_by_block shape top) text done old new)
+Runs protocol shape (Counts input grouping.Word) text ending old new = EndsAs Simulation ending (λ done. SimulatesView protocol shape input (counts_by_word shape) text done old new)
+Runs protocol shape (Counts input (grouping.Steps every)) text ending old new = EndsAs Simulation ending (λ done. SimulatesView protocol shape input (counts_by_steps (non_zero_u64_get every)) text done old new)
 Runs protocol shape (Lint form most) input ending old new = EndsAs LintFailure ending (λ done. Lints form most protocol shape input done old new)
 
 -- what each task leaves: the text of help, the table by rows or as a matrix, or its engine's output

@@ -32,6 +32,12 @@ pub(crate) enum Failure {
     /// The block or the steps that are to be shown are refused.
     #[error(transparent)]
     Unchosen(ChoiceFault),
+    /// Neither of `--by` and `--every` is given, or both.
+    #[error("BadBy")]
+    BadBy,
+    /// `--every` is 0.
+    #[error("BadEvery")]
+    BadEvery,
     /// `--top` is given without `--by block`.
     #[error("BadTop")]
     BadTop,
@@ -135,7 +141,9 @@ impl Failure {
             | Failure::NotUtf8
             | Failure::Shape(_)
             | Failure::Unchosen(_)
+            | Failure::BadBy
             | Failure::BadTop
+            | Failure::BadEvery
             | Failure::BadSerial
             | Failure::Undrawn(_)
             | Failure::Drawing(DrawFault::TooLarge) => 2,

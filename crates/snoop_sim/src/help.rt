@@ -85,7 +85,7 @@ Exit statuses:
   1  the text was refused, or could not be read (Read); nothing was written
   2  the command line was refused, or the shape (BadCores, BadBlocks, BadBytes,
      BadWords: outside the limits of its options), or what is to be shown (BadBlock,
-     BadRange, BadSerial, BadTop, TooLarge); nothing was written
+     BadRange, BadSerial, BadBy, BadTop, BadEvery, TooLarge); nothing was written
   3  out of memory; the output may be cut short
   4  a write failed; the output may be cut short
   5  the threads of `snoop threads` were refused; nothing was written
@@ -188,7 +188,9 @@ the memory table has a line (see `snoop table`), with how often it was taken, by
 cores together. A stall counts too; a core in I at another core's request is left out.
 --by core, --by block: each core or block that the text names has a line: the counts of
 the report, then sums of rows of the tables, then its refused steps (docs/TEXTS.md).
---top N: the N blocks of most ordered requests alone, most first."
+--top N: the N blocks of most ordered requests alone, most first.
+--by word: each word of each block that several cores use has a line.
+--every N, in place of --by: a line for steps 1 to N, one for the next N, and so on."
     faults "L, S, E, O or R" "L and E take 2 numbers, S 3, O and R 1"
     heading
     more

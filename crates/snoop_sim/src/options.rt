@@ -3,7 +3,7 @@ ghost use Rattle.std.specs.Prelude.{◌≡◌, ◌≢◌, ◌^◌, [], IfErr, If
 ghost use Rattle.clap.specs.Words.{app_of, found_of, one_of, rows_of, rule_of, subcommand_rows_of};
 ghost use Rattle.snoop_sim.specs.Asked.{Asks, HasNoEngine, HasNoTask, HasTask, IsTaskOf, Refuses};
 ghost use Rattle.snoop_sim.specs.CommandLine.{IsCounts, IsDraw, IsForms, IsGroupings, IsKinds, IsLayouts, IsLint, IsLocal, IsProtocols, IsRun, IsSimulation, IsSnoop, IsStates, IsSteps, IsTable, IsThreads, IsView, Names, choice_rules, flag_rule, form_rule, grouping_rule, kind_rule, layout_rule, number_rule, optional_rule, protocol_rule, top_app, with_rules};
-ghost use Rattle.snoop_sim.specs.Options.{IsChoiceOf, IsDrawnOf, IsGroupingOf, IsInputOf, IsNumberOf, IsReadAs, IsShapeOf, MisplacesSerial, MisplacesTop, asks_serial, charset_named, kind_named, layout_named, protocol_named, says, which_named};
+ghost use Rattle.snoop_sim.specs.Options.{IsChoiceOf, HasNoGrouping, HasNoNamed, HasNoSteps, IsDrawnOf, IsGroupingOf, IsInputOf, IsNamed, IsSteps as IsStepsOf, names_grouping, IsNumberOf, IsReadAs, IsShapeOf, MisplacesSerial, asks_serial, charset_named, kind_named, layout_named, protocol_named, says, which_named};
 
 use crate::failure::Failure;
 use crate::help;
@@ -15,6 +15,7 @@ use snoop_lint::Form;
 use snoop_rules::{Protocol, Which};
 use snoop_trace::{Shape, ShapeFault};
 use std::alloc::{AllocError, Global};
+use std::num::NonZeroU64;
 
 /// What the command line asks for.
 #[derive(Debug, Drop)]
@@ -57,6 +58,10 @@ pub(crate) enum Grouping {
     Core,
     /// All blocks, or so many, those of most requests first.
     Block(Option<u32>),
+    /// Each word of each shared block.
+    Word,
+    /// So many steps.
+    Steps(NonZeroU64),
 }
 
 static PROTOCOLS: [&str; 2] = ["msi", "mesi"];
@@ -67,7 +72,7 @@ static DRAWINGS: [&str; 1] = ["text"];
 
 static FORMS: [&str; 2] = ["text", "csv"];
 
-static GROUPINGS: [&str; 3] = ["row", "core", "block"];
+static GROUPINGS: [&str; 4] = ["row", "core", "block", "word"];
 
 static TABLES: [&str; 2] = ["cache", "memory"];
 
@@ -234,7 +239,7 @@ fn counts<'a>(alloc: Global) -> Result<Command<'a>, AllocError>
     view(
         alloc,
         "counts",
-        "Read steps or rows; write counts by row of the tables, by core or by block",
+        "Read steps or rows; write counts by row of the tables, core, block, word or steps",
         help::COUNTS,
     )?
     .arg(groupings(alloc))?
@@ -243,6 +248,12 @@ fn counts<'a>(alloc: Global) -> Result<Command<'a>, AllocError>
         "top",
         value_parser!(u32),
         "By block: so many blocks alone, those of most requests first",
+    ))?
+    .arg(optional(
+        alloc,
+        "every",
+        value_parser!(u64),
+        "In place of --by: a line for each so many steps",
     ))
 }
 
@@ -398,7 +409,6 @@ fn groupings<'a>(alloc: Global) -> Arg<'a>
         .long("by")
         .help("What each line counts")
         .value_parser(ValueParser::Names(GROUPINGS.as_slice()))
-        .required(true)
 }
 
 /// The form of the output, a text if it is not given.
@@ -515,10 +525,29 @@ fn charset_in(options: &ArgMatches) -> Charset
     }
 }
 
-/// What the lines of counts are of; `--top` is for blocks alone.
+/// What the lines of counts are of, as one of `--by` and `--every` says.
 fn grouping_in(options: &ArgMatches) -> Result<Grouping, Failure>
     ensures ok { IfOk result (IsGroupingOf (rows_of (found_of options.now))) }
-    ensures err { IfErr result (λ failure. (failure ≡ Failure.BadTop) × MisplacesTop (rows_of (found_of options.now))) }
+    ensures err { IfErr result (HasNoGrouping (rows_of (found_of options.now))) }
+{
+    match (has_grouping(options), long_in(options, "every")) {
+        (true, None) => named_in(options),
+        (false, Some(every)) => steps_in(options, every),
+        _ => Err(Failure::BadBy),
+    }
+}
+
+/// Whether `--by` is given.
+fn has_grouping(options: &ArgMatches) -> bool
+    ensures { result ≡ names_grouping (rows_of (found_of options.now)) }
+{
+    options.get_str("by").is_some()
+}
+
+/// What `--by` says; `--top` is for blocks alone.
+fn named_in(options: &ArgMatches) -> Result<Grouping, Failure>
+    ensures ok { IfOk result (IsNamed (rows_of (found_of options.now))) }
+    ensures err { IfErr result (HasNoNamed (rows_of (found_of options.now))) }
 {
     let top = short_in(options, "top");
     if says(options, "by", "block") {
@@ -527,8 +556,24 @@ fn grouping_in(options: &ArgMatches) -> Result<Grouping, Failure>
         Err(Failure::BadTop)
     } else if says(options, "by", "core") {
         Ok(Grouping::Core)
+    } else if says(options, "by", "word") {
+        Ok(Grouping::Word)
     } else {
         Ok(Grouping::Row)
+    }
+}
+
+/// The number of steps that `--every` says.
+fn steps_in(options: &ArgMatches, every: u64) -> Result<Grouping, Failure>
+    ensures ok { IfOk result (IsStepsOf every (rows_of (found_of options.now))) }
+    ensures err { IfErr result (HasNoSteps every (rows_of (found_of options.now))) }
+{
+    if short_in(options, "top").is_some() {
+        return Err(Failure::BadTop);
+    }
+    match NonZeroU64::new(every) {
+        Some(every) => Ok(Grouping::Steps(every)),
+        None => Err(Failure::BadEvery),
     }
 }
 

@@ -9,7 +9,10 @@ ghost use Rattle.snoop_sim.specs.Performed.{Ends, IsFailedRead, Leaves, Performs
 use crate::failure::Failure;
 use crate::options::{Engine, Grouping, Layout, Task, task_in};
 use crate::threads::simulate_threads;
-use snoop_counts::{simulate_counts_by_block, simulate_counts_by_core};
+use snoop_counts::{
+    simulate_counts_by_block, simulate_counts_by_core, simulate_counts_by_steps,
+    simulate_counts_by_word,
+};
 use snoop_draw::simulate_drawing;
 use snoop_engine::{
     SimFault, simulate_counts, simulate_run, simulate_serial, simulate_states, simulate_steps,
@@ -178,6 +181,16 @@ fn simulate<T: Threads + Wait + Sync, R: Source, W: Sink>(
         }
         Engine::Counts(input, Grouping::Block(top)) => {
             simulate_counts_by_block(alloc, reader, writer, protocol, shape, input, top).map_err(
+                Failure::Simulation,
+            )
+        }
+        Engine::Counts(input, Grouping::Word) => {
+            simulate_counts_by_word(alloc, reader, writer, protocol, shape, input).map_err(
+                Failure::Simulation,
+            )
+        }
+        Engine::Counts(input, Grouping::Steps(every)) => {
+            simulate_counts_by_steps(alloc, reader, writer, protocol, shape, input, every).map_err(
                 Failure::Simulation,
             )
         }
