@@ -9,6 +9,7 @@ use Rattle.snoop_trace.specs.Text.{BlamesReader}
 use Rattle.snoop_trace.specs.declared.protocol.Protocol.{Protocol}
 use Rattle.snoop_rules.specs.Matrix.{matrix_text}
 use Rattle.snoop_rules.specs.TableText.{table_text}
+use Rattle.snoop_rules.specs.declared.table_text.Which.{Which}
 use Rattle.clap.specs.Words.{Text}
 use Rattle.snoop_sim.specs.Asked.{Asks, Refuses}
 use Rattle.snoop_counts.specs.ByBlock.{counts_by_block}
@@ -35,6 +36,7 @@ use Rattle.snoop_sim.specs.declared.fault.ThreadsFault.TheVariants.{Text as Rows
 use Rattle.snoop_sim.specs.declared.failure.Failure.{Failure}
 use Rattle.snoop_sim.specs.declared.failure.Failure.TheVariants.{Simulation, Threads as ThreadsFailure, Lint as LintFailure, Drawing}
 use Rattle.snoop_sim.specs.declared.options.Grouping.TheVariants as grouping
+use Rattle.snoop_sim.specs.declared.options.Layout.{Layout}
 use Rattle.snoop_sim.specs.declared.options.Layout.TheVariants as layout
 use Rattle.snoop_sim.specs.declared.options.Engine.{Engine}
 use Rattle.snoop_sim.specs.declared.options.Engine.TheVariants.{Steps, Run, Serial, Threads, Counts, Lint}
@@ -53,6 +55,11 @@ abbrev pub EndsAs : {Fault : Type 0} → (Fault → Failure) → Result (Unit {0
 EndsAs failed (Ok u) Left = Left (Ok u)
 EndsAs {Fault} failed (Err failure) Left = (fault : Fault) × (failure ≡ failed fault) × Left (Err fault)
 
+-- a table by rows, or as a matrix
+abbrev pub layout_text : Protocol → Which → Layout → List ℕ
+layout_text protocol which layout.Rows = table_text protocol which
+layout_text protocol which layout.Matrix = matrix_text protocol which
+
 -- what each engine leaves
 abbrev pub Runs : Protocol → Extent → Engine → Option (List ℕ) → Result (Unit {0}) Failure → Option (List ℕ) → Option (List ℕ) → Type 0
 Runs protocol shape Steps input ending old new = EndsAs Simulation ending (λ done. Simulates protocol shape input done old new)
@@ -69,8 +76,7 @@ Runs protocol shape (Lint form most) input ending old new = EndsAs LintFailure e
 -- what each task leaves: the text of help, the table by rows or as a matrix, or its engine's output
 abbrev pub Performs : Task → Option (List ℕ) → Result (Unit {0}) Failure → Option (List ℕ) → Option (List ℕ) → Type 0
 Performs (Help help) input ending old new = (text : List ℕ) × EndsAs Simulation ending (λ done. Writes text done old new)
-Performs (Table protocol which layout.Rows) input ending old new = EndsAs Simulation ending (λ done. Writes (table_text protocol which) done old new)
-Performs (Table protocol which layout.Matrix) input ending old new = EndsAs Simulation ending (λ done. Writes (matrix_text protocol which) done old new)
+Performs (Table protocol which layout) input ending old new = EndsAs Simulation ending (λ done. Writes (layout_text protocol which layout) done old new)
 Performs (Simulate protocol shape engine) input ending old new = Runs protocol shape engine input ending old new
 Performs (States protocol shape input choice) text ending old new = EndsAs Simulation ending (λ done. SimulatesView protocol shape input (states_table_text protocol shape choice) text done old new)
 Performs (StateFields protocol shape input choice) text ending old new = EndsAs Simulation ending (λ done. SimulatesView protocol shape input (λ frames final. states_text shape choice frames) text done old new)

@@ -1,10 +1,11 @@
 //! What the program does with its words and streams, and the status that it ends with.
-ghost use Rattle.std.specs.Prelude.{◌≡◌, ◌≢◌, ◌<◌, ℕ, List, map, string_bytes, false, true, Some, Err, IfErr};
+ghost use Rattle.std.specs.Prelude.{◌≡◌, ◌≢◌, ◌<◌, ℕ, List, map, string_bytes, false, true, Some, Err, IfErr, OnErr, OnOk};
 ghost use Rattle.std.specs.IoError.{error_kind};
-ghost use Rattle.snoop_trace.specs.Output.{BlamesWriter};
+ghost use Rattle.std.specs.Io.KnownBytes.{Appends};
+ghost use Rattle.snoop_trace.specs.Output.{AppendsFront, BlamesWriter};
 ghost use Rattle.snoop_trace.specs.Text.{BlamesReader};
 ghost use Rattle.snoop_sim.specs.Status.{status_of};
-ghost use Rattle.snoop_sim.specs.Performed.{Ends, IsFailedRead, Leaves, Performs, Runs, Writes, status_of_ending};
+ghost use Rattle.snoop_sim.specs.Performed.{Ends, IsFailedRead, Leaves, Performs, Runs, Writes, layout_text, status_of_ending};
 
 use crate::failure::Failure;
 use crate::options::{Engine, Grouping, Layout, Task, task_in};
@@ -18,10 +19,10 @@ use snoop_engine::{
     SimFault, simulate_counts, simulate_run, simulate_serial, simulate_states, simulate_steps,
 };
 use snoop_lint::lint_text;
-use snoop_rules::{Protocol, write_matrix, write_table};
+use snoop_rules::{Protocol, Which, write_matrix, write_table};
 use snoop_states::simulate_states_table;
-use snoop_trace::Shape;
 use snoop_trace::streams::{Sink, Source, write_whole};
+use snoop_trace::{Shape, WriteFault};
 use std::alloc::Global;
 use std::io;
 use std::io::{ErrorKind, Write};
@@ -108,11 +109,8 @@ fn perform_task<T: Threads + Wait + Sync, R: Source, W: Sink>(
 {
     match task {
         Task::Help(help) => write_help(alloc, writer, &help).map_err(Failure::Simulation),
-        Task::Table(protocol, which, Layout::Rows) => write_table(alloc, writer, protocol, which)
-            .map_err(SimFault::from)
-            .map_err(Failure::Simulation),
-        Task::Table(protocol, which, Layout::Matrix) => {
-            write_matrix(alloc, writer, protocol, which)
+        Task::Table(protocol, which, layout) => {
+            write_layout(alloc, writer, protocol, which, layout)
                 .map_err(SimFault::from)
                 .map_err(Failure::Simulation)
         }
@@ -135,6 +133,26 @@ fn perform_task<T: Threads + Wait + Sync, R: Source, W: Sink>(
             )
             .map_err(Failure::Drawing)
         }
+    }
+}
+
+/// Writes a table by rows or as a matrix.
+fn write_layout<W: Sink>(
+    alloc: Global,
+    writer: &mut W,
+    protocol: Protocol,
+    which: Which,
+    layout: Layout,
+) -> Result<(), WriteFault>
+    ensures ok { OnOk result (Appends (W.contents writer.old) (W.contents writer.new) (layout_text protocol which layout)) }
+    ensures front { OnErr result (AppendsFront (W.contents writer.old) (W.contents writer.new) (layout_text protocol which layout)) }
+    ensures no_memory { result ≡ Err WriteFault.NoMemory → W.contents writer.new ≡ W.contents writer.old }
+    ensures never_blamed { W.never_fails ≡ true → result ≢ Err WriteFault.Write }
+    ensures blamed { BlamesWriter (W.failed writer.old) (W.failed writer.new) (result ≡ Err WriteFault.Write) }
+{
+    match layout {
+        Layout::Rows => write_table(alloc, writer, protocol, which),
+        Layout::Matrix => write_matrix(alloc, writer, protocol, which),
     }
 }
 
