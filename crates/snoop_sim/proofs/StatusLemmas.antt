@@ -9,7 +9,7 @@ use Rattle.snoop_cores.specs.declared.fault.GatherFault.TheVariants as gathering
 use Rattle.snoop_engine.specs.declared.fault.SimFault.{SimFault}
 use Rattle.snoop_engine.specs.declared.fault.SimFault.TheVariants.{Text, NoMemory, Write}
 use Rattle.snoop_sim.specs.declared.failure.Failure.{Failure}
-use Rattle.snoop_sim.specs.declared.failure.Failure.TheVariants.{CommandLine, NoCommand, NotUtf8, Shape, BadTop, BadChoice, Unshown, Simulation, Threads, Lint, Drawing, Unchosen}
+use Rattle.snoop_sim.specs.declared.failure.Failure.TheVariants.{CommandLine, NoCommand, NotUtf8, Shape, BadBy, BadEvery, BadTop, BadSerial, Undrawn, Simulation, Threads, Lint, Drawing, Unchosen}
 use Rattle.snoop_lint.specs.declared.fault.LintFault.{LintFault}
 use Rattle.snoop_draw.specs.declared.fault.DrawFault.TheVariants as draw
 use Rattle.snoop_lint.specs.declared.fault.LintFault.TheVariants as lint
@@ -47,9 +47,11 @@ status_known (CommandLine error) = omega arith
 status_known NoCommand = omega arith
 status_known NotUtf8 = omega arith
 status_known (Shape fault) = omega arith
+status_known BadBy = omega arith
 status_known BadTop = omega arith
-status_known BadChoice = omega arith
-status_known (Unshown fault) = omega arith
+status_known BadEvery = omega arith
+status_known BadSerial = omega arith
+status_known (Undrawn fault) = omega arith
 status_known (Simulation fault) = fault_known fault
 status_known (Threads fault) = threads_known fault
 status_known (Lint fault) = lint_known fault

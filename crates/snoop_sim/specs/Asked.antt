@@ -6,14 +6,15 @@ use Rattle.clap.specs.declared.error.kind.ErrorKind.{ErrorKind}
 use Rattle.clap.specs.declared.error.kind.ErrorKind.TheVariants.{DisplayHelp, DisplayVersion}
 use Rattle.snoop_trace.specs.Extent.{Extent}
 use Rattle.snoop_sim.specs.CommandLine.{IsSnoop}
-use Rattle.snoop_sim.specs.Options.{ChoosesAll, ChoosesSome, IsChoiceOf, IsGroupingOf, IsLongOf, IsShapeOf, IsShownOf, MisplacesTop, asks_serial, charset_named, kind_named, protocol_named, says, which_named}
+use Rattle.snoop_sim.specs.Options.{IsChoiceOf, IsDrawnOf, IsGroupingOf, IsInputOf, IsLongOf, IsShapeOf, HasNoGrouping, MisplacesSerial, asks_serial, charset_named, kind_named, layout_named, protocol_named, says, which_named}
 use Rattle.snoop_engine.specs.declared.fault.SimFault.TheVariants.{NoMemory}
+use Rattle.snoop_engine.specs.declared.input.Input.{Input}
 use Rattle.snoop_sim.specs.declared.failure.Failure.{Failure}
-use Rattle.snoop_sim.specs.declared.failure.Failure.TheVariants.{BadChoice, BadTop, CommandLine, NoCommand, Shape, Simulation, Unchosen, Unshown}
+use Rattle.snoop_sim.specs.declared.failure.Failure.TheVariants.{BadBy, BadEvery, BadSerial, BadTop, CommandLine, NoCommand, Shape, Simulation, Unchosen, Undrawn}
 use Rattle.snoop_sim.specs.declared.options.Engine.{Engine}
-use Rattle.snoop_sim.specs.declared.options.Engine.TheVariants.{Steps, Run, Serial, Threads, StateFields, Counts, Lint}
+use Rattle.snoop_sim.specs.declared.options.Engine.TheVariants.{Steps, Run, Serial, Threads, Counts, Lint}
 use Rattle.snoop_sim.specs.declared.options.Task.{Task}
-use Rattle.snoop_sim.specs.declared.options.Task.TheVariants.{Help, Table, Simulate, States, Draw}
+use Rattle.snoop_sim.specs.declared.options.Task.TheVariants.{Help, Table, Simulate, States, StateFields, Draw}
 
 -- the engine of a command with its options
 abbrev pub IsEngineOf : Text → List Row → Engine → Type 0
@@ -21,31 +22,43 @@ IsEngineOf name options Steps = name ≡ codes "steps"
 IsEngineOf name options Run = (name ≡ codes "run") × (asks_serial options ≡ false)
 IsEngineOf name options Serial = (name ≡ codes "run") × (asks_serial options ≡ true)
 IsEngineOf name options Threads = name ≡ codes "threads"
-IsEngineOf name options StateFields = (name ≡ codes "states") × (says false (codes "as") (codes "csv") options ≡ true) × ChoosesAll options
-IsEngineOf name options (Counts grouping) = (name ≡ codes "counts") × IsGroupingOf options grouping
+IsEngineOf name options (Counts input grouping) = (name ≡ codes "counts") × IsInputOf options input × IsGroupingOf options grouping
 IsEngineOf name options (Lint form most) = (name ≡ codes "lint") × (form ≡ kind_named options) × IsLongOf (codes "most") options most
 
 -- the task of a command with its options
 abbrev pub IsTaskOf : Text × List Row → Task → Type 0
 IsTaskOf command (Help help) = ⊥
-IsTaskOf (name, options) (Table protocol which) = (name ≡ codes "table") × (protocol ≡ protocol_named options) × (which ≡ which_named options)
+IsTaskOf (name, options) (Table protocol which layout) = (name ≡ codes "table") × (protocol ≡ protocol_named options) × (which ≡ which_named options) × (layout ≡ layout_named options)
 IsTaskOf (name, options) (Simulate protocol shape engine) = (protocol ≡ protocol_named options) × IsShapeOf options (Ok shape) × IsEngineOf name options engine
-IsTaskOf (name, options) (States protocol shape choice) = (protocol ≡ protocol_named options) × IsShapeOf options (Ok shape) × (name ≡ codes "states") × (says false (codes "as") (codes "csv") options ≡ false) × IsShownOf shape options (Ok choice)
-IsTaskOf (name, options) (Draw protocol shape charset choice) = (protocol ≡ protocol_named options) × IsShapeOf options (Ok shape) × (name ≡ codes "draw") × (charset ≡ charset_named options) × IsChoiceOf shape options (Ok choice)
+IsTaskOf (name, options) (States protocol shape input choice) = (protocol ≡ protocol_named options) × IsShapeOf options (Ok shape) × (name ≡ codes "states") × IsInputOf options input × IsChoiceOf shape options (Ok choice)
+    × (says false (codes "as") (codes "csv") options ≡ false)
+IsTaskOf (name, options) (StateFields protocol shape input choice) = (protocol ≡ protocol_named options) × IsShapeOf options (Ok shape) × (name ≡ codes "states") × IsInputOf options input × IsChoiceOf shape options (Ok choice)
+    × (says false (codes "as") (codes "csv") options ≡ true)
+IsTaskOf (name, options) (Draw protocol shape input charset choice) = (protocol ≡ protocol_named options) × IsShapeOf options (Ok shape) × (name ≡ codes "draw") × IsInputOf options input × (charset ≡ charset_named options) × IsDrawnOf shape options (Ok choice)
 
 -- the command that was named has this task
 abbrev pub HasTask : Option (Text × List Row) → Task → Type 0
 HasTask None task = ⊥
 HasTask (Some command) task = IsTaskOf command task
 
+-- a command that shows a run of steps or of rows
+abbrev pub IsViewer : Text → Type 0
+IsViewer name = (name ≡ codes "states") ⊎ (name ≡ codes "counts") ⊎ (name ≡ codes "draw")
+
+-- it is told of which of them the text is
+abbrev pub ReadsInput : List Row → Type 0
+ReadsInput options = (input : Input) × IsInputOf options input
+
 -- a command has no engine: none that simulates has its name, or one of its options is refused
 abbrev pub HasNoEngine : Text → List Row → Extent → Failure → Type 0
 HasNoEngine name options shape NoCommand = (name ≢ codes "steps") × (name ≢ codes "run") × (name ≢ codes "threads") × (name ≢ codes "states") × (name ≢ codes "counts")
     × (name ≢ codes "lint") × (name ≢ codes "draw")
-HasNoEngine name options shape (Unchosen fault) = (name ≡ codes "draw") × IsChoiceOf shape options (Err fault)
-HasNoEngine name options shape BadTop = (name ≡ codes "counts") × MisplacesTop options
-HasNoEngine name options shape (Unshown fault) = (name ≡ codes "states") × (says false (codes "as") (codes "csv") options ≡ false) × IsShownOf shape options (Err fault)
-HasNoEngine name options shape BadChoice = (name ≡ codes "states") × (says false (codes "as") (codes "csv") options ≡ true) × ChoosesSome options
+HasNoEngine name options shape BadSerial = IsViewer name × MisplacesSerial options
+HasNoEngine name options shape (Unchosen fault) = (name ≡ codes "states") × ReadsInput options × IsChoiceOf shape options (Err fault)
+HasNoEngine name options shape (Undrawn fault) = (name ≡ codes "draw") × ReadsInput options × IsDrawnOf shape options (Err fault)
+HasNoEngine name options shape BadBy = (name ≡ codes "counts") × ReadsInput options × HasNoGrouping options BadBy
+HasNoEngine name options shape BadTop = (name ≡ codes "counts") × ReadsInput options × HasNoGrouping options BadTop
+HasNoEngine name options shape BadEvery = (name ≡ codes "counts") × ReadsInput options × HasNoGrouping options BadEvery
 HasNoEngine name options shape failure = ⊥
 
 -- the command that was named has no task: its shape is refused, or it has no engine

@@ -49,13 +49,17 @@ IsKinds names = AreNames (codes "steps" ∷ codes "rows" ∷ []) names
 abbrev pub IsTables : Names → Type 0
 IsTables names = AreNames (codes "cache" ∷ codes "memory" ∷ []) names
 
+-- those of `--as` of a table
+abbrev pub IsLayouts : Names → Type 0
+IsLayouts names = AreNames (codes "rows" ∷ codes "matrix" ∷ []) names
+
 -- those of `--as`
 abbrev pub IsForms : Names → Type 0
 IsForms names = AreNames (codes "text" ∷ codes "csv" ∷ []) names
 
 -- those of `--by`
 abbrev pub IsGroupings : Names → Type 0
-IsGroupings names = AreNames (codes "row" ∷ codes "core" ∷ codes "block" ∷ []) names
+IsGroupings names = AreNames (codes "row" ∷ codes "core" ∷ codes "block" ∷ codes "word" ∷ []) names
 
 -- a protocol, in either case
 abbrev pub protocol_rule : Names → Rule
@@ -65,9 +69,9 @@ protocol_rule protocols = record (option_rule (codes "protocol") (codes "msi") (
 abbrev pub flag_rule : Text → Rule
 flag_rule name = record (new_rule name) { long = Some name; action = Some SetTrue }
 
--- the option `--by`, which has to be there
+-- the option `--by`
 abbrev pub grouping_rule : Names → Rule
-grouping_rule groupings = record (new_rule (codes "by")) { long = Some (codes "by"); parser = Some (parser.Names groupings); required = true }
+grouping_rule groupings = optional_rule (codes "by") (parser.Names groupings)
 
 -- the option `--of`, which is `steps` where it is not given
 abbrev pub kind_rule : Names → Rule
@@ -77,6 +81,10 @@ kind_rule kinds = option_rule (codes "of") (codes "steps") (parser.Names kinds)
 abbrev pub form_rule : Names → Rule
 form_rule forms = option_rule (codes "as") (codes "text") (parser.Names forms)
 
+-- the option `--as` of a table, which is `rows` where it is not given
+abbrev pub layout_rule : Names → Rule
+layout_rule layouts = option_rule (codes "as") (codes "rows") (parser.Names layouts)
+
 -- the options `--block`, `--from` and `--to`
 abbrev pub choice_rules : List Rule
 choice_rules = optional_rule (codes "block") (parser.Signed (pos 0) (pos 4294967295)) ∷ long_rule (codes "from") (codes "1")
@@ -85,6 +93,10 @@ choice_rules = optional_rule (codes "block") (parser.Signed (pos 0) (pos 4294967
 -- the option `--top`
 abbrev pub top_rule : Rule
 top_rule = optional_rule (codes "top") (parser.Signed (pos 0) (pos 4294967295))
+
+-- the option `--every`
+abbrev pub every_rule : Rule
+every_rule = optional_rule (codes "every") (parser.Unsigned 0 18446744073709551615)
 
 -- a command with these options too, in this order
 abbrev pub with_rules : App → List Rule → App
@@ -105,13 +117,21 @@ machine_rules protocols = protocol_rule protocols ∷ number_rule (codes "cores"
 abbrev pub simulation_app : Text → Names → List Rule → App
 simulation_app name protocols rules = with_rules (with_rules (new_app name) (machine_rules protocols)) rules
 
+-- a command that shows a run of steps or of rows, with options of its own after these
+abbrev pub view_app : Text → Names → Names → List Rule → App
+view_app name protocols kinds rules = simulation_app name protocols (kind_rule kinds ∷ flag_rule (codes "serial") ∷ rules)
+
 -- the command that writes a table
-abbrev pub table_app : Names → Names → App
-table_app protocols tables = with_rules (new_app (codes "table")) (protocol_rule protocols ∷ option_rule (codes "which") (codes "cache") (parser.Names tables) ∷ [])
+abbrev pub table_app : Names → Names → Names → App
+table_app protocols tables layouts = with_rules (new_app (codes "table")) (protocol_rule protocols ∷ option_rule (codes "which") (codes "cache") (parser.Names tables) ∷ layout_rule layouts ∷ [])
 
 -- a command that simulates, with these options of its own
 abbrev pub IsSimulation : Text → List Rule → App → Type 0
 IsSimulation name rules app = (protocols : Names) × IsProtocols protocols × (app ≡ simulation_app name protocols rules)
+
+-- a command that shows a run, with these options of its own
+abbrev pub IsView : Text → List Rule → App → Type 0
+IsView name rules app = (protocols kinds : Names) × IsProtocols protocols × IsKinds kinds × (app ≡ view_app name protocols kinds rules)
 
 -- the command `steps`
 abbrev pub IsSteps : App → Type 0
@@ -127,11 +147,11 @@ IsThreads = IsSimulation (codes "threads") []
 
 -- the command `states`
 abbrev pub IsStates : App → Type 0
-IsStates app = (forms : Names) × IsForms forms × IsSimulation (codes "states") (form_rule forms ∷ choice_rules) app
+IsStates app = (forms : Names) × IsForms forms × IsView (codes "states") (form_rule forms ∷ choice_rules) app
 
 -- the command `counts`
 abbrev pub IsCounts : App → Type 0
-IsCounts app = (groupings : Names) × IsGroupings groupings × IsSimulation (codes "counts") (grouping_rule groupings ∷ top_rule ∷ []) app
+IsCounts app = (groupings : Names) × IsGroupings groupings × IsView (codes "counts") (grouping_rule groupings ∷ top_rule ∷ every_rule ∷ []) app
 
 -- the command `lint`
 abbrev pub IsLint : App → Type 0
@@ -139,11 +159,11 @@ IsLint app = (kinds : Names) × IsKinds kinds × IsSimulation (codes "lint") (ki
 
 -- the command `draw`
 abbrev pub IsDraw : App → Type 0
-IsDraw app = (forms : Names) × IsDrawings forms × IsSimulation (codes "draw") (form_rule forms ∷ flag_rule (codes "ascii") ∷ choice_rules) app
+IsDraw app = (forms : Names) × IsDrawings forms × IsView (codes "draw") (form_rule forms ∷ flag_rule (codes "ascii") ∷ choice_rules) app
 
 -- the command `table`, as `clap` describes it
 abbrev pub IsTable : App → Type 0
-IsTable app = (protocols tables : Names) × IsProtocols protocols × IsTables tables × (app ≡ table_app protocols tables)
+IsTable app = (protocols tables layouts : Names) × IsProtocols protocols × IsTables tables × IsLayouts layouts × (app ≡ table_app protocols tables layouts)
 
 -- the program before its commands
 abbrev pub top_app : App

@@ -1,7 +1,8 @@
 -- What the options of a command say.
 -- Source: this project's profile.
-use Rattle.std.specs.Prelude.{◌≡◌, ◌≢◌, ◌⊎◌, ◌<◌, ◌^◌, ℕ, List, Option, Some, None, Result, Ok, Err, Bool, if◌then◌else◌, codes, true, false, unwrap_or}
+use Rattle.std.specs.Prelude.{◌≡◌, ◌⊎◌, ◌<◌, ⊥, is_some, ◌^◌, ℕ, List, Option, Some, None, Result, Ok, Err, Bool, if◌then◌else◌, codes, true, false, unwrap_or}
 use Rattle.std.specs.Option.{option_map_or}
+use Rattle.std.specs.Int.NonZero.{non_zero_u64_get}
 use Rattle.std.specs.Str.Parse.{IsNumeral, digits_value, without_leading_plus}
 use Rattle.clap.specs.Words.{Row, Text, first_of, one_of, same_text}
 use Rattle.snoop_trace.specs.Extent.{Extent, IsBlockCount, IsBlockSize, IsCoreCount, IsWordCount}
@@ -9,16 +10,22 @@ use Rattle.snoop_trace.specs.declared.shape.ShapeFault.{ShapeFault}
 use Rattle.snoop_trace.specs.declared.shape.ShapeFault.TheVariants.{BadCores, BadBlocks, BadBytes, BadWords}
 use Rattle.snoop_trace.specs.declared.protocol.Protocol.{Protocol}
 use Rattle.snoop_trace.specs.declared.protocol.Protocol.TheVariants.{Msi, Mesi}
-use Rattle.snoop_states.specs.Choice.{IsChoice as IsShown}
-use Rattle.snoop_states.specs.Chosen.{Chosen as Shown}
-use Rattle.snoop_states.specs.declared.choice.ChoiceFault.{ChoiceFault as ShownFault}
-use Rattle.snoop_draw.specs.Choice.{IsChoice}
-use Rattle.snoop_draw.specs.Choices.{Chosen}
-use Rattle.snoop_draw.specs.declared.choice.ChoiceFault.{ChoiceFault}
+use Rattle.snoop_engine.specs.Choice.{IsChoice}
+use Rattle.snoop_engine.specs.Chosen.{Chosen}
+use Rattle.snoop_engine.specs.declared.choice.ChoiceFault.{ChoiceFault}
+use Rattle.snoop_engine.specs.declared.input.Input.{Input}
+use Rattle.snoop_engine.specs.declared.input.Input.TheVariants as input
+use Rattle.snoop_draw.specs.Choice.{IsChoice as IsDrawn}
+use Rattle.snoop_draw.specs.Choices.{Chosen as Drawn}
+use Rattle.snoop_draw.specs.declared.choice.ChoiceFault.{ChoiceFault as DrawnFault}
 use Rattle.snoop_draw.specs.declared.marks.Charset.{Charset}
 use Rattle.snoop_draw.specs.declared.marks.Charset.TheVariants as charset
 use Rattle.snoop_lint.specs.declared.form.Form.{Form}
 use Rattle.snoop_lint.specs.declared.form.Form.TheVariants as form
+use Rattle.snoop_sim.specs.declared.options.Layout.{Layout}
+use Rattle.snoop_sim.specs.declared.options.Layout.TheVariants as layout
+use Rattle.snoop_sim.specs.declared.failure.Failure.{Failure}
+use Rattle.snoop_sim.specs.declared.failure.Failure.TheVariants.{BadBy, BadEvery, BadTop}
 use Rattle.snoop_sim.specs.declared.options.Grouping.{Grouping}
 use Rattle.snoop_sim.specs.declared.options.Grouping.TheVariants as grouping
 use Rattle.snoop_rules.specs.declared.table_text.Which.{Which}
@@ -40,6 +47,10 @@ asks_serial options = says false (codes "serial") (codes "true") options
 abbrev pub which_named : List Row → Which
 which_named options = if says false (codes "which") (codes "memory") options then Memory else Cache
 
+-- a matrix where it is named; else rows
+abbrev pub layout_named : List Row → Layout
+layout_named options = if says false (codes "as") (codes "matrix") options then layout.Matrix else layout.Rows
+
 -- ASCII characters where the flag is set
 abbrev pub charset_named : List Row → Charset
 charset_named options = if says false (codes "ascii") (codes "true") options then charset.Ascii else charset.Unicode
@@ -47,6 +58,16 @@ charset_named options = if says false (codes "ascii") (codes "true") options the
 -- rows where they are named; else steps
 abbrev pub kind_named : List Row → Form
 kind_named options = if says false (codes "of") (codes "rows") options then form.Rows else form.Steps
+
+-- what the text is of, as `of` says, and in which order its rows are served, as `serial` says, which is for rows alone
+abbrev pub IsInputOf : List Row → Input → Type 0
+IsInputOf options input.Steps = (kind_named options ≡ form.Steps) × (asks_serial options ≡ false)
+IsInputOf options input.Rows = (kind_named options ≡ form.Rows) × (asks_serial options ≡ false)
+IsInputOf options input.SerialRows = (kind_named options ≡ form.Rows) × (asks_serial options ≡ true)
+
+-- `serial` is given without rows
+abbrev pub MisplacesSerial : List Row → Type 0
+MisplacesSerial options = (kind_named options ≡ form.Steps) × (asks_serial options ≡ true)
 
 -- a number below a limit, in decimal
 abbrev pub IsNumber : ℕ → Text → Type 0
@@ -58,15 +79,55 @@ IsReadAs limit None read = read ≡ None
 IsReadAs limit (Some text) (Some number) = IsNumber limit text × (number ≡ digits_value 10 (without_leading_plus text))
 IsReadAs limit (Some text) None = ¬ IsNumber limit text
 
--- what the lines of counts are of, as `by` says, and of how many blocks, as `top` says, which is for blocks alone
-abbrev pub IsGroupingOf : List Row → Grouping → Type 0
-IsGroupingOf options grouping.Row = (says false (codes "by") (codes "core") options ≡ false) × (says false (codes "by") (codes "block") options ≡ false) × IsReadAs (2 ^ 32) (one_of (codes "top") options) None
-IsGroupingOf options grouping.Core = (says false (codes "by") (codes "core") options ≡ true) × IsReadAs (2 ^ 32) (one_of (codes "top") options) None
-IsGroupingOf options (grouping.Block top) = (says false (codes "by") (codes "block") options ≡ true) × IsReadAs (2 ^ 32) (one_of (codes "top") options) top
+-- `by` is given
+abbrev pub names_grouping : List Row → Bool
+names_grouping options = is_some (first_of (codes "by") options)
 
--- `top` is given without blocks
-abbrev pub MisplacesTop : List Row → Type 0
-MisplacesTop options = (says false (codes "by") (codes "block") options ≡ false) × ((top : ℕ) × IsReadAs (2 ^ 32) (one_of (codes "top") options) (Some top))
+-- `top` is not given
+abbrev pub LacksTop : List Row → Type 0
+LacksTop options = IsReadAs (2 ^ 32) (one_of (codes "top") options) None
+
+-- what the lines of counts are of, as `by` says, and of how many blocks, as `top` says, which is for blocks alone
+abbrev pub IsNamed : List Row → Grouping → Type 0
+IsNamed options grouping.Row = (says false (codes "by") (codes "core") options ≡ false) × (says false (codes "by") (codes "block") options ≡ false) × (says false (codes "by") (codes "word") options ≡ false) × LacksTop options
+IsNamed options grouping.Core = (says false (codes "by") (codes "core") options ≡ true) × LacksTop options
+IsNamed options grouping.Word = (says false (codes "by") (codes "word") options ≡ true) × LacksTop options
+IsNamed options (grouping.Block top) = (says false (codes "by") (codes "block") options ≡ true) × IsReadAs (2 ^ 32) (one_of (codes "top") options) top
+IsNamed options (grouping.Steps every) = ⊥
+
+-- `top` is given
+abbrev pub HasTop : List Row → Type 0
+HasTop options = (top : ℕ) × IsReadAs (2 ^ 32) (one_of (codes "top") options) (Some top)
+
+-- `by` says nothing, for `top` is given without blocks
+abbrev pub HasNoNamed : List Row → Failure → Type 0
+HasNoNamed options BadTop = (says false (codes "by") (codes "block") options ≡ false) × HasTop options
+HasNoNamed options failure = ⊥
+
+-- each line is of so many steps
+abbrev pub IsSteps : ℕ → List Row → Grouping → Type 0
+IsSteps every options (grouping.Steps number) = (non_zero_u64_get number ≡ every) × LacksTop options
+IsSteps every options named = ⊥
+
+-- it is of none, or `top` is given
+abbrev pub HasNoSteps : ℕ → List Row → Failure → Type 0
+HasNoSteps every options BadTop = HasTop options
+HasNoSteps every options BadEvery = (every ≡ 0) × LacksTop options
+HasNoSteps every options failure = ⊥
+
+-- one of `by` and `every` is given, and says what the lines of counts are of
+abbrev pub IsGroupingOf : List Row → Grouping → Type 0
+IsGroupingOf options grouping =
+    ((names_grouping options ≡ true) × IsReadAs (2 ^ 64) (one_of (codes "every") options) None × IsNamed options grouping)
+    ⊎ ((every : ℕ) × (names_grouping options ≡ false) × IsReadAs (2 ^ 64) (one_of (codes "every") options) (Some every) × IsSteps every options grouping)
+
+-- neither is given, or both; or the one that is given says nothing
+abbrev pub HasNoGrouping : List Row → Failure → Type 0
+HasNoGrouping options BadBy = ((names_grouping options ≡ false) × IsReadAs (2 ^ 64) (one_of (codes "every") options) None)
+    ⊎ ((every : ℕ) × (names_grouping options ≡ true) × IsReadAs (2 ^ 64) (one_of (codes "every") options) (Some every))
+HasNoGrouping options failure =
+    ((names_grouping options ≡ true) × IsReadAs (2 ^ 64) (one_of (codes "every") options) None × HasNoNamed options failure)
+    ⊎ ((every : ℕ) × (names_grouping options ≡ false) × IsReadAs (2 ^ 64) (one_of (codes "every") options) (Some every) × HasNoSteps every options failure)
 
 -- the option's number of 64 bits; 0 where it has none
 abbrev pub IsLongOf : Text → List Row → ℕ → Type 0
@@ -101,21 +162,10 @@ IsChoiceOf shape options made = (block from to : Option ℕ)
     × IsReadAs (2 ^ 64) (one_of (codes "to") options) to
     × IsChoice shape block (unwrap_or from 0) (unwrap_or to 18446744073709551615) made
 
--- what they choose to be shown
-abbrev pub IsShownOf : Extent → List Row → Result Shown ShownFault → Type 0
-IsShownOf shape options made = (block from to : Option ℕ)
+-- what they choose to be drawn
+abbrev pub IsDrawnOf : Extent → List Row → Result Drawn DrawnFault → Type 0
+IsDrawnOf shape options made = (block from to : Option ℕ)
     × IsReadAs (2 ^ 32) (one_of (codes "block") options) block
     × IsReadAs (2 ^ 64) (one_of (codes "from") options) from
     × IsReadAs (2 ^ 64) (one_of (codes "to") options) to
-    × IsShown shape block (unwrap_or from 0) (unwrap_or to 18446744073709551615) made
-
--- they choose each block and each step
-abbrev pub ChoosesAll : List Row → Type 0
-ChoosesAll options = IsReadAs (2 ^ 32) (one_of (codes "block") options) None × IsReadAs (2 ^ 64) (one_of (codes "from") options) (Some 1)
-    × IsReadAs (2 ^ 64) (one_of (codes "to") options) None
-
--- they choose a block or some steps
-abbrev pub ChoosesSome : List Row → Type 0
-ChoosesSome options = ((block : ℕ) × IsReadAs (2 ^ 32) (one_of (codes "block") options) (Some block))
-    ⊎ ((from : Option ℕ) × IsReadAs (2 ^ 64) (one_of (codes "from") options) from × (from ≢ Some 1))
-    ⊎ ((to : ℕ) × IsReadAs (2 ^ 64) (one_of (codes "to") options) (Some to))
+    × IsDrawn shape block (unwrap_or from 0) (unwrap_or to 18446744073709551615) made

@@ -1,15 +1,20 @@
 -- What the program leaves for what it was asked, and the status that it ends with.
 -- Source: this project's profile.
 use Rattle.std.specs.Prelude.{⊤, ◌≡◌, ◌⊎◌, ℕ, Bool, true, List, Option, Result, Ok, Err}
+use Rattle.std.specs.Int.NonZero.{non_zero_u64_get}
 use Rattle.std.specs.Io.KnownBytes.{Appends}
 use Rattle.snoop_trace.specs.Extent.{Extent}
 use Rattle.snoop_trace.specs.Output.{AppendsFront}
 use Rattle.snoop_trace.specs.Text.{BlamesReader}
 use Rattle.snoop_trace.specs.declared.protocol.Protocol.{Protocol}
+use Rattle.snoop_rules.specs.Matrix.{matrix_text}
 use Rattle.snoop_rules.specs.TableText.{table_text}
+use Rattle.snoop_rules.specs.declared.table_text.Which.{Which}
 use Rattle.clap.specs.Words.{Text}
 use Rattle.snoop_sim.specs.Asked.{Asks, Refuses}
 use Rattle.snoop_counts.specs.ByBlock.{counts_by_block}
+use Rattle.snoop_counts.specs.BySteps.{counts_by_steps}
+use Rattle.snoop_counts.specs.ByWord.{counts_by_word}
 use Rattle.snoop_counts.specs.CoreTable.{counts_by_core}
 use Rattle.snoop_engine.specs.Counts.{frames_counts_text}
 use Rattle.snoop_engine.specs.Simulated.{Simulates}
@@ -31,10 +36,12 @@ use Rattle.snoop_sim.specs.declared.fault.ThreadsFault.TheVariants.{Text as Rows
 use Rattle.snoop_sim.specs.declared.failure.Failure.{Failure}
 use Rattle.snoop_sim.specs.declared.failure.Failure.TheVariants.{Simulation, Threads as ThreadsFailure, Lint as LintFailure, Drawing}
 use Rattle.snoop_sim.specs.declared.options.Grouping.TheVariants as grouping
+use Rattle.snoop_sim.specs.declared.options.Layout.{Layout}
+use Rattle.snoop_sim.specs.declared.options.Layout.TheVariants as layout
 use Rattle.snoop_sim.specs.declared.options.Engine.{Engine}
-use Rattle.snoop_sim.specs.declared.options.Engine.TheVariants.{Steps, Run, Serial, Threads, StateFields, Counts, Lint}
+use Rattle.snoop_sim.specs.declared.options.Engine.TheVariants.{Steps, Run, Serial, Threads, Counts, Lint}
 use Rattle.snoop_sim.specs.declared.options.Task.{Task}
-use Rattle.snoop_sim.specs.declared.options.Task.TheVariants.{Help, Table, Simulate, States, Draw}
+use Rattle.snoop_sim.specs.declared.options.Task.TheVariants.{Help, Table, Simulate, States, StateFields, Draw}
 
 -- a text was written whole; or, out of memory, nothing; or, where a write failed, a beginning; there was none to refuse
 abbrev pub Writes : List ℕ → Result (Unit {0}) SimFault → Option (List ℕ) → Option (List ℕ) → Type 0
@@ -48,25 +55,32 @@ abbrev pub EndsAs : {Fault : Type 0} → (Fault → Failure) → Result (Unit {0
 EndsAs failed (Ok u) Left = Left (Ok u)
 EndsAs {Fault} failed (Err failure) Left = (fault : Fault) × (failure ≡ failed fault) × Left (Err fault)
 
+-- a table by rows, or as a matrix
+abbrev pub layout_text : Protocol → Which → Layout → List ℕ
+layout_text protocol which layout.Rows = table_text protocol which
+layout_text protocol which layout.Matrix = matrix_text protocol which
+
 -- what each engine leaves
 abbrev pub Runs : Protocol → Extent → Engine → Option (List ℕ) → Result (Unit {0}) Failure → Option (List ℕ) → Option (List ℕ) → Type 0
 Runs protocol shape Steps input ending old new = EndsAs Simulation ending (λ done. Simulates protocol shape input done old new)
 Runs protocol shape Run input ending old new = EndsAs Simulation ending (λ done. SimulatesRun protocol shape input done old new)
 Runs protocol shape Serial input ending old new = EndsAs Simulation ending (λ done. SimulatesSerial protocol shape input done old new)
 Runs protocol shape Threads input ending old new = EndsAs ThreadsFailure ending (λ done. SimulatesThreads protocol shape input done old new)
-Runs protocol shape StateFields input ending old new = EndsAs Simulation ending (λ done. SimulatesView protocol shape (λ frames final. states_text shape frames) input done old new)
-Runs protocol shape (Counts grouping.Row) input ending old new = EndsAs Simulation ending (λ done. SimulatesView protocol shape (λ frames final. frames_counts_text protocol frames) input done old new)
-Runs protocol shape (Counts grouping.Core) input ending old new = EndsAs Simulation ending (λ done. SimulatesView protocol shape (counts_by_core shape) input done old new)
-Runs protocol shape (Counts (grouping.Block top)) input ending old new = EndsAs Simulation ending (λ done. SimulatesView protocol shape (counts_by_block shape top) input done old new)
+Runs protocol shape (Counts input grouping.Row) text ending old new = EndsAs Simulation ending (λ done. SimulatesView protocol shape input (λ frames final. frames_counts_text protocol frames) text done old new)
+Runs protocol shape (Counts input grouping.Core) text ending old new = EndsAs Simulation ending (λ done. SimulatesView protocol shape input (counts_by_core shape) text done old new)
+Runs protocol shape (Counts input (grouping.Block top)) text ending old new = EndsAs Simulation ending (λ done. SimulatesView protocol shape input (counts_by_block shape top) text done old new)
+Runs protocol shape (Counts input grouping.Word) text ending old new = EndsAs Simulation ending (λ done. SimulatesView protocol shape input (counts_by_word shape) text done old new)
+Runs protocol shape (Counts input (grouping.Steps every)) text ending old new = EndsAs Simulation ending (λ done. SimulatesView protocol shape input (counts_by_steps (non_zero_u64_get every)) text done old new)
 Runs protocol shape (Lint form most) input ending old new = EndsAs LintFailure ending (λ done. Lints form most protocol shape input done old new)
 
--- what each task leaves: the text of help, the table, or its engine's output
+-- what each task leaves: the text of help, the table by rows or as a matrix, or its engine's output
 abbrev pub Performs : Task → Option (List ℕ) → Result (Unit {0}) Failure → Option (List ℕ) → Option (List ℕ) → Type 0
 Performs (Help help) input ending old new = (text : List ℕ) × EndsAs Simulation ending (λ done. Writes text done old new)
-Performs (Table protocol which) input ending old new = EndsAs Simulation ending (λ done. Writes (table_text protocol which) done old new)
+Performs (Table protocol which layout) input ending old new = EndsAs Simulation ending (λ done. Writes (layout_text protocol which layout) done old new)
 Performs (Simulate protocol shape engine) input ending old new = Runs protocol shape engine input ending old new
-Performs (States protocol shape choice) input ending old new = EndsAs Simulation ending (λ done. SimulatesView protocol shape (states_table_text protocol shape choice) input done old new)
-Performs (Draw protocol shape charset choice) input ending old new = EndsAs Drawing ending (λ done. Draws protocol shape charset choice input done old new)
+Performs (States protocol shape input choice) text ending old new = EndsAs Simulation ending (λ done. SimulatesView protocol shape input (states_table_text protocol shape choice) text done old new)
+Performs (StateFields protocol shape input choice) text ending old new = EndsAs Simulation ending (λ done. SimulatesView protocol shape input (λ frames final. states_text shape choice frames) text done old new)
+Performs (Draw protocol shape input charset choice) text ending old new = EndsAs Drawing ending (λ done. Draws protocol shape input charset choice text done old new)
 
 -- the task that the words ask for was performed; or nothing was begun for them, and nothing written
 abbrev pub Leaves : List Text → Option (List ℕ) → Result (Unit {0}) Failure → Option (List ℕ) → Option (List ℕ) → Type 0

@@ -6,10 +6,9 @@ ghost use Rattle.snoop_sim.specs.Status.{status_of, status_of_fault};
 
 use crate::fault::ThreadsFault;
 use clap::error::ErrorKind;
-use snoop_draw::{ChoiceFault, DrawFault};
-use snoop_engine::SimFault;
+use snoop_draw::{ChoiceFault as DrawnFault, DrawFault};
+use snoop_engine::{ChoiceFault, SimFault};
 use snoop_lint::LintFault;
-use snoop_states::ChoiceFault as ShownFault;
 use snoop_trace::{ShapeFault, TextFault};
 use std::alloc::AllocError;
 use std::io;
@@ -27,12 +26,18 @@ pub(crate) enum Failure {
     NotUtf8,
     #[error(transparent)]
     Shape(ShapeFault),
-    /// A block or steps are chosen for `--as csv`.
-    #[error("BadChoice")]
-    BadChoice,
+    /// `--serial` is given without `--of rows`.
+    #[error("BadSerial")]
+    BadSerial,
     /// The block or the steps that are to be shown are refused.
     #[error(transparent)]
-    Unshown(ShownFault),
+    Unchosen(ChoiceFault),
+    /// Neither of `--by` and `--every` is given, or both.
+    #[error("BadBy")]
+    BadBy,
+    /// `--every` is 0.
+    #[error("BadEvery")]
+    BadEvery,
     /// `--top` is given without `--by block`.
     #[error("BadTop")]
     BadTop,
@@ -46,7 +51,7 @@ pub(crate) enum Failure {
     Drawing(DrawFault),
     /// The block or the steps that are to be drawn are refused.
     #[error(transparent)]
-    Unchosen(ChoiceFault),
+    Undrawn(DrawnFault),
 }
 
 impl From<ShapeFault> for Failure {
@@ -71,14 +76,14 @@ impl From<ChoiceFault> for Failure {
     }
 }
 
-impl From<ShownFault> for Failure {
+impl From<DrawnFault> for Failure {
     ghost use Rattle.std.specs.Prelude.{◌≡◌};
     ghost use Rattle.snoop_sim.specs.declared.failure.Failure.TheVariants as failure;
 
-    ghost from_gives = { λ e r. r ≡ failure.Unshown e };
+    ghost from_gives = { λ e r. r ≡ failure.Undrawn e };
 
-    fn from(fault: ShownFault) -> Self {
-        Failure::Unshown(fault)
+    fn from(fault: DrawnFault) -> Self {
+        Failure::Undrawn(fault)
     }
 }
 
@@ -136,9 +141,11 @@ impl Failure {
             | Failure::NotUtf8
             | Failure::Shape(_)
             | Failure::Unchosen(_)
+            | Failure::BadBy
             | Failure::BadTop
-            | Failure::BadChoice
-            | Failure::Unshown(_)
+            | Failure::BadEvery
+            | Failure::BadSerial
+            | Failure::Undrawn(_)
             | Failure::Drawing(DrawFault::TooLarge) => 2,
             Failure::Simulation(fault) | Failure::Drawing(DrawFault::Simulation(fault)) => {
                 status_of_fault(*fault)

@@ -16,6 +16,11 @@ macro_rules! help {
 Numbers are decimal, or hexadecimal after 0x. An address is in bytes. A block has
 --words values, each of an equal part of its bytes (of 8 or more, if there are several)."] $($rest)*)
     };
+    (@ [$($text:literal)*] rows $($rest:tt)*) => {
+        help!(@ [$($text)* "
+A text without O and R is for --of rows: its steps are those that `snoop run` takes, and
+with --serial those that `snoop run --serial` takes."] $($rest)*)
+    };
     (@ [$($text:literal)*] replies $($rest:tt)*) => {
         help!(@ [$($text)* "
 
@@ -80,7 +85,7 @@ Exit statuses:
   1  the text was refused, or could not be read (Read); nothing was written
   2  the command line was refused, or the shape (BadCores, BadBlocks, BadBytes,
      BadWords: outside the limits of its options), or what is to be shown (BadBlock,
-     BadRange, BadChoice, BadTop, TooLarge); nothing was written
+     BadRange, BadSerial, BadBy, BadTop, BadEvery, TooLarge); nothing was written
   3  out of memory; the output may be cut short
   4  a write failed; the output may be cut short
   5  the threads of `snoop threads` were refused; nothing was written
@@ -152,6 +157,7 @@ pub(crate) static STATES: &str = help!(
   O,core                the bus orders the core's oldest request
   R,address             the response for the block of the address comes"
     numbers
+    rows
     "
 Example: printf 'L,0,0\\nO,0\\nR,0\\n' | snoop states
 
@@ -159,12 +165,8 @@ Each block has a table: a row for each step of it, a column for each core that a
 it, the bus and memory, and the step's line. A dot stands for the cell above.
   SM_AD 0 #1       the state, the values kept, the request's place in the core's queue
   C1 GetM: Data 0  the open transaction, and the message under way
---block, --from and --to choose a block and steps. --as csv has all of them, a line for
-each controller that takes a row of its table (see `snoop table`):
-  step, record, reply    its number, its text, and the reply (see `snoop steps --help`)
-  block, controller      whose row it is: core 0, or memory
-  event, before, action, after    the row, with the state before and after
-  value, place           the values kept after it; the place in the queue, from 1"
+--as csv: a line for each controller that takes a row of its table (see `snoop table`),
+with the values that it keeps after it, and the request's place in the queue, from 1."
     faults "L, S, E, O or R" "L and E take 2 numbers, S 3, O and R 1"
     heading
     more
@@ -177,18 +179,18 @@ pub(crate) static COUNTS: &str = help!(
   O,core                the bus orders the core's oldest request
   R,address             the response for the block of the address comes"
     numbers
+    rows
     "
 Example: printf 'L,0,0\\nO,0\\nR,0\\n' | snoop counts --by row
 
 The first line of output names the fields. --by row: each row of the cache table and of
-the memory table has a line (see `snoop table`):
-  controller                    cache or memory
-  state, event, action, next    the row
-  count                         how often it was taken, by all cores together; 0 if never
-A stall counts too; a core in I at another core's request is left out.
+the memory table has a line (see `snoop table`), with how often it was taken, by all
+cores together. A stall counts too; a core in I at another core's request is left out.
 --by core, --by block: each core or block that the text names has a line: the counts of
 the report, then sums of rows of the tables, then its refused steps (docs/TEXTS.md).
---top N: the N blocks of most ordered requests alone, most first."
+--top N: the N blocks of most ordered requests alone, most first.
+--by word: each word of each block that several cores use has a line.
+--every N, in place of --by: a line for steps 1 to N, one for the next N, and so on."
     faults "L, S, E, O or R" "L and E take 2 numbers, S 3, O and R 1"
     heading
     more
@@ -216,6 +218,7 @@ pub(crate) static DRAW: &str = help!(
   O,core                the bus orders the core's oldest request
   R,address             the response for the block of the address comes"
     numbers
+    rows
     "
 Example: printf 'L,0,0\\nO,0\\nR,0\\n' | snoop draw
 
@@ -230,9 +233,11 @@ TooLarge: choose a block, or fewer steps."
 );
 
 pub(crate) static TABLE: &str = "\
-No input is read. Each line of output is a cell of the table: state, event, action
+No input is read. Each line of output is a row of the table: state, event, action
 and next state, with commas between.
-Example: snoop table --protocol mesi --which memory
+--as matrix: a line for each state, with a field for each event: action/next, or
+nothing where the state never meets the event. The first line names the events.
+Example: snoop table --protocol mesi --which memory --as matrix
 
 Exit statuses: snoop --help
 More in docs/PROTOCOL.md.";

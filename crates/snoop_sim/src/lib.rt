@@ -12,6 +12,7 @@ mod threads;
 pub use fault::ThreadsFault;
 pub use program::{command, refuse_words};
 pub use snoop_engine::{
-    SimFault, simulate_counts, simulate_run, simulate_serial, simulate_states, simulate_steps,
+    Choice, Input, SimFault, simulate_counts, simulate_run, simulate_serial, simulate_states,
+    simulate_steps,
 };
 pub use threads::simulate_threads;

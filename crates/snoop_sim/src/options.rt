@@ -2,28 +2,32 @@
 ghost use Rattle.std.specs.Prelude.{◌≡◌, ◌≢◌, ◌^◌, [], IfErr, IfOk, Ok, codes, false, map, string_bytes, true};
 ghost use Rattle.clap.specs.Words.{app_of, found_of, one_of, rows_of, rule_of, subcommand_rows_of};
 ghost use Rattle.snoop_sim.specs.Asked.{Asks, HasNoEngine, HasNoTask, HasTask, IsTaskOf, Refuses};
-ghost use Rattle.snoop_sim.specs.CommandLine.{IsCounts, IsDraw, IsForms, IsGroupings, IsKinds, IsLint, IsLocal, IsProtocols, IsRun, IsSimulation, IsSnoop, IsStates, IsSteps, IsTable, IsThreads, Names, choice_rules, flag_rule, form_rule, grouping_rule, kind_rule, number_rule, optional_rule, protocol_rule, top_app, with_rules};
-ghost use Rattle.snoop_sim.specs.Options.{ChoosesAll, ChoosesSome, IsChoiceOf, IsGroupingOf, IsNumberOf, IsReadAs, IsShapeOf, IsShownOf, MisplacesTop, asks_serial, charset_named, kind_named, protocol_named, says, which_named};
+ghost use Rattle.snoop_sim.specs.CommandLine.{IsCounts, IsDraw, IsForms, IsGroupings, IsKinds, IsLayouts, IsLint, IsLocal, IsProtocols, IsRun, IsSimulation, IsSnoop, IsStates, IsSteps, IsTable, IsThreads, IsView, Names, choice_rules, flag_rule, form_rule, grouping_rule, kind_rule, layout_rule, number_rule, optional_rule, protocol_rule, top_app, with_rules};
+ghost use Rattle.snoop_sim.specs.Options.{IsChoiceOf, HasNoGrouping, HasNoNamed, HasNoSteps, IsDrawnOf, IsGroupingOf, IsInputOf, IsNamed, IsSteps as IsStepsOf, names_grouping, IsNumberOf, IsReadAs, IsShapeOf, MisplacesSerial, asks_serial, charset_named, kind_named, layout_named, protocol_named, says, which_named};
 
 use crate::failure::Failure;
 use crate::help;
 use clap::builder::ValueParser;
 use clap::{Arg, ArgAction, ArgMatches, Command, Error, value_parser};
-use snoop_draw::{Charset, Choice, ChoiceFault};
+use snoop_draw::{Charset, Choice as Drawn, ChoiceFault as DrawnFault};
+use snoop_engine::{Choice, ChoiceFault, Input};
 use snoop_lint::Form;
 use snoop_rules::{Protocol, Which};
-use snoop_states::{Choice as Shown, ChoiceFault as ShownFault};
 use snoop_trace::{Shape, ShapeFault};
 use std::alloc::{AllocError, Global};
+use std::num::NonZeroU64;
 
 /// What the command line asks for.
 #[derive(Debug, Drop)]
 pub(crate) enum Task {
     Help(Error),
-    Table(Protocol, Which),
+    Table(Protocol, Which, Layout),
     Simulate(Protocol, Shape, Engine),
-    States(Protocol, Shape, Shown),
-    Draw(Protocol, Shape, Charset, Choice),
+    /// Its states, in tables.
+    States(Protocol, Shape, Input, Choice),
+    /// Its states, in fields.
+    StateFields(Protocol, Shape, Input, Choice),
+    Draw(Protocol, Shape, Input, Charset, Drawn),
 }
 
 /// What is done with a text.
@@ -33,11 +37,18 @@ pub(crate) enum Engine {
     Run,
     Serial,
     Threads,
-    /// The states of all steps, in fields.
-    StateFields,
-    Counts(Grouping),
+    Counts(Input, Grouping),
     /// So many faulty records are named at most.
     Lint(Form, u64),
+}
+
+/// How a table is written.
+#[derive(Clone, Copy, Debug, PartialEq, Eq)]
+pub(crate) enum Layout {
+    /// A line for each of its rows.
+    Rows,
+    /// A line for each state, a column for each event.
+    Matrix,
 }
 
 /// What each line of counts is of.
@@ -47,6 +58,10 @@ pub(crate) enum Grouping {
     Core,
     /// All blocks, or so many, those of most requests first.
     Block(Option<u32>),
+    /// Each word of each shared block.
+    Word,
+    /// So many steps.
+    Steps(NonZeroU64),
 }
 
 static PROTOCOLS: [&str; 2] = ["msi", "mesi"];
@@ -57,9 +72,11 @@ static DRAWINGS: [&str; 1] = ["text"];
 
 static FORMS: [&str; 2] = ["text", "csv"];
 
-static GROUPINGS: [&str; 3] = ["row", "core", "block"];
+static GROUPINGS: [&str; 4] = ["row", "core", "block", "word"];
 
 static TABLES: [&str; 2] = ["cache", "memory"];
+
+static LAYOUTS: [&str; 2] = ["rows", "matrix"];
 
 /// The task that the words ask for; the first of them is the program's own name.
 pub(crate) fn task_in(alloc: Global, words: &[String]) -> Result<Task, Failure>
@@ -78,7 +95,11 @@ fn task_of(matches: &ArgMatches) -> Result<Task, Failure>
     ensures err { IfErr result (HasNoTask (subcommand_rows_of matches.now)) }
 {
     match matches.subcommand() {
-        Some(("table", options)) => Ok(Task::Table(protocol_in(options), which_in(options))),
+        Some(("table", options)) => Ok(Task::Table(
+            protocol_in(options),
+            which_in(options),
+            layout_in(options),
+        )),
         Some((name, options)) => simulation_of(name, options),
         None => Err(Failure::NoCommand),
     }
@@ -106,24 +127,28 @@ fn task_on(name: &str, options: &ArgMatches, shape: Shape) -> Result<Task, Failu
         "run" if is_serial(options) => Ok(Task::Simulate(protocol, shape, Engine::Serial)),
         "run" => Ok(Task::Simulate(protocol, shape, Engine::Run)),
         "threads" => Ok(Task::Simulate(protocol, shape, Engine::Threads)),
-        "states" if !says(options, "as", "csv") => {
-            Ok(Task::States(protocol, shape, shown_in(options, shape)?))
+        "states" => {
+            let input = input_in(options)?;
+            let choice = choice_in(options, shape)?;
+            if says(options, "as", "csv") {
+                Ok(Task::StateFields(protocol, shape, input, choice))
+            } else {
+                Ok(Task::States(protocol, shape, input, choice))
+            }
         }
-        "states" if chooses_all(options) => {
-            Ok(Task::Simulate(protocol, shape, Engine::StateFields))
-        }
-        "states" => Err(Failure::BadChoice),
         "counts" => {
+            let input = input_in(options)?;
             let grouping = grouping_in(options)?;
-            Ok(Task::Simulate(protocol, shape, Engine::Counts(grouping)))
+            Ok(Task::Simulate(protocol, shape, Engine::Counts(input, grouping)))
         }
         "lint" => {
             let most = long_in(options, "most").unwrap_or(0);
             Ok(Task::Simulate(protocol, shape, Engine::Lint(kind_in(options), most)))
         }
         "draw" => {
-            let choice = choice_in(options, shape)?;
-            Ok(Task::Draw(protocol, shape, charset_in(options), choice))
+            let input = input_in(options)?;
+            let choice = drawn_in(options, shape)?;
+            Ok(Task::Draw(protocol, shape, input, charset_in(options), choice))
         }
         _ => Err(Failure::NoCommand),
     }
@@ -199,10 +224,10 @@ fn threads<'a>(alloc: Global) -> Result<Command<'a>, AllocError>
 fn states<'a>(alloc: Global) -> Result<Command<'a>, AllocError>
     ensures { IfOk result (λ command. IsLocal command × IsStates (app_of command)) }
 {
-    let plain = simulation(
+    let plain = view(
         alloc,
         "states",
-        "Read steps; write the states that each block goes through",
+        "Read steps or rows; write the states that each block goes through",
         help::STATES,
     )?;
     choosing(alloc, plain.arg(forms(alloc, FORMS.as_slice()))?)
@@ -211,10 +236,10 @@ fn states<'a>(alloc: Global) -> Result<Command<'a>, AllocError>
 fn counts<'a>(alloc: Global) -> Result<Command<'a>, AllocError>
     ensures { IfOk result (λ command. IsLocal command × IsCounts (app_of command)) }
 {
-    simulation(
+    view(
         alloc,
         "counts",
-        "Read steps; write counts by row of the tables, by core or by block",
+        "Read steps or rows; write counts by row of the tables, core, block, word or steps",
         help::COUNTS,
     )?
     .arg(groupings(alloc))?
@@ -223,6 +248,12 @@ fn counts<'a>(alloc: Global) -> Result<Command<'a>, AllocError>
         "top",
         value_parser!(u32),
         "By block: so many blocks alone, those of most requests first",
+    ))?
+    .arg(optional(
+        alloc,
+        "every",
+        value_parser!(u64),
+        "In place of --by: a line for each so many steps",
     ))
 }
 
@@ -248,10 +279,10 @@ fn lint<'a>(alloc: Global) -> Result<Command<'a>, AllocError>
 fn draw<'a>(alloc: Global) -> Result<Command<'a>, AllocError>
     ensures { IfOk result (λ command. IsLocal command × IsDraw (app_of command)) }
 {
-    let plain = simulation(
+    let plain = view(
         alloc,
         "draw",
-        "Read steps; draw what happens to each block",
+        "Read steps or rows; draw what happens to each block",
         help::DRAW,
     )?;
     let ascii = flag(alloc, "ascii", "Draw with ASCII characters alone");
@@ -280,6 +311,24 @@ fn choosing<'a>(alloc: Global, command: Command<'a>) -> Result<Command<'a>, Allo
             "to",
             value_parser!(u64),
             "Show steps up to this number",
+        ))
+}
+
+/// A command that shows a run of steps or of rows; the help says what it shows.
+fn view<'a>(
+    alloc: Global,
+    name: &'a str,
+    about: &'a str,
+    help: &'a str,
+) -> Result<Command<'a>, AllocError>
+    ensures { IfOk result (λ command. IsLocal command × IsView name.entry.now [] (app_of command)) }
+{
+    simulation(alloc, name, about, help)?
+        .arg(kinds(alloc))?
+        .arg(flag(
+            alloc,
+            "serial",
+            "Of rows: do each line whole before the next, in the order of the text",
         ))
 }
 
@@ -329,7 +378,8 @@ fn table<'a>(alloc: Global) -> Result<Command<'a>, AllocError>
         .about("Write a controller's table: state, event, action and next state")
         .after_help(help::TABLE)
         .arg(protocol(alloc))?
-        .arg(which)
+        .arg(which)?
+        .arg(layouts(alloc))
 }
 
 fn protocol<'a>(alloc: Global) -> Arg<'a>
@@ -359,7 +409,6 @@ fn groupings<'a>(alloc: Global) -> Arg<'a>
         .long("by")
         .help("What each line counts")
         .value_parser(ValueParser::Names(GROUPINGS.as_slice()))
-        .required(true)
 }
 
 /// The form of the output, a text if it is not given.
@@ -381,6 +430,17 @@ fn kinds<'a>(alloc: Global) -> Arg<'a>
         .help("The kind of text")
         .value_parser(ValueParser::Names(KINDS.as_slice()))
         .default_value("steps")
+}
+
+/// How a table is written, by rows if it is not given.
+fn layouts<'a>(alloc: Global) -> Arg<'a>
+    ensures { (result.global ≡ false) × ((layouts : Names) × IsLayouts layouts × (rule_of result ≡ layout_rule layouts)) }
+{
+    Arg::new(alloc, "as")
+        .long("as")
+        .help("A line for each row, or for each state with a field for each event")
+        .value_parser(ValueParser::Names(LAYOUTS.as_slice()))
+        .default_value("rows")
 }
 
 /// An option that may be left out.
@@ -431,30 +491,27 @@ fn which_in(options: &ArgMatches) -> Which
     }
 }
 
-/// The block and the steps that are shown.
-fn shown_in(options: &ArgMatches, shape: Shape) -> Result<Shown, ShownFault>
-    ensures { IsShownOf shape (rows_of (found_of options.now)) result }
+/// How the table is written.
+fn layout_in(options: &ArgMatches) -> Layout
+    ensures { result ≡ layout_named (rows_of (found_of options.now)) }
 {
-    Shown::new(
+    if says(options, "as", "matrix") {
+        Layout::Matrix
+    } else {
+        Layout::Rows
+    }
+}
+
+/// The block and the steps that are drawn.
+fn drawn_in(options: &ArgMatches, shape: Shape) -> Result<Drawn, DrawnFault>
+    ensures { IsDrawnOf shape (rows_of (found_of options.now)) result }
+{
+    Drawn::new(
         shape,
         short_in(options, "block"),
         long_in(options, "from").unwrap_or(0),
         long_in(options, "to").unwrap_or(u64::MAX),
     )
-}
-
-/// Whether each block and each step is chosen.
-fn chooses_all(options: &ArgMatches) -> bool
-    ensures all { result ≡ true → ChoosesAll (rows_of (found_of options.now)) }
-    ensures some { result ≡ false → ChoosesSome (rows_of (found_of options.now)) }
-{
-    if short_in(options, "block").is_some() {
-        return false;
-    }
-    match long_in(options, "from") {
-        Some(1) => long_in(options, "to").is_none(),
-        _ => false,
-    }
 }
 
 /// The characters that were named.
@@ -468,10 +525,29 @@ fn charset_in(options: &ArgMatches) -> Charset
     }
 }
 
-/// What the lines of counts are of; `--top` is for blocks alone.
+/// What the lines of counts are of, as one of `--by` and `--every` says.
 fn grouping_in(options: &ArgMatches) -> Result<Grouping, Failure>
     ensures ok { IfOk result (IsGroupingOf (rows_of (found_of options.now))) }
-    ensures err { IfErr result (λ failure. (failure ≡ Failure.BadTop) × MisplacesTop (rows_of (found_of options.now))) }
+    ensures err { IfErr result (HasNoGrouping (rows_of (found_of options.now))) }
+{
+    match (has_grouping(options), long_in(options, "every")) {
+        (true, None) => named_in(options),
+        (false, Some(every)) => steps_in(options, every),
+        _ => Err(Failure::BadBy),
+    }
+}
+
+/// Whether `--by` is given.
+fn has_grouping(options: &ArgMatches) -> bool
+    ensures { result ≡ names_grouping (rows_of (found_of options.now)) }
+{
+    options.get_str("by").is_some()
+}
+
+/// What `--by` says; `--top` is for blocks alone.
+fn named_in(options: &ArgMatches) -> Result<Grouping, Failure>
+    ensures ok { IfOk result (IsNamed (rows_of (found_of options.now))) }
+    ensures err { IfErr result (HasNoNamed (rows_of (found_of options.now))) }
 {
     let top = short_in(options, "top");
     if says(options, "by", "block") {
@@ -480,8 +556,24 @@ fn grouping_in(options: &ArgMatches) -> Result<Grouping, Failure>
         Err(Failure::BadTop)
     } else if says(options, "by", "core") {
         Ok(Grouping::Core)
+    } else if says(options, "by", "word") {
+        Ok(Grouping::Word)
     } else {
         Ok(Grouping::Row)
+    }
+}
+
+/// The number of steps that `--every` says.
+fn steps_in(options: &ArgMatches, every: u64) -> Result<Grouping, Failure>
+    ensures ok { IfOk result (IsStepsOf every (rows_of (found_of options.now))) }
+    ensures err { IfErr result (HasNoSteps every (rows_of (found_of options.now))) }
+{
+    if short_in(options, "top").is_some() {
+        return Err(Failure::BadTop);
+    }
+    match NonZeroU64::new(every) {
+        Some(every) => Ok(Grouping::Steps(every)),
+        None => Err(Failure::BadEvery),
     }
 }
 
@@ -493,6 +585,19 @@ fn kind_in(options: &ArgMatches) -> Form
         Form::Rows
     } else {
         Form::Steps
+    }
+}
+
+/// What the text is of; `--serial` is for rows alone.
+fn input_in(options: &ArgMatches) -> Result<Input, Failure>
+    ensures ok { IfOk result (IsInputOf (rows_of (found_of options.now))) }
+    ensures err { IfErr result (λ failure. (failure ≡ Failure.BadSerial) × MisplacesSerial (rows_of (found_of options.now))) }
+{
+    match (kind_in(options), is_serial(options)) {
+        (Form::Steps, false) => Ok(Input::Steps),
+        (Form::Steps, true) => Err(Failure::BadSerial),
+        (Form::Rows, false) => Ok(Input::Rows),
+        (Form::Rows, true) => Ok(Input::SerialRows),
     }
 }
 

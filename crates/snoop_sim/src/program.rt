@@ -1,24 +1,28 @@
 //! What the program does with its words and streams, and the status that it ends with.
-ghost use Rattle.std.specs.Prelude.{◌≡◌, ◌≢◌, ◌<◌, ℕ, List, map, string_bytes, false, true, Some, Err, IfErr};
+ghost use Rattle.std.specs.Prelude.{◌≡◌, ◌≢◌, ◌<◌, ℕ, List, map, string_bytes, false, true, Some, Err, IfErr, OnErr, OnOk};
 ghost use Rattle.std.specs.IoError.{error_kind};
-ghost use Rattle.snoop_trace.specs.Output.{BlamesWriter};
+ghost use Rattle.std.specs.Io.KnownBytes.{Appends};
+ghost use Rattle.snoop_trace.specs.Output.{AppendsFront, BlamesWriter};
 ghost use Rattle.snoop_trace.specs.Text.{BlamesReader};
 ghost use Rattle.snoop_sim.specs.Status.{status_of};
-ghost use Rattle.snoop_sim.specs.Performed.{Ends, IsFailedRead, Leaves, Performs, Runs, Writes, status_of_ending};
+ghost use Rattle.snoop_sim.specs.Performed.{Ends, IsFailedRead, Leaves, Performs, Runs, Writes, layout_text, status_of_ending};
 
 use crate::failure::Failure;
-use crate::options::{Engine, Grouping, Task, task_in};
+use crate::options::{Engine, Grouping, Layout, Task, task_in};
 use crate::threads::simulate_threads;
-use snoop_counts::{simulate_counts_by_block, simulate_counts_by_core};
+use snoop_counts::{
+    simulate_counts_by_block, simulate_counts_by_core, simulate_counts_by_steps,
+    simulate_counts_by_word,
+};
 use snoop_draw::simulate_drawing;
 use snoop_engine::{
     SimFault, simulate_counts, simulate_run, simulate_serial, simulate_states, simulate_steps,
 };
 use snoop_lint::lint_text;
-use snoop_rules::{Protocol, write_table};
+use snoop_rules::{Protocol, Which, write_matrix, write_table};
 use snoop_states::simulate_states_table;
-use snoop_trace::Shape;
 use snoop_trace::streams::{Sink, Source, write_whole};
+use snoop_trace::{Shape, WriteFault};
 use std::alloc::Global;
 use std::io;
 use std::io::{ErrorKind, Write};
@@ -105,22 +109,50 @@ fn perform_task<T: Threads + Wait + Sync, R: Source, W: Sink>(
 {
     match task {
         Task::Help(help) => write_help(alloc, writer, &help).map_err(Failure::Simulation),
-        Task::Table(protocol, which) => write_table(alloc, writer, protocol, which)
-            .map_err(SimFault::from)
-            .map_err(Failure::Simulation),
+        Task::Table(protocol, which, layout) => {
+            write_layout(alloc, writer, protocol, which, layout)
+                .map_err(SimFault::from)
+                .map_err(Failure::Simulation)
+        }
         Task::Simulate(protocol, shape, engine) => {
             simulate(rt, alloc, reader, writer, protocol, shape, engine)
         }
-        Task::States(protocol, shape, choice) => {
-            simulate_states_table(alloc, reader, writer, protocol, shape, choice).map_err(
+        Task::States(protocol, shape, input, choice) => {
+            simulate_states_table(alloc, reader, writer, protocol, shape, input, choice).map_err(
                 Failure::Simulation,
             )
         }
-        Task::Draw(protocol, shape, charset, choice) => {
-            simulate_drawing(alloc, reader, writer, protocol, shape, charset, choice).map_err(
-                Failure::Drawing,
+        Task::StateFields(protocol, shape, input, choice) => {
+            simulate_states(alloc, reader, writer, protocol, shape, input, choice).map_err(
+                Failure::Simulation,
             )
         }
+        Task::Draw(protocol, shape, input, charset, choice) => {
+            simulate_drawing(
+                alloc, reader, writer, protocol, shape, input, charset, choice,
+            )
+            .map_err(Failure::Drawing)
+        }
+    }
+}
+
+/// Writes a table by rows or as a matrix.
+fn write_layout<W: Sink>(
+    alloc: Global,
+    writer: &mut W,
+    protocol: Protocol,
+    which: Which,
+    layout: Layout,
+) -> Result<(), WriteFault>
+    ensures ok { OnOk result (Appends (W.contents writer.old) (W.contents writer.new) (layout_text protocol which layout)) }
+    ensures front { OnErr result (AppendsFront (W.contents writer.old) (W.contents writer.new) (layout_text protocol which layout)) }
+    ensures no_memory { result ≡ Err WriteFault.NoMemory → W.contents writer.new ≡ W.contents writer.old }
+    ensures never_blamed { W.never_fails ≡ true → result ≢ Err WriteFault.Write }
+    ensures blamed { BlamesWriter (W.failed writer.old) (W.failed writer.new) (result ≡ Err WriteFault.Write) }
+{
+    match layout {
+        Layout::Rows => write_table(alloc, writer, protocol, which),
+        Layout::Matrix => write_matrix(alloc, writer, protocol, which),
     }
 }
 
@@ -155,19 +187,28 @@ fn simulate<T: Threads + Wait + Sync, R: Source, W: Sink>(
         Engine::Threads => {
             simulate_threads(rt, alloc, reader, writer, protocol, shape).map_err(Failure::Threads)
         }
-        Engine::StateFields => {
-            simulate_states(alloc, reader, writer, protocol, shape).map_err(Failure::Simulation)
-        }
-        Engine::Counts(Grouping::Row) => {
-            simulate_counts(alloc, reader, writer, protocol, shape).map_err(Failure::Simulation)
-        }
-        Engine::Counts(Grouping::Core) => {
-            simulate_counts_by_core(alloc, reader, writer, protocol, shape).map_err(
+        Engine::Counts(input, Grouping::Row) => {
+            simulate_counts(alloc, reader, writer, protocol, shape, input).map_err(
                 Failure::Simulation,
             )
         }
-        Engine::Counts(Grouping::Block(top)) => {
-            simulate_counts_by_block(alloc, reader, writer, protocol, shape, top).map_err(
+        Engine::Counts(input, Grouping::Core) => {
+            simulate_counts_by_core(alloc, reader, writer, protocol, shape, input).map_err(
+                Failure::Simulation,
+            )
+        }
+        Engine::Counts(input, Grouping::Block(top)) => {
+            simulate_counts_by_block(alloc, reader, writer, protocol, shape, input, top).map_err(
+                Failure::Simulation,
+            )
+        }
+        Engine::Counts(input, Grouping::Word) => {
+            simulate_counts_by_word(alloc, reader, writer, protocol, shape, input).map_err(
+                Failure::Simulation,
+            )
+        }
+        Engine::Counts(input, Grouping::Steps(every)) => {
+            simulate_counts_by_steps(alloc, reader, writer, protocol, shape, input, every).map_err(
                 Failure::Simulation,
             )
         }

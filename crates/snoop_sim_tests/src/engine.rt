@@ -2,8 +2,8 @@
 
 use snoop_rules::Protocol;
 use snoop_sim::{
-    SimFault, ThreadsFault, simulate_run, simulate_serial, simulate_states, simulate_steps,
-    simulate_threads,
+    Choice, Input, SimFault, ThreadsFault, simulate_run, simulate_serial, simulate_states,
+    simulate_steps, simulate_threads,
 };
 use snoop_trace::streams::{Sink, Source};
 use snoop_trace::{Shape, TextFault, WriteFault};
@@ -140,7 +140,15 @@ impl Engine {
             Engine::Steps => steps_ended(simulate_steps(alloc, reader, writer, protocol, shape)),
             Engine::Run => steps_ended(simulate_run(alloc, reader, writer, protocol, shape)),
             Engine::Serial => steps_ended(simulate_serial(alloc, reader, writer, protocol, shape)),
-            Engine::States => steps_ended(simulate_states(alloc, reader, writer, protocol, shape)),
+            Engine::States => steps_ended(simulate_states(
+                alloc,
+                reader,
+                writer,
+                protocol,
+                shape,
+                Input::Steps,
+                Choice::new(shape, None, 1, u64::MAX)?,
+            )),
             Engine::Threads => threads_ended(simulate_threads(
                 rt, alloc, reader, writer, protocol, shape,
             )),

@@ -67,10 +67,10 @@ static REFUSALS: [Refusal; 19] = [
     ("snoop run --words 16", b"", 2, b"snoop: BadWords\n"),
     ("snoop threads --words 128", b"", 2, b"snoop: BadWords\n"),
     (
-        "snoop states --as csv --block 0",
+        "snoop states --as csv --serial",
         b"X\n",
         2,
-        b"snoop: BadChoice\n",
+        b"snoop: BadSerial\n",
     ),
     ("snoop draw --block 4", b"", 2, b"snoop: BadBlock\n"),
     (
@@ -94,11 +94,51 @@ M_D,Data,write,IorS
 M_D,NoData,none,M
 ";
 
+/// The same as a matrix.
+const MSI_MEMORY_MATRIX: &[u8] = b"state,GetS,GetM,PutM,Data,NoData
+IorS,send Data/IorS,send Data/M,none/IorS_D,,
+M,none/IorS_D,none/M,none/M_D,,
+IorS_D,,,,write/IorS,none/IorS
+M_D,,,,write/IorS,none/M
+";
+
+/// The states of a load of core 0.
+const STATES: &[u8] = b"step,record,reply,block,controller,event,before,action,after,value,place
+1,\"L,0,0\",issued GetS,0,core 0,Load,I,issue GetS,IS_AD,,1
+2,\"O,0\",ordered GetS,0,core 0,OwnGetS,IS_AD,none,IS_D,,
+2,\"O,0\",ordered GetS,0,memory,GetS,IorS,send Data,IorS,0,
+3,\"R,0\",\"Data from memory, load 0\",0,core 0,Data,IS_D,fill load,S,0,
+";
+
+/// Those of its second step.
+const SECOND_STEP: &[u8] =
+    b"step,record,reply,block,controller,event,before,action,after,value,place
+2,\"O,0\",ordered GetS,0,core 0,OwnGetS,IS_AD,none,IS_D,,
+2,\"O,0\",ordered GetS,0,memory,GetS,IorS,send Data,IorS,0,
+";
+
 /// A command line and its text, and what is written. Nothing is reported.
 type Answer = (&'static str, &'static [u8], &'static [u8]);
 
-static ANSWERS: [Answer; 2] = [
+static ANSWERS: [Answer; 7] = [
+    ("snoop states --as csv --of rows", b"L,0,0\n", STATES),
+    (
+        "snoop states --as csv --of rows --serial",
+        b"L,0,0\n",
+        STATES,
+    ),
+    (
+        "snoop states --as csv --block 0 --from 2 --to 2",
+        b"L,0,0\nO,0\nR,0\n",
+        SECOND_STEP,
+    ),
     ("snoop table --which memory --protocol MSI", b"", MSI_MEMORY),
+    ("snoop table --which memory --as rows", b"", MSI_MEMORY),
+    (
+        "snoop table --which memory --as matrix",
+        b"",
+        MSI_MEMORY_MATRIX,
+    ),
     (
         "snoop lint --of rows --most 0",
         b"L,0,0\n\nL,0,256\n",

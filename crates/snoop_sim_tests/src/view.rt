@@ -2,7 +2,7 @@
 ghost use Rattle.std.specs.Prelude.{[], ◌++◌, codes, ⊤};
 ghost use Rattle.snoop_engine.specs.Line.{outcome_text};
 
-use snoop_engine::{Seen, View, push_outcome, show_steps, simulate_view};
+use snoop_engine::{Input, Seen, View, push_outcome, show_steps, simulate_view};
 use snoop_machine::Machine;
 use snoop_rules::Protocol;
 use snoop_trace::streams::push_byte;
@@ -54,6 +54,7 @@ fn the_answers_to_a_text(rt: HostRuntime) -> Result<(), Fail> {
         &mut shown,
         Protocol::Msi,
         shape,
+        Input::Steps,
         &mut Answers,
     )?;
     assert!(rt; shown.as_slice() == ANSWERS.as_bytes());
