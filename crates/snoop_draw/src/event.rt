@@ -195,7 +195,7 @@ pub(crate) fn any_of_memory(lines: &[Taken], block: u32) -> bool
 }
 
 /// What a core in this state may do with the block: store, or at least load, where that is a hit.
-pub(crate) fn may(protocol: Protocol, state: CacheState) -> Mark
+pub fn may(protocol: Protocol, state: CacheState) -> Mark
     ensures { result ≡ may protocol state }
 {
     if may_store(protocol, state) {
@@ -207,8 +207,8 @@ pub(crate) fn may(protocol: Protocol, state: CacheState) -> Mark
     }
 }
 
-// What a core in this state waits for.
-fn awaits(state: CacheState) -> Mark
+/// What a core in this state waits for.
+pub fn awaits(state: CacheState) -> Mark
     ensures { result ≡ awaits state }
 {
     match state {

@@ -1,0 +1,4 @@
+//! Drawings of a run as SVG.
+#![tactic(auto)]
+
+mod elements;
