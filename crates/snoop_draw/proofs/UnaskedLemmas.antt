@@ -26,8 +26,8 @@ use Rattle.snoop_history.specs.declared.items.Item.{Item}
 use Rattle.snoop_bus.specs.Traffic.{Open}
 use Rattle.snoop_model.specs.Moves.Move.{ArrivesFor, AskMove, FillsRequestor, OrderMove, RespondMove, TakesRows}
 use Rattle.snoop_model.specs.Pictures.Lines.{Line}
-use Rattle.snoop_model.specs.Pictures.Picture.{held_at, nothing_held}
-use Rattle.snoop_model.specs.Pictures.Situation.{Situation, picture_of, reset, state_of}
+use Rattle.snoop_model.specs.Pictures.Picture.{Picture, held_at, held_by, nothing_held, with_line}
+use Rattle.snoop_model.specs.Pictures.Situation.{Situation, nothing_there, picture_of, reset, state_of, untouched}
 use Rattle.snoop_model.specs.Runs.Run.{GoesFirst}
 use Rattle.snoop_model.specs.declared.replies.Refused.{Refused}
 use Rattle.snoop_model.specs.declared.replies.Reply.{Reply}
@@ -83,21 +83,21 @@ led_to protocol held event row in_i stays found = ap next_of (sym found) ∙ ap 
 row_state : List Line → ℕ → CacheState
 row_state lines core = (held_at lines core).state
 
-written_row : (caches : List (List Line)) (block : ℕ) (row : List Line) (core : ℕ) → row_state row core ≡ I → row_state (get_or (set caches block row) block []) core ≡ I
+written_row : (pictures : List Picture) (block : ℕ) (picture : Picture) (core : ℕ) → row_state picture.caches core ≡ I → row_state (get_or (set pictures block picture) block nothing_there).caches core ≡ I
 unfolding row_state
-written_row caches block row core here = elim (cases_lt block (length caches)) [
-  | inl inside ↦ ap (λ (lines : List Line). row_state lines core) (get_or-set_same caches block row [] inside) ∙ here
-  | inr past ↦ ap (λ (lines : List Line). row_state lines core) (ap (λ (all : List (List Line)). get_or all block []) (set_past caches block row past) ∙ get_or_past caches block [] past)
+written_row pictures block picture core here = elim (cases_lt block (length pictures)) [
+  | inl inside ↦ ap (λ (p : Picture). row_state p.caches core) (get_or-set_same pictures block picture nothing_there inside) ∙ here
+  | inr past ↦ ap (λ (p : Picture). row_state p.caches core) (ap (λ (all : List Picture). get_or all block nothing_there) (set_past pictures block picture past) ∙ get_or_past pictures block nothing_there past)
 ]
 
--- the state of a block whose row was written, or of another
-after_write : (old new : Situation) (on block core : ℕ) (row : List Line) → new.caches ≡ set old.caches on row → state_of old core block ≡ I → (block ≡ on → row_state row core ≡ I) → state_of new core block ≡ I
+-- the state of a block whose picture was written, or of another
+after_write : (old new : Situation) (on block core : ℕ) (picture : Picture) → new.pictures ≡ set old.pictures on picture → state_of old core block ≡ I → (block ≡ on → row_state picture.caches core ≡ I) → state_of new core block ≡ I
 unfolding row_state
-after_write old new on block core row wrote before here = elim (cases_eq block on) [
+after_write old new on block core picture wrote before here = elim (cases_eq block on) [
   | inl same ↦
-      ap (λ (all : List (List Line)). (held_at (get_or all block []) core).state) wrote ∙ ap (λ (b : ℕ). (held_at (get_or (set old.caches on row) b []) core).state) same
-      ∙ written_row old.caches on row core (here same)
-  | inr apart ↦ ap (λ (all : List (List Line)). (held_at (get_or all block []) core).state) wrote ∙ ap (λ (lines : List Line). (held_at lines core).state) (get_or-set_other old.caches on block row [] apart) ∙ before
+      ap (λ (all : List Picture). (held_by (get_or all block nothing_there) core).state) wrote ∙ ap (λ (b : ℕ). (held_by (get_or (set old.pictures on picture) b nothing_there) core).state) same
+      ∙ written_row old.pictures on picture core (here same)
+  | inr apart ↦ ap (λ (all : List Picture). (held_by (get_or all block nothing_there) core).state) wrote ∙ ap (λ (p : Picture). (held_by p core).state) (get_or-set_other old.pictures on block picture nothing_there apart) ∙ before
 ]
 
 -- another core's line was written
@@ -157,20 +157,20 @@ asked_stays : (b : ℕ) (old : Situation) (asking on word : ℕ) (op : Op) (answ
 asked_stays b old asking on word op answer new entry block core move never before = elim move.moves [
   | inl absent ↦ ap (λ (s : Situation). state_of s core block) absent.3 ∙ before
   | inr taken ↦
-      after_write old new b block core (set (picture_of old b).caches asking taken.held) (ap (λ (s : Situation). s.caches) taken.after) before
+      after_write old new b block core (with_line (picture_of old b) asking taken.held) (ap (λ (s : Situation). s.pictures) taken.after) before
       (λ same. other_line (picture_of old b).caches asking core taken.held (λ also. not_both on asking block core never (move.on_block ∙ sym same) (sym also)) (here_in old block b core same before))
 ]
 
 ordered_stays : (b : ℕ) (old : Situation) (requestor : ℕ) (answer : Reply) (new : Situation) (entry : Option Item) (block core : ℕ)
     → OrderMove b old requestor answer new entry → state_of old core block ≡ I → state_of new core block ≡ I
 ordered_stays b old requestor answer new entry block core move before =
-    after_write old new b block core move.orders.next.caches (ap (λ (s : Situation). s.caches) move.orders.after) before
+    after_write old new b block core move.orders.next (ap (λ (s : Situation). s.pictures) move.orders.after) before
     (λ same. rows_taken old.protocol requestor move.request (picture_of old b).caches move.orders.next.caches core move.orders.taken (here_in old block b core same before))
 
 answered_stays : (b : ℕ) (old : Situation) (on : ℕ) (answer : Reply) (new : Situation) (entry : Option Item) (block core : ℕ)
     → RespondMove b old on answer new entry → state_of old core block ≡ I → state_of new core block ≡ I
 answered_stays b old on answer new entry block core move before =
-    after_write old new b block core move.responds.next.caches (ap (λ (s : Situation). s.caches) move.responds.after) before
+    after_write old new b block core move.responds.next (ap (λ (s : Situation). s.pictures) move.responds.after) before
     (λ same. arrived move.closing.request move.closing old.protocol old.log (picture_of old b).caches move.responds.next.caches move.did core move.responds.requestor (here_in old block b core same before))
 
 -- one step that is no Ask of this core for this block
@@ -198,10 +198,10 @@ replicated n core = elim (cases_lt core n) [
 at_reset : (protocol : Protocol) (shape : Extent) (block core : ℕ) → state_of (reset protocol shape) core block ≡ I
 unfolding row_state
 at_reset protocol shape block core =
-    let rows : List (List Line) = replicate shape.blocks (replicate shape.cores nothing_held) in
+    let first : Picture = untouched protocol shape.cores in
     elim (cases_lt block shape.blocks) [
-      | inl inside ↦ ap (λ (lines : List Line). row_state lines core) (get_or-replicate shape.blocks block (replicate shape.cores nothing_held) [] inside) ∙ replicated shape.cores core
-      | inr past ↦ ap (λ (lines : List Line). row_state lines core) (get_or_past rows block [] (omega (arith, length-replicate shape.blocks (replicate shape.cores nothing_held))))
+      | inl inside ↦ ap (λ (p : Picture). row_state p.caches core) (get_or-replicate shape.blocks block first nothing_there inside) ∙ replicated shape.cores core
+      | inr past ↦ ap (λ (p : Picture). row_state p.caches core) (get_or_past (replicate shape.blocks first) block nothing_there (omega (arith, length-replicate shape.blocks first)))
     ]
 
 -- a core that asks for a block in no step is in I throughout

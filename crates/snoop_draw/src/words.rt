@@ -3,14 +3,13 @@
 ghost use Rattle.std.specs.Prelude.{◌≡◌, ◌≤◌, ◌++◌, IfOk, OnOk};
 ghost use Rattle.std.specs.Fmt.{decimal};
 ghost use Rattle.snoop_rules.specs.Names.{memory_state_name};
-ghost use Rattle.snoop_rules.specs.Takers.{carries_value};
 ghost use Rattle.snoop_engine.specs.States.{kept_at, memory_text, memory_value_at, value_text};
 ghost use Rattle.snoop_engine.specs.Taken.{memory_at, state_at};
 ghost use Rattle.snoop_draw.specs.Words.{answers, bus_words, carried_words, core_words, data_words, kept_words, memory_state_words, memory_words, message_words, place_words, spaced, state_words};
 
 use snoop_bus::Open;
 use snoop_machine::Machine;
-use snoop_rules::{CacheState, MemState, Payload};
+use snoop_rules::{CacheState, MemState, Payload, carries_value};
 use snoop_trace::streams::{push_decimal, push_text};
 use snoop_trace::{NoMemory, Words};
 use std::alloc::Global;
@@ -105,15 +104,6 @@ pub fn core_words(
     Ok(words)
 }
 
-fn carries(payload: Payload) -> bool
-    ensures { result ≡ carries_value payload }
-{
-    match payload {
-        Payload::Data | Payload::DataE => true,
-        Payload::NoData | Payload::NoDataE => false,
-    }
-}
-
 fn push_data(out: &mut Vec<u8>, count: u32, values: Words) -> Result<(), NoMemory>
     requires { count ≤ 64 }
     ensures { OnOk result (out.new.items ≡ out.old.items ++ data_words count values) }
@@ -133,7 +123,7 @@ fn push_carried(
     requires { count ≤ 64 }
     ensures { OnOk result (out.new.items ≡ out.old.items ++ carried_words count payload values) }
 {
-    if carries(payload) {
+    if carries_value(payload) {
         push_data(out, count, values)
     } else {
         Ok(())

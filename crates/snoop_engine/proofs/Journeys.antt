@@ -1,6 +1,6 @@
 -- A driver on its way, step by step, and at its end.
 use Rattle.std.proofs.Common.{◌≡◌, ℕ, zero, suc, cond, Option, Some, None, Result, Ok, List, [], ◌∷◌, ◌++◌, length, refl, sym, ◌∙◌, ap, subst, arith}
-use Rattle.std.specs.Prelude.{IsOk, sum_by, count_by, is_some, filter_map, option_to_list, replicate}
+use Rattle.std.specs.Prelude.{IsOk, sum_by, count_by, filter_map, option_to_list, replicate}
 use Rattle.std.specs.List.{cons_option}
 use Rattle.std.proofs.lemmas.List.{length_push, append_assoc, append-nil}
 use Rattle.std.proofs.lemmas.List.Elements.{All-nil, All-push, filter_map-append}
@@ -9,12 +9,12 @@ use Rattle.snoop_trace.specs.Extent.{Extent}
 use Rattle.snoop_trace.specs.declared.step.Row.{Row}
 use Rattle.snoop_trace.specs.declared.step.Step.{Step}
 use Rattle.snoop_trace.specs.declared.protocol.Protocol.{Protocol}
-use Rattle.snoop_bus.specs.Traffic.{Open}
 use Rattle.snoop_model.specs.declared.replies.Reply.{Reply}
 use Rattle.snoop_model.specs.declared.replies.Refused.{Refused}
-use Rattle.snoop_model.specs.Pictures.Situation.{Situation, reset}
+use Rattle.snoop_model.specs.Pictures.Picture.{Picture}
+use Rattle.snoop_model.specs.Pictures.Situation.{Situation, reset, untouched}
 use Rattle.snoop_model.specs.Runs.Run.{FirstRunFrom}
-use Rattle.snoop_model.specs.Turns.Serving.{owed}
+use Rattle.snoop_model.specs.Turns.Serving.{owed, is_open}
 use Rattle.snoop_engine.proofs.TakenLemmas.{run_more}
 use Rattle.snoop_trace.specs.declared.step.Work.{Work}
 use Rattle.snoop_engine.specs.Todo.{todo_of, left_in, works_of}
@@ -33,19 +33,18 @@ asks_one core step = go (ask_of core step)
 abbrev the_queue : List ℕ → List ℕ
 the_queue q = q
 
-abbrev the_open : Option Open → Option Open
-the_open t = t
-
 none_wait : (n : ℕ) → sum_by length (replicate n (the_queue [])) ≡ 0
 none_wait zero = refl
 none_wait (suc n) = omega (arith, sum_by-cons (λ (q : List ℕ). length q) [] (replicate n []), none_wait n)
 
-none_open : (n : ℕ) → count_by is_some (replicate n (the_open None)) ≡ 0
-none_open zero = refl
-none_open (suc n) = omega (arith, sum_by-cons (λ (t : Option Open). cond (is_some t) 1 0) None (replicate n None), none_open n)
+none_open : (protocol : Protocol) (cores n : ℕ) → count_by is_open (replicate n (untouched protocol cores)) ≡ 0
+none_open protocol cores zero = refl
+none_open protocol cores (suc n) =
+    let first : Picture = untouched protocol cores in
+    omega (arith, sum_by-cons (λ (picture : Picture). cond (is_open picture) 1 0) first (replicate n first), none_open protocol cores n)
 
 pub owed_reset : (protocol : Protocol) (shape : Extent) → owed (reset protocol shape) ≡ 0
-owed_reset protocol shape = omega (arith, none_wait shape.cores, none_open shape.blocks)
+owed_reset protocol shape = omega (arith, none_wait shape.cores, none_open protocol shape.cores shape.blocks)
 
 pub way_begins : (start : Progress) → IsOnTheWay start [] [] start
 way_begins start = record {

@@ -3,7 +3,6 @@ ghost use Rattle.std.specs.Prelude.{◌≡◌, ◌≤◌, ◌++◌, [], codes, I
 ghost use Rattle.std.specs.Option.{option_map_or};
 ghost use Rattle.std.specs.Fmt.{decimal};
 ghost use Rattle.snoop_rules.specs.Names.{memory_state_name, request_name, state_name};
-ghost use Rattle.snoop_rules.specs.Takers.{carries_value};
 ghost use Rattle.snoop_engine.specs.States.{kept_at, memory_text, memory_value_at, value_text};
 ghost use Rattle.snoop_engine.specs.Taken.{memory_at, state_at};
 ghost use Rattle.snoop_states.specs.Cells.{bus_cell, cell_text, core_cell, held_text, kept_values, memory_cell, message_values, open_text, place_after_blank, value_after_blank};
@@ -12,7 +11,7 @@ use crate::column::Column;
 use crate::pieces::{push_numbered, push_word};
 use snoop_bus::Open;
 use snoop_machine::Machine;
-use snoop_rules::{CacheState, MemState, Payload};
+use snoop_rules::{CacheState, MemState, carries_value};
 use snoop_trace::streams::{push_byte, push_decimal, push_text};
 use snoop_trace::{NoMemory, Words};
 use std::alloc::Global;
@@ -99,16 +98,6 @@ fn push_message(out: &mut Vec<u8>, words: u32, values: &Words) -> Result<(), NoM
         push_numbered(out, " ", values.at(word))?;
     }
     Ok(())
-}
-
-// Whether the message has the block's values.
-fn carries_value(payload: Payload) -> bool
-    ensures { result ≡ carries_value payload }
-{
-    match payload {
-        Payload::Data | Payload::DataE => true,
-        Payload::NoData | Payload::NoDataE => false,
-    }
 }
 
 // Appends the requestor and its request.
