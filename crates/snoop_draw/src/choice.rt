@@ -41,6 +41,7 @@ impl Model for Choice {
 
 impl Choice {
     ghost use Rattle.snoop_draw.specs.Choice.{IsBlock, IsChoice};
+    ghost use Rattle.std.specs.Prelude.{◌+◌, ◌==◌};
     ghost use Rattle.snoop_draw.specs.Drawings.{is_drawn};
 
     /// The steps numbered `from` to `to`, of the block alone where one is named.
@@ -86,6 +87,13 @@ impl Choice {
         ensures { result ≡ is_drawn self number of }
     {
         self.from <= number && number <= self.to && is_chosen(self.block, of)
+    }
+
+    /// Whether the first row comes after so many steps: the next one has the first number.
+    pub fn is_first_after(self, number: u64) -> bool
+        ensures { result ≡ (number + 1 == self.from) }
+    {
+        number < self.from && self.from - number == 1
     }
 
     // Whether the block, if one is named, is one of the shape.

@@ -1,5 +1,5 @@
 //! The drawing of a run: a view.
-ghost use Rattle.std.specs.Prelude.{◌≡◌, ◌+◌, ◌==◌, ◌++◌, [], OnOk};
+ghost use Rattle.std.specs.Prelude.{◌≡◌, ◌++◌, [], OnOk};
 ghost use Rattle.std.specs.Fmt.{decimal};
 ghost use Rattle.std.specs.List.{flat_map};
 ghost use Rattle.snoop_model.specs.Pictures.Situation.{reset};
@@ -89,13 +89,6 @@ impl Drawing {
         push_line(out, machine.shape(), seen.step, seen.outcome)
     }
 
-    // Whether the first row comes after so many steps.
-    fn is_first_after(&self, number: u64) -> bool
-        ensures { result ≡ (number + 1 == self.now.choice.from) }
-    {
-        number < self.choice.from() && self.choice.from() - number == 1
-    }
-
     // Appends what is drawn at the step.
     fn push_rows(
         &self,
@@ -105,7 +98,7 @@ impl Drawing {
     ) -> Result<(), NoMemory>
         ensures { OnOk result (out.new.items ≡ out.old.items ++ rows_seen self.now machine.now.situation.shape seen.now.number machine.now.situation seen.now.step seen.now.outcome seen.now.lines.now) }
     {
-        if self.is_first_after(seen.number) {
+        if self.choice.is_first_after(seen.number) {
             return self.push_standing(out, machine, seen.number);
         }
         let of = block_of(seen.step, seen.outcome, seen.lines);
@@ -129,7 +122,7 @@ impl Drawing {
             machine.shape(),
             &self.panels,
         )?;
-        if self.is_first_after(0) {
+        if self.choice.is_first_after(0) {
             self.push_standing(out, machine, 0)
         } else {
             Ok(())

@@ -188,7 +188,7 @@ pub(crate) fn any_of_core(lines: &[Taken], block: u32, core: u32) -> bool
 }
 
 /// Whether a line is of memory and this block.
-pub(crate) fn any_of_memory(lines: &[Taken], block: u32) -> bool
+pub fn any_of_memory(lines: &[Taken], block: u32) -> bool
     ensures { result ≡ list_any (names_memory block) lines.now }
 {
     lines.iter().any(|taken| names_memory(taken, block))

@@ -17,7 +17,7 @@ mod widths;
 mod words;
 
 pub use choice::{Choice, ChoiceFault};
-pub use event::{awaits, may};
+pub use event::{any_of_memory, awaits, may};
 pub use fault::DrawFault;
 pub use marks::{Charset, Mark};
 pub use panels::{Panel, panels_for};

@@ -1,7 +1,6 @@
 -- The bands of a drawing: what a core may do, whether a transaction is open, whether memory sends.
 -- Source: this project's profile.
-use Rattle.std.specs.Prelude.{ℕ, ◌+◌, ◌-◌, Bool, true, false, List, [], ◌++◌, codes, Option, Some, None, if◌then◌else◌, nat_eq}
-use Rattle.std.specs.Cmp.Lexicographic.{pointwise}
+use Rattle.std.specs.Prelude.{◌≡◌, ◌⊎◌, ℕ, ◌+◌, ◌-◌, Bool, true, false, List, [], ◌++◌, codes, Option, Some, None, if◌then◌else◌, bytes_eq}
 use Rattle.snoop_trace.specs.declared.protocol.Protocol.{Protocol}
 use Rattle.snoop_rules.specs.declared.names.CacheState.{CacheState}
 use Rattle.snoop_rules.specs.declared.names.CacheState.TheVariants.{E, EiA}
@@ -24,7 +23,11 @@ class_of band.Read = codes "r"
 class_of band.Open = codes "b"
 class_of band.Sends = codes "m"
 
--- whoever may write has a dark edge
+-- a band of a core that may write
+abbrev pub HasEdge : Band → Type 0
+HasEdge shown = (shown ≡ band.Write) ⊎ (shown ≡ band.Clean)
+
+-- it has a dark edge
 abbrev pub edge : ℕ → ℕ → ℕ → Band → List ℕ
 edge x y high band.Write = box x y 4 high (codes "edge")
 edge x y high band.Clean = box x y 4 high (codes "edge")
@@ -38,7 +41,7 @@ part x y wide high shown = box x y wide high (class_of shown) ++ edge x y high s
 -- a band in a row that begins at y: above as it was in the row above, below as it is
 abbrev pub band_text : ℕ → ℕ → ℕ → Band → Band → List ℕ
 band_text x y wide old new =
-    if pointwise nat_eq (class_of old) (class_of new) then part x y wide 54 new
+    if bytes_eq (class_of old) (class_of new) then part x y wide 54 new
     else (part x y wide 36 old ++ part x (y + 36) wide 18 new)
 
 -- a core that has not changed the block since it got it

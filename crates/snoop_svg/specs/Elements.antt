@@ -37,6 +37,10 @@ box x y wide high class =
 abbrev pub point : ℕ → ℕ → List ℕ
 point x y = decimal x ++ codes " " ++ decimal y
 
+-- the end of a view, and its size
+abbrev pub size : ℕ → ℕ → List ℕ
+size width height = point width height ++ codes "\"" ++ number_attribute (codes "width") width ++ number_attribute (codes "height") height
+
 -- the beginning of a path at this point
 abbrev pub path_opened : ℕ → ℕ → List ℕ → List ℕ
 path_opened x y class = opened (codes "path") class ++ codes " d=\"M" ++ point x y

@@ -34,6 +34,15 @@ look_at s (Core block core) = record { band = core_band s.protocol (held_in s bl
 look_at s (Bus block) = record { band = bus_band (picture_of s block).transaction; rail = rail.Free; words = bus_words s block }
 look_at s (Memory block) = record { band = memory_band (memory_at s block); rail = rail.Free; words = memory_words s block }
 
--- what columns show
-abbrev pub looks_at : Situation → List Column → List Look
-looks_at s columns = map (λ column. look_at s column.subject) columns
+-- a column, and what it shows
+pub record Cell : Type 0 where
+  pub column : Column
+  pub look : Look
+
+-- a column, and what it shows of a situation
+abbrev pub cell_at : Situation → Column → Cell
+cell_at s column = record { column = column; look = look_at s column.subject }
+
+-- the same of columns
+abbrev pub cells_at : Situation → List Column → List Cell
+cells_at s columns = map (cell_at s) columns

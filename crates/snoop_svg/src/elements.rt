@@ -1,6 +1,6 @@
 //! The elements of a drawing, each one line. All numbers are pixels.
 ghost use Rattle.std.specs.Prelude.{◌≡◌, ◌<◌, ◌^◌, ◌++◌, OnOk};
-ghost use Rattle.snoop_svg.specs.Elements.{arrow, box, cross, dot, left_arrow, line, number, number_attribute, opened, operation_opened, path_opened, point, right_arrow, text, text_closed, text_opened};
+ghost use Rattle.snoop_svg.specs.Elements.{arrow, box, cross, dot, left_arrow, line, number, number_attribute, opened, operation_opened, path_opened, point, right_arrow, size, text, text_closed, text_opened};
 
 use snoop_trace::NoMemory;
 use snoop_trace::streams::{push_byte, push_decimal, push_text};
@@ -116,6 +116,16 @@ fn open_path(out: &mut Vec<u8>, x: u64, y: u64, class: &str) -> Result<(), NoMem
     push_opened(out, "path", class)?;
     push_text(out, " d=\"M")?;
     push_point(out, x, y)
+}
+
+/// Appends the end of a view, and how wide and how high something is.
+pub(crate) fn push_size(out: &mut Vec<u8>, width: u64, height: u64) -> Result<(), NoMemory>
+    ensures { OnOk result (out.new.items ≡ out.old.items ++ size width height) }
+{
+    push_point(out, width, height)?;
+    push_byte(out, b'"')?;
+    push_attribute(out, "width", width)?;
+    push_attribute(out, "height", height)
 }
 
 /// Appends a line from one point to another.

@@ -1,9 +1,9 @@
 //! What a column shows of the machine.
 ghost use Rattle.std.specs.Prelude.{◌≡◌, ◌++◌, ◌∷◌, [], IfOk, OnOk, map};
-ghost use Rattle.snoop_svg.specs.Looks.{look_at, waiting_rail};
+ghost use Rattle.snoop_svg.specs.Looks.{cell_at, cells_at, look_at, waiting_rail};
 
 use crate::bands::{Band, bus_band, core_band, memory_band};
-use crate::columns::Subject;
+use crate::columns::{Column, Subject};
 use snoop_draw::{Mark, awaits, bus_words, core_words, held_in, memory_words};
 use snoop_machine::Machine;
 use snoop_trace::NoMemory;
@@ -91,4 +91,70 @@ pub(crate) fn look_at(alloc: Global, machine: &Machine, subject: Subject) -> Res
             words: memory_words(alloc, machine, block)?,
         }),
     }
+}
+
+/// A column, and what it shows.
+#[derive(Debug, Drop)]
+pub(crate) struct Cell {
+    column: Column,
+    look: Look,
+}
+
+impl Model for Cell {
+    ghost use Rattle.snoop_svg.specs.Looks.{Cell as Filled};
+
+    ghost Value = { Filled };
+
+    ghost view = { λ cell. record { column = cell.column; look = cell.look } };
+}
+
+impl Cell {
+    /// The column, as the machine is now.
+    pub(crate) fn new(
+        alloc: Global,
+        machine: &Machine,
+        column: Column,
+    ) -> Result<Cell, NoMemory>
+        ensures { IfOk result (λ cell. cell ≡ cell_at machine.now.situation column) }
+    {
+        let look = look_at(alloc, machine, column.subject)?;
+        Ok(Cell { column, look })
+    }
+
+    pub(crate) fn column(&self) -> Column
+        ensures { result ≡ self.now.column }
+    {
+        self.column
+    }
+
+    pub(crate) fn look(&self) -> &Look
+        ensures { result.now ≡ self.now.look }
+    {
+        &self.look
+    }
+}
+
+/// Adds a cell.
+pub(crate) fn add_cell(cells: &mut Vec<Cell>, cell: Cell) -> Result<(), NoMemory>
+    ensures { OnOk result (cells.new.items ≡ cells.old.items ++ cell ∷ []) }
+{
+    match cells.push(cell) {
+        Ok(()) => Ok(()),
+        Err(_) => Err(NoMemory),
+    }
+}
+
+/// The columns, as the machine is now.
+pub(crate) fn cells_at(
+    alloc: Global,
+    machine: &Machine,
+    columns: &[Column],
+) -> Result<Vec<Cell>, NoMemory>
+    ensures { IfOk result (λ cells. cells.items ≡ cells_at machine.now.situation columns.now) }
+{
+    let mut cells = Vec::new(alloc);
+    for column in columns {
+        add_cell(&mut cells, Cell::new(alloc, machine, *column)?)?;
+    }
+    Ok(cells)
 }

@@ -1,0 +1,399 @@
+//! What happens at a step, in the panel of its block.
+ghost use Rattle.std.specs.Prelude.{◌≡◌, ◌++◌, codes, OnOk};
+ghost use Rattle.snoop_svg.specs.Elements.{text_closed, text_opened};
+ghost use Rattle.snoop_svg.specs.Layout.{column_for};
+ghost use Rattle.snoop_svg.specs.declared.columns.Subject.TheVariants.{Core, Bus, Memory};
+ghost use Rattle.snoop_svg.specs.Happenings.{answer_mark, answer_words, ask_text, asked_text, barred_text, event_text, from_core, from_memory, is_hit, missing_text, opened_text, order_line, order_text, ordered_text, performed_text, respond_text, sent_text, square, to_core, to_memory, to_requestor};
+
+use crate::columns::{Column, Subject, column_for};
+use crate::elements::{
+    close_text, open_operation, open_text, push_cross, push_dot, push_left_arrow, push_line,
+    push_right_arrow, push_words,
+};
+use snoop_bus::Open;
+use snoop_draw::any_of_memory;
+use snoop_engine::{Seen, push_outcome};
+use snoop_history::Did;
+use snoop_machine::{Machine, Refused, Reply};
+use snoop_rules::Payload;
+use snoop_trace::streams::{push_decimal, push_text};
+use snoop_trace::{NoMemory, Op, Step};
+
+fn is_hit(outcome: Result<Reply, Refused>) -> bool
+    ensures { result ≡ is_hit outcome }
+{
+    match outcome {
+        Ok(Reply::Hit(_) | Reply::StoreHit) => true,
+        _ => false,
+    }
+}
+
+fn square(is_done: bool) -> &'static str
+    ensures { result.now ≡ square is_done }
+{
+    if is_done { "done" } else { "ask" }
+}
+
+// Appends what a core asks for.
+fn push_asked(out: &mut Vec<u8>, x: u32, y: u32, op: Op, is_done: bool) -> Result<(), NoMemory>
+    ensures { OnOk result (out.new.items ≡ out.old.items ++ asked_text x y op is_done) }
+{
+    match op {
+        Op::Load => {
+            open_operation(out, x, y, square(is_done))?;
+            push_text(out, "load")?;
+            close_text(out)
+        }
+        Op::Store(value) => {
+            open_operation(out, x, y, square(is_done))?;
+            push_text(out, "store ")?;
+            push_decimal(out, value)?;
+            close_text(out)
+        }
+        Op::Evict => push_words(out, x as u64 + 8, y as u64 + 13, b"evict", "o"),
+    }
+}
+
+fn push_answer_words(
+    out: &mut Vec<u8>,
+    outcome: Result<Reply, Refused>,
+) -> Result<(), NoMemory>
+    ensures { OnOk result (out.new.items ≡ out.old.items ++ answer_words outcome) }
+{
+    match outcome {
+        Ok(_) => push_outcome(out, outcome),
+        Err(_) => push_text(out, "stall"),
+    }
+}
+
+// Appends what an Ask is answered.
+fn push_answer(
+    out: &mut Vec<u8>,
+    x: u32,
+    y: u32,
+    outcome: Result<Reply, Refused>,
+) -> Result<(), NoMemory>
+    ensures { OnOk result (out.new.items ≡ out.old.items ++ (text_opened (x + 8) (y + 31) (codes "a") ++ answer_words outcome ++ text_closed)) }
+{
+    open_text(out, x as u64 + 8, y as u64 + 31, "a")?;
+    push_answer_words(out, outcome)?;
+    close_text(out)
+}
+
+// Appends the mark of an answer.
+fn push_answer_mark(
+    out: &mut Vec<u8>,
+    y: u32,
+    column: Column,
+    outcome: Result<Reply, Refused>,
+) -> Result<(), NoMemory>
+    ensures { OnOk result (out.new.items ≡ out.old.items ++ answer_mark y column outcome) }
+{
+    match outcome {
+        Err(_) => push_cross(out, column.x as u64 + 58, y as u64 + 27),
+        Ok(Reply::Issued(_)) => push_dot(out, column.rail() as u64, y as u64, "i"),
+        Ok(_) => Ok(()),
+    }
+}
+
+fn push_ask(
+    out: &mut Vec<u8>,
+    y: u32,
+    column: Option<Column>,
+    op: Op,
+    outcome: Result<Reply, Refused>,
+) -> Result<(), NoMemory>
+    ensures { OnOk result (out.new.items ≡ out.old.items ++ ask_text y column op outcome) }
+{
+    let Some(column) = column else {
+        return Ok(());
+    };
+    push_asked(out, column.x, y, op, is_hit(outcome))?;
+    push_answer(out, column.x, y, outcome)?;
+    push_answer_mark(out, y, column, outcome)
+}
+
+fn push_from_memory(
+    out: &mut Vec<u8>,
+    y: u32,
+    bus: Column,
+    memory: Column,
+    payload: Payload,
+) -> Result<(), NoMemory>
+    ensures { OnOk result (out.new.items ≡ out.old.items ++ from_memory y bus memory payload) }
+{
+    let words = payload.name().as_bytes();
+    push_words(out, memory.x as u64 + 8, y as u64 + 31, words, "a")?;
+    push_left_arrow(out, memory.x as u64 + 4, bus.end, y as u64 + 19, "g")
+}
+
+fn push_from_core(
+    out: &mut Vec<u8>,
+    y: u32,
+    bus: Column,
+    sender: Option<Column>,
+    payload: Payload,
+) -> Result<(), NoMemory>
+    ensures { OnOk result (out.new.items ≡ out.old.items ++ from_core y bus sender payload) }
+{
+    let Some(sender) = sender else {
+        return Ok(());
+    };
+    let words = payload.name().as_bytes();
+    push_words(out, sender.x as u64 + 8, y as u64 + 31, words, "a")?;
+    push_right_arrow(out, sender.rail() as u64, bus.x as u64, y as u64 + 19, "g")
+}
+
+// Appends how the message of a transaction leaves its sender.
+fn push_sent(
+    out: &mut Vec<u8>,
+    y: u32,
+    columns: &[Column],
+    block: u32,
+    bus: Column,
+    memory: Column,
+    opened: &Open,
+) -> Result<(), NoMemory>
+    ensures { OnOk result (out.new.items ≡ out.old.items ++ sent_text y columns.now block bus memory opened.now.from opened.now.payload) }
+{
+    match opened.from {
+        None => push_from_memory(out, y, bus, memory, opened.payload),
+        Some(core) => {
+            let sender = column_for(columns, Subject::Core { block, core });
+            push_from_core(out, y, bus, sender, opened.payload)
+        }
+    }
+}
+
+// Appends the line of an Order.
+fn push_order_line(
+    out: &mut Vec<u8>,
+    y: u32,
+    column: Column,
+    bus: Column,
+    memory: Column,
+    words: &str,
+) -> Result<(), NoMemory>
+    ensures { OnOk result (out.new.items ≡ out.old.items ++ order_line y column bus memory words.now) }
+{
+    let rail = column.rail() as u64;
+    let y = y as u64;
+    push_words(out, column.x as u64 + 8, y + 13, words.as_bytes(), "o")?;
+    push_line(out, column.start as u64, y, memory.end as u64, y, "u")?;
+    push_right_arrow(out, rail, bus.x as u64, y, "p")?;
+    push_dot(out, rail, y, "p")
+}
+
+fn push_opened(
+    out: &mut Vec<u8>,
+    y: u32,
+    columns: &[Column],
+    block: u32,
+    core: u32,
+    opened: &Open,
+) -> Result<(), NoMemory>
+    ensures { OnOk result (out.new.items ≡ out.old.items ++ opened_text y columns.now block (column_for (Core block core) columns.now) (column_for (Bus block) columns.now) (column_for (Memory block) columns.now) opened.now) }
+{
+    let Some(column) = column_for(columns, Subject::Core { block, core }) else {
+        return Ok(());
+    };
+    let Some(bus) = column_for(columns, Subject::Bus { block }) else {
+        return Ok(());
+    };
+    let Some(memory) = column_for(columns, Subject::Memory { block }) else {
+        return Ok(());
+    };
+    push_order_line(out, y, column, bus, memory, opened.request.name())?;
+    push_sent(out, y, columns, block, bus, memory, opened)
+}
+
+fn push_ordered(
+    out: &mut Vec<u8>,
+    y: u32,
+    columns: &[Column],
+    block: u32,
+    core: u32,
+    opened: Option<Open>,
+) -> Result<(), NoMemory>
+    ensures { OnOk result (out.new.items ≡ out.old.items ++ ordered_text y columns.now block core opened) }
+{
+    match opened {
+        None => Ok(()),
+        Some(opened) => push_opened(out, y, columns, block, core, &opened),
+    }
+}
+
+fn push_barred(
+    out: &mut Vec<u8>,
+    y: u32,
+    column: Option<Column>,
+    bus: Option<Column>,
+) -> Result<(), NoMemory>
+    ensures { OnOk result (out.new.items ≡ out.old.items ++ barred_text y column bus) }
+{
+    let (Some(column), Some(bus)) = (column, bus) else {
+        return Ok(());
+    };
+    let rail = column.rail() as u64;
+    let bus_x = bus.x as u64;
+    let y = y as u64;
+    push_words(out, column.x as u64 + 8, y + 13, b"bus taken", "o")?;
+    push_line(out, rail, y, bus_x.saturating_sub(8), y, "v")?;
+    push_cross(out, bus_x.saturating_sub(4), y)
+}
+
+fn push_order(
+    out: &mut Vec<u8>,
+    y: u32,
+    columns: &[Column],
+    machine: &Machine,
+    of: Option<u32>,
+    core: u32,
+    outcome: Result<Reply, Refused>,
+) -> Result<(), NoMemory>
+    ensures { OnOk result (out.new.items ≡ out.old.items ++ order_text y columns.now machine.now.situation of core outcome) }
+{
+    let Some(block) = of else {
+        return Ok(());
+    };
+    match outcome {
+        Ok(_) => push_ordered(out, y, columns, block, core, machine.open(block)),
+        Err(_) => {
+            let column = column_for(columns, Subject::Core { block, core });
+            push_barred(out, y, column, column_for(columns, Subject::Bus { block }))
+        }
+    }
+}
+
+fn push_performed(out: &mut Vec<u8>, x: u32, y: u32, did: Did) -> Result<(), NoMemory>
+    ensures { OnOk result (out.new.items ≡ out.old.items ++ performed_text x y did) }
+{
+    open_operation(out, x, y, "done")?;
+    push_text(out, if did.load { "load " } else { "store " })?;
+    push_decimal(out, did.value)?;
+    close_text(out)
+}
+
+fn push_to_core(
+    out: &mut Vec<u8>,
+    y: u32,
+    column: Option<Column>,
+    bus: Option<Column>,
+    payload: Payload,
+    did: Did,
+) -> Result<(), NoMemory>
+    ensures { OnOk result (out.new.items ≡ out.old.items ++ to_core y column bus payload did) }
+{
+    let (Some(column), Some(bus)) = (column, bus) else {
+        return Ok(());
+    };
+    let words = payload.name().as_bytes();
+    let rail = column.rail();
+    push_performed(out, column.x, y, did)?;
+    push_words(out, column.x as u64 + 8, y as u64 + 31, words, "a")?;
+    push_line(out, rail as u64, y as u64, rail as u64, y as u64 + 19, "d")?;
+    push_left_arrow(out, bus.x as u64, rail, y as u64 + 19, "g")
+}
+
+fn push_to_requestor(
+    out: &mut Vec<u8>,
+    y: u32,
+    columns: &[Column],
+    block: u32,
+    payload: Payload,
+    did: Option<Did>,
+) -> Result<(), NoMemory>
+    ensures { OnOk result (out.new.items ≡ out.old.items ++ to_requestor y columns.now block payload did) }
+{
+    let Some(did) = did else {
+        return Ok(());
+    };
+    let core = did.core;
+    let column = column_for(columns, Subject::Core { block, core });
+    let bus = column_for(columns, Subject::Bus { block });
+    push_to_core(out, y, column, bus, payload, did)
+}
+
+fn push_to_memory(
+    out: &mut Vec<u8>,
+    y: u32,
+    bus: Option<Column>,
+    memory: Option<Column>,
+    payload: Payload,
+    is_met: bool,
+) -> Result<(), NoMemory>
+    ensures { OnOk result (out.new.items ≡ out.old.items ++ to_memory y bus memory payload is_met) }
+{
+    let (Some(bus), Some(memory)) = (bus, memory) else {
+        return Ok(());
+    };
+    if !is_met {
+        return Ok(());
+    }
+    let words = payload.name().as_bytes();
+    push_words(out, memory.x as u64 + 8, y as u64 + 31, words, "a")?;
+    push_right_arrow(out, bus.end as u64, memory.x as u64, y as u64 + 19, "g")
+}
+
+fn push_missing(out: &mut Vec<u8>, y: u32, bus: Option<Column>) -> Result<(), NoMemory>
+    ensures { OnOk result (out.new.items ≡ out.old.items ++ missing_text y bus) }
+{
+    match bus {
+        None => Ok(()),
+        Some(bus) => push_cross(out, bus.x as u64 + 12, y as u64 + 13),
+    }
+}
+
+fn push_respond(
+    out: &mut Vec<u8>,
+    y: u32,
+    columns: &[Column],
+    block: u32,
+    outcome: Result<Reply, Refused>,
+    is_met: bool,
+) -> Result<(), NoMemory>
+    ensures { OnOk result (out.new.items ≡ out.old.items ++ respond_text y columns.now block outcome is_met) }
+{
+    let bus = column_for(columns, Subject::Bus { block });
+    match outcome {
+        Ok(Reply::Came {
+            payload,
+            from: _,
+            did,
+        }) => {
+            push_to_requestor(out, y, columns, block, payload, did)?;
+            let memory = column_for(columns, Subject::Memory { block });
+            push_to_memory(out, y, bus, memory, payload, is_met)
+        }
+        Ok(_) => Ok(()),
+        Err(_) => push_missing(out, y, bus),
+    }
+}
+
+/// Appends what happens at the step, after which the machine is this.
+pub(crate) fn push_event(
+    out: &mut Vec<u8>,
+    y: u32,
+    columns: &[Column],
+    machine: &Machine,
+    seen: &Seen<'_>,
+) -> Result<(), NoMemory>
+    ensures { OnOk result (out.new.items ≡ out.old.items ++ event_text y columns.now machine.now.situation seen.now.block seen.now.step seen.now.outcome seen.now.lines.now) }
+{
+    match seen.step {
+        Step::Ask {
+            core,
+            block,
+            word: _,
+            op,
+        } => {
+            let column = column_for(columns, Subject::Core { block, core });
+            push_ask(out, y, column, op, seen.outcome)
+        }
+        Step::Order { core } => push_order(out, y, columns, machine, seen.block, core, seen.outcome),
+        Step::Respond { block } => {
+            let is_met = any_of_memory(seen.lines, block);
+            push_respond(out, y, columns, block, seen.outcome, is_met)
+        }
+    }
+}
