@@ -1,5 +1,5 @@
 -- A drawing, when it sees one frame more.
-use Rattle.std.proofs.Common.{◌≡◌, ℕ, ◌+◌, ◌-◌, ◌%◌, ◌<◌, ◌≤◌, true, false, List, [], ◌∷◌, ◌++◌, length, length-append, refl, sym, ap, subst, ◌∙◌, arith}
+use Rattle.std.proofs.Common.{◌≡◌, ℕ, ◌+◌, ◌-◌, ◌%◌, ◌<◌, ◌≤◌, min, true, false, List, [], ◌∷◌, ◌++◌, length, length-append, refl, sym, ap, subst, ◌∙◌, arith}
 use Rattle.std.specs.Prelude.{◌==◌, ◌&&◌, Result, nat_le, nat_lt}
 use Rattle.std.proofs.lemmas.Bool.{and_parts, cond-false, cond-true, eq-eqb, leb-true, le-ltb, lt-ltb, ne_eqb}
 use Rattle.snoop_trace.specs.Extent.{Extent}
@@ -22,6 +22,10 @@ pub late_row : (choice : Chosen) (number : ℕ) (frame : Frame) → has_row choi
 late_row choice number frame on =
     leb-true choice.from number (and_parts (nat_le choice.from number) (nat_le number choice.to) (and_parts (nat_le choice.from number && nat_le number choice.to) (is_chosen choice.block (block_of frame.before frame.step)) on).0).0
 
+-- how many rows there are
+abbrev pub shown_rows : Plan → List Frame → ℕ
+shown_rows plan frames = min (length (drawn plan.choice frames)) plan.paper.shown
+
 module _ (first old new : Drawing) (protocol : Protocol) (shape : Extent) (frames : List Frame) (frame : Frame) (has : HasSeen first protocol shape frames old) where
   -- the first row comes
   pub seen_start : new.plan ≡ old.plan → new.place ≡ old.place → old.plan.choice.from ≡ 2 + length frames → StandsBelow new (after (1 + length frames) frame)
@@ -29,31 +33,49 @@ module _ (first old new : Drawing) (protocol : Protocol) (shape : Extent) (frame
   seen_start plan place next stands =
       let few : 1 + length frames ≤ old.plan.choice.from = omega arith in
       let more : 1 + length (frames ++ frame ∷ []) ≤ old.plan.choice.from = omega (arith, longer frames frame) in
-      let none : length (drawn old.plan.choice frames) ≡ length (drawn old.plan.choice (frames ++ frame ∷ [])) =
-      ap length (none_yet old.plan.choice frames few) ∙ sym (ap length (none_yet old.plan.choice (frames ++ frame ∷ []) more)) in
+      let none : shown_rows old.plan frames ≡ shown_rows old.plan (frames ++ frame ∷ []) =
+      ap (λ (ns : List Numbered). min (length ns) old.plan.paper.shown) (none_yet old.plan.choice frames few ∙ sym (none_yet old.plan.choice (frames ++ frame ∷ []) more)) in
       record {
         plan = plan ∙ has.plan;
-        place = place ∙ has.place ∙ none ∙ ap (λ (p : Plan). length (drawn p.choice (frames ++ frame ∷ []))) (sym plan);
+        place = place ∙ has.place ∙ none ∙ ap (λ (p : Plan). shown_rows p (frames ++ frame ∷ [])) (sym plan);
         above = λ late shown. subst (StandsBelow new) (sym (standing_starts old.plan.choice protocol shape frames frame next) ∙ ap (λ (p : Plan). standing p.choice protocol shape (frames ++ frame ∷ [])) (sym plan)) stands;
       }
 
-  -- a step is drawn
-  pub seen_drawn : new.plan ≡ old.plan → new.place ≡ old.place + 1 → has_row old.plan.choice (numbered (1 + length frames) frame) ≡ true
-      → (old.place < old.plan.paper.shown → StandsBelow new (after (1 + length frames) frame)) → HasSeen first protocol shape (frames ++ frame ∷ []) new
-  seen_drawn plan place on stands =
-      let choice : Chosen = old.plan.choice in
-      let late : choice.from ≤ 1 + length frames = late_row choice (1 + length frames) frame on in
-      let count : length (drawn choice (frames ++ frame ∷ [])) ≡ length (drawn choice frames) + 1 =
-      ap length (drawn_grows choice protocol shape frames frame late on) ∙ length-append (drawn choice frames) (numbered (1 + length frames) frame ∷ []) in
-      let here : new.place ≡ length (drawn choice (frames ++ frame ∷ [])) = place ∙ ap (λ (n : ℕ). n + 1) has.place ∙ sym count in
-      record {
-        plan = plan ∙ has.plan;
-        place = here ∙ ap (λ (p : Plan). length (drawn p.choice (frames ++ frame ∷ []))) (sym plan);
-        above = λ _ few.
-            let fewer : length (drawn choice (frames ++ frame ∷ [])) ≤ old.plan.paper.shown = subst (λ (p : Plan). length (drawn p.choice (frames ++ frame ∷ [])) ≤ p.paper.shown) plan few in
-            let low : old.place < old.plan.paper.shown = omega (arith, has.place) in
-            subst (StandsBelow new) (sym (standing_grows choice protocol shape frames frame late on) ∙ ap (λ (p : Plan). standing p.choice protocol shape (frames ++ frame ∷ [])) (sym plan)) (stands low);
-      }
+  module _ (on : has_row old.plan.choice (numbered (1 + length frames) frame) ≡ true) where
+    late : old.plan.choice.from ≤ 1 + length frames
+    late = late_row old.plan.choice (1 + length frames) frame on
+
+    count : length (drawn old.plan.choice (frames ++ frame ∷ [])) ≡ length (drawn old.plan.choice frames) + 1
+    count = ap length (drawn_grows old.plan.choice protocol shape frames frame late on) ∙ length-append (drawn old.plan.choice frames) (numbered (1 + length frames) frame ∷ [])
+
+    -- what stands above a row that is shown
+    pub stands_above : old.place < old.plan.paper.shown → StandsBelow old (standing old.plan.choice protocol shape frames)
+    stands_above low = has.above late (omega (arith, has.place))
+
+    -- a step is drawn, and its row is shown
+    pub seen_drawn : new.plan ≡ old.plan → old.place < old.plan.paper.shown → new.place ≡ old.place + 1 → StandsBelow new (after (1 + length frames) frame)
+        → HasSeen first protocol shape (frames ++ frame ∷ []) new
+    seen_drawn plan low place stands =
+        let here : new.place ≡ shown_rows old.plan (frames ++ frame ∷ []) = omega (arith, has.place, count) in
+        record {
+          plan = plan ∙ has.plan;
+          place = here ∙ ap (λ (p : Plan). shown_rows p (frames ++ frame ∷ [])) (sym plan);
+          above = λ _ few.
+              subst (StandsBelow new) (sym (standing_grows old.plan.choice protocol shape frames frame late on) ∙ ap (λ (p : Plan). standing p.choice protocol shape (frames ++ frame ∷ [])) (sym plan)) stands;
+        }
+
+    -- a step is drawn, and enough rows are shown
+    pub seen_blank : new.plan ≡ old.plan → old.plan.paper.shown ≤ old.place → new.place ≡ old.place → HasSeen first protocol shape (frames ++ frame ∷ []) new
+    seen_blank plan high place =
+        let here : new.place ≡ shown_rows old.plan (frames ++ frame ∷ []) = omega (arith, has.place, count) in
+        record {
+          plan = plan ∙ has.plan;
+          place = here ∙ ap (λ (p : Plan). shown_rows p (frames ++ frame ∷ [])) (sym plan);
+          above = λ _ few.
+              let fewer : length (drawn old.plan.choice (frames ++ frame ∷ [])) ≤ old.plan.paper.shown =
+              subst (λ (p : Plan). length (drawn p.choice (frames ++ frame ∷ [])) ≤ p.paper.shown) plan few in
+              absurd (omega (arith, has.place, count));
+        }
 
   -- a step is not drawn
   pub seen_stays : (old.plan.choice.from ≡ 2 + length frames → ⊥) → has_row old.plan.choice (numbered (1 + length frames) frame) ≡ false
@@ -63,16 +85,12 @@ module _ (first old new : Drawing) (protocol : Protocol) (shape : Extent) (frame
       let same : drawn choice (frames ++ frame ∷ []) ≡ drawn choice frames = drawn_stays choice protocol shape frames frame off in
       record {
         plan = has.plan;
-        place = has.place ∙ ap length (sym same);
+        place = has.place ∙ ap (λ (ns : List Numbered). min (length ns) old.plan.paper.shown) (sym same);
         above = λ late few.
             let early : choice.from ≤ 1 + length frames = omega (arith, longer frames frame, other) in
             let fewer : length (drawn choice frames) ≤ old.plan.paper.shown = subst (λ (ns : List Numbered). length ns ≤ old.plan.paper.shown) same few in
             subst (StandsBelow old) (sym (standing_stays choice protocol shape frames frame early off)) (has.above early fewer);
       }
-
-  -- what stands above a row that is drawn
-  pub stands_above : has_row old.plan.choice (numbered (1 + length frames) frame) ≡ true → old.place < old.plan.paper.shown → StandsBelow old (standing old.plan.choice protocol shape frames)
-  stands_above on low = has.above (late_row old.plan.choice (1 + length frames) frame on) (omega (arith, has.place))
 
 module _ (plan : Plan) (protocol : Protocol) (shape : Extent) (frames : List Frame) (frame : Frame) where
   -- what is drawn where the first row comes

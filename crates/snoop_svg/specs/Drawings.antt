@@ -70,10 +70,13 @@ sheet_rows plan done = min (rows_per_sheet plan.paper.form) (plan.rows - done)
 abbrev pub is_full : Plan → ℕ → Bool
 is_full plan place = nat_lt 0 place && (place % rows_per_sheet plan.paper.form == 0)
 
+-- the end of a full sheet, and the heading of the next
+abbrev pub turned : Plan → Protocol → Extent → ℕ → List ℕ
+turned plan protocol shape place = sheet_closed protocol (rows_per_sheet plan.paper.form) ++ heading_text plan protocol shape (sheet_rows plan place)
+
 -- before the next row: where the sheet is full its end, and the beginning of another
 abbrev pub turn_text : Plan → Protocol → Extent → ℕ → Standing → List ℕ
-turn_text plan protocol shape place above =
-    if is_full plan place then (sheet_closed protocol (rows_per_sheet plan.paper.form) ++ heading_text plan protocol shape (sheet_rows plan place) ++ first_row plan above) else []
+turn_text plan protocol shape place above = if is_full plan place then (turned plan protocol shape place ++ first_row plan above) else []
 
 -- the row of a step in this place of all rows, if it is shown
 abbrev pub placed_row : Plan → Protocol → Extent → ℕ → Standing → Numbered → List ℕ
@@ -99,19 +102,26 @@ abbrev pub tail_text : Form → List ℕ
 tail_text Svg = []
 tail_text Html = page_end
 
+-- all that stands before the first row
+abbrev pub opening : Plan → Protocol → Extent → List ℕ
+opening plan protocol shape = head_text plan.paper plan.paper.form ++ heading_text plan protocol shape (sheet_rows plan 0)
+
 -- what is drawn before any step: the heading, and the first row if the first step may be drawn
 abbrev pub beginning_text : Plan → Protocol → Extent → List ℕ
 beginning_text plan protocol shape =
-    head_text plan.paper plan.paper.form ++ heading_text plan protocol shape (sheet_rows plan 0)
-    ++ (if plan.choice.from == 1 then first_row plan (record { number = 0; situation = reset protocol shape }) else [])
+    opening plan protocol shape ++ (if plan.choice.from == 1 then first_row plan (record { number = 0; situation = reset protocol shape }) else [])
 
 -- how many rows the sheets before that of the last of so many rows have
 abbrev pub sheet_start : Plan → ℕ → ℕ
 sheet_start plan place = place - 1 - (place - 1) % rows_per_sheet plan.paper.form
 
--- what is drawn after all steps: the end of the sheet of the last row that is shown
+-- all that stands behind the last of so many rows: the end of its sheet, and what stands behind the last sheet
+abbrev pub closing : Plan → Protocol → ℕ → List ℕ
+closing plan protocol place = sheet_closed protocol (sheet_rows plan (sheet_start plan place)) ++ tail_text plan.paper.form
+
+-- what is drawn after all steps, so many of which are drawn
 abbrev pub ending_text : Plan → Protocol → ℕ → List ℕ
-ending_text plan protocol rows = sheet_closed protocol (sheet_rows plan (sheet_start plan (min rows plan.paper.shown))) ++ tail_text plan.paper.form
+ending_text plan protocol rows = closing plan protocol (min rows plan.paper.shown)
 
 -- the drawing of a run by a plan
 abbrev pub planned_text : Plan → Protocol → Extent → List Frame → Situation → List ℕ
@@ -145,5 +155,5 @@ pub record StandsBelow (now : Drawing) (above : Standing) : Type 0 where
 -- the drawing that was begun has seen these frames, and is this now
 pub record HasSeen (first : Drawing) (protocol : Protocol) (shape : Extent) (frames : List Frame) (now : Drawing) : Type 0 where
   pub plan : now.plan ≡ first.plan
-  pub place : now.place ≡ length (drawn now.plan.choice frames)
+  pub place : now.place ≡ min (length (drawn now.plan.choice frames)) now.plan.paper.shown
   pub above : now.plan.choice.from ≤ 1 + length frames → length (drawn now.plan.choice frames) ≤ now.plan.paper.shown → StandsBelow now (standing now.plan.choice protocol shape frames)

@@ -1,5 +1,5 @@
 //! The columns of a drawing, and where they stand.
-ghost use Rattle.std.specs.Prelude.{◌≡◌, ◌++◌, ◌+◌, ◌<◌, ◌≤◌, ◌*◌, ◌^◌, ◌∷◌, [], length, IfOk, OnOk, Fits};
+ghost use Rattle.std.specs.Prelude.{◌≡◌, ◌++◌, ◌+◌, ◌<◌, ◌≤◌, ◌*◌, ◌^◌, ◌∷◌, [], length, IfOk, OnOk};
 ghost use Rattle.snoop_draw.specs.Size.{columns_of};
 ghost use Rattle.snoop_svg.specs.Layout.{AreNarrow, after_lanes, after_panel, after_panels, bus_column, column_for, columns_from, is_for, lanes_from, memory_column, panel_columns};
 

@@ -1,7 +1,7 @@
 //! The drawing of a run: a view.
 ghost use Rattle.std.specs.Prelude.{◌≡◌, ◌≤◌, ◌<◌, ◌+◌, ◌-◌, ◌^◌, ◌%◌, ◌++◌, OnOk};
 ghost use Rattle.snoop_model.specs.Pictures.Situation.{Situation};
-ghost use Rattle.snoop_svg.specs.Drawings.{StandsBelow, head_text, is_full, rows_per_sheet, sheet_start, tail_text, turn_text};
+ghost use Rattle.snoop_svg.specs.Drawings.{StandsBelow, closing, head_text, is_full, opening, rows_per_sheet, sheet_start, tail_text, turn_text, turned};
 ghost use Rattle.snoop_svg.specs.Looks.{cells_at};
 ghost use Rattle.snoop_svg.specs.Sheets.{Standing, first_row, row_text, row_y};
 
@@ -12,12 +12,10 @@ use crate::sheet::{close_sheet, push_first_row, push_heading, push_row, row_y};
 use crate::style::{push_page_end, push_page_head};
 use snoop_engine::{Seen, View};
 use snoop_machine::Machine;
-use snoop_rules::Protocol;
-use snoop_trace::{NoMemory, Shape};
+use snoop_trace::NoMemory;
 use std::alloc::Global;
 
-/// A drawing: its plan, how many steps that are drawn it has seen, and the row above the next one: after how many steps it
-/// comes, and its cells.
+/// A drawing: its plan, how many rows it has, and the row above the next one: after how many steps it comes, and its cells.
 #[derive(Debug, Drop)]
 pub(crate) struct Drawing {
     alloc: Global,
@@ -60,24 +58,86 @@ fn sheet_start(plan: &Plan, place: u64) -> u64
     last.saturating_sub(last % plan.rows_per_sheet() as u64)
 }
 
-// Appends the end of a full sheet, and the beginning of the next, whose first row has these cells.
-fn push_turn(
+// Appends the end of a full sheet, and the heading of the next.
+fn turn_sheet(
     out: &mut Vec<u8>,
     plan: &Plan,
-    protocol: Protocol,
-    shape: Shape,
+    machine: &Machine,
+    place: u64,
+) -> Result<(), NoMemory>
+    ensures { OnOk result (out.new.items ≡ out.old.items ++ turned plan.now machine.now.situation.protocol machine.now.situation.shape place) }
+{
+    close_sheet(out, machine.protocol(), plan.rows_per_sheet())?;
+    push_heading(
+        out,
+        plan,
+        machine.protocol(),
+        machine.shape(),
+        plan.sheet_rows(place),
+    )
+}
+
+// Appends the same, and the first row, which has these cells.
+fn push_next_sheet(
+    out: &mut Vec<u8>,
+    plan: &Plan,
+    machine: &Machine,
     place: u64,
     above: u64,
     cells: &[Cell],
 ) -> Result<(), NoMemory>
-    ensures { (s : Situation) → cells.now ≡ cells_at s plan.now.columns → OnOk result (out.new.items ≡ out.old.items ++ turn_text plan.now protocol shape place (record { number = above; situation = s })) }
+    ensures { (s : Situation) → cells.now ≡ cells_at s plan.now.columns
+        → OnOk result (out.new.items ≡ out.old.items ++ (turned plan.now machine.now.situation.protocol machine.now.situation.shape place ++ first_row plan.now (record { number = above; situation = s }))) }
 {
-    if !is_full(plan, place) {
-        return Ok(());
-    }
-    close_sheet(out, protocol, plan.rows_per_sheet())?;
-    push_heading(out, plan, protocol, shape, plan.sheet_rows(place))?;
+    turn_sheet(out, plan, machine, place)?;
     push_first_row(out, plan, cells, above)
+}
+
+// Appends that where the sheet is full.
+fn push_turn(
+    out: &mut Vec<u8>,
+    plan: &Plan,
+    machine: &Machine,
+    place: u64,
+    above: u64,
+    cells: &[Cell],
+) -> Result<(), NoMemory>
+    ensures { (s : Situation) → cells.now ≡ cells_at s plan.now.columns
+        → OnOk result (out.new.items ≡ out.old.items ++ turn_text plan.now machine.now.situation.protocol machine.now.situation.shape place (record { number = above; situation = s })) }
+{
+    if is_full(plan, place) {
+        push_next_sheet(out, plan, machine, place, above, cells)
+    } else {
+        Ok(())
+    }
+}
+
+// Appends all that stands before the first row.
+fn begin_sheets(out: &mut Vec<u8>, plan: &Plan, machine: &Machine) -> Result<(), NoMemory>
+    ensures { OnOk result (out.new.items ≡ out.old.items ++ opening plan.now machine.now.situation.protocol machine.now.situation.shape) }
+{
+    push_head(out, plan.paper())?;
+    push_heading(
+        out,
+        plan,
+        machine.protocol(),
+        machine.shape(),
+        plan.sheet_rows(0),
+    )
+}
+
+// Appends all that stands behind the last of so many rows.
+fn end_sheets(
+    out: &mut Vec<u8>,
+    plan: &Plan,
+    machine: &Machine,
+    place: u64,
+) -> Result<(), NoMemory>
+    ensures { OnOk result (out.new.items ≡ out.old.items ++ closing plan.now machine.now.situation.protocol place) }
+{
+    let rows = plan.sheet_rows(sheet_start(plan, place));
+    close_sheet(out, machine.protocol(), rows)?;
+    push_tail(out, plan.paper().form)
 }
 
 // The y of the row in this place.
@@ -136,8 +196,7 @@ impl Drawing {
         push_turn(
             out,
             &self.plan,
-            machine.protocol(),
-            machine.shape(),
+            machine,
             self.place,
             self.above,
             &self.cells,
@@ -157,7 +216,7 @@ impl Drawing {
         Ok(())
     }
 
-    // Appends the row of a step that is drawn, if it is shown, and counts it.
+    // Appends the row of a step that is drawn, unless enough rows are shown.
     fn push_drawn(
         &mut self,
         out: &mut Vec<u8>,
@@ -165,19 +224,20 @@ impl Drawing {
         seen: &Seen<'_>,
     ) -> Result<(), NoMemory>
         ensures plan { self.new.plan ≡ self.old.plan }
-        ensures place { self.old.place < 2 ^ 64 - 1 → OnOk result (self.new.place ≡ self.old.place + 1) }
+        ensures place { self.old.place < self.old.plan.paper.shown → OnOk result (self.new.place ≡ self.old.place + 1) }
         ensures below { (above : Standing) → self.old.place < self.old.plan.paper.shown → StandsBelow self.old above
             → OnOk result (StandsBelow self.new (record { number = seen.now.number; situation = machine.now.situation })) }
         ensures shown { (above : Standing) → self.old.place < self.old.plan.paper.shown → StandsBelow self.old above
             → OnOk result (out.new.items ≡ out.old.items
             ++ (turn_text self.old.plan machine.now.situation.protocol machine.now.situation.shape self.old.place above
             ++ row_text self.old.plan machine.now.situation.shape (row_y (self.old.place % rows_per_sheet self.old.plan.paper.form)) above seen.now.number machine.now.situation seen.now.block seen.now.step seen.now.outcome seen.now.lines.now)) }
-        ensures blank { self.old.plan.paper.shown ≤ self.old.place → OnOk result (out.new.items ≡ out.old.items) }
+        ensures blank { self.old.plan.paper.shown ≤ self.old.place → (self.new.place ≡ self.old.place) × (out.new.items ≡ out.old.items) }
     {
-        if self.place < self.plan.paper().shown {
-            self.push_placed(out, machine, seen)?;
+        if self.plan.paper().shown <= self.place {
+            return Ok(());
         }
-        self.place = self.place.saturating_add(1);
+        self.push_placed(out, machine, seen)?;
+        self.place += 1;
         Ok(())
     }
 }
@@ -196,14 +256,7 @@ impl View for Drawing {
 
     fn begin(&mut self, out: &mut Vec<u8>, machine: &Machine) -> Result<(), NoMemory> {
         self.place = 0;
-        push_head(out, self.plan.paper())?;
-        push_heading(
-            out,
-            &self.plan,
-            machine.protocol(),
-            machine.shape(),
-            self.plan.sheet_rows(0),
-        )?;
+        begin_sheets(out, &self.plan, machine)?;
         if self.plan.choice().from() == 1 {
             self.start(out, machine, 0)
         } else {
@@ -229,9 +282,6 @@ impl View for Drawing {
     }
 
     fn end(&mut self, out: &mut Vec<u8>, machine: &Machine) -> Result<(), NoMemory> {
-        let shown = self.place.min(self.plan.paper().shown);
-        let rows = self.plan.sheet_rows(sheet_start(&self.plan, shown));
-        close_sheet(out, machine.protocol(), rows)?;
-        push_tail(out, self.plan.paper().form)
+        end_sheets(out, &self.plan, machine, self.place)
     }
 }

@@ -1,5 +1,5 @@
 //! What happens at a step, in the panel of its block.
-ghost use Rattle.std.specs.Prelude.{◌≡◌, ◌++◌, codes, OnOk};
+ghost use Rattle.std.specs.Prelude.{◌≡◌, ◌+◌, ◌++◌, codes, OnOk};
 ghost use Rattle.snoop_svg.specs.Elements.{text_closed, text_opened};
 ghost use Rattle.snoop_svg.specs.Layout.{column_for};
 ghost use Rattle.snoop_svg.specs.declared.columns.Subject.TheVariants.{Core, Bus, Memory};

@@ -1,5 +1,5 @@
 //! What the marks of a drawing mean.
-ghost use Rattle.std.specs.Prelude.{◌≡◌, ◌++◌, OnOk};
+ghost use Rattle.std.specs.Prelude.{◌≡◌, ◌<◌, ◌++◌, OnOk};
 ghost use Rattle.snoop_svg.specs.Legends.{further_keys, key, keys, legend_text, other_marks, request_marks, square_marks};
 
 use crate::bands::{Band, push_part};

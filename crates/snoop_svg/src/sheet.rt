@@ -1,5 +1,5 @@
 //! A sheet of a drawing: its heading, its first row, its rows and its end. All numbers are pixels.
-ghost use Rattle.std.specs.Prelude.{◌≡◌, ◌≤◌, ◌++◌, codes, IfOk, OnOk};
+ghost use Rattle.std.specs.Prelude.{◌≡◌, ◌≤◌, ◌+◌, ◌++◌, codes, IfOk, OnOk};
 ghost use Rattle.std.specs.List.{flat_map};
 ghost use Rattle.snoop_trace.specs.Output.{address_of, step_text};
 ghost use Rattle.snoop_model.specs.Pictures.Situation.{Situation};
