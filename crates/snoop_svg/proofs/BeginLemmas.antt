@@ -25,13 +25,13 @@ module _ (first now : Drawing) (protocol : Protocol) (shape : Extent) (plan : no
   pub begun_at_reset : first.plan.choice.from ≡ 1 → StandsBelow now (at_reset protocol shape) → HasSeen first protocol shape [] now
   begun_at_reset one stands =
       let here : now.plan.choice.from ≡ 1 = ap (λ (p : Plan). p.choice.from) plan ∙ one in
-      record { plan = plan; place = place; above = λ late few. subst (StandsBelow now) (first_is now.plan.choice protocol shape here) stands }
+      record { plan = plan; place = omega (arith, place); above = λ late few. subst (StandsBelow now) (first_is now.plan.choice protocol shape here) stands }
 
   -- the first row comes later
   pub begun_early : 1 < first.plan.choice.from → HasSeen first protocol shape [] now
   begun_early far =
       let here : 1 < now.plan.choice.from = subst (λ (p : Plan). 1 < p.choice.from) (sym plan) far in
-      record { plan = plan; place = place; above = λ late few. absurd (omega (arith, late)) }
+      record { plan = plan; place = omega (arith, place); above = λ late few. absurd (omega (arith, late)) }
 
 module _ (plan : Plan) (protocol : Protocol) (shape : Extent) where
   -- what is drawn then

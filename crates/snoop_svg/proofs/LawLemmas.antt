@@ -1,9 +1,9 @@
 -- Edges and bold words.
-use Rattle.std.proofs.Common.{◌≡◌, ◌≢◌, ℕ, Bool, true, false, cond, List, codes, Some, refl, sym, ap, ◌∙◌, inl, inr}
+use Rattle.std.proofs.Common.{◌≡◌, ◌≢◌, ℕ, Bool, true, false, List, codes, Decides, get_or, refl, sym, ap, ◌∙◌, inl, inr}
 use Rattle.std.specs.Prelude.{nat_eq, not}
 use Rattle.std.specs.Cmp.{unsigned_Decides}
 use Rattle.std.specs.Cmp.Lexicographic.{pointwise}
-use Rattle.std.proofs.lemmas.Bool.{false_from_ne_true}
+use Rattle.std.proofs.lemmas.Bool.{false≢true, false_from_ne_true}
 use Rattle.std.proofs.lemmas.Slice.Eq.{slice_eq-Decides}
 use Rattle.snoop_trace.specs.declared.protocol.Protocol.{Protocol}
 use Rattle.snoop_rules.specs.declared.names.CacheState.{CacheState}
@@ -54,13 +54,15 @@ one_edge_by s marks block core other edge apart =
     ap (λ (m : Mark). marked_band m (held_in s block other))
     (marks block core other (edged (may s.protocol (held_in s block core)) (held_in s block core) edge) apart)
 
-not_bold : cond false (codes "s") (codes "k") ≡ codes "s" → ⊥
-not_bold e = cc
+not_bold : codes "k" ≡ codes "s" → ⊥
+not_bold e = false≢true (ap (λ (l : List ℕ). nat_eq (get_or l 0 0) 115) e)
+
+decided : (old words : List ℕ) → Decides (pointwise nat_eq old words) (old ≡ words)
+decided old words = slice_eq-Decides unsigned_Decides old words (pointwise nat_eq old words) refl
 
 -- words are bold where they differ from those above, and nowhere else
 pub new_words_bold : NewWordsAreBold
-new_words_bold above words =
-    let same = slice_eq-Decides unsigned_Decides above.words words (pointwise nat_eq above.words words) refl in (
-      λ bold e. not_bold (ap (λ (b : Bool). class_of_words (not b)) (sym (same.1 e)) ∙ bold),
-      λ apart. ap (λ (b : Bool). class_of_words (not b)) (false_from_ne_true (pointwise nat_eq above.words words) (λ e. apart (same.0 e))),
-    )
+new_words_bold above words = (
+  λ bold e. not_bold (ap (λ (b : Bool). class_of_words (not b)) (sym ((decided above.words words).1 e)) ∙ bold),
+  λ apart. ap (λ (b : Bool). class_of_words (not b)) (false_from_ne_true (pointwise nat_eq above.words words) (λ e. apart ((decided above.words words).0 e))),
+)

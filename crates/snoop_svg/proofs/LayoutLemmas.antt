@@ -37,7 +37,7 @@ module _ (sizes : Sizes) (block start x : ℕ) (cores : List ℕ) (i : ℕ) (ins
   lanes_next total so_far = ap (after_lanes sizes x) (sym (first_left cores i 0 inside)) ∙ so_far
 
   pub lanes_left : length (drop i cores) ≡ 1 + length (drop (i + 1) cores)
-  lanes_left = ap length (first_left cores i 0 inside)
+  lanes_left = let e : length (drop i cores) ≡ suc (length (drop (i + 1) cores)) = ap length (first_left cores i 0 inside) in omega arith
 
 -- no lane is left
 pub lanes_done : (sizes : Sizes) (block start x : ℕ) (cores : List ℕ) (i : ℕ) (now total : List Column) → length cores ≤ i → now ++ lanes_from sizes block start x (drop i cores) ≡ total → now ++ [] ≡ total

@@ -55,7 +55,7 @@ dot x y class = opened (codes "circle") class ++ number_attribute (codes "cx") x
 
 -- an arrow from a point to where its head ends, at the same height
 abbrev pub arrow : ℕ → ℕ → ℕ → ℕ → List ℕ → List ℕ → List ℕ
-arrow x neck to y head class = path_opened x y class ++ codes "H" ++ decimal neck ++ codes "M" ++ point to y ++ head
+arrow x neck to y head class = path_opened x y class ++ (codes "H" ++ decimal neck) ++ (codes "M" ++ point to y) ++ head
 
 -- an arrow to the right
 abbrev pub right_arrow : ℕ → ℕ → ℕ → List ℕ → List ℕ

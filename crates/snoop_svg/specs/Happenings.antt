@@ -86,9 +86,13 @@ abbrev pub ordered_text : ℕ → List Column → ℕ → ℕ → Option Open �
 ordered_text y columns block core None = []
 ordered_text y columns block core (Some opened) = opened_text y columns block (column_for (Core block core) columns) (column_for (Bus block) columns) (column_for (Memory block) columns) opened
 
+-- a broken line that ends before the bus, and a cross there
+abbrev pub barrier : ℕ → ℕ → ℕ → List ℕ
+barrier rail bus y = line rail y (bus - 8) y (codes "v") ++ cross (bus - 4) y
+
 -- an Order that has to wait for the bus
 abbrev pub barred_text : ℕ → Option Column → Option Column → List ℕ
-barred_text y (Some column) (Some bus) = text (column.x + 8) (y + 13) (codes "bus taken") (codes "o") ++ line (rail_of column) y (bus.x - 8) y (codes "v") ++ cross (bus.x - 4) y
+barred_text y (Some column) (Some bus) = text (column.x + 8) (y + 13) (codes "bus taken") (codes "o") ++ barrier (rail_of column) bus.x y
 barred_text y _ _ = []
 
 -- an Order, which is of this block if of any
@@ -97,9 +101,13 @@ order_text y columns s None core outcome = []
 order_text y columns s (Some block) core (Ok reply) = ordered_text y columns block core (picture_of s block).transaction
 order_text y columns s (Some block) core (Err cause) = barred_text y (column_for (Core block core) columns) (column_for (Bus block) columns)
 
+-- the name of an operation
+abbrev pub operation_name : Bool → List ℕ
+operation_name is_load = if is_load then codes "load " else codes "store "
+
 -- the operation that a response performs
 abbrev pub performed_text : ℕ → ℕ → Did → List ℕ
-performed_text x y did = operation_opened x y (codes "done") ++ (if did.load then codes "load " else codes "store ") ++ decimal did.value ++ text_closed
+performed_text x y did = operation_opened x y (codes "done") ++ operation_name did.load ++ decimal did.value ++ text_closed
 
 -- the message arrives at the requestor
 abbrev pub to_core : ℕ → Option Column → Option Column → Payload → Did → List ℕ

@@ -25,11 +25,13 @@ keys Mesi y = key 12 y band.Write (codes "may write") ++ key 116 y band.Clean (c
 abbrev pub square_marks : ℕ → List ℕ
 square_marks z = box 12 (z + 3) 7 7 (codes "ask") ++ text 24 (z + 11) (codes "asked") (codes "t") ++ box 80 (z + 3) 7 7 (codes "done") ++ text 92 (z + 11) (codes "performed") (codes "t")
 
--- the way of a request
-abbrev pub request_marks : ℕ → List ℕ
-request_marks z =
-    line 184 (z + 3) 184 (z + 17) (codes "q") ++ dot 184 (z + 3) (codes "i") ++ text 194 (z + 11) (codes "issued (#2: second in the queue)") (codes "t")
-    ++ line 470 (z + 3) 470 (z + 17) (codes "d") ++ dot 470 (z + 3) (codes "p") ++ text 480 (z + 11) (codes "ordered") (codes "t")
+-- a request that was issued
+abbrev pub issued_mark : ℕ → List ℕ
+issued_mark z = line 184 (z + 3) 184 (z + 17) (codes "q") ++ dot 184 (z + 3) (codes "i") ++ text 194 (z + 11) (codes "issued (#2: second in the queue)") (codes "t")
+
+-- one that was ordered
+abbrev pub ordered_mark : ℕ → List ℕ
+ordered_mark z = line 470 (z + 3) 470 (z + 17) (codes "d") ++ dot 470 (z + 3) (codes "p") ++ text 480 (z + 11) (codes "ordered") (codes "t")
 
 -- a message, and a refusal
 abbrev pub other_marks : ℕ → List ℕ
@@ -37,4 +39,4 @@ other_marks z = right_arrow 556 580 (z + 7) (codes "g") ++ text 588 (z + 11) (co
 
 -- the legend, from y on
 abbrev pub legend_text : Protocol → ℕ → List ℕ
-legend_text protocol y = keys protocol y ++ square_marks (y + 26) ++ request_marks (y + 26) ++ other_marks (y + 26)
+legend_text protocol y = keys protocol y ++ square_marks (y + 26) ++ issued_mark (y + 26) ++ ordered_mark (y + 26) ++ other_marks (y + 26)

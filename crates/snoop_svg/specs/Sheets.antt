@@ -83,13 +83,22 @@ column_heading shape bottom column =
     panel_heading shape bottom column column.subject ++ (text_opened (column.x + 8) 44 (codes "s") ++ name_of column.subject ++ text_closed)
     ++ line column.x 64 column.x bottom (codes "l")
 
+-- the beginning of an SVG, up to its size
+unfoldable pub svg_opened : List ℕ
+svg_opened = codes "<svg xmlns=\"http://www.w3.org/2000/svg\" viewBox=\"0 0 "
+
 -- the beginning of a sheet that is so wide and so high
 abbrev pub sheet_opened : ℕ → ℕ → List ℕ
-sheet_opened width height = codes "<svg xmlns=\"http://www.w3.org/2000/svg\" viewBox=\"0 0 " ++ size width height ++ codes ">\n"
+sheet_opened width height = svg_opened ++ size width height ++ codes ">\n"
+
+-- the beginning of a title
+abbrev pub protocol_title : Protocol → List ℕ
+protocol_title Msi = codes "<title>Snoop, MSI, "
+protocol_title Mesi = codes "<title>Snoop, MESI, "
 
 -- the title of a sheet with so many rows
 abbrev pub sheet_title : Protocol → ℕ → List ℕ
-sheet_title protocol rows = codes "<title>Snoop, " ++ capitals protocol ++ codes ", " ++ decimal rows ++ codes " steps drawn</title>\n"
+sheet_title protocol rows = protocol_title protocol ++ decimal rows ++ codes " steps drawn</title>\n"
 
 -- the ground of a sheet, and its protocol
 abbrev pub ground : Protocol → ℕ → ℕ → List ℕ
@@ -105,10 +114,13 @@ heading_text plan protocol shape rows =
 abbrev pub first_word : ℕ → List ℕ
 first_word taken = if taken == 0 then codes "reset" else codes "before"
 
+-- the words of a first row
+abbrev pub first_words : Plan → ℕ → List ℕ
+first_words plan taken = number plan.sizes.numbers 77 taken ++ text plan.sizes.records 77 (first_word taken) (codes "t")
+
 -- a first row: the machine after so many steps
 abbrev pub first_row : Plan → Standing → List ℕ
-first_row plan standing =
-    number plan.sizes.numbers 77 standing.number ++ text plan.sizes.records 77 (first_word standing.number) (codes "t") ++ first_cells 28 plan.columns standing.situation
+first_row plan standing = first_words plan standing.number ++ first_cells 28 plan.columns standing.situation
 
 -- the link that a row is
 abbrev pub row_opened : ℕ → List ℕ
@@ -133,11 +145,19 @@ captions plan shape y taken step outcome =
     number plan.sizes.numbers (y + 13) taken ++ (text_opened plan.sizes.records (y + 13) (codes "s") ++ step_text shape step ++ text_closed)
     ++ (text_opened plan.replies (y + 13) (reply_class outcome) ++ outcome_text outcome ++ text_closed)
 
+-- the beginning of the row of a step, below one that comes after so many steps
+abbrev pub row_head : Plan → Extent → ℕ → ℕ → ℕ → Situation → Step → Result Reply Refused → List Taken → List ℕ
+row_head plan shape y above taken s step outcome lines =
+    row_opened taken ++ row_title shape taken s step outcome lines ++ row_ground (width_of plan) y (border above taken) ++ captions plan shape y taken step outcome
+
+-- its end: what happens
+abbrev pub row_end : Plan → ℕ → Situation → Option ℕ → Step → Result Reply Refused → List Taken → List ℕ
+row_end plan y s of step outcome lines = event_text y plan.columns s of step outcome lines ++ codes "</a>\n"
+
 -- the row of a step, below one that shows what stands above; the machine after the step is in s, and the step is of this block if of any
 abbrev pub row_text : Plan → Extent → ℕ → Standing → ℕ → Situation → Option ℕ → Step → Result Reply Refused → List Taken → List ℕ
 row_text plan shape y above taken s of step outcome lines =
-    row_opened taken ++ row_title shape taken s step outcome lines ++ row_ground (width_of plan) y (border above.number taken) ++ captions plan shape y taken step outcome
-    ++ next_cells y plan.columns above.situation s ++ event_text y plan.columns s of step outcome lines ++ codes "</a>\n"
+    row_head plan shape y above.number taken s step outcome lines ++ next_cells y plan.columns above.situation s ++ row_end plan y s of step outcome lines
 
 -- the end of a sheet with so many rows
 abbrev pub sheet_closed : Protocol → ℕ → List ℕ

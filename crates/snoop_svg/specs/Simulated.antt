@@ -1,6 +1,6 @@
 -- What the command leaves that draws a run as SVG, by what it answers.
 -- Source: this project's profile.
-use Rattle.std.specs.Prelude.{◌≡◌, ℕ, List, Option, Result, Ok, Err, ◌⊎◌}
+use Rattle.std.specs.Prelude.{◌≡◌, ℕ, List, Option, Some, None, Result, Ok, Err, ◌⊎◌}
 use Rattle.snoop_trace.specs.Extent.{Extent}
 use Rattle.snoop_trace.specs.declared.protocol.Protocol.{Protocol}
 use Rattle.snoop_trace.specs.declared.step.Step.{Step}
@@ -12,7 +12,8 @@ use Rattle.snoop_draw.specs.Panels.{panels_for}
 use Rattle.snoop_draw.specs.declared.fault.DrawFault.{DrawFault}
 use Rattle.snoop_draw.specs.declared.fault.DrawFault.TheVariants.{Simulation, TooLarge}
 use Rattle.snoop_svg.specs.declared.paper.Paper.{Paper}
-use Rattle.snoop_svg.specs.Drawings.{drawing_text}
+use Rattle.snoop_svg.specs.Drawings.{drawing_text, plan_for}
+use Rattle.snoop_svg.specs.Sheets.{Plan}
 use Rattle.snoop_svg.specs.Size.{HasRows, IsSmall}
 
 -- the drawing of the steps is small enough
@@ -22,6 +23,18 @@ IsDrawable protocol shape choice steps = (rows : ℕ) × (HasRows protocol shape
 -- it is not
 abbrev pub IsUndrawable : Protocol → Extent → Chosen → List Step → Type 0
 IsUndrawable protocol shape choice steps = (rows : ℕ) × (HasRows protocol shape choice steps rows × ¬ IsSmall rows (panels_for shape steps choice.block))
+
+-- this is the plan of the drawing of the steps, which is small enough
+pub record IsPlan (protocol : Protocol) (shape : Extent) (choice : Chosen) (paper : Paper) (steps : List Step) (plan : Plan) : Type 0 where
+  pub rows : ℕ
+  pub has : HasRows protocol shape choice steps rows
+  pub small : IsSmall rows (panels_for shape steps choice.block)
+  pub is : plan ≡ plan_for shape choice paper steps rows
+
+-- there is a plan, unless the drawing is too large
+abbrev pub IsPlanned : Protocol → Extent → Chosen → Paper → List Step → Option Plan → Type 0
+IsPlanned protocol shape choice paper steps None = IsUndrawable protocol shape choice steps
+IsPlanned protocol shape choice paper steps (Some plan) = IsPlan protocol shape choice paper steps plan
 
 -- the steps were drawn, or a beginning of that; or their drawing would be too large
 abbrev pub DrawsSteps : Protocol → Extent → Chosen → Paper → List Step → Result (Unit {0}) DrawFault → Option (List ℕ) → Option (List ℕ) → Type 0

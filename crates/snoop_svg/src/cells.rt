@@ -1,7 +1,8 @@
 //! The cells of a row.
-ghost use Rattle.std.specs.Prelude.{◌≡◌, ◌++◌, List, IfOk, OnOk, Some, None, map};
+ghost use Rattle.std.specs.Prelude.{◌≡◌, ◌-◌, ◌++◌, List, IfOk, OnOk, Some, None, map};
 ghost use Rattle.std.specs.List.{flat_map};
 ghost use Rattle.snoop_model.specs.Pictures.Situation.{Situation};
+ghost use Rattle.snoop_svg.specs.Bands.{band_text};
 ghost use Rattle.snoop_svg.specs.Cells.{cell_text, class_of_words, first_cells, is_silent, label_text, next_cells, one_cell, rail_of, rail_text, rail_top};
 ghost use Rattle.snoop_svg.specs.Looks.{cell_at, cells_at, look_at};
 ghost use Rattle.snoop_svg.specs.declared.columns.Column.{Column as Shown};
@@ -83,6 +84,31 @@ fn push_label(
     )
 }
 
+fn push_column_band(
+    out: &mut Vec<u8>,
+    y: u32,
+    column: Column,
+    old: Band,
+    look: &Look,
+) -> Result<(), NoMemory>
+    ensures { OnOk result (out.new.items ≡ out.old.items ++ band_text column.x y (column.end - column.x) old look.now.band) }
+{
+    let wide = (column.end as u64).saturating_sub(column.x as u64);
+    push_band(out, column.x as u64, y, wide, old, look.band())
+}
+
+fn push_column_rail(
+    out: &mut Vec<u8>,
+    y: u32,
+    column: Column,
+    is_first: bool,
+    look: &Look,
+) -> Result<(), NoMemory>
+    ensures { OnOk result (out.new.items ≡ out.old.items ++ rail_text (rail_of column) y is_first look.now.rail) }
+{
+    push_rail(out, column.rail() as u64, y, is_first, look.rail())
+}
+
 // Appends a cell: a band of this look and this colour above, and words that may be new.
 fn push_cell(
     out: &mut Vec<u8>,
@@ -95,9 +121,8 @@ fn push_cell(
 ) -> Result<(), NoMemory>
     ensures { OnOk result (out.new.items ≡ out.old.items ++ one_cell y column is_first old is_fresh look.now) }
 {
-    let wide = (column.end as u64).saturating_sub(column.x as u64);
-    push_band(out, column.x as u64, y, wide, old, look.band())?;
-    push_rail(out, column.rail() as u64, y, is_first, look.rail())?;
+    push_column_band(out, y, column, old, look)?;
+    push_column_rail(out, y, column, is_first, look)?;
     push_label(out, column.x, y, is_fresh, look.words())
 }
 

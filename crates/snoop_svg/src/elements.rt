@@ -1,5 +1,6 @@
 //! The elements of a drawing, each one line. All numbers are pixels.
-ghost use Rattle.std.specs.Prelude.{◌≡◌, ◌<◌, ◌^◌, ◌++◌, OnOk};
+ghost use Rattle.std.specs.Prelude.{◌≡◌, ◌++◌, codes, OnOk};
+ghost use Rattle.std.specs.Fmt.{decimal};
 ghost use Rattle.snoop_svg.specs.Elements.{arrow, box, cross, dot, left_arrow, line, number, number_attribute, opened, operation_opened, path_opened, point, right_arrow, size, text, text_closed, text_opened};
 
 use snoop_trace::NoMemory;
@@ -155,6 +156,22 @@ pub(crate) fn push_dot(out: &mut Vec<u8>, x: u64, y: u64, class: &str) -> Result
     push_text(out, " r=\"4\"/>\n")
 }
 
+// Appends the way to an arrow's neck.
+fn push_shaft(out: &mut Vec<u8>, neck: u64) -> Result<(), NoMemory>
+    ensures { OnOk result (out.new.items ≡ out.old.items ++ (codes "H" ++ decimal neck)) }
+{
+    push_byte(out, b'H')?;
+    push_decimal(out, neck)
+}
+
+// Appends the move to an arrow's tip.
+fn push_move(out: &mut Vec<u8>, to: u64, y: u64) -> Result<(), NoMemory>
+    ensures { OnOk result (out.new.items ≡ out.old.items ++ (codes "M" ++ point to y)) }
+{
+    push_byte(out, b'M')?;
+    push_point(out, to, y)
+}
+
 // Appends an arrow, whose head begins at its neck.
 fn push_arrow(
     out: &mut Vec<u8>,
@@ -168,10 +185,8 @@ fn push_arrow(
     ensures { OnOk result (out.new.items ≡ out.old.items ++ arrow x neck to y head.now class.now) }
 {
     open_path(out, x, y, class)?;
-    push_byte(out, b'H')?;
-    push_decimal(out, neck)?;
-    push_byte(out, b'M')?;
-    push_point(out, to, y)?;
+    push_shaft(out, neck)?;
+    push_move(out, to, y)?;
     push_text(out, head)
 }
 

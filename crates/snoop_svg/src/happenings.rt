@@ -3,7 +3,7 @@ ghost use Rattle.std.specs.Prelude.{◌≡◌, ◌+◌, ◌++◌, codes, OnOk};
 ghost use Rattle.snoop_svg.specs.Elements.{text_closed, text_opened};
 ghost use Rattle.snoop_svg.specs.Layout.{column_for};
 ghost use Rattle.snoop_svg.specs.declared.columns.Subject.TheVariants.{Core, Bus, Memory};
-ghost use Rattle.snoop_svg.specs.Happenings.{answer_mark, answer_words, ask_text, asked_text, barred_text, event_text, from_core, from_memory, is_hit, missing_text, opened_text, order_line, order_text, ordered_text, performed_text, respond_text, sent_text, square, to_core, to_memory, to_requestor};
+ghost use Rattle.snoop_svg.specs.Happenings.{answer_mark, answer_words, ask_text, asked_text, barred_text, barrier, event_text, from_core, from_memory, is_hit, missing_text, opened_text, operation_name, order_line, order_text, ordered_text, performed_text, respond_text, sent_text, square, to_core, to_memory, to_requestor};
 
 use crate::columns::{Column, Subject, column_for};
 use crate::elements::{
@@ -223,6 +223,16 @@ fn push_ordered(
     }
 }
 
+// Appends a broken line that ends before the bus, and a cross there.
+fn push_barrier(out: &mut Vec<u8>, rail: u64, bus: u64, y: u64) -> Result<(), NoMemory>
+    ensures { OnOk result (out.new.items ≡ out.old.items ++ barrier rail bus y) }
+{
+    let end = bus.saturating_sub(8);
+    let middle = bus.saturating_sub(4);
+    push_line(out, rail, y, end, y, "v")?;
+    push_cross(out, middle, y)
+}
+
 fn push_barred(
     out: &mut Vec<u8>,
     y: u32,
@@ -235,11 +245,8 @@ fn push_barred(
         return Ok(());
     };
     let rail = column.rail() as u64;
-    let bus_x = bus.x as u64;
-    let y = y as u64;
-    push_words(out, column.x as u64 + 8, y + 13, b"bus taken", "o")?;
-    push_line(out, rail, y, bus_x.saturating_sub(8), y, "v")?;
-    push_cross(out, bus_x.saturating_sub(4), y)
+    push_words(out, column.x as u64 + 8, y as u64 + 13, b"bus taken", "o")?;
+    push_barrier(out, rail, bus.x as u64, y as u64)
 }
 
 fn push_order(
@@ -265,11 +272,21 @@ fn push_order(
     }
 }
 
+fn push_operation_name(out: &mut Vec<u8>, is_load: bool) -> Result<(), NoMemory>
+    ensures { OnOk result (out.new.items ≡ out.old.items ++ operation_name is_load) }
+{
+    if is_load {
+        push_text(out, "load ")
+    } else {
+        push_text(out, "store ")
+    }
+}
+
 fn push_performed(out: &mut Vec<u8>, x: u32, y: u32, did: Did) -> Result<(), NoMemory>
     ensures { OnOk result (out.new.items ≡ out.old.items ++ performed_text x y did) }
 {
     open_operation(out, x, y, "done")?;
-    push_text(out, if did.load { "load " } else { "store " })?;
+    push_operation_name(out, did.load)?;
     push_decimal(out, did.value)?;
     close_text(out)
 }

@@ -1,6 +1,6 @@
 //! What the marks of a drawing mean.
 ghost use Rattle.std.specs.Prelude.{◌≡◌, ◌<◌, ◌++◌, OnOk};
-ghost use Rattle.snoop_svg.specs.Legends.{further_keys, key, keys, legend_text, other_marks, request_marks, square_marks};
+ghost use Rattle.snoop_svg.specs.Legends.{further_keys, issued_mark, key, keys, legend_text, ordered_mark, other_marks, square_marks};
 
 use crate::bands::{Band, push_part};
 use crate::elements::{
@@ -56,14 +56,19 @@ fn push_square_marks(out: &mut Vec<u8>, z: u32) -> Result<(), NoMemory>
     push_words(out, 92, z + 11, b"performed", "t")
 }
 
-// Appends the way of a request.
-fn push_request_marks(out: &mut Vec<u8>, z: u32) -> Result<(), NoMemory>
-    ensures { OnOk result (out.new.items ≡ out.old.items ++ request_marks z) }
+fn push_issued_mark(out: &mut Vec<u8>, z: u32) -> Result<(), NoMemory>
+    ensures { OnOk result (out.new.items ≡ out.old.items ++ issued_mark z) }
 {
     let z = z as u64;
     push_line(out, 184, z + 3, 184, z + 17, "q")?;
     push_dot(out, 184, z + 3, "i")?;
-    push_words(out, 194, z + 11, b"issued (#2: second in the queue)", "t")?;
+    push_words(out, 194, z + 11, b"issued (#2: second in the queue)", "t")
+}
+
+fn push_ordered_mark(out: &mut Vec<u8>, z: u32) -> Result<(), NoMemory>
+    ensures { OnOk result (out.new.items ≡ out.old.items ++ ordered_mark z) }
+{
+    let z = z as u64;
     push_line(out, 470, z + 3, 470, z + 17, "d")?;
     push_dot(out, 470, z + 3, "p")?;
     push_words(out, 480, z + 11, b"ordered", "t")
@@ -87,6 +92,7 @@ pub(crate) fn push_legend(out: &mut Vec<u8>, protocol: Protocol, y: u32) -> Resu
 {
     push_keys(out, protocol, y)?;
     push_square_marks(out, y + 26)?;
-    push_request_marks(out, y + 26)?;
+    push_issued_mark(out, y + 26)?;
+    push_ordered_mark(out, y + 26)?;
     push_other_marks(out, y + 26)
 }

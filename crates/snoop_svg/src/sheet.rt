@@ -4,10 +4,10 @@ ghost use Rattle.std.specs.List.{flat_map};
 ghost use Rattle.snoop_trace.specs.Output.{address_of, step_text};
 ghost use Rattle.snoop_model.specs.Pictures.Situation.{Situation};
 ghost use Rattle.snoop_engine.specs.Line.{outcome_text};
-ghost use Rattle.snoop_svg.specs.Elements.{text_closed, text_opened};
+ghost use Rattle.snoop_svg.specs.Elements.{number, text_closed, text_opened};
 ghost use Rattle.snoop_svg.specs.Looks.{cells_at};
 ghost use Rattle.snoop_svg.specs.Titles.{row_title};
-ghost use Rattle.snoop_svg.specs.Sheets.{block_title, border, capitals, captions, column_heading, first_row, first_word, ground, heading_text, name_of, own_style, panel_heading, reply_class, row_ground, row_opened, row_text, row_y, sheet_closed, sheet_opened, sheet_title, width_of};
+ghost use Rattle.snoop_svg.specs.Sheets.{block_title, border, capitals, captions, column_heading, first_row, first_word, first_words, ground, heading_text, name_of, own_style, panel_heading, protocol_title, reply_class, row_end, row_ground, row_head, row_opened, row_text, row_y, sheet_closed, sheet_opened, sheet_title, svg_opened, width_of};
 
 use crate::cells::{push_first_cells, push_next_cells};
 use crate::columns::{Column, Subject};
@@ -162,23 +162,37 @@ fn push_column_headings(
     Ok(())
 }
 
-fn open_sheet(out: &mut Vec<u8>, width: u64, height: u64) -> Result<(), NoMemory>
-    ensures { OnOk result (out.new.items ≡ out.old.items ++ sheet_opened width height) }
+#[tactic(auto, unfolding(crate::specs::Sheets::svg_opened))]
+fn open_svg(out: &mut Vec<u8>) -> Result<(), NoMemory>
+    ensures { OnOk result (out.new.items ≡ out.old.items ++ svg_opened) }
 {
     push_text(
         out,
         "<svg xmlns=\"http://www.w3.org/2000/svg\" viewBox=\"0 0 ",
-    )?;
+    )
+}
+
+fn open_sheet(out: &mut Vec<u8>, width: u64, height: u64) -> Result<(), NoMemory>
+    ensures { OnOk result (out.new.items ≡ out.old.items ++ sheet_opened width height) }
+{
+    open_svg(out)?;
     push_size(out, width, height)?;
     push_text(out, ">\n")
+}
+
+fn push_protocol(out: &mut Vec<u8>, protocol: Protocol) -> Result<(), NoMemory>
+    ensures { OnOk result (out.new.items ≡ out.old.items ++ protocol_title protocol) }
+{
+    match protocol {
+        Protocol::Msi => push_text(out, "<title>Snoop, MSI, "),
+        Protocol::Mesi => push_text(out, "<title>Snoop, MESI, "),
+    }
 }
 
 fn push_sheet_title(out: &mut Vec<u8>, protocol: Protocol, rows: u32) -> Result<(), NoMemory>
     ensures { OnOk result (out.new.items ≡ out.old.items ++ sheet_title protocol rows) }
 {
-    push_text(out, "<title>Snoop, ")?;
-    push_text(out, capitals(protocol))?;
-    push_text(out, ", ")?;
+    push_protocol(out, protocol)?;
     push_decimal(out, rows as u64)?;
     push_text(out, " steps drawn</title>\n")
 }
@@ -222,6 +236,15 @@ fn first_word(taken: u64) -> &'static str
     if taken == 0 { "reset" } else { "before" }
 }
 
+fn push_first_words(out: &mut Vec<u8>, plan: &Plan, taken: u64) -> Result<(), NoMemory>
+    ensures { OnOk result (out.new.items ≡ out.old.items ++ first_words plan.now taken) }
+{
+    let sizes = plan.sizes();
+    let word = first_word(taken);
+    push_number(out, sizes.numbers as u64, 77, taken)?;
+    push_words(out, sizes.records as u64, 77, word.as_bytes(), "t")
+}
+
 /// Appends a first row, which comes after so many steps, with these cells.
 pub(crate) fn push_first_row(
     out: &mut Vec<u8>,
@@ -231,10 +254,7 @@ pub(crate) fn push_first_row(
 ) -> Result<(), NoMemory>
     ensures { (s : Situation) → cells.now ≡ cells_at s plan.now.columns → OnOk result (out.new.items ≡ out.old.items ++ first_row plan.now (record { number = taken; situation = s })) }
 {
-    let sizes = plan.sizes();
-    let word = first_word(taken);
-    push_number(out, sizes.numbers as u64, 77, taken)?;
-    push_words(out, sizes.records as u64, 77, word.as_bytes(), "t")?;
+    push_first_words(out, plan, taken)?;
     push_first_cells(out, 28, cells)
 }
 
@@ -279,29 +299,41 @@ fn push_row_ground(
     push_line(out, 0, y as u64, width, y as u64, class)
 }
 
+fn push_step_number(
+    out: &mut Vec<u8>,
+    plan: &Plan,
+    y: u32,
+    taken: u64,
+) -> Result<(), NoMemory>
+    ensures { OnOk result (out.new.items ≡ out.old.items ++ number plan.now.sizes.numbers (y + 13) taken) }
+{
+    push_number(out, plan.sizes().numbers as u64, y as u64 + 13, taken)
+}
+
 fn push_record(
     out: &mut Vec<u8>,
-    x: u32,
+    plan: &Plan,
     y: u32,
     shape: Shape,
     step: Step,
 ) -> Result<(), NoMemory>
-    ensures { OnOk result (out.new.items ≡ out.old.items ++ (text_opened x (y + 13) (codes "s") ++ step_text shape step ++ text_closed)) }
+    ensures { OnOk result (out.new.items ≡ out.old.items ++ (text_opened plan.now.sizes.records (y + 13) (codes "s") ++ step_text shape step ++ text_closed)) }
 {
-    open_text(out, x as u64, y as u64 + 13, "s")?;
+    open_text(out, plan.sizes().records as u64, y as u64 + 13, "s")?;
     push_step(out, shape, step)?;
     close_text(out)
 }
 
 fn push_reply(
     out: &mut Vec<u8>,
-    x: u32,
+    plan: &Plan,
     y: u32,
     outcome: Result<Reply, Refused>,
 ) -> Result<(), NoMemory>
-    ensures { OnOk result (out.new.items ≡ out.old.items ++ (text_opened x (y + 13) (reply_class outcome) ++ outcome_text outcome ++ text_closed)) }
+    ensures { OnOk result (out.new.items ≡ out.old.items ++ (text_opened plan.now.replies (y + 13) (reply_class outcome) ++ outcome_text outcome ++ text_closed)) }
 {
-    open_text(out, x as u64, y as u64 + 13, reply_class(outcome))?;
+    let class = reply_class(outcome);
+    open_text(out, plan.replies() as u64, y as u64 + 13, class)?;
     push_outcome(out, outcome)?;
     close_text(out)
 }
@@ -318,10 +350,9 @@ fn push_captions(
 ) -> Result<(), NoMemory>
     ensures { OnOk result (out.new.items ≡ out.old.items ++ captions plan.now shape y taken step outcome) }
 {
-    let sizes = plan.sizes();
-    push_number(out, sizes.numbers as u64, y as u64 + 13, taken)?;
-    push_record(out, sizes.records, y, shape, step)?;
-    push_reply(out, plan.replies(), y, outcome)
+    push_step_number(out, plan, y, taken)?;
+    push_record(out, plan, y, shape, step)?;
+    push_reply(out, plan, y, outcome)
 }
 
 // Appends the beginning of the row of a step, below that of another.
@@ -333,9 +364,7 @@ fn push_row_head(
     above: u64,
     seen: &Seen<'_>,
 ) -> Result<(), NoMemory>
-    ensures { OnOk result (out.new.items ≡ out.old.items
-        ++ (row_opened seen.now.number ++ row_title machine.now.situation.shape seen.now.number machine.now.situation seen.now.step seen.now.outcome seen.now.lines.now
-        ++ row_ground (width_of plan.now) y (border above seen.now.number) ++ captions plan.now machine.now.situation.shape y seen.now.number seen.now.step seen.now.outcome)) }
+    ensures { OnOk result (out.new.items ≡ out.old.items ++ row_head plan.now machine.now.situation.shape y above seen.now.number machine.now.situation seen.now.step seen.now.outcome seen.now.lines.now) }
 {
     let shape = machine.shape();
     let number = seen.number;
@@ -351,6 +380,20 @@ fn push_row_head(
     )?;
     push_row_ground(out, plan.width(), y, border(above, number))?;
     push_captions(out, plan, shape, y, number, seen.step, seen.outcome)
+}
+
+// Appends the end of the row of a step.
+fn push_row_end(
+    out: &mut Vec<u8>,
+    plan: &Plan,
+    machine: &Machine,
+    y: u32,
+    seen: &Seen<'_>,
+) -> Result<(), NoMemory>
+    ensures { OnOk result (out.new.items ≡ out.old.items ++ row_end plan.now y machine.now.situation seen.now.block seen.now.step seen.now.outcome seen.now.lines.now) }
+{
+    push_event(out, y, plan.columns(), machine, seen)?;
+    push_text(out, "</a>\n")
 }
 
 /// Appends the row of the step, below one that comes after so many steps and has these cells, and answers its own cells.
@@ -371,8 +414,7 @@ pub(crate) fn push_row(
 {
     push_row_head(out, plan, machine, y, above, seen)?;
     let shown = push_next_cells(out, alloc, y, cells, machine)?;
-    push_event(out, y, plan.columns(), machine, seen)?;
-    push_text(out, "</a>\n")?;
+    push_row_end(out, plan, machine, y, seen)?;
     Ok(shown)
 }
 

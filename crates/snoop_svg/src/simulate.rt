@@ -1,12 +1,14 @@
 //! The command `draw` as SVG: the steps of a text, and the drawing of their run.
-ghost use Rattle.std.specs.Prelude.{◌≡◌, ◌≢◌, true, Err, IfOk};
+ghost use Rattle.std.specs.Prelude.{◌≡◌, ◌≢◌, true, Err, IfOk, OnErr, OnOk};
 ghost use Rattle.snoop_trace.specs.Output.{BlamesWriter};
 ghost use Rattle.snoop_trace.specs.Text.{BlamesReader};
 ghost use Rattle.snoop_trace.specs.declared.fault.TextFault.{TextFault};
 ghost use Rattle.snoop_trace.specs.declared.fault.TextFault.TheVariants as text_fault;
+ghost use Rattle.snoop_engine.specs.SimulatedView.{BeginsToShow, ShowsRun};
+ghost use Rattle.snoop_draw.specs.Choices.{Chosen};
 ghost use Rattle.snoop_draw.specs.Panels.{panels_for};
-ghost use Rattle.snoop_svg.specs.Drawings.{plan_for};
-ghost use Rattle.snoop_svg.specs.Simulated.{Draws, DrawsSteps};
+ghost use Rattle.snoop_svg.specs.Drawings.{drawing_text, plan_for};
+ghost use Rattle.snoop_svg.specs.Simulated.{Draws, DrawsSteps, IsPlan, IsPlanned};
 ghost use Rattle.snoop_svg.specs.Size.{IsSmall};
 
 use crate::columns::columns_for;
@@ -76,6 +78,45 @@ fn plan_for(
     Ok(Plan::new(sizes, columns, replies, choice, rows, paper))
 }
 
+// The plan of the drawing of these steps, unless it would be too large.
+fn plan_steps(
+    alloc: Global,
+    protocol: Protocol,
+    shape: Shape,
+    choice: Choice,
+    paper: Paper,
+    steps: &[Step],
+) -> Result<Option<Plan>, NoMemory>
+    ensures { IfOk result (IsPlanned protocol shape choice paper steps.now) }
+{
+    let panels = panels_for(alloc, shape, steps, choice.block())?;
+    let rows = rows_of(alloc, protocol, shape, choice, steps)?;
+    if !is_small(rows, &panels) {
+        return Ok(None);
+    }
+    let plan = plan_for(alloc, shape, choice, paper, steps, rows, &panels)?;
+    Ok(Some(plan))
+}
+
+/// Draws the run of the steps by their plan.
+fn draw_planned<W: Sink>(
+    alloc: Global,
+    writer: &mut W,
+    protocol: Protocol,
+    shape: Shape,
+    steps: &[Step],
+    plan: Plan,
+) -> Result<(), WriteFault>
+    ensures ok { (choice : Chosen) (paper : Paper) → IsPlan protocol shape choice paper steps.now plan → OnOk result (ShowsRun protocol shape (drawing_text protocol shape choice paper) steps.now (W.contents writer.old) (W.contents writer.new)) }
+    ensures front { (choice : Chosen) (paper : Paper) → IsPlan protocol shape choice paper steps.now plan → OnErr result (BeginsToShow protocol shape (drawing_text protocol shape choice paper) steps.now (W.contents writer.old) (W.contents writer.new)) }
+    ensures never_blamed { W.never_fails ≡ true → result ≢ Err WriteFault.Write }
+    ensures blamed { BlamesWriter (W.failed writer.old) (W.failed writer.new) (result ≡ Err WriteFault.Write) }
+{
+    runs_are_one();
+    let mut drawing = Drawing::new(alloc, plan);
+    show_steps(alloc, writer, protocol, shape, steps, &mut drawing)
+}
+
 /// Draws the run of the steps, unless that would be too large.
 fn draw_steps<W: Sink>(
     alloc: Global,
@@ -91,24 +132,14 @@ fn draw_steps<W: Sink>(
     ensures never_blamed { W.never_fails ≡ true → result ≢ Err (DrawFault.Simulation SimFault.Write) }
     ensures blamed { BlamesWriter (W.failed writer.old) (W.failed writer.new) (result ≡ Err (DrawFault.Simulation SimFault.Write)) }
 {
-    runs_are_one();
-    let no_memory = DrawFault::Simulation(SimFault::NoMemory);
-    let Ok(panels) = panels_for(alloc, shape, steps, choice.block()) else {
-        return Err(no_memory);
+    let plan = match plan_steps(alloc, protocol, shape, choice, paper, steps) {
+        Ok(Some(plan)) => plan,
+        Ok(None) => return Err(DrawFault::TooLarge),
+        Err(_) => return Err(DrawFault::Simulation(SimFault::NoMemory)),
     };
-    let Ok(rows) = rows_of(alloc, protocol, shape, choice, steps) else {
-        return Err(no_memory);
-    };
-    if !is_small(rows, &panels) {
-        return Err(DrawFault::TooLarge);
-    }
-    let Ok(plan) = plan_for(alloc, shape, choice, paper, steps, rows, &panels) else {
-        return Err(no_memory);
-    };
-    let mut drawing = Drawing::new(alloc, plan);
-    match show_steps(alloc, writer, protocol, shape, steps, &mut drawing) {
+    match draw_planned(alloc, writer, protocol, shape, steps, plan) {
         Ok(()) => Ok(()),
-        Err(WriteFault::NoMemory) => Err(no_memory),
+        Err(WriteFault::NoMemory) => Err(DrawFault::Simulation(SimFault::NoMemory)),
         Err(WriteFault::Write) => Err(DrawFault::Simulation(SimFault::Write)),
     }
 }

@@ -1,6 +1,6 @@
 //! The colours of a drawing, and what stands around the sheets of a page.
 ghost use Rattle.std.specs.Prelude.{◌≡◌, ◌++◌, OnOk};
-ghost use Rattle.snoop_svg.specs.Styles.{page_end, page_head, schemes, style};
+ghost use Rattle.snoop_svg.specs.Styles.{dark_rules, dark_where_asked, light_rules, page_end, page_head, page_middle, page_rules, page_top, schemes, style};
 
 use crate::paper::Theme;
 use snoop_trace::NoMemory;
@@ -74,44 +74,84 @@ show();
 </html>
 ";
 
+#[tactic(auto, unfolding(crate::specs::Styles::light_rules))]
+fn push_light_rules(out: &mut Vec<u8>) -> Result<(), NoMemory>
+    ensures { OnOk result (out.new.items ≡ out.old.items ++ light_rules) }
+{
+    push_text(out, LIGHT_RULES)
+}
+
+#[tactic(auto, unfolding(crate::specs::Styles::dark_rules))]
+fn push_dark_rules(out: &mut Vec<u8>) -> Result<(), NoMemory>
+    ensures { OnOk result (out.new.items ≡ out.old.items ++ dark_rules) }
+{
+    push_text(out, DARK_RULES)
+}
+
+fn push_dark_where_asked(out: &mut Vec<u8>) -> Result<(), NoMemory>
+    ensures { OnOk result (out.new.items ≡ out.old.items ++ dark_where_asked) }
+{
+    push_text(out, "@media screen and (prefers-color-scheme:dark){\n")?;
+    push_dark_rules(out)?;
+    push_text(out, "}\n")
+}
+
 /// Appends the rules for a theme.
 pub(crate) fn push_style(out: &mut Vec<u8>, theme: Theme) -> Result<(), NoMemory>
     ensures { OnOk result (out.new.items ≡ out.old.items ++ style theme) }
 {
-    push_text(out, LIGHT_RULES)?;
+    push_light_rules(out)?;
     match theme {
         Theme::Light => Ok(()),
-        Theme::Dark => push_text(out, DARK_RULES),
-        Theme::Auto => {
-            push_text(out, "@media screen and (prefers-color-scheme:dark){\n")?;
-            push_text(out, DARK_RULES)?;
-            push_text(out, "}\n")
-        }
+        Theme::Dark => push_dark_rules(out),
+        Theme::Auto => push_dark_where_asked(out),
     }
 }
 
-fn schemes(theme: Theme) -> &'static str
-    ensures { result.now ≡ schemes theme }
+fn push_schemes(out: &mut Vec<u8>, theme: Theme) -> Result<(), NoMemory>
+    ensures { OnOk result (out.new.items ≡ out.old.items ++ schemes theme) }
 {
     match theme {
-        Theme::Auto => "light dark",
-        Theme::Light => "light",
-        Theme::Dark => "dark",
+        Theme::Auto => push_text(out, "light dark"),
+        Theme::Light => push_text(out, "light"),
+        Theme::Dark => push_text(out, "dark"),
     }
+}
+
+#[tactic(auto, unfolding(crate::specs::Styles::page_top))]
+fn push_page_top(out: &mut Vec<u8>) -> Result<(), NoMemory>
+    ensures { OnOk result (out.new.items ≡ out.old.items ++ page_top) }
+{
+    push_text(out, PAGE_TOP)
+}
+
+#[tactic(auto, unfolding(crate::specs::Styles::page_rules))]
+fn push_page_rules(out: &mut Vec<u8>) -> Result<(), NoMemory>
+    ensures { OnOk result (out.new.items ≡ out.old.items ++ page_rules) }
+{
+    push_text(out, PAGE_RULES)
+}
+
+#[tactic(auto, unfolding(crate::specs::Styles::page_middle))]
+fn push_page_middle(out: &mut Vec<u8>) -> Result<(), NoMemory>
+    ensures { OnOk result (out.new.items ≡ out.old.items ++ page_middle) }
+{
+    push_text(out, PAGE_MIDDLE)
 }
 
 /// Appends all that stands before the first sheet of a page.
 pub(crate) fn push_page_head(out: &mut Vec<u8>, theme: Theme) -> Result<(), NoMemory>
     ensures { OnOk result (out.new.items ≡ out.old.items ++ page_head theme) }
 {
-    push_text(out, PAGE_TOP)?;
-    push_text(out, schemes(theme))?;
-    push_text(out, PAGE_RULES)?;
+    push_page_top(out)?;
+    push_schemes(out, theme)?;
+    push_page_rules(out)?;
     push_style(out, theme)?;
-    push_text(out, PAGE_MIDDLE)
+    push_page_middle(out)
 }
 
 /// Appends what stands behind the last sheet of a page.
+#[tactic(auto, unfolding(crate::specs::Styles::page_end))]
 pub(crate) fn push_page_end(out: &mut Vec<u8>) -> Result<(), NoMemory>
     ensures { OnOk result (out.new.items ≡ out.old.items ++ page_end) }
 {

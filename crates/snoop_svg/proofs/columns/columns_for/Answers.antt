@@ -23,7 +23,7 @@ loop-panel-preserved c =
     let inside = c.loop-panel-test.true in
     let left : columns_of (drop i panels) ≡ length here.cores + 2 + columns_of (drop (i + 1) panels) = panels_left c.args.sizes c.loop-panel.x panels i item inside in
     let near : after_panel c.args.sizes c.loop-panel.x here ≤ c.loop-panel.x + 12000 * (length here.cores + 2) = after_panel_near c.args.sizes c.requires.narrow c.loop-panel.x here in
-    let next : c.in_ok-x.field-0 ≡ after_panel c.args.sizes c.loop-panel.x here = c.in_ok-x.ensures.next ∙ ap (after_panel c.args.sizes c.loop-panel.x) c.panel-item.is in
+    let next : c.in_ok-x.x ≡ after_panel c.args.sizes c.loop-panel.x here = c.in_ok-x.ensures.next ∙ ap (after_panel c.args.sizes c.loop-panel.x) c.panel-item.is in
     rw next (record {
       columns = panels_more c.args.sizes c.loop-panel.x panels i item inside c.loop-panel.columns.items _ _ c.loop-panel.invariant.columns
           (c.in_ok-x.ensures.columns ∙ ap (λ (p : Panel). c.loop-panel.columns.items ++ panel_columns c.args.sizes c.loop-panel.x p) c.panel-item.is);
