@@ -206,11 +206,7 @@ fn push_memory(
 }
 
 /// What memory says of the block: its state and its values, in brackets where it would not send them.
-pub fn memory_words(
-    alloc: Global,
-    machine: &Machine,
-    block: u32,
-) -> Result<Vec<u8>, NoMemory>
+pub fn memory_words(alloc: Global, machine: &Machine, block: u32) -> Result<Vec<u8>, NoMemory>
     ensures { IfOk result (λ words. words.items ≡ memory_words machine.now.situation block) }
 {
     let mut words = Vec::new(alloc);

@@ -24,6 +24,15 @@ outcomes_on : (first : List Frame) (frame : Frame) → outcomes_of (first ++ fra
 outcomes_on [] frame = refl
 outcomes_on (f ∷ fs) frame = ap (λ (l : List (Result Reply Refused)). f.outcome ∷ l) (outcomes_on fs frame)
 
+-- frames with the same parts
+frame_same : (a b : Frame) → a.step ≡ b.step → a.outcome ≡ b.outcome → a.before ≡ b.before → a.after ≡ b.after → a ≡ b
+frame_same a b step outcome before after =
+    let with_step : Step → Frame = λ t. record { step = t; outcome = a.outcome; before = a.before; after = a.after } in
+    let with_outcome : Result Reply Refused → Frame = λ o. record { step = b.step; outcome = o; before = a.before; after = a.after } in
+    let with_before : Situation → Frame = λ s. record { step = b.step; outcome = b.outcome; before = s; after = a.after } in
+    let with_after : Situation → Frame = λ s. record { step = b.step; outcome = b.outcome; before = b.before; after = s } in
+    ap with_step step ∙ ap with_outcome outcome ∙ ap with_before before ∙ ap with_after after
+
 module _ (protocol : Protocol) (shape : Extent) (one : RunsAreOne) where
   -- the run of the frames so far and one more
   prefix_run : (first : List Frame) (here : Situation) (frame : Frame) → FramesFrom (reset protocol shape) first here → FramesFrom here (frame ∷ []) frame.after
@@ -44,7 +53,7 @@ module _ (protocol : Protocol) (shape : Extent) (one : RunsAreOne) where
       let outcome : frame.outcome ≡ other.outcome = last_of (outcomes_of first) (outcomes_of first) frame.outcome other.outcome refl (sym (outcomes_on first frame) ∙ alike.0 ∙ outcomes_on first other) in
       let after : frame.after ≡ other.after = alike.1 in
       let before : frame.before ≡ other.before = next.0.before ∙ sym also.0.before in
-      cc
+      frame_same frame other same outcome before after
 
   frames_one : (first frames others : List Frame) (here final end : Situation) → FramesFrom (reset protocol shape) first here
       → FramesFrom here frames final → FramesFrom here others end → steps_of frames ≡ steps_of others → frames ≡ others

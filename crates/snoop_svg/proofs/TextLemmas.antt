@@ -20,3 +20,8 @@ on_ok_two (Err e) f p q = tt
 pub on_ok_any : {T E P : Type 0} (r : Result T E) → P → OnOk r P
 on_ok_any (Ok a) p = p
 on_ok_any (Err e) p = tt
+
+-- three facts on a value that is there
+pub on_ok_three : {T E P Q S R : Type 0} (r : Result T E) → (P → Q → S → R) → OnOk r P → OnOk r Q → OnOk r S → OnOk r R
+on_ok_three (Ok a) f p q s = f p q s
+on_ok_three (Err e) f p q s = tt

@@ -82,8 +82,8 @@ turn_text plan protocol shape place above = if is_full plan place then (turned p
 abbrev pub placed_row : Plan → Protocol → Extent → ℕ → Standing → Numbered → List ℕ
 placed_row plan protocol shape place above n =
     if nat_lt place plan.paper.shown then
-        (turn_text plan protocol shape place above
-        ++ row_text plan shape (row_y (place % rows_per_sheet plan.paper.form)) above n.number n.frame.after (block_of n.frame.before n.frame.step) n.frame.step n.frame.outcome (lines_of n.frame.before n.frame.step n.frame.outcome))
+    (turn_text plan protocol shape place above
+    ++ row_text plan shape (row_y (place % rows_per_sheet plan.paper.form)) above n.number n.frame.after (block_of n.frame.before n.frame.step) n.frame.step n.frame.outcome (lines_of n.frame.before n.frame.step n.frame.outcome))
     else []
 
 -- what is drawn of a frame, by those before it: after the last step that is not drawn the first row, and for a step that is drawn its row

@@ -8,6 +8,7 @@ use Rattle.snoop_trace.specs.declared.step.Op.TheVariants.{Load, Store, Evict}
 use Rattle.snoop_trace.specs.declared.step.Step.{Step}
 use Rattle.snoop_trace.specs.declared.step.Step.TheVariants.{Ask, Order, Respond}
 use Rattle.snoop_rules.specs.declared.names.Payload.{Payload}
+use Rattle.snoop_rules.specs.declared.names.Request.{Request}
 use Rattle.snoop_rules.specs.Names.{payload_name, request_name}
 use Rattle.snoop_history.specs.declared.items.Did.{Did}
 use Rattle.snoop_bus.specs.Traffic.{Open}
@@ -57,28 +58,39 @@ ask_text y None op outcome = []
 ask_text y (Some column) op outcome =
     asked_text column.x y op (is_hit outcome) ++ (text_opened (column.x + 8) (y + 31) (codes "a") ++ answer_words outcome ++ text_closed) ++ answer_mark y column outcome
 
+-- the name of a message, in this column
+abbrev pub payload_text : ℕ → ℕ → Payload → List ℕ
+payload_text x y payload = text (x + 8) (y + 31) (payload_name payload) (codes "a")
+
 -- memory sends the message to the bus
 abbrev pub from_memory : ℕ → Column → Column → Payload → List ℕ
-from_memory y bus memory payload = text (memory.x + 8) (y + 31) (payload_name payload) (codes "a") ++ left_arrow (memory.x + 4) bus.end (y + 19) (codes "g")
+from_memory y bus memory payload = payload_text memory.x y payload ++ left_arrow (memory.x + 4) bus.end (y + 19) (codes "g")
 
 -- a core sends it
 abbrev pub from_core : ℕ → Column → Option Column → Payload → List ℕ
 from_core y bus None payload = []
-from_core y bus (Some sender) payload = text (sender.x + 8) (y + 31) (payload_name payload) (codes "a") ++ right_arrow (rail_of sender) bus.x (y + 19) (codes "g")
+from_core y bus (Some sender) payload = payload_text sender.x y payload ++ right_arrow (rail_of sender) bus.x (y + 19) (codes "g")
 
 -- the message of a transaction leaves its sender
 abbrev pub sent_text : ℕ → List Column → ℕ → Column → Column → Option ℕ → Payload → List ℕ
 sent_text y columns block bus memory None payload = from_memory y bus memory payload
 sent_text y columns block bus memory (Some sender) payload = from_core y bus (column_for (Core block sender) columns) payload
 
--- the order of a request: a line across the panel, from the rail to the bus
-abbrev pub order_line : ℕ → Column → Column → Column → List ℕ → List ℕ
-order_line y column bus memory words =
-    text (column.x + 8) (y + 13) words (codes "o") ++ line column.start y memory.end y (codes "u") ++ right_arrow (rail_of column) bus.x y (codes "p") ++ dot (rail_of column) y (codes "p")
+-- the name of a request, in this column
+abbrev pub request_text : ℕ → ℕ → Request → List ℕ
+request_text x y request = text (x + 8) (y + 13) (request_name request) (codes "o")
+
+-- a line across a panel, and an arrow from a rail to the bus
+abbrev pub ray : ℕ → ℕ → ℕ → ℕ → ℕ → List ℕ
+ray y start rail bus end = line start y end y (codes "u") ++ right_arrow rail bus y (codes "p") ++ dot rail y (codes "p")
+
+-- the order of a request
+abbrev pub order_line : ℕ → Column → Column → Column → Request → List ℕ
+order_line y column bus memory request = request_text column.x y request ++ ray y column.start (rail_of column) bus.x memory.end
 
 -- the transaction is opened
 abbrev pub opened_text : ℕ → List Column → ℕ → Option Column → Option Column → Option Column → Open → List ℕ
-opened_text y columns block (Some column) (Some bus) (Some memory) opened = order_line y column bus memory (request_name opened.request) ++ sent_text y columns block bus memory opened.from opened.payload
+opened_text y columns block (Some column) (Some bus) (Some memory) opened = order_line y column bus memory opened.request ++ sent_text y columns block bus memory opened.from opened.payload
 opened_text y columns block _ _ _ opened = []
 
 -- an Order that is taken, by the transaction that is open after it
@@ -109,11 +121,14 @@ operation_name is_load = if is_load then codes "load " else codes "store "
 abbrev pub performed_text : ℕ → ℕ → Did → List ℕ
 performed_text x y did = operation_opened x y (codes "done") ++ operation_name did.load ++ decimal did.value ++ text_closed
 
+-- the end of a rail at this height, where an arrow comes from the bus
+abbrev pub arrival : ℕ → ℕ → ℕ → List ℕ
+arrival y rail bus = line rail y rail (y + 19) (codes "d") ++ left_arrow bus rail (y + 19) (codes "g")
+
 -- the message arrives at the requestor
 abbrev pub to_core : ℕ → Option Column → Option Column → Payload → Did → List ℕ
 to_core y (Some column) (Some bus) payload did =
-    performed_text column.x y did ++ text (column.x + 8) (y + 31) (payload_name payload) (codes "a") ++ line (rail_of column) y (rail_of column) (y + 19) (codes "d")
-    ++ left_arrow bus.x (rail_of column) (y + 19) (codes "g")
+    performed_text column.x y did ++ payload_text column.x y payload ++ arrival y (rail_of column) bus.x
 to_core y _ _ payload did = []
 
 -- the message arrives at the core that performs an operation by it, if any
@@ -123,7 +138,7 @@ to_requestor y columns block payload (Some did) = to_core y (column_for (Core bl
 
 -- the message arrives at memory, if it takes it
 abbrev pub to_memory : ℕ → Option Column → Option Column → Payload → Bool → List ℕ
-to_memory y (Some bus) (Some memory) payload true = text (memory.x + 8) (y + 31) (payload_name payload) (codes "a") ++ right_arrow bus.end memory.x (y + 19) (codes "g")
+to_memory y (Some bus) (Some memory) payload true = payload_text memory.x y payload ++ right_arrow bus.end memory.x (y + 19) (codes "g")
 to_memory y _ _ payload is_met = []
 
 -- there is no transaction whose message could arrive

@@ -8,7 +8,6 @@ pub mod Titles
 pub mod Styles
 pub mod Legends
 pub mod Sheets
-pub mod Pages
 pub mod Drawings
 pub mod Size
 pub mod Simulated

@@ -30,13 +30,7 @@ fn rail_top(y: u32, is_first: bool) -> u64
     if is_first { y as u64 + 36 } else { y as u64 }
 }
 
-fn push_rail(
-    out: &mut Vec<u8>,
-    x: u64,
-    y: u32,
-    is_first: bool,
-    rail: Rail,
-) -> Result<(), NoMemory>
+fn push_rail(out: &mut Vec<u8>, x: u64, y: u32, is_first: bool, rail: Rail) -> Result<(), NoMemory>
     ensures { OnOk result (out.new.items ≡ out.old.items ++ rail_text x y is_first rail) }
 {
     let top = rail_top(y, is_first);
@@ -132,25 +126,12 @@ fn push_first_cell(out: &mut Vec<u8>, y: u32, cell: &Cell) -> Result<(), NoMemor
     push_cell(out, y, cell.column(), true, Band::Bare, true, cell.look())
 }
 
-fn push_next_cell(
-    out: &mut Vec<u8>,
-    y: u32,
-    above: &Cell,
-    cell: &Cell,
-) -> Result<(), NoMemory>
+fn push_next_cell(out: &mut Vec<u8>, y: u32, above: &Cell, cell: &Cell) -> Result<(), NoMemory>
     ensures { OnOk result (out.new.items ≡ out.old.items ++ cell_text y above.now.column (Some above.now.look) cell.now.look) }
 {
     let is_fresh = above.look().words() != cell.look().words();
     let old = above.look().band();
-    push_cell(
-        out,
-        y,
-        above.column(),
-        false,
-        old,
-        is_fresh,
-        cell.look(),
-    )
+    push_cell(out, y, above.column(), false, old, is_fresh, cell.look())
 }
 
 // Appends these cells of a first row.

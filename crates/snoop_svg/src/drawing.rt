@@ -1,9 +1,9 @@
 //! The drawing of a run: a view.
 ghost use Rattle.std.specs.Prelude.{◌≡◌, ◌≤◌, ◌<◌, ◌+◌, ◌-◌, ◌^◌, ◌%◌, ◌++◌, OnOk};
 ghost use Rattle.snoop_model.specs.Pictures.Situation.{Situation};
-ghost use Rattle.snoop_svg.specs.Drawings.{StandsBelow, closing, head_text, is_full, opening, rows_per_sheet, sheet_start, tail_text, turn_text, turned};
+ghost use Rattle.snoop_svg.specs.Drawings.{StandsBelow, closing, head_text, is_full, opening, rows_per_sheet, sheet_rows, sheet_start, tail_text, turn_text, turned};
 ghost use Rattle.snoop_svg.specs.Looks.{cells_at};
-ghost use Rattle.snoop_svg.specs.Sheets.{Standing, first_row, row_text, row_y};
+ghost use Rattle.snoop_svg.specs.Sheets.{Standing, first_row, heading_text, row_text, row_y, sheet_closed};
 
 use crate::looks::{Cell, cells_at};
 use crate::paper::{Form, Paper};
@@ -58,23 +58,32 @@ fn sheet_start(plan: &Plan, place: u64) -> u64
     last.saturating_sub(last % plan.rows_per_sheet() as u64)
 }
 
-// Appends the end of a full sheet, and the heading of the next.
-fn turn_sheet(
+// Appends the heading of the sheet that begins after so many rows.
+fn push_sheet_heading(
     out: &mut Vec<u8>,
     plan: &Plan,
     machine: &Machine,
-    place: u64,
+    done: u64,
 ) -> Result<(), NoMemory>
+    ensures { OnOk result (out.new.items ≡ out.old.items ++ heading_text plan.now machine.now.situation.protocol machine.now.situation.shape (sheet_rows plan.now done)) }
+{
+    let rows = plan.sheet_rows(done);
+    push_heading(out, plan, machine.protocol(), machine.shape(), rows)
+}
+
+// Appends the end of a full sheet.
+fn close_full_sheet(out: &mut Vec<u8>, plan: &Plan, machine: &Machine) -> Result<(), NoMemory>
+    ensures { OnOk result (out.new.items ≡ out.old.items ++ sheet_closed machine.now.situation.protocol (rows_per_sheet plan.now.paper.form)) }
+{
+    close_sheet(out, machine.protocol(), plan.rows_per_sheet())
+}
+
+// Appends the end of a full sheet, and the heading of the next.
+fn turn_sheet(out: &mut Vec<u8>, plan: &Plan, machine: &Machine, place: u64) -> Result<(), NoMemory>
     ensures { OnOk result (out.new.items ≡ out.old.items ++ turned plan.now machine.now.situation.protocol machine.now.situation.shape place) }
 {
-    close_sheet(out, machine.protocol(), plan.rows_per_sheet())?;
-    push_heading(
-        out,
-        plan,
-        machine.protocol(),
-        machine.shape(),
-        plan.sheet_rows(place),
-    )
+    close_full_sheet(out, plan, machine)?;
+    push_sheet_heading(out, plan, machine, place)
 }
 
 // Appends the same, and the first row, which has these cells.
@@ -112,32 +121,45 @@ fn push_turn(
     }
 }
 
+fn push_plan_head(out: &mut Vec<u8>, plan: &Plan) -> Result<(), NoMemory>
+    ensures { OnOk result (out.new.items ≡ out.old.items ++ head_text plan.now.paper plan.now.paper.form) }
+{
+    push_head(out, plan.paper())
+}
+
+fn push_plan_tail(out: &mut Vec<u8>, plan: &Plan) -> Result<(), NoMemory>
+    ensures { OnOk result (out.new.items ≡ out.old.items ++ tail_text plan.now.paper.form) }
+{
+    push_tail(out, plan.paper().form)
+}
+
 // Appends all that stands before the first row.
 fn begin_sheets(out: &mut Vec<u8>, plan: &Plan, machine: &Machine) -> Result<(), NoMemory>
     ensures { OnOk result (out.new.items ≡ out.old.items ++ opening plan.now machine.now.situation.protocol machine.now.situation.shape) }
 {
-    push_head(out, plan.paper())?;
-    push_heading(
-        out,
-        plan,
-        machine.protocol(),
-        machine.shape(),
-        plan.sheet_rows(0),
-    )
+    push_plan_head(out, plan)?;
+    push_sheet_heading(out, plan, machine, 0)
 }
 
-// Appends all that stands behind the last of so many rows.
-fn end_sheets(
+// Appends the end of the sheet of the last of so many rows.
+fn close_last_sheet(
     out: &mut Vec<u8>,
     plan: &Plan,
     machine: &Machine,
     place: u64,
 ) -> Result<(), NoMemory>
-    ensures { OnOk result (out.new.items ≡ out.old.items ++ closing plan.now machine.now.situation.protocol place) }
+    ensures { OnOk result (out.new.items ≡ out.old.items ++ sheet_closed machine.now.situation.protocol (sheet_rows plan.now (sheet_start plan.now place))) }
 {
     let rows = plan.sheet_rows(sheet_start(plan, place));
-    close_sheet(out, machine.protocol(), rows)?;
-    push_tail(out, plan.paper().form)
+    close_sheet(out, machine.protocol(), rows)
+}
+
+// Appends all that stands behind the last of so many rows.
+fn end_sheets(out: &mut Vec<u8>, plan: &Plan, machine: &Machine, place: u64) -> Result<(), NoMemory>
+    ensures { OnOk result (out.new.items ≡ out.old.items ++ closing plan.now machine.now.situation.protocol place) }
+{
+    close_last_sheet(out, plan, machine, place)?;
+    push_plan_tail(out, plan)
 }
 
 // The y of the row in this place.
@@ -162,12 +184,7 @@ impl Drawing {
     }
 
     // Appends the first row, of the machine after so many steps.
-    fn start(
-        &mut self,
-        out: &mut Vec<u8>,
-        machine: &Machine,
-        taken: u64,
-    ) -> Result<(), NoMemory>
+    fn start(&mut self, out: &mut Vec<u8>, machine: &Machine, taken: u64) -> Result<(), NoMemory>
         ensures plan { self.new.plan ≡ self.old.plan × self.new.place ≡ self.old.place }
         ensures below { OnOk result (StandsBelow self.new (record { number = taken; situation = machine.now.situation })) }
         ensures text { OnOk result (out.new.items ≡ out.old.items ++ first_row self.old.plan (record { number = taken; situation = machine.now.situation })) }

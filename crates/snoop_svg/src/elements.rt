@@ -227,12 +227,7 @@ pub(crate) fn push_cross(out: &mut Vec<u8>, x: u64, y: u64) -> Result<(), NoMemo
 }
 
 /// Appends an operation's square, and the beginning of its words.
-pub(crate) fn open_operation(
-    out: &mut Vec<u8>,
-    x: u32,
-    y: u32,
-    class: &str,
-) -> Result<(), NoMemory>
+pub(crate) fn open_operation(out: &mut Vec<u8>, x: u32, y: u32, class: &str) -> Result<(), NoMemory>
     ensures { OnOk result (out.new.items ≡ out.old.items ++ operation_opened x y class.now) }
 {
     push_box(out, x as u64 + 8, y as u64 + 5, 7, 7, class)?;

@@ -1,9 +1,7 @@
 //! What happens at a step, in the panel of its block.
 ghost use Rattle.std.specs.Prelude.{◌≡◌, ◌+◌, ◌++◌, codes, OnOk};
 ghost use Rattle.snoop_svg.specs.Elements.{text_closed, text_opened};
-ghost use Rattle.snoop_svg.specs.Layout.{column_for};
-ghost use Rattle.snoop_svg.specs.declared.columns.Subject.TheVariants.{Core, Bus, Memory};
-ghost use Rattle.snoop_svg.specs.Happenings.{answer_mark, answer_words, ask_text, asked_text, barred_text, barrier, event_text, from_core, from_memory, is_hit, missing_text, opened_text, operation_name, order_line, order_text, ordered_text, performed_text, respond_text, sent_text, square, to_core, to_memory, to_requestor};
+ghost use Rattle.snoop_svg.specs.Happenings.{answer_mark, answer_words, arrival, ask_text, asked_text, barred_text, barrier, event_text, from_core, from_memory, is_hit, missing_text, opened_text, operation_name, order_line, order_text, ordered_text, payload_text, performed_text, ray, request_text, respond_text, sent_text, square, to_core, to_memory, to_requestor};
 
 use crate::columns::{Column, Subject, column_for};
 use crate::elements::{
@@ -15,7 +13,7 @@ use snoop_draw::any_of_memory;
 use snoop_engine::{Seen, push_outcome};
 use snoop_history::Did;
 use snoop_machine::{Machine, Refused, Reply};
-use snoop_rules::Payload;
+use snoop_rules::{Payload, Request};
 use snoop_trace::streams::{push_decimal, push_text};
 use snoop_trace::{NoMemory, Op, Step};
 
@@ -54,10 +52,7 @@ fn push_asked(out: &mut Vec<u8>, x: u32, y: u32, op: Op, is_done: bool) -> Resul
     }
 }
 
-fn push_answer_words(
-    out: &mut Vec<u8>,
-    outcome: Result<Reply, Refused>,
-) -> Result<(), NoMemory>
+fn push_answer_words(out: &mut Vec<u8>, outcome: Result<Reply, Refused>) -> Result<(), NoMemory>
     ensures { OnOk result (out.new.items ≡ out.old.items ++ answer_words outcome) }
 {
     match outcome {
@@ -113,6 +108,14 @@ fn push_ask(
     push_answer_mark(out, y, column, outcome)
 }
 
+// Appends the name of a message, in the column that begins at x.
+fn push_payload(out: &mut Vec<u8>, x: u32, y: u32, payload: Payload) -> Result<(), NoMemory>
+    ensures { OnOk result (out.new.items ≡ out.old.items ++ payload_text x y payload) }
+{
+    let words = payload.name().as_bytes();
+    push_words(out, x as u64 + 8, y as u64 + 31, words, "a")
+}
+
 fn push_from_memory(
     out: &mut Vec<u8>,
     y: u32,
@@ -122,8 +125,7 @@ fn push_from_memory(
 ) -> Result<(), NoMemory>
     ensures { OnOk result (out.new.items ≡ out.old.items ++ from_memory y bus memory payload) }
 {
-    let words = payload.name().as_bytes();
-    push_words(out, memory.x as u64 + 8, y as u64 + 31, words, "a")?;
+    push_payload(out, memory.x, y, payload)?;
     push_left_arrow(out, memory.x as u64 + 4, bus.end, y as u64 + 19, "g")
 }
 
@@ -139,9 +141,9 @@ fn push_from_core(
     let Some(sender) = sender else {
         return Ok(());
     };
-    let words = payload.name().as_bytes();
-    push_words(out, sender.x as u64 + 8, y as u64 + 31, words, "a")?;
-    push_right_arrow(out, sender.rail() as u64, bus.x as u64, y as u64 + 19, "g")
+    let rail = sender.rail() as u64;
+    push_payload(out, sender.x, y, payload)?;
+    push_right_arrow(out, rail, bus.x as u64, y as u64 + 19, "g")
 }
 
 // Appends how the message of a transaction leaves its sender.
@@ -165,6 +167,30 @@ fn push_sent(
     }
 }
 
+// Appends the name of a request, in the column that begins at x.
+fn push_request(out: &mut Vec<u8>, x: u32, y: u32, request: Request) -> Result<(), NoMemory>
+    ensures { OnOk result (out.new.items ≡ out.old.items ++ request_text x y request) }
+{
+    let words = request.name().as_bytes();
+    push_words(out, x as u64 + 8, y as u64 + 13, words, "o")
+}
+
+// Appends a line across a panel, and an arrow from a rail to the bus.
+fn push_ray(
+    out: &mut Vec<u8>,
+    y: u64,
+    start: u64,
+    rail: u64,
+    bus: u64,
+    end: u64,
+) -> Result<(), NoMemory>
+    ensures { OnOk result (out.new.items ≡ out.old.items ++ ray y start rail bus end) }
+{
+    push_line(out, start, y, end, y, "u")?;
+    push_right_arrow(out, rail, bus, y, "p")?;
+    push_dot(out, rail, y, "p")
+}
+
 // Appends the line of an Order.
 fn push_order_line(
     out: &mut Vec<u8>,
@@ -172,16 +198,20 @@ fn push_order_line(
     column: Column,
     bus: Column,
     memory: Column,
-    words: &str,
+    request: Request,
 ) -> Result<(), NoMemory>
-    ensures { OnOk result (out.new.items ≡ out.old.items ++ order_line y column bus memory words.now) }
+    ensures { OnOk result (out.new.items ≡ out.old.items ++ order_line y column bus memory request) }
 {
     let rail = column.rail() as u64;
-    let y = y as u64;
-    push_words(out, column.x as u64 + 8, y + 13, words.as_bytes(), "o")?;
-    push_line(out, column.start as u64, y, memory.end as u64, y, "u")?;
-    push_right_arrow(out, rail, bus.x as u64, y, "p")?;
-    push_dot(out, rail, y, "p")
+    push_request(out, column.x, y, request)?;
+    push_ray(
+        out,
+        y as u64,
+        column.start as u64,
+        rail,
+        bus.x as u64,
+        memory.end as u64,
+    )
 }
 
 fn push_opened(
@@ -189,21 +219,17 @@ fn push_opened(
     y: u32,
     columns: &[Column],
     block: u32,
-    core: u32,
+    column: Option<Column>,
+    bus: Option<Column>,
+    memory: Option<Column>,
     opened: &Open,
 ) -> Result<(), NoMemory>
-    ensures { OnOk result (out.new.items ≡ out.old.items ++ opened_text y columns.now block (column_for (Core block core) columns.now) (column_for (Bus block) columns.now) (column_for (Memory block) columns.now) opened.now) }
+    ensures { OnOk result (out.new.items ≡ out.old.items ++ opened_text y columns.now block column bus memory opened.now) }
 {
-    let Some(column) = column_for(columns, Subject::Core { block, core }) else {
+    let (Some(column), Some(bus), Some(memory)) = (column, bus, memory) else {
         return Ok(());
     };
-    let Some(bus) = column_for(columns, Subject::Bus { block }) else {
-        return Ok(());
-    };
-    let Some(memory) = column_for(columns, Subject::Memory { block }) else {
-        return Ok(());
-    };
-    push_order_line(out, y, column, bus, memory, opened.request.name())?;
+    push_order_line(out, y, column, bus, memory, opened.request)?;
     push_sent(out, y, columns, block, bus, memory, opened)
 }
 
@@ -217,10 +243,13 @@ fn push_ordered(
 ) -> Result<(), NoMemory>
     ensures { OnOk result (out.new.items ≡ out.old.items ++ ordered_text y columns.now block core opened) }
 {
-    match opened {
-        None => Ok(()),
-        Some(opened) => push_opened(out, y, columns, block, core, &opened),
-    }
+    let Some(opened) = opened else {
+        return Ok(());
+    };
+    let column = column_for(columns, Subject::Core { block, core });
+    let bus = column_for(columns, Subject::Bus { block });
+    let memory = column_for(columns, Subject::Memory { block });
+    push_opened(out, y, columns, block, column, bus, memory, &opened)
 }
 
 // Appends a broken line that ends before the bus, and a cross there.
@@ -291,6 +320,14 @@ fn push_performed(out: &mut Vec<u8>, x: u32, y: u32, did: Did) -> Result<(), NoM
     close_text(out)
 }
 
+// Appends the end of a rail, where an arrow comes from the bus.
+fn push_arrival(out: &mut Vec<u8>, y: u32, rail: u32, bus: u32) -> Result<(), NoMemory>
+    ensures { OnOk result (out.new.items ≡ out.old.items ++ arrival y rail bus) }
+{
+    push_line(out, rail as u64, y as u64, rail as u64, y as u64 + 19, "d")?;
+    push_left_arrow(out, bus as u64, rail, y as u64 + 19, "g")
+}
+
 fn push_to_core(
     out: &mut Vec<u8>,
     y: u32,
@@ -304,12 +341,10 @@ fn push_to_core(
     let (Some(column), Some(bus)) = (column, bus) else {
         return Ok(());
     };
-    let words = payload.name().as_bytes();
     let rail = column.rail();
     push_performed(out, column.x, y, did)?;
-    push_words(out, column.x as u64 + 8, y as u64 + 31, words, "a")?;
-    push_line(out, rail as u64, y as u64, rail as u64, y as u64 + 19, "d")?;
-    push_left_arrow(out, bus.x as u64, rail, y as u64 + 19, "g")
+    push_payload(out, column.x, y, payload)?;
+    push_arrival(out, y, rail, bus.x)
 }
 
 fn push_to_requestor(
@@ -347,8 +382,7 @@ fn push_to_memory(
     if !is_met {
         return Ok(());
     }
-    let words = payload.name().as_bytes();
-    push_words(out, memory.x as u64 + 8, y as u64 + 31, words, "a")?;
+    push_payload(out, memory.x, y, payload)?;
     push_right_arrow(out, bus.end as u64, memory.x as u64, y as u64 + 19, "g")
 }
 
@@ -373,11 +407,13 @@ fn push_respond(
 {
     let bus = column_for(columns, Subject::Bus { block });
     match outcome {
-        Ok(Reply::Came {
-            payload,
-            from: _,
-            did,
-        }) => {
+        Ok(
+            Reply::Came {
+                payload,
+                from: _,
+                did,
+            },
+        ) => {
             push_to_requestor(out, y, columns, block, payload, did)?;
             let memory = column_for(columns, Subject::Memory { block });
             push_to_memory(out, y, bus, memory, payload, is_met)
@@ -407,7 +443,15 @@ pub(crate) fn push_event(
             let column = column_for(columns, Subject::Core { block, core });
             push_ask(out, y, column, op, seen.outcome)
         }
-        Step::Order { core } => push_order(out, y, columns, machine, seen.block, core, seen.outcome),
+        Step::Order { core } => push_order(
+            out,
+            y,
+            columns,
+            machine,
+            seen.block,
+            core,
+            seen.outcome,
+        ),
         Step::Respond { block } => {
             let is_met = any_of_memory(seen.lines, block);
             push_respond(out, y, columns, block, seen.outcome, is_met)

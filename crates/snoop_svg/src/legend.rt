@@ -3,20 +3,12 @@ ghost use Rattle.std.specs.Prelude.{◌≡◌, ◌<◌, ◌++◌, OnOk};
 ghost use Rattle.snoop_svg.specs.Legends.{further_keys, issued_mark, key, keys, legend_text, ordered_mark, other_marks, square_marks};
 
 use crate::bands::{Band, push_part};
-use crate::elements::{
-    push_box, push_cross, push_dot, push_line, push_right_arrow, push_words,
-};
+use crate::elements::{push_box, push_cross, push_dot, push_line, push_right_arrow, push_words};
 use snoop_rules::Protocol;
 use snoop_trace::NoMemory;
 
 // Appends a band, and what it means.
-fn push_key(
-    out: &mut Vec<u8>,
-    x: u32,
-    y: u32,
-    band: Band,
-    words: &[u8],
-) -> Result<(), NoMemory>
+fn push_key(out: &mut Vec<u8>, x: u32, y: u32, band: Band, words: &[u8]) -> Result<(), NoMemory>
     ensures { OnOk result (out.new.items ≡ out.old.items ++ key x y band words.now) }
 {
     push_part(out, x as u64, y as u64, 14, 14, band)?;

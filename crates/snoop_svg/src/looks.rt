@@ -110,11 +110,7 @@ impl Model for Cell {
 
 impl Cell {
     /// The column, as the machine is now.
-    pub(crate) fn new(
-        alloc: Global,
-        machine: &Machine,
-        column: Column,
-    ) -> Result<Cell, NoMemory>
+    pub(crate) fn new(alloc: Global, machine: &Machine, column: Column) -> Result<Cell, NoMemory>
         ensures { IfOk result (λ cell. cell ≡ cell_at machine.now.situation column) }
     {
         let look = look_at(alloc, machine, column.subject)?;

@@ -107,6 +107,10 @@ impl Plan {
     {
         let left = self.rows.saturating_sub(done);
         let most = self.rows_per_sheet();
-        if left < most as u64 { left as u32 } else { most }
+        if left < most as u64 {
+            left as u32
+        } else {
+            most
+        }
     }
 }

@@ -1,5 +1,5 @@
 //! How many rows a drawing has: one for each step that is drawn.
-ghost use Rattle.std.specs.Prelude.{◌≡◌, ◌++◌, IfOk, OnOk};
+ghost use Rattle.std.specs.Prelude.{◌≡◌, ◌++◌, IfOk, OnOk, length};
 ghost use Rattle.snoop_svg.specs.Size.{HasRows, mark_text};
 
 use snoop_draw::Choice;
@@ -58,6 +58,13 @@ impl View for Rows {
     }
 }
 
+// How many marks there are.
+fn count(marks: &[u8]) -> u64
+    ensures { result ≡ length marks.now }
+{
+    marks.len() as u64
+}
+
 /// How many of the steps are drawn: which block an Order is of is known once the steps before it are taken.
 pub(crate) fn rows_of(
     alloc: Global,
@@ -71,7 +78,7 @@ pub(crate) fn rows_of(
     let mut marks: Vec<u8> = Vec::new(alloc);
     let mut rows = Rows { choice };
     match show_steps(alloc, &mut marks, protocol, shape, steps, &mut rows) {
-        Ok(()) => Ok(marks.len() as u64),
+        Ok(()) => Ok(count(&marks)),
         Err(_) => Err(NoMemory),
     }
 }

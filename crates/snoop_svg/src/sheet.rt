@@ -5,6 +5,7 @@ ghost use Rattle.snoop_trace.specs.Output.{address_of, step_text};
 ghost use Rattle.snoop_model.specs.Pictures.Situation.{Situation};
 ghost use Rattle.snoop_engine.specs.Line.{outcome_text};
 ghost use Rattle.snoop_svg.specs.Elements.{number, text_closed, text_opened};
+ghost use Rattle.snoop_svg.specs.Legends.{legend_text};
 ghost use Rattle.snoop_svg.specs.Looks.{cells_at};
 ghost use Rattle.snoop_svg.specs.Titles.{row_title};
 ghost use Rattle.snoop_svg.specs.Sheets.{block_title, border, capitals, captions, column_heading, first_row, first_word, first_words, ground, heading_text, name_of, own_style, panel_heading, protocol_title, reply_class, row_end, row_ground, row_head, row_opened, row_text, row_y, sheet_closed, sheet_opened, sheet_title, svg_opened, width_of};
@@ -87,12 +88,7 @@ fn push_block_title(out: &mut Vec<u8>, shape: Shape, block: u32) -> Result<(), N
 }
 
 // Appends what stands over a panel.
-fn push_title(
-    out: &mut Vec<u8>,
-    shape: Shape,
-    column: Column,
-    block: u32,
-) -> Result<(), NoMemory>
+fn push_title(out: &mut Vec<u8>, shape: Shape, column: Column, block: u32) -> Result<(), NoMemory>
     ensures { OnOk result (out.new.items ≡ out.old.items ++ (text_opened column.start 20 (codes "t") ++ block_title shape block ++ text_closed)) }
 {
     open_text(out, column.start as u64, 20, "t")?;
@@ -209,6 +205,43 @@ fn push_ground(
     push_words(out, 12, 20, capitals(protocol).as_bytes(), "s")
 }
 
+fn open_plan(out: &mut Vec<u8>, plan: &Plan, rows: u32) -> Result<(), NoMemory>
+    requires { rows ≤ 20000 }
+    ensures { OnOk result (out.new.items ≡ out.old.items ++ sheet_opened (width_of plan.now) (row_y rows + 70)) }
+{
+    open_sheet(out, plan.width(), row_y(rows) as u64 + 70)
+}
+
+fn push_plan_style(out: &mut Vec<u8>, plan: &Plan) -> Result<(), NoMemory>
+    ensures { OnOk result (out.new.items ≡ out.old.items ++ own_style plan.now.paper plan.now.paper.form) }
+{
+    push_own_style(out, plan.paper())
+}
+
+fn push_plan_ground(
+    out: &mut Vec<u8>,
+    plan: &Plan,
+    protocol: Protocol,
+    rows: u32,
+) -> Result<(), NoMemory>
+    requires { rows ≤ 20000 }
+    ensures { OnOk result (out.new.items ≡ out.old.items ++ ground protocol (width_of plan.now) (row_y rows + 70)) }
+{
+    push_ground(out, protocol, plan.width(), row_y(rows) as u64 + 70)
+}
+
+fn push_plan_columns(
+    out: &mut Vec<u8>,
+    plan: &Plan,
+    shape: Shape,
+    rows: u32,
+) -> Result<(), NoMemory>
+    requires { rows ≤ 20000 }
+    ensures { OnOk result (out.new.items ≡ out.old.items ++ flat_map (column_heading shape (row_y rows)) plan.now.columns) }
+{
+    push_column_headings(out, shape, row_y(rows), plan.columns())
+}
+
 /// Appends all that stands above the rows of a sheet, and behind them.
 pub(crate) fn push_heading(
     out: &mut Vec<u8>,
@@ -220,14 +253,11 @@ pub(crate) fn push_heading(
     requires { rows ≤ 20000 }
     ensures { OnOk result (out.new.items ≡ out.old.items ++ heading_text plan.now protocol shape rows) }
 {
-    let width = plan.width();
-    let bottom = row_y(rows);
-    let height = bottom as u64 + 70;
-    open_sheet(out, width, height)?;
+    open_plan(out, plan, rows)?;
     push_sheet_title(out, protocol, rows)?;
-    push_own_style(out, plan.paper())?;
-    push_ground(out, protocol, width, height)?;
-    push_column_headings(out, shape, bottom, plan.columns())
+    push_plan_style(out, plan)?;
+    push_plan_ground(out, plan, protocol, rows)?;
+    push_plan_columns(out, plan, shape, rows)
 }
 
 fn first_word(taken: u64) -> &'static str
@@ -287,24 +317,14 @@ fn reply_class(outcome: Result<Reply, Refused>) -> &'static str
     }
 }
 
-fn push_row_ground(
-    out: &mut Vec<u8>,
-    width: u64,
-    y: u32,
-    class: &str,
-) -> Result<(), NoMemory>
+fn push_row_ground(out: &mut Vec<u8>, width: u64, y: u32, class: &str) -> Result<(), NoMemory>
     ensures { OnOk result (out.new.items ≡ out.old.items ++ row_ground width y class.now) }
 {
     push_box(out, 0, y as u64, width, 54, "y")?;
     push_line(out, 0, y as u64, width, y as u64, class)
 }
 
-fn push_step_number(
-    out: &mut Vec<u8>,
-    plan: &Plan,
-    y: u32,
-    taken: u64,
-) -> Result<(), NoMemory>
+fn push_step_number(out: &mut Vec<u8>, plan: &Plan, y: u32, taken: u64) -> Result<(), NoMemory>
     ensures { OnOk result (out.new.items ≡ out.old.items ++ number plan.now.sizes.numbers (y + 13) taken) }
 {
     push_number(out, plan.sizes().numbers as u64, y as u64 + 13, taken)
@@ -355,6 +375,52 @@ fn push_captions(
     push_reply(out, plan, y, outcome)
 }
 
+fn push_title_of(out: &mut Vec<u8>, machine: &Machine, seen: &Seen<'_>) -> Result<(), NoMemory>
+    ensures { OnOk result (out.new.items ≡ out.old.items ++ row_title machine.now.situation.shape seen.now.number machine.now.situation seen.now.step seen.now.outcome seen.now.lines.now) }
+{
+    push_row_title(
+        out,
+        machine,
+        machine.shape(),
+        seen.number,
+        seen.step,
+        seen.outcome,
+        seen.lines,
+    )
+}
+
+fn push_plan_row_ground(
+    out: &mut Vec<u8>,
+    plan: &Plan,
+    y: u32,
+    above: u64,
+    taken: u64,
+) -> Result<(), NoMemory>
+    ensures { OnOk result (out.new.items ≡ out.old.items ++ row_ground (width_of plan.now) y (border above taken)) }
+{
+    push_row_ground(out, plan.width(), y, border(above, taken))
+}
+
+fn push_captions_of(
+    out: &mut Vec<u8>,
+    plan: &Plan,
+    machine: &Machine,
+    y: u32,
+    seen: &Seen<'_>,
+) -> Result<(), NoMemory>
+    ensures { OnOk result (out.new.items ≡ out.old.items ++ captions plan.now machine.now.situation.shape y seen.now.number seen.now.step seen.now.outcome) }
+{
+    push_captions(
+        out,
+        plan,
+        machine.shape(),
+        y,
+        seen.number,
+        seen.step,
+        seen.outcome,
+    )
+}
+
 // Appends the beginning of the row of a step, below that of another.
 fn push_row_head(
     out: &mut Vec<u8>,
@@ -366,20 +432,10 @@ fn push_row_head(
 ) -> Result<(), NoMemory>
     ensures { OnOk result (out.new.items ≡ out.old.items ++ row_head plan.now machine.now.situation.shape y above seen.now.number machine.now.situation seen.now.step seen.now.outcome seen.now.lines.now) }
 {
-    let shape = machine.shape();
-    let number = seen.number;
-    open_row(out, number)?;
-    push_row_title(
-        out,
-        machine,
-        shape,
-        number,
-        seen.step,
-        seen.outcome,
-        seen.lines,
-    )?;
-    push_row_ground(out, plan.width(), y, border(above, number))?;
-    push_captions(out, plan, shape, y, number, seen.step, seen.outcome)
+    open_row(out, seen.number)?;
+    push_title_of(out, machine, seen)?;
+    push_plan_row_ground(out, plan, y, above, seen.number)?;
+    push_captions_of(out, plan, machine, y, seen)
 }
 
 // Appends the end of the row of a step.
@@ -418,15 +474,18 @@ pub(crate) fn push_row(
     Ok(shown)
 }
 
+fn push_legend_below(out: &mut Vec<u8>, protocol: Protocol, rows: u32) -> Result<(), NoMemory>
+    requires { rows ≤ 20000 }
+    ensures { OnOk result (out.new.items ≡ out.old.items ++ legend_text protocol (row_y rows + 18)) }
+{
+    push_legend(out, protocol, row_y(rows) + 18)
+}
+
 /// Appends the end of a sheet with so many rows.
-pub(crate) fn close_sheet(
-    out: &mut Vec<u8>,
-    protocol: Protocol,
-    rows: u32,
-) -> Result<(), NoMemory>
+pub(crate) fn close_sheet(out: &mut Vec<u8>, protocol: Protocol, rows: u32) -> Result<(), NoMemory>
     requires { rows ≤ 20000 }
     ensures { OnOk result (out.new.items ≡ out.old.items ++ sheet_closed protocol rows) }
 {
-    push_legend(out, protocol, row_y(rows) + 18)?;
+    push_legend_below(out, protocol, rows)?;
     push_text(out, "</svg>\n")
 }

@@ -7,7 +7,8 @@ use snoop_trace::NoMemory;
 use snoop_trace::streams::push_text;
 
 /// The rules of each class, as they are on light ground.
-const LIGHT_RULES: &str = "text{font:12px ui-monospace,Menlo,Consolas,\"DejaVu Sans Mono\",\"Liberation Mono\",monospace;fill:#1a1a1a}
+const LIGHT_RULES: &str =
+    "text{font:12px ui-monospace,Menlo,Consolas,\"DejaVu Sans Mono\",\"Liberation Mono\",monospace;fill:#1a1a1a}
 .paper{fill:#fff}.h,.l{stroke:#d0d0d0}.j{stroke:#808080;stroke-dasharray:1 5}
 .w{fill:#f0a050}.c{fill:#fbdcb4}.r{fill:#b5d8f0}.m{fill:#cfe6dc}.bus{fill:#f2f2f2}.b{fill:#d9d2e9}
 .s,.o{font-weight:700}.k,.t{fill:#404040}.z{fill:#a51d14}
@@ -19,7 +20,8 @@ a:focus{outline:none}a:focus .y{stroke:#1a1a1a;stroke-width:2}a:target .y{fill:#
 ";
 
 /// What dark ground changes.
-const DARK_RULES: &str = "text{fill:#f0f0f0}.paper,.i,.ask{fill:#15171a}.h,.l{stroke:#3c4046}.j{stroke:#909090}
+const DARK_RULES: &str =
+    "text{fill:#f0f0f0}.paper,.i,.ask{fill:#15171a}.h,.l{stroke:#3c4046}.j{stroke:#909090}
 .w{fill:#8f4700}.c{fill:#573a15}.r{fill:#1d4f73}.m{fill:#1f4538}.bus{fill:#1d2024}.b{fill:#453f68}
 .k,.t{fill:#dcdcdc}.z{fill:#ffb4ab}.u,.q,.d,.i,.ask{stroke:#f0f0f0}.p,.done{stroke:#f0f0f0;fill:#f0f0f0}
 .edge{fill:#ffcf9e}.g{stroke:#9fd3f5;fill:#9fd3f5}.v,.x{stroke:#ffb4ab}a:focus .y{stroke:#f0f0f0}a:target .y{fill:#5a5110}
@@ -50,7 +52,8 @@ const PAGE_MIDDLE: &str = "</style>
 ";
 
 /// What stands behind the last sheet.
-const PAGE_END: &str = "<pre aria-live=\"polite\">Click a row, or go through the steps with the arrow keys. Esc shows the whole run.</pre>
+const PAGE_END: &str =
+    "<pre aria-live=\"polite\">Click a row, or go through the steps with the arrow keys. Esc shows the whole run.</pre>
 <script>
 const rows = [...document.querySelectorAll(\"a[id]\")], notes = document.querySelector(\"pre\");
 const at = () => rows.findIndex(row => \"#\" + row.id === location.hash);

@@ -169,11 +169,7 @@ fn push_row_taken(out: &mut Vec<u8>, machine: &Machine, taken: Taken) -> Result<
     }
 }
 
-fn push_rows_taken(
-    out: &mut Vec<u8>,
-    machine: &Machine,
-    lines: &[Taken],
-) -> Result<(), NoMemory>
+fn push_rows_taken(out: &mut Vec<u8>, machine: &Machine, lines: &[Taken]) -> Result<(), NoMemory>
     ensures { OnOk result (out.new.items ≡ out.old.items ++ flat_map (taken_row machine.now.situation) lines.now) }
 {
     for taken in lines {

@@ -10,7 +10,8 @@ use std::test::Fail;
 const LOAD: &str = "L,0,0\nO,0\nR,0\n";
 
 /// The same, drawn for light ground.
-const LOAD_DRAWN: &str = "<svg xmlns=\"http://www.w3.org/2000/svg\" viewBox=\"0 0 800 314\" width=\"800\" height=\"314\">
+const LOAD_DRAWN: &str =
+    "<svg xmlns=\"http://www.w3.org/2000/svg\" viewBox=\"0 0 800 314\" width=\"800\" height=\"314\">
 <title>Snoop, MSI, 3 steps drawn</title>
 <style>
 text{font:12px ui-monospace,Menlo,Consolas,\"DejaVu Sans Mono\",\"Liberation Mono\",monospace;fill:#1a1a1a}
@@ -126,7 +127,8 @@ core 0: IS_D,Data,fill load,S</title>
 const WRITEBACK: &str = "R,0\nS,0,0,7\nL,0,0\nE,0,0\nO,0\nR,0\nL,0,0\nE,0,0\nO,0\nR,0\n";
 
 /// Of the same the steps from the fourth on, of which three have rows that are shown, for dark ground under MESI.
-const WRITEBACK_DRAWN: &str = "<svg xmlns=\"http://www.w3.org/2000/svg\" viewBox=\"0 0 800 530\" width=\"800\" height=\"530\">
+const WRITEBACK_DRAWN: &str =
+    "<svg xmlns=\"http://www.w3.org/2000/svg\" viewBox=\"0 0 800 530\" width=\"800\" height=\"530\">
 <title>Snoop, MESI, 7 steps drawn</title>
 <style>
 text{font:12px ui-monospace,Menlo,Consolas,\"DejaVu Sans Mono\",\"Liberation Mono\",monospace;fill:#1a1a1a}
@@ -777,7 +779,14 @@ fn a_first_load(rt: HostRuntime) -> Result<(), Fail> {
         shown: u64::MAX,
     };
     let text = LOAD.as_bytes();
-    if !is_drawn(rt.alloc(), text, Protocol::Msi, from(None, 1)?, paper, LOAD_DRAWN)? {
+    if !is_drawn(
+        rt.alloc(),
+        text,
+        Protocol::Msi,
+        from(None, 1)?,
+        paper,
+        LOAD_DRAWN,
+    )? {
         Err("the load")?
     }
     Ok(())
@@ -791,7 +800,14 @@ fn three_rows_of_a_writeback(rt: HostRuntime) -> Result<(), Fail> {
         shown: 3,
     };
     let text = WRITEBACK.as_bytes();
-    if !is_drawn(rt.alloc(), text, Protocol::Mesi, from(None, 4)?, paper, WRITEBACK_DRAWN)? {
+    if !is_drawn(
+        rt.alloc(),
+        text,
+        Protocol::Mesi,
+        from(None, 4)?,
+        paper,
+        WRITEBACK_DRAWN,
+    )? {
         Err("the writeback")?
     }
     Ok(())
@@ -805,7 +821,14 @@ fn a_block_as_a_page(rt: HostRuntime) -> Result<(), Fail> {
         shown: u64::MAX,
     };
     let text = BEHIND.as_bytes();
-    if !is_drawn(rt.alloc(), text, Protocol::Msi, from(Some(1), 3)?, paper, BEHIND_DRAWN)? {
+    if !is_drawn(
+        rt.alloc(),
+        text,
+        Protocol::Msi,
+        from(Some(1), 3)?,
+        paper,
+        BEHIND_DRAWN,
+    )? {
         Err("the page")?
     }
     Ok(())
@@ -822,7 +845,14 @@ fn two_sheets(rt: HostRuntime) -> Result<(), Fail> {
     for _step in 0..25 {
         text.extend_from_slice(b"O,0\n")?;
     }
-    if !is_drawn(rt.alloc(), &text, Protocol::Msi, from(None, 1)?, paper, SHEETS_DRAWN)? {
+    if !is_drawn(
+        rt.alloc(),
+        &text,
+        Protocol::Msi,
+        from(None, 1)?,
+        paper,
+        SHEETS_DRAWN,
+    )? {
         Err("the sheets")?
     }
     Ok(())
