@@ -1,6 +1,8 @@
 //! Which steps are drawn.
 ghost use Rattle.std.specs.Prelude.{◌≡◌, ◌≤◌, ◌↔◌, IsTrue};
+ghost use Rattle.snoop_draw.specs.Drawings.{is_chosen};
 
+use crate::event::is_of;
 use snoop_trace::Shape;
 use std::marker::Model;
 use thiserror::Error;
@@ -39,6 +41,8 @@ impl Model for Choice {
 
 impl Choice {
     ghost use Rattle.snoop_draw.specs.Choice.{IsBlock, IsChoice};
+    ghost use Rattle.std.specs.Prelude.{◌+◌, ◌==◌};
+    ghost use Rattle.snoop_draw.specs.Drawings.{is_drawn};
 
     /// The steps numbered `from` to `to`, of the block alone where one is named.
     ///
@@ -78,6 +82,20 @@ impl Choice {
         self.to
     }
 
+    /// Whether the step of this number, and of this block if of any, is drawn.
+    pub fn has(self, number: u64, of: Option<u32>) -> bool
+        ensures { result ≡ is_drawn self number of }
+    {
+        self.from <= number && number <= self.to && is_chosen(self.block, of)
+    }
+
+    /// Whether the first row comes after so many steps: the next one has the first number.
+    pub fn is_first_after(self, number: u64) -> bool
+        ensures { result ≡ (number + 1 == self.from) }
+    {
+        number < self.from && self.from - number == 1
+    }
+
     // Whether the block, if one is named, is one of the shape.
     fn is_block(shape: Shape, block: Option<u32>) -> bool
         ensures { IsTrue result ↔ IsBlock shape block }
@@ -86,5 +104,15 @@ impl Choice {
             None => true,
             Some(block) => block < shape.blocks(),
         }
+    }
+}
+
+// Whether something of this block, if of any, is among what is chosen.
+fn is_chosen(block: Option<u32>, of: Option<u32>) -> bool
+    ensures { result ≡ is_chosen block of }
+{
+    match block {
+        None => true,
+        Some(block) => is_of(of, block),
     }
 }

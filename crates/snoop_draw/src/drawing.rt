@@ -1,17 +1,17 @@
 //! The drawing of a run: a view.
-ghost use Rattle.std.specs.Prelude.{◌≡◌, ◌+◌, ◌==◌, ◌++◌, [], OnOk};
+ghost use Rattle.std.specs.Prelude.{◌≡◌, ◌++◌, [], OnOk};
 ghost use Rattle.std.specs.Fmt.{decimal};
 ghost use Rattle.std.specs.List.{flat_map};
 ghost use Rattle.snoop_model.specs.Pictures.Situation.{reset};
 ghost use Rattle.snoop_engine.specs.Line.{line_text};
 ghost use Rattle.snoop_draw.specs.Cells.{right_text};
-ghost use Rattle.snoop_draw.specs.Drawings.{beginning_text, first_words, is_chosen, is_drawn, panel_seen, row_seen, rows_seen, standing_text};
+ghost use Rattle.snoop_draw.specs.Drawings.{beginning_text, first_words, panel_seen, row_seen, rows_seen, standing_text};
 ghost use Rattle.snoop_draw.specs.Rows.{panel_text};
 ghost use Rattle.snoop_draw.specs.declared.event.Event.TheVariants.{Before};
 
 use crate::cells::{Style, push_right};
 use crate::choice::Choice;
-use crate::event::{Event, block_of, event_in, is_of};
+use crate::event::{Event, block_of, event_in};
 use crate::heading::{push_heading, push_legend};
 use crate::panels::Panel;
 use crate::row::push_panel;
@@ -89,22 +89,6 @@ impl Drawing {
         push_line(out, machine.shape(), seen.step, seen.outcome)
     }
 
-    // Whether the step of this number, and of this block if of any, is drawn.
-    fn is_drawn(&self, number: u64, of: Option<u32>) -> bool
-        ensures { result ≡ is_drawn self.now.choice number of }
-    {
-        self.choice.from() <= number
-            && number <= self.choice.to()
-            && is_chosen(self.choice.block(), of)
-    }
-
-    // Whether the first row comes after so many steps.
-    fn is_first_after(&self, number: u64) -> bool
-        ensures { result ≡ (number + 1 == self.now.choice.from) }
-    {
-        number < self.choice.from() && self.choice.from() - number == 1
-    }
-
     // Appends what is drawn at the step.
     fn push_rows(
         &self,
@@ -114,11 +98,11 @@ impl Drawing {
     ) -> Result<(), NoMemory>
         ensures { OnOk result (out.new.items ≡ out.old.items ++ rows_seen self.now machine.now.situation.shape seen.now.number machine.now.situation seen.now.step seen.now.outcome seen.now.lines.now) }
     {
-        if self.is_first_after(seen.number) {
+        if self.choice.is_first_after(seen.number) {
             return self.push_standing(out, machine, seen.number);
         }
         let of = block_of(seen.step, seen.outcome, seen.lines);
-        if self.is_drawn(seen.number, of) {
+        if self.choice.has(seen.number, of) {
             self.push_row(out, machine, seen)
         } else {
             Ok(())
@@ -138,7 +122,7 @@ impl Drawing {
             machine.shape(),
             &self.panels,
         )?;
-        if self.is_first_after(0) {
+        if self.choice.is_first_after(0) {
             self.push_standing(out, machine, 0)
         } else {
             Ok(())
@@ -207,16 +191,6 @@ fn push_panels_seen(
         push_panel_seen(out, alloc, style, machine, seen, panel)?;
     }
     Ok(())
-}
-
-// Whether something of this block, if of any, is among what is chosen.
-fn is_chosen(block: Option<u32>, of: Option<u32>) -> bool
-    ensures { result ≡ is_chosen block of }
-{
-    match block {
-        None => true,
-        Some(block) => is_of(of, block),
-    }
 }
 
 // The last words of the first row.

@@ -188,14 +188,14 @@ pub(crate) fn any_of_core(lines: &[Taken], block: u32, core: u32) -> bool
 }
 
 /// Whether a line is of memory and this block.
-pub(crate) fn any_of_memory(lines: &[Taken], block: u32) -> bool
+pub fn any_of_memory(lines: &[Taken], block: u32) -> bool
     ensures { result ≡ list_any (names_memory block) lines.now }
 {
     lines.iter().any(|taken| names_memory(taken, block))
 }
 
 /// What a core in this state may do with the block: store, or at least load, where that is a hit.
-pub(crate) fn may(protocol: Protocol, state: CacheState) -> Mark
+pub fn may(protocol: Protocol, state: CacheState) -> Mark
     ensures { result ≡ may protocol state }
 {
     if may_store(protocol, state) {
@@ -207,8 +207,8 @@ pub(crate) fn may(protocol: Protocol, state: CacheState) -> Mark
     }
 }
 
-// What a core in this state waits for.
-fn awaits(state: CacheState) -> Mark
+/// What a core in this state waits for.
+pub fn awaits(state: CacheState) -> Mark
     ensures { result ≡ awaits state }
 {
     match state {

@@ -9,7 +9,7 @@ pub enum DrawFault {
     /// The simulation stopped.
     #[error(transparent)]
     Simulation(SimFault),
-    /// The drawing would have more than a million cells; nothing was written.
+    /// The drawing would have more cells than its form may have; nothing was written.
     #[error("TooLarge")]
     TooLarge,
 }

@@ -17,6 +17,12 @@ mod widths;
 mod words;
 
 pub use choice::{Choice, ChoiceFault};
+pub use event::{any_of_memory, awaits, may};
 pub use fault::DrawFault;
-pub use marks::Charset;
+pub use marks::{Charset, Mark};
+pub use panels::{Panel, panels_for};
+pub use row::held_in;
 pub use simulate::simulate_drawing;
+pub use size::columns_of;
+pub use widths::{digits, most_stored, values_width};
+pub use words::{answers, bus_words, core_words, memory_words};

@@ -16,7 +16,7 @@ pub enum Charset {
 
 /// What one character says.
 #[derive(Clone, Copy, Debug)]
-pub(crate) enum Mark {
+pub enum Mark {
     Blank,
     MayWrite,
     MayRead,

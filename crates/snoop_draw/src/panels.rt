@@ -9,7 +9,7 @@ use std::marker::Model;
 
 /// What is drawn of a block: a column for each core that asks for it, the bus, and memory.
 #[derive(Debug, Drop)]
-pub(crate) struct Panel {
+pub struct Panel {
     block: u32,
     cores: Vec<u32>,
 }
@@ -24,14 +24,14 @@ impl Model for Panel {
 
 impl Panel {
     /// The block of the panel.
-    pub(crate) fn block(&self) -> u32
+    pub fn block(&self) -> u32
         ensures { result ≡ self.now.block }
     {
         self.block
     }
 
     /// The cores that have a column, rising.
-    pub(crate) fn cores(&self) -> &[u32]
+    pub fn cores(&self) -> &[u32]
         ensures { result.now ≡ self.now.cores }
     {
         &self.cores
@@ -163,7 +163,7 @@ fn one_panel(
 }
 
 /// The panels of a drawing of the steps, of one block or of all that a core asks for.
-pub(crate) fn panels_for(
+pub fn panels_for(
     alloc: Global,
     shape: Shape,
     steps: &[Step],

@@ -28,8 +28,8 @@ pub(crate) struct Moment<'a> {
     pub(crate) lines: &'a [Taken],
 }
 
-// The state in which the core holds the block.
-fn held_in(machine: &Machine, block: u32, core: u32) -> CacheState
+/// The state in which the core holds the block.
+pub fn held_in(machine: &Machine, block: u32, core: u32) -> CacheState
     ensures { result ≡ held_in machine.now.situation block core }
 {
     state_at(machine, core, block).unwrap_or(CacheState::I)

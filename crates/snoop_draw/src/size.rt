@@ -26,8 +26,8 @@ fn steps_within(choice: Choice, count: u64) -> u64
     last - choice.from() + 1
 }
 
-// How many columns the panels have, at most the largest number.
-fn columns_of(panels: &[Panel]) -> u64
+/// How many columns the panels have, at most the largest number.
+pub fn columns_of(panels: &[Panel]) -> u64
     ensures { result ≡ min (columns_of panels.now) (2 ^ 64 - 1) }
 {
     let mut columns: u64 = 0;

@@ -1,6 +1,6 @@
 //! How wide the columns of a drawing are.
 ghost use Rattle.std.specs.Prelude.{◌≡◌, ◌≤◌, max};
-ghost use Rattle.snoop_draw.specs.Widths.{digits, most_stored, stored, widths_for};
+ghost use Rattle.snoop_draw.specs.Widths.{digits, most_stored, stored, values_width, widths_for};
 
 use itoa::Buffer;
 use snoop_trace::{Op, Shape, Step};
@@ -14,8 +14,8 @@ pub(crate) struct Widths {
     pub(crate) memory: usize,
 }
 
-// How many digits the number has.
-fn digits(number: u64) -> usize
+/// How many decimal digits the number has.
+pub fn digits(number: u64) -> usize
     ensures value { result ≡ digits number }
     ensures few { result ≤ 20 }
 {
@@ -44,8 +44,8 @@ fn larger(one: u64, other: u64) -> u64
     if one < other { other } else { one }
 }
 
-// The largest value that the steps store, or 0.
-fn most_stored(steps: &[Step]) -> u64
+/// The largest value that the steps store, or 0.
+pub fn most_stored(steps: &[Step]) -> u64
     ensures { result ≡ most_stored steps.now }
 {
     let mut most = 0;
@@ -55,12 +55,20 @@ fn most_stored(steps: &[Step]) -> u64
     most
 }
 
+/// How many characters the values of a block's words take: each as many as the largest that is stored, and a blank between two.
+pub fn values_width(shape: Shape, steps: &[Step]) -> usize
+    ensures value { result ≡ values_width shape steps.now }
+    ensures few { result ≤ 1343 }
+{
+    shape.within_limits();
+    shape.words() as usize * (digits(most_stored(steps)) + 1) - 1
+}
+
 /// The widths in which whatever a drawing of the steps has to say finds room.
 pub(crate) fn widths_for(shape: Shape, steps: &[Step]) -> Widths
     ensures { result ≡ widths_for shape steps.now }
 {
-    shape.within_limits();
-    let values = shape.words() as usize * (digits(most_stored(steps)) + 1) - 1;
+    let values = values_width(shape, steps);
     Widths {
         number: larger(digits(steps.len() as u64) as u64, 4) as usize,
         core: 8 + values + digits(shape.blocks() as u64),

@@ -88,8 +88,8 @@ fn push_place(out: &mut Vec<u8>, place: Option<usize>) -> Result<(), NoMemory>
     }
 }
 
-/// What the core says of the block.
-pub(crate) fn core_words(
+/// What the core says of the block: its state, its values, and the place of its request in its queue, from the second on.
+pub fn core_words(
     alloc: Global,
     machine: &Machine,
     block: u32,
@@ -142,8 +142,8 @@ fn push_message(out: &mut Vec<u8>, count: u32, opened: &Open) -> Result<(), NoMe
     push_carried(out, count, opened.payload, opened.value)
 }
 
-/// What the bus says of the block.
-pub(crate) fn bus_words(alloc: Global, machine: &Machine, block: u32) -> Result<Vec<u8>, NoMemory>
+/// What the bus says of the block: the message of the open transaction, if there is one.
+pub fn bus_words(alloc: Global, machine: &Machine, block: u32) -> Result<Vec<u8>, NoMemory>
     ensures { IfOk result (λ words. words.items ≡ bus_words machine.now.situation block) }
 {
     let mut words = Vec::new(alloc);
@@ -173,8 +173,8 @@ fn push_memory_values(out: &mut Vec<u8>, machine: &Machine, block: u32) -> Resul
     Ok(())
 }
 
-// Whether memory would send its values to a core that asks.
-fn answers(state: MemState) -> bool
+/// Whether memory in this state would send its values to a core that asks.
+pub fn answers(state: MemState) -> bool
     ensures { result ≡ answers state }
 {
     matches!(&state, MemState::IorS | MemState::I | MemState::S)
@@ -205,12 +205,8 @@ fn push_memory(
     }
 }
 
-/// What memory says of the block.
-pub(crate) fn memory_words(
-    alloc: Global,
-    machine: &Machine,
-    block: u32,
-) -> Result<Vec<u8>, NoMemory>
+/// What memory says of the block: its state and its values, in brackets where it would not send them.
+pub fn memory_words(alloc: Global, machine: &Machine, block: u32) -> Result<Vec<u8>, NoMemory>
     ensures { IfOk result (λ words. words.items ≡ memory_words machine.now.situation block) }
 {
     let mut words = Vec::new(alloc);

@@ -1,0 +1,9 @@
+pub mod TextLemmas
+pub mod LayoutLemmas
+pub mod DrawnLemmas
+pub mod SeenLemmas
+pub mod BeginLemmas
+pub mod FrameLemmas
+pub mod RowLemmas
+pub mod WholeLemmas
+pub mod LawLemmas

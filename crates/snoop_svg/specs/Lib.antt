@@ -1,0 +1,14 @@
+pub mod Elements
+pub mod Bands
+pub mod Looks
+pub mod Cells
+pub mod Layout
+pub mod Happenings
+pub mod Titles
+pub mod Styles
+pub mod Legends
+pub mod Sheets
+pub mod Drawings
+pub mod Size
+pub mod Simulated
+pub mod Laws

@@ -1,0 +1,52 @@
+-- What the command leaves that draws a run as SVG, by what it answers.
+-- Source: this project's profile.
+use Rattle.std.specs.Prelude.{◌≡◌, ℕ, List, Option, Some, None, Result, Ok, Err, ◌⊎◌}
+use Rattle.snoop_trace.specs.Extent.{Extent}
+use Rattle.snoop_trace.specs.declared.protocol.Protocol.{Protocol}
+use Rattle.snoop_trace.specs.declared.step.Step.{Step}
+use Rattle.snoop_engine.specs.Inputs.{GivesSteps, IsRefusedText}
+use Rattle.snoop_engine.specs.SimulatedView.{BeginsToShow, ShowsRun}
+use Rattle.snoop_engine.specs.declared.fault.SimFault.TheVariants.{Text, NoMemory, Write}
+use Rattle.snoop_engine.specs.declared.input.Input.{Input}
+use Rattle.snoop_draw.specs.Choices.{Chosen}
+use Rattle.snoop_draw.specs.Panels.{panels_for}
+use Rattle.snoop_draw.specs.declared.fault.DrawFault.{DrawFault}
+use Rattle.snoop_draw.specs.declared.fault.DrawFault.TheVariants.{Simulation, TooLarge}
+use Rattle.snoop_svg.specs.declared.paper.Paper.{Paper}
+use Rattle.snoop_svg.specs.Drawings.{drawing_text, plan_for}
+use Rattle.snoop_svg.specs.Sheets.{Plan}
+use Rattle.snoop_svg.specs.Size.{HasRows, IsSmall}
+
+-- the drawing of the steps is small enough
+abbrev pub IsDrawable : Protocol → Extent → Chosen → List Step → Type 0
+IsDrawable protocol shape choice steps = (rows : ℕ) × (HasRows protocol shape choice steps rows × IsSmall rows (panels_for shape steps choice.block))
+
+-- it is not
+abbrev pub IsUndrawable : Protocol → Extent → Chosen → List Step → Type 0
+IsUndrawable protocol shape choice steps = (rows : ℕ) × (HasRows protocol shape choice steps rows × ¬ IsSmall rows (panels_for shape steps choice.block))
+
+-- this is the plan of the drawing of the steps, which is small enough
+pub record IsPlan (protocol : Protocol) (shape : Extent) (choice : Chosen) (paper : Paper) (steps : List Step) (plan : Plan) : Type 0 where
+  pub rows : ℕ
+  pub has : HasRows protocol shape choice steps rows
+  pub small : IsSmall rows (panels_for shape steps choice.block)
+  pub is : plan ≡ plan_for shape choice paper steps rows
+
+-- there is a plan, unless the drawing is too large
+abbrev pub IsPlanned : Protocol → Extent → Chosen → Paper → List Step → Option Plan → Type 0
+IsPlanned protocol shape choice paper steps None = IsUndrawable protocol shape choice steps
+IsPlanned protocol shape choice paper steps (Some plan) = IsPlan protocol shape choice paper steps plan
+
+-- the steps were drawn, or a beginning of that; or their drawing would be too large
+abbrev pub DrawsSteps : Protocol → Extent → Chosen → Paper → List Step → Result (Unit {0}) DrawFault → Option (List ℕ) → Option (List ℕ) → Type 0
+DrawsSteps protocol shape choice paper steps (Ok u) old new = IsDrawable protocol shape choice steps × ShowsRun protocol shape (drawing_text protocol shape choice paper) steps old new
+DrawsSteps protocol shape choice paper steps (Err TooLarge) old new = IsUndrawable protocol shape choice steps × (new ≡ old)
+DrawsSteps protocol shape choice paper steps (Err (Simulation NoMemory)) old new = (new ≡ old) ⊎ BeginsToShow protocol shape (drawing_text protocol shape choice paper) steps old new
+DrawsSteps protocol shape choice paper steps (Err (Simulation Write)) old new =
+    IsDrawable protocol shape choice steps × BeginsToShow protocol shape (drawing_text protocol shape choice paper) steps old new
+DrawsSteps protocol shape choice paper steps (Err (Simulation (Text fault))) old new = ⊥
+
+-- the whole text was read and what came of it drawn, or a beginning of that; or the text was refused
+abbrev pub Draws : Protocol → Extent → Input → Chosen → Paper → Option (List ℕ) → Result (Unit {0}) DrawFault → Option (List ℕ) → Option (List ℕ) → Type 0
+Draws protocol shape input choice paper bytes (Err (Simulation (Text fault))) old new = IsRefusedText protocol shape input bytes fault
+Draws protocol shape input choice paper bytes result old new = (steps : List Step) × (GivesSteps protocol shape input bytes steps × DrawsSteps protocol shape choice paper steps result old new)

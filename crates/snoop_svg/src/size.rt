@@ -1,0 +1,16 @@
+//! How large a drawing is.
+ghost use Rattle.std.specs.Prelude.{◌↔◌, IsTrue};
+ghost use Rattle.snoop_svg.specs.Size.{IsSmall};
+
+use snoop_draw::{Panel, columns_of};
+
+/// The most cells of a drawing.
+const MAX_CELLS: u64 = 20_000;
+
+/// Whether a drawing of so many rows with these panels is made.
+pub(crate) fn is_small(rows: u64, panels: &[Panel]) -> bool
+    ensures { IsTrue result ↔ IsSmall rows panels.now }
+{
+    let columns = columns_of(panels).saturating_add(1);
+    rows.saturating_add(1).saturating_mul(columns) <= MAX_CELLS
+}

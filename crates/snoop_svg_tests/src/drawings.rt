@@ -1,0 +1,861 @@
+//! Whole drawings. The expected texts are those of the second reading, which follows docs/DRAWING.md alone.
+
+use snoop_draw::Choice;
+use snoop_engine::Input;
+use snoop_svg::{Form, Paper, Theme, simulate_svg};
+use snoop_trace::{Protocol, Shape};
+use std::alloc::Global;
+use std::test::Fail;
+
+/// Core 0 loads.
+const LOAD: &str = "L,0,0\nO,0\nR,0\n";
+
+/// The same, drawn for light ground.
+const LOAD_DRAWN: &str =
+    "<svg xmlns=\"http://www.w3.org/2000/svg\" viewBox=\"0 0 800 314\" width=\"800\" height=\"314\">
+<title>Snoop, MSI, 3 steps drawn</title>
+<style>
+text{font:12px ui-monospace,Menlo,Consolas,\"DejaVu Sans Mono\",\"Liberation Mono\",monospace;fill:#1a1a1a}
+.paper{fill:#fff}.h,.l{stroke:#d0d0d0}.j{stroke:#808080;stroke-dasharray:1 5}
+.w{fill:#f0a050}.c{fill:#fbdcb4}.r{fill:#b5d8f0}.m{fill:#cfe6dc}.bus{fill:#f2f2f2}.b{fill:#d9d2e9}
+.s,.o{font-weight:700}.k,.t{fill:#404040}.z{fill:#a51d14}
+.u{stroke:#1a1a1a}.p{stroke:#1a1a1a;stroke-width:2;fill:#1a1a1a}.g{stroke:#0b4f7d;stroke-width:2;fill:#0b4f7d}
+.q,.d{stroke:#1a1a1a;stroke-width:2}.q{stroke-dasharray:2 4}.i{fill:#fff;stroke:#1a1a1a;stroke-width:2}
+.v{stroke:#a51d14;stroke-width:2;stroke-dasharray:4 4}.x{stroke:#a51d14;stroke-width:2;fill:none}
+.ask{fill:#fff;stroke:#1a1a1a}.edge{fill:#5c2e00}.done{fill:#1a1a1a;stroke:#1a1a1a}.y{fill:transparent}
+a:focus{outline:none}a:focus .y{stroke:#1a1a1a;stroke-width:2}a:target .y{fill:#ffe98a}a:target~a{opacity:.12}
+</style>
+<rect class=\"paper\" x=\"0\" y=\"0\" width=\"800\" height=\"314\"/>
+<text class=\"s\" x=\"12\" y=\"20\">MSI</text>
+<text class=\"s\" x=\"128\" y=\"44\">Core 0</text>
+<path class=\"l\" d=\"M120 64L120 244\"/>
+<text class=\"t\" x=\"120\" y=\"20\">Block 0, bytes 0 to 63</text>
+<rect class=\"bus\" x=\"252\" y=\"64\" width=\"144\" height=\"180\"/>
+<text class=\"s\" x=\"260\" y=\"44\">Bus</text>
+<path class=\"l\" d=\"M252 64L252 244\"/>
+<text class=\"s\" x=\"432\" y=\"44\">Memory</text>
+<path class=\"l\" d=\"M424 64L424 244\"/>
+<text class=\"t\" x=\"20\" y=\"77\" text-anchor=\"end\">0</text>
+<text class=\"t\" x=\"32\" y=\"77\">reset</text>
+<text class=\"s\" x=\"128\" y=\"77\">I</text>
+<rect class=\"m\" x=\"424\" y=\"64\" width=\"96\" height=\"18\"/>
+<text class=\"s\" x=\"432\" y=\"77\">IorS 0</text>
+<a id=\"s1\" href=\"#s1\">
+<title>1. L,0,0: issued GetS
+core 0: I,Load,issue GetS,IS_AD</title>
+<rect class=\"y\" x=\"0\" y=\"82\" width=\"800\" height=\"54\"/>
+<path class=\"h\" d=\"M0 82L800 82\"/>
+<text class=\"t\" x=\"20\" y=\"95\" text-anchor=\"end\">1</text>
+<text class=\"s\" x=\"32\" y=\"95\">L,0,0</text>
+<text class=\"t\" x=\"556\" y=\"95\">issued GetS</text>
+<path class=\"q\" d=\"M216 82L216 136\"/>
+<text class=\"s\" x=\"128\" y=\"131\">IS_AD</text>
+<rect class=\"m\" x=\"424\" y=\"82\" width=\"96\" height=\"54\"/>
+<text class=\"k\" x=\"432\" y=\"131\">IorS 0</text>
+<rect class=\"ask\" x=\"128\" y=\"87\" width=\"7\" height=\"7\"/>
+<text class=\"o\" x=\"140\" y=\"95\">load</text>
+<text class=\"a\" x=\"128\" y=\"113\">issued GetS</text>
+<circle class=\"i\" cx=\"216\" cy=\"82\" r=\"4\"/>
+</a>
+<a id=\"s2\" href=\"#s2\">
+<title>2. O,0: ordered GetS
+core 0: IS_AD,OwnGetS,none,IS_D
+memory: IorS,GetS,send Data,IorS</title>
+<rect class=\"y\" x=\"0\" y=\"136\" width=\"800\" height=\"54\"/>
+<path class=\"h\" d=\"M0 136L800 136\"/>
+<text class=\"t\" x=\"20\" y=\"149\" text-anchor=\"end\">2</text>
+<text class=\"s\" x=\"32\" y=\"149\">O,0</text>
+<text class=\"t\" x=\"556\" y=\"149\">ordered GetS</text>
+<path class=\"d\" d=\"M216 136L216 190\"/>
+<text class=\"s\" x=\"128\" y=\"185\">IS_D</text>
+<rect class=\"b\" x=\"252\" y=\"172\" width=\"144\" height=\"18\"/>
+<text class=\"s\" x=\"260\" y=\"185\">C0 GetS: Data 0</text>
+<rect class=\"m\" x=\"424\" y=\"136\" width=\"96\" height=\"54\"/>
+<text class=\"k\" x=\"432\" y=\"185\">IorS 0</text>
+<text class=\"o\" x=\"128\" y=\"149\">GetS</text>
+<path class=\"u\" d=\"M120 136L520 136\"/>
+<path class=\"p\" d=\"M216 136H246M252 136l-7 -4v8z\"/>
+<circle class=\"p\" cx=\"216\" cy=\"136\" r=\"4\"/>
+<text class=\"a\" x=\"432\" y=\"167\">Data</text>
+<path class=\"g\" d=\"M428 155H402M396 155l7 -4v8z\"/>
+</a>
+<a id=\"s3\" href=\"#s3\">
+<title>3. R,0: Data from memory, load 0
+core 0: IS_D,Data,fill load,S</title>
+<rect class=\"y\" x=\"0\" y=\"190\" width=\"800\" height=\"54\"/>
+<path class=\"h\" d=\"M0 190L800 190\"/>
+<text class=\"t\" x=\"20\" y=\"203\" text-anchor=\"end\">3</text>
+<text class=\"s\" x=\"32\" y=\"203\">R,0</text>
+<text class=\"t\" x=\"556\" y=\"203\">Data from memory, load 0</text>
+<rect class=\"r\" x=\"120\" y=\"226\" width=\"104\" height=\"18\"/>
+<text class=\"s\" x=\"128\" y=\"239\">S 0</text>
+<rect class=\"b\" x=\"252\" y=\"190\" width=\"144\" height=\"36\"/>
+<rect class=\"m\" x=\"424\" y=\"190\" width=\"96\" height=\"54\"/>
+<text class=\"k\" x=\"432\" y=\"239\">IorS 0</text>
+<rect class=\"done\" x=\"128\" y=\"195\" width=\"7\" height=\"7\"/>
+<text class=\"o\" x=\"140\" y=\"203\">load 0</text>
+<text class=\"a\" x=\"128\" y=\"221\">Data</text>
+<path class=\"d\" d=\"M216 190L216 209\"/>
+<path class=\"g\" d=\"M252 209H222M216 209l7 -4v8z\"/>
+</a>
+<rect class=\"w\" x=\"12\" y=\"262\" width=\"14\" height=\"14\"/>
+<rect class=\"edge\" x=\"12\" y=\"262\" width=\"4\" height=\"14\"/>
+<text class=\"t\" x=\"32\" y=\"273\">may write</text>
+<rect class=\"r\" x=\"116\" y=\"262\" width=\"14\" height=\"14\"/>
+<text class=\"t\" x=\"136\" y=\"273\">may read</text>
+<rect class=\"b\" x=\"212\" y=\"262\" width=\"14\" height=\"14\"/>
+<text class=\"t\" x=\"232\" y=\"273\">open transaction</text>
+<rect class=\"m\" x=\"372\" y=\"262\" width=\"14\" height=\"14\"/>
+<text class=\"t\" x=\"392\" y=\"273\">memory sends, else (value)</text>
+<rect class=\"ask\" x=\"12\" y=\"291\" width=\"7\" height=\"7\"/>
+<text class=\"t\" x=\"24\" y=\"299\">asked</text>
+<rect class=\"done\" x=\"80\" y=\"291\" width=\"7\" height=\"7\"/>
+<text class=\"t\" x=\"92\" y=\"299\">performed</text>
+<path class=\"q\" d=\"M184 291L184 305\"/>
+<circle class=\"i\" cx=\"184\" cy=\"291\" r=\"4\"/>
+<text class=\"t\" x=\"194\" y=\"299\">issued (#2: second in the queue)</text>
+<path class=\"d\" d=\"M470 291L470 305\"/>
+<circle class=\"p\" cx=\"470\" cy=\"291\" r=\"4\"/>
+<text class=\"t\" x=\"480\" y=\"299\">ordered</text>
+<path class=\"g\" d=\"M556 295H574M580 295l-7 -4v8z\"/>
+<text class=\"t\" x=\"588\" y=\"299\">message</text>
+<path class=\"x\" d=\"M660 291l8 8m0 -8l-8 8\"/>
+<text class=\"t\" x=\"674\" y=\"299\">refused</text>
+</svg>
+";
+
+/// What is refused, what is done at once, and a writeback.
+const WRITEBACK: &str = "R,0\nS,0,0,7\nL,0,0\nE,0,0\nO,0\nR,0\nL,0,0\nE,0,0\nO,0\nR,0\n";
+
+/// Of the same the steps from the fourth on, of which three have rows that are shown, for dark ground under MESI.
+const WRITEBACK_DRAWN: &str =
+    "<svg xmlns=\"http://www.w3.org/2000/svg\" viewBox=\"0 0 800 530\" width=\"800\" height=\"530\">
+<title>Snoop, MESI, 7 steps drawn</title>
+<style>
+text{font:12px ui-monospace,Menlo,Consolas,\"DejaVu Sans Mono\",\"Liberation Mono\",monospace;fill:#1a1a1a}
+.paper{fill:#fff}.h,.l{stroke:#d0d0d0}.j{stroke:#808080;stroke-dasharray:1 5}
+.w{fill:#f0a050}.c{fill:#fbdcb4}.r{fill:#b5d8f0}.m{fill:#cfe6dc}.bus{fill:#f2f2f2}.b{fill:#d9d2e9}
+.s,.o{font-weight:700}.k,.t{fill:#404040}.z{fill:#a51d14}
+.u{stroke:#1a1a1a}.p{stroke:#1a1a1a;stroke-width:2;fill:#1a1a1a}.g{stroke:#0b4f7d;stroke-width:2;fill:#0b4f7d}
+.q,.d{stroke:#1a1a1a;stroke-width:2}.q{stroke-dasharray:2 4}.i{fill:#fff;stroke:#1a1a1a;stroke-width:2}
+.v{stroke:#a51d14;stroke-width:2;stroke-dasharray:4 4}.x{stroke:#a51d14;stroke-width:2;fill:none}
+.ask{fill:#fff;stroke:#1a1a1a}.edge{fill:#5c2e00}.done{fill:#1a1a1a;stroke:#1a1a1a}.y{fill:transparent}
+a:focus{outline:none}a:focus .y{stroke:#1a1a1a;stroke-width:2}a:target .y{fill:#ffe98a}a:target~a{opacity:.12}
+text{fill:#f0f0f0}.paper,.i,.ask{fill:#15171a}.h,.l{stroke:#3c4046}.j{stroke:#909090}
+.w{fill:#8f4700}.c{fill:#573a15}.r{fill:#1d4f73}.m{fill:#1f4538}.bus{fill:#1d2024}.b{fill:#453f68}
+.k,.t{fill:#dcdcdc}.z{fill:#ffb4ab}.u,.q,.d,.i,.ask{stroke:#f0f0f0}.p,.done{stroke:#f0f0f0;fill:#f0f0f0}
+.edge{fill:#ffcf9e}.g{stroke:#9fd3f5;fill:#9fd3f5}.v,.x{stroke:#ffb4ab}a:focus .y{stroke:#f0f0f0}a:target .y{fill:#5a5110}
+</style>
+<rect class=\"paper\" x=\"0\" y=\"0\" width=\"800\" height=\"530\"/>
+<text class=\"s\" x=\"12\" y=\"20\">MESI</text>
+<text class=\"s\" x=\"136\" y=\"44\">Core 0</text>
+<path class=\"l\" d=\"M128 64L128 460\"/>
+<text class=\"t\" x=\"128\" y=\"20\">Block 0, bytes 0 to 63</text>
+<rect class=\"bus\" x=\"260\" y=\"64\" width=\"144\" height=\"396\"/>
+<text class=\"s\" x=\"268\" y=\"44\">Bus</text>
+<path class=\"l\" d=\"M260 64L260 460\"/>
+<text class=\"s\" x=\"440\" y=\"44\">Memory</text>
+<path class=\"l\" d=\"M432 64L432 460\"/>
+<text class=\"t\" x=\"28\" y=\"77\" text-anchor=\"end\">3</text>
+<text class=\"t\" x=\"40\" y=\"77\">before</text>
+<path class=\"q\" d=\"M224 64L224 82\"/>
+<text class=\"s\" x=\"136\" y=\"77\">IM_AD</text>
+<rect class=\"m\" x=\"432\" y=\"64\" width=\"96\" height=\"18\"/>
+<text class=\"s\" x=\"440\" y=\"77\">I 0</text>
+<a id=\"s4\" href=\"#s4\">
+<title>4. E,0,0: refused Stalled IM_AD
+core 0: IM_AD,Evict,stall,IM_AD</title>
+<rect class=\"y\" x=\"0\" y=\"82\" width=\"800\" height=\"54\"/>
+<path class=\"h\" d=\"M0 82L800 82\"/>
+<text class=\"t\" x=\"28\" y=\"95\" text-anchor=\"end\">4</text>
+<text class=\"s\" x=\"40\" y=\"95\">E,0,0</text>
+<text class=\"z\" x=\"564\" y=\"95\">refused Stalled IM_AD</text>
+<path class=\"q\" d=\"M224 82L224 136\"/>
+<text class=\"k\" x=\"136\" y=\"131\">IM_AD</text>
+<rect class=\"m\" x=\"432\" y=\"82\" width=\"96\" height=\"54\"/>
+<text class=\"k\" x=\"440\" y=\"131\">I 0</text>
+<text class=\"o\" x=\"136\" y=\"95\">evict</text>
+<text class=\"a\" x=\"136\" y=\"113\">stall</text>
+<path class=\"x\" d=\"M182 105l8 8m0 -8l-8 8\"/>
+</a>
+<a id=\"s5\" href=\"#s5\">
+<title>5. O,0: ordered GetM
+core 0: IM_AD,OwnGetM,none,IM_D
+memory: I,GetM,send Data,EorM</title>
+<rect class=\"y\" x=\"0\" y=\"136\" width=\"800\" height=\"54\"/>
+<path class=\"h\" d=\"M0 136L800 136\"/>
+<text class=\"t\" x=\"28\" y=\"149\" text-anchor=\"end\">5</text>
+<text class=\"s\" x=\"40\" y=\"149\">O,0</text>
+<text class=\"t\" x=\"564\" y=\"149\">ordered GetM</text>
+<path class=\"d\" d=\"M224 136L224 190\"/>
+<text class=\"s\" x=\"136\" y=\"185\">IM_D</text>
+<rect class=\"b\" x=\"260\" y=\"172\" width=\"144\" height=\"18\"/>
+<text class=\"s\" x=\"268\" y=\"185\">C0 GetM: Data 0</text>
+<rect class=\"m\" x=\"432\" y=\"136\" width=\"96\" height=\"36\"/>
+<text class=\"s\" x=\"440\" y=\"185\">EorM (0)</text>
+<text class=\"o\" x=\"136\" y=\"149\">GetM</text>
+<path class=\"u\" d=\"M128 136L528 136\"/>
+<path class=\"p\" d=\"M224 136H254M260 136l-7 -4v8z\"/>
+<circle class=\"p\" cx=\"224\" cy=\"136\" r=\"4\"/>
+<text class=\"a\" x=\"440\" y=\"167\">Data</text>
+<path class=\"g\" d=\"M436 155H410M404 155l7 -4v8z\"/>
+</a>
+<a id=\"s6\" href=\"#s6\">
+<title>6. R,0: Data from memory, store 7
+core 0: IM_D,Data,fill store,M</title>
+<rect class=\"y\" x=\"0\" y=\"190\" width=\"800\" height=\"54\"/>
+<path class=\"h\" d=\"M0 190L800 190\"/>
+<text class=\"t\" x=\"28\" y=\"203\" text-anchor=\"end\">6</text>
+<text class=\"s\" x=\"40\" y=\"203\">R,0</text>
+<text class=\"t\" x=\"564\" y=\"203\">Data from memory, store 7</text>
+<rect class=\"w\" x=\"128\" y=\"226\" width=\"104\" height=\"18\"/>
+<rect class=\"edge\" x=\"128\" y=\"226\" width=\"4\" height=\"18\"/>
+<text class=\"s\" x=\"136\" y=\"239\">M 7</text>
+<rect class=\"b\" x=\"260\" y=\"190\" width=\"144\" height=\"36\"/>
+<text class=\"k\" x=\"440\" y=\"239\">EorM (0)</text>
+<rect class=\"done\" x=\"136\" y=\"195\" width=\"7\" height=\"7\"/>
+<text class=\"o\" x=\"148\" y=\"203\">store 7</text>
+<text class=\"a\" x=\"136\" y=\"221\">Data</text>
+<path class=\"d\" d=\"M224 190L224 209\"/>
+<path class=\"g\" d=\"M260 209H230M224 209l7 -4v8z\"/>
+</a>
+<rect class=\"w\" x=\"12\" y=\"478\" width=\"14\" height=\"14\"/>
+<rect class=\"edge\" x=\"12\" y=\"478\" width=\"4\" height=\"14\"/>
+<text class=\"t\" x=\"32\" y=\"489\">may write</text>
+<rect class=\"c\" x=\"116\" y=\"478\" width=\"14\" height=\"14\"/>
+<rect class=\"edge\" x=\"116\" y=\"478\" width=\"4\" height=\"14\"/>
+<text class=\"t\" x=\"136\" y=\"489\">may write, unchanged</text>
+<rect class=\"r\" x=\"308\" y=\"478\" width=\"14\" height=\"14\"/>
+<text class=\"t\" x=\"328\" y=\"489\">may read</text>
+<rect class=\"b\" x=\"404\" y=\"478\" width=\"14\" height=\"14\"/>
+<text class=\"t\" x=\"424\" y=\"489\">open transaction</text>
+<rect class=\"m\" x=\"564\" y=\"478\" width=\"14\" height=\"14\"/>
+<text class=\"t\" x=\"584\" y=\"489\">memory sends, else (value)</text>
+<rect class=\"ask\" x=\"12\" y=\"507\" width=\"7\" height=\"7\"/>
+<text class=\"t\" x=\"24\" y=\"515\">asked</text>
+<rect class=\"done\" x=\"80\" y=\"507\" width=\"7\" height=\"7\"/>
+<text class=\"t\" x=\"92\" y=\"515\">performed</text>
+<path class=\"q\" d=\"M184 507L184 521\"/>
+<circle class=\"i\" cx=\"184\" cy=\"507\" r=\"4\"/>
+<text class=\"t\" x=\"194\" y=\"515\">issued (#2: second in the queue)</text>
+<path class=\"d\" d=\"M470 507L470 521\"/>
+<circle class=\"p\" cx=\"470\" cy=\"507\" r=\"4\"/>
+<text class=\"t\" x=\"480\" y=\"515\">ordered</text>
+<path class=\"g\" d=\"M556 511H574M580 511l-7 -4v8z\"/>
+<text class=\"t\" x=\"588\" y=\"515\">message</text>
+<path class=\"x\" d=\"M660 507l8 8m0 -8l-8 8\"/>
+<text class=\"t\" x=\"674\" y=\"515\">refused</text>
+</svg>
+";
+
+/// The request of core 0 for block 1 stands second in its queue, and has to wait for the bus.
+const BEHIND: &str = "L,0,0\nL,1,64\nL,0,64\nO,1\nO,0\nO,0\nR,64\n";
+
+/// Of the same the steps of block 1, drawn as a page.
+const BEHIND_DRAWN: &str = "<!DOCTYPE html>
+<html lang=\"en\">
+<head>
+<meta charset=\"utf-8\">
+<title>Snoop</title>
+<style>
+:root{color-scheme:light dark}
+body{margin:0 0 12em;font:12px ui-monospace,Menlo,Consolas,\"DejaVu Sans Mono\",monospace}
+svg{display:block;margin:0 0 24px;break-inside:avoid}
+svg:has(a:target)~svg a{opacity:.12}
+pre{position:fixed;left:0;right:0;bottom:0;margin:0;padding:10px 12px;max-height:11em;overflow:auto;background:Canvas;border-top:2px solid;font-size:14px}
+@media print{pre{display:none}body,svg{margin:0}svg{width:auto;height:auto;max-width:100%;max-height:100vh}}
+text{font:12px ui-monospace,Menlo,Consolas,\"DejaVu Sans Mono\",\"Liberation Mono\",monospace;fill:#1a1a1a}
+.paper{fill:#fff}.h,.l{stroke:#d0d0d0}.j{stroke:#808080;stroke-dasharray:1 5}
+.w{fill:#f0a050}.c{fill:#fbdcb4}.r{fill:#b5d8f0}.m{fill:#cfe6dc}.bus{fill:#f2f2f2}.b{fill:#d9d2e9}
+.s,.o{font-weight:700}.k,.t{fill:#404040}.z{fill:#a51d14}
+.u{stroke:#1a1a1a}.p{stroke:#1a1a1a;stroke-width:2;fill:#1a1a1a}.g{stroke:#0b4f7d;stroke-width:2;fill:#0b4f7d}
+.q,.d{stroke:#1a1a1a;stroke-width:2}.q{stroke-dasharray:2 4}.i{fill:#fff;stroke:#1a1a1a;stroke-width:2}
+.v{stroke:#a51d14;stroke-width:2;stroke-dasharray:4 4}.x{stroke:#a51d14;stroke-width:2;fill:none}
+.ask{fill:#fff;stroke:#1a1a1a}.edge{fill:#5c2e00}.done{fill:#1a1a1a;stroke:#1a1a1a}.y{fill:transparent}
+a:focus{outline:none}a:focus .y{stroke:#1a1a1a;stroke-width:2}a:target .y{fill:#ffe98a}a:target~a{opacity:.12}
+@media screen and (prefers-color-scheme:dark){
+text{fill:#f0f0f0}.paper,.i,.ask{fill:#15171a}.h,.l{stroke:#3c4046}.j{stroke:#909090}
+.w{fill:#8f4700}.c{fill:#573a15}.r{fill:#1d4f73}.m{fill:#1f4538}.bus{fill:#1d2024}.b{fill:#453f68}
+.k,.t{fill:#dcdcdc}.z{fill:#ffb4ab}.u,.q,.d,.i,.ask{stroke:#f0f0f0}.p,.done{stroke:#f0f0f0;fill:#f0f0f0}
+.edge{fill:#ffcf9e}.g{stroke:#9fd3f5;fill:#9fd3f5}.v,.x{stroke:#ffb4ab}a:focus .y{stroke:#f0f0f0}a:target .y{fill:#5a5110}
+}
+</style>
+</head>
+<body>
+<svg xmlns=\"http://www.w3.org/2000/svg\" viewBox=\"0 0 880 368\" width=\"880\" height=\"368\">
+<title>Snoop, MSI, 4 steps drawn</title>
+<rect class=\"paper\" x=\"0\" y=\"0\" width=\"880\" height=\"368\"/>
+<text class=\"s\" x=\"12\" y=\"20\">MSI</text>
+<text class=\"s\" x=\"128\" y=\"44\">Core 0</text>
+<path class=\"l\" d=\"M120 64L120 298\"/>
+<text class=\"s\" x=\"240\" y=\"44\">Core 1</text>
+<path class=\"l\" d=\"M232 64L232 298\"/>
+<text class=\"t\" x=\"120\" y=\"20\">Block 1, bytes 64 to 127</text>
+<rect class=\"bus\" x=\"364\" y=\"64\" width=\"144\" height=\"234\"/>
+<text class=\"s\" x=\"372\" y=\"44\">Bus</text>
+<path class=\"l\" d=\"M364 64L364 298\"/>
+<text class=\"s\" x=\"544\" y=\"44\">Memory</text>
+<path class=\"l\" d=\"M536 64L536 298\"/>
+<text class=\"t\" x=\"20\" y=\"77\" text-anchor=\"end\">2</text>
+<text class=\"t\" x=\"32\" y=\"77\">before</text>
+<text class=\"s\" x=\"128\" y=\"77\">I</text>
+<path class=\"q\" d=\"M328 64L328 82\"/>
+<text class=\"s\" x=\"240\" y=\"77\">IS_AD</text>
+<rect class=\"m\" x=\"536\" y=\"64\" width=\"96\" height=\"18\"/>
+<text class=\"s\" x=\"544\" y=\"77\">IorS 0</text>
+<a id=\"s3\" href=\"#s3\">
+<title>3. L,0,64: issued GetS
+core 0: I,Load,issue GetS,IS_AD</title>
+<rect class=\"y\" x=\"0\" y=\"82\" width=\"880\" height=\"54\"/>
+<path class=\"h\" d=\"M0 82L880 82\"/>
+<text class=\"t\" x=\"20\" y=\"95\" text-anchor=\"end\">3</text>
+<text class=\"s\" x=\"32\" y=\"95\">L,0,64</text>
+<text class=\"t\" x=\"668\" y=\"95\">issued GetS</text>
+<path class=\"q\" d=\"M216 82L216 136\"/>
+<text class=\"s\" x=\"128\" y=\"131\">IS_AD #2</text>
+<path class=\"q\" d=\"M328 82L328 136\"/>
+<text class=\"k\" x=\"240\" y=\"131\">IS_AD</text>
+<rect class=\"m\" x=\"536\" y=\"82\" width=\"96\" height=\"54\"/>
+<text class=\"k\" x=\"544\" y=\"131\">IorS 0</text>
+<rect class=\"ask\" x=\"128\" y=\"87\" width=\"7\" height=\"7\"/>
+<text class=\"o\" x=\"140\" y=\"95\">load</text>
+<text class=\"a\" x=\"128\" y=\"113\">issued GetS</text>
+<circle class=\"i\" cx=\"216\" cy=\"82\" r=\"4\"/>
+</a>
+<a id=\"s4\" href=\"#s4\">
+<title>4. O,1: ordered GetS
+core 0: IS_AD,OtherGetS,none,IS_AD
+core 1: IS_AD,OwnGetS,none,IS_D
+memory: IorS,GetS,send Data,IorS</title>
+<rect class=\"y\" x=\"0\" y=\"136\" width=\"880\" height=\"54\"/>
+<path class=\"h\" d=\"M0 136L880 136\"/>
+<text class=\"t\" x=\"20\" y=\"149\" text-anchor=\"end\">4</text>
+<text class=\"s\" x=\"32\" y=\"149\">O,1</text>
+<text class=\"t\" x=\"668\" y=\"149\">ordered GetS</text>
+<path class=\"q\" d=\"M216 136L216 190\"/>
+<text class=\"k\" x=\"128\" y=\"185\">IS_AD #2</text>
+<path class=\"d\" d=\"M328 136L328 190\"/>
+<text class=\"s\" x=\"240\" y=\"185\">IS_D</text>
+<rect class=\"b\" x=\"364\" y=\"172\" width=\"144\" height=\"18\"/>
+<text class=\"s\" x=\"372\" y=\"185\">C1 GetS: Data 0</text>
+<rect class=\"m\" x=\"536\" y=\"136\" width=\"96\" height=\"54\"/>
+<text class=\"k\" x=\"544\" y=\"185\">IorS 0</text>
+<text class=\"o\" x=\"240\" y=\"149\">GetS</text>
+<path class=\"u\" d=\"M120 136L632 136\"/>
+<path class=\"p\" d=\"M328 136H358M364 136l-7 -4v8z\"/>
+<circle class=\"p\" cx=\"328\" cy=\"136\" r=\"4\"/>
+<text class=\"a\" x=\"544\" y=\"167\">Data</text>
+<path class=\"g\" d=\"M540 155H514M508 155l7 -4v8z\"/>
+</a>
+<a id=\"s6\" href=\"#s6\">
+<title>6. O,0: refused BusTaken 1</title>
+<rect class=\"y\" x=\"0\" y=\"190\" width=\"880\" height=\"54\"/>
+<path class=\"j\" d=\"M0 190L880 190\"/>
+<text class=\"t\" x=\"20\" y=\"203\" text-anchor=\"end\">6</text>
+<text class=\"s\" x=\"32\" y=\"203\">O,0</text>
+<text class=\"z\" x=\"668\" y=\"203\">refused BusTaken 1</text>
+<path class=\"q\" d=\"M216 190L216 244\"/>
+<text class=\"s\" x=\"128\" y=\"239\">IS_AD</text>
+<path class=\"d\" d=\"M328 190L328 244\"/>
+<text class=\"k\" x=\"240\" y=\"239\">IS_D</text>
+<rect class=\"b\" x=\"364\" y=\"190\" width=\"144\" height=\"54\"/>
+<text class=\"k\" x=\"372\" y=\"239\">C1 GetS: Data 0</text>
+<rect class=\"m\" x=\"536\" y=\"190\" width=\"96\" height=\"54\"/>
+<text class=\"k\" x=\"544\" y=\"239\">IorS 0</text>
+<text class=\"o\" x=\"128\" y=\"203\">bus taken</text>
+<path class=\"v\" d=\"M216 190L356 190\"/>
+<path class=\"x\" d=\"M356 186l8 8m0 -8l-8 8\"/>
+</a>
+<a id=\"s7\" href=\"#s7\">
+<title>7. R,64: Data from memory, load 0
+core 1: IS_D,Data,fill load,S</title>
+<rect class=\"y\" x=\"0\" y=\"244\" width=\"880\" height=\"54\"/>
+<path class=\"h\" d=\"M0 244L880 244\"/>
+<text class=\"t\" x=\"20\" y=\"257\" text-anchor=\"end\">7</text>
+<text class=\"s\" x=\"32\" y=\"257\">R,64</text>
+<text class=\"t\" x=\"668\" y=\"257\">Data from memory, load 0</text>
+<path class=\"q\" d=\"M216 244L216 298\"/>
+<text class=\"k\" x=\"128\" y=\"293\">IS_AD</text>
+<rect class=\"r\" x=\"232\" y=\"280\" width=\"104\" height=\"18\"/>
+<text class=\"s\" x=\"240\" y=\"293\">S 0</text>
+<rect class=\"b\" x=\"364\" y=\"244\" width=\"144\" height=\"36\"/>
+<rect class=\"m\" x=\"536\" y=\"244\" width=\"96\" height=\"54\"/>
+<text class=\"k\" x=\"544\" y=\"293\">IorS 0</text>
+<rect class=\"done\" x=\"240\" y=\"249\" width=\"7\" height=\"7\"/>
+<text class=\"o\" x=\"252\" y=\"257\">load 0</text>
+<text class=\"a\" x=\"240\" y=\"275\">Data</text>
+<path class=\"d\" d=\"M328 244L328 263\"/>
+<path class=\"g\" d=\"M364 263H334M328 263l7 -4v8z\"/>
+</a>
+<rect class=\"w\" x=\"12\" y=\"316\" width=\"14\" height=\"14\"/>
+<rect class=\"edge\" x=\"12\" y=\"316\" width=\"4\" height=\"14\"/>
+<text class=\"t\" x=\"32\" y=\"327\">may write</text>
+<rect class=\"r\" x=\"116\" y=\"316\" width=\"14\" height=\"14\"/>
+<text class=\"t\" x=\"136\" y=\"327\">may read</text>
+<rect class=\"b\" x=\"212\" y=\"316\" width=\"14\" height=\"14\"/>
+<text class=\"t\" x=\"232\" y=\"327\">open transaction</text>
+<rect class=\"m\" x=\"372\" y=\"316\" width=\"14\" height=\"14\"/>
+<text class=\"t\" x=\"392\" y=\"327\">memory sends, else (value)</text>
+<rect class=\"ask\" x=\"12\" y=\"345\" width=\"7\" height=\"7\"/>
+<text class=\"t\" x=\"24\" y=\"353\">asked</text>
+<rect class=\"done\" x=\"80\" y=\"345\" width=\"7\" height=\"7\"/>
+<text class=\"t\" x=\"92\" y=\"353\">performed</text>
+<path class=\"q\" d=\"M184 345L184 359\"/>
+<circle class=\"i\" cx=\"184\" cy=\"345\" r=\"4\"/>
+<text class=\"t\" x=\"194\" y=\"353\">issued (#2: second in the queue)</text>
+<path class=\"d\" d=\"M470 345L470 359\"/>
+<circle class=\"p\" cx=\"470\" cy=\"345\" r=\"4\"/>
+<text class=\"t\" x=\"480\" y=\"353\">ordered</text>
+<path class=\"g\" d=\"M556 349H574M580 349l-7 -4v8z\"/>
+<text class=\"t\" x=\"588\" y=\"353\">message</text>
+<path class=\"x\" d=\"M660 345l8 8m0 -8l-8 8\"/>
+<text class=\"t\" x=\"674\" y=\"353\">refused</text>
+</svg>
+<pre aria-live=\"polite\">Click a row, or go through the steps with the arrow keys. Esc shows the whole run.</pre>
+<script>
+const rows = [...document.querySelectorAll(\"a[id]\")], notes = document.querySelector(\"pre\");
+const at = () => rows.findIndex(row => \"#\" + row.id === location.hash);
+function show() {
+  const row = rows[at()];
+  if (!row) return;
+  notes.textContent = row.querySelector(\"title\").textContent;
+  row.scrollIntoView({block: \"nearest\"});
+}
+addEventListener(\"hashchange\", show);
+addEventListener(\"keydown\", event => {
+  const by = {ArrowDown: 1, ArrowRight: 1, ArrowUp: -1, ArrowLeft: -1}[event.key];
+  if (event.key === \"Escape\") location.hash = \"all\";
+  if (!by || !rows.length) return;
+  event.preventDefault();
+  location.hash = rows[Math.max(0, Math.min(rows.length - 1, at() + by))].id;
+});
+show();
+</script>
+</body>
+</html>
+";
+/// 25 Orders of an empty queue, drawn as a page: the second sheet has one row.
+const SHEETS_DRAWN: &str = "<!DOCTYPE html>
+<html lang=\"en\">
+<head>
+<meta charset=\"utf-8\">
+<title>Snoop</title>
+<style>
+:root{color-scheme:light}
+body{margin:0 0 12em;font:12px ui-monospace,Menlo,Consolas,\"DejaVu Sans Mono\",monospace}
+svg{display:block;margin:0 0 24px;break-inside:avoid}
+svg:has(a:target)~svg a{opacity:.12}
+pre{position:fixed;left:0;right:0;bottom:0;margin:0;padding:10px 12px;max-height:11em;overflow:auto;background:Canvas;border-top:2px solid;font-size:14px}
+@media print{pre{display:none}body,svg{margin:0}svg{width:auto;height:auto;max-width:100%;max-height:100vh}}
+text{font:12px ui-monospace,Menlo,Consolas,\"DejaVu Sans Mono\",\"Liberation Mono\",monospace;fill:#1a1a1a}
+.paper{fill:#fff}.h,.l{stroke:#d0d0d0}.j{stroke:#808080;stroke-dasharray:1 5}
+.w{fill:#f0a050}.c{fill:#fbdcb4}.r{fill:#b5d8f0}.m{fill:#cfe6dc}.bus{fill:#f2f2f2}.b{fill:#d9d2e9}
+.s,.o{font-weight:700}.k,.t{fill:#404040}.z{fill:#a51d14}
+.u{stroke:#1a1a1a}.p{stroke:#1a1a1a;stroke-width:2;fill:#1a1a1a}.g{stroke:#0b4f7d;stroke-width:2;fill:#0b4f7d}
+.q,.d{stroke:#1a1a1a;stroke-width:2}.q{stroke-dasharray:2 4}.i{fill:#fff;stroke:#1a1a1a;stroke-width:2}
+.v{stroke:#a51d14;stroke-width:2;stroke-dasharray:4 4}.x{stroke:#a51d14;stroke-width:2;fill:none}
+.ask{fill:#fff;stroke:#1a1a1a}.edge{fill:#5c2e00}.done{fill:#1a1a1a;stroke:#1a1a1a}.y{fill:transparent}
+a:focus{outline:none}a:focus .y{stroke:#1a1a1a;stroke-width:2}a:target .y{fill:#ffe98a}a:target~a{opacity:.12}
+</style>
+</head>
+<body>
+<svg xmlns=\"http://www.w3.org/2000/svg\" viewBox=\"0 0 800 1448\" width=\"800\" height=\"1448\">
+<title>Snoop, MSI, 24 steps drawn</title>
+<rect class=\"paper\" x=\"0\" y=\"0\" width=\"800\" height=\"1448\"/>
+<text class=\"s\" x=\"12\" y=\"20\">MSI</text>
+<text class=\"t\" x=\"28\" y=\"77\" text-anchor=\"end\">0</text>
+<text class=\"t\" x=\"40\" y=\"77\">reset</text>
+<a id=\"s1\" href=\"#s1\">
+<title>1. O,0: refused NothingWaiting</title>
+<rect class=\"y\" x=\"0\" y=\"82\" width=\"800\" height=\"54\"/>
+<path class=\"h\" d=\"M0 82L800 82\"/>
+<text class=\"t\" x=\"28\" y=\"95\" text-anchor=\"end\">1</text>
+<text class=\"s\" x=\"40\" y=\"95\">O,0</text>
+<text class=\"z\" x=\"128\" y=\"95\">refused NothingWaiting</text>
+</a>
+<a id=\"s2\" href=\"#s2\">
+<title>2. O,0: refused NothingWaiting</title>
+<rect class=\"y\" x=\"0\" y=\"136\" width=\"800\" height=\"54\"/>
+<path class=\"h\" d=\"M0 136L800 136\"/>
+<text class=\"t\" x=\"28\" y=\"149\" text-anchor=\"end\">2</text>
+<text class=\"s\" x=\"40\" y=\"149\">O,0</text>
+<text class=\"z\" x=\"128\" y=\"149\">refused NothingWaiting</text>
+</a>
+<a id=\"s3\" href=\"#s3\">
+<title>3. O,0: refused NothingWaiting</title>
+<rect class=\"y\" x=\"0\" y=\"190\" width=\"800\" height=\"54\"/>
+<path class=\"h\" d=\"M0 190L800 190\"/>
+<text class=\"t\" x=\"28\" y=\"203\" text-anchor=\"end\">3</text>
+<text class=\"s\" x=\"40\" y=\"203\">O,0</text>
+<text class=\"z\" x=\"128\" y=\"203\">refused NothingWaiting</text>
+</a>
+<a id=\"s4\" href=\"#s4\">
+<title>4. O,0: refused NothingWaiting</title>
+<rect class=\"y\" x=\"0\" y=\"244\" width=\"800\" height=\"54\"/>
+<path class=\"h\" d=\"M0 244L800 244\"/>
+<text class=\"t\" x=\"28\" y=\"257\" text-anchor=\"end\">4</text>
+<text class=\"s\" x=\"40\" y=\"257\">O,0</text>
+<text class=\"z\" x=\"128\" y=\"257\">refused NothingWaiting</text>
+</a>
+<a id=\"s5\" href=\"#s5\">
+<title>5. O,0: refused NothingWaiting</title>
+<rect class=\"y\" x=\"0\" y=\"298\" width=\"800\" height=\"54\"/>
+<path class=\"h\" d=\"M0 298L800 298\"/>
+<text class=\"t\" x=\"28\" y=\"311\" text-anchor=\"end\">5</text>
+<text class=\"s\" x=\"40\" y=\"311\">O,0</text>
+<text class=\"z\" x=\"128\" y=\"311\">refused NothingWaiting</text>
+</a>
+<a id=\"s6\" href=\"#s6\">
+<title>6. O,0: refused NothingWaiting</title>
+<rect class=\"y\" x=\"0\" y=\"352\" width=\"800\" height=\"54\"/>
+<path class=\"h\" d=\"M0 352L800 352\"/>
+<text class=\"t\" x=\"28\" y=\"365\" text-anchor=\"end\">6</text>
+<text class=\"s\" x=\"40\" y=\"365\">O,0</text>
+<text class=\"z\" x=\"128\" y=\"365\">refused NothingWaiting</text>
+</a>
+<a id=\"s7\" href=\"#s7\">
+<title>7. O,0: refused NothingWaiting</title>
+<rect class=\"y\" x=\"0\" y=\"406\" width=\"800\" height=\"54\"/>
+<path class=\"h\" d=\"M0 406L800 406\"/>
+<text class=\"t\" x=\"28\" y=\"419\" text-anchor=\"end\">7</text>
+<text class=\"s\" x=\"40\" y=\"419\">O,0</text>
+<text class=\"z\" x=\"128\" y=\"419\">refused NothingWaiting</text>
+</a>
+<a id=\"s8\" href=\"#s8\">
+<title>8. O,0: refused NothingWaiting</title>
+<rect class=\"y\" x=\"0\" y=\"460\" width=\"800\" height=\"54\"/>
+<path class=\"h\" d=\"M0 460L800 460\"/>
+<text class=\"t\" x=\"28\" y=\"473\" text-anchor=\"end\">8</text>
+<text class=\"s\" x=\"40\" y=\"473\">O,0</text>
+<text class=\"z\" x=\"128\" y=\"473\">refused NothingWaiting</text>
+</a>
+<a id=\"s9\" href=\"#s9\">
+<title>9. O,0: refused NothingWaiting</title>
+<rect class=\"y\" x=\"0\" y=\"514\" width=\"800\" height=\"54\"/>
+<path class=\"h\" d=\"M0 514L800 514\"/>
+<text class=\"t\" x=\"28\" y=\"527\" text-anchor=\"end\">9</text>
+<text class=\"s\" x=\"40\" y=\"527\">O,0</text>
+<text class=\"z\" x=\"128\" y=\"527\">refused NothingWaiting</text>
+</a>
+<a id=\"s10\" href=\"#s10\">
+<title>10. O,0: refused NothingWaiting</title>
+<rect class=\"y\" x=\"0\" y=\"568\" width=\"800\" height=\"54\"/>
+<path class=\"h\" d=\"M0 568L800 568\"/>
+<text class=\"t\" x=\"28\" y=\"581\" text-anchor=\"end\">10</text>
+<text class=\"s\" x=\"40\" y=\"581\">O,0</text>
+<text class=\"z\" x=\"128\" y=\"581\">refused NothingWaiting</text>
+</a>
+<a id=\"s11\" href=\"#s11\">
+<title>11. O,0: refused NothingWaiting</title>
+<rect class=\"y\" x=\"0\" y=\"622\" width=\"800\" height=\"54\"/>
+<path class=\"h\" d=\"M0 622L800 622\"/>
+<text class=\"t\" x=\"28\" y=\"635\" text-anchor=\"end\">11</text>
+<text class=\"s\" x=\"40\" y=\"635\">O,0</text>
+<text class=\"z\" x=\"128\" y=\"635\">refused NothingWaiting</text>
+</a>
+<a id=\"s12\" href=\"#s12\">
+<title>12. O,0: refused NothingWaiting</title>
+<rect class=\"y\" x=\"0\" y=\"676\" width=\"800\" height=\"54\"/>
+<path class=\"h\" d=\"M0 676L800 676\"/>
+<text class=\"t\" x=\"28\" y=\"689\" text-anchor=\"end\">12</text>
+<text class=\"s\" x=\"40\" y=\"689\">O,0</text>
+<text class=\"z\" x=\"128\" y=\"689\">refused NothingWaiting</text>
+</a>
+<a id=\"s13\" href=\"#s13\">
+<title>13. O,0: refused NothingWaiting</title>
+<rect class=\"y\" x=\"0\" y=\"730\" width=\"800\" height=\"54\"/>
+<path class=\"h\" d=\"M0 730L800 730\"/>
+<text class=\"t\" x=\"28\" y=\"743\" text-anchor=\"end\">13</text>
+<text class=\"s\" x=\"40\" y=\"743\">O,0</text>
+<text class=\"z\" x=\"128\" y=\"743\">refused NothingWaiting</text>
+</a>
+<a id=\"s14\" href=\"#s14\">
+<title>14. O,0: refused NothingWaiting</title>
+<rect class=\"y\" x=\"0\" y=\"784\" width=\"800\" height=\"54\"/>
+<path class=\"h\" d=\"M0 784L800 784\"/>
+<text class=\"t\" x=\"28\" y=\"797\" text-anchor=\"end\">14</text>
+<text class=\"s\" x=\"40\" y=\"797\">O,0</text>
+<text class=\"z\" x=\"128\" y=\"797\">refused NothingWaiting</text>
+</a>
+<a id=\"s15\" href=\"#s15\">
+<title>15. O,0: refused NothingWaiting</title>
+<rect class=\"y\" x=\"0\" y=\"838\" width=\"800\" height=\"54\"/>
+<path class=\"h\" d=\"M0 838L800 838\"/>
+<text class=\"t\" x=\"28\" y=\"851\" text-anchor=\"end\">15</text>
+<text class=\"s\" x=\"40\" y=\"851\">O,0</text>
+<text class=\"z\" x=\"128\" y=\"851\">refused NothingWaiting</text>
+</a>
+<a id=\"s16\" href=\"#s16\">
+<title>16. O,0: refused NothingWaiting</title>
+<rect class=\"y\" x=\"0\" y=\"892\" width=\"800\" height=\"54\"/>
+<path class=\"h\" d=\"M0 892L800 892\"/>
+<text class=\"t\" x=\"28\" y=\"905\" text-anchor=\"end\">16</text>
+<text class=\"s\" x=\"40\" y=\"905\">O,0</text>
+<text class=\"z\" x=\"128\" y=\"905\">refused NothingWaiting</text>
+</a>
+<a id=\"s17\" href=\"#s17\">
+<title>17. O,0: refused NothingWaiting</title>
+<rect class=\"y\" x=\"0\" y=\"946\" width=\"800\" height=\"54\"/>
+<path class=\"h\" d=\"M0 946L800 946\"/>
+<text class=\"t\" x=\"28\" y=\"959\" text-anchor=\"end\">17</text>
+<text class=\"s\" x=\"40\" y=\"959\">O,0</text>
+<text class=\"z\" x=\"128\" y=\"959\">refused NothingWaiting</text>
+</a>
+<a id=\"s18\" href=\"#s18\">
+<title>18. O,0: refused NothingWaiting</title>
+<rect class=\"y\" x=\"0\" y=\"1000\" width=\"800\" height=\"54\"/>
+<path class=\"h\" d=\"M0 1000L800 1000\"/>
+<text class=\"t\" x=\"28\" y=\"1013\" text-anchor=\"end\">18</text>
+<text class=\"s\" x=\"40\" y=\"1013\">O,0</text>
+<text class=\"z\" x=\"128\" y=\"1013\">refused NothingWaiting</text>
+</a>
+<a id=\"s19\" href=\"#s19\">
+<title>19. O,0: refused NothingWaiting</title>
+<rect class=\"y\" x=\"0\" y=\"1054\" width=\"800\" height=\"54\"/>
+<path class=\"h\" d=\"M0 1054L800 1054\"/>
+<text class=\"t\" x=\"28\" y=\"1067\" text-anchor=\"end\">19</text>
+<text class=\"s\" x=\"40\" y=\"1067\">O,0</text>
+<text class=\"z\" x=\"128\" y=\"1067\">refused NothingWaiting</text>
+</a>
+<a id=\"s20\" href=\"#s20\">
+<title>20. O,0: refused NothingWaiting</title>
+<rect class=\"y\" x=\"0\" y=\"1108\" width=\"800\" height=\"54\"/>
+<path class=\"h\" d=\"M0 1108L800 1108\"/>
+<text class=\"t\" x=\"28\" y=\"1121\" text-anchor=\"end\">20</text>
+<text class=\"s\" x=\"40\" y=\"1121\">O,0</text>
+<text class=\"z\" x=\"128\" y=\"1121\">refused NothingWaiting</text>
+</a>
+<a id=\"s21\" href=\"#s21\">
+<title>21. O,0: refused NothingWaiting</title>
+<rect class=\"y\" x=\"0\" y=\"1162\" width=\"800\" height=\"54\"/>
+<path class=\"h\" d=\"M0 1162L800 1162\"/>
+<text class=\"t\" x=\"28\" y=\"1175\" text-anchor=\"end\">21</text>
+<text class=\"s\" x=\"40\" y=\"1175\">O,0</text>
+<text class=\"z\" x=\"128\" y=\"1175\">refused NothingWaiting</text>
+</a>
+<a id=\"s22\" href=\"#s22\">
+<title>22. O,0: refused NothingWaiting</title>
+<rect class=\"y\" x=\"0\" y=\"1216\" width=\"800\" height=\"54\"/>
+<path class=\"h\" d=\"M0 1216L800 1216\"/>
+<text class=\"t\" x=\"28\" y=\"1229\" text-anchor=\"end\">22</text>
+<text class=\"s\" x=\"40\" y=\"1229\">O,0</text>
+<text class=\"z\" x=\"128\" y=\"1229\">refused NothingWaiting</text>
+</a>
+<a id=\"s23\" href=\"#s23\">
+<title>23. O,0: refused NothingWaiting</title>
+<rect class=\"y\" x=\"0\" y=\"1270\" width=\"800\" height=\"54\"/>
+<path class=\"h\" d=\"M0 1270L800 1270\"/>
+<text class=\"t\" x=\"28\" y=\"1283\" text-anchor=\"end\">23</text>
+<text class=\"s\" x=\"40\" y=\"1283\">O,0</text>
+<text class=\"z\" x=\"128\" y=\"1283\">refused NothingWaiting</text>
+</a>
+<a id=\"s24\" href=\"#s24\">
+<title>24. O,0: refused NothingWaiting</title>
+<rect class=\"y\" x=\"0\" y=\"1324\" width=\"800\" height=\"54\"/>
+<path class=\"h\" d=\"M0 1324L800 1324\"/>
+<text class=\"t\" x=\"28\" y=\"1337\" text-anchor=\"end\">24</text>
+<text class=\"s\" x=\"40\" y=\"1337\">O,0</text>
+<text class=\"z\" x=\"128\" y=\"1337\">refused NothingWaiting</text>
+</a>
+<rect class=\"w\" x=\"12\" y=\"1396\" width=\"14\" height=\"14\"/>
+<rect class=\"edge\" x=\"12\" y=\"1396\" width=\"4\" height=\"14\"/>
+<text class=\"t\" x=\"32\" y=\"1407\">may write</text>
+<rect class=\"r\" x=\"116\" y=\"1396\" width=\"14\" height=\"14\"/>
+<text class=\"t\" x=\"136\" y=\"1407\">may read</text>
+<rect class=\"b\" x=\"212\" y=\"1396\" width=\"14\" height=\"14\"/>
+<text class=\"t\" x=\"232\" y=\"1407\">open transaction</text>
+<rect class=\"m\" x=\"372\" y=\"1396\" width=\"14\" height=\"14\"/>
+<text class=\"t\" x=\"392\" y=\"1407\">memory sends, else (value)</text>
+<rect class=\"ask\" x=\"12\" y=\"1425\" width=\"7\" height=\"7\"/>
+<text class=\"t\" x=\"24\" y=\"1433\">asked</text>
+<rect class=\"done\" x=\"80\" y=\"1425\" width=\"7\" height=\"7\"/>
+<text class=\"t\" x=\"92\" y=\"1433\">performed</text>
+<path class=\"q\" d=\"M184 1425L184 1439\"/>
+<circle class=\"i\" cx=\"184\" cy=\"1425\" r=\"4\"/>
+<text class=\"t\" x=\"194\" y=\"1433\">issued (#2: second in the queue)</text>
+<path class=\"d\" d=\"M470 1425L470 1439\"/>
+<circle class=\"p\" cx=\"470\" cy=\"1425\" r=\"4\"/>
+<text class=\"t\" x=\"480\" y=\"1433\">ordered</text>
+<path class=\"g\" d=\"M556 1429H574M580 1429l-7 -4v8z\"/>
+<text class=\"t\" x=\"588\" y=\"1433\">message</text>
+<path class=\"x\" d=\"M660 1425l8 8m0 -8l-8 8\"/>
+<text class=\"t\" x=\"674\" y=\"1433\">refused</text>
+</svg>
+<svg xmlns=\"http://www.w3.org/2000/svg\" viewBox=\"0 0 800 206\" width=\"800\" height=\"206\">
+<title>Snoop, MSI, 1 steps drawn</title>
+<rect class=\"paper\" x=\"0\" y=\"0\" width=\"800\" height=\"206\"/>
+<text class=\"s\" x=\"12\" y=\"20\">MSI</text>
+<text class=\"t\" x=\"28\" y=\"77\" text-anchor=\"end\">24</text>
+<text class=\"t\" x=\"40\" y=\"77\">before</text>
+<a id=\"s25\" href=\"#s25\">
+<title>25. O,0: refused NothingWaiting</title>
+<rect class=\"y\" x=\"0\" y=\"82\" width=\"800\" height=\"54\"/>
+<path class=\"h\" d=\"M0 82L800 82\"/>
+<text class=\"t\" x=\"28\" y=\"95\" text-anchor=\"end\">25</text>
+<text class=\"s\" x=\"40\" y=\"95\">O,0</text>
+<text class=\"z\" x=\"128\" y=\"95\">refused NothingWaiting</text>
+</a>
+<rect class=\"w\" x=\"12\" y=\"154\" width=\"14\" height=\"14\"/>
+<rect class=\"edge\" x=\"12\" y=\"154\" width=\"4\" height=\"14\"/>
+<text class=\"t\" x=\"32\" y=\"165\">may write</text>
+<rect class=\"r\" x=\"116\" y=\"154\" width=\"14\" height=\"14\"/>
+<text class=\"t\" x=\"136\" y=\"165\">may read</text>
+<rect class=\"b\" x=\"212\" y=\"154\" width=\"14\" height=\"14\"/>
+<text class=\"t\" x=\"232\" y=\"165\">open transaction</text>
+<rect class=\"m\" x=\"372\" y=\"154\" width=\"14\" height=\"14\"/>
+<text class=\"t\" x=\"392\" y=\"165\">memory sends, else (value)</text>
+<rect class=\"ask\" x=\"12\" y=\"183\" width=\"7\" height=\"7\"/>
+<text class=\"t\" x=\"24\" y=\"191\">asked</text>
+<rect class=\"done\" x=\"80\" y=\"183\" width=\"7\" height=\"7\"/>
+<text class=\"t\" x=\"92\" y=\"191\">performed</text>
+<path class=\"q\" d=\"M184 183L184 197\"/>
+<circle class=\"i\" cx=\"184\" cy=\"183\" r=\"4\"/>
+<text class=\"t\" x=\"194\" y=\"191\">issued (#2: second in the queue)</text>
+<path class=\"d\" d=\"M470 183L470 197\"/>
+<circle class=\"p\" cx=\"470\" cy=\"183\" r=\"4\"/>
+<text class=\"t\" x=\"480\" y=\"191\">ordered</text>
+<path class=\"g\" d=\"M556 187H574M580 187l-7 -4v8z\"/>
+<text class=\"t\" x=\"588\" y=\"191\">message</text>
+<path class=\"x\" d=\"M660 183l8 8m0 -8l-8 8\"/>
+<text class=\"t\" x=\"674\" y=\"191\">refused</text>
+</svg>
+<pre aria-live=\"polite\">Click a row, or go through the steps with the arrow keys. Esc shows the whole run.</pre>
+<script>
+const rows = [...document.querySelectorAll(\"a[id]\")], notes = document.querySelector(\"pre\");
+const at = () => rows.findIndex(row => \"#\" + row.id === location.hash);
+function show() {
+  const row = rows[at()];
+  if (!row) return;
+  notes.textContent = row.querySelector(\"title\").textContent;
+  row.scrollIntoView({block: \"nearest\"});
+}
+addEventListener(\"hashchange\", show);
+addEventListener(\"keydown\", event => {
+  const by = {ArrowDown: 1, ArrowRight: 1, ArrowUp: -1, ArrowLeft: -1}[event.key];
+  if (event.key === \"Escape\") location.hash = \"all\";
+  if (!by || !rows.length) return;
+  event.preventDefault();
+  location.hash = rows[Math.max(0, Math.min(rows.length - 1, at() + by))].id;
+});
+show();
+</script>
+</body>
+</html>
+";
+
+// Whether the drawing of the text is this one.
+fn is_drawn(
+    alloc: Global,
+    text: &[u8],
+    protocol: Protocol,
+    choice: Choice,
+    paper: Paper,
+    expected: &str,
+) -> Result<bool, Fail> {
+    let shape = Shape::new(2, 4, 64)?;
+    let mut reader = text;
+    let mut drawn = Vec::new(alloc);
+    simulate_svg(
+        alloc,
+        &mut reader,
+        &mut drawn,
+        protocol,
+        shape,
+        Input::Steps,
+        choice,
+        paper,
+    )?;
+    Ok(drawn.as_slice() == expected.as_bytes())
+}
+
+// The steps from a number on, of one block or of all.
+fn from(block: Option<u32>, number: u64) -> Result<Choice, Fail> {
+    Ok(Choice::new(Shape::new(2, 4, 64)?, block, number, u64::MAX)?)
+}
+
+#[test]
+fn a_first_load(rt: HostRuntime) -> Result<(), Fail> {
+    let paper = Paper {
+        form: Form::Svg,
+        theme: Theme::Light,
+        shown: u64::MAX,
+    };
+    let text = LOAD.as_bytes();
+    if !is_drawn(
+        rt.alloc(),
+        text,
+        Protocol::Msi,
+        from(None, 1)?,
+        paper,
+        LOAD_DRAWN,
+    )? {
+        Err("the load")?
+    }
+    Ok(())
+}
+
+#[test]
+fn three_rows_of_a_writeback(rt: HostRuntime) -> Result<(), Fail> {
+    let paper = Paper {
+        form: Form::Svg,
+        theme: Theme::Dark,
+        shown: 3,
+    };
+    let text = WRITEBACK.as_bytes();
+    if !is_drawn(
+        rt.alloc(),
+        text,
+        Protocol::Mesi,
+        from(None, 4)?,
+        paper,
+        WRITEBACK_DRAWN,
+    )? {
+        Err("the writeback")?
+    }
+    Ok(())
+}
+
+#[test]
+fn a_block_as_a_page(rt: HostRuntime) -> Result<(), Fail> {
+    let paper = Paper {
+        form: Form::Html,
+        theme: Theme::Auto,
+        shown: u64::MAX,
+    };
+    let text = BEHIND.as_bytes();
+    if !is_drawn(
+        rt.alloc(),
+        text,
+        Protocol::Msi,
+        from(Some(1), 3)?,
+        paper,
+        BEHIND_DRAWN,
+    )? {
+        Err("the page")?
+    }
+    Ok(())
+}
+
+#[test]
+fn two_sheets(rt: HostRuntime) -> Result<(), Fail> {
+    let paper = Paper {
+        form: Form::Html,
+        theme: Theme::Light,
+        shown: u64::MAX,
+    };
+    let mut text = Vec::new(rt.alloc());
+    for _step in 0..25 {
+        text.extend_from_slice(b"O,0\n")?;
+    }
+    if !is_drawn(
+        rt.alloc(),
+        &text,
+        Protocol::Msi,
+        from(None, 1)?,
+        paper,
+        SHEETS_DRAWN,
+    )? {
+        Err("the sheets")?
+    }
+    Ok(())
+}
