@@ -419,7 +419,7 @@ function show() {
   const row = rows[at()];
   if (!row) return;
   notes.textContent = row.querySelector(\"title\").textContent;
-  row.scrollIntoView({block: \"nearest\"});
+  row.scrollIntoView({block: \"center\"});
 }
 addEventListener(\"hashchange\", show);
 addEventListener(\"keydown\", event => {
@@ -727,7 +727,7 @@ function show() {
   const row = rows[at()];
   if (!row) return;
   notes.textContent = row.querySelector(\"title\").textContent;
-  row.scrollIntoView({block: \"nearest\"});
+  row.scrollIntoView({block: \"center\"});
 }
 addEventListener(\"hashchange\", show);
 addEventListener(\"keydown\", event => {
