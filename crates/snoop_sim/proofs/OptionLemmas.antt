@@ -1,11 +1,12 @@
 -- What the options of a command are read as.
-use Rattle.std.proofs.Common.{◌≡◌, ◌∙◌, ◌^◌, sym, refl, ℕ, Bool, true, false, List, Option, Some, None, map, codes}
-use Rattle.std.specs.Prelude.{Result, Ok, Err}
+use Rattle.std.proofs.Common.{◌≡◌, ◌∙◌, ◌^◌, ap, sym, refl, ℕ, Bool, true, false, List, Option, Some, None, map, codes}
+use Rattle.std.specs.Prelude.{Result, Ok, Err, is_some}
+use Rattle.std.specs.Option.{option_map}
 use Rattle.std.specs.Char.{to_ascii_lowercase}
 use Rattle.std.specs.Str.{bytes_eq}
 use Rattle.std.specs.Str.Parse.{ParsesUnsigned}
 use Rattle.std.proofs.lemmas.Slice.Eq.{bytes_eq-Decides}
-use Rattle.clap.specs.Words.{ReadsOne, first_value, one_of, one_text, rows_of}
+use Rattle.clap.specs.Words.{ReadsOne, first_of, first_value, one_of, one_text, rows_of}
 use Rattle.clap.specs.declared.parser.matches.Found.{Found}
 use Rattle.clap.proofs.WalkLemmas.{first_value-rows, one_text-rows}
 use Rattle.snoop_trace.specs.declared.protocol.Protocol.TheVariants.{Msi, Mesi}
@@ -56,6 +57,15 @@ said f name value text same given is = rw (sym (first_value-rows f name) ∙ giv
 -- it has none
 pub unsaid : (f : Found) (name value : List ℕ) → first_value f name ≡ None → false ≡ says false name value (rows_of f)
 unsaid f name value given = rw (sym (first_value-rows f name) ∙ given) refl
+
+-- an option is given where a value of it is read
+pub given : {A : Type 0} (f : Found) (name : List ℕ) (text : A → List ℕ) (read : Option A) → option_map text read ≡ first_value f name
+    → is_some read ≡ is_some (first_of name (rows_of f))
+given {A} f name text read is = mapped read ∙ ap is_some (is ∙ first_value-rows f name)
+  where
+    mapped : (r : Option A) → is_some r ≡ is_some (option_map text r)
+    mapped None = refl
+    mapped (Some x) = refl
 
 -- a number that is read by `get_one`
 pub number_read : {E : Type 0} (f : Found) (bits : ℕ) (name : List ℕ) (gives : List ℕ → Result ℕ E → Type 0) (read : Option ℕ)
