@@ -8,45 +8,45 @@ use Rattle.clap.specs.declared.parser.matches.ArgMatches.{ArgMatches}
 use Rattle.clap.proofs.OnLiterals.{clap_on_literals}
 use Rattle.snoop_sim.specs.Asked.{Asks, HasNoTask, HasTask, IsShown, Refuses}
 use Rattle.snoop_sim.specs.Status.{status_of, status_of_fault}
-use Rattle.snoop_sim.specs.CommandLine.{IsSnoop, Names, choice_rules, every_rule, flag_rule, form_rule, grouping_rule, kind_rule, long_rule, simulation_app, table_app, top_app, top_rule, view_app, with_commands}
+use Rattle.snoop_sim.specs.CommandLine.{IsSnoop, Names, choice_rules, every_rule, flag_rule, form_rule, grouping_rule, kind_rule, long_rule, shown_rule, simulation_app, table_app, theme_rule, top_app, top_rule, view_app, with_commands}
 use Rattle.snoop_draw.specs.declared.fault.DrawFault.{DrawFault}
 use Rattle.snoop_engine.specs.declared.fault.SimFault.TheVariants.{NoMemory}
 use Rattle.snoop_lint.specs.declared.fault.LintFault.{LintFault}
 use Rattle.snoop_sim.specs.declared.fault.ThreadsFault.{ThreadsFault}
 use Rattle.snoop_sim.specs.declared.failure.Failure.{Failure}
-use Rattle.snoop_sim.specs.declared.failure.Failure.TheVariants.{BadBy, BadEvery, BadSerial, BadTop, CommandLine, NoCommand, NotUtf8, Shape, Simulation, Threads as ThreadsFailure, Lint as LintFailure, Drawing, Unchosen, Undrawn}
+use Rattle.snoop_sim.specs.declared.failure.Failure.TheVariants.{BadBy, BadChoice, BadEvery, BadSerial, BadTop, CommandLine, NoCommand, NotUtf8, Shape, Simulation, Threads as ThreadsFailure, Lint as LintFailure, Drawing, Unchosen, Undrawn}
 use Rattle.snoop_sim.specs.declared.options.Task.{Task}
-use Rattle.snoop_sim.specs.declared.options.Task.TheVariants.{Help, Table, Simulate, States, StateFields, Draw}
+use Rattle.snoop_sim.specs.declared.options.Task.TheVariants.{Help, Table, Simulate, States, StateFields, Draw, DrawSvg}
 
 -- the commands, with the names that their options take
-abbrev commands : (steps run threads states stated forms counts counted groupings lint kinds draw drawn drawings table tables layouts : Names) → List App
-commands steps run threads states stated forms counts counted groupings lint kinds draw drawn drawings table tables layouts =
+abbrev commands : (steps run threads states stated forms counts counted groupings lint kinds draw drawn drawings themes table tables layouts : Names) → List App
+commands steps run threads states stated forms counts counted groupings lint kinds draw drawn drawings themes table tables layouts =
     simulation_app (codes "steps") steps [] ∷ simulation_app (codes "run") run (flag_rule (codes "serial") ∷ []) ∷ simulation_app (codes "threads") threads []
-    ∷ view_app (codes "states") states stated (form_rule forms ∷ choice_rules) ∷ view_app (codes "counts") counts counted (grouping_rule groupings ∷ top_rule ∷ every_rule ∷ []) ∷ simulation_app (codes "lint") lint (kind_rule kinds ∷ long_rule (codes "most") (codes "20") ∷ []) ∷ view_app (codes "draw") draw drawn (form_rule drawings ∷ flag_rule (codes "ascii") ∷ choice_rules) ∷ table_app table tables layouts ∷ []
+    ∷ view_app (codes "states") states stated (form_rule forms ∷ choice_rules) ∷ view_app (codes "counts") counts counted (grouping_rule groupings ∷ top_rule ∷ every_rule ∷ []) ∷ simulation_app (codes "lint") lint (kind_rule kinds ∷ long_rule (codes "most") (codes "20") ∷ []) ∷ view_app (codes "draw") draw drawn (form_rule drawings ∷ flag_rule (codes "ascii") ∷ theme_rule themes ∷ shown_rule ∷ choice_rules) ∷ table_app table tables layouts ∷ []
 
 -- `clap` says what it finds in the words of such a command line
-is_simple_snoop : (steps run threads states stated forms counts counted groupings lint kinds draw drawn drawings table tables layouts : Names)
-    → is_simple (with_commands top_app (commands steps run threads states stated forms counts counted groupings lint kinds draw drawn drawings table tables layouts)) ≡ true
+is_simple_snoop : (steps run threads states stated forms counts counted groupings lint kinds draw drawn drawings themes table tables layouts : Names)
+    → is_simple (with_commands top_app (commands steps run threads states stated forms counts counted groupings lint kinds draw drawn drawings themes table tables layouts)) ≡ true
 unfolding clap_on_literals
-is_simple_snoop steps run threads states stated forms counts counted groupings lint kinds draw drawn drawings table tables layouts = refl
+is_simple_snoop steps run threads states stated forms counts counted groupings lint kinds draw drawn drawings themes table tables layouts = refl
 
 -- and of which kinds its errors are
-is_free_snoop : (steps run threads states stated forms counts counted groupings lint kinds draw drawn drawings table tables layouts : Names)
-    → is_simple_and_free (with_commands top_app (commands steps run threads states stated forms counts counted groupings lint kinds draw drawn drawings table tables layouts)) ≡ true
+is_free_snoop : (steps run threads states stated forms counts counted groupings lint kinds draw drawn drawings themes table tables layouts : Names)
+    → is_simple_and_free (with_commands top_app (commands steps run threads states stated forms counts counted groupings lint kinds draw drawn drawings themes table tables layouts)) ≡ true
 unfolding clap_on_literals
-is_free_snoop steps run threads states stated forms counts counted groupings lint kinds draw drawn drawings table tables layouts = refl
+is_free_snoop steps run threads states stated forms counts counted groupings lint kinds draw drawn drawings themes table tables layouts = refl
 
 -- one more command
 listed : {a b : App} {rest others : List App} → a ≡ b → rest ≡ others → a ∷ rest ≡ b ∷ others
 listed head tail = ap₂ (λ x xs. x ∷ xs) head tail
 
 -- a test that holds whatever lists the names are in
-tested : (test : App → Bool) → ((steps run threads states stated forms counts counted groupings lint kinds draw drawn drawings table tables layouts : Names)
-    → test (with_commands top_app (commands steps run threads states stated forms counts counted groupings lint kinds draw drawn drawings table tables layouts)) ≡ true) → (app : App) → IsSnoop app → test app ≡ true
-tested test holds app (steps', run', threads', states', counts', lint', draw', table', (steps, _, a), (run, _, b), (threads, _, c), (forms, _, (states, stated, _, _, d)), (groupings, _, (counts, counted, _, _, e)), (kinds, _, (lint, _, f)), (drawings, _, (draw, drawn, _, _, g)), (table, tables, layouts, _, _, _, h), is) =
-    let same : steps' ∷ run' ∷ threads' ∷ states' ∷ counts' ∷ lint' ∷ draw' ∷ table' ∷ [] ≡ commands steps run threads states stated forms counts counted groupings lint kinds draw drawn drawings table tables layouts =
+tested : (test : App → Bool) → ((steps run threads states stated forms counts counted groupings lint kinds draw drawn drawings themes table tables layouts : Names)
+    → test (with_commands top_app (commands steps run threads states stated forms counts counted groupings lint kinds draw drawn drawings themes table tables layouts)) ≡ true) → (app : App) → IsSnoop app → test app ≡ true
+tested test holds app (steps', run', threads', states', counts', lint', draw', table', (steps, _, a), (run, _, b), (threads, _, c), (forms, _, (states, stated, _, _, d)), (groupings, _, (counts, counted, _, _, e)), (kinds, _, (lint, _, f)), (drawings, themes, _, _, (draw, drawn, _, _, g)), (table, tables, layouts, _, _, _, h), is) =
+    let same : steps' ∷ run' ∷ threads' ∷ states' ∷ counts' ∷ lint' ∷ draw' ∷ table' ∷ [] ≡ commands steps run threads states stated forms counts counted groupings lint kinds draw drawn drawings themes table tables layouts =
     listed a (listed b (listed c (listed d (listed e (listed f (listed g (listed h refl))))))) in
-    ap test (is ∙ ap (with_commands top_app) same) ∙ holds steps run threads states stated forms counts counted groupings lint kinds draw drawn drawings table tables layouts
+    ap test (is ∙ ap (with_commands top_app) same) ∙ holds steps run threads states stated forms counts counted groupings lint kinds draw drawn drawings themes table tables layouts
 
 pub is_free : (app : App) → IsSnoop app → is_simple_and_free app ≡ true
 is_free = tested is_simple_and_free is_free_snoop
@@ -66,6 +66,7 @@ asked app words (Some command) (Simulate protocol shape engine) snoop well named
 asked app words (Some command) (States protocol shape input choice) snoop well named has = (app, snoop, (well, subst (λ c. HasTask c (States protocol shape input choice)) named has))
 asked app words (Some command) (StateFields protocol shape input choice) snoop well named has = (app, snoop, (well, subst (λ c. HasTask c (StateFields protocol shape input choice)) named has))
 asked app words (Some command) (Draw protocol shape input charset choice) snoop well named has = (app, snoop, (well, subst (λ c. HasTask c (Draw protocol shape input charset choice)) named has))
+asked app words (Some command) (DrawSvg protocol shape input choice paper) snoop well named has = (app, snoop, (well, subst (λ c. HasTask c (DrawSvg protocol shape input choice paper)) named has))
 
 -- and are refused where it has none
 pub without_task : (app : App) (words : List Text) (command : Option (Text × List Row)) (failure : Failure) → IsSnoop app → fault_of app words ≡ []
@@ -73,6 +74,7 @@ pub without_task : (app : App) (words : List Text) (command : Option (Text × Li
 without_task app words command NoCommand snoop well named has = (app, snoop, (well, subst (λ c. HasNoTask c NoCommand) named has))
 without_task app words command (Shape fault) snoop well named has = (app, snoop, (well, subst (λ c. HasNoTask c (Shape fault)) named has))
 without_task app words command BadSerial snoop well named has = (app, snoop, (well, subst (λ c. HasNoTask c BadSerial) named has))
+without_task app words command BadChoice snoop well named has = (app, snoop, (well, subst (λ c. HasNoTask c BadChoice) named has))
 without_task app words command (Undrawn fault) snoop well named has = (app, snoop, (well, subst (λ c. HasNoTask c (Undrawn fault)) named has))
 without_task app words command BadBy snoop well named has = (app, snoop, (well, subst (λ c. HasNoTask c BadBy) named has))
 without_task app words command BadTop snoop well named has = (app, snoop, (well, subst (λ c. HasNoTask c BadTop) named has))
@@ -162,6 +164,7 @@ refused_status words BadBy refuses = two_is_not_four
 refused_status words BadTop refuses = two_is_not_four
 refused_status words BadEvery refuses = two_is_not_four
 refused_status words BadSerial refuses = two_is_not_four
+refused_status words BadChoice refuses = two_is_not_four
 refused_status words (Undrawn fault) refuses = two_is_not_four
 refused_status words (Unchosen fault) refuses = two_is_not_four
 refused_status words (Simulation fault) refuses = λ four. three_is_not_four (ap status_of_fault (sym refuses) ∙ four)

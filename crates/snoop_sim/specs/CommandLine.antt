@@ -39,7 +39,11 @@ IsProtocols names = AreNames (codes "msi" ∷ codes "mesi" ∷ []) names
 
 -- those of `--as` of a drawing
 abbrev pub IsDrawings : Names → Type 0
-IsDrawings names = AreNames (codes "text" ∷ []) names
+IsDrawings names = AreNames (codes "text" ∷ codes "svg" ∷ codes "html" ∷ []) names
+
+-- those of `--theme`
+abbrev pub IsThemes : Names → Type 0
+IsThemes names = AreNames (codes "auto" ∷ codes "light" ∷ codes "dark" ∷ []) names
 
 -- those of `--of`
 abbrev pub IsKinds : Names → Type 0
@@ -84,6 +88,14 @@ form_rule forms = option_rule (codes "as") (codes "text") (parser.Names forms)
 -- the option `--as` of a table, which is `rows` where it is not given
 abbrev pub layout_rule : Names → Rule
 layout_rule layouts = option_rule (codes "as") (codes "rows") (parser.Names layouts)
+
+-- the option `--theme`
+abbrev pub theme_rule : Names → Rule
+theme_rule themes = optional_rule (codes "theme") (parser.Names themes)
+
+-- the option `--shown`
+abbrev pub shown_rule : Rule
+shown_rule = optional_rule (codes "shown") (parser.Unsigned 0 18446744073709551615)
 
 -- the options `--block`, `--from` and `--to`
 abbrev pub choice_rules : List Rule
@@ -159,7 +171,7 @@ IsLint app = (kinds : Names) × IsKinds kinds × IsSimulation (codes "lint") (ki
 
 -- the command `draw`
 abbrev pub IsDraw : App → Type 0
-IsDraw app = (forms : Names) × IsDrawings forms × IsView (codes "draw") (form_rule forms ∷ flag_rule (codes "ascii") ∷ choice_rules) app
+IsDraw app = (forms themes : Names) × IsDrawings forms × IsThemes themes × IsView (codes "draw") (form_rule forms ∷ flag_rule (codes "ascii") ∷ theme_rule themes ∷ shown_rule ∷ choice_rules) app
 
 -- the command `table`, as `clap` describes it
 abbrev pub IsTable : App → Type 0

@@ -20,6 +20,11 @@ use Rattle.snoop_draw.specs.Choices.{Chosen as Drawn}
 use Rattle.snoop_draw.specs.declared.choice.ChoiceFault.{ChoiceFault as DrawnFault}
 use Rattle.snoop_draw.specs.declared.marks.Charset.{Charset}
 use Rattle.snoop_draw.specs.declared.marks.Charset.TheVariants as charset
+use Rattle.snoop_svg.specs.declared.paper.Form.{Form as SvgForm}
+use Rattle.snoop_svg.specs.declared.paper.Form.TheVariants as svg
+use Rattle.snoop_svg.specs.declared.paper.Paper.{Paper}
+use Rattle.snoop_svg.specs.declared.paper.Theme.{Theme}
+use Rattle.snoop_svg.specs.declared.paper.Theme.TheVariants as theme
 use Rattle.snoop_lint.specs.declared.form.Form.{Form}
 use Rattle.snoop_lint.specs.declared.form.Form.TheVariants as form
 use Rattle.snoop_sim.specs.declared.options.Layout.{Layout}
@@ -51,9 +56,13 @@ which_named options = if says false (codes "which") (codes "memory") options the
 abbrev pub layout_named : List Row → Layout
 layout_named options = if says false (codes "as") (codes "matrix") options then layout.Matrix else layout.Rows
 
+-- whether a drawing is of ASCII characters alone: where the flag is set
+abbrev pub asks_ascii : List Row → Bool
+asks_ascii options = says false (codes "ascii") (codes "true") options
+
 -- ASCII characters where the flag is set
 abbrev pub charset_named : List Row → Charset
-charset_named options = if says false (codes "ascii") (codes "true") options then charset.Ascii else charset.Unicode
+charset_named options = if asks_ascii options then charset.Ascii else charset.Unicode
 
 -- rows where they are named; else steps
 abbrev pub kind_named : List Row → Form
@@ -78,6 +87,31 @@ abbrev pub IsReadAs : ℕ → Option Text → Option ℕ → Type 0
 IsReadAs limit None read = read ≡ None
 IsReadAs limit (Some text) (Some number) = IsNumber limit text × (number ≡ digits_value 10 (without_leading_plus text))
 IsReadAs limit (Some text) None = ¬ IsNumber limit text
+
+-- a page where it is named; else an SVG
+abbrev pub form_named : List Row → SvgForm
+form_named options = if says false (codes "as") (codes "html") options then svg.Html else svg.Svg
+
+-- the colours that are named; else those of the reader's system
+abbrev pub theme_named : List Row → Theme
+theme_named options = if says false (codes "theme") (codes "light") options then theme.Light else (if says false (codes "theme") (codes "dark") options then theme.Dark else theme.Auto)
+
+-- `theme` is given
+abbrev pub names_theme : List Row → Bool
+names_theme options = is_some (first_of (codes "theme") options)
+
+-- what a drawing is written for, as `as`, `theme` and `shown` say: without `shown` all rows are shown; none where it is a text, which has no theme and no rows left out
+abbrev pub IsPaperOf : List Row → Option Paper → Type 0
+IsPaperOf options None = (says false (codes "as") (codes "text") options ≡ true) × (names_theme options ≡ false) × IsReadAs (2 ^ 64) (one_of (codes "shown") options) None
+IsPaperOf options (Some paper) = (says false (codes "as") (codes "text") options ≡ false) × (asks_ascii options ≡ false)
+    × (paper.form ≡ form_named options) × (paper.theme ≡ theme_named options)
+    × ((shown : Option ℕ) × IsReadAs (2 ^ 64) (one_of (codes "shown") options) shown × (paper.shown ≡ unwrap_or shown 18446744073709551615))
+
+-- `theme` or `shown` is given for a text, or `ascii` for another drawing
+abbrev pub MisplacesPaper : List Row → Type 0
+MisplacesPaper options =
+    ((says false (codes "as") (codes "text") options ≡ true) × ((names_theme options ≡ true) ⊎ ((shown : ℕ) × IsReadAs (2 ^ 64) (one_of (codes "shown") options) (Some shown))))
+    ⊎ ((says false (codes "as") (codes "text") options ≡ false) × (asks_ascii options ≡ true))
 
 -- `by` is given
 abbrev pub names_grouping : List Row → Bool

@@ -29,6 +29,9 @@ pub(crate) enum Failure {
     /// `--serial` is given without `--of rows`.
     #[error("BadSerial")]
     BadSerial,
+    /// An option is given that this form of a drawing has not.
+    #[error("BadChoice")]
+    BadChoice,
     /// The block or the steps that are to be shown are refused.
     #[error(transparent)]
     Unchosen(ChoiceFault),
@@ -145,6 +148,7 @@ impl Failure {
             | Failure::BadTop
             | Failure::BadEvery
             | Failure::BadSerial
+            | Failure::BadChoice
             | Failure::Undrawn(_)
             | Failure::Drawing(DrawFault::TooLarge) => 2,
             Failure::Simulation(fault) | Failure::Drawing(DrawFault::Simulation(fault)) => {

@@ -85,7 +85,8 @@ Exit statuses:
   1  the text was refused, or could not be read (Read); nothing was written
   2  the command line was refused, or the shape (BadCores, BadBlocks, BadBytes,
      BadWords: outside the limits of its options), or what is to be shown (BadBlock,
-     BadRange, BadSerial, BadBy, BadTop, BadEvery, TooLarge); nothing was written
+     BadRange, BadSerial, BadChoice, BadBy, BadTop, BadEvery, TooLarge); nothing was
+     written
   3  out of memory; the output may be cut short
   4  a write failed; the output may be cut short
   5  the threads of `snoop threads` were refused; nothing was written
@@ -225,10 +226,14 @@ Example: printf 'L,0,0\\nO,0\\nR,0\\n' | snoop draw
 Each step has a line of output, each block a panel in it: a column for each core that
 asks for the block, the bus and memory, with what a step changes. The legend at the
 end names the marks. A panel for each block makes a line long: --block N draws one.
+--as svg draws the same as an image, --as html as a page to step through
+(docs/DRAWING.md). They have --theme, and --shown N, which keeps the size and leaves
+out the steps behind the N-th. --ascii is for text alone.
 
-A text is refused as by `snoop steps`, a choice by BadBlock (--block is not below
---blocks) or BadRange (--from is 0, or above --to), and more than a million cells by
-TooLarge: choose a block, or fewer steps."
+A text is refused as by `snoop steps`, a choice by BadChoice (an option that the form
+has not), BadBlock (--block is not below --blocks) or BadRange (--from is 0, or above
+--to), and more than a million cells, of svg and html 20,000, by TooLarge: choose a
+block, or fewer steps."
     more
 );
 

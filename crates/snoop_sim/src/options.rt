@@ -2,8 +2,8 @@
 ghost use Rattle.std.specs.Prelude.{◌≡◌, ◌≢◌, ◌^◌, [], IfErr, IfOk, Ok, codes, false, map, string_bytes, true};
 ghost use Rattle.clap.specs.Words.{app_of, found_of, one_of, rows_of, rule_of, subcommand_rows_of};
 ghost use Rattle.snoop_sim.specs.Asked.{Asks, HasNoEngine, HasNoTask, HasTask, IsTaskOf, Refuses};
-ghost use Rattle.snoop_sim.specs.CommandLine.{IsCounts, IsDraw, IsForms, IsGroupings, IsKinds, IsLayouts, IsLint, IsLocal, IsProtocols, IsRun, IsSimulation, IsSnoop, IsStates, IsSteps, IsTable, IsThreads, IsView, Names, choice_rules, flag_rule, form_rule, grouping_rule, kind_rule, layout_rule, number_rule, optional_rule, protocol_rule, top_app, with_rules};
-ghost use Rattle.snoop_sim.specs.Options.{IsChoiceOf, HasNoGrouping, HasNoNamed, HasNoSteps, IsDrawnOf, IsGroupingOf, IsInputOf, IsNamed, IsSteps as IsStepsOf, names_grouping, IsNumberOf, IsReadAs, IsShapeOf, MisplacesSerial, asks_serial, charset_named, kind_named, layout_named, protocol_named, says, which_named};
+ghost use Rattle.snoop_sim.specs.CommandLine.{IsCounts, IsDraw, IsForms, IsGroupings, IsKinds, IsLayouts, IsLint, IsLocal, IsProtocols, IsRun, IsSimulation, IsSnoop, IsStates, IsSteps, IsTable, IsThemes, IsThreads, IsView, Names, choice_rules, flag_rule, form_rule, grouping_rule, kind_rule, layout_rule, number_rule, optional_rule, protocol_rule, theme_rule, top_app, with_rules};
+ghost use Rattle.snoop_sim.specs.Options.{IsChoiceOf, HasNoGrouping, HasNoNamed, HasNoSteps, IsDrawnOf, IsGroupingOf, IsInputOf, IsNamed, IsPaperOf, IsSteps as IsStepsOf, names_grouping, names_theme, IsNumberOf, IsReadAs, IsShapeOf, MisplacesPaper, MisplacesSerial, asks_ascii, asks_serial, charset_named, form_named, kind_named, layout_named, protocol_named, says, theme_named, which_named};
 
 use crate::failure::Failure;
 use crate::help;
@@ -13,6 +13,7 @@ use snoop_draw::{Charset, Choice as Drawn, ChoiceFault as DrawnFault};
 use snoop_engine::{Choice, ChoiceFault, Input};
 use snoop_lint::Form;
 use snoop_rules::{Protocol, Which};
+use snoop_svg::{Form as SvgForm, Paper, Theme};
 use snoop_trace::{Shape, ShapeFault};
 use std::alloc::{AllocError, Global};
 use std::num::NonZeroU64;
@@ -27,7 +28,10 @@ pub(crate) enum Task {
     States(Protocol, Shape, Input, Choice),
     /// Its states, in fields.
     StateFields(Protocol, Shape, Input, Choice),
+    /// Its drawing as a text.
     Draw(Protocol, Shape, Input, Charset, Drawn),
+    /// Its drawing as SVG or as a page.
+    DrawSvg(Protocol, Shape, Input, Drawn, Paper),
 }
 
 /// What is done with a text.
@@ -68,7 +72,9 @@ static PROTOCOLS: [&str; 2] = ["msi", "mesi"];
 
 static KINDS: [&str; 2] = ["steps", "rows"];
 
-static DRAWINGS: [&str; 1] = ["text"];
+static DRAWINGS: [&str; 3] = ["text", "svg", "html"];
+
+static THEMES: [&str; 3] = ["auto", "light", "dark"];
 
 static FORMS: [&str; 2] = ["text", "csv"];
 
@@ -147,8 +153,12 @@ fn task_on(name: &str, options: &ArgMatches, shape: Shape) -> Result<Task, Failu
         }
         "draw" => {
             let input = input_in(options)?;
+            let paper = paper_in(options)?;
             let choice = drawn_in(options, shape)?;
-            Ok(Task::Draw(protocol, shape, input, charset_in(options), choice))
+            match paper {
+                None => Ok(Task::Draw(protocol, shape, input, charset_in(options), choice)),
+                Some(paper) => Ok(Task::DrawSvg(protocol, shape, input, choice, paper)),
+            }
         }
         _ => Err(Failure::NoCommand),
     }
@@ -285,10 +295,20 @@ fn draw<'a>(alloc: Global) -> Result<Command<'a>, AllocError>
         "Read steps or rows; draw what happens to each block",
         help::DRAW,
     )?;
-    let ascii = flag(alloc, "ascii", "Draw with ASCII characters alone");
+    let ascii = flag(alloc, "ascii", "For text: draw with ASCII characters alone");
+    let shown = optional(
+        alloc,
+        "shown",
+        value_parser!(u64),
+        "For svg and html: show so many rows alone",
+    );
     choosing(
         alloc,
-        plain.arg(forms(alloc, DRAWINGS.as_slice()))?.arg(ascii)?,
+        plain
+            .arg(forms(alloc, DRAWINGS.as_slice()))?
+            .arg(ascii)?
+            .arg(themes(alloc))?
+            .arg(shown)?,
     )
 }
 
@@ -443,6 +463,16 @@ fn layouts<'a>(alloc: Global) -> Arg<'a>
         .default_value("rows")
 }
 
+/// The colours of a drawing, the reader's own if they are not given.
+fn themes<'a>(alloc: Global) -> Arg<'a>
+    ensures { (result.global ≡ false) × ((themes : Names) × IsThemes themes × (rule_of result ≡ theme_rule themes)) }
+{
+    Arg::new(alloc, "theme")
+        .long("theme")
+        .help("Colours for svg and html")
+        .value_parser(ValueParser::Names(THEMES.as_slice()))
+}
+
 /// An option that may be left out.
 fn optional<'a>(alloc: Global, name: &'a str, values: ValueParser<'a>, help: &'a str) -> Arg<'a>
     ensures { (result.global ≡ false) × (rule_of result ≡ optional_rule name.entry.now values.entry) }
@@ -514,14 +544,74 @@ fn drawn_in(options: &ArgMatches, shape: Shape) -> Result<Drawn, DrawnFault>
     )
 }
 
+/// Whether the drawing is of ASCII characters alone.
+fn is_ascii(options: &ArgMatches) -> bool
+    ensures { result ≡ asks_ascii (rows_of (found_of options.now)) }
+{
+    says(options, "ascii", "true")
+}
+
 /// The characters that were named.
 fn charset_in(options: &ArgMatches) -> Charset
     ensures { result ≡ charset_named (rows_of (found_of options.now)) }
 {
-    if says(options, "ascii", "true") {
+    if is_ascii(options) {
         Charset::Ascii
     } else {
         Charset::Unicode
+    }
+}
+
+/// What a drawing other than a text is written for; none for a text. The options of the one are not for the other.
+fn paper_in(options: &ArgMatches) -> Result<Option<Paper>, Failure>
+    ensures ok { IfOk result (IsPaperOf (rows_of (found_of options.now))) }
+    ensures err { IfErr result (λ failure. (failure ≡ Failure.BadChoice) × MisplacesPaper (rows_of (found_of options.now))) }
+{
+    let shown = long_in(options, "shown");
+    if says(options, "as", "text") {
+        match (has_theme(options), shown) {
+            (false, None) => Ok(None),
+            _ => Err(Failure::BadChoice),
+        }
+    } else if is_ascii(options) {
+        Err(Failure::BadChoice)
+    } else {
+        Ok(Some(Paper {
+            form: form_in(options),
+            theme: theme_in(options),
+            shown: shown.unwrap_or(u64::MAX),
+        }))
+    }
+}
+
+/// Whether `--theme` is given.
+fn has_theme(options: &ArgMatches) -> bool
+    ensures { result ≡ names_theme (rows_of (found_of options.now)) }
+{
+    options.get_str("theme").is_some()
+}
+
+/// The form that was named, other than a text.
+fn form_in(options: &ArgMatches) -> SvgForm
+    ensures { result ≡ form_named (rows_of (found_of options.now)) }
+{
+    if says(options, "as", "html") {
+        SvgForm::Html
+    } else {
+        SvgForm::Svg
+    }
+}
+
+/// The colours that were named.
+fn theme_in(options: &ArgMatches) -> Theme
+    ensures { result ≡ theme_named (rows_of (found_of options.now)) }
+{
+    if says(options, "theme", "light") {
+        Theme::Light
+    } else if says(options, "theme", "dark") {
+        Theme::Dark
+    } else {
+        Theme::Auto
     }
 }
 

@@ -21,6 +21,7 @@ use snoop_engine::{
 use snoop_lint::lint_text;
 use snoop_rules::{Protocol, Which, write_matrix, write_table};
 use snoop_states::simulate_states_table;
+use snoop_svg::simulate_svg;
 use snoop_trace::streams::{Sink, Source, write_whole};
 use snoop_trace::{Shape, WriteFault};
 use std::alloc::Global;
@@ -132,6 +133,11 @@ fn perform_task<T: Threads + Wait + Sync, R: Source, W: Sink>(
                 alloc, reader, writer, protocol, shape, input, charset, choice,
             )
             .map_err(Failure::Drawing)
+        }
+        Task::DrawSvg(protocol, shape, input, choice, paper) => {
+            simulate_svg(alloc, reader, writer, protocol, shape, input, choice, paper).map_err(
+                Failure::Drawing,
+            )
         }
     }
 }
