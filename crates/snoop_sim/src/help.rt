@@ -187,8 +187,7 @@ Example: printf 'L,0,0\\nO,0\\nR,0\\n' | snoop counts --by row
 The first line of output names the fields. --by row: each row of the cache table and of
 the memory table has a line (see `snoop table`), with how often it was taken, by all
 cores together. A stall counts too; a core in I at another core's request is left out.
---by core, --by block: each core or block that the text names has a line: the counts of
-the report, then sums of rows of the tables, then its refused steps (docs/TEXTS.md).
+--by core, --by block: each core or block that the text names has a line (docs/TEXTS.md);
 --top N: the N blocks of most ordered requests alone, most first.
 --by word: each word of each block that several cores use has a line.
 --every N, in place of --by: a line for steps 1 to N, one for the next N, and so on."

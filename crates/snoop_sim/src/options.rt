@@ -348,7 +348,7 @@ fn view<'a>(
         .arg(flag(
             alloc,
             "serial",
-            "Of rows: do each line whole before the next, in the order of the text",
+            "Of rows: each line whole before the next, in the text's order",
         ))
 }
 
