@@ -58,7 +58,8 @@ block,word,address,cores,readers,writers,loads,load_hits,stores,store_hits
 ";
 
 /// No block has two cores.
-const NO_WORDS: &str = "block,word,address,cores,readers,writers,loads,load_hits,stores,store_hits\n";
+const NO_WORDS: &str =
+    "block,word,address,cores,readers,writers,loads,load_hits,stores,store_hits\n";
 
 /// The race, for each six steps: the last line has one.
 const RACE_BY_STEPS: &str = "\
@@ -69,7 +70,8 @@ first,last,loads,load_hits,stores,store_hits,gets,getm,putm,from_memory,from_cac
 ";
 
 /// Core 0 evicts a block, but core 1's load of it is ordered first; core 1 evicts it too. Then each asks for it again.
-const GIVEN_UP: &str = "S,0,0,1\nO,0\nR,0\nE,0,0\nL,1,0\nO,1\nR,0\nO,0\nR,0\nL,0,0\nO,0\nR,0\nE,1,0\nS,1,0,5\nO,1\nR,0\n";
+const GIVEN_UP: &str =
+    "S,0,0,1\nO,0\nR,0\nE,0,0\nL,1,0\nO,1\nR,0\nO,0\nR,0\nL,0,0\nO,0\nR,0\nE,1,0\nS,1,0,5\nO,1\nR,0\n";
 
 const GIVEN_UP_BY_BLOCK: &str = "\
 block,address,cores,readers,writers,loads,load_hits,stores,store_hits,gets,getm,putm,from_memory,from_caches,writebacks,clean,stale,misses,cold,given_up,true_sharing,false_sharing,upgrades,upgrades_lost,invalidated,taken,downgraded,overtaken,stalled,bus_taken,no_transaction
@@ -82,7 +84,14 @@ fn counts_of_an_upgrade_race(rt: HostRuntime) -> Result<(), Fail> {
     let shape = Shape::new(2, 4, 64)?;
     let mut text = RACE.as_bytes();
     let mut out = Vec::new(alloc);
-    simulate_counts_by_core(alloc, &mut text, &mut out, Protocol::Msi, shape, Input::Steps)?;
+    simulate_counts_by_core(
+        alloc,
+        &mut text,
+        &mut out,
+        Protocol::Msi,
+        shape,
+        Input::Steps,
+    )?;
     if out.as_slice() != RACE_BY_CORE.as_bytes() {
         return Err("by core")?;
     }
@@ -95,7 +104,15 @@ fn counts_of_two_blocks(rt: HostRuntime) -> Result<(), Fail> {
     let shape = Shape::new(2, 4, 64)?;
     let mut text = TWO_BLOCKS.as_bytes();
     let mut out = Vec::new(alloc);
-    simulate_counts_by_block(alloc, &mut text, &mut out, Protocol::Msi, shape, Input::Steps, None)?;
+    simulate_counts_by_block(
+        alloc,
+        &mut text,
+        &mut out,
+        Protocol::Msi,
+        shape,
+        Input::Steps,
+        None,
+    )?;
     if out.as_slice() != TWO_BLOCKS_BY_BLOCK.as_bytes() {
         return Err("all blocks")?;
     }
@@ -108,7 +125,15 @@ fn block_of_most_requests(rt: HostRuntime) -> Result<(), Fail> {
     let shape = Shape::new(2, 4, 64)?;
     let mut text = TWO_BLOCKS.as_bytes();
     let mut out = Vec::new(alloc);
-    simulate_counts_by_block(alloc, &mut text, &mut out, Protocol::Msi, shape, Input::Steps, Some(1))?;
+    simulate_counts_by_block(
+        alloc,
+        &mut text,
+        &mut out,
+        Protocol::Msi,
+        shape,
+        Input::Steps,
+        Some(1),
+    )?;
     if out.as_slice() != FIRST_BLOCK.as_bytes() {
         return Err("one block")?;
     }
@@ -121,7 +146,14 @@ fn causes_of_shared_words(rt: HostRuntime) -> Result<(), Fail> {
     let shape = Shape::with_words(2, 4, 64, 8)?;
     let mut text = SHARED_FALSELY.as_bytes();
     let mut out = Vec::new(alloc);
-    simulate_counts_by_core(alloc, &mut text, &mut out, Protocol::Msi, shape, Input::Steps)?;
+    simulate_counts_by_core(
+        alloc,
+        &mut text,
+        &mut out,
+        Protocol::Msi,
+        shape,
+        Input::Steps,
+    )?;
     if out.as_slice() != SHARED_FALSELY_BY_CORE.as_bytes() {
         return Err("by core")?;
     }
@@ -134,7 +166,15 @@ fn causes_of_copies_that_were_given_up(rt: HostRuntime) -> Result<(), Fail> {
     let shape = Shape::new(2, 4, 64)?;
     let mut text = GIVEN_UP.as_bytes();
     let mut out = Vec::new(alloc);
-    simulate_counts_by_block(alloc, &mut text, &mut out, Protocol::Msi, shape, Input::Steps, None)?;
+    simulate_counts_by_block(
+        alloc,
+        &mut text,
+        &mut out,
+        Protocol::Msi,
+        shape,
+        Input::Steps,
+        None,
+    )?;
     if out.as_slice() != GIVEN_UP_BY_BLOCK.as_bytes() {
         return Err("by block")?;
     }
@@ -147,7 +187,14 @@ fn counts_of_shared_words(rt: HostRuntime) -> Result<(), Fail> {
     let shape = Shape::with_words(2, 4, 64, 8)?;
     let mut text = SHARED_FALSELY.as_bytes();
     let mut out = Vec::new(alloc);
-    simulate_counts_by_word(alloc, &mut text, &mut out, Protocol::Msi, shape, Input::Steps)?;
+    simulate_counts_by_word(
+        alloc,
+        &mut text,
+        &mut out,
+        Protocol::Msi,
+        shape,
+        Input::Steps,
+    )?;
     if out.as_slice() != SHARED_FALSELY_BY_WORD.as_bytes() {
         return Err("by word")?;
     }
@@ -160,7 +207,14 @@ fn words_of_no_shared_block(rt: HostRuntime) -> Result<(), Fail> {
     let shape = Shape::new(2, 4, 64)?;
     let mut text = TWO_BLOCKS.as_bytes();
     let mut out = Vec::new(alloc);
-    simulate_counts_by_word(alloc, &mut text, &mut out, Protocol::Msi, shape, Input::Steps)?;
+    simulate_counts_by_word(
+        alloc,
+        &mut text,
+        &mut out,
+        Protocol::Msi,
+        shape,
+        Input::Steps,
+    )?;
     if out.as_slice() != NO_WORDS.as_bytes() {
         return Err("by word")?;
     }
@@ -176,7 +230,15 @@ fn counts_of_each_six_steps(rt: HostRuntime) -> Result<(), Fail> {
     };
     let mut text = RACE.as_bytes();
     let mut out = Vec::new(alloc);
-    simulate_counts_by_steps(alloc, &mut text, &mut out, Protocol::Msi, shape, Input::Steps, six)?;
+    simulate_counts_by_steps(
+        alloc,
+        &mut text,
+        &mut out,
+        Protocol::Msi,
+        shape,
+        Input::Steps,
+        six,
+    )?;
     if out.as_slice() != RACE_BY_STEPS.as_bytes() {
         return Err("by steps")?;
     }
