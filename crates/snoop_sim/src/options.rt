@@ -458,7 +458,7 @@ fn layouts<'a>(alloc: Global) -> Arg<'a>
 {
     Arg::new(alloc, "as")
         .long("as")
-        .help("A line for each row, or for each state with a field for each event")
+        .help("The layout")
         .value_parser(ValueParser::Names(LAYOUTS.as_slice()))
         .default_value("rows")
 }
