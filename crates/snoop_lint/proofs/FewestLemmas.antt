@@ -15,7 +15,7 @@ use Rattle.snoop_lint.specs.declared.tally.Tally.{Tally}
 use Rattle.snoop_lint.specs.Fewest.{AreFewest, resized}
 use Rattle.snoop_lint.specs.Fields.{core_named}
 use Rattle.snoop_lint.specs.Findings.{Finding, fault_at, findings, findings_from, first_fault, heads}
-use Rattle.snoop_lint.specs.Summary.{is_mendable}
+use Rattle.snoop_lint.specs.Summary.{can_be_taken}
 use Rattle.snoop_lint.specs.Tallies.{block_named, has_heading, is_limit, tally_of}
 use Rattle.snoop_lint.proofs.BoundLemmas.{Bound, Fits, row_bound, step_bound}
 use Rattle.snoop_lint.proofs.FindingLemmas.{first_is_refusal}
@@ -130,17 +130,17 @@ parts true true h c d e = absurd (false≢true e)
 parts true false true c d e = absurd (false≢true e)
 parts true false false c d e = (refl, refl)
 
-mendable_parts : (tally : Tally) → is_mendable tally ≡ true → (tally.has_others ≡ false) × (tally.has_heading ≡ false)
-unfolding is_mendable
-mendable_parts tally e = parts (nat_lt 0 tally.faults) tally.has_others tally.has_heading (nat_lt tally.core 256) (nat_lt tally.block 65536) e
+taken_parts : (tally : Tally) → can_be_taken tally ≡ true → (tally.has_others ≡ false) × (tally.has_heading ≡ false)
+unfolding can_be_taken
+taken_parts tally e = parts (nat_lt 0 tally.records) tally.has_others tally.has_heading (nat_lt tally.core 256) (nat_lt tally.block 65536) e
 
 -- the greatest core and the greatest block, each plus one
-pub fewest : (form : Form) (protocol : Protocol) (shape : Extent) (bytes : List ℕ) → is_mendable (tally_of form protocol shape (records_of bytes)) ≡ true
+pub fewest : (form : Form) (protocol : Protocol) (shape : Extent) (bytes : List ℕ) → can_be_taken (tally_of form protocol shape (records_of bytes)) ≡ true
     → AreFewest form protocol shape bytes ((tally_of form protocol shape (records_of bytes)).core + 1) ((tally_of form protocol shape (records_of bytes)).block + 1)
 unfolding tally_of
 fewest form protocol shape bytes mendable =
     let rows : List Fields = records_of bytes in
-    let (others, heading) = mendable_parts (tally_of form protocol shape rows) mendable in
+    let (others, heading) = taken_parts (tally_of form protocol shape rows) mendable in
     record {
       enough = λ c b p q.
           let below = to_below shape c b 0 0 rows (omega (arith, p)) (omega (arith, q)) in

@@ -7,3 +7,4 @@ pub mod LintedLemmas
 pub mod BoundLemmas
 pub mod FewestLemmas
 pub mod EachLine
+pub mod HintLemmas

@@ -10,7 +10,7 @@ use Rattle.snoop_lint.specs.declared.form.Form.{Form}
 use Rattle.snoop_lint.specs.declared.form.Form.TheVariants.{Steps, Rows}
 use Rattle.snoop_lint.specs.Fields.{address_named, core_named, field, is_number, letter, number_at}
 use Rattle.snoop_lint.specs.Findings.{Finding, heads}
-use Rattle.snoop_lint.specs.Hints.{is_empty, kind_hint, number_hint}
+use Rattle.snoop_lint.specs.Hints.{begins_record, fields_hint, is_empty, kind_hint, number_hint, or_else}
 use Rattle.snoop_lint.specs.Shown.{labelled, shown}
 
 -- the kinds of record that a text may have
@@ -18,14 +18,14 @@ abbrev pub kinds : Form → List ℕ
 kinds Steps = codes "L, S, E, O, R"
 kinds Rows = codes "L, S, E"
 
--- record n may be a line of names: it is the first, and its second field is no number
+-- record n may be a line of names: it is the first, its second field is no number, and it does not begin as a step with a gap for its comma
 abbrev pub may_be_names : ℕ → List (List ℕ) → Bool
-may_be_names n fields = (n == 1) && not (is_number fields 1)
+may_be_names n fields = (n == 1) && not (is_number fields 1) && not (begins_record (field fields 0))
 
 -- of a first field that is no kind of record
 unfoldable pub bad_kind : Form → ℕ → List (List ℕ) → List ℕ
 bad_kind form n fields =
-    shown (field fields 0) ++ codes " is no kind of record (" ++ kinds form ++ codes ")" ++ kind_hint form (may_be_names n fields) (length fields == 1) (field fields 0)
+    shown (field fields 0) ++ codes " is no kind of record (" ++ kinds form ++ codes ")" ++ kind_hint form (may_be_names n fields) (length fields) (field fields 0)
 
 -- of a heading's third field that is no protocol
 unfoldable pub bad_protocol : List (List ℕ) → List ℕ
@@ -55,14 +55,18 @@ field_names kind =
 abbrev pub has_comma_more : ℕ → List (List ℕ) → Bool
 has_comma_more count fields = (length fields == count + 1) && is_empty (field fields count)
 
--- of a record with an empty field more than its kind has
-unfoldable pub comma_hint : ℕ → List (List ℕ) → List ℕ
-comma_hint kind fields = if has_comma_more (field_count kind) fields then codes "; a comma stands at the end" else []
+-- of a record with an empty field more than its kind has, and of an R with as many fields as a load
+unfoldable pub count_hint : ℕ → List (List ℕ) → List ℕ
+count_hint kind fields =
+    if has_comma_more (field_count kind) fields then codes "; a comma stands at the end"
+    else if (kind == 82) && (length fields == 3) then codes "; a load is L, a store S, an eviction E"
+    else []
 
 -- of a record with too many fields or too few
 unfoldable pub bad_fields : List (List ℕ) → List ℕ
 bad_fields fields =
-    field_names (letter fields) ++ labelled (codes ", and this record has ") (length fields) ++ comma_hint (letter fields) fields
+    field_names (letter fields) ++ labelled (codes ", and this record has ") (length fields)
+    ++ or_else (fields_hint fields) (count_hint (letter fields) fields)
 
 -- the place of the first field of a heading that ought to be a number and is none
 unfoldable pub heading_place : List (List ℕ) → ℕ

@@ -1,9 +1,10 @@
 -- How a field of a text is shown.
 -- Source: this project's profile.
-use Rattle.std.specs.Prelude.{ℕ, ◌-◌, ◌/◌, ◌%◌, ◌==◌, ◌&&◌, List, [], ◌∷◌, ◌++◌, codes, length, take, nat_lt, if◌then◌else◌}
+use Rattle.std.specs.Prelude.{ℕ, ◌-◌, ◌/◌, ◌%◌, ◌==◌, ◌&&◌, List, [], ◌∷◌, ◌++◌, codes, length, min, not, take, nat_lt, if◌then◌else◌}
 use Rattle.std.specs.Char.{digit_char}
 use Rattle.std.specs.Fmt.{decimal}
-use Rattle.std.specs.List.{flat_map}
+use Rattle.std.specs.List.{flat_map, prefix_len}
+use Rattle.snoop_lint.specs.Hints.{is_line_end}
 
 -- a byte as it is shown: printable ASCII as itself, a backslash twice, any other in hexadecimal
 abbrev pub shown_byte : ℕ → List ℕ
@@ -16,10 +17,14 @@ shown_byte byte =
 unfoldable pub labelled : List ℕ → ℕ → List ℕ
 labelled text number = text ++ decimal number
 
--- how many bytes are not shown, if there are any
+-- so many bytes that are not shown, if there are any
 unfoldable pub not_shown : ℕ → List ℕ
-not_shown len = if nat_lt 40 len then labelled (codes " and ") (len - 40) ++ codes " more bytes" else []
+not_shown count = if nat_lt 0 count then labelled (codes " and ") count ++ codes " more bytes" else []
 
--- a field between quotes, its first 40 bytes at most
+-- what is shown of a field: its first 40 bytes at most, and none from its first line end on
+unfoldable pub front : List ℕ → List ℕ
+front field = take (min 40 (prefix_len (λ byte. not (is_line_end byte)) field)) field
+
+-- a field between quotes
 unfoldable pub shown : List ℕ → List ℕ
-shown field = codes "'" ++ flat_map shown_byte (take 40 field) ++ codes "'" ++ not_shown (length field)
+shown field = codes "'" ++ flat_map shown_byte (front field) ++ codes "'" ++ not_shown (length field - length (front field))

@@ -7,7 +7,7 @@ ghost use Rattle.snoop_lint.specs.Findings.{heads};
 
 use crate::fields::{address_named, core_named, field, is_number, letter, number_at};
 use crate::form::Form;
-use crate::hints::{kind_hint, number_hint};
+use crate::hints::{begins_record, fields_hint, kind_hint, number_hint, or_else};
 use crate::shown::{push_labelled, push_shown};
 use csv::ByteRecord;
 use snoop_trace::streams::push_text;
@@ -107,15 +107,15 @@ fn push_bad_kind(out: &mut Vec<u8>, form: Form, n: u64, fields: &ByteRecord) -> 
     push_text(out, ")")?;
     push_text(
         out,
-        kind_hint(form, may_be_names(n, fields), fields.len() == 1, kind),
+        kind_hint(form, may_be_names(n, fields), fields.len(), kind),
     )
 }
 
-/// Whether record n may be a line of names: it is the first, and its second field is no number.
+/// Whether record n may be a line of names: it is the first, its second field is no number, and it does not begin as a step with a gap for its comma.
 fn may_be_names(n: u64, fields: &ByteRecord) -> bool
     ensures { result ≡ spec.may_be_names n (fields_of fields.now) }
 {
-    n == 1 && !is_number(fields, 1)
+    n == 1 && !is_number(fields, 1) && !begins_record(field(fields, 0))
 }
 
 fn kinds(form: Form) -> &'static str
@@ -142,15 +142,17 @@ fn push_bad_fields(out: &mut Vec<u8>, fields: &ByteRecord) -> Result<(), NoMemor
     let kind = letter(fields);
     push_text(out, field_names(kind))?;
     push_labelled(out, ", and this record has ", fields.len() as u64)?;
-    push_text(out, comma_hint(kind, fields))
+    push_text(out, or_else(fields_hint(fields), count_hint(kind, fields)))
 }
 
-#[tactic(auto, unfolding(crate::specs::Explained::comma_hint))]
-fn comma_hint(kind: u8, fields: &ByteRecord) -> &'static str
-    ensures { result.now ≡ spec.comma_hint kind (fields_of fields.now) }
+#[tactic(auto, unfolding(crate::specs::Explained::count_hint))]
+fn count_hint(kind: u8, fields: &ByteRecord) -> &'static str
+    ensures { result.now ≡ spec.count_hint kind (fields_of fields.now) }
 {
     if has_comma_more(field_count(kind), fields) {
         "; a comma stands at the end"
+    } else if kind == b'R' && fields.len() == 3 {
+        "; a load is L, a store S, an eviction E"
     } else {
         ""
     }

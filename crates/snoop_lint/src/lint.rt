@@ -10,7 +10,7 @@ ghost use Rattle.snoop_lint.specs.Findings as found;
 ghost use Rattle.snoop_lint.specs.Lines as line;
 ghost use Rattle.snoop_lint.specs.Linted.{Lints, first_lines, lint_of};
 ghost use Rattle.snoop_lint.specs.Looked.{line_if_room};
-ghost use Rattle.snoop_lint.specs.Summary.{is_mendable};
+ghost use Rattle.snoop_lint.specs.Summary.{can_be_taken};
 ghost use Rattle.snoop_lint.specs.Tallies.{one_more, tally_of};
 
 use crate::explain::push_finding;
@@ -27,7 +27,7 @@ use std::alloc::Global;
 
 /// Reads a text to its end as steps for the protocol and the shape, or as rows, and writes what is wrong with it: a line for each of the first
 /// `most` faulty records, with its number, the line on which it begins, its fault and what was expected there; then how many records and how many
-/// faults there are; then the fewest cores and blocks with which the text would be taken, where nothing else is wrong with it; then whether
+/// faults there are; then the fewest cores and blocks with which the text is taken, where nothing else is wrong with it; then whether
 /// it looks like a text of the other form.
 ///
 /// The answer is Ok where the text was read and all of this written, with faults in the text or without. After `Read` and `NoMemory` nothing was
@@ -46,8 +46,8 @@ pub fn lint_text<R: Source, W: Sink>(
     ensures first { (bytes : List ℕ) → found.first_fault (found.findings form protocol shape (records_of bytes)) ≡ found.refusal form protocol shape bytes }
     // Each record has a line on which it begins.
     ensures lines { (bytes : List ℕ) → length (line.record_lines bytes) ≡ length (records_of bytes) }
-    // Where more cores and blocks mend all faults, those that are named are the fewest.
-    ensures fewest { (bytes : List ℕ) → is_mendable (tally_of form protocol shape (records_of bytes)) ≡ true
+    // Where enough cores and blocks are all that the text needs, those that are named are the fewest.
+    ensures fewest { (bytes : List ℕ) → can_be_taken (tally_of form protocol shape (records_of bytes)) ≡ true
         → AreFewest form protocol shape bytes ((tally_of form protocol shape (records_of bytes)).core + 1) ((tally_of form protocol shape (records_of bytes)).block + 1) }
     // Where the text was not read, or not looked at, the writer is as it was.
     ensures unwritten { (result ≡ Err LintFault.Read) ⊎ (result ≡ Err LintFault.NoMemory) → writer.new ≡ writer.old }

@@ -1,34 +1,42 @@
 //! How a field of a text is shown.
-ghost use Rattle.std.specs.Prelude.{◌≡◌, ◌++◌, ◌<◌, OnOk, take};
+ghost use Rattle.std.specs.Prelude.{◌≡◌, ◌≤◌, ◌++◌, ◌<◌, OnOk, length, not};
 ghost use Rattle.std.specs.Char.{digit_char};
-ghost use Rattle.std.specs.List.{flat_map};
+ghost use Rattle.std.specs.List.{flat_map, prefix_len};
+ghost use Rattle.snoop_lint.specs.Hints.{is_line_end};
 ghost use Rattle.snoop_lint.specs.Shown as spec;
 
+use crate::hints::is_line_end;
 use snoop_trace::NoMemory;
 use snoop_trace::streams::{push_byte, push_decimal, push_text};
 
 /// The most bytes of a field that are shown.
 const MOST: usize = 40;
 
-/// Appends a field as it is shown: between quotes, what is not printable in hexadecimal, and its first 40 bytes at most.
+/// Appends a field as it is shown: between quotes, what is not printable in hexadecimal, its first 40 bytes at most, and none from its first line end on.
 #[tactic(auto, unfolding(crate::specs::Shown::shown))]
 pub(crate) fn push_shown(out: &mut Vec<u8>, field: &[u8]) -> Result<(), NoMemory>
     ensures { OnOk result (out.new.items ≡ out.old.items ++ spec.shown field.now) }
 {
+    let front = front(field);
     push_text(out, "'")?;
-    push_bytes(out, front(field))?;
+    push_bytes(out, front)?;
     push_text(out, "'")?;
-    push_not_shown(out, field.len())
+    push_not_shown(out, field.len() - front.len())
 }
 
+#[tactic(auto, unfolding(crate::specs::Shown::front))]
 fn front(field: &[u8]) -> &[u8]
-    ensures { result.now ≡ take 40 field.now }
+    ensures value { result.now ≡ spec.front field.now }
+    ensures within { length result.now ≤ length field.now }
 {
-    if field.len() > MOST {
-        &field[..MOST]
-    } else {
-        field
-    }
+    &field[..first_line_len(field).min(MOST)]
+}
+
+fn first_line_len(field: &[u8]) -> usize
+    ensures value { result ≡ prefix_len (λ byte. not (is_line_end byte)) field.now }
+    ensures within { result ≤ length field.now }
+{
+    field.iter().take_while(|byte| !is_line_end(**byte)).count()
 }
 
 fn push_bytes(out: &mut Vec<u8>, bytes: &[u8]) -> Result<(), NoMemory>
@@ -66,11 +74,11 @@ fn hex_digit(digit: u8) -> u8
 }
 
 #[tactic(auto, unfolding(crate::specs::Shown::not_shown))]
-fn push_not_shown(out: &mut Vec<u8>, len: usize) -> Result<(), NoMemory>
-    ensures { OnOk result (out.new.items ≡ out.old.items ++ spec.not_shown len) }
+fn push_not_shown(out: &mut Vec<u8>, count: usize) -> Result<(), NoMemory>
+    ensures { OnOk result (out.new.items ≡ out.old.items ++ spec.not_shown count) }
 {
-    if len > MOST {
-        push_labelled(out, " and ", (len - MOST) as u64)?;
+    if count > 0 {
+        push_labelled(out, " and ", count as u64)?;
         push_text(out, " more bytes")
     } else {
         Ok(())

@@ -71,7 +71,7 @@ fn push_shown_count(out: &mut Vec<u8>, most: u64, faults: u64) -> Result<(), NoM
 fn push_needs_line(out: &mut Vec<u8>, tally: Tally) -> Result<(), NoMemory>
     ensures { OnOk result (out.new.items ≡ out.old.items ++ spec.needs_line tally) }
 {
-    if is_mendable(tally) {
+    if can_be_taken(tally) {
         push_labelled(out, "needs --cores ", tally.core + 1)?;
         push_labelled(out, " --blocks ", tally.block + 1)?;
         push_text(out, "\n")
@@ -80,13 +80,13 @@ fn push_needs_line(out: &mut Vec<u8>, tally: Tally) -> Result<(), NoMemory>
     }
 }
 
-#[tactic(auto, unfolding(crate::specs::Summary::is_mendable))]
-fn is_mendable(tally: Tally) -> bool
-    ensures value { result ≡ spec.is_mendable tally }
+#[tactic(auto, unfolding(crate::specs::Summary::can_be_taken))]
+fn can_be_taken(tally: Tally) -> bool
+    ensures value { result ≡ spec.can_be_taken tally }
     ensures core { result ≡ true → tally.core < 256 }
     ensures block { result ≡ true → tally.block < 65536 }
 {
-    tally.faults > 0
+    tally.records > 0
         && !tally.has_others
         && !tally.has_heading
         && tally.core < 256
@@ -98,10 +98,12 @@ fn slip_line(form: Form, tally: Tally) -> &'static str
     ensures { result.now ≡ spec.slip_line form tally }
 {
     match form {
-        Form::Steps if tally.asks && !tally.drives => {
-            "no O and no R: is this a text for snoop run?\n"
+        Form::Steps if !tally.asks || tally.drives => "",
+        Form::Steps if tally.has_heading => {
+            "no O and no R: is this, without its heading, a text for snoop run?\n"
         }
+        Form::Steps => "no O and no R: is this a text for snoop run?\n",
         Form::Rows if tally.drives => "with O or R: is this a text for snoop steps?\n",
-        Form::Steps | Form::Rows => "",
+        Form::Rows => "",
     }
 }
