@@ -8,9 +8,10 @@ HEADING = ("version", "protocol", "cores", "blocks", "block_bytes", "words")
 
 
 def shown(field):
-    """A field as it stands: printable, and not too long."""
-    escaped = "".join("\\\\" if byte == 0x5c else chr(byte) if 0x20 <= byte <= 0x7e else f"\\x{byte:02x}" for byte in field[:40])
-    return f"'{escaped}'" + (f" and {len(field) - 40} more bytes" if len(field) > 40 else "")
+    """A field as it stands: printable, not too long, and no further than its first line end."""
+    front = re.split(rb"[\r\n]", field)[0][:40]
+    escaped = "".join("\\\\" if byte == 0x5c else chr(byte) if 0x20 <= byte <= 0x7e else f"\\x{byte:02x}" for byte in front)
+    return f"'{escaped}'" + (f" and {len(field) - len(front)} more bytes" if len(field) > len(front) else "")
 
 
 def first_of(*hints):
@@ -23,27 +24,49 @@ def names_of(kind, heading):
     return HEADING if heading else FIELDS[kind]
 
 
+WORDS = "a load is L, a store S, an eviction E"
+QUOTE = "a quote is closed on a later line, or not at all"
+REPORT = (b"loads ", b"stores ", b"GetS ", b"from memory ", b"writebacks ", b"block ")
+
+
 def bad_kind(place, record, of_rows):
     """The first field is no kind of record."""
     field = record[0]
     kinds = "L, S, E" if of_rows else "L, S, E, O, R"
+    names = place == 1 and field and (len(record) == 1 or number(record[1]) is None) and not re.match(rb"[LSEOR][ \t;]", field)
     return f"{shown(field)} is no kind of record ({kinds})" + first_of(
+        (field.lower() in (b"w", b"write", b"store", b"read", b"load", b"evict"), WORDS),
+        (field in (b"r", b"R") and len(record) == 3, WORDS),
         (of_rows and field in (b"O", b"R", b"V"), "it is for snoop steps"),
         (not of_rows and field == b"V", "a heading stands in record 1 alone"),
         (field in (b"l", b"s", b"e", b"o", b"r"), "kinds are capital letters"),
+        (re.search(rb"[\r\n]", field), QUOTE),
         (field.startswith(b"#"), "a text has no comments"),
         (re.search(rb"[^\x09\x20-\x7e]", field), "this is no plain text"),
+        (field.startswith(REPORT), "a line of the report begins so"),
         (len(record) == 1 and re.search(rb"[ \t;]", field), "commas stand between the fields"),
         (re.search(rb"\A[ \t]|[ \t]\Z", field), "blanks are not taken away"),
-        (place == 1 and field and (len(record) == 1 or number(record[1]) is None), "a text has no line of names"))
+        (names, "a text has no line of names"),
+        (re.search(rb"[ \t;]", field), "commas stand between the fields"))
+
+
+def of_field(field):
+    """The hints of a field, whatever it stands for."""
+    return [(re.search(rb"[\r\n]", field), QUOTE),
+            (b":" in field, "a reply begins at the colon, and a step has none"),
+            (b"#" in field, "a text has no comments"),
+            (re.search(rb"[ \t;][LSEOR]\Z", field), "each record has a line of its own"),
+            (b"\\" in field, r"a backslash stands for itself: printf makes a line end of \n")]
 
 
 def bad_fields(record, names):
     """The record has too few fields or too many."""
     kind = record[0].decode()
     form = ",".join([kind, *("2" if name == "version" else name for name in names)])
-    ends_with_comma = len(record) == len(names) + 2 and not record[-1]
-    return f"{kind} has {len(names) + 1} fields ({form}), and this record has {len(record)}" + first_of((ends_with_comma, "a comma stands at the end"))
+    return f"{kind} has {len(names) + 1} fields ({form}), and this record has {len(record)}" + first_of(
+        *(hint for field in record for hint in of_field(field)),
+        (len(record) == len(names) + 2 and not record[-1], "a comma stands at the end"),
+        (kind == "R" and len(record) == 3, WORDS))
 
 
 def bad_number(record, names):
@@ -51,8 +74,7 @@ def bad_number(record, names):
     name, field = next((name, field) for name, field in zip(names, record[1:]) if name != "protocol" and number(field) is None)
     return f"{name} {shown(field)} is no number" + first_of(
         (not field, "it is empty"),
-        (b":" in field, "a reply begins at the colon, and a step has none"),
-        (b"#" in field, "a text has no comments"),
+        *of_field(field),
         (re.search(rb"\A[ \t]|[ \t]\Z", field), "blanks are not taken away"),
         (re.fullmatch(rb"[0-9]+|0x[0-9A-Fa-f]+", field), "it is above 18446744073709551615"),
         (field.startswith(b"0X"), "the x of 0x is small"),
@@ -99,9 +121,14 @@ def explained(fault, place, record, of_rows, options):
     return no_core(numbers["core"], options) if fault == "NoCore" else no_block(numbers["address"], options)
 
 
+def has_heading(records, of_rows):
+    """The first of the records is a heading."""
+    return any(is_heading(place, record, of_rows) for place, _, record in records[:1])
+
+
 def needs(records, faults, of_rows, options):
     """The fewest cores and blocks that take the whole text, where nothing else is wrong with it."""
-    if not faults or not set(faults) <= {"NoCore", "NoBlock"} or any(is_heading(place, record, of_rows) for place, _, record in records[:1]):
+    if not records or not set(faults) <= {"NoCore", "NoBlock"} or has_heading(records, of_rows):
         return []
     named = [dict(zip(FIELDS[record[0].decode()], map(number, record[1:]))) for _, _, record in records]
     cores = 1 + max(numbers.get("core", 0) for numbers in named)
@@ -115,7 +142,9 @@ def slip(records, of_rows):
     drives = bool(kinds & {b"O", b"R"})
     if of_rows:
         return ["with O or R: is this a text for snoop steps?"] if drives else []
-    return ["no O and no R: is this a text for snoop run?"] if not drives and kinds & {b"L", b"S", b"E"} else []
+    if drives or not kinds & {b"L", b"S", b"E"}:
+        return []
+    return ["no O and no R: is this, without its heading, a text for snoop run?" if has_heading(records, of_rows) else "no O and no R: is this a text for snoop run?"]
 
 
 def numbered(text):

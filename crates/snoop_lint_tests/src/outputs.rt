@@ -42,7 +42,7 @@ fn each_fault_of_a_record(rt: HostRuntime) -> Result<(), Fail> {
 }
 
 const ROWS_OUTPUT: &str = "\
-record 1, line 1: BadNumber: address '0\\x0d\\x0a\\\\' is no number; a number is decimal digits, or 0x and hexadecimal digits
+record 1, line 1: BadNumber: address '0' and 3 more bytes is no number; a quote is closed on a later line, or not at all
 record 2, line 4: BadKind: 'O' is no kind of record (L, S, E); it is for snoop steps
 3 faults in 3 records, 2 shown
 with O or R: is this a text for snoop steps?
@@ -94,5 +94,58 @@ fn a_heading_for_mesi(rt: HostRuntime) -> Result<(), Fail> {
 #[test]
 fn a_text_without_a_fault(rt: HostRuntime) -> Result<(), Fail> {
     let text = b"\xef\xbb\xbfL,0,0\nO,0\nR,0";
-    expect(rt.alloc(), Form::Steps, 0, text, "no fault in 3 records\n")
+    let expected = "no fault in 3 records\nneeds --cores 1 --blocks 1\n";
+    expect(rt.alloc(), Form::Steps, 0, text, expected)
+}
+
+const KINDS: &[u8] =
+    b"L 0, 0\nW,0,0,5\nr,0,0\nr,0\nloads 1 hits 0\nL 0 0\nL ,0,0\nLoad 0,0\n\"L,0,0\nO,0\n";
+
+const KINDS_OUTPUT: &str = "\
+record 1, line 1: BadKind: 'L 0' is no kind of record (L, S, E, O, R); commas stand between the fields
+record 2, line 2: BadKind: 'W' is no kind of record (L, S, E, O, R); a load is L, a store S, an eviction E
+record 3, line 3: BadKind: 'r' is no kind of record (L, S, E, O, R); a load is L, a store S, an eviction E
+record 4, line 4: BadKind: 'r' is no kind of record (L, S, E, O, R); kinds are capital letters
+record 5, line 5: BadKind: 'loads 1 hits 0' is no kind of record (L, S, E, O, R); a line of the report begins so
+record 6, line 6: BadKind: 'L 0 0' is no kind of record (L, S, E, O, R); commas stand between the fields
+record 7, line 7: BadKind: 'L ' is no kind of record (L, S, E, O, R); blanks are not taken away
+record 8, line 8: BadKind: 'Load 0' is no kind of record (L, S, E, O, R); commas stand between the fields
+record 9, line 9: BadKind: 'L,0,0' and 5 more bytes is no kind of record (L, S, E, O, R); a quote is closed on a later line, or not at all
+9 faults in 9 records
+";
+
+/// The quote is never closed, and takes the rest of the text.
+#[test]
+fn each_hint_of_a_kind(rt: HostRuntime) -> Result<(), Fail> {
+    expect(rt.alloc(), Form::Steps, 20, KINDS, KINDS_OUTPUT)
+}
+
+const FIELDS: &[u8] = b"L,0,0;O,0\nO,0 O\nR,0: Data, load 0\nR,0,0\nL,0,0\\n\nL,0,0,\nL,1,\"0\nS,1,0\n";
+
+const FIELDS_OUTPUT: &str = "\
+record 1, line 1: BadFields: L has 3 fields (L,core,address), and this record has 4; each record has a line of its own
+record 2, line 2: BadNumber: core '0 O' is no number; each record has a line of its own
+record 3, line 3: BadFields: R has 2 fields (R,address), and this record has 3; a reply begins at the colon, and a step has none
+record 4, line 4: BadFields: R has 2 fields (R,address), and this record has 3; a load is L, a store S, an eviction E
+record 5, line 5: BadNumber: address '0\\\\n' is no number; a backslash stands for itself: printf makes a line end of \\n
+record 6, line 6: BadFields: L has 3 fields (L,core,address), and this record has 4; a comma stands at the end
+record 7, line 7: BadNumber: address '0' and 7 more bytes is no number; a quote is closed on a later line, or not at all
+7 faults in 7 records
+";
+
+/// Behind the open quote stand a line end, 5 bytes and another line end.
+#[test]
+fn each_hint_of_a_field(rt: HostRuntime) -> Result<(), Fail> {
+    expect(rt.alloc(), Form::Steps, 20, FIELDS, FIELDS_OUTPUT)
+}
+
+const SLIP_OUTPUT: &str = "\
+no fault in 2 records
+no O and no R: is this, without its heading, a text for snoop run?
+";
+
+#[test]
+fn rows_under_a_heading(rt: HostRuntime) -> Result<(), Fail> {
+    let text = b"V,2,msi,2,4,64,1\nL,0,0\n";
+    expect(rt.alloc(), Form::Steps, 20, text, SLIP_OUTPUT)
 }
