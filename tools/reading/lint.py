@@ -26,6 +26,7 @@ def names_of(kind, heading):
 
 WORDS = "a load is L, a store S, an eviction E"
 QUOTE = "a quote is closed on a later line, or not at all"
+COMMA = "within quotes a comma is part of the field"
 REPORT = (b"loads ", b"stores ", b"GetS ", b"from memory ", b"writebacks ", b"block ")
 
 
@@ -41,6 +42,7 @@ def bad_kind(place, record, of_rows):
         (not of_rows and field == b"V", "a heading stands in record 1 alone"),
         (field in (b"l", b"s", b"e", b"o", b"r"), "kinds are capital letters"),
         (re.search(rb"[\r\n]", field), QUOTE),
+        (b"," in field, COMMA),
         (field.startswith(b"#"), "a text has no comments"),
         (re.search(rb"[^\x09\x20-\x7e]", field), "this is no plain text"),
         (field.startswith(REPORT), "a line of the report begins so"),
@@ -53,6 +55,7 @@ def bad_kind(place, record, of_rows):
 def of_field(field):
     """The hints of a field, whatever it stands for."""
     return [(re.search(rb"[\r\n]", field), QUOTE),
+            (b"," in field, COMMA),
             (b":" in field, "a reply begins at the colon, and a step has none"),
             (b"#" in field, "a text has no comments"),
             (re.search(rb"[ \t;][LSEOR]\Z", field), "each record has a line of its own"),

@@ -101,6 +101,7 @@ kind_hint form names count field =
     else if is_elsewhere form field then elsewhere form
     else if is_letter_of (codes "lseor") field then codes "; kinds are capital letters"
     else if list_any is_line_end field then codes "; a quote is closed on a later line, or not at all"
+    else if has 44 field then codes "; within quotes a comma is part of the field"
     else if starts_with nat_eq field (codes "#") then codes "; a text has no comments"
     else if list_any is_foreign field then codes "; this is no plain text"
     else if is_of_report field then codes "; a line of the report begins so"
@@ -114,6 +115,7 @@ kind_hint form names count field =
 unfoldable pub field_hint : List ℕ → List ℕ
 field_hint field =
     if list_any is_line_end field then codes "; a quote is closed on a later line, or not at all"
+    else if has 44 field then codes "; within quotes a comma is part of the field"
     else if has 58 field then codes "; a reply begins at the colon, and a step has none"
     else if has 35 field then codes "; a text has no comments"
     else if ends_with_kind field then codes "; each record has a line of its own"

@@ -22,6 +22,8 @@ pub(crate) fn kind_hint(form: Form, names: bool, count: usize, field: &[u8]) -> 
         "; kinds are capital letters"
     } else if has_line_end(field) {
         "; a quote is closed on a later line, or not at all"
+    } else if field.contains(&b',') {
+        "; within quotes a comma is part of the field"
     } else if field.starts_with(b"#") {
         "; a text has no comments"
     } else if has_foreign(field) {
@@ -61,6 +63,8 @@ fn field_hint(field: &[u8]) -> &'static str
 {
     if has_line_end(field) {
         "; a quote is closed on a later line, or not at all"
+    } else if field.contains(&b',') {
+        "; within quotes a comma is part of the field"
     } else if field.contains(&b':') {
         "; a reply begins at the colon, and a step has none"
     } else if field.contains(&b'#') {

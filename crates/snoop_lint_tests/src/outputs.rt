@@ -99,7 +99,7 @@ fn a_text_without_a_fault(rt: HostRuntime) -> Result<(), Fail> {
 }
 
 const KINDS: &[u8] =
-    b"L 0, 0\nW,0,0,5\nr,0,0\nr,0\nloads 1 hits 0\nL 0 0\nL ,0,0\nLoad 0,0\n\"L,0,0\nO,0\n";
+    b"L 0, 0\nW,0,0,5\nr,0,0\nr,0\nloads 1 hits 0\nL 0 0\nL ,0,0\nLoad 0,0\n\"L,0,0\"\n\"L,0,0\nO,0\n";
 
 const KINDS_OUTPUT: &str = "\
 record 1, line 1: BadKind: 'L 0' is no kind of record (L, S, E, O, R); commas stand between the fields
@@ -110,17 +110,18 @@ record 5, line 5: BadKind: 'loads 1 hits 0' is no kind of record (L, S, E, O, R)
 record 6, line 6: BadKind: 'L 0 0' is no kind of record (L, S, E, O, R); commas stand between the fields
 record 7, line 7: BadKind: 'L ' is no kind of record (L, S, E, O, R); blanks are not taken away
 record 8, line 8: BadKind: 'Load 0' is no kind of record (L, S, E, O, R); commas stand between the fields
-record 9, line 9: BadKind: 'L,0,0' and 5 more bytes is no kind of record (L, S, E, O, R); a quote is closed on a later line, or not at all
-9 faults in 9 records
+record 9, line 9: BadKind: 'L,0,0' is no kind of record (L, S, E, O, R); within quotes a comma is part of the field
+record 10, line 10: BadKind: 'L,0,0' and 5 more bytes is no kind of record (L, S, E, O, R); a quote is closed on a later line, or not at all
+10 faults in 10 records
 ";
 
-/// The quote is never closed, and takes the rest of the text.
+/// The last quote is never closed, and takes the rest of the text.
 #[test]
 fn each_hint_of_a_kind(rt: HostRuntime) -> Result<(), Fail> {
     expect(rt.alloc(), Form::Steps, 20, KINDS, KINDS_OUTPUT)
 }
 
-const FIELDS: &[u8] = b"L,0,0;O,0\nO,0 O\nR,0: Data, load 0\nR,0,0\nL,0,0\\n\nL,0,0,\nL,1,\"0\nS,1,0\n";
+const FIELDS: &[u8] = b"L,0,0;O,0\nO,0 O\nR,0: Data, load 0\nR,0,0\nL,0,0\\n\nL,0,0,\nL,\"0,0\"\nL,1,\"0\nS,1,0\n";
 
 const FIELDS_OUTPUT: &str = "\
 record 1, line 1: BadFields: L has 3 fields (L,core,address), and this record has 4; each record has a line of its own
@@ -129,8 +130,9 @@ record 3, line 3: BadFields: R has 2 fields (R,address), and this record has 3; 
 record 4, line 4: BadFields: R has 2 fields (R,address), and this record has 3; a load is L, a store S, an eviction E
 record 5, line 5: BadNumber: address '0\\\\n' is no number; a backslash stands for itself: printf makes a line end of \\n
 record 6, line 6: BadFields: L has 3 fields (L,core,address), and this record has 4; a comma stands at the end
-record 7, line 7: BadNumber: address '0' and 7 more bytes is no number; a quote is closed on a later line, or not at all
-7 faults in 7 records
+record 7, line 7: BadFields: L has 3 fields (L,core,address), and this record has 2; within quotes a comma is part of the field
+record 8, line 8: BadNumber: address '0' and 7 more bytes is no number; a quote is closed on a later line, or not at all
+8 faults in 8 records
 ";
 
 /// Behind the open quote stand a line end, 5 bytes and another line end.
