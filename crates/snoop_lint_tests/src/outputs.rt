@@ -121,7 +121,8 @@ fn each_hint_of_a_kind(rt: HostRuntime) -> Result<(), Fail> {
     expect(rt.alloc(), Form::Steps, 20, KINDS, KINDS_OUTPUT)
 }
 
-const FIELDS: &[u8] = b"L,0,0;O,0\nO,0 O\nR,0: Data, load 0\nR,0,0\nL,0,0\\n\nL,0,0,\nL,\"0,0\"\nL,1,\"0\nS,1,0\n";
+const FIELDS: &[u8] =
+    b"L,0,0;O,0\nO,0 O\nR,0: Data, load 0\nR,0,0\nL,0,0\\n\nL,0,0,\nL,\"0,0\"\nL,1,\"0\nS,1,0\n";
 
 const FIELDS_OUTPUT: &str = "\
 record 1, line 1: BadFields: L has 3 fields (L,core,address), and this record has 4; each record has a line of its own
