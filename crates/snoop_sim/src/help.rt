@@ -218,7 +218,8 @@ Example: printf 'L,0\\n' | snoop lint
   1 fault in 1 record
   no O and no R: is this a text for snoop run?
 
-The status is 0 where the text was read, with faults or without.
+The status is 0 where the text was read, with faults or without. Which requests still
+wait at the end of a text without faults is in the last line of `snoop states`.
 
 Exit statuses: snoop --help. More in docs/TEXTS.md.";
 
