@@ -19,7 +19,6 @@ use Rattle.snoop_rules.specs.declared.names.MemState.{MemState}
 use Rattle.snoop_rules.specs.declared.names.MemEvent.{MemEvent}
 use Rattle.snoop_rules.specs.declared.names.Request.{Request}
 use Rattle.snoop_rules.specs.declared.names.Request.TheVariants as request
-use Rattle.snoop_rules.specs.WhoSends.{SentAs}
 use Rattle.snoop_rules.specs.Possible.{MayLoad, MayStore}
 use Rattle.snoop_rules.specs.Takers.{asked, other as another, seen_by, at_memory, arrival, arrival_at_memory, carries_value}
 use Rattle.snoop_rules.specs.Waits.{waiting_request}
@@ -45,7 +44,7 @@ use Rattle.snoop_model.proofs.Tables.RespondTests.{memory_row_for, row_for}
 use Rattle.snoop_model.proofs.OneBlock.OrderStep.{seen_other}
 use Rattle.snoop_model.proofs.OneBlock.Facts.{one_writer, fits_is_owner, clash, or_not}
 use Rattle.snoop_model.proofs.OneBlock.Possible.{Answerable, Possible, order_possible, ask_possible, respond_possible}
-use Rattle.snoop_model.proofs.Tables.SenderLines.{led_line, sender_state}
+use Rattle.snoop_model.proofs.Tables.SenderLines.{led_line}
 use Rattle.snoop_model.proofs.Tables.StateTests.{is_hit, hit_rule, owner_reads, brings_data, resting_rule}
 use Rattle.snoop_model.specs.Pictures.Sound.{keeps}
 
@@ -188,29 +187,17 @@ possible_order s g core block q ready =
     let good = subst (λ (n : ℕ). BlockInvariant s.protocol n (flat_words s.log block) (picture_of s block)) (sym long) (g.blocks block within.1) in
     order_possible s.protocol (flat_words s.log block) (picture_of s block) core q good (subst (λ (n : ℕ). core < n) (sym long) within.0) ready.0 ready.1
 
-put_is : (q : Request) → q ≡ request.PutM → is_put_m q ≡ true
-put_is q e = ap is_put_m e
-
 -- an Order of any request that waits on a free block has exactly one sender, and is a line of the table
 pub orders_follow_sender_table : (s : Situation) → Invariant s → OrdersFollowSenderTable s.protocol s
 orders_follow_sender_table s g core block q ready =
-    let p = s.protocol in
-    let before : Picture = picture_of s block in
     let x = possible_order s g core block q ready in
-    let led = led_line p q before.memory.state _ x.payload x.cell_of_memory.next x.order_line in
     record {
       from = x.from;
       payload = x.payload;
       next = x.cell_of_memory.next;
       sent = x.sender;
       ordered = (x.cell_of_memory, x.memory_row, refl);
-      is_line = record {
-        act = led.act;
-        done = led.done;
-        settled = led.settled;
-        line = subst (λ (from : Option CacheState). SentAs p q before.memory.state from x.payload x.cell_of_memory.next led.done) (sender_state before core x.from) led.line;
-        writeback = λ e. x.writeback (put_is q e);
-      };
+      is_line = led_line s.protocol (picture_of s block) core q x.from x.payload x.cell_of_memory.next x.order_line;
     }
 
 pub idle_evict : (s : CacheState) (o : Op) → is_idle_evict s (asked o) ≡ true → (o ≡ op.Evict) × (s ≡ state.I)

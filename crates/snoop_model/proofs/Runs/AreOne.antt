@@ -319,7 +319,7 @@ arrives_one request.PutM o p log old new new' did did' a b = (a.0 ∙ sym b.0, a
 arrives_one request.GetS o p log old new new' did did' a b = fills_one o p log old new new' did did' a b
 arrives_one request.GetM o p log old new new' did did' a b = fills_one o p log old new new' did did' a b
 
-memory_one : (takes : Bool) (p : Protocol) (m : MemState) (found : Option MemEvent) (a b : MemAction) (n n' : MemState)
+pub memory_one : (takes : Bool) (p : Protocol) (m : MemState) (found : Option MemEvent) (a b : MemAction) (n n' : MemState)
     → SettlesIf takes p found m a n → SettlesIf takes p found m b n' → (a ≡ b) × (n ≡ n')
 memory_one true p m None a b n n' x y = absurd x
 memory_one true p m (Some e) a b n n' x y = MemoryCell-one p m e a b n n' x y
