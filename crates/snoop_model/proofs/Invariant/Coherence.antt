@@ -27,13 +27,11 @@ use Rattle.snoop_history.specs.History.{flat_words}
 use Rattle.snoop_history.specs.Totals.{is_put_m}
 use Rattle.snoop_bus.specs.Traffic.{Open}
 use Rattle.snoop_model.specs.Pictures.Lines.{Line}
-use Rattle.snoop_model.specs.Pictures.Picture.{Picture, held_by, nothing_held}
+use Rattle.snoop_model.specs.Pictures.Picture.{Picture, held_by, nothing_held, data_under_way}
 use Rattle.snoop_model.specs.Pictures.Situation.{Situation, picture_of, state_of, Waits, CanOrder, nothing_there}
 use Rattle.snoop_model.specs.Moves.Move.{IsWithin}
 use Rattle.snoop_model.specs.Moves.LookUps.{HasRow, HasMemRow, ConsultsCache, ConsultsMemory, FindsRows}
-use Rattle.snoop_model.specs.Pictures.OneWriter.{OneWriter, IsWriter}
-use Rattle.snoop_model.specs.Pictures.Current.{IsCurrent}
-use Rattle.snoop_model.specs.Pictures.MemoryCurrent.{IsMemoryCurrent, NamesItsBlock, data_under_way}
+use Rattle.snoop_model.specs.Pictures.OneWriter.{OneWriter}
 use Rattle.snoop_model.specs.Moves.SenderTable.{OrdersFollowSenderTable}
 use Rattle.snoop_model.specs.Invariant.Fits.{in_protocol, is_clean, is_owner, fits}
 use Rattle.snoop_model.specs.Invariant.Block.{BlockInvariant, awaited, owns, talk_of}
@@ -101,8 +99,8 @@ has_one_writer s g block core other writes apart =
     ]
 
 -- each reader keeps flat memory's value
-pub readers_current : (s : Situation) → Invariant s → (block : ℕ) → IsCurrent s.protocol (picture_of s block) (flat_words s.log block)
-readers_current s g block core reads = elim (place s g core block) [
+pub readers_current : (s : Situation) → Invariant s → (core block : ℕ) → MayLoad s.protocol (state_of s core block) → (held_by (picture_of s block) core).kept ≡ Some (flat_words s.log block)
+readers_current s g core block reads = elim (place s g core block) [
   | inl within ↦ (g.blocks block within.1).kept core within.0 (may_load_reads s.protocol (held_by (picture_of s block) core).state reads)
   | inr nothing ↦ let P : Line → Type 0 = λ x. MayLoad s.protocol x.state in absurd (not_reader s.protocol (subst P nothing reads))
 ]
@@ -119,7 +117,7 @@ owner_stores Msi state.EiA known owns = cc
 owner_stores _ _ known owns = cc
 
 -- where no core may write the block, none owns it
-nobody_owns : (p : Protocol) (n : ℕ) (value : List ℕ) (picture : Picture) (g : BlockInvariant p n value picture) → ((core : ℕ) → ¬ IsWriter p picture core) → (owner : Option ℕ) → g.owner ≡ owner → g.claims.owned ≡ false
+nobody_owns : (p : Protocol) (n : ℕ) (value : List ℕ) (picture : Picture) (g : BlockInvariant p n value picture) → ((core : ℕ) → ¬ MayStore p (held_by picture core).state) → (owner : Option ℕ) → g.owner ≡ owner → g.claims.owned ≡ false
 unfolding fits
 nobody_owns p n value picture g idle None is = sym g.is_owned ∙ rw is refl
 nobody_owns p n value picture g idle (Some o) is =
@@ -142,17 +140,17 @@ data_is (Some o) value carried = elim (or_not (carries_value o.payload)) as (λ 
   | inr e ↦ rw e tt
 ]
 
--- data under way has flat memory's value, and so has memory where nobody may write and no data is under way
-pub memory_current : (s : Situation) → Invariant s → (block : ℕ) → block < s.shape.blocks → IsMemoryCurrent s.protocol (picture_of s block) (flat_words s.log block)
-memory_current s g block within =
+-- data under way has flat memory's value
+pub data_current : (s : Situation) → Invariant s → (block : ℕ) → block < s.shape.blocks → IfSome (data_under_way (picture_of s block).transaction) (λ words. words ≡ flat_words s.log block)
+data_current s g block within = data_is (picture_of s block).transaction (flat_words s.log block) (g.blocks block within).carried
+
+-- and so has memory, where nobody may write and no data is under way
+pub memory_current : (s : Situation) → Invariant s → (block : ℕ) → block < s.shape.blocks → ((core : ℕ) → ¬ MayStore s.protocol (state_of s core block)) → data_under_way (picture_of s block).transaction ≡ None → (picture_of s block).memory.value ≡ flat_words s.log block
+memory_current s g block within idle none =
     let p = s.protocol in
     let picture : Picture = picture_of s block in
     let it = g.blocks block within in
-    record {
-      carried = data_is picture.transaction (flat_words s.log block) it.carried;
-      held = λ idle none.
-          it.fresh (resting_rule p picture.memory.state (talk_of picture.transaction) it.claims it.is_claims (nobody_owns p s.shape.cores (flat_words s.log block) picture it idle it.owner refl) (no_data picture.transaction none));
-    }
+    it.fresh (resting_rule p picture.memory.state (talk_of picture.transaction) it.claims it.is_claims (nobody_owns p s.shape.cores (flat_words s.log block) picture it idle it.owner refl) (no_data picture.transaction none))
 
 -- an open transaction is of a block within the shape
 opened_within : (s : Situation) → Invariant s → (block : ℕ) (o : Open) → (picture_of s block).transaction ≡ Some o → block < s.shape.blocks
@@ -164,7 +162,7 @@ opened_within s g block o is = elim (cases_lt block s.shape.blocks) [
 ]
 
 -- it is of its block, by a core of the machine
-pub names_its_block : (s : Situation) → Invariant s → (block : ℕ) → NamesItsBlock s block
+pub names_its_block : (s : Situation) → Invariant s → (block : ℕ) → IfSome (picture_of s block).transaction (λ o. (o.block ≡ block) × (o.core < s.shape.cores))
 names_its_block s g block = go (picture_of s block).transaction refl
   where
     go : (found : Option Open) → (picture_of s block).transaction ≡ found → IfSome found (λ o. (o.block ≡ block) × (o.core < s.shape.cores))

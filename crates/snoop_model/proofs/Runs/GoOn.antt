@@ -1,7 +1,7 @@
 -- From every situation of a run each step leads on: it is a move, or refused for a cause.
-use Rattle.std.proofs.Common.{◌⊎◌, ◌≡◌, ℕ, zero, suc, ◌<◌, Bool, true, false, not, ◌&&◌, ◌||◌, List, [], ◌∷◌, ◌++◌, length, Option, Some, None, refl, inl, inr, ap, sym, ◌∙◌, subst, arith}
+use Rattle.std.proofs.Common.{◌⊎◌, ◌≡◌, ℕ, zero, suc, ◌<◌, Bool, true, false, not, ◌&&◌, ◌||◌, List, [], ◌∷◌, ◌++◌, length, Option, Some, None, refl, inl, inr, ap, sym, ◌∙◌, subst, arith, eqb, ◌+◌}
 use Rattle.std.specs.Prelude.{Contains, Result, Ok, Err, is_some, option_map, option_to_list, slice_get, slice_set}
-use Rattle.std.proofs.lemmas.Bool.{cases_lt, and_parts}
+use Rattle.std.proofs.lemmas.Bool.{cases_lt, and_parts, eq-eqb}
 use Rattle.snoop_trace.specs.Words.{HasWord, IsWord, word_at}
 use Rattle.snoop_trace.specs.Extent.{Extent}
 use Rattle.snoop_trace.specs.declared.step.Op.{Op}
@@ -21,6 +21,7 @@ use Rattle.snoop_rules.specs.declared.names.Request.TheVariants as request
 use Rattle.snoop_rules.specs.declared.names.Payload.{Payload}
 use Rattle.snoop_rules.specs.Cell.{Cell}
 use Rattle.snoop_rules.specs.Takers.{asked, seen_by, arrival, arrival_at_memory, takes_payload}
+use Rattle.snoop_rules.specs.Waits.{waiting_request}
 use Rattle.snoop_rules.specs.declared.names.CacheCell.{CacheCell}
 use Rattle.snoop_rules.specs.declared.names.MemCell.{MemCell}
 use Rattle.snoop_rules.proofs.Every.{all_protocols, all_states, all_events}
@@ -42,9 +43,13 @@ use Rattle.snoop_model.specs.Pictures.Picture.{Picture, held_at, held_by, kept_o
 use Rattle.snoop_model.specs.Pictures.Situation.{Situation, picture_of, with_picture, state_of, Waits, CanOrder, StandsFirst}
 use Rattle.snoop_model.specs.Pictures.Sends.{value_sent}
 use Rattle.snoop_model.specs.Pictures.Sound.{keeps, request_for, missed_request, IsProper}
-use Rattle.snoop_model.specs.Moves.Move.{TakesRow, Orders, FillsRequestor, ArrivesFor, ArrivesAtMemory, FirstMove, IsWithin, came_of, moves_to, kept_waiting, next_did, queues_after, written}
+use Rattle.snoop_model.specs.Moves.Move.{TakesRow, Orders, FillsRequestor, ArrivesFor, ArrivesAtMemory, FirstMove, Move, IsWithin, came_of, moves_to, kept_waiting, next_did, queues_after, written}
 use Rattle.snoop_model.specs.Runs.Run.{GoesFirst, FirstRunFrom}
+use Rattle.snoop_model.specs.Moves.Refuses.{Refuses, WaitsOnNone}
+use Rattle.snoop_model.specs.Pictures.InQueue.{IsInQueue}
+use Rattle.snoop_model.specs.Runs.Once.{one_if}
 use Rattle.snoop_model.specs.Invariant.WellKept.{IsWellKept}
+use Rattle.snoop_model.proofs.Lists.QueueCounts.{times, times_cons}
 use Rattle.snoop_model.specs.Turns.TurnRule.{KeepsWell}
 use Rattle.snoop_model.specs.Invariant.Invariant.{Invariant}
 use Rattle.snoop_model.proofs.Tables.Rows.{same_request, same_request-true}
@@ -275,26 +280,53 @@ pub first_in : (queue : List ℕ) (block : ℕ) → slice_get queue 0 ≡ Some b
 first_in [] block e = cc
 first_in (x ∷ queue) block e = let same : x ≡ block = cc in (0, omega arith, same)
 
-order_first : (s : Situation) → Invariant s → IsWellKept s → (core : ℕ) → core < s.shape.cores → (found : Option ℕ) → slice_get (queue_of s.queues core) 0 ≡ found → LeadsOn s (Order core)
-order_first s g kept core in_cores None none =
-    (Err NothingWaiting, (s, ((in_cores, λ block q waits. no_first (queue_of s.queues core) block none (kept.queued core block q waits)), refl)))
+-- a core waits on the block that stands first in its queue, and on none where none does
+pub record HeadsWait (s : Situation) : Type 0 where
+  pub first : (core block : ℕ) → StandsFirst s core block → (request : Request) × Waits s core block request
+  pub none : (core : ℕ) → slice_get (queue_of s.queues core) 0 ≡ None → WaitsOnNone s core
+
+pub heads_kept : (s : Situation) → IsWellKept s → HeadsWait s
+heads_kept s kept = record {
+  first = λ core block first. kept.waits core block (first_in (queue_of s.queues core) block first);
+  none = λ core none block q waits. no_first (queue_of s.queues core) block none (kept.queued core block q waits);
+}
   where
     no_first : (queue : List ℕ) (block : ℕ) → slice_get queue 0 ≡ None → Contains queue block → ⊥
     no_first [] block e there = absurd (omega arith)
     no_first (x ∷ queue) block e there = let no : ◌≡◌ {A = Option ℕ} (Some x) None = e in cc
-order_first s g kept core in_cores (Some block) first =
-    let there : Contains (queue_of s.queues core) block = first_in (queue_of s.queues core) block first in
-    let waits = kept.waits core block there in
+
+pub heads_of_queues : (s : Situation) → ((core block : ℕ) → IsInQueue s core block) → HeadsWait s
+heads_of_queues s queued = record {
+  first = λ core block first. it_waits (queue_of s.queues core) block (waiting_request (state_of s core block)) first (queued core block);
+  none = λ core none block q waits. nobody (queue_of s.queues core) block q none (queued core block ∙ ap (λ (o : Option Request). one_if (is_some o)) waits);
+}
+  where
+    it_waits : (queue : List ℕ) (block : ℕ) (waits : Option Request) → slice_get queue 0 ≡ Some block → times block queue ≡ one_if (is_some waits) → (q : Request) × (waits ≡ Some q)
+    it_waits [] block waits first many = cc
+    it_waits (x ∷ queue) block (Some q) first many = (q, refl)
+    it_waits (x ∷ queue) block None first many =
+        let one : one_if (eqb x block) ≡ 1 = let same : x ≡ block = cc in rw (same, eq-eqb block block refl) refl in
+        let all = times_cons block x queue in
+        absurd (omega arith)
+
+    nobody : (queue : List ℕ) (block : ℕ) (q : Request) → slice_get queue 0 ≡ None → times block queue ≡ 1 → ⊥
+    nobody [] block q none many = let zero : times block [] ≡ 0 = refl in omega arith
+    nobody (x ∷ queue) block q none many = let no : ◌≡◌ {A = Option ℕ} (Some x) None = none in cc
+
+order_first : (s : Situation) → Invariant s → HeadsWait s → (core : ℕ) → core < s.shape.cores → (found : Option ℕ) → slice_get (queue_of s.queues core) 0 ≡ found → LeadsOn s (Order core)
+order_first s g heads core in_cores None none = (Err NothingWaiting, (s, ((in_cores, heads.none core none), refl)))
+order_first s g heads core in_cores (Some block) first =
+    let waits = heads.first core block first in
     go waits.0 waits.1 (picture_of s block).transaction refl
   where
     go : (q : Request) → Waits s core block q → (found : Option Open) → (picture_of s block).transaction ≡ found → LeadsOn s (Order core)
     go q waits (Some t) is = (Err (BusTaken block), (s, ((in_cores, first, rw is refl), refl)))
     go q waits None is = order_free s g core block q first (waits, is)
 
-order_leads : (s : Situation) → Invariant s → IsWellKept s → (core : ℕ) → LeadsOn s (Order core)
-order_leads s g kept core = elim (cases_lt core s.shape.cores) [
+order_leads : (s : Situation) → Invariant s → HeadsWait s → (core : ℕ) → LeadsOn s (Order core)
+order_leads s g heads core = elim (cases_lt core s.shape.cores) [
   | inr past ↦ (Err NoCore, (s, (past, refl)))
-  | inl in_cores ↦ order_first s g kept core in_cores (slice_get (queue_of s.queues core) 0) refl
+  | inl in_cores ↦ order_first s g heads core in_cores (slice_get (queue_of s.queues core) 0) refl
 ]
 
 -- the event is the arrival of data at its requestor
@@ -463,10 +495,18 @@ respond_leads s g block = elim (cases_lt block s.shape.blocks) [
     go within None none = (Err NoTransaction, (s, ((within, none), refl)))
     go within (Some o) opened = respond_open s g block within o opened
 
-pub leads_on : (s : Situation) → Invariant s → IsWellKept s → (step : Step) → LeadsOn s step
-leads_on s g kept (Ask core block word asking) = ask_leads s g core block word asking
-leads_on s g kept (Order core) = order_leads s g kept core
-leads_on s g kept (Respond block) = respond_leads s g block
+leads_on : (s : Situation) → Invariant s → HeadsWait s → (step : Step) → LeadsOn s step
+leads_on s g heads (Ask core block word asking) = ask_leads s g core block word asking
+leads_on s g heads (Order core) = order_leads s g heads core
+leads_on s g heads (Respond block) = respond_leads s g block
+
+-- a step that is not refused is a move
+pub moves_on : (s : Situation) → Invariant s → HeadsWait s → (step : Step) → ((cause : Refused) → ¬ Refuses s step cause) → (answer : Reply) × ((new : Situation) × ((entry : Option Item) × Move s step answer new entry))
+moves_on s g heads step allowed = go (leads_on s g heads step)
+  where
+    go : LeadsOn s step → (answer : Reply) × ((new : Situation) × ((entry : Option Item) × Move s step answer new entry))
+    go (Ok answer, on) = (answer, (on.0, (on.1.0, (on.1.1.0, on.1.1.1.1))))
+    go (Err cause, on) = absurd (allowed cause on.1.0)
 
 -- what every run keeps
 abbrev pub IsSteady : Situation → Type 0
@@ -489,6 +529,6 @@ SomeRun s steps = (outcomes : List (Result Reply Refused)) × ((final : Situatio
 pub runs_on : KeepsWell → (steps : List Step) (s : Situation) → IsSteady s → SomeRun s steps
 runs_on keeps [] s steady = ([], (s, refl))
 runs_on keeps (step ∷ steps) s steady =
-    let here = leads_on s steady.0 steady.1 step in
+    let here = leads_on s steady.0 (heads_kept s steady.1) step in
     let rest = runs_on keeps steps here.1.0 (steady_on keeps s step here.0 here.1.0 steady here.1.1) in
     (here.0 ∷ rest.0, (rest.1.0, (here.1.0, (here.1.1, rest.1.1))))
