@@ -1,6 +1,6 @@
 -- An Order played, where there are two cores.
-use Rattle.std.proofs.Common.{◌≡◌, ℕ, zero, suc, ◌<◌, List, [], ◌∷◌, ◌++◌, Option, Some, None, Ok, Err, refl, ap, sym, ◌∙◌, subst, arith}
-use Rattle.std.specs.Prelude.{slice_get, is_some}
+use Rattle.std.proofs.Common.{◌≡◌, ℕ, zero, suc, ◌<◌, List, [], ◌∷◌, Option, Some, None, refl, ap, sym, ◌∙◌, subst, arith}
+use Rattle.std.specs.Prelude.{is_some}
 use Rattle.std.proofs.Math.Dec.{ltb}
 use Rattle.std.proofs.lemmas.Bool.{ltb-true}
 use Rattle.snoop_trace.specs.declared.step.Step.TheVariants.{Order}
@@ -16,23 +16,18 @@ use Rattle.snoop_rules.specs.declared.names.Target.{Target}
 use Rattle.snoop_rules.specs.Cell.{Cell}
 use Rattle.snoop_rules.specs.MemoryCell.{MemoryCell}
 use Rattle.snoop_rules.specs.Takers.{seen_by, at_memory}
-use Rattle.snoop_rules.specs.Waits.{waiting_request}
-use Rattle.snoop_history.specs.declared.items.Item.{Item}
-use Rattle.snoop_history.specs.declared.items.Item.TheVariants as item
 use Rattle.snoop_bus.specs.Traffic.{Open}
-use Rattle.snoop_bus.specs.Queues.{queue_of, after_order}
 use Rattle.snoop_model.specs.Pictures.Lines.{Line}
-use Rattle.snoop_model.specs.declared.replies.Reply.TheVariants as reply
-use Rattle.snoop_model.specs.declared.replies.Refused.TheVariants.{BusTaken}
 use Rattle.snoop_model.specs.Pictures.Picture.{Picture, held_at, held_by}
-use Rattle.snoop_model.specs.Pictures.Situation.{Situation, picture_of, with_picture, state_of}
-use Rattle.snoop_model.specs.Pictures.Sends.{Sends, IsOnlySender, value_sent}
+use Rattle.snoop_model.specs.Pictures.Situation.{Situation, picture_of, StandsFirst, Waits}
+use Rattle.snoop_model.specs.Pictures.Sends.{Sends}
 use Rattle.snoop_model.proofs.Tables.SentBy.{sending, sending_memory, sent_by, sent_by_memory}
-use Rattle.snoop_model.specs.Moves.Move.{moves_to, TakesRow, TakesRows}
-use Rattle.snoop_model.specs.Runs.Run.{GoesFirst}
+use Rattle.snoop_model.specs.Moves.Move.{moves_to, TakesRow}
 use Rattle.snoop_scenes.proofs.Deciding.{if_true, if_some}
 use Rattle.snoop_scenes.proofs.Rows.{RowAt, row_at, MemoryRowAt, memory_row_at}
-use Rattle.snoop_scenes.proofs.Played.{Played}
+use Rattle.snoop_model.proofs.Steps.Played.{Played}
+use Rattle.snoop_model.proofs.Steps.Refusals.{orders_on_taken_bus}
+use Rattle.snoop_model.proofs.Steps.Orders.{OneMessage, Ordered, opens}
 
 -- whether a cache sends by this action, and what
 pub data Speaks (act : CacheAction) : Type 0 where
@@ -58,21 +53,6 @@ abbrev pub memory_speaks : (act : MemAction) → MemorySpeaks act
 memory_speaks (mem_action.Send payload) = says payload refl
 memory_speaks mem_action.None = quiet (λ payload e. cc)
 memory_speaks mem_action.Write = quiet (λ payload e. cc)
-
--- the only message at an Order
-pub record Sender (protocol : Protocol) (before : Picture) (core : ℕ) (request : Request) : Type 0 where
-  pub from : Option ℕ
-  pub payload : Payload
-  pub sent : IsOnlySender protocol before core request from payload
-
--- what an Order does to a block's picture: each controller takes its row
-pub record Ordered (protocol : Protocol) (before : Picture) (core : ℕ) (request : Request) : Type 0 where
-  pub caches : List Line
-  pub taken : TakesRows protocol core request before.caches caches
-  pub act : MemAction
-  pub memory : MemState
-  pub row : MemoryCell protocol before.memory.state (at_memory request) act memory
-  pub sender : Sender protocol before core request
 
 -- An Order seen by two caches and memory, each with its row.
 module _ (protocol : Protocol) (core : ℕ) (request : Request) (memory : MemState) (value : List ℕ) (transaction : Option Open) (a b : Line)
@@ -102,7 +82,7 @@ module _ (protocol : Protocol) (core : ℕ) (request : Request) (memory : MemSta
   by_sender from memory's core_0's core_1's (Some (suc (suc k))) m sent = let no : ⊥ = omega (arith, sent.0) in absurd no
 
   abbrev pub from_memory : (payload : Payload) → third.act ≡ mem_action.Send payload → ((p : Payload) (t : Target) → first.act ≡ action.Send p t → ⊥)
-      → ((p : Payload) (t : Target) → second.act ≡ action.Send p t → ⊥) → Sender protocol before core request
+      → ((p : Payload) (t : Target) → second.act ≡ action.Send p t → ⊥) → OneMessage protocol before core request
   from_memory payload is f s = record {
     from = None;
     payload = payload;
@@ -113,7 +93,7 @@ module _ (protocol : Protocol) (core : ℕ) (request : Request) (memory : MemSta
   }
 
   abbrev pub from_first : (payload : Payload) (target : Target) → first.act ≡ action.Send payload target → ((p : Payload) → third.act ≡ mem_action.Send p → ⊥)
-      → ((p : Payload) (t : Target) → second.act ≡ action.Send p t → ⊥) → Sender protocol before core request
+      → ((p : Payload) (t : Target) → second.act ≡ action.Send p t → ⊥) → OneMessage protocol before core request
   from_first payload target is q s = record {
     from = Some 0;
     payload = payload;
@@ -127,7 +107,7 @@ module _ (protocol : Protocol) (core : ℕ) (request : Request) (memory : MemSta
   }
 
   abbrev pub from_second : (payload : Payload) (target : Target) → second.act ≡ action.Send payload target → ((p : Payload) → third.act ≡ mem_action.Send p → ⊥)
-      → ((p : Payload) (t : Target) → first.act ≡ action.Send p t → ⊥) → Sender protocol before core request
+      → ((p : Payload) (t : Target) → first.act ≡ action.Send p t → ⊥) → OneMessage protocol before core request
   from_second payload target is q f = record {
     from = Some 1;
     payload = payload;
@@ -140,7 +120,7 @@ module _ (protocol : Protocol) (core : ℕ) (request : Request) (memory : MemSta
     };
   }
 
-  abbrev pub sender : MemorySpeaks third.act → Speaks first.act → Speaks second.act → Option (Sender protocol before core request)
+  abbrev pub sender : MemorySpeaks third.act → Speaks first.act → Speaks second.act → Option (OneMessage protocol before core request)
   sender (says payload is) (quiet f) (quiet s) = Some (from_memory payload is f s)
   sender (quiet q) (says payload target is) (quiet s) = Some (from_first payload target is q s)
   sender (quiet q) (quiet f) (says payload target is) = Some (from_second payload target is q f)
@@ -155,14 +135,13 @@ module _ (protocol : Protocol) (core : ℕ) (request : Request) (memory : MemSta
   rows_after (suc zero) below = (record { action = second.act; next = second.next }, second.row, refl)
   rows_after (suc (suc k)) below = let no : ⊥ = omega (arith, below) in absurd no
 
-  abbrev pub after : Sender protocol before core request → Ordered protocol before core request
+  abbrev pub after : OneMessage protocol before core request → Ordered protocol before core request
   after found = record {
     caches = caches_after;
     taken = record { same_length = refl; rows = rows_after };
-    act = third.act;
     memory = third.next;
-    row = third.row;
-    sender = found;
+    ordered = (record { action = third.act; next = third.next }, third.row, refl);
+    message = found;
   }
 
 -- each controller's row, and the message, found
@@ -177,57 +156,10 @@ ordered protocol core request memory value transaction (a ∷ b ∷ []) =
 ordered protocol core request memory value transaction _ = None
 
 -- An Order of a core whose queue has this block first.
-module _ (old : Situation) (core block : ℕ) (there : core < old.shape.cores) (first : slice_get (queue_of old.queues core) 0 ≡ Some block) (request : Request)
-    (waits : waiting_request (state_of old core block) ≡ Some request) where
-  abbrev pub opening : Option ℕ → Payload → Open
-  opening from payload = record { core = core; request = request; block = block; payload = payload; value = value_sent (picture_of old block) from payload; from = from }
-
-  abbrev pub entry : Item
-  entry = item.Sent (record { core = core; request = request; block = block })
-
-  abbrev pub goes_to : Picture → Situation
-  goes_to next = record (with_picture old block next) { queues = after_order old.queues core block; log = old.log ++ entry ∷ [] }
-
-  -- A free bus.
-  module _ (free : (picture_of old block).transaction ≡ None) (within : block < old.shape.blocks) (taken : Ordered old.protocol (picture_of old block) core request) where
-    abbrev pub next : Picture
-    next = record { caches = taken.caches; memory = record { state = taken.memory; value = (picture_of old block).memory.value }; transaction = Some (opening taken.sender.from taken.sender.payload) }
-
-    pub goes_open : GoesFirst old (Order core) (Ok (reply.Ordered request)) (goes_to next)
-    goes_open = (
-      Some entry,
-      (
-        block,
-        (
-          first,
-          record {
-            request = request;
-            within = (there, within);
-            answered = refl;
-            logged = refl;
-            orders = record {
-              ready = (waits, free);
-              from = taken.sender.from;
-              payload = taken.sender.payload;
-              sent = taken.sender.sent;
-              next = next;
-              taken = taken.taken;
-              memory = (record { action = taken.act; next = taken.memory }, taken.row, refl);
-              value = refl;
-              opened = refl;
-              after = refl;
-            };
-          },
-        ),
-      ),
-    )
-
-    abbrev pub opens : Played old (Order core)
-    opens = record { outcome = Ok (reply.Ordered request); new = goes_to next; goes = goes_open }
-
-  abbrev pub on_bus : (transaction : Option Open) → (picture_of old block).transaction ≡ transaction → Option (Played old (Order core))
-  on_bus (Some busy) is = Some (record { outcome = Err (BusTaken block); new = old; goes = ((there, first, ap (λ (t : Option Open). is_some t) is), refl) })
-  on_bus None free =
-      if_true (ltb block old.shape.blocks) λ within.
-      if_some (ordered old.protocol core request (picture_of old block).memory.state (picture_of old block).memory.value (picture_of old block).transaction (picture_of old block).caches) λ taken is.
-      Some (opens free (ltb-true block old.shape.blocks within) taken)
+abbrev pub on_bus : (old : Situation) (core block : ℕ) → core < old.shape.cores → StandsFirst old core block → (request : Request) → Waits old core block request
+    → (transaction : Option Open) → (picture_of old block).transaction ≡ transaction → Option (Played old (Order core))
+on_bus old core block there first request waits (Some busy) is = Some (orders_on_taken_bus old core there block first (ap (λ (t : Option Open). is_some t) is))
+on_bus old core block there first request waits None free =
+    if_true (ltb block old.shape.blocks) λ within.
+    if_some (ordered old.protocol core request (picture_of old block).memory.state (picture_of old block).memory.value (picture_of old block).transaction (picture_of old block).caches) λ taken is.
+    Some (opens old core block request taken (there, ltb-true block old.shape.blocks within) first (waits, free))
