@@ -8,13 +8,12 @@ use Rattle.snoop_rules.specs.declared.names.CacheState.{CacheState}
 use Rattle.snoop_rules.specs.declared.names.CacheState.TheVariants as state
 use Rattle.snoop_rules.specs.declared.names.CacheAction.{CacheAction}
 use Rattle.snoop_rules.specs.declared.names.CacheAction.TheVariants as action
-use Rattle.snoop_rules.specs.Cell.{Cell}
+use Rattle.snoop_rules.specs.Cell.{Cell, cell_of}
 use Rattle.snoop_rules.specs.Takers.{asked}
 use Rattle.snoop_model.specs.Pictures.Picture.{held_by}
 use Rattle.snoop_model.specs.Pictures.Situation.{Situation, picture_of, state_of}
 use Rattle.snoop_model.specs.Moves.Move.{IsWithin}
 use Rattle.snoop_scenes.proofs.Deciding.{if_some}
-use Rattle.snoop_scenes.proofs.Rows.{row_at}
 use Rattle.snoop_model.proofs.Steps.Played.{Played, performed}
 use Rattle.snoop_model.proofs.Steps.Asks.{absent, hits, issues, drops, stalls}
 
@@ -37,5 +36,5 @@ module _ (old : Situation) (core block word : ℕ) (asking : Op) (within : IsWit
   abbrev pub asks : Option (Played old (Ask core block word asking))
   asks = elim (evicts_nothing asking (state_of old core block)) [
     | Some is ↦ Some (absent old core block word asking within has_word is)
-    | None ↦ if_some (row_at old.protocol (state_of old core block) (asked asking)) λ found is. by_row found.act found.next found.row
+    | None ↦ if_some (cell_of old.protocol (state_of old core block) (asked asking)) λ row is. by_row row.action row.next is
   ]

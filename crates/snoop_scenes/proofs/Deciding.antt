@@ -21,6 +21,18 @@ abbrev pub by_found : {A B : Type 0} → (found : Option A) → ((a : A) → fou
 by_found None some none = none refl
 by_found (Some a) some none = some a refl
 
+-- goes on where something is found at each number below n
+pub at_each : {A : ℕ → Type 0} (n : ℕ) → A 0 → ((k : ℕ) → k < n → A (suc k)) → (k : ℕ) → k < suc n → A k
+at_each n first rest zero below = first
+at_each n first rest (suc k) below = rest k (omega (arith, below))
+
+abbrev pub all_found : {A : ℕ → Type 0} (n : ℕ) → ((k : ℕ) → Option (A k)) → Option ((k : ℕ) → k < n → A k)
+all_found zero find = Some (λ k below. absurd (omega (arith, below)))
+all_found (suc n) find =
+    if_some (find 0) λ first is.
+    if_some (all_found n (λ k. find (suc k))) λ rest are.
+    Some (at_each n first rest)
+
 -- it was found
 abbrev pub IsFound : {A : Type 0} → Option A → Type 0
 IsFound None = ⊥

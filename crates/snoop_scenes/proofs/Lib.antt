@@ -1,5 +1,4 @@
 pub mod Deciding
-pub mod Rows
 pub mod Refusing
 pub mod Asking
 pub mod Ordering

@@ -1,36 +1,24 @@
 -- A Respond played.
-use Rattle.std.proofs.Common.{◌≡◌, ℕ, ◌<◌, Bool, true, false, List, [], ◌∷◌, ◌++◌, Option, Some, None, Ok, refl}
-use Rattle.std.specs.Prelude.{slice_set}
+use Rattle.std.proofs.Common.{Bool, true, false, List, Option, Some, None, refl}
 use Rattle.snoop_trace.specs.declared.step.Op.{Op}
 use Rattle.snoop_trace.specs.declared.step.Op.TheVariants as op
-use Rattle.snoop_trace.specs.declared.step.Step.TheVariants.{Respond}
 use Rattle.snoop_trace.specs.declared.protocol.Protocol.{Protocol}
-use Rattle.snoop_rules.specs.declared.names.CacheState.{CacheState}
-use Rattle.snoop_rules.specs.declared.names.CacheEvent.{CacheEvent}
 use Rattle.snoop_rules.specs.declared.names.CacheAction.{CacheAction}
 use Rattle.snoop_rules.specs.declared.names.CacheAction.TheVariants as action
 use Rattle.snoop_rules.specs.declared.names.MemState.{MemState}
-use Rattle.snoop_rules.specs.declared.names.MemAction.{MemAction}
 use Rattle.snoop_rules.specs.declared.names.MemAction.TheVariants as mem_action
 use Rattle.snoop_rules.specs.declared.names.Payload.{Payload}
 use Rattle.snoop_rules.specs.declared.names.Request.{Request}
 use Rattle.snoop_rules.specs.declared.names.Request.TheVariants.{GetS, GetM, PutM}
-use Rattle.snoop_rules.specs.Takers.{arrival, arrival_at_memory, takes_payload}
-use Rattle.snoop_history.specs.declared.items.Did.{Did}
+use Rattle.snoop_rules.specs.Cell.{cell_of}
+use Rattle.snoop_rules.specs.MemoryCell.{memory_cell_of}
+use Rattle.snoop_rules.specs.Takers.{arrival, arrival_at_memory}
 use Rattle.snoop_history.specs.declared.items.Item.{Item}
-use Rattle.snoop_history.specs.declared.items.Item.TheVariants as item
 use Rattle.snoop_bus.specs.Traffic.{Open}
 use Rattle.snoop_model.specs.Pictures.Lines.{Line}
-use Rattle.snoop_model.specs.declared.line.Access.{Access}
-use Rattle.snoop_model.specs.declared.replies.Reply.{Reply}
-use Rattle.snoop_model.specs.declared.replies.Reply.TheVariants as reply
-use Rattle.snoop_model.specs.Pictures.Picture.{Picture, held_at}
-use Rattle.snoop_model.specs.Pictures.Situation.{Situation, picture_of, with_picture}
-use Rattle.snoop_model.specs.Moves.Move.{next_did, IsFillFor, FillsRequestor, ArrivesFor, written, came_of}
-use Rattle.snoop_model.specs.Runs.Run.{GoesFirst}
-use Rattle.snoop_model.proofs.Tables.RespondTests.{SettlesIf}
+use Rattle.snoop_model.specs.Pictures.Picture.{held_at}
+use Rattle.snoop_model.specs.Moves.Move.{IsFillFor}
 use Rattle.snoop_scenes.proofs.Deciding.{if_some}
-use Rattle.snoop_scenes.proofs.Rows.{memory_row_at}
 use Rattle.snoop_model.proofs.Steps.Played.{performed}
 use Rattle.snoop_model.proofs.Steps.Responds.{Filled, filled_by, Arrived, Remembered}
 
@@ -58,5 +46,5 @@ abbrev pub remembered : (takes : Bool) (payload : Payload) (protocol : Protocol)
 remembered false payload protocol old = Some (record { act = mem_action.None; memory = old; settles = (refl, refl) })
 remembered true payload protocol old =
     if_some (arrival_at_memory payload) λ event arrives.
-    if_some (memory_row_at protocol old event) λ found is.
-    Some (record { act = found.act; memory = found.next; settles = rw arrives found.row })
+    if_some (memory_cell_of protocol old event) λ row is.
+    Some (record { act = row.action; memory = row.next; settles = rw arrives is })

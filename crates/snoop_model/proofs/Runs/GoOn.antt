@@ -45,7 +45,7 @@ use Rattle.snoop_model.specs.Pictures.Picture.{Picture, held_at, held_by, kept_o
 use Rattle.snoop_model.specs.Pictures.Situation.{Situation, picture_of, with_picture, state_of, Waits, CanOrder, StandsFirst}
 use Rattle.snoop_model.specs.Pictures.Sends.{value_sent}
 use Rattle.snoop_model.specs.Pictures.Sound.{keeps, request_for, missed_request, IsProper}
-use Rattle.snoop_model.specs.Moves.Move.{TakesRow, Orders, FirstMove, IsFillFor, Move, IsWithin, moves_to}
+use Rattle.snoop_model.specs.Moves.Move.{Orders, FirstMove, IsFillFor, Move, IsWithin}
 use Rattle.snoop_model.specs.Runs.Run.{GoesFirst, FirstRunFrom}
 use Rattle.snoop_model.specs.Moves.Refuses.{Refuses, WaitsOnNone}
 use Rattle.snoop_model.specs.Pictures.InQueue.{IsInQueue}
@@ -57,7 +57,6 @@ use Rattle.snoop_model.specs.Invariant.Invariant.{Invariant}
 use Rattle.snoop_model.proofs.Tables.Rows.{same_request, same_request-true}
 use Rattle.snoop_model.proofs.Tables.AskTests.{is_idle_evict}
 use Rattle.snoop_model.proofs.Tables.RespondTests.{memory_row_for, row_for}
-use Rattle.snoop_model.specs.Moves.LookUps.{HasRow}
 use Rattle.snoop_model.proofs.Invariant.Coherence.{orders_follow_sender_table, finds_rows, idle_evict, waits_within}
 use Rattle.snoop_model.proofs.OneBlock.Facts.{implied, or_not}
 use Rattle.snoop_model.proofs.Invariant.Steps.{first_keeps}
@@ -165,38 +164,13 @@ ask_leads s g core block word asking = elim (cases_lt core s.shape.cores) [
   ]
 ]
 
--- a list with a value at each place
-abbrev LinesAt : (ℕ → Line → Type 0) → ℕ → Type 0
-LinesAt P n = (l : List Line) × ((length l ≡ n) × ((k : ℕ) → k < n → P k (held_at l k)))
-
-line_before : (P : ℕ → Line → Type 0) (n : ℕ) (x : Line) → P 0 x → LinesAt (λ k. P (suc k)) n → LinesAt P (suc n)
-line_before P n x here rest = (x ∷ rest.0, (ap suc rest.1.0, at))
-  where
-    at : (k : ℕ) → k < suc n → P k (held_at (x ∷ rest.0) k)
-    at zero h = here
-    at (suc k) h = rest.1.1 k (omega arith)
-
-lines_at : (P : ℕ → Line → Type 0) (n : ℕ) → ((k : ℕ) → k < n → (x : Line) × P k x) → LinesAt P n
-lines_at P zero find = ([], (refl, λ k h. absurd (omega arith)))
-lines_at P (suc n) find =
-    let first = find 0 (omega arith) in
-    line_before P n first.0 first.1 (lines_at (λ k. P (suc k)) n (λ k h. find (suc k) (omega arith)))
-
 -- each controller's row for a request that can be ordered
 order_rows : (s : Situation) → Invariant s → (core block : ℕ) (q : Request) → CanOrder s core block q → Ordered s.protocol (picture_of s block) core q
 order_rows s g core block q ready =
-    let p = s.protocol in
-    let before : Picture = picture_of s block in
-    let finds : (k : ℕ) → HasRow p (held_by before k).state (seen_by k core q) = λ k. (finds_rows s g (Order core)).cache k block (Some (seen_by k core q)) (q, (ready, refl)) in
     let line = orders_follow_sender_table s g core block q ready in
-    let rows = lines_at (λ k x. TakesRow p (seen_by k core q) (held_by before k) x) (length before.caches) (λ k h. (let row = finds k in (moves_to row.0.next (held_by before k), (row.0, row.1, refl)))) in
-    record {
-      caches = rows.0;
-      taken = record { same_length = rows.1.0; rows = rows.1.1 };
-      memory = line.next;
-      ordered = line.ordered;
-      message = record { from = line.from; payload = line.payload; sent = line.sent };
-    }
+    orders.by_rows s.protocol (picture_of s block) core q
+    (λ k below. (finds_rows s g (Order core)).cache k block (Some (seen_by k core q)) (q, (ready, refl)))
+    line.ordered.0 line.ordered.1 (record { from = line.from; payload = line.payload; sent = line.sent })
 
 -- such an Order
 pub order_made : (s : Situation) → Invariant s → (core block : ℕ) (q : Request) → CanOrder s core block q → (new : Situation) × Orders s core block q new
