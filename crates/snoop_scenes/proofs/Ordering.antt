@@ -1,5 +1,6 @@
 -- An Order played.
-use Rattle.std.proofs.Common.{◌≡◌, ◌==◌, ℕ, zero, suc, ◌<◌, ◌≤◌, length, List, Option, Some, None, true, refl, ap, sym, ◌∙◌, arith, nat_tests}
+use Rattle.std.proofs.Common.{◌≡◌, ◌==◌, ℕ, zero, suc, ◌<◌, ◌≤◌, length, List, Option, Some, None, true, refl, ap, sym, ◌∙◌, arith}
+use Rattle.std.proofs.lemmas.Bool.Decides.{nat_tests}
 use Rattle.std.specs.Prelude.{is_some}
 use Rattle.std.proofs.Math.Dec.{ltb}
 use Rattle.std.proofs.lemmas.Bool.{ltb-true}
@@ -59,7 +60,7 @@ module _ (protocol : Protocol) (before : Picture) (core : ℕ) (request : Reques
   abbrev pub only_from : (from : Option ℕ) (payload : Payload) → sent_from from ≡ Some payload → IsBelow (length before.caches) from → Option (OneMessage protocol before core request)
   only_from from payload is there =
       if_some (leaves from None) λ memory is_memory.
-      if_some (all_found (length before.caches) (λ k. leaves from (Some k))) λ cores are_cores.
+      if_some (all_found (λ k. Leaves from (Some k)) (length before.caches) (λ k. leaves from (Some k))) λ cores are_cores.
       Some (record { from = from; payload = payload; sent = record { sends = it_sends from payload is there; alone = alone_by from memory cores } })
 
   -- the one message: memory's, or that of a core below n
@@ -67,9 +68,15 @@ module _ (protocol : Protocol) (before : Picture) (core : ℕ) (request : Reques
   message_below zero some = by_found (sent_from None) (λ payload is. only_from None payload is tt) (λ none. None)
   message_below (suc n) some = by_found (sent_from (Some n)) (λ payload is. only_from (Some n) payload is (omega (arith, some))) (λ none. message_below n (omega (arith, some)))
 
+  abbrev pub HasRowFor : ℕ → Type 0
+  HasRowFor k = (row : CacheCell) × (cell_of protocol (held_by before k).state (seen_by k core request) ≡ Some row)
+
+  abbrev pub row_for : (k : ℕ) → Option (HasRowFor k)
+  row_for k = if_some (cell_of protocol (held_by before k).state (seen_by k core request)) λ row is. Some (row, is)
+
   abbrev pub ordered : Option (Ordered protocol before core request)
   ordered =
-      if_some (all_found (length before.caches) (λ k. if_some (cell_of protocol (held_by before k).state (seen_by k core request)) λ row is. let found : (row : CacheCell) × (cell_of protocol (held_by before k).state (seen_by k core request) ≡ Some row) = (row, is) in Some found)) λ rows are_rows.
+      if_some (all_found HasRowFor (length before.caches) row_for) λ rows are_rows.
       if_some (memory_cell_of protocol before.memory.state (at_memory request)) λ row is_row.
       if_some (message_below (length before.caches) (omega arith)) λ found is_found.
       Some (by_rows protocol before core request rows row is_row found)
