@@ -1,6 +1,6 @@
 -- From every situation of a run each step leads on: it is a move, or refused for a cause.
-use Rattle.std.proofs.Common.{◌⊎◌, ◌≡◌, ℕ, zero, suc, ◌<◌, Bool, true, false, not, ◌&&◌, ◌||◌, List, [], ◌∷◌, ◌++◌, length, Option, Some, None, refl, inl, inr, ap, sym, ◌∙◌, subst, arith, eqb, ◌+◌}
-use Rattle.std.specs.Prelude.{Contains, Result, Ok, Err, is_some, option_map, option_to_list, slice_get, slice_set}
+use Rattle.std.proofs.Common.{◌⊎◌, ◌≡◌, ℕ, ◌<◌, Bool, true, false, not, ◌&&◌, ◌||◌, List, [], ◌∷◌, Option, Some, None, refl, inl, inr, ap, sym, ◌∙◌, subst, arith, eqb}
+use Rattle.std.specs.Prelude.{Contains, Result, Ok, Err, is_some, option_map, slice_get, slice_set}
 use Rattle.std.proofs.lemmas.Bool.{cases_lt, and_parts, eq-eqb}
 use Rattle.std.proofs.lemmas.Option.{same_Some}
 use Rattle.snoop_trace.specs.Words.{HasWord, IsWord, word_at}
@@ -28,24 +28,19 @@ use Rattle.snoop_rules.specs.declared.names.CacheCell.{CacheCell}
 use Rattle.snoop_rules.specs.declared.names.MemCell.{MemCell}
 use Rattle.snoop_rules.proofs.Every.{all_protocols, all_states, all_events}
 use Rattle.snoop_rules.proofs.Rows.{each_row, each_row-at}
-use Rattle.snoop_history.specs.declared.items.Did.{Did}
 use Rattle.snoop_history.specs.declared.items.Item.{Item}
-use Rattle.snoop_history.specs.declared.items.Item.TheVariants as item
 use Rattle.snoop_history.specs.History.{flat_words}
 use Rattle.snoop_history.specs.Totals.{is_put_m}
 use Rattle.snoop_bus.specs.Traffic.{Open}
-use Rattle.snoop_bus.specs.Queues.{queue_of, after_order}
+use Rattle.snoop_bus.specs.Queues.{queue_of}
 use Rattle.snoop_model.specs.declared.line.Access.{Access}
-use Rattle.snoop_model.specs.Pictures.Lines.{Line, MemLine}
+use Rattle.snoop_model.specs.Pictures.Lines.{Line}
 use Rattle.snoop_model.specs.declared.replies.Reply.{Reply}
-use Rattle.snoop_model.specs.declared.replies.Reply.TheVariants as reply
 use Rattle.snoop_model.specs.declared.replies.Refused.{Refused}
-use Rattle.snoop_model.specs.declared.replies.Refused.TheVariants.{NoCore, NoBlock, Stalled, NothingWaiting, BusTaken, NoTransaction}
-use Rattle.snoop_model.specs.Pictures.Picture.{Picture, held_at, held_by, kept_on, with_line}
-use Rattle.snoop_model.specs.Pictures.Situation.{Situation, picture_of, with_picture, state_of, Waits, CanOrder, StandsFirst}
-use Rattle.snoop_model.specs.Pictures.Sends.{value_sent}
+use Rattle.snoop_model.specs.Pictures.Picture.{Picture, held_at, held_by}
+use Rattle.snoop_model.specs.Pictures.Situation.{Situation, picture_of, state_of, Waits, CanOrder, StandsFirst}
 use Rattle.snoop_model.specs.Pictures.Sound.{keeps, request_for, missed_request, IsProper}
-use Rattle.snoop_model.specs.Moves.Move.{Orders, FirstMove, IsFillFor, Move, IsWithin}
+use Rattle.snoop_model.specs.Moves.Move.{Orders, IsFillFor, Move, IsWithin}
 use Rattle.snoop_model.specs.Runs.Run.{GoesFirst, FirstRunFrom}
 use Rattle.snoop_model.specs.Moves.Refuses.{Refuses, WaitsOnNone}
 use Rattle.snoop_model.specs.Pictures.InQueue.{IsInQueue}
