@@ -112,8 +112,6 @@ owner_stores _ state.M known owns = (state.M, refl)
 owner_stores _ state.MiA known owns = (state.MiA, refl)
 owner_stores Mesi state.E known owns = (state.M, refl)
 owner_stores Mesi state.EiA known owns = (state.MiA, refl)
-owner_stores Msi state.E known owns = cc
-owner_stores Msi state.EiA known owns = cc
 owner_stores _ _ known owns = cc
 
 -- where no core may write the block, none owns it
@@ -200,11 +198,7 @@ orders_follow_sender_table s g core block q ready =
 
 pub idle_evict : (s : CacheState) (o : Op) → is_idle_evict s (asked o) ≡ true → (o ≡ op.Evict) × (s ≡ state.I)
 idle_evict state.I op.Evict h = (refl, refl)
-idle_evict state.I op.Load h = cc
-idle_evict state.I (op.Store v) h = cc
-idle_evict _ op.Load h = cc
-idle_evict _ (op.Store v) h = cc
-idle_evict _ op.Evict h = cc
+idle_evict _ _ h = cc
 
 nothing_asked : (p : Protocol) (o : Op) → (¬ ((o ≡ op.Evict) × (state.I ≡ state.I))) → HasRow p state.I (asked o)
 nothing_asked p op.Load busy = (record { action = action.Issue request.GetS; next = state.IsAd }, refl)

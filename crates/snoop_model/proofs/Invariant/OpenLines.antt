@@ -66,8 +66,7 @@ goes_on_lines old step (Err cause) new g lines r = subst AreOnLines (sym (refusa
 pub run_on_lines : (steps : List Step) (outcomes : List (Result Reply Refused)) (old new : Situation) → Invariant old → AreOnLines old → RunFrom old steps outcomes new → AreOnLines new
 run_on_lines [] [] old new g lines r = subst AreOnLines (sym r) lines
 run_on_lines (step ∷ steps) (outcome ∷ outcomes) old new g lines r = run_on_lines steps outcomes r.0 new (goes_keeps old step outcome r.0 g r.1.0) (goes_on_lines old step outcome r.0 g lines r.1.0) r.1.1
-run_on_lines [] (outcome ∷ outcomes) old new g lines r = absurd r
-run_on_lines (step ∷ steps) [] old new g lines r = absurd r
+run_on_lines _ _ old new g lines r = absurd r
 
 pub reset_on_lines : (p : Protocol) (shape : Extent) → AreOnLines (reset p shape)
 reset_on_lines p shape block = rw (reset_open p shape block) tt

@@ -120,5 +120,4 @@ goes_keeps old step (Err cause) new g r = subst Invariant (sym (refusal_same old
 pub run_keeps : (steps : List Step) (outcomes : List (Result Reply Refused)) (old new : Situation) → Invariant old → RunFrom old steps outcomes new → Invariant new
 run_keeps [] [] old new g r = subst Invariant (sym r) g
 run_keeps (step ∷ steps) (outcome ∷ outcomes) old new g r = run_keeps steps outcomes r.0 new (goes_keeps old step outcome r.0 g r.1.0) r.1.1
-run_keeps [] (outcome ∷ outcomes) old new g r = absurd r
-run_keeps (step ∷ steps) [] old new g r = absurd r
+run_keeps _ _ old new g r = absurd r

@@ -205,8 +205,7 @@ run_once (step ∷ steps) (Err cause ∷ outcomes) old new g r core block wanted
     let x : tally middle core block wanted ≡ tally old core block wanted = ap (λ (s : Situation). tally s core block wanted) (refusal_same old step cause middle r.1.0) in
     let y = run_once steps outcomes middle new (goes_keeps old step (Err cause) middle g r.1.0) r.1.1 core block wanted in
     omega arith
-run_once [] (outcome ∷ outcomes) old new g r core block wanted = absurd r
-run_once (step ∷ steps) [] old new g r core block wanted = absurd r
+run_once _ _ old new g r core block wanted = absurd r
 
 -- nothing was done at reset, and nothing waits
 pub reset_tally : (p : Protocol) (shape : Extent) (core block : ℕ) (wanted : Access) → tally (reset p shape) core block wanted ≡ 0

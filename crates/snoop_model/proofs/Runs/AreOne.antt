@@ -46,6 +46,7 @@ use Rattle.snoop_model.specs.Turns.TurnRule.{KeepsWell}
 use Rattle.snoop_model.proofs.Tables.EvictInI.{no_row}
 use Rattle.snoop_model.proofs.Tables.RespondTests.{SettlesIf}
 use Rattle.snoop_model.proofs.OneBlock.OfBlocks.{same_picture, same_memory}
+use Rattle.snoop_model.proofs.Steps.Asks.{leads}
 use Rattle.snoop_model.proofs.Runs.GoOn.{HeadsWait, IsSteady, heads_kept, steady_on}
 
 same_some : {A : Type 0} {a b : A} → ◌≡◌ {A = Option A} (Some a) (Some b) → a ≡ b
@@ -166,18 +167,7 @@ takes_one : (act : CacheAction) (next : CacheState) (log : List Item) (core bloc
 takes_one action.Hit next log core block word asking old new new' answer answer' entry entry' a b = hits_one next log core block word asking old new new' answer answer' entry entry' a b
 takes_one (action.Issue r) next log core block word asking old new new' answer answer' entry entry' a b = (a.0 ∙ sym b.0, a.1 ∙ sym b.1, a.2 ∙ sym b.2)
 takes_one action.Drop next log core block word asking old new new' answer answer' entry entry' a b = (a.0 ∙ sym b.0, a.1 ∙ sym b.1, a.2 ∙ sym b.2)
-takes_one action.None next log core block word asking old new new' answer answer' entry entry' a b = absurd a
-takes_one action.Stall next log core block word asking old new new' answer answer' entry entry' a b = absurd a
-takes_one action.FillLoad next log core block word asking old new new' answer answer' entry entry' a b = absurd a
-takes_one action.FillStore next log core block word asking old new new' answer answer' entry entry' a b = absurd a
-takes_one (action.Send payload target) next log core block word asking old new new' answer answer' entry entry' a b = absurd a
-
--- the situation after an Ask, by its action, its line and its item
-abbrev asked_after : Situation → ℕ → ℕ → CacheAction → Line → Option Item → Situation
-asked_after s core block act held entry = record (with_picture s block (with_line (picture_of s block) core held)) {
-  queues = queues_after act s.queues core block;
-  log = s.log ++ option_to_list entry;
-}
+takes_one _ next log core block word asking old new new' answer answer' entry entry' a b = absurd a
 
 -- what is equal of two moves
 abbrev SameMove : Reply → Situation → Reply → Situation → Type 0
@@ -190,7 +180,7 @@ asks_one s core block word asking answer answer' new new' entry entry' a b =
     let taken : Takes a.row.action a.row.next s.log core block word asking old b.held answer' entry' = subst (λ (x : CacheCell). Takes x.action x.next s.log core block word asking old b.held answer' entry') (sym row) b.taken in
     let same = takes_one a.row.action a.row.next s.log core block word asking old a.held b.held answer answer' entry entry' a.taken taken in (
       same.1,
-      a.after ∙ (ap (λ (x : CacheCell). asked_after s core block x.action a.held entry) row ∙ (ap (λ held. asked_after s core block b.row.action held entry) same.0 ∙ (ap (λ e. asked_after s core block b.row.action b.held e) same.2 ∙ sym b.after))),
+      a.after ∙ (ap (λ (x : CacheCell). leads s core block x.action a.held entry) row ∙ (ap (λ held. leads s core block b.row.action held entry) same.0 ∙ (ap (λ e. leads s core block b.row.action b.held e) same.2 ∙ sym b.after))),
     )
 
 asks_or_absent : (s : Situation) (core block word : ℕ) (asking : Op) (answer answer' : Reply) (new new' : Situation) (entry entry' : Option Item) → IsAbsent s core block asking answer new entry ⊎ Asks s core block word asking answer new entry → IsAbsent s core block asking answer' new' entry' ⊎ Asks s core block word asking answer' new' entry' → SameMove answer new answer' new'

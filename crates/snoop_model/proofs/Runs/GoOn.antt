@@ -249,9 +249,7 @@ data_test_holds = refl
 
 arrives_as_data : (payload : Payload) (e : CacheEvent) → arrival payload ≡ Some e → is_data e ≡ true
 arrives_as_data Payload.Data e is = cc
-arrives_as_data Payload.DataE e is = cc
-arrives_as_data Payload.NoData e is = cc
-arrives_as_data Payload.NoDataE e is = cc
+arrives_as_data _ e is = cc
 
 -- the operation that waits
 waits_for : (waiting : Option Access) (q : Request) → option_map (λ access. request_for access.op) waiting ≡ Some q → (access : Access) × (waiting ≡ Some access) × (request_for access.op ≡ q)
@@ -261,8 +259,7 @@ waits_for (Some access) q e = (access, refl, same_Some _ _ e)
 -- the fill is for it, and performs it
 fill_load : (o : Op) → request_for o ≡ request.GetS → (word : ℕ) (ws : List ℕ) → IsFillFor action.FillLoad o × Performed word o ws
 fill_load op.Load e word ws = (tt, record { value = word_at ws word; after = ws; performs = (refl, refl) })
-fill_load (op.Store v) e word ws = cc
-fill_load op.Evict e word ws = cc
+fill_load _ e word ws = cc
 
 fill_store : (o : Op) → request_for o ≡ request.GetM → (word : ℕ) (ws : List ℕ) → IsFillFor action.FillStore o × Performed word o ws
 fill_store op.Load e word ws = cc
@@ -347,8 +344,7 @@ steady_on keeps old step (Err cause) new steady goes = subst IsSteady (sym goes.
 pub run_steady : KeepsWell → (steps : List Step) (outcomes : List (Result Reply Refused)) (old new : Situation) → IsSteady old → FirstRunFrom old steps outcomes new → IsSteady new
 run_steady keeps [] [] old new steady run = subst IsSteady (sym run) steady
 run_steady keeps (step ∷ steps) (outcome ∷ outcomes) old new steady run = run_steady keeps steps outcomes run.0 new (steady_on keeps old step outcome run.0 steady run.1.0) run.1.1
-run_steady keeps [] (outcome ∷ outcomes) old new steady run = absurd run
-run_steady keeps (step ∷ steps) [] old new steady run = absurd run
+run_steady keeps _ _ old new steady run = absurd run
 
 -- some run of these steps
 abbrev pub SomeRun : Situation → List Step → Type 0

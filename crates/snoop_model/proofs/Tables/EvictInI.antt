@@ -17,5 +17,4 @@ no_row p s asking a n e i row =
     go p (subst Q e (subst P i row))
   where
     go : (x : Protocol) → Cell x I (asked op.Evict) a n → ⊥
-    go Msi h = cc
-    go Mesi h = cc
+    go _ h = cc
