@@ -3,7 +3,6 @@ use Rattle.std.proofs.Common.{◌≡◌, subst}
 use Rattle.snoop_trace.specs.declared.step.Op.{Op}
 use Rattle.snoop_trace.specs.declared.step.Op.TheVariants as op
 use Rattle.snoop_trace.specs.declared.protocol.Protocol.{Protocol}
-use Rattle.snoop_trace.specs.declared.protocol.Protocol.TheVariants.{Msi, Mesi}
 use Rattle.snoop_rules.specs.declared.names.CacheState.{CacheState}
 use Rattle.snoop_rules.specs.declared.names.CacheState.TheVariants.{I}
 use Rattle.snoop_rules.specs.declared.names.CacheAction.{CacheAction}

@@ -17,7 +17,7 @@ use Rattle.snoop_bus.specs.Traffic.{Open}
 use Rattle.snoop_bus.specs.Queues.{queue_of}
 use Rattle.snoop_model.specs.declared.line.Access.{Access}
 use Rattle.snoop_model.specs.declared.replies.Refused.{Refused}
-use Rattle.snoop_model.specs.declared.replies.Refused.TheVariants.{NoCore, NoBlock, Stalled, NothingWaiting, BusTaken, NoTransaction, NoMemory}
+use Rattle.snoop_model.specs.declared.replies.Refused.TheVariants.{NoCore, NoBlock, Stalled, NothingWaiting, BusTaken, NoTransaction}
 use Rattle.snoop_model.specs.Pictures.Picture.{held_by, Picture, with_line}
 use Rattle.snoop_model.specs.Pictures.Situation.{Situation, picture_of, state_of, Waits, nothing_there}
 use Rattle.snoop_model.specs.Moves.Move.{queues_after}
