@@ -51,7 +51,7 @@ NOTATION = [
     ("slice_set xs k x", "the list with x at place k, or as it was if it has no such place"),
     ("replicate n x, range_with_len a n", "n times x; the n numbers from a on"),
     ("map f xs, filter p xs, filter_map f xs", "f of each element; those that pass; the values among what f gives"),
-    ("count_by p xs, All P xs", "how many elements pass; P holds of each"),
+    ("count_by p xs, All P xs, Contains xs x", "how many elements pass; P holds of each; x is one of them"),
 ]
 
 HEAD = """# The theorem

@@ -20,7 +20,7 @@ use Rattle.snoop_model.specs.declared.replies.Reply.TheVariants as reply
 use Rattle.snoop_model.specs.Moves.Replies.{IsReplyTo, IsLoadHit}
 use Rattle.snoop_model.specs.Pictures.Situation.{Situation, picture_of, state_of}
 use Rattle.snoop_model.specs.Moves.Move.{next_did}
-use Rattle.snoop_model.specs.Runs.Once.{did_it, did_op, did_access, op_of, same_op, same_access}
+use Rattle.snoop_model.specs.Runs.Once.{did_it, did_access, same_op, same_access}
 use Rattle.snoop_model.specs.Runs.Owed.{IsLast, IsOwed}
 use Rattle.snoop_model.specs.Turns.Turn.{turn_of, step_under_way}
 use Rattle.snoop_model.specs.Turns.TurnRule.{TurnRule}
@@ -38,7 +38,7 @@ use Rattle.snoop_bench.proofs.Turning.{Stepped, ended_keeps, asks_its}
 number_is : (v w : ℕ) → (v == w) ≡ true → v ≡ w
 number_is v w e = grind (arith, nat_tests)
 
-is_op : (asking : Op) (did : Did) (load : Bool) → did.load ≡ load → same_op asking (op_of load did.value) ≡ true → IsOp asking did
+is_op : (asking : Op) (did : Did) (load : Bool) → did.load ≡ load → same_op asking (if load then op.Load else op.Store did.value) ≡ true → IsOp asking did
 is_op op.Load did true e h = e
 is_op op.Load did false e h = absurd (true≢false (sym h))
 is_op (op.Store v) did true e h = absurd (true≢false (sym h))
@@ -50,7 +50,7 @@ is_op op.Evict did false e h = absurd (true≢false (sym h))
 pub does : (did : Did) (work : Work) → did_it work.block (access_of work) did ≡ true → Does did work
 does did work e =
     let parts = and_parts (did.block == work.block) (same_access (access_of work) (did_access did)) e in
-    let rest = and_parts (work.word == did.word) (same_op work.op (did_op did)) parts.1 in
+    let rest = and_parts (work.word == did.word) (same_op work.op (did_access did).op) parts.1 in
     (number_is did.block work.block parts.0, sym (number_is work.word did.word rest.0), is_op work.op did did.load refl rest.1)
 
 pub ends_with : (s : Situation) (core : ℕ) (work : Work) → IsLast s core work.block (access_of work) → (did : Did) × EndsWith s core work did

@@ -1,9 +1,10 @@
 -- What a step does to the operations of works under way: one that waits is that of a work, and that of a work waits or is its core's last one.
 use Rattle.std.proofs.Common.{◌≡◌, ◌≢◌, ◌⊎◌, ℕ, ◌+◌, ◌==◌, inl, inr, Bool, true, false, true≢false, cond, List, [], ◌∷◌, ◌++◌, map, Option, Some, None, Ok, refl, sym, ap, ◌∙◌, subst, arith, append-nil}
-use Rattle.std.specs.Prelude.{option_to_list, count_by}
+use Rattle.std.specs.Prelude.{option_to_list, count_by, if◌then◌else◌}
 use Rattle.std.proofs.lemmas.List.Sums.{sum_by-append}
 use Rattle.std.proofs.lemmas.Bool.{eq-eqb}
 use Rattle.snoop_trace.specs.declared.step.Op.{Op}
+use Rattle.snoop_trace.specs.declared.step.Op.TheVariants as op
 use Rattle.snoop_trace.specs.declared.step.Step.{Step}
 use Rattle.snoop_history.specs.declared.items.Did.{Did}
 use Rattle.snoop_history.specs.declared.items.Item.{Item}
@@ -13,7 +14,7 @@ use Rattle.snoop_model.specs.declared.line.Access.{Access}
 use Rattle.snoop_model.specs.declared.replies.Reply.{Reply}
 use Rattle.snoop_model.specs.Pictures.Situation.{Situation}
 use Rattle.snoop_model.specs.Moves.Move.{FirstMove}
-use Rattle.snoop_model.specs.Runs.Once.{did_it, did_op, did_access, op_of, waits_for, asks, same_op, OnceMore}
+use Rattle.snoop_model.specs.Runs.Once.{did_it, did_access, waits_for, asks, same_op, OnceMore}
 use Rattle.snoop_model.specs.Runs.Owed.{IsOwed}
 use Rattle.snoop_model.proofs.Runs.Prepared.{move-log}
 use Rattle.snoop_model.proofs.Once.Owed.{entry_op, answers_are, one_or_none, one_waits, owes}
@@ -24,7 +25,7 @@ use Rattle.snoop_bench.specs.Works.{access_of, work_at}
 abbrev pub AsksNothing : ℕ → Step → Type 0
 AsksNothing core step = (block : ℕ) (wanted : Access) → asks core block wanted step ≡ false
 
-same_as_self : (load : Bool) (value : ℕ) → same_op (op_of load value) (op_of load value) ≡ true
+same_as_self : (load : Bool) (value : ℕ) → same_op (if load then op.Load else op.Store value) (if load then op.Load else op.Store value) ≡ true
 same_as_self true value = refl
 same_as_self false value = eq-eqb value value refl
 
@@ -87,7 +88,7 @@ owed_still s t step answer entry works move once waiting core work its nothing (
 
     its_own : (d : Did) → of_core core (entry_op entry) ≡ d ∷ [] → (waits_for s core d.block (did_access d) ≡ 1) ⊎ (asks core d.block (did_access d) step ≡ true) → IsOwed t core work.block (access_of work)
     its_own d is (inl waits) =
-        let same : record { block = d.block; word = d.word; op = did_op d } ≡ work = same_work (work_at works core) (record { block = d.block; word = d.word; op = did_op d }) work (waiting core d.block (did_access d) waits) its in
+        let same : record { block = d.block; word = d.word; op = (did_access d).op } ≡ work = same_work (work_at works core) (record { block = d.block; word = d.word; op = (did_access d).op }) work (waiting core d.block (did_access d) waits) its in
         let now : last_of t.log core ≡ Some d = ap (λ (l : List Did). last_or None (map (λ x. Some x) l)) (answers_after s t step answer entry core move ∙ ap (λ (l : List Did). answers_of s.log core ++ l) is) ∙ last_push None (answers_of s.log core) d in
         inr (d, now, subst (λ (w : Work). did_it w.block (access_of w) d ≡ true) same (did_itself d))
     its_own d is (inr asked) = absurd (true≢false (sym asked ∙ nothing d.block (did_access d)))

@@ -14,7 +14,7 @@ use Rattle.snoop_model.specs.Moves.Prepared.{IsFull}
 use Rattle.snoop_model.specs.Moves.Holding.{HoldsOn}
 use Rattle.snoop_model.specs.Moves.Move.{FirstMove}
 use Rattle.snoop_model.specs.Moves.StepMove.{RefusedFor}
-use Rattle.snoop_model.specs.Runs.Run.{IsRefusal, RunFrom}
+use Rattle.snoop_model.specs.Runs.Run.{Goes, RunFrom}
 use Rattle.snoop_model.specs.Invariant.Invariant.{Invariant}
 use Rattle.snoop_model.specs.Invariant.MachineKeeps.{MachineKeeps}
 use Rattle.snoop_model.specs.Runs.Safe.{IsSafe}
@@ -58,7 +58,7 @@ Going-refused old middle new steps taken step result g goes keeps err =
     let was = g.many in
     record { outcomes = g.outcomes ++ result ∷ []; run = runs_push steps g.outcomes old middle step result new g.run goes (is_safe new.situation keeps); many = omega arith; keeps = keeps }
 
-refusal_is : (old : Situation) (step : Step) (cause : Refused) (new : Situation) → RefusedFor old step cause → new ≡ old → IsRefusal old step cause new
+refusal_is : (old : Situation) (step : Step) (cause : Refused) (new : Situation) → RefusedFor old step cause → new ≡ old → Goes old step (Err cause) new
 refusal_is old step NoMemory new r same = same
 refusal_is old step cause new r same = (r, same)
 

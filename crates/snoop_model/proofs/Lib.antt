@@ -6,4 +6,5 @@ pub mod Invariant
 pub mod Queues
 pub mod Turns
 pub mod Once
+pub mod Steps
 pub mod Runs

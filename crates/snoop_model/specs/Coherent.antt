@@ -1,23 +1,23 @@
 -- Coherence: what holds after any steps that a machine at reset takes or refuses, in any order.
 -- Source: chapters 2 and 7 of "A Primer on Memory Consistency and Cache Coherence", 2nd edition; the rest is this project's profile.
-use Rattle.std.specs.Prelude.{◌≡◌, ◌<◌, ℕ, List, All, Result, IfSome}
+use Rattle.std.specs.Prelude.{◌≡◌, ◌<◌, ℕ, List, All, Option, Some, None, Result, IfSome}
 use Rattle.snoop_trace.specs.Extent.{Extent}
 use Rattle.snoop_trace.specs.Words.{IsWord}
 use Rattle.snoop_trace.specs.declared.step.Step.{Step}
 use Rattle.snoop_trace.specs.declared.protocol.Protocol.{Protocol}
 use Rattle.snoop_rules.specs.declared.names.Request.{Request}
+use Rattle.snoop_rules.specs.Possible.{MayLoad, MayStore}
+use Rattle.snoop_history.specs.declared.items.Item.{Item}
 use Rattle.snoop_history.specs.History.{flat_words, operations, Legal}
 use Rattle.snoop_model.specs.declared.replies.Reply.{Reply}
 use Rattle.snoop_model.specs.declared.replies.Refused.{Refused}
-use Rattle.snoop_model.specs.Pictures.Picture.{held_by}
-use Rattle.snoop_model.specs.Pictures.Situation.{Situation, picture_of, CanOrder}
+use Rattle.snoop_model.specs.Pictures.Picture.{held_by, data_under_way}
+use Rattle.snoop_model.specs.Pictures.Situation.{Situation, picture_of, state_of, CanOrder}
 use Rattle.snoop_model.specs.Pictures.OneWriter.{OneWriter}
-use Rattle.snoop_model.specs.Pictures.Current.{IsCurrent}
-use Rattle.snoop_model.specs.Pictures.MemoryCurrent.{IsMemoryCurrent, NamesItsBlock}
 use Rattle.snoop_model.specs.Pictures.Sound.{IsProper}
 use Rattle.snoop_model.specs.Pictures.InQueue.{IsInQueue}
-use Rattle.snoop_model.specs.Moves.Move.{IsWithin, Orders}
-use Rattle.snoop_model.specs.Moves.LookUps.{FindsRows}
+use Rattle.snoop_model.specs.Moves.Move.{IsWithin, Orders, Move}
+use Rattle.snoop_model.specs.Moves.Refuses.{Refuses}
 use Rattle.snoop_model.specs.Moves.SenderTable.{IsLine, IsOpenByTable}
 use Rattle.snoop_model.specs.Runs.Once.{Once}
 
@@ -30,14 +30,16 @@ pub record IsCoherent (s : Situation) : Type 0 where
   -- each operation of the history is by a core, of a block and of a word that the machine has
   pub logged : All (λ did. IsWithin s did.core did.block × IsWord s.shape did.word) (operations s.log)
   -- each copy that may be read has in each word the value of the last store to it
-  pub current : (block : ℕ) → IsCurrent s.protocol (picture_of s block) (flat_words s.log block)
-  -- so has data under way; and so has memory where no core may write the block and no data is under way
-  pub memory : (block : ℕ) → block < s.shape.blocks → IsMemoryCurrent s.protocol (picture_of s block) (flat_words s.log block)
+  pub current : (core block : ℕ) → MayLoad s.protocol (state_of s core block) → (held_by (picture_of s block) core).kept ≡ Some (flat_words s.log block)
+  -- so has data under way
+  pub carried : (block : ℕ) → block < s.shape.blocks → IfSome (data_under_way (picture_of s block).transaction) (λ words. words ≡ flat_words s.log block)
+  -- and so has memory, where no core may write the block and no data is under way
+  pub memory : (block : ℕ) → block < s.shape.blocks → ((core : ℕ) → ¬ MayStore s.protocol (state_of s core block)) → data_under_way (picture_of s block).transaction ≡ None → (picture_of s block).memory.value ≡ flat_words s.log block
   -- a block's open transaction is of this block, by a core of the machine
-  pub opened : (block : ℕ) → NamesItsBlock s block
-  -- no step meets an impossible cell, nor would an Order of a waiting request of any free block
-  pub possible : (step : Step) → FindsRows s step
-  -- such an Order can be made: each controller takes its row for it, and exactly one sends
+  pub opened : (block : ℕ) → IfSome (picture_of s block).transaction (λ transaction. (transaction.block ≡ block) × (transaction.core < s.shape.cores))
+  -- no step is stuck at an impossible cell: each that is not refused is a move, in which every controller takes its row
+  pub moves : (step : Step) → ((cause : Refused) → ¬ Refuses s step cause) → (answer : Reply) × ((new : Situation) × ((entry : Option Item) × Move s step answer new entry))
+  -- so is an Order of a waiting request of any free block: each controller takes its row for it, and exactly one sends
   pub orders : (core block : ℕ) (request : Request) → CanOrder s core block request → (new : Situation) × Orders s core block request new
   -- each Order that is taken next, of any block, is a line of the table of senders
   pub by_table : (core block : ℕ) (request : Request) (new : Situation) (made : Orders s core block request new) → IsLine s.protocol (picture_of s block) core request made.from made.payload made.next.memory.state

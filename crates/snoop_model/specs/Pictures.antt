@@ -5,7 +5,5 @@ pub mod Situation
 pub mod Message
 pub mod Sends
 pub mod OneWriter
-pub mod Current
-pub mod MemoryCurrent
 pub mod Sound
 pub mod InQueue

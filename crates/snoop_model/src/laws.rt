@@ -1,14 +1,21 @@
 //! What holds of every run: calls that do nothing, and ensure it.
 ghost use Rattle.snoop_model.specs.Coherent.{IsCoherentRun};
 ghost use Rattle.snoop_model.specs.Runs.Run.{EveryRun, RunsAreOne, RunsGoOn, TakenBegins, TakenGoesOn};
+ghost use Rattle.snoop_model.specs.Runs.Safe.{RowsAreFound};
 ghost use Rattle.snoop_model.specs.Runs.Tallied.{AskedAreTallied};
 
 /// Every run from reset is coherent, for every number of cores and blocks, under MSI and MESI.
 ///
 /// `IsCoherentRun` has what that says: each block has one writer alone, or only readers; each load has the value of the last store
-/// before it; no step meets an impossible cell; and no load or store is lost or doubled.
+/// before it; no step is stuck at an impossible cell; and no load or store is lost or doubled.
 pub fn coherent()
     ensures { EveryRun IsCoherentRun }
+{}
+
+/// No step of a run meets an impossible cell, row by row: each that a controller looks up at the step is there. So it is for
+/// an Order of any free block on which its core waits.
+pub fn rows_are_found()
+    ensures { RowsAreFound }
 {}
 
 /// Every run goes on: from where some steps have led, any further steps have a run too.

@@ -1,6 +1,5 @@
 -- An Ask played.
-use Rattle.std.proofs.Common.{◌≡◌, ℕ, List, true, ◌++◌, Option, Some, None, Ok, Err, inl, inr, ◌⊎◌, refl}
-use Rattle.std.specs.Prelude.{option_to_list}
+use Rattle.std.proofs.Common.{◌≡◌, ℕ, Option, Some, None, refl}
 use Rattle.snoop_trace.specs.Words.{HasWord}
 use Rattle.snoop_trace.specs.declared.step.Op.{Op}
 use Rattle.snoop_trace.specs.declared.step.Op.TheVariants as op
@@ -9,89 +8,33 @@ use Rattle.snoop_rules.specs.declared.names.CacheState.{CacheState}
 use Rattle.snoop_rules.specs.declared.names.CacheState.TheVariants as state
 use Rattle.snoop_rules.specs.declared.names.CacheAction.{CacheAction}
 use Rattle.snoop_rules.specs.declared.names.CacheAction.TheVariants as action
-use Rattle.snoop_rules.specs.Cell.{Cell}
+use Rattle.snoop_rules.specs.Cell.{Cell, cell_of}
 use Rattle.snoop_rules.specs.Takers.{asked}
-use Rattle.snoop_history.specs.declared.items.Item.{Item}
-use Rattle.snoop_history.specs.declared.items.Item.TheVariants as item
-use Rattle.snoop_model.specs.Pictures.Lines.{Line}
-use Rattle.snoop_model.specs.declared.replies.Reply.{Reply}
-use Rattle.snoop_model.specs.declared.replies.Reply.TheVariants as reply
-use Rattle.snoop_model.specs.declared.replies.Refused.TheVariants.{Stalled}
-use Rattle.snoop_model.specs.Pictures.Picture.{held_by, with_line, kept_on}
-use Rattle.snoop_model.specs.Pictures.Situation.{Situation, picture_of, with_picture, state_of}
-use Rattle.snoop_model.specs.Moves.Move.{hit_reply, next_did, moves_to, kept_waiting, queues_after, IsWithin, IsAbsent, Asks}
-use Rattle.snoop_model.specs.Runs.Run.{GoesFirst}
+use Rattle.snoop_model.specs.Pictures.Picture.{held_by}
+use Rattle.snoop_model.specs.Pictures.Situation.{Situation, picture_of, state_of}
+use Rattle.snoop_model.specs.Moves.Move.{IsWithin}
 use Rattle.snoop_scenes.proofs.Deciding.{if_some}
-use Rattle.snoop_scenes.proofs.Rows.{row_at}
-use Rattle.snoop_scenes.proofs.Played.{Played, Performed, performed}
+use Rattle.snoop_model.proofs.Steps.Played.{Played, performed}
+use Rattle.snoop_model.proofs.Steps.Asks.{absent, hits, issues, drops, stalls}
 
 -- an Evict in I
 abbrev pub evicts_nothing : (asking : Op) (held : CacheState) → Option ((asking ≡ op.Evict) × (held ≡ state.I))
 evicts_nothing op.Evict state.I = Some (refl, refl)
 evicts_nothing _ _ = None
 
--- where an Ask by a row leads
-abbrev pub leads : Situation → ℕ → ℕ → CacheAction → Line → Option Item → Situation
-leads old core block act held entry =
-    record (with_picture old block (with_line (picture_of old block) core held)) {
-      queues = queues_after act old.queues core block;
-      log = old.log ++ option_to_list entry;
-    }
-
 module _ (old : Situation) (core block word : ℕ) (asking : Op) (within : IsWithin old core block) (has_word : HasWord old.shape word asking) where
-  abbrev pub line : Line
-  line = held_by (picture_of old block) core
-
-  pub goes_on : (answer : Reply) (new : Situation) (entry : Option Item) → IsAbsent old core block asking answer new entry ⊎ Asks old core block word asking answer new entry
-      → GoesFirst old (Ask core block word asking) (Ok answer) new
-  goes_on answer new entry move = (entry, (block, (tt, record { on_block = refl; within = within; moves = move; has_word = has_word })))
-
-  abbrev pub absent : (asking ≡ op.Evict) × (state_of old core block ≡ state.I) → Played old (Ask core block word asking)
-  absent is = record { outcome = Ok reply.Absent; new = old; goes = goes_on reply.Absent old None (inl (is.0, is.1, refl, refl, refl)) }
-
-  abbrev pub hit : (next : CacheState) (row : Cell old.protocol (state_of old core block) (asked asking) action.Hit next)
-      → (before : List ℕ) → line.kept ≡ Some before → Performed word asking before → Played old (Ask core block word asking)
-  hit next row before kept done =
-      let held : Line = record { state = next; kept = Some done.after; waiting = line.waiting } in
-      let entry : Option Item = Some (item.Did (next_did old.log core block word asking done.value true)) in
-      record {
-        outcome = Ok (hit_reply asking done.value);
-        new = leads old core block action.Hit held entry;
-        goes = goes_on (hit_reply asking done.value) (leads old core block action.Hit held entry) entry (inr (record {
-          row = record { action = action.Hit; next = next };
-          is_row = row;
-          held = held;
-          after = refl;
-          taken = (done.value, (record { before = before; after = done.after; kept = kept; performed = done.performs; held = refl }, refl, refl));
-        }));
-      }
-
   abbrev pub by_row : (act : CacheAction) (next : CacheState) (row : Cell old.protocol (state_of old core block) (asked asking) act next) → Option (Played old (Ask core block word asking))
   by_row action.Hit next row =
-      if_some line.kept λ before kept.
+      if_some (held_by (picture_of old block) core).kept λ before kept.
       if_some (performed word asking before) λ done is.
-      Some (hit next row before kept done)
-  by_row (action.Issue request) next row =
-      let held : Line = record { state = next; kept = kept_on next line.kept; waiting = kept_waiting word asking } in
-      Some (record {
-        outcome = Ok (reply.Issued request);
-        new = leads old core block (action.Issue request) held None;
-        goes = goes_on (reply.Issued request) (leads old core block (action.Issue request) held None) None
-            (inr (record { row = record { action = action.Issue request; next = next }; is_row = row; held = held; taken = (refl, refl, refl); after = refl }));
-      })
-  by_row action.Drop next row =
-      let held : Line = moves_to next line in
-      Some (record {
-        outcome = Ok reply.Gone;
-        new = leads old core block action.Drop held None;
-        goes = goes_on reply.Gone (leads old core block action.Drop held None) None
-            (inr (record { row = record { action = action.Drop; next = next }; is_row = row; held = held; taken = (refl, refl, refl); after = refl }));
-      })
-  by_row action.Stall next row = Some (record { outcome = Err (Stalled (state_of old core block)); new = old; goes = ((within, refl, (next, row), has_word), refl) })
+      Some (hits old core block word asking within has_word next row before kept done)
+  by_row (action.Issue request) next row = Some (issues old core block word asking within has_word next request row)
+  by_row action.Drop next row = Some (drops old core block word asking within has_word next row)
+  by_row action.Stall next row = Some (stalls old core block word asking within has_word next row)
   by_row _ next row = None
 
   abbrev pub asks : Option (Played old (Ask core block word asking))
   asks = elim (evicts_nothing asking (state_of old core block)) [
-    | Some is ↦ Some (absent is)
-    | None ↦ if_some (row_at old.protocol (state_of old core block) (asked asking)) λ found is. by_row found.act found.next found.row
+    | Some is ↦ Some (absent old core block word asking within has_word is)
+    | None ↦ if_some (cell_of old.protocol (state_of old core block) (asked asking)) λ row is. by_row row.action row.next is
   ]

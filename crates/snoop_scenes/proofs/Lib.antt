@@ -1,6 +1,4 @@
 pub mod Deciding
-pub mod Rows
-pub mod Played
 pub mod Refusing
 pub mod Asking
 pub mod Ordering

@@ -1,233 +1,91 @@
--- An Order played, where there are two cores.
-use Rattle.std.proofs.Common.{◌≡◌, ℕ, zero, suc, ◌<◌, List, [], ◌∷◌, ◌++◌, Option, Some, None, Ok, Err, refl, ap, sym, ◌∙◌, subst, arith}
-use Rattle.std.specs.Prelude.{slice_get, is_some}
+-- An Order played.
+use Rattle.std.proofs.Common.{◌≡◌, ◌==◌, ℕ, zero, suc, ◌<◌, ◌≤◌, length, Option, Some, None, true, refl, ap, sym, ◌∙◌, arith}
+use Rattle.std.proofs.lemmas.Bool.Decides.{nat_tests}
+use Rattle.std.specs.Prelude.{is_some}
 use Rattle.std.proofs.Math.Dec.{ltb}
 use Rattle.std.proofs.lemmas.Bool.{ltb-true}
 use Rattle.snoop_trace.specs.declared.step.Step.TheVariants.{Order}
 use Rattle.snoop_trace.specs.declared.protocol.Protocol.{Protocol}
-use Rattle.snoop_rules.specs.declared.names.CacheAction.{CacheAction}
-use Rattle.snoop_rules.specs.declared.names.CacheAction.TheVariants as action
-use Rattle.snoop_rules.specs.declared.names.MemState.{MemState}
-use Rattle.snoop_rules.specs.declared.names.MemAction.{MemAction}
-use Rattle.snoop_rules.specs.declared.names.MemAction.TheVariants as mem_action
+use Rattle.snoop_rules.specs.declared.names.CacheCell.{CacheCell}
 use Rattle.snoop_rules.specs.declared.names.Request.{Request}
 use Rattle.snoop_rules.specs.declared.names.Payload.{Payload}
-use Rattle.snoop_rules.specs.declared.names.Target.{Target}
-use Rattle.snoop_rules.specs.Cell.{Cell}
-use Rattle.snoop_rules.specs.MemoryCell.{MemoryCell}
+use Rattle.snoop_rules.specs.Cell.{cell_of}
+use Rattle.snoop_rules.specs.MemoryCell.{memory_cell_of}
 use Rattle.snoop_rules.specs.Takers.{seen_by, at_memory}
-use Rattle.snoop_rules.specs.Waits.{waiting_request}
-use Rattle.snoop_history.specs.declared.items.Item.{Item}
-use Rattle.snoop_history.specs.declared.items.Item.TheVariants as item
 use Rattle.snoop_bus.specs.Traffic.{Open}
-use Rattle.snoop_bus.specs.Queues.{queue_of, after_order}
-use Rattle.snoop_model.specs.Pictures.Lines.{Line}
-use Rattle.snoop_model.specs.declared.replies.Reply.TheVariants as reply
-use Rattle.snoop_model.specs.declared.replies.Refused.TheVariants.{BusTaken}
-use Rattle.snoop_model.specs.Pictures.Picture.{Picture, held_at, held_by}
-use Rattle.snoop_model.specs.Pictures.Situation.{Situation, picture_of, with_picture, state_of}
-use Rattle.snoop_model.specs.Pictures.Sends.{Sends, IsOnlySender, value_sent}
-use Rattle.snoop_model.proofs.Tables.SentBy.{sending, sending_memory, sent_by, sent_by_memory}
-use Rattle.snoop_model.specs.Moves.Move.{moves_to, TakesRow, TakesRows}
-use Rattle.snoop_model.specs.Runs.Run.{GoesFirst}
-use Rattle.snoop_scenes.proofs.Deciding.{if_true, if_some}
-use Rattle.snoop_scenes.proofs.Rows.{RowAt, row_at, MemoryRowAt, memory_row_at}
-use Rattle.snoop_scenes.proofs.Played.{Played}
+use Rattle.snoop_model.specs.Pictures.Picture.{Picture, held_by}
+use Rattle.snoop_model.specs.Pictures.Situation.{Situation, picture_of, StandsFirst, Waits}
+use Rattle.snoop_model.specs.Pictures.Sends.{Sends}
+use Rattle.snoop_model.proofs.Lines.TheSender.{IsBelow}
+use Rattle.snoop_model.proofs.Tables.SentBy.{sent_by, sent_by_memory, sends_row, memory_sends_row}
+use Rattle.snoop_model.proofs.Steps.Played.{Played}
+use Rattle.snoop_model.proofs.Steps.Refusals.{orders_on_taken_bus}
+use Rattle.snoop_model.proofs.Steps.Orders.{OneMessage, Ordered, by_rows, opens}
+use Rattle.snoop_scenes.proofs.Deciding.{by_test, by_found, if_true, if_some, all_found}
 
--- whether a cache sends by this action, and what
-pub data Speaks (act : CacheAction) : Type 0 where
-  says : (payload : Payload) (target : Target) → act ≡ action.Send payload target → Speaks act
-  quiet : ((payload : Payload) (target : Target) → act ≡ action.Send payload target → ⊥) → Speaks act
+-- the controllers are one
+pub same_number : (j k : ℕ) → (j == k) ≡ true → j ≡ k
+same_number j k e = grind (arith, nat_tests)
 
-abbrev pub speaks : (act : CacheAction) → Speaks act
-speaks (action.Send payload target) = says payload target refl
-speaks action.None = quiet (λ payload target e. cc)
-speaks action.Hit = quiet (λ payload target e. cc)
-speaks action.Stall = quiet (λ payload target e. cc)
-speaks (action.Issue request) = quiet (λ payload target e. cc)
-speaks action.Drop = quiet (λ payload target e. cc)
-speaks action.FillLoad = quiet (λ payload target e. cc)
-speaks action.FillStore = quiet (λ payload target e. cc)
+abbrev pub same : (one other : Option ℕ) → Option (one ≡ other)
+same None None = Some refl
+same (Some j) (Some k) = by_test (j == k) (λ e. Some (ap Some (same_number j k e))) (λ apart. None)
+same _ _ = None
 
--- the same of memory
-pub data MemorySpeaks (act : MemAction) : Type 0 where
-  says : (payload : Payload) → act ≡ mem_action.Send payload → MemorySpeaks act
-  quiet : ((payload : Payload) → act ≡ mem_action.Send payload → ⊥) → MemorySpeaks act
+-- An Order seen by all caches and memory, each with its row.
+module _ (protocol : Protocol) (before : Picture) (core : ℕ) (request : Request) where
+  -- what the controller's row sends
+  abbrev pub sent_from : Option ℕ → Option Payload
+  sent_from None = sent_by_memory (memory_cell_of protocol before.memory.state (at_memory request))
+  sent_from (Some k) = sent_by (cell_of protocol (held_by before k).state (seen_by k core request))
 
-abbrev pub memory_speaks : (act : MemAction) → MemorySpeaks act
-memory_speaks (mem_action.Send payload) = says payload refl
-memory_speaks mem_action.None = quiet (λ payload e. cc)
-memory_speaks mem_action.Write = quiet (λ payload e. cc)
+  pub it_sends : (from : Option ℕ) (payload : Payload) → sent_from from ≡ Some payload → IsBelow (length before.caches) from → Sends protocol before core request from payload
+  it_sends None payload is there = memory_sends_row (memory_cell_of protocol before.memory.state (at_memory request)) payload is
+  it_sends (Some k) payload is there = (there, sends_row (cell_of protocol (held_by before k).state (seen_by k core request)) payload is)
 
--- the only message at an Order
-pub record Sender (protocol : Protocol) (before : Picture) (core : ℕ) (request : Request) : Type 0 where
-  pub from : Option ℕ
-  pub payload : Payload
-  pub sent : IsOnlySender protocol before core request from payload
+  -- the other sends nothing, unless it is this one
+  abbrev pub Leaves : Option ℕ → Option ℕ → Type 0
+  Leaves from other = (payload : Payload) → sent_from other ≡ Some payload → other ≡ from
 
--- what an Order does to a block's picture: each controller takes its row
-pub record Ordered (protocol : Protocol) (before : Picture) (core : ℕ) (request : Request) : Type 0 where
-  pub caches : List Line
-  pub taken : TakesRows protocol core request before.caches caches
-  pub act : MemAction
-  pub memory : MemState
-  pub row : MemoryCell protocol before.memory.state (at_memory request) act memory
-  pub sender : Sender protocol before core request
+  pub silent : (from other : Option ℕ) → sent_from other ≡ None → Leaves from other
+  silent from other none payload is = let clash : ◌≡◌ {A = Option Payload} None (Some payload) = sym none ∙ is in cc
 
--- An Order seen by two caches and memory, each with its row.
-module _ (protocol : Protocol) (core : ℕ) (request : Request) (memory : MemState) (value : List ℕ) (transaction : Option Open) (a b : Line)
-    (first : RowAt protocol a.state (seen_by 0 core request)) (second : RowAt protocol b.state (seen_by 1 core request)) (third : MemoryRowAt protocol memory (at_memory request)) where
-  abbrev pub before : Picture
-  before = record { caches = a ∷ b ∷ []; memory = record { state = memory; value = value }; transaction = transaction }
+  abbrev pub leaves : (from other : Option ℕ) → Option (Leaves from other)
+  leaves from other = by_found (sent_from other) (λ payload is. if_some (same other from) λ e one. Some (λ p sent. e)) (λ none. Some (silent from other none))
 
-  abbrev pub Sent : Option ℕ → Payload → Type 0
-  Sent from payload = Sends protocol before core request from payload
+  pub alone_by : (from : Option ℕ) → Leaves from None → ((k : ℕ) → k < length before.caches → Leaves from (Some k)) → (other : Option ℕ) (payload : Payload) → Sends protocol before core request other payload → other ≡ from
+  alone_by from memory cores None payload sends = memory payload (ap sent_by_memory sends.1)
+  alone_by from memory cores (Some k) payload sends = cores k sends.0 payload (ap sent_by sends.1.1.1)
 
-  -- a controller sends where its row does
-  pub memory_says : (m : Payload) → Sent None m → third.act ≡ mem_action.Send m
-  memory_says m sent = sending_memory third.act m (sym (ap sent_by_memory third.row) ∙ ap sent_by_memory sent.1)
+  abbrev pub only_from : (from : Option ℕ) (payload : Payload) → sent_from from ≡ Some payload → IsBelow (length before.caches) from → Option (OneMessage protocol before core request)
+  only_from from payload is there =
+      if_some (leaves from None) λ memory is_memory.
+      if_some (all_found (λ k. Leaves from (Some k)) (length before.caches) (λ k. leaves from (Some k))) λ cores are_cores.
+      Some (record { from = from; payload = payload; sent = record { sends = it_sends from payload is there; alone = alone_by from memory cores } })
 
-  pub first_says : (m : Payload) → Sent (Some 0) m → (target : Target) × (first.act ≡ action.Send m target)
-  first_says m sent = sending first.act m (sym (ap sent_by first.row) ∙ ap sent_by sent.1.1.1)
+  -- the one message: memory's, or that of a core below n
+  abbrev pub message_below : (n : ℕ) → n ≤ length before.caches → Option (OneMessage protocol before core request)
+  message_below zero some = by_found (sent_from None) (λ payload is. only_from None payload is tt) (λ none. None)
+  message_below (suc n) some = by_found (sent_from (Some n)) (λ payload is. only_from (Some n) payload is (omega (arith, some))) (λ none. message_below n (omega (arith, some)))
 
-  pub second_says : (m : Payload) → Sent (Some 1) m → (target : Target) × (second.act ≡ action.Send m target)
-  second_says m sent = sending second.act m (sym (ap sent_by second.row) ∙ ap sent_by sent.1.1.1)
+  abbrev pub HasRowFor : ℕ → Type 0
+  HasRowFor k = (row : CacheCell) × (cell_of protocol (held_by before k).state (seen_by k core request) ≡ Some row)
 
-  -- what follows from memory's message, and from each core's, follows from any
-  pub by_sender : (from : Option ℕ) → ((m : Payload) → Sent None m → None ≡ from) → ((m : Payload) → Sent (Some 0) m → Some 0 ≡ from)
-      → ((m : Payload) → Sent (Some 1) m → Some 1 ≡ from) → (other : Option ℕ) (m : Payload) → Sent other m → other ≡ from
-  by_sender from memory's core_0's core_1's None m sent = memory's m sent
-  by_sender from memory's core_0's core_1's (Some zero) m sent = core_0's m sent
-  by_sender from memory's core_0's core_1's (Some (suc zero)) m sent = core_1's m sent
-  by_sender from memory's core_0's core_1's (Some (suc (suc k))) m sent = let no : ⊥ = omega (arith, sent.0) in absurd no
+  abbrev pub row_for : (k : ℕ) → Option (HasRowFor k)
+  row_for k = if_some (cell_of protocol (held_by before k).state (seen_by k core request)) λ row is. Some (row, is)
 
-  abbrev pub from_memory : (payload : Payload) → third.act ≡ mem_action.Send payload → ((p : Payload) (t : Target) → first.act ≡ action.Send p t → ⊥)
-      → ((p : Payload) (t : Target) → second.act ≡ action.Send p t → ⊥) → Sender protocol before core request
-  from_memory payload is f s = record {
-    from = None;
-    payload = payload;
-    sent = record {
-      sends = (let P : MemAction → Type 0 = λ act. MemoryCell protocol memory (at_memory request) act third.next in (third.next, subst P is third.row));
-      alone = by_sender None (λ m sent. refl) (λ m sent. absurd (let does = first_says m sent in f m does.0 does.1)) (λ m sent. absurd (let does = second_says m sent in s m does.0 does.1));
-    };
-  }
-
-  abbrev pub from_first : (payload : Payload) (target : Target) → first.act ≡ action.Send payload target → ((p : Payload) → third.act ≡ mem_action.Send p → ⊥)
-      → ((p : Payload) (t : Target) → second.act ≡ action.Send p t → ⊥) → Sender protocol before core request
-  from_first payload target is q s = record {
-    from = Some 0;
-    payload = payload;
-    sent = record {
-      sends = (
-          let P : CacheAction → Type 0 = λ act. Cell protocol a.state (seen_by 0 core request) act first.next in
-          let there : 0 < 2 = omega arith in
-          (there, (target, (first.next, subst P is first.row))));
-      alone = by_sender (Some 0) (λ m sent. absurd (q m (memory_says m sent))) (λ m sent. refl) (λ m sent. absurd (let does = second_says m sent in s m does.0 does.1));
-    };
-  }
-
-  abbrev pub from_second : (payload : Payload) (target : Target) → second.act ≡ action.Send payload target → ((p : Payload) → third.act ≡ mem_action.Send p → ⊥)
-      → ((p : Payload) (t : Target) → first.act ≡ action.Send p t → ⊥) → Sender protocol before core request
-  from_second payload target is q f = record {
-    from = Some 1;
-    payload = payload;
-    sent = record {
-      sends = (
-          let P : CacheAction → Type 0 = λ act. Cell protocol b.state (seen_by 1 core request) act second.next in
-          let there : 1 < 2 = omega arith in
-          (there, (target, (second.next, subst P is second.row))));
-      alone = by_sender (Some 1) (λ m sent. absurd (q m (memory_says m sent))) (λ m sent. absurd (let does = first_says m sent in f m does.0 does.1)) (λ m sent. refl);
-    };
-  }
-
-  abbrev pub sender : MemorySpeaks third.act → Speaks first.act → Speaks second.act → Option (Sender protocol before core request)
-  sender (says payload is) (quiet f) (quiet s) = Some (from_memory payload is f s)
-  sender (quiet q) (says payload target is) (quiet s) = Some (from_first payload target is q s)
-  sender (quiet q) (quiet f) (says payload target is) = Some (from_second payload target is q f)
-  sender _ _ _ = None
-
-  abbrev pub caches_after : List Line
-  caches_after = moves_to first.next a ∷ moves_to second.next b ∷ []
-
-  -- each core takes its row
-  pub rows_after : (k : ℕ) → k < 2 → TakesRow protocol (seen_by k core request) (held_by before k) (held_at caches_after k)
-  rows_after zero below = (record { action = first.act; next = first.next }, first.row, refl)
-  rows_after (suc zero) below = (record { action = second.act; next = second.next }, second.row, refl)
-  rows_after (suc (suc k)) below = let no : ⊥ = omega (arith, below) in absurd no
-
-  abbrev pub after : Sender protocol before core request → Ordered protocol before core request
-  after found = record {
-    caches = caches_after;
-    taken = record { same_length = refl; rows = rows_after };
-    act = third.act;
-    memory = third.next;
-    row = third.row;
-    sender = found;
-  }
-
--- each controller's row, and the message, found
-abbrev pub ordered : (protocol : Protocol) (core : ℕ) (request : Request) (memory : MemState) (value : List ℕ) (transaction : Option Open) (lines : List Line)
-    → Option (Ordered protocol (record { caches = lines; memory = record { state = memory; value = value }; transaction = transaction }) core request)
-ordered protocol core request memory value transaction (a ∷ b ∷ []) =
-    if_some (row_at protocol a.state (seen_by 0 core request)) λ first is.
-    if_some (row_at protocol b.state (seen_by 1 core request)) λ second is.
-    if_some (memory_row_at protocol memory (at_memory request)) λ third is.
-    if_some (sender protocol core request memory value transaction a b first second third (memory_speaks third.act) (speaks first.act) (speaks second.act)) λ found is.
-    Some (after protocol core request memory value transaction a b first second third found)
-ordered protocol core request memory value transaction _ = None
+  abbrev pub ordered : Option (Ordered protocol before core request)
+  ordered =
+      if_some (all_found HasRowFor (length before.caches) row_for) λ rows are_rows.
+      if_some (memory_cell_of protocol before.memory.state (at_memory request)) λ row is_row.
+      if_some (message_below (length before.caches) (omega arith)) λ found is_found.
+      Some (by_rows protocol before core request rows row is_row found)
 
 -- An Order of a core whose queue has this block first.
-module _ (old : Situation) (core block : ℕ) (there : core < old.shape.cores) (first : slice_get (queue_of old.queues core) 0 ≡ Some block) (request : Request)
-    (waits : waiting_request (state_of old core block) ≡ Some request) where
-  abbrev pub opening : Option ℕ → Payload → Open
-  opening from payload = record { core = core; request = request; block = block; payload = payload; value = value_sent (picture_of old block) from payload; from = from }
-
-  abbrev pub entry : Item
-  entry = item.Sent (record { core = core; request = request; block = block })
-
-  abbrev pub goes_to : Picture → Situation
-  goes_to next = record (with_picture old block next) { queues = after_order old.queues core block; log = old.log ++ entry ∷ [] }
-
-  -- A free bus.
-  module _ (free : (picture_of old block).transaction ≡ None) (within : block < old.shape.blocks) (taken : Ordered old.protocol (picture_of old block) core request) where
-    abbrev pub next : Picture
-    next = record { caches = taken.caches; memory = record { state = taken.memory; value = (picture_of old block).memory.value }; transaction = Some (opening taken.sender.from taken.sender.payload) }
-
-    pub goes_open : GoesFirst old (Order core) (Ok (reply.Ordered request)) (goes_to next)
-    goes_open = (
-      Some entry,
-      (
-        block,
-        (
-          first,
-          record {
-            request = request;
-            within = (there, within);
-            answered = refl;
-            logged = refl;
-            orders = record {
-              ready = (waits, free);
-              from = taken.sender.from;
-              payload = taken.sender.payload;
-              sent = taken.sender.sent;
-              next = next;
-              taken = taken.taken;
-              memory = (record { action = taken.act; next = taken.memory }, taken.row, refl);
-              value = refl;
-              opened = refl;
-              after = refl;
-            };
-          },
-        ),
-      ),
-    )
-
-    abbrev pub opens : Played old (Order core)
-    opens = record { outcome = Ok (reply.Ordered request); new = goes_to next; goes = goes_open }
-
-  abbrev pub on_bus : (transaction : Option Open) → (picture_of old block).transaction ≡ transaction → Option (Played old (Order core))
-  on_bus (Some busy) is = Some (record { outcome = Err (BusTaken block); new = old; goes = ((there, first, ap (λ (t : Option Open). is_some t) is), refl) })
-  on_bus None free =
-      if_true (ltb block old.shape.blocks) λ within.
-      if_some (ordered old.protocol core request (picture_of old block).memory.state (picture_of old block).memory.value (picture_of old block).transaction (picture_of old block).caches) λ taken is.
-      Some (opens free (ltb-true block old.shape.blocks within) taken)
+abbrev pub on_bus : (old : Situation) (core block : ℕ) → core < old.shape.cores → StandsFirst old core block → (request : Request) → Waits old core block request
+    → (transaction : Option Open) → (picture_of old block).transaction ≡ transaction → Option (Played old (Order core))
+on_bus old core block there first request waits (Some busy) is = Some (orders_on_taken_bus old core there block first (ap (λ (t : Option Open). is_some t) is))
+on_bus old core block there first request waits None free =
+    if_true (ltb block old.shape.blocks) λ within.
+    if_some (ordered old.protocol (picture_of old block) core request) λ taken is.
+    Some (opens old core block request taken (there, ltb-true block old.shape.blocks within) first (waits, free))

@@ -4,8 +4,8 @@ use Rattle.snoop_trace.specs.Extent.{Extent}
 use Rattle.snoop_trace.specs.declared.step.Step.{Step}
 use Rattle.snoop_trace.specs.declared.protocol.Protocol.{Protocol}
 use Rattle.snoop_model.specs.Pictures.Situation.{Situation, reset}
-use Rattle.snoop_model.specs.Runs.Run.{FirstRunFrom, TheRun}
-use Rattle.snoop_scenes.specs.Scene.{Frame, steps_of, outcomes_of, controllers, PassesFrom, PassesThrough}
+use Rattle.snoop_model.specs.Runs.Run.{FirstRunFrom}
+use Rattle.snoop_scenes.specs.Scene.{Frame, steps_of, outcomes_of, controllers, PassesFrom, IsPlayed}
 use Rattle.snoop_scenes.proofs.Deciding.{if_some, IsFound, the}
 use Rattle.snoop_scenes.proofs.Playing.{played}
 
@@ -28,16 +28,11 @@ play old (step ∷ steps) =
       passes = (now.new, (now.goes, refl, rest.passes));
     })
 
--- what a scene says of its frames
-pub record Told (protocol : Protocol) (shape : Extent) (frames : List Frame) (end : Situation) : Type 0 where
-  pub run : TheRun protocol shape (steps_of frames) (outcomes_of frames) end
-  pub states : PassesThrough protocol shape frames end
-
 -- the frames that the steps of these frames play, and where they lead
 pub told : (protocol : Protocol) (shape : Extent) (frames : List Frame) (end : Situation) (found : IsFound (play (reset protocol shape) (steps_of frames)))
     → (the (play (reset protocol shape) (steps_of frames)) found).frames ≡ frames
     → (the (play (reset protocol shape) (steps_of frames)) found).new ≡ end
-    → Told protocol shape frames end
+    → IsPlayed protocol shape frames end
 told protocol shape frames end found same leads =
     let steps : List Step = steps_of frames in
     let played = the (play (reset protocol shape) (steps_of frames)) found in

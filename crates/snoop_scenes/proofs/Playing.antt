@@ -10,11 +10,13 @@ use Rattle.snoop_rules.specs.Waits.{waiting_request}
 use Rattle.snoop_bus.specs.Queues.{queue_of}
 use Rattle.snoop_model.specs.Pictures.Situation.{Situation, picture_of, state_of}
 use Rattle.snoop_scenes.proofs.Deciding.{by_test, by_found, if_some}
-use Rattle.snoop_scenes.proofs.Played.{Played}
-use Rattle.snoop_scenes.proofs.Refusing.{by_word, asks_no_core, asks_no_block, asks_no_word, waits_on_none, orders_no_core, orders_nothing, responds_no_block, responds_nothing}
+use Rattle.snoop_model.proofs.Steps.Played.{Played}
+use Rattle.snoop_model.proofs.Steps.Refusals.{asks_no_core, asks_no_block, asks_no_word, orders_no_core, orders_nothing, responds_no_block, responds_nothing}
+use Rattle.snoop_model.proofs.Steps.Responds.{closes}
+use Rattle.snoop_scenes.proofs.Refusing.{by_word, waits_on_none}
 use Rattle.snoop_scenes.proofs.Asking.{asks}
 use Rattle.snoop_scenes.proofs.Ordering.{on_bus}
-use Rattle.snoop_scenes.proofs.Responding.{arrived, remembered, closes}
+use Rattle.snoop_scenes.proofs.Responding.{arrived, remembered}
 
 abbrev pub played : (old : Situation) (step : Step) → Option (Played old step)
 played old (Ask core block word asking) =

@@ -1,20 +1,16 @@
--- Refused steps, played: the refusals that ask no table.
-use Rattle.std.proofs.Common.{◌≡◌, ℕ, zero, suc, ◌<◌, ◌≤◌, arith, inl, inr, List, [], ◌∷◌, Option, Some, None, Err, refl, sym, ◌∙◌}
+-- Whether blocks have a word, and whether a core waits on no block.
+use Rattle.std.proofs.Common.{◌≡◌, ℕ, zero, suc, ◌<◌, ◌≤◌, arith, List, [], ◌∷◌, Option, Some, None, sym, ◌∙◌}
 use Rattle.std.specs.Prelude.{slice_index_or}
 use Rattle.std.proofs.Math.Dec.{ltb}
 use Rattle.std.proofs.lemmas.Bool.{ltb-true, ltb-false}
 use Rattle.snoop_trace.specs.Words.{HasWord, IsWord, word_places}
 use Rattle.snoop_trace.specs.declared.step.Op.{Op}
 use Rattle.snoop_trace.specs.declared.step.Op.TheVariants as op
-use Rattle.snoop_trace.specs.declared.step.Step.TheVariants.{Ask, Order, Respond}
 use Rattle.snoop_rules.specs.declared.names.Request.{Request}
 use Rattle.snoop_rules.specs.Waits.{waiting_request}
-use Rattle.snoop_model.specs.declared.replies.Refused.TheVariants.{NoCore, NoBlock, NothingWaiting, NoTransaction}
 use Rattle.snoop_model.specs.Pictures.Picture.{Picture, held_by}
-use Rattle.snoop_model.specs.Pictures.Situation.{Situation, picture_of, nothing_there}
-use Rattle.snoop_model.specs.Moves.Refuses.{WaitsOnNone}
+use Rattle.snoop_model.specs.Pictures.Situation.{Situation, nothing_there}
 use Rattle.snoop_scenes.proofs.Deciding.{by_found, by_test}
-use Rattle.snoop_scenes.proofs.Played.{Played}
 
 pub not_below : (word count : ℕ) → count ≤ word → word < count → ⊥
 not_below word count past below = omega (arith, past, below)
@@ -34,17 +30,6 @@ by_word old word op.Evict has none = has tt
 by_word old word op.Load has none = in_words old word has none
 by_word old word (op.Store stored) has none = in_words old word has none
 
--- An Ask outside the shape.
-module _ (old : Situation) (core block word : ℕ) (asking : Op) where
-  abbrev pub asks_no_core : old.shape.cores ≤ core → Played old (Ask core block word asking)
-  asks_no_core outside = record { outcome = Err NoCore; new = old; goes = (outside, refl) }
-
-  abbrev pub asks_no_block : old.shape.blocks ≤ block → core < old.shape.cores → Played old (Ask core block word asking)
-  asks_no_block outside there = record { outcome = Err NoBlock; new = old; goes = ((there, inl outside), refl) }
-
-  abbrev pub asks_no_word : ¬ HasWord old.shape word asking → core < old.shape.cores → Played old (Ask core block word asking)
-  asks_no_word none there = record { outcome = Err NoBlock; new = old; goes = ((there, inr none), refl) }
-
 pub none_of : (picture : Picture) (pictures : List Picture) (core : ℕ) → waiting_request (held_by picture core).state ≡ None
     → ((block : ℕ) (request : Request) → waiting_request (held_by (slice_index_or pictures block nothing_there) core).state ≡ Some request → ⊥)
     → (block : ℕ) (request : Request) → waiting_request (held_by (slice_index_or (picture ∷ pictures) block nothing_there) core).state ≡ Some request → ⊥
@@ -57,19 +42,3 @@ waits_on_none [] core = Some (λ block request waits. cc)
 waits_on_none (picture ∷ pictures) core =
     by_found (waiting_request (held_by picture core).state) (λ request waits. None) λ first.
     by_found (waits_on_none pictures core) (λ rest is. Some (none_of picture pictures core first rest)) (λ none. None)
-
--- An Order of a core that is not there, or that waits for nothing.
-module _ (old : Situation) (core : ℕ) where
-  abbrev pub orders_no_core : old.shape.cores ≤ core → Played old (Order core)
-  orders_no_core outside = record { outcome = Err NoCore; new = old; goes = (outside, refl) }
-
-  abbrev pub orders_nothing : core < old.shape.cores → WaitsOnNone old core → Played old (Order core)
-  orders_nothing there none = record { outcome = Err NothingWaiting; new = old; goes = ((there, none), refl) }
-
--- A Respond of a block that is not there, or that has no transaction.
-module _ (old : Situation) (block : ℕ) where
-  abbrev pub responds_no_block : old.shape.blocks ≤ block → Played old (Respond block)
-  responds_no_block outside = record { outcome = Err NoBlock; new = old; goes = (outside, refl) }
-
-  abbrev pub responds_nothing : block < old.shape.blocks → (picture_of old block).transaction ≡ None → Played old (Respond block)
-  responds_nothing there free = record { outcome = Err NoTransaction; new = old; goes = ((there, free), refl) }

@@ -25,7 +25,7 @@ use Rattle.snoop_model.specs.declared.replies.Refused.{Refused}
 use Rattle.snoop_model.specs.Pictures.Picture.{Picture, held_by}
 use Rattle.snoop_model.specs.Pictures.Message.{free_picture}
 use Rattle.snoop_model.specs.Pictures.Situation.{Situation, reset}
-use Rattle.snoop_model.specs.Runs.Run.{GoesFirst}
+use Rattle.snoop_model.specs.Runs.Run.{GoesFirst, TheRun}
 
 -- two cores, and one block of 64 bytes that is one word
 abbrev pub two_cores : Extent
@@ -246,3 +246,8 @@ PassesFrom old (frame ∷ frames) new =
 -- from reset, the machine passes through the frames
 abbrev pub PassesThrough : Protocol → Extent → List Frame → Situation → Type 0
 PassesThrough protocol shape frames new = PassesFrom (reset protocol shape) frames new
+
+-- the run of the frames' steps has their replies, leads to this end, and passes through the frames
+pub record IsPlayed (protocol : Protocol) (shape : Extent) (frames : List Frame) (end : Situation) : Type 0 where
+  pub run : TheRun protocol shape (steps_of frames) (outcomes_of frames) end
+  pub states : PassesThrough protocol shape frames end

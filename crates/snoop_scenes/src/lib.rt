@@ -1,9 +1,9 @@
 //! Worked scenes of the MSI and MESI protocols: what the definitions say of short lists of steps, computed.
 //!
-//! Each function is a theorem alone: it does nothing, and its contract is proved. `run`: the run of the scene's steps from reset,
-//! which is the only one (`snoop_model::laws::runs_are_one`), has the outcomes and the end that the scene's file of `specs/`
-//! shows. `states`: the states of the two caches and of memory after each step. `totals` and `values`: the counts of the history at the end, and the blocks that it
-//! mentions with flat memory's values. `performed`: core 0's operations, in the order of performing.
+//! Each function is a theorem alone: it does nothing, and its contract is proved. `scene`: the run of the scene's steps from
+//! reset, which is the only one (`snoop_model::laws::runs_are_one`), has the replies and the end that the scene's file of `specs/`
+//! shows, with the states of the two caches and of memory after each step. `totals` and `values`: the counts of the history at the
+//! end, and the blocks that it mentions with flat memory's values. `performed`: core 0's operations, in the order of performing.
 #![tactic(auto)]
 
 mod scenes;

@@ -9,7 +9,7 @@ use Rattle.snoop_trace.specs.declared.step.Op.TheVariants as op
 use Rattle.snoop_trace.specs.declared.step.Step.{Step}
 use Rattle.snoop_trace.specs.declared.step.Step.TheVariants.{Ask, Order, Respond}
 use Rattle.snoop_trace.specs.declared.protocol.Protocol.{Protocol}
-use Rattle.snoop_trace.specs.declared.protocol.Protocol.TheVariants.{Msi, Mesi}
+use Rattle.snoop_trace.specs.declared.protocol.Protocol.TheVariants.{Mesi}
 use Rattle.snoop_rules.specs.declared.names.CacheState.{CacheState}
 use Rattle.snoop_rules.specs.declared.names.CacheState.TheVariants as state
 use Rattle.snoop_rules.specs.declared.names.CacheEvent.{CacheEvent}
@@ -19,7 +19,6 @@ use Rattle.snoop_rules.specs.declared.names.MemState.{MemState}
 use Rattle.snoop_rules.specs.declared.names.MemEvent.{MemEvent}
 use Rattle.snoop_rules.specs.declared.names.Request.{Request}
 use Rattle.snoop_rules.specs.declared.names.Request.TheVariants as request
-use Rattle.snoop_rules.specs.WhoSends.{SentAs}
 use Rattle.snoop_rules.specs.Possible.{MayLoad, MayStore}
 use Rattle.snoop_rules.specs.Takers.{asked, other as another, seen_by, at_memory, arrival, arrival_at_memory, carries_value}
 use Rattle.snoop_rules.specs.Waits.{waiting_request}
@@ -28,13 +27,11 @@ use Rattle.snoop_history.specs.History.{flat_words}
 use Rattle.snoop_history.specs.Totals.{is_put_m}
 use Rattle.snoop_bus.specs.Traffic.{Open}
 use Rattle.snoop_model.specs.Pictures.Lines.{Line}
-use Rattle.snoop_model.specs.Pictures.Picture.{Picture, held_by, nothing_held}
+use Rattle.snoop_model.specs.Pictures.Picture.{Picture, held_by, nothing_held, data_under_way}
 use Rattle.snoop_model.specs.Pictures.Situation.{Situation, picture_of, state_of, Waits, CanOrder, nothing_there}
 use Rattle.snoop_model.specs.Moves.Move.{IsWithin}
 use Rattle.snoop_model.specs.Moves.LookUps.{HasRow, HasMemRow, ConsultsCache, ConsultsMemory, FindsRows}
-use Rattle.snoop_model.specs.Pictures.OneWriter.{OneWriter, IsWriter}
-use Rattle.snoop_model.specs.Pictures.Current.{IsCurrent}
-use Rattle.snoop_model.specs.Pictures.MemoryCurrent.{IsMemoryCurrent, NamesItsBlock, data_under_way}
+use Rattle.snoop_model.specs.Pictures.OneWriter.{OneWriter}
 use Rattle.snoop_model.specs.Moves.SenderTable.{OrdersFollowSenderTable}
 use Rattle.snoop_model.specs.Invariant.Fits.{in_protocol, is_clean, is_owner, fits}
 use Rattle.snoop_model.specs.Invariant.Block.{BlockInvariant, awaited, owns, talk_of}
@@ -45,7 +42,7 @@ use Rattle.snoop_model.proofs.Tables.RespondTests.{memory_row_for, row_for}
 use Rattle.snoop_model.proofs.OneBlock.OrderStep.{seen_other}
 use Rattle.snoop_model.proofs.OneBlock.Facts.{one_writer, fits_is_owner, clash, or_not}
 use Rattle.snoop_model.proofs.OneBlock.Possible.{Answerable, Possible, order_possible, ask_possible, respond_possible}
-use Rattle.snoop_model.proofs.Tables.SenderLines.{led_line, sender_state}
+use Rattle.snoop_model.proofs.Tables.SenderLines.{led_line}
 use Rattle.snoop_model.proofs.Tables.StateTests.{is_hit, hit_rule, owner_reads, brings_data, resting_rule}
 use Rattle.snoop_model.specs.Pictures.Sound.{keeps}
 
@@ -102,8 +99,8 @@ has_one_writer s g block core other writes apart =
     ]
 
 -- each reader keeps flat memory's value
-pub readers_current : (s : Situation) → Invariant s → (block : ℕ) → IsCurrent s.protocol (picture_of s block) (flat_words s.log block)
-readers_current s g block core reads = elim (place s g core block) [
+pub readers_current : (s : Situation) → Invariant s → (core block : ℕ) → MayLoad s.protocol (state_of s core block) → (held_by (picture_of s block) core).kept ≡ Some (flat_words s.log block)
+readers_current s g core block reads = elim (place s g core block) [
   | inl within ↦ (g.blocks block within.1).kept core within.0 (may_load_reads s.protocol (held_by (picture_of s block) core).state reads)
   | inr nothing ↦ let P : Line → Type 0 = λ x. MayLoad s.protocol x.state in absurd (not_reader s.protocol (subst P nothing reads))
 ]
@@ -115,12 +112,10 @@ owner_stores _ state.M known owns = (state.M, refl)
 owner_stores _ state.MiA known owns = (state.MiA, refl)
 owner_stores Mesi state.E known owns = (state.M, refl)
 owner_stores Mesi state.EiA known owns = (state.MiA, refl)
-owner_stores Msi state.E known owns = cc
-owner_stores Msi state.EiA known owns = cc
 owner_stores _ _ known owns = cc
 
 -- where no core may write the block, none owns it
-nobody_owns : (p : Protocol) (n : ℕ) (value : List ℕ) (picture : Picture) (g : BlockInvariant p n value picture) → ((core : ℕ) → ¬ IsWriter p picture core) → (owner : Option ℕ) → g.owner ≡ owner → g.claims.owned ≡ false
+nobody_owns : (p : Protocol) (n : ℕ) (value : List ℕ) (picture : Picture) (g : BlockInvariant p n value picture) → ((core : ℕ) → ¬ MayStore p (held_by picture core).state) → (owner : Option ℕ) → g.owner ≡ owner → g.claims.owned ≡ false
 unfolding fits
 nobody_owns p n value picture g idle None is = sym g.is_owned ∙ rw is refl
 nobody_owns p n value picture g idle (Some o) is =
@@ -143,17 +138,17 @@ data_is (Some o) value carried = elim (or_not (carries_value o.payload)) as (λ 
   | inr e ↦ rw e tt
 ]
 
--- data under way has flat memory's value, and so has memory where nobody may write and no data is under way
-pub memory_current : (s : Situation) → Invariant s → (block : ℕ) → block < s.shape.blocks → IsMemoryCurrent s.protocol (picture_of s block) (flat_words s.log block)
-memory_current s g block within =
+-- data under way has flat memory's value
+pub data_current : (s : Situation) → Invariant s → (block : ℕ) → block < s.shape.blocks → IfSome (data_under_way (picture_of s block).transaction) (λ words. words ≡ flat_words s.log block)
+data_current s g block within = data_is (picture_of s block).transaction (flat_words s.log block) (g.blocks block within).carried
+
+-- and so has memory, where nobody may write and no data is under way
+pub memory_current : (s : Situation) → Invariant s → (block : ℕ) → block < s.shape.blocks → ((core : ℕ) → ¬ MayStore s.protocol (state_of s core block)) → data_under_way (picture_of s block).transaction ≡ None → (picture_of s block).memory.value ≡ flat_words s.log block
+memory_current s g block within idle none =
     let p = s.protocol in
     let picture : Picture = picture_of s block in
     let it = g.blocks block within in
-    record {
-      carried = data_is picture.transaction (flat_words s.log block) it.carried;
-      held = λ idle none.
-          it.fresh (resting_rule p picture.memory.state (talk_of picture.transaction) it.claims it.is_claims (nobody_owns p s.shape.cores (flat_words s.log block) picture it idle it.owner refl) (no_data picture.transaction none));
-    }
+    it.fresh (resting_rule p picture.memory.state (talk_of picture.transaction) it.claims it.is_claims (nobody_owns p s.shape.cores (flat_words s.log block) picture it idle it.owner refl) (no_data picture.transaction none))
 
 -- an open transaction is of a block within the shape
 opened_within : (s : Situation) → Invariant s → (block : ℕ) (o : Open) → (picture_of s block).transaction ≡ Some o → block < s.shape.blocks
@@ -165,7 +160,7 @@ opened_within s g block o is = elim (cases_lt block s.shape.blocks) [
 ]
 
 -- it is of its block, by a core of the machine
-pub names_its_block : (s : Situation) → Invariant s → (block : ℕ) → NamesItsBlock s block
+pub names_its_block : (s : Situation) → Invariant s → (block : ℕ) → IfSome (picture_of s block).transaction (λ o. (o.block ≡ block) × (o.core < s.shape.cores))
 names_its_block s g block = go (picture_of s block).transaction refl
   where
     go : (found : Option Open) → (picture_of s block).transaction ≡ found → IfSome found (λ o. (o.block ≡ block) × (o.core < s.shape.cores))
@@ -188,38 +183,22 @@ possible_order s g core block q ready =
     let good = subst (λ (n : ℕ). BlockInvariant s.protocol n (flat_words s.log block) (picture_of s block)) (sym long) (g.blocks block within.1) in
     order_possible s.protocol (flat_words s.log block) (picture_of s block) core q good (subst (λ (n : ℕ). core < n) (sym long) within.0) ready.0 ready.1
 
-put_is : (q : Request) → q ≡ request.PutM → is_put_m q ≡ true
-put_is q e = ap is_put_m e
-
 -- an Order of any request that waits on a free block has exactly one sender, and is a line of the table
 pub orders_follow_sender_table : (s : Situation) → Invariant s → OrdersFollowSenderTable s.protocol s
 orders_follow_sender_table s g core block q ready =
-    let p = s.protocol in
-    let before : Picture = picture_of s block in
     let x = possible_order s g core block q ready in
-    let led = led_line p q before.memory.state _ x.payload x.cell_of_memory.next x.order_line in
     record {
       from = x.from;
       payload = x.payload;
       next = x.cell_of_memory.next;
       sent = x.sender;
       ordered = (x.cell_of_memory, x.memory_row, refl);
-      is_line = record {
-        act = led.act;
-        done = led.done;
-        settled = led.settled;
-        line = subst (λ (from : Option CacheState). SentAs p q before.memory.state from x.payload x.cell_of_memory.next led.done) (sender_state before core x.from) led.line;
-        writeback = λ e. x.writeback (put_is q e);
-      };
+      is_line = led_line s.protocol (picture_of s block) core q x.from x.payload x.cell_of_memory.next x.order_line;
     }
 
 pub idle_evict : (s : CacheState) (o : Op) → is_idle_evict s (asked o) ≡ true → (o ≡ op.Evict) × (s ≡ state.I)
 idle_evict state.I op.Evict h = (refl, refl)
-idle_evict state.I op.Load h = cc
-idle_evict state.I (op.Store v) h = cc
-idle_evict _ op.Load h = cc
-idle_evict _ (op.Store v) h = cc
-idle_evict _ op.Evict h = cc
+idle_evict _ _ h = cc
 
 nothing_asked : (p : Protocol) (o : Op) → (¬ ((o ≡ op.Evict) × (state.I ≡ state.I))) → HasRow p state.I (asked o)
 nothing_asked p op.Load busy = (record { action = action.Issue request.GetS; next = state.IsAd }, refl)

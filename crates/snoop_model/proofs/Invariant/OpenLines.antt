@@ -1,25 +1,21 @@
 -- Each open transaction is on a line of the table of senders, after each step of a run.
-use Rattle.std.proofs.Common.{◌≡◌, ℕ, ◌<◌, ◌∷◌, List, [], Option, Some, None, inl, inr, ap, sym, subst, refl, ◌++◌}
+use Rattle.std.proofs.Common.{◌≡◌, ℕ, ◌<◌, ◌∷◌, List, [], Option, inl, inr, ap, sym, subst, refl, ◌++◌}
 use Rattle.std.specs.Prelude.{IfSome, Result, Ok, Err, option_to_list}
 use Rattle.std.proofs.lemmas.Bool.Decides.{eqb_tells}
 use Rattle.snoop_trace.specs.Extent.{Extent}
 use Rattle.snoop_trace.specs.declared.step.Step.{Step}
 use Rattle.snoop_trace.specs.declared.step.Step.TheVariants.{Ask, Order, Respond}
 use Rattle.snoop_trace.specs.declared.protocol.Protocol.{Protocol}
-use Rattle.snoop_rules.specs.declared.names.CacheState.TheVariants.{I}
-use Rattle.snoop_rules.specs.declared.names.MemState.{MemState}
 use Rattle.snoop_rules.specs.declared.names.Request.{Request}
-use Rattle.snoop_rules.specs.declared.names.Payload.{Payload}
 use Rattle.snoop_history.specs.declared.items.Did.{Did}
 use Rattle.snoop_history.specs.declared.items.Item.{Item}
 use Rattle.snoop_bus.specs.Traffic.{Open}
 use Rattle.snoop_model.specs.declared.replies.Reply.{Reply}
 use Rattle.snoop_model.specs.declared.replies.Refused.{Refused}
-use Rattle.snoop_model.specs.Pictures.Picture.{Picture, held_by, with_line}
+use Rattle.snoop_model.specs.Pictures.Picture.{Picture, with_line}
 use Rattle.snoop_model.specs.Pictures.Situation.{Situation, picture_of, reset}
-use Rattle.snoop_model.specs.Pictures.Sends.{value_sent}
 use Rattle.snoop_model.specs.Moves.Move.{Orders, Responds, IsWithin, MoveOn, queues_after}
-use Rattle.snoop_model.specs.Moves.SenderTable.{IsLine, IsOnLine}
+use Rattle.snoop_model.specs.Moves.SenderTable.{IsLine}
 use Rattle.snoop_model.specs.Runs.Run.{Goes, RunFrom}
 use Rattle.snoop_model.specs.Invariant.Invariant.{Invariant}
 use Rattle.snoop_model.specs.Invariant.MachineKeeps.{AreOnLines}
@@ -29,13 +25,7 @@ use Rattle.snoop_model.proofs.Invariant.Runs.{goes_keeps, refusal_same, reset_op
 use Rattle.snoop_model.proofs.Invariant.TableLines.{order_is_line, respond_settles}
 
 abbrev OnLine : Protocol → Picture → Type 0
-OnLine p picture = IfSome picture.transaction (λ o. (done : MemState) × IsOnLine p o picture.memory.state done)
-
--- the line of an Order is that of the transaction which it opens
-ordered_on_line : (p : Protocol) (before : Picture) (core block : ℕ) (value : List ℕ) (q : Request) (from : Option ℕ) (payload : Payload) (next : MemState) → IsLine p before core q from payload next
-    → (done : MemState) × IsOnLine p (record { core = core; request = q; block = block; payload = payload; value = value; from = from }) next done
-ordered_on_line p before core block value q None payload next l = (l.done, record { before = before.memory.state; held = I; line = l.line; writeback = l.writeback })
-ordered_on_line p before core block value q (Some k) payload next l = (l.done, record { before = before.memory.state; held = (held_by before k).state; line = l.line; writeback = l.writeback })
+OnLine p picture = IfSome picture.transaction (λ o. (before : Picture) × IsLine p before o.core o.request o.from o.payload picture.memory.state)
 
 order_on_lines : (old : Situation) (core block : ℕ) (q : Request) (new : Situation) → Invariant old → AreOnLines old → IsWithin old core block → Orders old core block q new → AreOnLines new
 order_on_lines old core block q new g lines within o b =
@@ -44,7 +34,7 @@ order_on_lines old core block q new g lines within o b =
       | inl h ↦
           let there : picture_of new block ≡ o.next = order_here old core block q new g within o in
           subst (λ (x : ℕ). OnLine old.protocol (picture_of new x)) (sym h.1) (subst (OnLine old.protocol) (sym there)
-          (rw o.opened (ordered_on_line old.protocol (picture_of old block) core block (value_sent (picture_of old block) o.from o.payload) q o.from o.payload _ (order_is_line old g core block q new o))))
+          (rw o.opened (picture_of old block, order_is_line old g core block q new o)))
       | inr h ↦ subst (OnLine old.protocol) (sym (order_other_block old core block q new g within o b h.1)) (lines b)
     ])
 
@@ -76,8 +66,7 @@ goes_on_lines old step (Err cause) new g lines r = subst AreOnLines (sym (refusa
 pub run_on_lines : (steps : List Step) (outcomes : List (Result Reply Refused)) (old new : Situation) → Invariant old → AreOnLines old → RunFrom old steps outcomes new → AreOnLines new
 run_on_lines [] [] old new g lines r = subst AreOnLines (sym r) lines
 run_on_lines (step ∷ steps) (outcome ∷ outcomes) old new g lines r = run_on_lines steps outcomes r.0 new (goes_keeps old step outcome r.0 g r.1.0) (goes_on_lines old step outcome r.0 g lines r.1.0) r.1.1
-run_on_lines [] (outcome ∷ outcomes) old new g lines r = absurd r
-run_on_lines (step ∷ steps) [] old new g lines r = absurd r
+run_on_lines _ _ old new g lines r = absurd r
 
 pub reset_on_lines : (p : Protocol) (shape : Extent) → AreOnLines (reset p shape)
 reset_on_lines p shape block = rw (reset_open p shape block) tt

@@ -20,7 +20,7 @@ use Rattle.snoop_model.specs.Pictures.Picture.{Picture, held_by, nothing_held}
 use Rattle.snoop_model.specs.Pictures.Situation.{Situation, picture_of, reset, untouched, nothing_there}
 use Rattle.snoop_model.specs.Pictures.Sound.{keeps, IsProper}
 use Rattle.snoop_model.specs.Moves.Move.{IsWithin}
-use Rattle.snoop_model.specs.Runs.Run.{IsRefusal, Goes, RunFrom}
+use Rattle.snoop_model.specs.Runs.Run.{Goes, RunFrom}
 use Rattle.snoop_model.specs.Invariant.Fits.{claims_of, is_owner, is_sharer, is_clean, wait_fits, in_protocol, same, fits}
 use Rattle.snoop_model.specs.Invariant.Block.{BlockInvariant}
 use Rattle.snoop_model.specs.Invariant.Invariant.{Invariant}
@@ -109,7 +109,7 @@ reset_invariant p shape = record {
   logged = All-nil (λ did. IsWithin (reset p shape) did.core did.block × IsWord shape did.word);
 }
 
-pub refusal_same : (old : Situation) (step : Step) (cause : Refused) (new : Situation) → IsRefusal old step cause new → new ≡ old
+pub refusal_same : (old : Situation) (step : Step) (cause : Refused) (new : Situation) → Goes old step (Err cause) new → new ≡ old
 refusal_same old step NoMemory new r = r
 refusal_same old step cause new r = r.1
 
@@ -120,5 +120,4 @@ goes_keeps old step (Err cause) new g r = subst Invariant (sym (refusal_same old
 pub run_keeps : (steps : List Step) (outcomes : List (Result Reply Refused)) (old new : Situation) → Invariant old → RunFrom old steps outcomes new → Invariant new
 run_keeps [] [] old new g r = subst Invariant (sym r) g
 run_keeps (step ∷ steps) (outcome ∷ outcomes) old new g r = run_keeps steps outcomes r.0 new (goes_keeps old step outcome r.0 g r.1.0) r.1.1
-run_keeps [] (outcome ∷ outcomes) old new g r = absurd r
-run_keeps (step ∷ steps) [] old new g r = absurd r
+run_keeps _ _ old new g r = absurd r

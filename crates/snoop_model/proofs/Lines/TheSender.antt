@@ -90,8 +90,7 @@ module _ (p : Protocol) (before : Picture) (core : ℕ) (request : Request) wher
     IsMessage-memory m (mem_action.Send payload) next row is =
         let same = same_Some _ _ is in
         subst (IsMessage p before core request) same (IsMessage-sent _ (next, row) refl)
-    IsMessage-memory m mem_action.None next row is = cc
-    IsMessage-memory m mem_action.Write next row is = cc
+    IsMessage-memory m _ next row is = cc
 
 -- cores that have nothing to do are passed over
 module _ (p : Protocol) (before : Picture) (core : ℕ) (request : Request) where

@@ -66,8 +66,7 @@ no_evict wanted word = go wanted.op (wanted.word == word)
 
 evict_asked : (wanted : Access) (word : ℕ) (asking : Op) → is_evict (asked asking) ≡ true → one_if (same_access wanted (record { word = word; op = asking })) ≡ 0
 evict_asked wanted word op.Evict h = no_evict wanted word
-evict_asked wanted word op.Load h = cc
-evict_asked wanted word (op.Store v) h = cc
+evict_asked wanted word _ h = cc
 
 nothing_so : (wanted : Access) (waiting : Option Access) → option_map (λ access. request_for access.op) waiting ≡ None → waits_so wanted waiting ≡ 0
 nothing_so wanted None h = refl
@@ -102,8 +101,4 @@ line_once p action.Drop next log core block word asking old new answer entry pro
     let f : did_so wanted (did_in entry) ≡ 0 = ap (λ (x : Option Item). did_so wanted (did_in x)) t.2 in
     let g : one_if (same_access wanted (record { word = word; op = asking })) ≡ 0 = evict_asked wanted word asking (drop_evicts p old.state (asked asking) next row) in
     omega arith
-line_once p action.None next log core block word asking old new answer entry proper row t wanted = absurd t
-line_once p action.Stall next log core block word asking old new answer entry proper row t wanted = absurd t
-line_once p action.FillLoad next log core block word asking old new answer entry proper row t wanted = absurd t
-line_once p action.FillStore next log core block word asking old new answer entry proper row t wanted = absurd t
-line_once p (action.Send sent target) next log core block word asking old new answer entry proper row t wanted = absurd t
+line_once p _ next log core block word asking old new answer entry proper row t wanted = absurd t

@@ -28,8 +28,8 @@ use Rattle.snoop_model.specs.declared.replies.Refused.{Refused}
 use Rattle.snoop_model.specs.Pictures.Picture.{Picture, held_at, held_by, nothing_held}
 use Rattle.snoop_model.specs.Pictures.Situation.{Situation, picture_of, reset}
 use Rattle.snoop_model.specs.Moves.Move.{Takes, FillsRequestor, ArrivesFor, Asks, Orders, Responds, IsWithin, MoveOn, next_did, came_of}
-use Rattle.snoop_model.specs.Runs.Run.{RunFrom, Run}
-use Rattle.snoop_model.specs.Runs.Once.{same_access, did_it, one_if, waits_for, tally, asks, taken, times_asked, OnceMore, Once}
+use Rattle.snoop_model.specs.Runs.Run.{RunFrom}
+use Rattle.snoop_model.specs.Runs.Once.{same_access, did_it, one_if, waits_for, tally, asks, taken, OnceMore, Once}
 use Rattle.snoop_model.specs.Invariant.Invariant.{Invariant}
 use Rattle.snoop_model.proofs.OneBlock.Operation.{did_in}
 use Rattle.snoop_model.proofs.OneBlock.AfterMoves.{ask_line, ask_other_core, ask_other_block, order_here, order_other_block, respond_here, respond_other_block}
@@ -197,7 +197,7 @@ run_once (step ∷ steps) (Ok answer ∷ outcomes) old new g r core block wanted
     let middle = r.0 in
     let x = move_once r.1.0.1.0 old step answer middle r.1.0.0 g r.1.0.1.1 core block wanted in
     let y = run_once steps outcomes middle new (goes_keeps old step (Ok answer) middle g r.1.0) r.1.1 core block wanted in
-    let z : times_asked (step ∷ steps) (Ok answer ∷ outcomes) core block wanted ≡ cond (asks core block wanted step) 1 0 + times_asked steps outcomes core block wanted = sum_by-cons (λ x. cond (asks core block wanted x) 1 0) step (taken steps outcomes) in
+    let z : count_by (asks core block wanted) (taken (step ∷ steps) (Ok answer ∷ outcomes)) ≡ cond (asks core block wanted step) 1 0 + count_by (asks core block wanted) (taken steps outcomes) = sum_by-cons (λ x. cond (asks core block wanted x) 1 0) step (taken steps outcomes) in
     let w = one_if_cond (asks core block wanted step) in
     omega arith
 run_once (step ∷ steps) (Err cause ∷ outcomes) old new g r core block wanted =
@@ -205,8 +205,7 @@ run_once (step ∷ steps) (Err cause ∷ outcomes) old new g r core block wanted
     let x : tally middle core block wanted ≡ tally old core block wanted = ap (λ (s : Situation). tally s core block wanted) (refusal_same old step cause middle r.1.0) in
     let y = run_once steps outcomes middle new (goes_keeps old step (Err cause) middle g r.1.0) r.1.1 core block wanted in
     omega arith
-run_once [] (outcome ∷ outcomes) old new g r core block wanted = absurd r
-run_once (step ∷ steps) [] old new g r core block wanted = absurd r
+run_once _ _ old new g r core block wanted = absurd r
 
 -- nothing was done at reset, and nothing waits
 pub reset_tally : (p : Protocol) (shape : Extent) (core block : ℕ) (wanted : Access) → tally (reset p shape) core block wanted ≡ 0
@@ -216,7 +215,7 @@ reset_tally p shape core block wanted =
     omega arith
 
 -- the loads and stores of a run from reset
-pub run_asked_once : (p : Protocol) (shape : Extent) (steps : List Step) (outcomes : List (Result Reply Refused)) (new : Situation) → Run p shape steps outcomes new → Once steps outcomes new
+pub run_asked_once : (p : Protocol) (shape : Extent) (steps : List Step) (outcomes : List (Result Reply Refused)) (new : Situation) → RunFrom (reset p shape) steps outcomes new → Once steps outcomes new
 run_asked_once p shape steps outcomes new r core block wanted =
     let x = run_once steps outcomes (reset p shape) new (reset_invariant p shape) r core block wanted in
     let y = reset_tally p shape core block wanted in

@@ -75,11 +75,7 @@ module _ (flat : List ℕ) (next : CacheState) (log : List Item) (core block wor
   ask_cases action.Drop o reads carry took =
       inl (record { state = ap (λ (x : Line). x.state) took.0; carried = came_to old new next took.0 carry; same_flat = rw took.2 refl; lawful = rw took.2 tt })
   ask_cases action.Hit op.Evict reads carry took = absurd took.1.0.performed
-  ask_cases action.None o reads carry took = absurd took
-  ask_cases action.Stall o reads carry took = absurd took
-  ask_cases action.FillLoad o reads carry took = absurd took
-  ask_cases action.FillStore o reads carry took = absurd took
-  ask_cases (action.Send sent target) o reads carry took = absurd took
+  ask_cases _ o reads carry took = absurd took
 
   not_stall : (a : CacheAction) (o : Op) → Takes a next log core block word o old new answer entry → is_stall a ≡ false
   not_stall action.Stall o took = absurd took
@@ -96,11 +92,7 @@ module _ (flat : List ℕ) (next : CacheState) (log : List Item) (core block wor
   line_proper p action.Hit o proper row took = subst IsProper (sym took.1.0.held) (IsProper-hit p old (asked o) next took.1.0.after proper row)
   line_proper p (action.Issue r) o proper row took = subst IsProper (sym took.0) (IsProper-issue p old word o r next proper row)
   line_proper p action.Drop o proper row took = subst IsProper (sym took.0) (IsProper-drop p old (asked o) next proper row)
-  line_proper p action.None o proper row took = absurd took
-  line_proper p action.Stall o proper row took = absurd took
-  line_proper p action.FillLoad o proper row took = absurd took
-  line_proper p action.FillStore o proper row took = absurd took
-  line_proper p (action.Send sent target) o proper row took = absurd took
+  line_proper p _ o proper row took = absurd took
 
 pub right_of : (a b : Bool) → (a || b) ≡ true → a ≡ false → b ≡ true
 right_of true b h e = cc

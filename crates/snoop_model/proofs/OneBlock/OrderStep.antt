@@ -123,9 +123,7 @@ seen_other d c q apart = rw (not_eqb d c apart) refl
 
 data_is : (x : Payload) → is_data x ≡ true → x ≡ payload.Data
 data_is payload.Data h = refl
-data_is payload.DataE h = cc
-data_is payload.NoData h = cc
-data_is payload.NoDataE h = cc
+data_is _ h = cc
 
 payload_of_memory : (a b : Option Payload) (put owned : Bool) (pl sent : Payload) → same (is_some a) put ≡ true → same (is_some b) (not put && not owned) ≡ true → or_else a (or_else b (Some payload.Data)) ≡ Some pl → b ≡ Some sent → sent ≡ pl
 unfolding same
@@ -136,8 +134,7 @@ payload_of_memory (Some x) (Some y) true owned pl sent h k e f = cc
 payload_of_memory (Some x) (Some y) false owned pl sent h k e f = cc
 
 payload_of_requestor : (a b : Option Payload) (pl sent : Payload) → or_else a (or_else b (Some payload.Data)) ≡ Some pl → a ≡ Some sent → sent ≡ pl
-payload_of_requestor None b pl sent e f = cc
-payload_of_requestor (Some x) b pl sent e f = cc
+payload_of_requestor _ b pl sent e f = cc
 
 pub sent_payload : (p : Protocol) (flat : List ℕ) (before : Picture) (c : ℕ) (q : Request) (l : Looked p flat before c q) (from : Option ℕ) (sent : Payload) → Sends p before c q from sent → sent ≡ l.pl
 sent_payload p flat before c q l None sent sends =

@@ -15,6 +15,7 @@ use Rattle.snoop_rules.specs.declared.names.CacheCell.{CacheCell}
 use Rattle.snoop_rules.specs.declared.names.MemCell.{MemCell}
 use Rattle.snoop_rules.specs.Cell.{cell_of}
 use Rattle.snoop_rules.specs.MemoryCell.{memory_cell_of}
+use Rattle.snoop_rules.specs.WhoSends.{Memory, Requestor, Other, sender_of}
 use Rattle.snoop_rules.proofs.Every.{all_states-at}
 use Rattle.snoop_history.specs.Totals.{is_put_m}
 use Rattle.snoop_bus.specs.Traffic.{Open}
@@ -24,7 +25,7 @@ use Rattle.snoop_model.proofs.Tables.SentBy.{sent_by, sent_by_memory, sends_row,
 use Rattle.snoop_model.specs.Invariant.Fits.{claims_of, in_protocol, fits}
 use Rattle.snoop_model.specs.Invariant.Block.{BlockInvariant, talk_of, awaited, owns}
 use Rattle.snoop_model.proofs.Tables.Every.{either-at, same_is, some_of, when_at}
-use Rattle.snoop_model.proofs.Tables.SenderTests.{Memory, Core, Requestor, follows_sender_table, sender_as}
+use Rattle.snoop_model.proofs.Tables.SenderTests.{follows_sender_table}
 use Rattle.snoop_model.proofs.OneBlock.Facts.{not_eqb, or_not, some_true, implied, not_true, clash, owner_is, none_of}
 use Rattle.snoop_model.proofs.OneBlock.OrderStep.{Looked, look, end_of, other_of, other_cell, sent_payload, seen_own, seen_other}
 use Rattle.snoop_model.proofs.OneBlock.AskStep.{right_of}
@@ -41,8 +42,7 @@ pub record Possible (p : Protocol) (before : Picture) (c : ℕ) (q : Request) : 
   pub from : Option ℕ
   pub payload : Payload
   pub sender : IsOnlySender p before c q from payload
-  pub writeback : is_put_m q ≡ true → from ≡ Some c
-  pub order_line : follows_sender_table p q before.memory.state (sender_as before c from) payload cell_of_memory.next ≡ true
+  pub order_line : follows_sender_table p q before.memory.state (sender_of c (λ k. (held_by before k).state) from) payload cell_of_memory.next ≡ true
 
 possible_rows : (p : Protocol) (flat : List ℕ) (before : Picture) (c : ℕ) (q : Request) (l : Looked p flat before c q) (d : ℕ) → d < length before.caches → (r : CacheCell) × (cell_of p (held_by before d).state (seen_by d c q) ≡ Some r)
 possible_rows p flat before c q l d d_in = elim (eqb_tells d c) as (λ _. (r : CacheCell) × (cell_of p (held_by before d).state (seen_by d c q) ≡ Some r)) [
@@ -99,7 +99,7 @@ only p flat before c q l roles (Some d) sent sends = elim (eqb_tells d c) as (λ
 pub record Sent (p : Protocol) (flat : List ℕ) (before : Picture) (c : ℕ) (q : Request) (l : Looked p flat before c q) : Type 0 where
   pub payload : Payload
   pub sends : Sends p before c q (meant q c l.good.owner) payload
-  pub order_line : follows_sender_table p q before.memory.state (sender_as before c (meant q c l.good.owner)) l.pl l.mc.next ≡ true
+  pub order_line : follows_sender_table p q before.memory.state (sender_of c (λ k. (held_by before k).state) (meant q c l.good.owner)) l.pl l.mc.next ≡ true
 
 sent_put : (p : Protocol) (flat : List ℕ) (before : Picture) (c : ℕ) (q : Request) (l : Looked p flat before c q) → Roles p flat before c q l → is_put_m q ≡ true → Sent p flat before c q l
 sent_put p flat before c q l roles put =
@@ -110,7 +110,7 @@ sent_put p flat before c q l roles put =
     record {
       payload = x.0;
       sends = subst (λ (w : Option ℕ). Sends p before c q w x.0) (sym who) (l.requestor_in, sends_row _ _ (ap sent_by row ∙ x.1));
-      order_line = subst (λ (w : Option ℕ). follows_sender_table p q before.memory.state (sender_as before c w) l.pl l.mc.next ≡ true) (sym who) (rw (eq-eqb c c refl) line);
+      order_line = subst (λ (w : Option ℕ). follows_sender_table p q before.memory.state (sender_of c (λ k. (held_by before k).state) w) l.pl l.mc.next ≡ true) (sym who) (rw (eq-eqb c c refl) line);
     }
 
 sent_memory : (p : Protocol) (flat : List ℕ) (before : Picture) (c : ℕ) (q : Request) (l : Looked p flat before c q) → Roles p flat before c q l → is_put_m q ≡ false → l.good.claims.owned ≡ false → Sent p flat before c q l
@@ -122,7 +122,7 @@ sent_memory p flat before c q l roles no_put unowned =
     record {
       payload = x.0;
       sends = subst (λ (w : Option ℕ). Sends p before c q w x.0) (sym who) (memory_sends_row _ _ (ap sent_by_memory l.is_mc ∙ x.1));
-      order_line = subst (λ (w : Option ℕ). follows_sender_table p q before.memory.state (sender_as before c w) l.pl l.mc.next ≡ true) (sym who) line;
+      order_line = subst (λ (w : Option ℕ). follows_sender_table p q before.memory.state (sender_of c (λ k. (held_by before k).state) w) l.pl l.mc.next ≡ true) (sym who) line;
     }
 
 sent_owner : (p : Protocol) (flat : List ℕ) (before : Picture) (c : ℕ) (q : Request) (l : Looked p flat before c q) → Roles p flat before c q l → is_put_m q ≡ false → (d : ℕ) → l.good.owner ≡ Some d → Sent p flat before c q l
@@ -134,12 +134,12 @@ sent_owner p flat before c q l roles no_put d is_d =
     let e : is_some (sent_by (Some xc.0)) ≡ true = roles.others d d_in apart xc.0 xc.1 ∙ rw (owning, no_put) refl in
     let x = some_of (sent_by (Some xc.0)) e in
     let row : cell_of p (held_by before d).state (seen_by d c q) ≡ Some xc.0 = ap (λ (v : CacheEvent). cell_of p (held_by before d).state v) (seen_other d c q apart) ∙ xc.1 in
-    let line : follows_sender_table p q before.memory.state (Core (held_by before d).state) l.pl l.mc.next ≡ true = implied (is_some (sent_by (Some xc.0))) _ (other_of p flat before c q l OrderTests.order_line_of_core OrderTests.order_line_of_core_holds d d_in apart xc.0 xc.1) e in
+    let line : follows_sender_table p q before.memory.state (Other (held_by before d).state) l.pl l.mc.next ≡ true = implied (is_some (sent_by (Some xc.0))) _ (other_of p flat before c q l OrderTests.order_line_of_core OrderTests.order_line_of_core_holds d d_in apart xc.0 xc.1) e in
     let who : meant q c l.good.owner ≡ Some d = rw no_put is_d in
     record {
       payload = x.0;
       sends = subst (λ (w : Option ℕ). Sends p before c q w x.0) (sym who) (d_in, sends_row _ _ (ap sent_by row ∙ x.1));
-      order_line = subst (λ (w : Option ℕ). follows_sender_table p q before.memory.state (sender_as before c w) l.pl l.mc.next ≡ true) (sym who) (rw (not_eqb d c apart) line);
+      order_line = subst (λ (w : Option ℕ). follows_sender_table p q before.memory.state (sender_of c (λ k. (held_by before k).state) w) l.pl l.mc.next ≡ true) (sym who) (rw (not_eqb d c apart) line);
     }
 
 some_or_none : (o : Option ℕ) → (o ≡ None) ⊎ ((d : ℕ) × (o ≡ Some d))
@@ -169,8 +169,7 @@ order_possible p flat before c q good c_in waits calm =
       from = meant q c l.good.owner;
       payload = s.payload;
       sender = record { sends = s.sends; alone = only p flat before c q l r };
-      writeback = λ put. rw put refl;
-      order_line = subst (λ (x : Payload). follows_sender_table p q before.memory.state (sender_as before c (meant q c l.good.owner)) x l.mc.next ≡ true) (sym same_payload) s.order_line;
+      order_line = subst (λ (x : Payload). follows_sender_table p q before.memory.state (sender_of c (λ k. (held_by before k).state) (meant q c l.good.owner)) x l.mc.next ≡ true) (sym same_payload) s.order_line;
     }
 
 fits_protocol : (p : Protocol) (shared ow : Bool) (w : Option Request) (s : CacheState) → fits p shared ow w s ≡ true → in_protocol p s ≡ true

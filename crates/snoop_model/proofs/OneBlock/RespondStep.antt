@@ -59,8 +59,7 @@ written_flat (mem_action.Send pl) v old flat h e = e
 
 written_now : (a : MemAction) (v old flat : List ℕ) → writes a ≡ true → v ≡ flat → written a v old ≡ flat
 written_now mem_action.Write v old flat h e = e
-written_now mem_action.None v old flat h e = cc
-written_now (mem_action.Send pl) v old flat h e = cc
+written_now _ v old flat h e = cc
 
 -- what memory had of the flat value it keeps
 value_stays : (b : Bool) (p : Protocol) (m next : MemState) (found : Option MemEvent) (act : MemAction) (carrying : Bool) (v old new flat : List ℕ) → SettlesIf b p found m act next → new ≡ written act v old
@@ -150,8 +149,7 @@ or_false_is false = refl
 
 put_gains : (q : Request) (pl : Payload) → is_put_m q ≡ true → gains q pl ≡ false
 put_gains request.PutM pl h = refl
-put_gains request.GetS pl h = cc
-put_gains request.GetM pl h = cc
+put_gains _ pl h = cc
 
 put_calm : (o : Open) (d : ℕ) → is_put_m o.request ≡ true → is_calm (awaited (Some o) d) ≡ true
 put_calm o d h = elim (or_not (eqb d o.core)) as (λ _. is_calm (cond (eqb d o.core) (Some o.request) None) ≡ true) [ inl e ↦ rw e h | inr e ↦ rw e refl ]

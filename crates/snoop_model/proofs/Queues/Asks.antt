@@ -1,5 +1,5 @@
 -- A machine stays well kept at an Ask.
-use Rattle.std.proofs.Common.{◌≡◌, ℕ, ◌<◌, List, [], ◌∷◌, ◌++◌, length, true, Option, Some, None, refl, sym, ◌∙◌, ap, subst, arith, inl, inr}
+use Rattle.std.proofs.Common.{◌≡◌, ℕ, ◌<◌, List, [], ◌∷◌, ◌++◌, length, true, Option, Some, refl, sym, ◌∙◌, ap, subst, arith, inl, inr}
 use Rattle.std.specs.Prelude.{Contains}
 use Rattle.std.proofs.lemmas.Bool.{cases_eq}
 use Rattle.std.proofs.lemmas.List.{length-set, get_or-set_same, get_or-set_other}
@@ -131,11 +131,7 @@ module _ (s : Situation) (kept : IsWellKept s) (core block word : ℕ) (asking :
       (λ o h. ap has_missed state ∙ missed-asked s.protocol (state_of s core block) asking action.Drop next row
       (kept.operations core block o (sym (ap (λ (x : Line). x.waiting) taken.0) ∙ h)))
       (ap waiting_request state ∙ drop-waits s.protocol (state_of s core block) (asked asking) next row)
-  kept_taken action.None row taken = absurd taken
-  kept_taken action.Stall row taken = absurd taken
-  kept_taken action.FillLoad row taken = absurd taken
-  kept_taken action.FillStore row taken = absurd taken
-  kept_taken (action.Send payload target) row taken = absurd taken
+  kept_taken _ row taken = absurd taken
 
 pub kept_asks : (s t : Situation) (core block word : ℕ) (asking : Op) (answer : Reply) (entry : Option Item) → IsWellKept s → IsWithin s core block → Asks s core block word asking answer t entry → IsWellKept t
 kept_asks s t core block word asking answer entry kept within asks =

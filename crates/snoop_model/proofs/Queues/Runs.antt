@@ -56,11 +56,7 @@ ask_waits p (action.Issue q) next log c b word asking old new answer entry queue
     inl (refl, (ap (λ (x : Option Request). one_if (is_some x)) w.0, ap (λ (x : Line). waits x.state) t.0 ∙ ap (λ (x : Option Request). one_if (is_some x)) w.1))
 ask_waits p action.Drop next log c b word asking old new answer entry queues row t =
     inr (refl, ap (λ (x : Line). waits x.state) t.0 ∙ same_waits next old.state (drop-waits p old.state (asked asking) next row))
-ask_waits p action.None next log c b word asking old new answer entry queues row t = absurd t
-ask_waits p action.Stall next log c b word asking old new answer entry queues row t = absurd t
-ask_waits p action.FillLoad next log c b word asking old new answer entry queues row t = absurd t
-ask_waits p action.FillStore next log c b word asking old new answer entry queues row t = absurd t
-ask_waits p (action.Send sent target) next log c b word asking old new answer entry queues row t = absurd t
+ask_waits p _ next log c b word asking old new answer entry queues row t = absurd t
 
 -- each core's queue has the blocks on which it waits
 abbrev pub AreQueued : Situation → Type 0
@@ -175,8 +171,7 @@ goes_queued old step (Err cause) new g q r = subst AreQueued (sym (refusal_same 
 pub run_queued : (steps : List Step) (outcomes : List (Result Reply Refused)) (old new : Situation) → Invariant old → AreQueued old → RunFrom old steps outcomes new → AreQueued new
 run_queued [] [] old new g q r = subst AreQueued (sym r) q
 run_queued (step ∷ steps) (outcome ∷ outcomes) old new g q r = run_queued steps outcomes r.0 new (goes_keeps old step outcome r.0 g r.1.0) (goes_queued old step outcome r.0 g q r.1.0) r.1.1
-run_queued [] (outcome ∷ outcomes) old new g q r = absurd r
-run_queued (step ∷ steps) [] old new g q r = absurd r
+run_queued _ _ old new g q r = absurd r
 
 empty_queue : (cores core : ℕ) → queue_of (replicate cores []) core ≡ []
 empty_queue cores core = elim (cases_lt core cores) [

@@ -23,8 +23,7 @@ one_more : (old middle new : Situation) (steps : List Step) (replies : List Repl
     → FirstRunFrom old steps (all_ok replies) middle → FirstMove middle step answer new entry → FirstRunFrom old (steps ++ step ∷ []) (all_ok (replies ++ answer ∷ [])) new
 one_more old middle new [] [] step answer entry run move = (new, ((entry, subst (λ (s : Situation). FirstMove s step answer new entry) run move), refl))
 one_more old middle new (x ∷ steps) (y ∷ replies) step answer entry run move = (run.0, (run.1.0, one_more run.0 middle new steps replies step answer entry run.1.1 move))
-one_more old middle new [] (y ∷ replies) step answer entry run move = absurd run
-one_more old middle new (x ∷ steps) [] step answer entry run move = absurd run
+one_more old middle new _ _ step answer entry run move = absurd run
 
 pub taken_goes_on : TakenGoesOn
 taken_goes_on protocol shape steps step answer entry middle new taken move =
@@ -34,15 +33,13 @@ taken_goes_on protocol shape steps step answer entry middle new taken move =
 as_run : (old new : Situation) (steps : List Step) (replies : List Reply) → FirstRunFrom old steps (all_ok replies) new → RunFrom old steps (all_ok replies) new
 as_run old new [] [] run = run
 as_run old new (step ∷ steps) (answer ∷ replies) run = (run.0, ((run.1.0.0, (run.1.0.1.0, run.1.0.1.1.1)), as_run run.0 new steps replies run.1.1))
-as_run old new [] (answer ∷ replies) run = absurd run
-as_run old new (step ∷ steps) [] run = absurd run
+as_run old new _ _ run = absurd run
 
 -- none of them was refused
 none_refused : (old new : Situation) (steps : List Step) (replies : List Reply) → FirstRunFrom old steps (all_ok replies) new → taken steps (all_ok replies) ≡ steps
 none_refused old new [] [] run = refl
 none_refused old new (step ∷ steps) (answer ∷ replies) run = ap (λ (rest : List Step). step ∷ rest) (none_refused run.0 new steps replies run.1.1)
-none_refused old new [] (answer ∷ replies) run = absurd run
-none_refused old new (step ∷ steps) [] run = absurd run
+none_refused old new _ _ run = absurd run
 
 pub asked_are_tallied : AskedAreTallied
 asked_are_tallied protocol shape steps s all core block wanted =

@@ -1,8 +1,8 @@
 -- The run of some steps is the only one: a step has one outcome, and leads to one situation.
 use Rattle.std.proofs.Common.{◌≡◌, ℕ, ◌<◌, ◌≤◌, Bool, true, false, List, [], ◌∷◌, ◌++◌, length, Option, Some, None, refl, ◌⊎◌, inl, inr, ap, sym, ◌∙◌, subst, arith}
-use Rattle.std.specs.Prelude.{IsSome, Result, Ok, Err, is_some, option_to_list, slice_get, slice_set}
+use Rattle.std.specs.Prelude.{Result, Ok, Err, is_some, slice_set}
 use Rattle.std.proofs.lemmas.List.{same_lists, get_or_default}
-use Rattle.snoop_trace.specs.Words.{HasWord, word_at}
+use Rattle.snoop_trace.specs.Words.{HasWord}
 use Rattle.snoop_trace.specs.declared.step.Op.{Op}
 use Rattle.snoop_trace.specs.declared.step.Op.TheVariants as op
 use Rattle.snoop_trace.specs.declared.step.Step.{Step}
@@ -27,118 +27,89 @@ use Rattle.snoop_rules.proofs.MemRows.{MemoryCell-one}
 use Rattle.snoop_history.specs.declared.items.Did.{Did}
 use Rattle.snoop_history.specs.declared.items.Item.{Item}
 use Rattle.snoop_history.specs.declared.items.Item.TheVariants as item
-use Rattle.snoop_history.specs.History.{next_number}
 use Rattle.snoop_bus.specs.Traffic.{Open}
-use Rattle.snoop_bus.specs.Queues.{queue_of, after_order}
+use Rattle.snoop_bus.specs.Queues.{after_order}
 use Rattle.snoop_model.specs.declared.line.Access.{Access}
 use Rattle.snoop_model.specs.Pictures.Lines.{Line}
 use Rattle.snoop_model.specs.declared.replies.Reply.{Reply}
 use Rattle.snoop_model.specs.declared.replies.Reply.TheVariants as reply
 use Rattle.snoop_model.specs.declared.replies.Refused.{Refused}
-use Rattle.snoop_model.specs.declared.replies.Refused.TheVariants.{NoCore, NoBlock, Stalled, NothingWaiting, BusTaken, NoTransaction, NoMemory}
-use Rattle.snoop_model.specs.Pictures.Picture.{Picture, held_at, held_by, nothing_held, with_line}
-use Rattle.snoop_model.specs.Pictures.Situation.{Situation, picture_of, with_picture, state_of}
+use Rattle.snoop_model.specs.declared.replies.Refused.TheVariants.{NoCore, NoBlock, Stalled, NothingWaiting, BusTaken, NoTransaction}
+use Rattle.snoop_model.specs.Pictures.Picture.{Picture, held_at, held_by, nothing_held}
+use Rattle.snoop_model.specs.Pictures.Situation.{Situation, picture_of, with_picture, state_of, StandsFirst}
 use Rattle.snoop_model.specs.Pictures.Sends.{Sends, value_sent}
 use Rattle.snoop_model.proofs.Tables.SentBy.{sent_by, sent_by_memory}
-use Rattle.snoop_model.specs.Moves.Move.{TakesRow, Takes, FillsRequestor, ArrivesFor, ArrivesAtMemory, Asks, Orders, Responds, IsAbsent, IsWithin, FirstMove, Performs, moves_to, next_did, queues_after, came_of, written}
+use Rattle.snoop_model.specs.Moves.Move.{TakesRow, Takes, FillsRequestor, ArrivesFor, ArrivesAtMemory, Asks, Orders, Responds, IsAbsent, IsWithin, FirstMove, Performs, hit_reply, moves_to, next_did, came_of, written}
 use Rattle.snoop_model.specs.Moves.Refuses.{Refuses, IsStall, WaitsOnNone}
 use Rattle.snoop_model.specs.Runs.Run.{GoesFirst, FirstRunFrom}
-use Rattle.snoop_model.specs.Invariant.WellKept.{IsWellKept}
 use Rattle.snoop_model.specs.Turns.TurnRule.{KeepsWell}
 use Rattle.snoop_model.proofs.Tables.EvictInI.{no_row}
 use Rattle.snoop_model.proofs.Tables.RespondTests.{SettlesIf}
 use Rattle.snoop_model.proofs.OneBlock.OfBlocks.{same_picture, same_memory}
-use Rattle.snoop_model.proofs.Runs.GoOn.{IsSteady, first_in, steady_on}
+use Rattle.snoop_model.proofs.Steps.Asks.{leads}
+use Rattle.snoop_model.proofs.Runs.GoOn.{HeadsWait, IsSteady, heads_kept, steady_on}
 
 same_some : {A : Type 0} {a b : A} → ◌≡◌ {A = Option A} (Some a) (Some b) → a ≡ b
 same_some e = cc
 
--- why an Ask is refused
-abbrev AskCause : Situation → ℕ → ℕ → ℕ → Op → Refused → Type 0
-AskCause s core block word asking cause =
-    ((cause ≡ NoCore) × (s.shape.cores ≤ core))
-    ⊎ (((cause ≡ NoBlock) × (core < s.shape.cores) × ((s.shape.blocks ≤ block) ⊎ (¬ HasWord s.shape word asking)))
-    ⊎ ((cause ≡ Stalled (state_of s core block)) × (core < s.shape.cores) × (block < s.shape.blocks) × IsStall s core block asking × HasWord s.shape word asking))
+-- a number is not both past a bound and below it
+apart : (count k : ℕ) → count ≤ k → k < count → ⊥
+apart count k past below = omega (arith, past, below)
 
-ask_cause : (s : Situation) (core block word : ℕ) (asking : Op) (cause : Refused) → Refuses s (Ask core block word asking) cause → AskCause s core block word asking cause
-ask_cause s core block word asking NoCore h = inl (refl, h)
-ask_cause s core block word asking NoBlock h = inr (inl (refl, h.0, h.1))
-ask_cause s core block word asking (Stalled held) h = inr (inr (ap (λ (x : CacheState). Stalled x) h.1, h.0.0, h.0.1, h.2, h.3))
-ask_cause s core block word asking NothingWaiting h = absurd h
-ask_cause s core block word asking (BusTaken on) h = absurd h
-ask_cause s core block word asking NoTransaction h = absurd h
-ask_cause s core block word asking NoMemory h = absurd h
-
--- why an Order is refused
-abbrev OrderCause : Situation → ℕ → Refused → Type 0
-OrderCause s core cause =
-    ((cause ≡ NoCore) × (s.shape.cores ≤ core))
-    ⊎ (((cause ≡ NothingWaiting) × (core < s.shape.cores) × WaitsOnNone s core)
-    ⊎ ((block : ℕ) × ((cause ≡ BusTaken block) × (core < s.shape.cores) × (slice_get (queue_of s.queues core) 0 ≡ Some block) × IsSome (picture_of s block).transaction)))
-
-order_cause : (s : Situation) (core : ℕ) (cause : Refused) → Refuses s (Order core) cause → OrderCause s core cause
-order_cause s core NoCore h = inl (refl, h)
-order_cause s core NothingWaiting h = inr (inl (refl, h.0, h.1))
-order_cause s core (BusTaken block) h = inr (inr (block, (refl, h.0, h.1, h.2)))
-order_cause s core NoBlock h = absurd h
-order_cause s core (Stalled held) h = absurd h
-order_cause s core NoTransaction h = absurd h
-order_cause s core NoMemory h = absurd h
-
--- why a Respond is refused
-abbrev RespondCause : Situation → ℕ → Refused → Type 0
-RespondCause s block cause =
-    ((cause ≡ NoBlock) × (s.shape.blocks ≤ block))
-    ⊎ ((cause ≡ NoTransaction) × (block < s.shape.blocks) × ((picture_of s block).transaction ≡ None))
-
-respond_cause : (s : Situation) (block : ℕ) (cause : Refused) → Refuses s (Respond block) cause → RespondCause s block cause
-respond_cause s block NoBlock h = inl (refl, h)
-respond_cause s block NoTransaction h = inr (refl, h.0, h.1)
-respond_cause s block NoCore h = absurd h
-respond_cause s block (Stalled held) h = absurd h
-respond_cause s block NothingWaiting h = absurd h
-respond_cause s block (BusTaken on) h = absurd h
-respond_cause s block NoMemory h = absurd h
-
--- a core whose queue begins with a block waits
-head_waits : (s : Situation) → IsWellKept s → (core block : ℕ) → slice_get (queue_of s.queues core) 0 ≡ Some block → ¬ WaitsOnNone s core
-head_waits s kept core block first none =
-    let waits = kept.waits core block (first_in (queue_of s.queues core) block first) in
-    none block waits.0 waits.1
-
-ask_causes : (s : Situation) (core block word : ℕ) (asking : Op) (c d : Refused) → AskCause s core block word asking c → AskCause s core block word asking d → c ≡ d
-ask_causes s core block word asking c d (inl h) (inl k) = h.0 ∙ sym k.0
-ask_causes s core block word asking c d (inl h) (inr (inl k)) = let a : s.shape.cores ≤ core = h.1 in let b : core < s.shape.cores = k.1 in absurd (omega arith)
-ask_causes s core block word asking c d (inl h) (inr (inr k)) = let a : s.shape.cores ≤ core = h.1 in let b : core < s.shape.cores = k.1 in absurd (omega arith)
-ask_causes s core block word asking c d (inr (inl h)) (inl k) = let a : s.shape.cores ≤ core = k.1 in let b : core < s.shape.cores = h.1 in absurd (omega arith)
-ask_causes s core block word asking c d (inr (inl h)) (inr (inl k)) = h.0 ∙ sym k.0
-ask_causes s core block word asking c d (inr (inl h)) (inr (inr k)) = elim h.2 [ inl a ↦ (let b : block < s.shape.blocks = k.2 in absurd (omega arith)) | inr none ↦ absurd (none k.4) ]
-ask_causes s core block word asking c d (inr (inr h)) (inl k) = let a : s.shape.cores ≤ core = k.1 in let b : core < s.shape.cores = h.1 in absurd (omega arith)
-ask_causes s core block word asking c d (inr (inr h)) (inr (inl k)) = elim k.2 [ inl a ↦ (let b : block < s.shape.blocks = h.2 in absurd (omega arith)) | inr none ↦ absurd (none h.4) ]
-ask_causes s core block word asking c d (inr (inr h)) (inr (inr k)) = h.0 ∙ sym k.0
-
-order_causes : (s : Situation) → IsWellKept s → (core : ℕ) (c d : Refused) → OrderCause s core c → OrderCause s core d → c ≡ d
-order_causes s kept core c d (inl h) (inl k) = h.0 ∙ sym k.0
-order_causes s kept core c d (inl h) (inr (inl k)) = let a : s.shape.cores ≤ core = h.1 in let b : core < s.shape.cores = k.1 in absurd (omega arith)
-order_causes s kept core c d (inl h) (inr (inr k)) = let a : s.shape.cores ≤ core = h.1 in let b : core < s.shape.cores = k.1.1 in absurd (omega arith)
-order_causes s kept core c d (inr (inl h)) (inl k) = let a : s.shape.cores ≤ core = k.1 in let b : core < s.shape.cores = h.1 in absurd (omega arith)
-order_causes s kept core c d (inr (inl h)) (inr (inl k)) = h.0 ∙ sym k.0
-order_causes s kept core c d (inr (inl h)) (inr (inr k)) = absurd (head_waits s kept core k.0 k.1.2 h.2)
-order_causes s kept core c d (inr (inr h)) (inl k) = let a : s.shape.cores ≤ core = k.1 in let b : core < s.shape.cores = h.1.1 in absurd (omega arith)
-order_causes s kept core c d (inr (inr h)) (inr (inl k)) = absurd (head_waits s kept core h.0 h.1.2 k.2)
-order_causes s kept core c d (inr (inr h)) (inr (inr k)) = h.1.0 ∙ (ap (λ (x : ℕ). BusTaken x) (same_some (sym h.1.2 ∙ k.1.2)) ∙ sym k.1.0)
-
-respond_causes : (s : Situation) (block : ℕ) (c d : Refused) → RespondCause s block c → RespondCause s block d → c ≡ d
-respond_causes s block c d (inl h) (inl k) = h.0 ∙ sym k.0
-respond_causes s block c d (inl h) (inr k) = let a : s.shape.blocks ≤ block = h.1 in let b : block < s.shape.blocks = k.1 in absurd (omega arith)
-respond_causes s block c d (inr h) (inl k) = let a : s.shape.blocks ≤ block = k.1 in let b : block < s.shape.blocks = h.1 in absurd (omega arith)
-respond_causes s block c d (inr h) (inr k) = h.0 ∙ sym k.0
+-- an Ask is of no such block or word, and yet of one
+no_place : (s : Situation) (block word : ℕ) (asking : Op) → (s.shape.blocks ≤ block) ⊎ (¬ HasWord s.shape word asking) → block < s.shape.blocks → HasWord s.shape word asking → ⊥
+no_place s block word asking (inl past) below has = apart s.shape.blocks block past below
+no_place s block word asking (inr none) below has = none has
 
 -- one cause refuses a step
-one_cause : (s : Situation) → IsWellKept s → (step : Step) (c d : Refused) → Refuses s step c → Refuses s step d → c ≡ d
-one_cause s kept (Ask core block word asking) c d h k = ask_causes s core block word asking c d (ask_cause s core block word asking c h) (ask_cause s core block word asking d k)
-one_cause s kept (Order core) c d h k = order_causes s kept core c d (order_cause s core c h) (order_cause s core d k)
-one_cause s kept (Respond block) c d h k = respond_causes s block c d (respond_cause s block c h) (respond_cause s block d k)
+module _ (s : Situation) (heads : HeadsWait s) where
+  ask_cause : (core block word : ℕ) (asking : Op) (c d : Refused) → Refuses s (Ask core block word asking) c → Refuses s (Ask core block word asking) d → c ≡ d
+  ask_cause core block word asking NoCore NoCore h k = refl
+  ask_cause core block word asking NoCore NoBlock h k = absurd (apart s.shape.cores core h k.0)
+  ask_cause core block word asking NoCore (Stalled y) h k = absurd (apart s.shape.cores core h k.0.0)
+  ask_cause core block word asking NoBlock NoCore h k = absurd (apart s.shape.cores core k h.0)
+  ask_cause core block word asking NoBlock NoBlock h k = refl
+  ask_cause core block word asking NoBlock (Stalled y) h k = absurd (no_place s block word asking h.1 k.0.1 k.3)
+  ask_cause core block word asking (Stalled x) NoCore h k = absurd (apart s.shape.cores core k h.0.0)
+  ask_cause core block word asking (Stalled x) NoBlock h k = absurd (no_place s block word asking k.1 h.0.1 h.3)
+  ask_cause core block word asking (Stalled x) (Stalled y) h k = ap (λ (z : CacheState). Stalled z) (h.1 ∙ sym k.1)
+  ask_cause core block word asking NoCore _ h k = absurd k
+  ask_cause core block word asking NoBlock _ h k = absurd k
+  ask_cause core block word asking (Stalled x) _ h k = absurd k
+  ask_cause core block word asking _ _ h k = absurd h
+
+  -- a core whose queue begins with a block waits
+  head_waits : (core block : ℕ) → StandsFirst s core block → ¬ WaitsOnNone s core
+  head_waits core block first none = let waits = heads.first core block first in none block waits.0 waits.1
+
+  order_cause : (core : ℕ) (c d : Refused) → Refuses s (Order core) c → Refuses s (Order core) d → c ≡ d
+  order_cause core NoCore NoCore h k = refl
+  order_cause core NoCore NothingWaiting h k = absurd (apart s.shape.cores core h k.0)
+  order_cause core NoCore (BusTaken y) h k = absurd (apart s.shape.cores core h k.0)
+  order_cause core NothingWaiting NoCore h k = absurd (apart s.shape.cores core k h.0)
+  order_cause core NothingWaiting NothingWaiting h k = refl
+  order_cause core NothingWaiting (BusTaken y) h k = absurd (head_waits core y k.1 h.1)
+  order_cause core (BusTaken x) NoCore h k = absurd (apart s.shape.cores core k h.0)
+  order_cause core (BusTaken x) NothingWaiting h k = absurd (head_waits core x h.1 k.1)
+  order_cause core (BusTaken x) (BusTaken y) h k = ap (λ (z : ℕ). BusTaken z) (same_some (sym h.1 ∙ k.1))
+  order_cause core NoCore _ h k = absurd k
+  order_cause core NothingWaiting _ h k = absurd k
+  order_cause core (BusTaken x) _ h k = absurd k
+  order_cause core _ _ h k = absurd h
+
+  respond_cause : (block : ℕ) (c d : Refused) → Refuses s (Respond block) c → Refuses s (Respond block) d → c ≡ d
+  respond_cause block NoBlock NoBlock h k = refl
+  respond_cause block NoBlock NoTransaction h k = absurd (apart s.shape.blocks block h k.0)
+  respond_cause block NoTransaction NoBlock h k = absurd (apart s.shape.blocks block k h.0)
+  respond_cause block NoTransaction NoTransaction h k = refl
+  respond_cause block NoBlock _ h k = absurd k
+  respond_cause block NoTransaction _ h k = absurd k
+  respond_cause block _ _ h k = absurd h
+
+  one_cause : (step : Step) (c d : Refused) → Refuses s step c → Refuses s step d → c ≡ d
+  one_cause (Ask core block word asking) = ask_cause core block word asking
+  one_cause (Order core) = order_cause core
+  one_cause (Respond block) = respond_cause block
 
 -- a move is not refused
 asks_no_stall : (s : Situation) (core block word : ℕ) (asking : Op) (answer : Reply) (new : Situation) (entry : Option Item) → IsAbsent s core block asking answer new entry ⊎ Asks s core block word asking answer new entry → ¬ IsStall s core block asking
@@ -154,88 +125,49 @@ ask_parts s core block word asking answer new entry move =
     let P : ℕ → Type 0 = λ b. IsWithin s core b × (IsAbsent s core b asking answer new entry ⊎ Asks s core b word asking answer new entry) × HasWord s.shape word asking in
     subst P (sym move.1.1.on_block) (move.1.1.within, move.1.1.moves, move.1.1.has_word)
 
-not_refused : (s : Situation) → IsWellKept s → (step : Step) (answer : Reply) (new : Situation) (entry : Option Item) (cause : Refused) → FirstMove s step answer new entry → ¬ Refuses s step cause
-not_refused s kept (Ask core block word asking) answer new entry cause move refused =
-    let parts = ask_parts s core block word asking answer new entry move in
-    let in_cores : core < s.shape.cores = parts.0.0 in
-    let in_blocks : block < s.shape.blocks = parts.0.1 in
-    elim (ask_cause s core block word asking cause refused) [
-      | inl h ↦ let past : s.shape.cores ≤ core = h.1 in absurd (omega arith)
-      | inr rest ↦ elim rest [
-        | inl h ↦ elim h.2 [ inl past ↦ absurd (omega arith) | inr none ↦ absurd (none parts.2) ]
-        | inr h ↦ asks_no_stall s core block word asking answer new entry parts.1 h.3
-      ]
-    ]
-not_refused s kept (Order core) answer new entry cause move refused =
-    let block : ℕ = move.0 in
-    let its = move.1.1 in
-    let in_cores : core < s.shape.cores = its.within.0 in
-    elim (order_cause s core cause refused) [
-      | inl h ↦ let past : s.shape.cores ≤ core = h.1 in absurd (omega arith)
-      | inr rest ↦ elim rest [
-        | inl h ↦ h.2 block its.request its.orders.ready.0
-        | inr h ↦
-            let same : h.0 ≡ block = same_some (sym h.1.2 ∙ move.1.0) in
-            let taken : is_some (picture_of s block).transaction ≡ true = subst (λ (b : ℕ). is_some (picture_of s b).transaction ≡ true) same h.1.3 in
-            let free : is_some (picture_of s block).transaction ≡ false = ap is_some its.orders.ready.1 in
-            cc
-      ]
-    ]
-not_refused s kept (Respond block) answer new entry cause move refused =
-    let its = move.1.1 in
-    let same : block ≡ move.0 = its.on_block in
-    let in_blocks : move.0 < s.shape.blocks = its.within in
-    elim (respond_cause s block cause refused) [
-      | inl h ↦ let past : s.shape.blocks ≤ block = h.1 in absurd (omega arith)
-      | inr h ↦
-          let opened : (picture_of s block).transaction ≡ Some its.closing = subst (λ (b : ℕ). (picture_of s b).transaction ≡ Some its.closing) (sym same) its.responds.opened in
-          cc
-    ]
+not_refused : (s : Situation) (step : Step) (answer : Reply) (new : Situation) (entry : Option Item) (cause : Refused) → FirstMove s step answer new entry → ¬ Refuses s step cause
+not_refused s (Ask core block word asking) answer new entry NoCore move h = apart s.shape.cores core h (ask_parts s core block word asking answer new entry move).0.0
+not_refused s (Ask core block word asking) answer new entry NoBlock move h = let parts = ask_parts s core block word asking answer new entry move in no_place s block word asking h.1 parts.0.1 parts.2
+not_refused s (Ask core block word asking) answer new entry (Stalled x) move h = asks_no_stall s core block word asking answer new entry (ask_parts s core block word asking answer new entry move).1 h.2
+not_refused s (Order core) answer new entry NoCore move h = apart s.shape.cores core h move.1.1.within.0
+not_refused s (Order core) answer new entry NothingWaiting move h = h.1 move.0 move.1.1.request move.1.1.orders.ready.0
+not_refused s (Order core) answer new entry (BusTaken block) move h =
+    let same : block ≡ move.0 = same_some (sym h.1 ∙ move.1.0) in
+    let taken : is_some (picture_of s move.0).transaction ≡ true = subst (λ (b : ℕ). is_some (picture_of s b).transaction ≡ true) same h.2 in
+    let free : is_some (picture_of s move.0).transaction ≡ false = ap is_some move.1.1.orders.ready.1 in
+    cc
+not_refused s (Respond block) answer new entry NoBlock move h = apart s.shape.blocks block h (subst (λ (b : ℕ). b < s.shape.blocks) (sym move.1.1.on_block) move.1.1.within)
+not_refused s (Respond block) answer new entry NoTransaction move h =
+    let opened : (picture_of s block).transaction ≡ Some move.1.1.closing = subst (λ (b : ℕ). (picture_of s b).transaction ≡ Some move.1.1.closing) (sym move.1.1.on_block) move.1.1.responds.opened in
+    let closed : (picture_of s block).transaction ≡ None = h.1 in
+    cc
+not_refused s _ answer new entry _ move h = h
+
+-- an operation does one thing
+performs_one : (word : ℕ) (asking : Op) (before : List ℕ) (value value' : ℕ) (after after' : List ℕ) → Performs word asking before value after → Performs word asking before value' after' → (value ≡ value') × (after ≡ after')
+performs_one word op.Load before value value' after after' a b = (a.0 ∙ sym b.0, a.1 ∙ sym b.1)
+performs_one word (op.Store stored) before value value' after after' a b = (a.0 ∙ sym b.0, a.1 ∙ sym b.1)
+performs_one word op.Evict before value value' after after' a b = absurd a
 
 -- an Ask's row does one thing
 hits_one : (next : CacheState) (log : List Item) (core block word : ℕ) (asking : Op) (old new new' : Line) (answer answer' : Reply) (entry entry' : Option Item)
     → Takes action.Hit next log core block word asking old new answer entry → Takes action.Hit next log core block word asking old new' answer' entry' → (new ≡ new') × (answer ≡ answer') × (entry ≡ entry')
-hits_one next log core block word op.Load old new new' answer answer' entry entry' a b =
+hits_one next log core block word asking old new new' answer answer' entry entry' a b =
     let f = a.1.0 in
     let g = b.1.0 in
-    let before : f.before ≡ g.before = same_some (sym f.kept ∙ g.kept) in
-    let value : a.0 ≡ b.0 = f.performed.0 ∙ (ap (λ (ws : List ℕ). word_at ws word) before ∙ sym g.performed.0) in
-    let after : f.after ≡ g.after = f.performed.1 ∙ (before ∙ sym g.performed.1) in
-    let line : new ≡ new' = f.held ∙ (ap (λ (v : List ℕ). let x : Line = record { state = next; kept = Some v; waiting = old.waiting } in x) after ∙ sym g.held) in (
-      line,
-      a.1.1 ∙ (ap (λ v. reply.Hit v) value ∙ sym b.1.1),
-      a.1.2 ∙ (ap (λ (v : ℕ). let x : Option Item = Some (item.Did (record { core = core; number = next_number log core; block = block; word = word; load = true; value = v; hit = true })) in x) value ∙ sym b.1.2),
+    let before : g.before ≡ f.before = same_some (sym g.kept ∙ f.kept) in
+    let same = performs_one word asking f.before a.0 b.0 f.after g.after f.performed (subst (λ (ws : List ℕ). Performs word asking ws b.0 g.after) before g.performed) in (
+      f.held ∙ (ap (λ (v : List ℕ). let x : Line = record { state = next; kept = Some v; waiting = old.waiting } in x) same.1 ∙ sym g.held),
+      a.1.1 ∙ (ap (hit_reply asking) same.0 ∙ sym b.1.1),
+      a.1.2 ∙ (ap (λ (v : ℕ). let x : Option Item = Some (item.Did (next_did log core block word asking v true)) in x) same.0 ∙ sym b.1.2),
     )
-hits_one next log core block word (op.Store stored) old new new' answer answer' entry entry' a b =
-    let f = a.1.0 in
-    let g = b.1.0 in
-    let before : f.before ≡ g.before = same_some (sym f.kept ∙ g.kept) in
-    let value : a.0 ≡ b.0 = f.performed.0 ∙ sym g.performed.0 in
-    let after : f.after ≡ g.after = f.performed.1 ∙ (ap (λ (ws : List ℕ). slice_set ws word stored) before ∙ sym g.performed.1) in
-    let line : new ≡ new' = f.held ∙ (ap (λ (v : List ℕ). let x : Line = record { state = next; kept = Some v; waiting = old.waiting } in x) after ∙ sym g.held) in (
-      line,
-      a.1.1 ∙ sym b.1.1,
-      a.1.2 ∙ (ap (λ (v : ℕ). let x : Option Item = Some (item.Did (record { core = core; number = next_number log core; block = block; word = word; load = false; value = v; hit = true })) in x) value ∙ sym b.1.2),
-    )
-hits_one next log core block word op.Evict old new new' answer answer' entry entry' a b = absurd a.1.0.performed
 
 takes_one : (act : CacheAction) (next : CacheState) (log : List Item) (core block word : ℕ) (asking : Op) (old new new' : Line) (answer answer' : Reply) (entry entry' : Option Item)
     → Takes act next log core block word asking old new answer entry → Takes act next log core block word asking old new' answer' entry' → (new ≡ new') × (answer ≡ answer') × (entry ≡ entry')
 takes_one action.Hit next log core block word asking old new new' answer answer' entry entry' a b = hits_one next log core block word asking old new new' answer answer' entry entry' a b
 takes_one (action.Issue r) next log core block word asking old new new' answer answer' entry entry' a b = (a.0 ∙ sym b.0, a.1 ∙ sym b.1, a.2 ∙ sym b.2)
 takes_one action.Drop next log core block word asking old new new' answer answer' entry entry' a b = (a.0 ∙ sym b.0, a.1 ∙ sym b.1, a.2 ∙ sym b.2)
-takes_one action.None next log core block word asking old new new' answer answer' entry entry' a b = absurd a
-takes_one action.Stall next log core block word asking old new new' answer answer' entry entry' a b = absurd a
-takes_one action.FillLoad next log core block word asking old new new' answer answer' entry entry' a b = absurd a
-takes_one action.FillStore next log core block word asking old new new' answer answer' entry entry' a b = absurd a
-takes_one (action.Send payload target) next log core block word asking old new new' answer answer' entry entry' a b = absurd a
-
--- the situation after an Ask, by its action, its line and its item
-abbrev asked_after : Situation → ℕ → ℕ → CacheAction → Line → Option Item → Situation
-asked_after s core block act held entry = record (with_picture s block (with_line (picture_of s block) core held)) {
-  queues = queues_after act s.queues core block;
-  log = s.log ++ option_to_list entry;
-}
+takes_one _ next log core block word asking old new new' answer answer' entry entry' a b = absurd a
 
 -- what is equal of two moves
 abbrev SameMove : Reply → Situation → Reply → Situation → Type 0
@@ -248,7 +180,7 @@ asks_one s core block word asking answer answer' new new' entry entry' a b =
     let taken : Takes a.row.action a.row.next s.log core block word asking old b.held answer' entry' = subst (λ (x : CacheCell). Takes x.action x.next s.log core block word asking old b.held answer' entry') (sym row) b.taken in
     let same = takes_one a.row.action a.row.next s.log core block word asking old a.held b.held answer answer' entry entry' a.taken taken in (
       same.1,
-      a.after ∙ (ap (λ (x : CacheCell). asked_after s core block x.action a.held entry) row ∙ (ap (λ held. asked_after s core block b.row.action held entry) same.0 ∙ (ap (λ e. asked_after s core block b.row.action b.held e) same.2 ∙ sym b.after))),
+      a.after ∙ (ap (λ (x : CacheCell). leads s core block x.action a.held entry) row ∙ (ap (λ held. leads s core block b.row.action held entry) same.0 ∙ (ap (λ e. leads s core block b.row.action b.held e) same.2 ∙ sym b.after))),
     )
 
 asks_or_absent : (s : Situation) (core block word : ℕ) (asking : Op) (answer answer' : Reply) (new new' : Situation) (entry entry' : Option Item) → IsAbsent s core block asking answer new entry ⊎ Asks s core block word asking answer new entry → IsAbsent s core block asking answer' new' entry' ⊎ Asks s core block word asking answer' new' entry' → SameMove answer new answer' new'
@@ -289,17 +221,6 @@ orders_one s core block q new new' a b =
     a.after ∙ (ap then next ∙ sym b.after)
 
 -- data does one thing at its requestor
-fill_ends : (o : Open) (log : List Item) (old new new' : List Line) (did did' : Option Did) (word : ℕ) (asking : Op) (value value' : ℕ) (after after' : List ℕ) (next : CacheState)
-    → Performs word asking o.value value after → Performs word asking o.value value' after'
-    → did ≡ Some (next_did log o.core o.block word asking value false) → did' ≡ Some (next_did log o.core o.block word asking value' false)
-    → new ≡ slice_set old o.core (record { state = next; kept = Some after; waiting = None }) → new' ≡ slice_set old o.core (record { state = next; kept = Some after'; waiting = None })
-    → (new ≡ new') × (did ≡ did')
-fill_ends o log old new new' did did' word op.Load value value' after after' next a b logged logged' held held' =
-    (held ∙ (ap (λ (v : List ℕ). slice_set old o.core (let x : Line = record { state = next; kept = Some v; waiting = None } in x)) (a.1 ∙ sym b.1) ∙ sym held'), logged ∙ (ap (λ (v : ℕ). let x : Option Did = Some (next_did log o.core o.block word op.Load v false) in x) (a.0 ∙ sym b.0) ∙ sym logged'))
-fill_ends o log old new new' did did' word (op.Store stored) value value' after after' next a b logged logged' held held' =
-    (held ∙ (ap (λ (v : List ℕ). slice_set old o.core (let x : Line = record { state = next; kept = Some v; waiting = None } in x)) (a.1 ∙ sym b.1) ∙ sym held'), logged ∙ (ap (λ (v : ℕ). let x : Option Did = Some (next_did log o.core o.block word (op.Store stored) v false) in x) (a.0 ∙ sym b.0) ∙ sym logged'))
-fill_ends o log old new new' did did' word op.Evict value value' after after' next a b logged logged' held held' = absurd a
-
 fills_one : (o : Open) (p : Protocol) (log : List Item) (old new new' : List Line) (did did' : Option Did) → FillsRequestor o p log old new did → FillsRequestor o p log old new' did' → (new ≡ new') × (did ≡ did')
 fills_one o p log old new new' did did' a b =
     let state : CacheState = (held_at old o.core).state in
@@ -310,16 +231,20 @@ fills_one o p log old new new' did did' a b =
     let next : g.row.next ≡ f.row.next = ap (λ (x : CacheCell). x.next) row in
     let asking : b.asking ≡ a.asking = same_some (sym g.waited ∙ f.waited) in
     let performed : Performs a.asking.word a.asking.op o.value b.value g.after = subst (λ (x : Access). Performs x.word x.op o.value b.value g.after) asking g.performed in
-    let logged : did' ≡ Some (next_did log o.core o.block a.asking.word a.asking.op b.value false) = b.logged ∙ ap (λ (x : Access). let d : Option Did = Some (next_did log o.core o.block x.word x.op b.value false) in d) asking in
-    let held : b.line ≡ record { state = f.row.next; kept = Some g.after; waiting = None } = g.held ∙ ap (λ (x : CacheState). let l : Line = record { state = x; kept = Some g.after; waiting = None } in l) next in
-    fill_ends o log old new new' did did' a.asking.word a.asking.op a.value b.value f.after g.after f.row.next f.performed performed a.logged logged (a.held ∙ ap (slice_set old o.core) f.held) (b.held ∙ ap (slice_set old o.core) held)
+    let same = performs_one a.asking.word a.asking.op o.value a.value b.value f.after g.after f.performed performed in
+    let filled : CacheState → List ℕ → Line = λ state words. record { state = state; kept = Some words; waiting = None } in
+    let did_by : Access → ℕ → Option Did = λ access value. Some (next_did log o.core o.block access.word access.op value false) in
+    let line : a.line ≡ b.line = f.held ∙ (ap (filled f.row.next) same.1 ∙ (ap (λ (x : CacheState). filled x g.after) (sym next) ∙ sym g.held)) in (
+      a.held ∙ (ap (slice_set old o.core) line ∙ sym b.held),
+      a.logged ∙ (ap (did_by a.asking) same.0 ∙ (ap (λ (x : Access). did_by x b.value) (sym asking) ∙ sym b.logged)),
+    )
 
 arrives_one : (q : Request) (o : Open) (p : Protocol) (log : List Item) (old new new' : List Line) (did did' : Option Did) → ArrivesFor q o p log old new did → ArrivesFor q o p log old new' did' → (new ≡ new') × (did ≡ did')
 arrives_one request.PutM o p log old new new' did did' a b = (a.0 ∙ sym b.0, a.1 ∙ sym b.1)
 arrives_one request.GetS o p log old new new' did did' a b = fills_one o p log old new new' did did' a b
 arrives_one request.GetM o p log old new new' did did' a b = fills_one o p log old new new' did did' a b
 
-memory_one : (takes : Bool) (p : Protocol) (m : MemState) (found : Option MemEvent) (a b : MemAction) (n n' : MemState)
+pub memory_one : (takes : Bool) (p : Protocol) (m : MemState) (found : Option MemEvent) (a b : MemAction) (n n' : MemState)
     → SettlesIf takes p found m a n → SettlesIf takes p found m b n' → (a ≡ b) × (n ≡ n')
 memory_one true p m None a b n n' x y = absurd x
 memory_one true p m (Some e) a b n n' x y = MemoryCell-one p m e a b n n' x y
@@ -368,20 +293,20 @@ move_one s (Respond block) answer answer' new new' entry entry' a b =
 abbrev SameStep : Result Reply Refused → Situation → Result Reply Refused → Situation → Type 0
 SameStep outcome new outcome' new' = (outcome ≡ outcome') × (new ≡ new')
 
-step_one : (s : Situation) → IsWellKept s → (step : Step) (outcome outcome' : Result Reply Refused) (new new' : Situation) → GoesFirst s step outcome new → GoesFirst s step outcome' new' → SameStep outcome new outcome' new'
-step_one s kept step (Ok answer) (Ok answer') new new' a b =
+step_one : (s : Situation) → HeadsWait s → (step : Step) (outcome outcome' : Result Reply Refused) (new new' : Situation) → GoesFirst s step outcome new → GoesFirst s step outcome' new' → SameStep outcome new outcome' new'
+step_one s heads step (Ok answer) (Ok answer') new new' a b =
     let same = move_one s step answer answer' new new' a.0 b.0 a.1 b.1 in
     (ap (λ (x : Reply). let o : Result Reply Refused = Ok x in o) same.0, same.1)
-step_one s kept step (Ok answer) (Err cause) new new' a b = absurd (not_refused s kept step answer new a.0 cause a.1 b.0)
-step_one s kept step (Err cause) (Ok answer) new new' a b = absurd (not_refused s kept step answer new' b.0 cause b.1 a.0)
-step_one s kept step (Err cause) (Err other) new new' a b =
-    (ap (λ (x : Refused). let o : Result Reply Refused = Err x in o) (one_cause s kept step cause other a.0 b.0), a.1 ∙ sym b.1)
+step_one s heads step (Ok answer) (Err cause) new new' a b = absurd (not_refused s step answer new a.0 cause a.1 b.0)
+step_one s heads step (Err cause) (Ok answer) new new' a b = absurd (not_refused s step answer new' b.0 cause b.1 a.0)
+step_one s heads step (Err cause) (Err other) new new' a b =
+    (ap (λ (x : Refused). let o : Result Reply Refused = Err x in o) (one_cause s heads step cause other a.0 b.0), a.1 ∙ sym b.1)
 
 -- and steps in order have one list of outcomes
 pub run_one : KeepsWell → (steps : List Step) (outcomes outcomes' : List (Result Reply Refused)) (old new new' : Situation) → IsSteady old → FirstRunFrom old steps outcomes new → FirstRunFrom old steps outcomes' new' → (outcomes ≡ outcomes') × (new ≡ new')
 run_one keeps [] [] [] old new new' steady a b = (refl, a ∙ sym b)
 run_one keeps (step ∷ steps) (outcome ∷ outcomes) (outcome' ∷ outcomes') old new new' steady a b =
-    let here = step_one old steady.1 step outcome outcome' a.0 b.0 a.1.0 b.1.0 in
+    let here = step_one old (heads_kept old steady.1) step outcome outcome' a.0 b.0 a.1.0 b.1.0 in
     let rest : FirstRunFrom a.0 steps outcomes' new' = subst (λ (m : Situation). FirstRunFrom m steps outcomes' new') (sym here.1) b.1.1 in
     let on = run_one keeps steps outcomes outcomes' a.0 new new' (steady_on keeps old step outcome a.0 steady a.1.0) a.1.1 rest in
     (ap (λ (o : Result Reply Refused). o ∷ outcomes) here.0 ∙ ap (λ l. outcome' ∷ l) on.0, on.1)

@@ -53,13 +53,11 @@ issued_reply core block word (op.Store v) request.GetM h = tt
 issued_reply core block word (op.Store v) request.GetS h = cc
 issued_reply core block word (op.Store v) request.PutM h = cc
 issued_reply core block word op.Evict request.PutM h = tt
-issued_reply core block word op.Evict request.GetS h = cc
-issued_reply core block word op.Evict request.GetM h = cc
+issued_reply core block word op.Evict _ h = cc
 
 gone_reply : (core block word : ℕ) (asking : Op) → is_evict (asked asking) ≡ true → IsReplyTo (Ask core block word asking) reply.Gone
 gone_reply core block word op.Evict h = tt
-gone_reply core block word op.Load h = cc
-gone_reply core block word (op.Store v) h = cc
+gone_reply core block word _ h = cc
 
 performed_reply : (core block word : ℕ) (asking : Op) (before : List ℕ) (value : ℕ) (after : List ℕ) → Performs word asking before value after → IsReplyTo (Ask core block word asking) (hit_reply asking value)
 performed_reply core block word op.Load before value after h = tt

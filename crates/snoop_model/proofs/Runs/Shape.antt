@@ -43,8 +43,7 @@ goes_stays old new step (Err cause) r = same_alike old new (refusal_same old ste
 pub run_stays : (steps : List Step) (outcomes : List (Result Reply Refused)) (old new : Situation) → RunFrom old steps outcomes new → IsAlike old new
 run_stays [] [] old new r = same_alike old new r
 run_stays (step ∷ steps) (outcome ∷ outcomes) old new r = alike_on old r.0 new (goes_stays old r.0 step outcome r.1.0) (run_stays steps outcomes r.0 new r.1.1)
-run_stays [] (outcome ∷ outcomes) old new r = absurd r
-run_stays (step ∷ steps) [] old new r = absurd r
+run_stays _ _ old new r = absurd r
 
 -- a step, taken or refused
 pub step_stays : (old new : Standing) (step : Step) (result : Result Reply Refused) → IfOk result (λ reply. (entry : Option Item) × FirstMove old.situation step reply new.situation entry)
@@ -60,5 +59,4 @@ answer_stays old new step (Err cause) a = same_alike old.situation new.situation
 pub steps_stay : (steps : List Step) (outcomes : List (Result Reply Refused)) (old new : Standing) → RunsOn old steps outcomes new → IsAlike old.situation new.situation
 steps_stay [] [] old new r = same_alike old.situation new.situation (ap (λ (s : Standing). s.situation) r)
 steps_stay (step ∷ steps) (outcome ∷ outcomes) old new r = alike_on old.situation r.0.situation new.situation (answer_stays old r.0 step outcome r.1.0) (steps_stay steps outcomes r.0 new r.1.2)
-steps_stay [] (outcome ∷ outcomes) old new r = absurd r
-steps_stay (step ∷ steps) [] old new r = absurd r
+steps_stay _ _ old new r = absurd r

@@ -3,7 +3,6 @@ use Rattle.std.proofs.Common.{◌≡◌, subst}
 use Rattle.snoop_trace.specs.declared.step.Op.{Op}
 use Rattle.snoop_trace.specs.declared.step.Op.TheVariants as op
 use Rattle.snoop_trace.specs.declared.protocol.Protocol.{Protocol}
-use Rattle.snoop_trace.specs.declared.protocol.Protocol.TheVariants.{Msi, Mesi}
 use Rattle.snoop_rules.specs.declared.names.CacheState.{CacheState}
 use Rattle.snoop_rules.specs.declared.names.CacheState.TheVariants.{I}
 use Rattle.snoop_rules.specs.declared.names.CacheAction.{CacheAction}
@@ -17,5 +16,4 @@ no_row p s asking a n e i row =
     go p (subst Q e (subst P i row))
   where
     go : (x : Protocol) → Cell x I (asked op.Evict) a n → ⊥
-    go Msi h = cc
-    go Mesi h = cc
+    go _ h = cc

@@ -13,12 +13,13 @@ use Rattle.snoop_rules.specs.declared.names.CacheCell.{CacheCell}
 use Rattle.snoop_rules.specs.declared.names.MemCell.{MemCell}
 use Rattle.snoop_rules.specs.Cell.{cell_of}
 use Rattle.snoop_rules.specs.MemoryCell.{memory_cell_of}
+use Rattle.snoop_rules.specs.WhoSends.{Memory, Requestor, Other}
 use Rattle.snoop_rules.proofs.Every.{all_protocols, all_protocols-at, all_states, all_states-at, all_memories, all_memories-at, all_requests, all_requests-at}
 use Rattle.snoop_history.specs.Totals.{is_put_m, is_data}
 use Rattle.snoop_model.proofs.Tables.SentBy.{sent_by, sent_by_memory}
 use Rattle.snoop_model.specs.Invariant.Fits.{Claims, claims_of, is_owner, is_sharer, is_clean, wait_fits, in_protocol, same, fits}
 use Rattle.snoop_model.proofs.Tables.Every.{either, either-at, when, when_at, given, given_at}
-use Rattle.snoop_model.proofs.Tables.SenderTests.{Memory, Core, Requestor, is_sender_line, follows_sender_table}
+use Rattle.snoop_model.proofs.Tables.SenderTests.{is_sender_line, follows_sender_table}
 use Rattle.snoop_model.proofs.Tables.StateTests.{carries}
 use Rattle.snoop_model.specs.Pictures.Sound.{keeps}
 
@@ -217,7 +218,7 @@ unfolding orders order_case other_case all_protocols all_memories all_states all
 other_sends_data_holds = refl
 
 abbrev pub order_line_of_core : OtherTest
-order_line_of_core p m st sr or q mc oc pl st2 s ow xc = not (is_some (sent_by (Some xc))) || follows_sender_table p q m (Core s) pl mc.next
+order_line_of_core p m st sr or q mc oc pl st2 s ow xc = not (is_some (sent_by (Some xc))) || follows_sender_table p q m (Other s) pl mc.next
 
 pub order_line_of_core_holds : orders (end_case (other_case order_line_of_core)) ≡ true
 unfolding orders order_case other_case all_protocols all_memories all_states all_requests either given when claims_of fits is_owner is_sharer is_clean wait_fits in_protocol same is_sender_line

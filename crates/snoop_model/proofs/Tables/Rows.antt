@@ -39,18 +39,7 @@ same_request-true None None h = refl
 same_request-true (Some GetS) (Some GetS) h = refl
 same_request-true (Some GetM) (Some GetM) h = refl
 same_request-true (Some PutM) (Some PutM) h = refl
-same_request-true None (Some GetS) h = cc
-same_request-true None (Some GetM) h = cc
-same_request-true None (Some PutM) h = cc
-same_request-true (Some GetS) None h = cc
-same_request-true (Some GetM) None h = cc
-same_request-true (Some PutM) None h = cc
-same_request-true (Some GetS) (Some GetM) h = cc
-same_request-true (Some GetS) (Some PutM) h = cc
-same_request-true (Some GetM) (Some GetS) h = cc
-same_request-true (Some GetM) (Some PutM) h = cc
-same_request-true (Some PutM) (Some GetS) h = cc
-same_request-true (Some PutM) (Some GetM) h = cc
+same_request-true _ _ h = cc
 
 abbrev pub issue_test : Protocol → CacheState → CacheEvent → CacheCell → Bool
 issue_test p s e row = elim row.action [ action.Issue q ↦ same_request (waiting_request s) None && same_request (waiting_request row.next) (Some q) | _ ↦ true ]

@@ -1,9 +1,8 @@
 -- The table of senders as a test is the table of the definitions.
-use Rattle.std.proofs.Common.{◌≡◌, ℕ, Bool, true, false, cond, eqb, Option, Some, None, refl, inl, inr}
-use Rattle.std.specs.Prelude.{option_map, IsSomeAnd}
+use Rattle.std.proofs.Common.{◌≡◌, ℕ, Bool, true, false, cond, Option, Some, None, refl, arith}
+use Rattle.std.specs.Prelude.{Contains, IsSomeAnd}
 use Rattle.snoop_trace.specs.declared.protocol.Protocol.{Protocol}
 use Rattle.snoop_trace.specs.declared.protocol.Protocol.TheVariants as protocol
-use Rattle.snoop_rules.specs.declared.names.CacheState.{CacheState}
 use Rattle.snoop_rules.specs.declared.names.CacheState.TheVariants as state
 use Rattle.snoop_rules.specs.declared.names.MemState.{MemState}
 use Rattle.snoop_rules.specs.declared.names.MemState.TheVariants as mem
@@ -16,60 +15,47 @@ use Rattle.snoop_rules.specs.declared.names.Payload.{Payload}
 use Rattle.snoop_rules.specs.declared.names.Payload.TheVariants as payload
 use Rattle.snoop_rules.specs.MemoryCell.{MemoryCell}
 use Rattle.snoop_rules.specs.Takers.{arrival_at_memory, takes_payload}
-use Rattle.snoop_rules.specs.WhoSends.{SentAs}
+use Rattle.snoop_rules.specs.WhoSends.{Sender, Memory, Requestor, Other, sender_of, lines_of}
 use Rattle.snoop_rules.specs.declared.names.MemCell.{MemCell}
 use Rattle.snoop_rules.specs.MemoryCell.{memory_cell_of}
 use Rattle.snoop_model.specs.Pictures.Picture.{Picture, held_by}
-use Rattle.snoop_model.specs.Moves.Move.{Settles}
+use Rattle.snoop_model.specs.Moves.SenderTable.{IsLine}
 use Rattle.snoop_model.proofs.Tables.RespondTests.{SettlesIf}
-use Rattle.snoop_model.proofs.Tables.SenderTests.{Sender, Memory, Core, Requestor, is_sender_line, follows_sender_table, sender_as, is_some_and, after_respond, next_memory, next_of}
-
--- the sender's state, if it is a core
-abbrev pub state_as : Sender → Option CacheState
-state_as Memory = None
-state_as (Core s) = Some s
-state_as (Requestor s) = Some s
+use Rattle.snoop_model.proofs.Tables.SenderTests.{is_sender_line, follows_sender_table, is_some_and, after_respond, next_memory, next_of}
 
 no_line : ◌≡◌ {A = Bool} false true → ⊥
 no_line h = cc
 
-pub sent_as : (p : Protocol) (q : Request) (m : MemState) (sender : Sender) (sent : Payload) (next done : MemState) → is_sender_line p q m sender sent next done ≡ true → SentAs p q m (state_as sender) sent next done
+-- a line that the test passes is in the table, at place `k`
+pub in_lines : (p : Protocol) (q : Request) (m : MemState) (sender : Sender) (sent : Payload) (next done : MemState) → is_sender_line p q m sender sent next done ≡ true → Contains (lines_of p q m) (sender, sent, next, done)
 unfolding is_sender_line
-sent_as protocol.Mesi request.GetM mem.EorM (Core state.E) payload.Data mem.EorM mem.EorM h = (inl refl, (refl, refl, refl))
-sent_as protocol.Mesi request.GetM mem.EorM (Core state.EiA) payload.Data mem.EorM mem.EorM h = (inr (inr (inl refl)), (refl, refl, refl))
-sent_as protocol.Mesi request.GetM mem.EorM (Core state.M) payload.Data mem.EorM mem.EorM h = (inr (inl refl), (refl, refl, refl))
-sent_as protocol.Mesi request.GetM mem.EorM (Core state.MiA) payload.Data mem.EorM mem.EorM h = (inr (inr (inr refl)), (refl, refl, refl))
-sent_as protocol.Mesi request.GetM mem.I Memory payload.Data mem.EorM mem.EorM h = (refl, (refl, refl, refl))
-sent_as protocol.Mesi request.GetM mem.S Memory payload.Data mem.EorM mem.EorM h = (refl, (refl, refl, refl))
-sent_as protocol.Mesi request.GetS mem.EorM (Core state.E) payload.Data mem.SD mem.S h = (inl refl, (refl, refl, refl))
-sent_as protocol.Mesi request.GetS mem.EorM (Core state.EiA) payload.Data mem.SD mem.S h = (inr (inr (inl refl)), (refl, refl, refl))
-sent_as protocol.Mesi request.GetS mem.EorM (Core state.M) payload.Data mem.SD mem.S h = (inr (inl refl), (refl, refl, refl))
-sent_as protocol.Mesi request.GetS mem.EorM (Core state.MiA) payload.Data mem.SD mem.S h = (inr (inr (inr refl)), (refl, refl, refl))
-sent_as protocol.Mesi request.GetS mem.I Memory payload.DataE mem.EorM mem.EorM h = (refl, (refl, refl, refl))
-sent_as protocol.Mesi request.GetS mem.S Memory payload.Data mem.S mem.S h = (refl, (refl, refl, refl))
-sent_as protocol.Mesi request.PutM mem.EorM (Requestor state.EiA) payload.NoDataE mem.EorMD mem.I h = inr (inl (refl, (refl, refl, refl)))
-sent_as protocol.Mesi request.PutM mem.EorM (Requestor state.IiA) payload.NoData mem.EorMD mem.EorM h = inr (inr (refl, (refl, refl, refl)))
-sent_as protocol.Mesi request.PutM mem.EorM (Requestor state.MiA) payload.Data mem.EorMD mem.I h = inl (refl, (refl, refl, refl))
-sent_as protocol.Mesi request.PutM mem.I (Requestor state.IiA) payload.NoData mem.ID mem.I h = (refl, (refl, refl, refl))
-sent_as protocol.Mesi request.PutM mem.S (Requestor state.IiA) payload.NoData mem.SD mem.S h = (refl, (refl, refl, refl))
-sent_as protocol.Msi request.GetM mem.IorS Memory payload.Data mem.M mem.M h = (refl, (refl, refl, refl))
-sent_as protocol.Msi request.GetM mem.M (Core state.M) payload.Data mem.M mem.M h = (inl refl, (refl, refl, refl))
-sent_as protocol.Msi request.GetM mem.M (Core state.MiA) payload.Data mem.M mem.M h = (inr refl, (refl, refl, refl))
-sent_as protocol.Msi request.GetS mem.IorS Memory payload.Data mem.IorS mem.IorS h = (refl, (refl, refl, refl))
-sent_as protocol.Msi request.GetS mem.M (Core state.M) payload.Data mem.IorSD mem.IorS h = (inl refl, (refl, refl, refl))
-sent_as protocol.Msi request.GetS mem.M (Core state.MiA) payload.Data mem.IorSD mem.IorS h = (inr refl, (refl, refl, refl))
-sent_as protocol.Msi request.PutM mem.IorS (Requestor state.IiA) payload.NoData mem.IorSD mem.IorS h = (refl, (refl, refl, refl))
-sent_as protocol.Msi request.PutM mem.M (Requestor state.IiA) payload.NoData mem.MD mem.M h = inr (refl, (refl, refl, refl))
-sent_as protocol.Msi request.PutM mem.M (Requestor state.MiA) payload.Data mem.MD mem.IorS h = inl (refl, (refl, refl, refl))
-sent_as _ _ _ _ _ _ _ h = absurd (no_line h)
-
-either_core : (b : Bool) (s : CacheState) → state_as (cond b (Requestor s) (Core s)) ≡ Some s
-either_core true s = refl
-either_core false s = refl
-
-pub sender_state : (before : Picture) (core : ℕ) (from : Option ℕ) → state_as (sender_as before core from) ≡ option_map (λ k. (held_by before k).state) from
-sender_state before core None = refl
-sender_state before core (Some d) = either_core (eqb d core) (held_by before d).state
+in_lines protocol.Mesi request.GetM mem.EorM (Other state.E) payload.Data mem.EorM mem.EorM h = (0, omega arith, refl)
+in_lines protocol.Mesi request.GetM mem.EorM (Other state.EiA) payload.Data mem.EorM mem.EorM h = (2, omega arith, refl)
+in_lines protocol.Mesi request.GetM mem.EorM (Other state.M) payload.Data mem.EorM mem.EorM h = (1, omega arith, refl)
+in_lines protocol.Mesi request.GetM mem.EorM (Other state.MiA) payload.Data mem.EorM mem.EorM h = (3, omega arith, refl)
+in_lines protocol.Mesi request.GetM mem.I Memory payload.Data mem.EorM mem.EorM h = (0, omega arith, refl)
+in_lines protocol.Mesi request.GetM mem.S Memory payload.Data mem.EorM mem.EorM h = (0, omega arith, refl)
+in_lines protocol.Mesi request.GetS mem.EorM (Other state.E) payload.Data mem.SD mem.S h = (0, omega arith, refl)
+in_lines protocol.Mesi request.GetS mem.EorM (Other state.EiA) payload.Data mem.SD mem.S h = (2, omega arith, refl)
+in_lines protocol.Mesi request.GetS mem.EorM (Other state.M) payload.Data mem.SD mem.S h = (1, omega arith, refl)
+in_lines protocol.Mesi request.GetS mem.EorM (Other state.MiA) payload.Data mem.SD mem.S h = (3, omega arith, refl)
+in_lines protocol.Mesi request.GetS mem.I Memory payload.DataE mem.EorM mem.EorM h = (0, omega arith, refl)
+in_lines protocol.Mesi request.GetS mem.S Memory payload.Data mem.S mem.S h = (0, omega arith, refl)
+in_lines protocol.Mesi request.PutM mem.EorM (Requestor state.EiA) payload.NoDataE mem.EorMD mem.I h = (1, omega arith, refl)
+in_lines protocol.Mesi request.PutM mem.EorM (Requestor state.IiA) payload.NoData mem.EorMD mem.EorM h = (2, omega arith, refl)
+in_lines protocol.Mesi request.PutM mem.EorM (Requestor state.MiA) payload.Data mem.EorMD mem.I h = (0, omega arith, refl)
+in_lines protocol.Mesi request.PutM mem.I (Requestor state.IiA) payload.NoData mem.ID mem.I h = (0, omega arith, refl)
+in_lines protocol.Mesi request.PutM mem.S (Requestor state.IiA) payload.NoData mem.SD mem.S h = (0, omega arith, refl)
+in_lines protocol.Msi request.GetM mem.IorS Memory payload.Data mem.M mem.M h = (0, omega arith, refl)
+in_lines protocol.Msi request.GetM mem.M (Other state.M) payload.Data mem.M mem.M h = (0, omega arith, refl)
+in_lines protocol.Msi request.GetM mem.M (Other state.MiA) payload.Data mem.M mem.M h = (1, omega arith, refl)
+in_lines protocol.Msi request.GetS mem.IorS Memory payload.Data mem.IorS mem.IorS h = (0, omega arith, refl)
+in_lines protocol.Msi request.GetS mem.M (Other state.M) payload.Data mem.IorSD mem.IorS h = (0, omega arith, refl)
+in_lines protocol.Msi request.GetS mem.M (Other state.MiA) payload.Data mem.IorSD mem.IorS h = (1, omega arith, refl)
+in_lines protocol.Msi request.PutM mem.IorS (Requestor state.IiA) payload.NoData mem.IorSD mem.IorS h = (0, omega arith, refl)
+in_lines protocol.Msi request.PutM mem.M (Requestor state.IiA) payload.NoData mem.MD mem.M h = (1, omega arith, refl)
+in_lines protocol.Msi request.PutM mem.M (Requestor state.MiA) payload.Data mem.MD mem.IorS h = (0, omega arith, refl)
+in_lines _ _ _ _ _ _ _ h = absurd (no_line h)
 
 memory_settles : (p : Protocol) (m : MemState) (e : Option MemEvent) (done : MemState) → next_memory p m e ≡ Some done → (act : MemAction) × IsSomeAnd e (λ event. MemoryCell p m event act done)
 memory_settles p m None done h = cc
@@ -87,17 +73,15 @@ settles_by true p m sent done h = memory_settles p m (arrival_at_memory sent) do
 settles_by false p m sent done h = let same : done ≡ m = cc in (mem_action.None, (refl, same))
 
 -- what a test that is led says
-pub record Line (p : Protocol) (q : Request) (m : MemState) (sender : Sender) (sent : Payload) (next : MemState) : Type 0 where
-  pub act : MemAction
-  pub done : MemState
-  pub settled : Settles p q sent next act done
-  pub line : SentAs p q m (state_as sender) sent next done
-
-pub led_line : (p : Protocol) (q : Request) (m : MemState) (sender : Sender) (sent : Payload) (next : MemState) → follows_sender_table p q m sender sent next ≡ true → Line p q m sender sent next
-led_line p q m sender sent next h = go (after_respond p q next sent) refl h
+pub led_line : (p : Protocol) (before : Picture) (c : ℕ) (q : Request) (from : Option ℕ) (sent : Payload) (next : MemState)
+    → follows_sender_table p q before.memory.state (sender_of c (λ k. (held_by before k).state) from) sent next ≡ true → IsLine p before c q from sent next
+led_line p before c q from sent next h = go (after_respond p q next sent) refl h
   where
-    go : (found : Option MemState) → after_respond p q next sent ≡ found → is_some_and found (λ done. is_sender_line p q m sender sent next done) ≡ true → Line p q m sender sent next
+    sender : Sender
+    sender = sender_of c (λ k. (held_by before k).state) from
+
+    go : (found : Option MemState) → after_respond p q next sent ≡ found → is_some_and found (λ done. is_sender_line p q before.memory.state sender sent next done) ≡ true → IsLine p before c q from sent next
     go None is k = cc
     go (Some done) is k =
         let settles = settles_by (takes_payload q next) p next sent done is in
-        record { act = settles.0; done = done; settled = settles.1; line = sent_as p q m sender sent next done k }
+        record { done = done; line = in_lines p q before.memory.state sender sent next done k; act = settles.0; settled = settles.1 }

@@ -1,8 +1,7 @@
 -- The table of senders as a test.
-use Rattle.std.proofs.Common.{◌==◌, ℕ, Bool, true, false, cond, Option, Some, None}
+use Rattle.std.proofs.Common.{Bool, true, false, cond, Option, Some, None}
 use Rattle.snoop_trace.specs.declared.protocol.Protocol.{Protocol}
 use Rattle.snoop_trace.specs.declared.protocol.Protocol.TheVariants as protocol
-use Rattle.snoop_rules.specs.declared.names.CacheState.{CacheState}
 use Rattle.snoop_rules.specs.declared.names.CacheState.TheVariants as state
 use Rattle.snoop_rules.specs.declared.names.MemState.{MemState}
 use Rattle.snoop_rules.specs.declared.names.MemState.TheVariants as mem
@@ -14,38 +13,33 @@ use Rattle.snoop_rules.specs.declared.names.Payload.TheVariants as payload
 use Rattle.snoop_rules.specs.Takers.{arrival_at_memory, takes_payload}
 use Rattle.snoop_rules.specs.declared.names.MemCell.{MemCell}
 use Rattle.snoop_rules.specs.MemoryCell.{memory_cell_of}
-use Rattle.snoop_model.specs.Pictures.Picture.{Picture, held_by}
+use Rattle.snoop_rules.specs.WhoSends.{Sender, Memory, Requestor, Other}
 
-pub data Sender : Type 0 where
-  Memory : Sender
-  Core : CacheState → Sender
-  Requestor : CacheState → Sender
-
--- who sends, by request: memory before, the sender, its payload, memory after the Order and after the Respond
+-- the same table as a test: memory before, the sender, its payload, memory after the Order and after the Respond
 unfoldable pub is_sender_line : Protocol → Request → MemState → Sender → Payload → MemState → MemState → Bool
-is_sender_line protocol.Mesi request.GetM mem.EorM (Core state.E) payload.Data mem.EorM mem.EorM = true
-is_sender_line protocol.Mesi request.GetM mem.EorM (Core state.EiA) payload.Data mem.EorM mem.EorM = true
-is_sender_line protocol.Mesi request.GetM mem.EorM (Core state.M) payload.Data mem.EorM mem.EorM = true
-is_sender_line protocol.Mesi request.GetM mem.EorM (Core state.MiA) payload.Data mem.EorM mem.EorM = true
-is_sender_line protocol.Mesi request.GetM mem.I (Memory) payload.Data mem.EorM mem.EorM = true
-is_sender_line protocol.Mesi request.GetM mem.S (Memory) payload.Data mem.EorM mem.EorM = true
-is_sender_line protocol.Mesi request.GetS mem.EorM (Core state.E) payload.Data mem.SD mem.S = true
-is_sender_line protocol.Mesi request.GetS mem.EorM (Core state.EiA) payload.Data mem.SD mem.S = true
-is_sender_line protocol.Mesi request.GetS mem.EorM (Core state.M) payload.Data mem.SD mem.S = true
-is_sender_line protocol.Mesi request.GetS mem.EorM (Core state.MiA) payload.Data mem.SD mem.S = true
-is_sender_line protocol.Mesi request.GetS mem.I (Memory) payload.DataE mem.EorM mem.EorM = true
-is_sender_line protocol.Mesi request.GetS mem.S (Memory) payload.Data mem.S mem.S = true
+is_sender_line protocol.Mesi request.GetM mem.EorM (Other state.E) payload.Data mem.EorM mem.EorM = true
+is_sender_line protocol.Mesi request.GetM mem.EorM (Other state.EiA) payload.Data mem.EorM mem.EorM = true
+is_sender_line protocol.Mesi request.GetM mem.EorM (Other state.M) payload.Data mem.EorM mem.EorM = true
+is_sender_line protocol.Mesi request.GetM mem.EorM (Other state.MiA) payload.Data mem.EorM mem.EorM = true
+is_sender_line protocol.Mesi request.GetM mem.I Memory payload.Data mem.EorM mem.EorM = true
+is_sender_line protocol.Mesi request.GetM mem.S Memory payload.Data mem.EorM mem.EorM = true
+is_sender_line protocol.Mesi request.GetS mem.EorM (Other state.E) payload.Data mem.SD mem.S = true
+is_sender_line protocol.Mesi request.GetS mem.EorM (Other state.EiA) payload.Data mem.SD mem.S = true
+is_sender_line protocol.Mesi request.GetS mem.EorM (Other state.M) payload.Data mem.SD mem.S = true
+is_sender_line protocol.Mesi request.GetS mem.EorM (Other state.MiA) payload.Data mem.SD mem.S = true
+is_sender_line protocol.Mesi request.GetS mem.I Memory payload.DataE mem.EorM mem.EorM = true
+is_sender_line protocol.Mesi request.GetS mem.S Memory payload.Data mem.S mem.S = true
 is_sender_line protocol.Mesi request.PutM mem.EorM (Requestor state.EiA) payload.NoDataE mem.EorMD mem.I = true
 is_sender_line protocol.Mesi request.PutM mem.EorM (Requestor state.IiA) payload.NoData mem.EorMD mem.EorM = true
 is_sender_line protocol.Mesi request.PutM mem.EorM (Requestor state.MiA) payload.Data mem.EorMD mem.I = true
 is_sender_line protocol.Mesi request.PutM mem.I (Requestor state.IiA) payload.NoData mem.ID mem.I = true
 is_sender_line protocol.Mesi request.PutM mem.S (Requestor state.IiA) payload.NoData mem.SD mem.S = true
-is_sender_line protocol.Msi request.GetM mem.IorS (Memory) payload.Data mem.M mem.M = true
-is_sender_line protocol.Msi request.GetM mem.M (Core state.M) payload.Data mem.M mem.M = true
-is_sender_line protocol.Msi request.GetM mem.M (Core state.MiA) payload.Data mem.M mem.M = true
-is_sender_line protocol.Msi request.GetS mem.IorS (Memory) payload.Data mem.IorS mem.IorS = true
-is_sender_line protocol.Msi request.GetS mem.M (Core state.M) payload.Data mem.IorSD mem.IorS = true
-is_sender_line protocol.Msi request.GetS mem.M (Core state.MiA) payload.Data mem.IorSD mem.IorS = true
+is_sender_line protocol.Msi request.GetM mem.IorS Memory payload.Data mem.M mem.M = true
+is_sender_line protocol.Msi request.GetM mem.M (Other state.M) payload.Data mem.M mem.M = true
+is_sender_line protocol.Msi request.GetM mem.M (Other state.MiA) payload.Data mem.M mem.M = true
+is_sender_line protocol.Msi request.GetS mem.IorS Memory payload.Data mem.IorS mem.IorS = true
+is_sender_line protocol.Msi request.GetS mem.M (Other state.M) payload.Data mem.IorSD mem.IorS = true
+is_sender_line protocol.Msi request.GetS mem.M (Other state.MiA) payload.Data mem.IorSD mem.IorS = true
 is_sender_line protocol.Msi request.PutM mem.IorS (Requestor state.IiA) payload.NoData mem.IorSD mem.IorS = true
 is_sender_line protocol.Msi request.PutM mem.M (Requestor state.IiA) payload.NoData mem.MD mem.M = true
 is_sender_line protocol.Msi request.PutM mem.M (Requestor state.MiA) payload.Data mem.MD mem.IorS = true
@@ -70,8 +64,3 @@ after_respond p q m pl = cond (takes_payload q m) (next_memory p m (arrival_at_m
 -- the memory state after the Respond is the last column
 abbrev pub follows_sender_table : Protocol → Request → MemState → Sender → Payload → MemState → Bool
 follows_sender_table p q m sender pl m2 = is_some_and (after_respond p q m2 pl) (λ m3. is_sender_line p q m sender pl m2 m3)
-
--- the sender as the table of Orders names it
-abbrev pub sender_as : Picture → ℕ → Option ℕ → Sender
-sender_as before c None = Memory
-sender_as before c (Some d) = cond (d == c) (Requestor (held_by before d).state) (Core (held_by before d).state)

@@ -1,5 +1,5 @@
 -- What a row sends, as a test.
-use Rattle.std.proofs.Common.{◌≡◌, Option, Some, None, refl, ap}
+use Rattle.std.proofs.Common.{◌≡◌, Option, Some, None, ap}
 use Rattle.std.proofs.lemmas.Option.{same_Some}
 use Rattle.snoop_rules.specs.declared.names.CacheAction.{CacheAction}
 use Rattle.snoop_rules.specs.declared.names.CacheAction.TheVariants as action
@@ -35,18 +35,11 @@ sent_by_memory (Some row) = memory_payload row.action
 -- an action that sends
 pub sending : (act : CacheAction) (payload : Payload) → payload_sent act ≡ Some payload → (target : Target) × (act ≡ action.Send payload target)
 sending (action.Send sent target) payload h = (target, ap (λ (x : Payload). action.Send x target) (same_Some _ _ h))
-sending action.None payload h = cc
-sending action.Hit payload h = cc
-sending action.Stall payload h = cc
-sending (action.Issue request) payload h = cc
-sending action.Drop payload h = cc
-sending action.FillLoad payload h = cc
-sending action.FillStore payload h = cc
+sending _ payload h = cc
 
 pub sending_memory : (act : MemAction) (payload : Payload) → memory_payload act ≡ Some payload → act ≡ mem_action.Send payload
 sending_memory (mem_action.Send sent) payload h = ap (λ (x : Payload). mem_action.Send x) (same_Some _ _ h)
-sending_memory mem_action.None payload h = cc
-sending_memory mem_action.Write payload h = cc
+sending_memory _ payload h = cc
 
 -- a row that sends
 pub sends_row : (found : Option CacheCell) (payload : Payload) → sent_by found ≡ Some payload → (target : Target) × ((next : CacheState) × (found ≡ Some (record { action = action.Send payload target; next = next })))

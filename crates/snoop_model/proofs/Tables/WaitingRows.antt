@@ -7,7 +7,7 @@ use Rattle.snoop_trace.specs.declared.step.Op.{Op}
 use Rattle.snoop_trace.specs.declared.step.Op.TheVariants as op
 use Rattle.snoop_trace.specs.declared.protocol.Protocol.{Protocol}
 use Rattle.snoop_rules.specs.declared.names.CacheState.{CacheState}
-use Rattle.snoop_rules.specs.declared.names.CacheState.TheVariants.{I, IsAd, IsD, ImAd, ImD, S, SmAd, SmD, E, M, EiA, MiA, IiA}
+use Rattle.snoop_rules.specs.declared.names.CacheState.TheVariants.{IsD}
 use Rattle.snoop_rules.specs.declared.names.CacheEvent.{CacheEvent}
 use Rattle.snoop_rules.specs.declared.names.CacheEvent.TheVariants as event
 use Rattle.snoop_rules.specs.declared.names.CacheAction.{CacheAction}
@@ -97,24 +97,12 @@ awaited-filled p s payload.Data e a n is row =
 awaited-filled p s payload.DataE e a n is row =
     let P : CacheEvent → Type 0 = λ x. Cell p s x a n in
     same_request-true _ _ (each_row-at awaited_test awaited_test_holds p s event.DataE a n (subst P (sym (same_Some _ _ is)) row))
-awaited-filled p s payload.NoData e a n is row = cc
-awaited-filled p s payload.NoDataE e a n is row = cc
+awaited-filled p s _ e a n is row = cc
 
 -- no data comes for a PutM
 pub awaited-get : (s : CacheState) → awaited_request s ≡ Some PutM → ⊥
-awaited-get I h = cc
-awaited-get IsAd h = cc
 awaited-get IsD h = cc
-awaited-get ImAd h = cc
-awaited-get ImD h = cc
-awaited-get S h = cc
-awaited-get SmAd h = cc
-awaited-get SmD h = cc
-awaited-get E h = cc
-awaited-get M h = cc
-awaited-get EiA h = cc
-awaited-get MiA h = cc
-awaited-get IiA h = cc
+awaited-get _ h = cc
 
 -- a load or a store has missed
 abbrev pub has_missed : CacheState → Bool

@@ -17,7 +17,7 @@ use Rattle.snoop_bus.specs.Traffic.{Open}
 use Rattle.snoop_bus.specs.Queues.{queue_of}
 use Rattle.snoop_model.specs.declared.line.Access.{Access}
 use Rattle.snoop_model.specs.declared.replies.Refused.{Refused}
-use Rattle.snoop_model.specs.declared.replies.Refused.TheVariants.{NoCore, NoBlock, Stalled, NothingWaiting, BusTaken, NoTransaction, NoMemory}
+use Rattle.snoop_model.specs.declared.replies.Refused.TheVariants.{NoCore, NoBlock, Stalled, NothingWaiting, BusTaken, NoTransaction}
 use Rattle.snoop_model.specs.Pictures.Picture.{held_by, Picture, with_line}
 use Rattle.snoop_model.specs.Pictures.Situation.{Situation, picture_of, state_of, Waits, nothing_there}
 use Rattle.snoop_model.specs.Moves.Move.{queues_after}
@@ -63,10 +63,7 @@ module _ (s : Situation) (under_way : ℕ → Option ℕ) (core block word : ℕ
   ask_goes idle NoBlock h = elim h.1 [ inl l ↦ absurd (omega arith) | inr none ↦ absurd (none has_word) ]
   ask_goes idle (Stalled state) h =
       two_blocks block (sym idle ∙ busy_under_way s under_way serving kept core block (stall_busy s.protocol (state_of s core block) (asked asking) h.2.0 h.2.1))
-  ask_goes idle NothingWaiting h = absurd h
-  ask_goes idle (BusTaken b) h = absurd h
-  ask_goes idle NoTransaction h = absurd h
-  ask_goes idle NoMemory h = absurd h
+  ask_goes idle _ h = absurd h
 
   order_goes : under_way core ≡ Some block → (picture_of s block).transaction ≡ None → (q : Request) → Waits s core block q → (cause : Refused) → Refuses s (Order core) cause → ⊥
   order_goes its free q waits NoCore h = absurd (omega arith)
@@ -76,19 +73,12 @@ module _ (s : Situation) (under_way : ℕ → Option ℕ) (core block word : ℕ
       let P : ℕ → Type 0 = λ x. (picture_of s x).transaction ≡ None in
       let taken : is_some (picture_of s b).transaction ≡ true = h.2 in
       absurd (false≢true (sym (ap (λ (o : Option Open). is_some o) (subst P same free)) ∙ taken))
-  order_goes its free q waits NoBlock h = absurd h
-  order_goes its free q waits (Stalled state) h = absurd h
-  order_goes its free q waits NoTransaction h = absurd h
-  order_goes its free q waits NoMemory h = absurd h
+  order_goes its free q waits _ h = absurd h
 
   respond_goes : (o : Open) → (picture_of s block).transaction ≡ Some o → (cause : Refused) → Refuses s (Respond block) cause → ⊥
   respond_goes o open_here NoBlock h = absurd (omega arith)
   respond_goes o open_here NoTransaction h = let clash : ◌≡◌ {A = Option Open} None (Some o) = sym h.1 ∙ open_here in cc
-  respond_goes o open_here NoCore h = absurd h
-  respond_goes o open_here (Stalled state) h = absurd h
-  respond_goes o open_here NothingWaiting h = absurd h
-  respond_goes o open_here (BusTaken b) h = absurd h
-  respond_goes o open_here NoMemory h = absurd h
+  respond_goes o open_here _ h = absurd h
 
 pub never_refused : NeverRefused
 never_refused s under_way core block word asking false step serving kept has_core has_block has_word works is cause refused =

@@ -5,15 +5,7 @@ use Rattle.snoop_trace.specs.declared.protocol.Protocol.{Protocol}
 use Rattle.snoop_rules.specs.Possible.{MayLoad, MayStore}
 use Rattle.snoop_model.specs.Pictures.Picture.{Picture, held_by}
 
--- a load of the core would hit
-abbrev pub IsReader : Protocol → Picture → ℕ → Type 0
-IsReader protocol picture core = MayLoad protocol (held_by picture core).state
-
--- a store of the core would hit
-abbrev pub IsWriter : Protocol → Picture → ℕ → Type 0
-IsWriter protocol picture core = MayStore protocol (held_by picture core).state
-
--- beside a writer no other core is a reader or a writer
+-- beside a core that may write, no other may read or write
 abbrev pub OneWriter : Protocol → Picture → Type 0
 OneWriter protocol picture =
-    (core other : ℕ) → IsWriter protocol picture core → other ≢ core → (¬ IsReader protocol picture other) × (¬ IsWriter protocol picture other)
+    (core other : ℕ) → MayStore protocol (held_by picture core).state → other ≢ core → (¬ MayLoad protocol (held_by picture other).state) × (¬ MayStore protocol (held_by picture other).state)

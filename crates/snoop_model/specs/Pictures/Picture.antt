@@ -1,6 +1,6 @@
 -- The picture of a block: what each core, memory and the bus hold of it.
 -- Source: "A Primer on Memory Consistency and Cache Coherence", 2nd edition, chapter 7, system model.
-use Rattle.std.specs.Prelude.{ℕ, List, Option, None, slice_index_or, slice_set}
+use Rattle.std.specs.Prelude.{ℕ, List, Option, None, Some, slice_index_or, slice_set, if◌then◌else◌}
 use Rattle.snoop_trace.specs.Words.{Data}
 use Rattle.snoop_trace.specs.declared.protocol.Protocol.{Protocol}
 use Rattle.snoop_trace.specs.declared.protocol.Protocol.TheVariants.{Msi, Mesi}
@@ -8,6 +8,7 @@ use Rattle.snoop_rules.specs.declared.names.CacheState.{CacheState}
 use Rattle.snoop_rules.specs.declared.names.CacheState.TheVariants.{I, ImAd, IiA}
 use Rattle.snoop_rules.specs.declared.names.MemState.{MemState}
 use Rattle.snoop_rules.specs.declared.names.MemState.TheVariants as mem
+use Rattle.snoop_rules.specs.Takers.{carries_value}
 use Rattle.snoop_model.specs.Pictures.Lines.{Line, MemLine}
 use Rattle.snoop_bus.specs.Traffic.{Open}
 
@@ -32,6 +33,11 @@ held_by picture core = held_at picture.caches core
 -- the core holds this, and all else is as it was
 abbrev pub with_line : Picture → ℕ → Line → Picture
 with_line picture core line = record picture { caches = slice_set picture.caches core line }
+
+-- the data under way, if any: the words of the open transaction's message, where it carries them
+abbrev pub data_under_way : Option Open → Option Data
+data_under_way None = None
+data_under_way (Some transaction) = if carries_value transaction.payload then Some transaction.value else None
 
 -- memory's state at reset
 abbrev pub first_memory : Protocol → MemState

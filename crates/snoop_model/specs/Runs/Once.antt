@@ -1,11 +1,11 @@
 -- Every load and store stands once in the history, or still waits.
 -- Source: this project's profile.
-use Rattle.std.specs.Prelude.{◌≡◌, ℕ, ◌+◌, Bool, true, false, ◌&&◌, ◌==◌, List, [], ◌∷◌, count_by, Result, Ok, Err}
+use Rattle.std.specs.Prelude.{◌≡◌, ℕ, ◌+◌, Bool, true, false, ◌&&◌, ◌==◌, List, [], ◌∷◌, count_by, Result, Ok, Err, if◌then◌else◌}
 use Rattle.std.specs.Option.{option_map_or}
 use Rattle.snoop_trace.specs.declared.step.Op.{Op}
 use Rattle.snoop_trace.specs.declared.step.Op.TheVariants as op
 use Rattle.snoop_trace.specs.declared.step.Step.{Step}
-use Rattle.snoop_trace.specs.declared.step.Step.TheVariants.{Ask, Order, Respond}
+use Rattle.snoop_trace.specs.declared.step.Step.TheVariants.{Ask}
 use Rattle.snoop_history.specs.declared.items.Did.{Did}
 use Rattle.snoop_history.specs.History.{answers_of}
 use Rattle.snoop_model.specs.declared.line.Access.{Access}
@@ -34,21 +34,11 @@ taken (step ∷ steps) (Err cause ∷ outcomes) = taken steps outcomes
 -- the step is this core's Ask of the operation on the block
 abbrev pub asks : ℕ → ℕ → Access → Step → Bool
 asks core block wanted (Ask c b word asking) = c == core && (b == block && same_access wanted (record { word = word; op = asking }))
-asks core block wanted (Order c) = false
-asks core block wanted (Respond b) = false
-
--- a load, or a store of the value
-abbrev pub op_of : Bool → ℕ → Op
-op_of true value = op.Load
-op_of false value = op.Store value
-
--- the operation that was performed
-abbrev pub did_op : Did → Op
-did_op did = op_of did.load did.value
+asks core block wanted _ = false
 
 -- the operation that was performed, with its word
 abbrev pub did_access : Did → Access
-did_access did = record { word = did.word; op = did_op did }
+did_access did = record { word = did.word; op = if did.load then op.Load else op.Store did.value }
 
 -- it is this operation on this block
 abbrev pub did_it : ℕ → Access → Did → Bool
@@ -67,15 +57,11 @@ waits_for s core block wanted = option_map_or (λ access. one_if (same_access wa
 abbrev pub tally : Situation → ℕ → ℕ → Access → ℕ
 tally s core block wanted = count_by (did_it block wanted) (answers_of s.log core) + waits_for s core block wanted
 
--- how often the core's taken Asks are of the operation on the block
-abbrev pub times_asked : List Step → List (Result Reply Refused) → ℕ → ℕ → Access → ℕ
-times_asked steps outcomes core block wanted = count_by (asks core block wanted) (taken steps outcomes)
-
 -- the taken Asks of loads and stores are the operations in the log and those that wait, each as often
 abbrev pub Once : List Step → List (Result Reply Refused) → Situation → Type 0
-Once steps outcomes s = (core block : ℕ) (wanted : Access) → tally s core block wanted ≡ times_asked steps outcomes core block wanted
+Once steps outcomes s = (core block : ℕ) (wanted : Access) → tally s core block wanted ≡ count_by (asks core block wanted) (taken steps outcomes)
 
 -- the same as growth, from one situation to another
 abbrev pub OnceMore : Situation → List Step → List (Result Reply Refused) → Situation → Type 0
 OnceMore old steps outcomes new =
-    (core block : ℕ) (wanted : Access) → tally new core block wanted ≡ tally old core block wanted + times_asked steps outcomes core block wanted
+    (core block : ℕ) (wanted : Access) → tally new core block wanted ≡ tally old core block wanted + count_by (asks core block wanted) (taken steps outcomes)

@@ -12,27 +12,18 @@ use Rattle.snoop_model.specs.Pictures.Situation.{Situation, reset}
 use Rattle.snoop_model.specs.Moves.Move.{Move, FirstMove}
 use Rattle.snoop_model.specs.Moves.Refuses.{Refuses}
 
--- a refusal leaves all equal; any step may be refused as out of memory
-abbrev pub IsRefusal : Situation → Step → Refused → Situation → Type 0
-IsRefusal old step NoMemory new = new ≡ old
-IsRefusal old step cause new = Refuses old step cause × (new ≡ old)
-
--- one step of a run: a move, an Order being on any block, or a refusal
+-- one step of a run: a move, an Order being on any block, or a refusal, which leaves all equal; any step may be refused as out of memory
 abbrev pub Goes : Situation → Step → Result Reply Refused → Situation → Type 0
 Goes old step (Ok answer) new = (entry : Option Item) × Move old step answer new entry
-Goes old step (Err cause) new = IsRefusal old step cause new
+Goes old step (Err NoMemory) new = new ≡ old
+Goes old step (Err cause) new = Refuses old step cause × (new ≡ old)
 
 -- from old, these steps with these outcomes lead to new
 abbrev pub RunFrom : Situation → List Step → List (Result Reply Refused) → Situation → Type 0
 RunFrom old [] [] new = new ≡ old
 RunFrom old (step ∷ steps) (outcome ∷ outcomes) new =
     (middle : Situation) × (Goes old step outcome middle × RunFrom middle steps outcomes new)
-RunFrom old [] (outcome ∷ outcomes) new = ⊥
-RunFrom old (step ∷ steps) [] new = ⊥
-
--- a run from reset
-abbrev pub Run : Protocol → Extent → List Step → List (Result Reply Refused) → Situation → Type 0
-Run protocol shape steps outcomes new = RunFrom (reset protocol shape) steps outcomes new
+RunFrom old _ _ new = ⊥
 
 -- one step of the run of some steps: each Order is on the block that stands first, and memory is ample
 abbrev pub GoesFirst : Situation → Step → Result Reply Refused → Situation → Type 0
@@ -59,7 +50,7 @@ AllTaken protocol shape steps new = (replies : List Reply) × TheRun protocol sh
 abbrev pub EveryRun : (Protocol → Extent → List Step → List (Result Reply Refused) → Situation → Type 0) → Type 0
 EveryRun P =
     (protocol : Protocol) (shape : Extent) (steps : List Step) (outcomes : List (Result Reply Refused)) (new : Situation) →
-    Run protocol shape steps outcomes new → P protocol shape steps outcomes new
+    RunFrom (reset protocol shape) steps outcomes new → P protocol shape steps outcomes new
 
 -- from where the run of some steps has led, any further steps have a run too
 abbrev pub RunsGoOn : Type 0

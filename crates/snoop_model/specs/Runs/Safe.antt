@@ -1,10 +1,18 @@
 -- What holds of every machine, as its users see it.
 -- Source: this project's profile.
 use Rattle.snoop_model.specs.Coherent.{IsCoherent}
+use Rattle.snoop_trace.specs.declared.step.Step.{Step}
 use Rattle.snoop_model.specs.Pictures.Situation.{Situation}
+use Rattle.snoop_model.specs.Moves.LookUps.{FindsRows}
 use Rattle.snoop_model.specs.Invariant.WellKept.{IsWellKept}
+use Rattle.snoop_model.specs.Runs.Run.{EveryRun}
 
--- the machine is coherent, and queues, open transactions and waiting operations are as the states of the lines say
+-- no step of a run meets an impossible cell
+abbrev pub RowsAreFound : Type 0
+RowsAreFound = EveryRun (λ protocol shape steps outcomes s. (step : Step) → FindsRows s step)
+
+-- the machine is coherent, no step meets an impossible cell, and queues, open transactions and waiting operations are as the states of the lines say
 pub record IsSafe (s : Situation) : Type 0 where
   pub coherent : IsCoherent s
+  pub finds_rows : (step : Step) → FindsRows s step
   pub well_kept : IsWellKept s

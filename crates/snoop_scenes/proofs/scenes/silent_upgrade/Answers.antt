@@ -2,14 +2,8 @@ use Rattle.std.proofs.Common.{refl}
 use Rattle.snoop_trace.specs.declared.protocol.Protocol.TheVariants.{Mesi}
 use Rattle.snoop_scenes.specs.Scene.{two_cores}
 use Rattle.snoop_scenes.specs.SilentUpgrade.{frames, end}
-use Rattle.snoop_scenes.proofs.Play.{Told, told}
+use Rattle.snoop_scenes.proofs.Play.{told}
 use Rattle.snoop_scenes.proofs.scenes.silent_upgrade.Goals as goal
 
-scene : Told Mesi two_cores frames end
-scene = told Mesi two_cores frames end tt refl refl
-
-pub returns-clause-run : goal.returns-clause-run
-returns-clause-run c = scene.run
-
-pub returns-clause-states : goal.returns-clause-states
-returns-clause-states c = scene.states
+pub returns-clause-scene : goal.returns-clause-scene
+returns-clause-scene c = told Mesi two_cores frames end tt refl refl

@@ -18,7 +18,7 @@ use Rattle.snoop_bench.specs.Turns.Case.{ends}
 use Rattle.snoop_bench.specs.Faults.{IsInside}
 use Rattle.snoop_bench.specs.Works.{access_of, work_at}
 use Rattle.snoop_bench.proofs.Within.{turn_within}
-use Rattle.snoop_bench.proofs.Turning.{Stepped, serving_step, over_keeps}
+use Rattle.snoop_bench.proofs.Turning.{Stepped, never, serving_step, over_keeps}
 use Rattle.snoop_bench.proofs.Closing.{a_response, no_request, closed_after}
 use Rattle.snoop_bench.proofs.Outcomes.{finishes, last_is}
 use Rattle.snoop_bench.proofs.bench.Bench.finish.Goals as goal
@@ -36,6 +36,15 @@ finished rule s t step answer works core work u well m turn none =
       closed_after s t core work.block work.word work.op answer m.entry well (no_request (waiting_request (state_of s core work.block)) none) move,
       serving_step rule s t core work.block work.word work.op step answer works u m turn,
     )
+
+pub take-requires-clause-allowed : goal.take-requires-clause-allowed
+take-requires-clause-allowed g c =
+    let s = c.self.inside.recorder.situation in
+    let well : IsWellKept s = subst IsWellKept c.machine.ensures c.coherent.ensures.well_kept in
+    let its = ap (λ (l : Locked). work_at l.works c.args.core) c.self.view_is ∙ c.requires.its in
+    let inside = subst (λ (l : Locked). IsInside c.args.core c.args.work l) (sym c.self.view_is) c.requires.inside in
+    let turn = ap (λ (l : Locked). turn_of l.situation c.args.core c.args.work.block c.args.work.word c.args.work.op true) c.self.view_is ∙ c.requires.step in
+    never c.turns_are_served.ensures s c.self.inside.works.items c.args.core c.args.work true c.args.step c.self.invariant well inside.0 inside.1 inside.2 its turn
 
 pub take-requires-clause-within : goal.take-requires-clause-within
 take-requires-clause-within g c =

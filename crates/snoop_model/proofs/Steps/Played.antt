@@ -1,4 +1,4 @@
--- A step played: what it is answered and where it leads, with the proof that it goes so.
+-- A step taken: what it is answered and where it leads, with the proof that it goes so.
 use Rattle.std.proofs.Common.{ℕ, List, Option, Some, None, Result, refl}
 use Rattle.std.specs.Prelude.{slice_set}
 use Rattle.snoop_trace.specs.Words.{word_at}
