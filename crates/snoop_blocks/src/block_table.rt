@@ -58,7 +58,14 @@ impl<T: Copy> BlockTable<T> {
     pub fn get_or(&self, block: u32, outside: T) -> T
         ensures { result ≡ slice_index_or self.now block outside }
     {
-        self.get(block).unwrap_or(outside)
+        let Some(place) = self.places.get(block as usize) else {
+            return outside;
+        };
+        if *place == 0 {
+            self.first
+        } else {
+            self.written[(*place - 1) as usize]
+        }
     }
 
     /// Writes the block's value. It takes no memory of the allocator.
