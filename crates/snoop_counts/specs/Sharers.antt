@@ -2,7 +2,7 @@
 -- Source: this project's profile.
 use Rattle.std.specs.Prelude.{◌≡◌, ◌<◌, ℕ, ◌&&◌, Bool, true, List, [], filter, length, slice_index_or}
 use Rattle.std.specs.List.{list_any, range_with_len}
-use Rattle.snoop_machine.specs.CoreSet.{has}
+use Rattle.snoop_blocks.specs.CoreSet.{has}
 use Rattle.snoop_counts.specs.Counted.{is_counted}
 use Rattle.snoop_counts.specs.declared.count.Count.{Count}
 use Rattle.snoop_counts.specs.declared.count.Happening.{Happening}

@@ -5,10 +5,9 @@ ghost use Rattle.snoop_counts.specs.declared.count.Count.{Count as Counted};
 ghost use Rattle.snoop_counts.specs.declared.count.Happening.{Happening as Seen};
 ghost use Rattle.snoop_counts.specs.declared.count.Subjects.{Subjects as Whose};
 
-use crate::core_set::CoreSet;
 use crate::count::{Count, Happening, Subjects};
 use crate::counted::{counts, subject_of};
-use snoop_blocks::BlockTable;
+use snoop_blocks::{BlockTable, CoreSet};
 use snoop_trace::NoMemory;
 use std::alloc::Global;
 
