@@ -3,6 +3,7 @@
 
 mod block_table;
 mod core_set;
+mod core_sets;
 
 pub use block_table::BlockTable;
 pub use core_set::CoreSet;
