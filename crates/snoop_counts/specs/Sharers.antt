@@ -1,8 +1,8 @@
 -- For which cores something of each block, or each word, was counted.
 -- Source: this project's profile.
-use Rattle.std.specs.Prelude.{◌≡◌, ◌<◌, ℕ, ◌&&◌, Bool, true, List, [], filter, length, slice_index_or}
+use Rattle.std.specs.Prelude.{◌≡◌, ◌<◌, ℕ, ◌&&◌, Bool, true, List, filter, length}
 use Rattle.std.specs.List.{list_any, range_with_len}
-use Rattle.snoop_machine.specs.CoreSet.{has}
+use Rattle.snoop_blocks.specs.CoreSet.{has, set_of}
 use Rattle.snoop_counts.specs.Counted.{is_counted}
 use Rattle.snoop_counts.specs.declared.count.Count.{Count}
 use Rattle.snoop_counts.specs.declared.count.Happening.{Happening}
@@ -21,16 +21,6 @@ is_shared_by whose counted seen subject core = list_any (is_counted_for_both who
 -- for how many of so many cores something of the subject is counted
 abbrev pub sharers : Subjects → Count → ℕ → List Happening → ℕ → ℕ
 sharers whose counted cores seen subject = length (filter (is_shared_by whose counted seen subject) (range_with_len 0 cores))
-
--- the set of a subject
-abbrev pub set_of : List (List ℕ) → ℕ → List ℕ
-set_of sets subject = slice_index_or sets subject []
-
--- the core is put into the set of the subject, where both are there, and no other is
-pub record Puts (subject core : ℕ) (old new : List (List ℕ)) : Type 0 where
-  pub many : length new ≡ length old
-  pub here : subject < length old → core < 256 → has (set_of new subject) core ≡ true
-  pub apart : (other one : ℕ) → (other ≡ subject → one ≡ core → ⊥) → has (set_of new other) one ≡ has (set_of old other) one
 
 -- the sets are of these subjects, of which there are so many, and of this count, and each has the cores for which something of its subject has happened
 pub record HasMarked (whose : Subjects) (counted : Count) (many : ℕ) (seen : List Happening) (sharers : Sharers) : Type 0 where

@@ -9,7 +9,6 @@ mod by_core;
 mod by_steps;
 mod by_word;
 mod copies;
-mod core_set;
 mod core_table;
 mod count;
 mod counted;

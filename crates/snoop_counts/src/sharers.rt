@@ -1,14 +1,13 @@
 //! For which cores something of each block, or each word, was counted.
 ghost use Rattle.std.specs.Prelude.{◌≡◌, ◌<◌, ◌≤◌, ◌++◌, ◌∷◌, [], ℕ, List, IfOk};
-ghost use Rattle.snoop_counts.specs.Sharers.{HasMarked, Puts, sharers};
+ghost use Rattle.snoop_counts.specs.Sharers.{HasMarked, sharers};
 ghost use Rattle.snoop_counts.specs.declared.count.Count.{Count as Counted};
 ghost use Rattle.snoop_counts.specs.declared.count.Happening.{Happening as Seen};
 ghost use Rattle.snoop_counts.specs.declared.count.Subjects.{Subjects as Whose};
 
-use crate::core_set::CoreSet;
 use crate::count::{Count, Happening, Subjects};
 use crate::counted::{counts, subject_of};
-use snoop_blocks::BlockTable;
+use snoop_blocks::{BlockTable, CoreSet};
 use snoop_trace::NoMemory;
 use std::alloc::Global;
 
@@ -40,18 +39,6 @@ impl Sharers {
         }
     }
 
-    // Puts the core into the set of the subject, if there is one.
-    fn insert(&mut self, subject: u32, core: u32)
-        ensures subjects { self.new.subjects ≡ self.old.subjects }
-        ensures count { self.new.count ≡ self.old.count }
-        ensures puts { Puts subject core self.old.sets self.new.sets }
-    {
-        if let Some(mut set) = self.sets.get(subject) {
-            set.insert(core);
-            self.sets.set(subject, set);
-        }
-    }
-
     /// Marks the core and the subject of what has happened, if it is counted.
     pub(crate) fn add(&mut self, happening: Happening)
         ensures { (whose : Whose) (counted : Counted) (many : ℕ) (seen : List Seen) → HasMarked whose counted many seen self.old → HasMarked whose counted many (seen ++ happening ∷ []) self.new }
@@ -65,7 +52,7 @@ impl Sharers {
         let Some(core) = subject_of(Subjects::Cores, self.count, happening) else {
             return;
         };
-        self.insert(subject, core);
+        self.sets.insert(subject, core);
     }
 
     /// For how many of so many cores something of the subject was counted.

@@ -22,7 +22,7 @@ use Rattle.snoop_model.specs.Pictures.Sound.{IsProper}
 use Rattle.snoop_model.specs.Invariant.Fits.{is_owner}
 use Rattle.snoop_model.specs.Moves.Move.{TakesRow}
 use Rattle.snoop_model.specs.Moves.LookUps.{HasRow}
-use Rattle.snoop_machine.specs.CoreSet.{has}
+use Rattle.snoop_blocks.specs.CoreSet.{has}
 use Rattle.snoop_machine.specs.Holders.{concerns}
 use Rattle.snoop_machine.proofs.ProperLines.{moves_to_same}
 

@@ -17,6 +17,5 @@ pub mod LineParts
 pub mod LinesGoing
 pub mod Following
 pub mod Holding
-pub mod CoreSets
 pub mod WordsHeld
 pub mod WordCounts

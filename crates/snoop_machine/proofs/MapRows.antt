@@ -10,7 +10,7 @@ use Rattle.snoop_model.specs.Pictures.Picture.{held_at, nothing_held}
 use Rattle.snoop_model.specs.Pictures.Sound.{keeps}
 use Rattle.snoop_model.specs.Invariant.Fits.{is_owner}
 use Rattle.snoop_machine.specs.declared.holders.Holders.{Holders}
-use Rattle.snoop_machine.specs.CoreSet.{has}
+use Rattle.snoop_blocks.specs.CoreSet.{has}
 use Rattle.snoop_machine.specs.Holders.{AreHolders, HaveMoved}
 use Rattle.snoop_machine.specs.Cache.{Contents, no_cache, line_in, blocks_of, row_in}
 use Rattle.snoop_machine.specs.Lines.{rows_of, is_among, line_at}

@@ -9,7 +9,7 @@ use Rattle.snoop_machine.specs.declared.holders.Holders.{Holders}
 use Rattle.snoop_model.specs.Pictures.Picture.{held_at}
 use Rattle.snoop_model.specs.Pictures.Sound.{keeps}
 use Rattle.snoop_model.specs.Invariant.Fits.{is_owner}
-use Rattle.snoop_machine.specs.CoreSet.{has}
+use Rattle.snoop_blocks.specs.CoreSet.{has}
 
 -- whether another's request concerns a core, by whether it is an owner and whether it is a reader
 abbrev pub is_concerned : Request → Bool → Bool → Bool

@@ -5,6 +5,5 @@ pub mod AnyParts
 pub mod MachineView
 pub mod Cache
 pub mod Lines
-pub mod CoreSet
 pub mod Holders
 pub mod Following

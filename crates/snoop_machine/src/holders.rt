@@ -2,10 +2,10 @@
 ghost use Rattle.std.specs.Prelude.{◌≡◌, ◌≢◌, ◌↔◌, ℕ, ◌<◌, true, false, IsTrue};
 ghost use Rattle.snoop_model.specs.Pictures.Sound.{keeps};
 ghost use Rattle.snoop_model.specs.Invariant.Fits.{is_owner};
-ghost use Rattle.snoop_machine.specs.CoreSet.{has};
+ghost use Rattle.snoop_blocks.specs.CoreSet.{has};
 ghost use Rattle.snoop_machine.specs.Holders.{is_concerned, HaveMoved};
 
-use crate::core_set::CoreSet;
+use snoop_blocks::CoreSet;
 use snoop_rules::{CacheState, Request};
 
 /// The cores that keep a block's value, by what another's request asks of them.

@@ -4,7 +4,6 @@
 mod any_parts;
 mod ask;
 mod cache;
-mod core_set;
 mod holders;
 mod lines;
 mod machine;

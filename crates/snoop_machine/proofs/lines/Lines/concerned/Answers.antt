@@ -6,7 +6,7 @@ use Rattle.snoop_model.specs.Pictures.Picture.{held_at}
 use Rattle.snoop_model.specs.Pictures.Sound.{IsProper}
 use Rattle.snoop_machine.specs.declared.holders.Holders.{Holders}
 use Rattle.snoop_model.specs.Invariant.Fits.{is_owner}
-use Rattle.snoop_machine.specs.CoreSet.{has}
+use Rattle.snoop_blocks.specs.CoreSet.{has}
 use Rattle.snoop_machine.specs.Holders.{AreHolders, is_concerned}
 use Rattle.snoop_machine.specs.Cache.{row_in}
 use Rattle.snoop_machine.specs.Lines.{no_holders}

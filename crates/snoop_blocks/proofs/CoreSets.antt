@@ -6,7 +6,7 @@ use Rattle.std.proofs.lemmas.Bool.{cases_eq, cases_lt}
 use Rattle.std.proofs.lemmas.List.{get_or-set_same, get_or-set_other, get_or_past}
 use Rattle.std.proofs.lemmas.Nat.{shr-shr}
 use Rattle.std.proofs.lemmas.Nat.Bits.{bit_at-zero, bit_at_above, bit_at-trailing_zeros}
-use Rattle.snoop_machine.specs.CoreSet.{has, LacksUpTo}
+use Rattle.snoop_blocks.specs.CoreSet.{has, LacksUpTo}
 
 -- a core beyond the words is in no set
 pub has_past : (words : List ℕ) (k : ℕ) → length words ≡ 4 → 256 ≤ k → has words k ≡ false

@@ -2,10 +2,10 @@ use Rattle.std.proofs.Common.{◌≡◌, ℕ, ◌<◌, ◌/◌, ◌%◌, ◌^◌
 use Rattle.std.specs.Prelude.{slice_index_or, ◌==◌, bit_and, bit_or}
 use Rattle.std.specs.Int.{bit_not}
 use Rattle.std.proofs.lemmas.Nat.Bits.{bit_at_set_same, bit_at_set_other, bit_at_clear_same, bit_at_clear_other}
-use Rattle.snoop_machine.specs.CoreSet.{has}
-use Rattle.snoop_machine.proofs.CoreSets.{has-set_word, has-set_bit}
-use Rattle.snoop_machine.proofs.core_set.CoreSet.set.Goals as goal
-use Rattle.snoop_machine.proofs.core_set.CoreSet.set.Goals.{then-is_member, else-is_member}
+use Rattle.snoop_blocks.specs.CoreSet.{has}
+use Rattle.snoop_blocks.proofs.CoreSets.{has-set_word, has-set_bit}
+use Rattle.snoop_blocks.proofs.core_set.CoreSet.set.Goals as goal
+use Rattle.snoop_blocks.proofs.core_set.CoreSet.set.Goals.{then-is_member, else-is_member}
 
 pub returns-clause-here : goal.returns-clause-here
 returns-clause-here c =

@@ -1,8 +1,8 @@
 use Rattle.std.proofs.Common.{ℕ, List, sym, ap, ◌∙◌}
 use Rattle.std.proofs.lemmas.Bool.{le-ltb}
-use Rattle.snoop_machine.specs.CoreSet.{has}
-use Rattle.snoop_machine.proofs.CoreSets.{has_past}
-use Rattle.snoop_counts.proofs.core_set.CoreSet.has.Goals as goal
+use Rattle.snoop_blocks.specs.CoreSet.{has}
+use Rattle.snoop_blocks.proofs.CoreSets.{has_past}
+use Rattle.snoop_blocks.proofs.core_set.CoreSet.has.Goals as goal
 
 pub returns-then-core-lt256 : goal.returns-then-core-lt256
 unfolding has
