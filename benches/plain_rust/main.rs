@@ -1,6 +1,7 @@
-//! The program that Snoop's speed is compared with: `snoop steps` and `snoop run` in plain Rust, without contracts, written to be fast.
+//! The program that Snoop's speed is compared with: `snoop steps`, `snoop run` and `snoop threads` in plain Rust, without contracts,
+//! written to be fast.
 //!
-//! It takes the same options, `plain steps|run --protocol msi|mesi --cores C --blocks B --block-bytes N --words W`, and for a
+//! It takes the same options, `plain steps|run|threads --protocol msi|mesi --cores C --blocks B --block-bytes N --words W`, and for a
 //! valid text writes the same output; of quotes it knows those around a whole field. A fault of the options, the shape or the text ends it
 //! with status 2, a line on standard error and nothing on standard output; a failed read or write with status 2 too. The rules are
 //! in docs/PROTOCOL.md, the texts in docs/TEXTS.md.
@@ -11,6 +12,7 @@
 mod machine;
 mod run;
 mod text;
+mod threads;
 
 use machine::{Machine, Protocol};
 use std::env;
@@ -32,6 +34,7 @@ pub struct Shape {
 enum Command {
     Steps,
     Run,
+    Threads,
 }
 
 pub enum Fault {
@@ -51,7 +54,7 @@ impl Display for Fault {
     fn fmt(&self, f: &mut fmt::Formatter) -> fmt::Result {
         match self {
             Fault::CommandLine => f.write_str(
-                "use: plain steps|run [--protocol msi|mesi] [--cores C] [--blocks B] [--block-bytes N] [--words W]",
+                "use: plain steps|run|threads [--protocol msi|mesi] [--cores C] [--blocks B] [--block-bytes N] [--words W]",
             ),
             Fault::Shape => f.write_str("at most 256 cores, 65536 blocks, 2^k <= 4096 bytes and 2^k <= 64 words of 8 bytes each"),
             Fault::Record(number) => write!(f, "record {number} is none of this command and machine"),
@@ -64,6 +67,7 @@ fn parse_options(mut words: impl Iterator<Item = String>) -> Result<(Command, Sh
     let command = match words.next().as_deref() {
         Some("steps") => Command::Steps,
         Some("run") => Command::Run,
+        Some("threads") => Command::Threads,
         _ => return Err(Fault::CommandLine),
     };
     let mut shape = Shape {
@@ -96,7 +100,7 @@ fn parse_options(mut words: impl Iterator<Item = String>) -> Result<(Command, Sh
 
 fn simulate() -> Result<(), Fault> {
     let (command, shape) = parse_options(env::args().skip(1))?;
-    let mut texts = Texts::new(shape, matches!(command, Command::Run));
+    let mut texts = Texts::new(shape, !matches!(command, Command::Steps));
     let mut buffer = vec![0; 1 << 16];
     loop {
         match io::stdin().read(&mut buffer) {
@@ -131,6 +135,10 @@ fn take<const W: usize>(command: Command, shape: Shape, records: Records) -> io:
             }
         }
         Command::Run => run::run(&mut machine, shape, records, &mut out)?,
+        Command::Threads => {
+            threads::threads(machine, shape, records, &mut out)?;
+            return out.flush();
+        }
     }
     machine.close();
     machine.report.write(W, &mut out)?;

@@ -1,6 +1,6 @@
 //! Texts: records of steps or rows in, lines out.
 
-use crate::machine::{Cache, Op, Payload, Performed, Reply, Request, Step};
+use crate::machine::{Cache, Op, Payload, Performed, Protocol, Reply, Request, Step};
 use crate::{Fault, Shape};
 use std::io::{self, Write};
 
@@ -335,8 +335,34 @@ impl<W: Write> Output<W> {
         self.end_line()
     }
 
+    /// The record that says what steps are for.
+    pub fn heading(&mut self, shape: Shape) -> io::Result<()> {
+        self.text(match shape.protocol {
+            Protocol::Msi => "V,2,msi",
+            Protocol::Mesi => "V,2,mesi",
+        });
+        let numbers = [u64::from(shape.cores), u64::from(shape.blocks), shape.block_bytes, shape.words];
+        for number in numbers {
+            self.text(",");
+            self.number(number);
+        }
+        self.end_line()
+    }
+
+    /// A step as a record.
+    pub fn step(&mut self, step: Step) -> io::Result<()> {
+        self.record(step);
+        self.end_line()
+    }
+
     /// The line of a step.
     pub fn line(&mut self, step: Step, reply: Reply) -> io::Result<()> {
+        self.record(step);
+        self.reply(reply);
+        self.end_line()
+    }
+
+    fn record(&mut self, step: Step) {
         match step {
             Step::Ask { core, block, word, op } => {
                 self.text(match op {
@@ -361,8 +387,6 @@ impl<W: Write> Output<W> {
                 self.number(u64::from(block) * self.block_bytes);
             }
         }
-        self.reply(reply);
-        self.end_line()
     }
 
     fn reply(&mut self, reply: Reply) {
