@@ -11,11 +11,7 @@ pub struct BlockTable<T> {
 
 impl<T: Copy> BlockTable<T> {
     pub fn new(blocks: u32, first: T) -> BlockTable<T> {
-        BlockTable {
-            first,
-            places: vec![0; blocks as usize],
-            written: Vec::with_capacity(blocks as usize),
-        }
+        BlockTable { first, places: vec![0; blocks as usize], written: Vec::with_capacity(blocks as usize) }
     }
 
     pub fn get(&self, block: u32) -> &T {

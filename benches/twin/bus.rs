@@ -24,10 +24,7 @@ pub struct Bus<const N: usize> {
 
 impl<const N: usize> Bus<N> {
     pub fn new(shape: Shape) -> Bus<N> {
-        Bus {
-            queues: (0..shape.cores).map(|_| VecDeque::new()).collect(),
-            transactions: BlockTable::new(shape.blocks, None),
-        }
+        Bus { queues: (0..shape.cores).map(|_| VecDeque::new()).collect(), transactions: BlockTable::new(shape.blocks, None) }
     }
 
     /// Room for one more request of the core.

@@ -26,11 +26,7 @@ impl<const N: usize> Driver<N> {
         for row in rows {
             lanes[row.core as usize].rows.push_back(row.work(shape));
         }
-        Driver {
-            machine: Machine::reset(shape),
-            lanes,
-            turns: (0..shape.cores).collect(),
-        }
+        Driver { machine: Machine::reset(shape), lanes, turns: (0..shape.cores).collect() }
     }
 
     pub fn into_machine(self) -> Machine<N> {

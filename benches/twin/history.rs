@@ -85,15 +85,9 @@ impl Packed {
     fn new(item: Item) -> Packed {
         match item {
             Item::Did(did) => Packed::of_operation(did),
-            Item::Sent { core, request, block } => Packed {
-                request,
-                ..Packed::empty(Kind::Sent, core, block)
-            },
+            Item::Sent { core, request, block } => Packed { request, ..Packed::empty(Kind::Sent, core, block) },
             Item::Came(came, None) => Packed::empty(Kind::Came, came.core, came.block).with_response(came),
-            Item::Came(came, Some(did)) => Packed {
-                kind: Kind::Performed,
-                ..Packed::of_operation(did).with_response(came)
-            },
+            Item::Came(came, Some(did)) => Packed { kind: Kind::Performed, ..Packed::of_operation(did).with_response(came) },
         }
     }
 
@@ -156,11 +150,7 @@ impl Packed {
         };
         match self.kind {
             Kind::Did => Item::Did(did),
-            Kind::Sent => Item::Sent {
-                core,
-                request: self.request,
-                block,
-            },
+            Kind::Sent => Item::Sent { core, request: self.request, block },
             Kind::Came => Item::Came(came, None),
             Kind::Performed => Item::Came(came, Some(did)),
         }
@@ -311,9 +301,7 @@ impl Log {
     /// The blocks that an item mentions, with the last values of their words.
     pub fn blocks(&self) -> impl Iterator<Item = (u32, &[u64])> {
         let words = self.board.words;
-        self.touched
-            .iter()
-            .map(move |&block| (block, &self.board.values[block as usize * words..][..words]))
+        self.touched.iter().map(move |&block| (block, &self.board.values[block as usize * words..][..words]))
     }
 
     /// The board once more, of the items alone.

@@ -25,10 +25,7 @@ pub struct IndexMap<V> {
 
 impl<V> IndexMap<V> {
     pub fn new() -> IndexMap<V> {
-        IndexMap {
-            entries: Vec::new(),
-            slots: Vec::new(),
-        }
+        IndexMap { entries: Vec::new(), slots: Vec::new() }
     }
 
     pub fn place_of(&self, key: u32) -> Option<usize> {
@@ -63,10 +60,7 @@ impl<V> IndexMap<V> {
     /// Puts in an entry for a key that has none, in the room that `try_reserve` made.
     pub fn insert(&mut self, key: u32, value: V) {
         let at = self.slot_of(key);
-        self.slots[at] = Slot {
-            key,
-            place: self.entries.len() as u32,
-        };
+        self.slots[at] = Slot { key, place: self.entries.len() as u32 };
         self.entries.push((key, value));
     }
 

@@ -20,11 +20,7 @@ pub enum Reply {
     Gone,
     Absent,
     Ordered(Request),
-    Came {
-        payload: Payload,
-        from: Option<u32>,
-        did: Option<Did>,
-    },
+    Came { payload: Payload, from: Option<u32>, did: Option<Did> },
 }
 
 /// Why a step was refused. Nothing has changed.
@@ -105,10 +101,7 @@ pub struct Machine<const N: usize> {
 
 impl<const N: usize> Machine<N> {
     pub fn reset(shape: Shape) -> Machine<N> {
-        let first = MemLine {
-            state: MemState::at_reset(shape.protocol),
-            value: [0; N],
-        };
+        let first = MemLine { state: MemState::at_reset(shape.protocol), value: [0; N] };
         Machine {
             shape,
             lines: Lines::new(shape),
@@ -168,18 +161,8 @@ impl<const N: usize> Machine<N> {
         match (cell.action, found) {
             (CacheAction::Stall, _) => Err(Refused::Stalled(state)),
             (CacheAction::Hit, Some(place)) => Ok(Plan::Hit { core, work, place, next }),
-            (CacheAction::Issue(request), place) => Ok(Plan::Issue {
-                core,
-                work,
-                place,
-                next,
-                request,
-            }),
-            (CacheAction::Drop, Some(place)) => Ok(Plan::Drop {
-                core,
-                block: work.block,
-                place,
-            }),
+            (CacheAction::Issue(request), place) => Ok(Plan::Issue { core, work, place, next, request }),
+            (CacheAction::Drop, Some(place)) => Ok(Plan::Drop { core, block: work.block, place }),
             _ => unreachable!("no Ask does this"),
         }
     }
@@ -197,14 +180,7 @@ impl<const N: usize> Machine<N> {
                 (payload, Some(sender))
             }
         };
-        Ok(Plan::Order {
-            core,
-            request,
-            block,
-            payload,
-            sender,
-            memory: cell.next,
-        })
+        Ok(Plan::Order { core, request, block, payload, sender, memory: cell.next })
     }
 
     fn find_respond(&self, block: u32) -> Result<Plan, Refused> {
@@ -246,25 +222,14 @@ impl<const N: usize> Machine<N> {
                 Reply::Gone
             }
             Plan::Hit { core, work, place, next } => self.hit(core, work, place, next),
-            Plan::Issue {
-                core,
-                work,
-                place,
-                next,
-                request,
-            } => {
+            Plan::Issue { core, work, place, next, request } => {
                 self.issue(core, work, place, next);
                 self.bus.issue(core, request, work.block);
                 Reply::Issued(request)
             }
-            Plan::Order {
-                core,
-                request,
-                block,
-                payload,
-                sender,
-                memory,
-            } => self.order(core, request, block, payload, sender, memory),
+            Plan::Order { core, request, block, payload, sender, memory } => {
+                self.order(core, request, block, payload, sender, memory)
+            }
             Plan::Writeback { block, memory } => self.write_back(block, memory),
             Plan::Fill { block, place, next, memory } => self.fill(block, place, next, memory),
         }
@@ -278,15 +243,7 @@ impl<const N: usize> Machine<N> {
         let value = *word;
         self.lines.move_to(core, work.block, place, next);
         let load = work.op == Op::Load;
-        let did = Did {
-            number: self.log.count(core),
-            core,
-            block: work.block,
-            word: work.word,
-            load,
-            hit: true,
-            value,
-        };
+        let did = Did { number: self.log.count(core), core, block: work.block, word: work.word, load, hit: true, value };
         self.log.push(Item::Did(did));
         if load {
             Reply::Hit(value)
@@ -299,12 +256,7 @@ impl<const N: usize> Machine<N> {
     fn issue(&mut self, core: u32, work: Work, place: Option<usize>, next: CacheState) {
         let waiting = (work.op != Op::Evict).then_some(work.op);
         let Some(place) = place else {
-            let line = Line {
-                state: next,
-                word: work.word,
-                waiting,
-                kept: None,
-            };
+            let line = Line { state: next, word: work.word, waiting, kept: None };
             return self.lines.put(core, work.block, line);
         };
         let line = self.lines.at_mut(core, place);
@@ -332,16 +284,7 @@ impl<const N: usize> Machine<N> {
         };
         let from = sender.map(|sender| sender.core);
         self.lines.take_rows(core, request, block);
-        self.bus.start(
-            block,
-            Open {
-                core,
-                request,
-                payload,
-                value,
-                from,
-            },
-        );
+        self.bus.start(block, Open { core, request, payload, value, from });
         self.log.push(Item::Sent { core, request, block });
         Reply::Ordered(request)
     }
@@ -350,11 +293,7 @@ impl<const N: usize> Machine<N> {
         let came = self.arrive(block, Some(memory));
         self.bus.finish(block);
         self.log.push(Item::Came(came, None));
-        Reply::Came {
-            payload: came.payload,
-            from: came.from,
-            did: None,
-        }
+        Reply::Came { payload: came.payload, from: came.from, did: None }
     }
 
     fn fill(&mut self, block: u32, place: usize, next: CacheState, memory: Option<MemCell>) -> Reply {
@@ -380,11 +319,7 @@ impl<const N: usize> Machine<N> {
         self.lines.move_to(core, block, place, next);
         self.bus.finish(block);
         self.log.push(Item::Came(came, Some(did)));
-        Reply::Came {
-            payload: came.payload,
-            from: came.from,
-            did: Some(did),
-        }
+        Reply::Came { payload: came.payload, from: came.from, did: Some(did) }
     }
 
     /// Memory takes its row for the message of the block's transaction, where it has one.
@@ -397,12 +332,6 @@ impl<const N: usize> Machine<N> {
                 held.value = open.value;
             }
         }
-        Came {
-            core: open.core,
-            request: open.request,
-            block,
-            from: open.from,
-            payload: open.payload,
-        }
+        Came { core: open.core, request: open.request, block, from: open.from, payload: open.payload }
     }
 }

@@ -17,11 +17,7 @@ pub struct Output<W> {
 
 impl<W: Write> Output<W> {
     pub fn new(writer: W, shape: Shape) -> Output<W> {
-        Output {
-            writer,
-            shape,
-            chunk: Vec::new(),
-        }
+        Output { writer, shape, chunk: Vec::new() }
     }
 
     /// Appends the line of a step and what the machine answered.
@@ -47,11 +43,7 @@ impl<W: Write> Output<W> {
         self.counts(&[("stores ", totals.stores), (" hits ", totals.store_hits)]);
         self.counts(&[("GetS ", totals.get_s), (" GetM ", totals.get_m), (" PutM ", totals.put_m)]);
         self.counts(&[("from memory ", totals.from_memory), (" from caches ", totals.from_caches)]);
-        self.counts(&[
-            ("writebacks ", totals.writebacks),
-            (" clean ", totals.clean),
-            (" stale ", totals.stale),
-        ]);
+        self.counts(&[("writebacks ", totals.writebacks), (" clean ", totals.clean), (" stale ", totals.stale)]);
         for (block, values) in log.blocks() {
             self.numbered("block ", u64::from(block));
             self.text(" value");

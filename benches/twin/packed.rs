@@ -39,11 +39,7 @@ impl StepQueue {
             Step::Order { core } => (core, 0, Kind::Order),
             Step::Respond { block } => (0, block, Kind::Respond),
         };
-        self.heads.push_back(Head {
-            block: block as u16,
-            core: core as u8,
-            kind,
-        });
+        self.heads.push_back(Head { block: block as u16, core: core as u8, kind });
     }
 
     /// Keeps the word, if it is not the first, and what is stored.
@@ -77,11 +73,7 @@ impl StepQueue {
             Kind::LoadOfWord => (self.words.pop_front()?, Op::Load),
             Kind::StoreOfWord => (self.words.pop_front()?, Op::Store(self.values.pop_front()?)),
         };
-        let work = Work {
-            block,
-            word: u32::from(word),
-            op,
-        };
+        let work = Work { block, word: u32::from(word), op };
         Some(Step::Ask { core, work })
     }
 }

@@ -54,9 +54,9 @@ pub fn read_steps(reader: impl Read, shape: Shape) -> Result<StepQueue, Fault> {
     let mut may_be_heading = true;
     while text.read_record(&mut fields)? {
         if may_be_heading && letter_of(&fields) == Some(b'V') {
-            is_heading_for(shape, &fields).then_some(()).ok_or(Fault::Record(fields.position()))?;
+            is_heading_for(shape, &fields).then_some(()).ok_or_else(|| Fault::Record(fields.position()))?;
         } else {
-            steps.push(step_in(shape, &fields).ok_or(Fault::Record(fields.position()))?);
+            steps.push(step_in(shape, &fields).ok_or_else(|| Fault::Record(fields.position()))?);
         }
         may_be_heading = false;
     }
@@ -68,7 +68,7 @@ pub fn read_rows(reader: impl Read, shape: Shape) -> Result<Vec<Row>, Fault> {
     let mut fields = ByteRecord::new();
     let mut rows = Vec::new();
     while text.read_record(&mut fields)? {
-        rows.push(row_in(shape, &fields).ok_or(Fault::Record(fields.position()))?);
+        rows.push(row_in(shape, &fields).ok_or_else(|| Fault::Record(fields.position()))?);
     }
     Ok(rows)
 }
