@@ -240,6 +240,7 @@ impl Board {
         }
     }
 
+    #[inline(always)]
     fn absorb(&mut self, item: &Item) {
         self.totals.add(item);
         if let Some(did) = item.did() {
@@ -278,6 +279,7 @@ impl Log {
         self.items.try_reserve(1)
     }
 
+    #[inline(always)]
     pub fn push(&mut self, item: Item) {
         self.board.absorb(&item);
         let mark = &mut self.marks[item.block() as usize];

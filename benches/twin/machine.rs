@@ -116,6 +116,7 @@ impl<const N: usize> Machine<N> {
     }
 
     /// Takes one step. A refused step changes nothing.
+    #[inline(always)]
     pub fn step(&mut self, step: Step) -> Result<Reply, Refused> {
         let plan = self.find(step)?;
         self.make_room(&plan)?;
@@ -139,6 +140,7 @@ impl<const N: usize> Machine<N> {
         }
     }
 
+    #[inline(always)]
     fn find(&self, step: Step) -> Result<Plan, Refused> {
         match step {
             Step::Ask { core, .. } | Step::Order { core } if core >= self.shape.cores => Err(Refused::NoCore),
@@ -201,6 +203,7 @@ impl<const N: usize> Machine<N> {
     }
 
     /// Makes room for all that the step adds.
+    #[inline(always)]
     fn make_room(&mut self, plan: &Plan) -> Result<(), TryReserveError> {
         match plan {
             Plan::Absent | Plan::Drop { .. } => Ok(()),
@@ -214,6 +217,7 @@ impl<const N: usize> Machine<N> {
         }
     }
 
+    #[inline(always)]
     fn make(&mut self, plan: Plan) -> Reply {
         match plan {
             Plan::Absent => Reply::Absent,

@@ -88,6 +88,7 @@ impl<W: Write> Output<W> {
         self.number(number);
     }
 
+    #[inline(always)]
     fn number(&mut self, number: u64) {
         if number < 10 {
             self.byte(b'0' + number as u8);
@@ -97,6 +98,7 @@ impl<W: Write> Output<W> {
     }
 
     /// A number of several digits, by two at a time.
+    #[inline(never)]
     fn digits(&mut self, mut number: u64) {
         let mut digits = [0; 20];
         let mut first = digits.len();

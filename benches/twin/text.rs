@@ -112,6 +112,7 @@ fn row_in(shape: Shape, fields: &ByteRecord) -> Option<Row> {
 }
 
 /// What a core asks for, by the record's letter.
+#[inline(always)]
 fn asked(shape: Shape, letter: u8, fields: &ByteRecord) -> Option<Row> {
     let (core, address, op) = match letter {
         b'S' => {
@@ -144,6 +145,7 @@ fn letter_of(fields: &ByteRecord) -> Option<u8> {
 }
 
 /// The numbers after the kind, where there are `N`.
+#[inline(always)]
 fn numbers_of<const N: usize>(fields: &ByteRecord) -> Option<[u64; N]> {
     if fields.len() != N + 1 {
         return None;
