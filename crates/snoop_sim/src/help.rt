@@ -41,12 +41,10 @@ stale ones; and the last value stored in each word of each block."] $($rest)*)
     (@ [$($text:literal)*] faults $letters:literal $counts:literal $($rest:tt)*) => {
         help!(@ [$($text)* "
 
-One fault refuses the whole text. The message names the first faulty record (blank
-lines are not counted):
+One fault refuses the whole text. The message names its record, `snoop lint` also its line:
   BadKind    no capital " $letters " at the line's head (no column names, no comments)
   BadFields  " $counts "
-  BadNumber  not decimal or 0x.., or above 2^64 - 1; blanks, signs and comments are
-             not allowed
+  BadNumber  not decimal or 0x.., or above 2^64 - 1; no blanks, signs or comments
   NoCore     the core is --cores or above
   NoBlock    the address is --blocks times --block-bytes (256 by default) or above"] $($rest)*)
     };
@@ -55,11 +53,19 @@ lines are not counted):
   OtherShape the heading V,2,protocol,cores,blocks,block-bytes,words has other options
   BadVersion a first line with V has another number than 2 there"] $($rest)*)
     };
+    (@ [$($text:literal)*] serial $($rest:tt)*) => {
+        help!(@ [$($text)* "
+  BadSerial  --serial comes without --of rows"] $($rest)*)
+    };
+    (@ [$($text:literal)*] choice $($rest:tt)*) => {
+        help!(@ [$($text)* "
+  BadBlock   --block is not below --blocks
+  BadRange   --from is 0, or above --to"] $($rest)*)
+    };
     (@ [$($text:literal)*] more $($rest:tt)*) => {
         help!(@ [$($text)* "
 
-Exit statuses: snoop --help
-More in docs/TEXTS.md."] $($rest)*)
+Exit statuses: snoop --help. More in docs/TEXTS.md."] $($rest)*)
     };
     (@ [$($text:literal)*] $next:literal $($rest:tt)*) => {
         help!(@ [$($text)* $next] $($rest)*)
@@ -167,7 +173,9 @@ it, the bus and memory, and the step's line. A dot stands for the cell above.
   SM_AD 0 #1       the state, the values kept, the request's place in the core's queue
   C1 GetM: Data 0  the open transaction, and the message under way
 --as csv: a line for each controller that takes a row of its table (see `snoop table`),
-with the values that it keeps after it, and the request's place in the queue, from 1."
+with its values after it, and the request's place in the queue, from 1. Refused options:"
+    serial
+    choice
     faults "L, S, E, O or R" "L and E take 2 numbers, S 3, O and R 1"
     heading
     more
@@ -187,10 +195,14 @@ Example: printf 'L,0,0\\nO,0\\nR,0\\n' | snoop counts --by row
 The first line of output names the fields. --by row: each row of the cache table and of
 the memory table has a line (see `snoop table`), with how often it was taken, by all
 cores together. A stall counts too; a core in I at another core's request is left out.
---by core, --by block: each core or block that the text names has a line (docs/TEXTS.md);
---top N: the N blocks of most ordered requests alone, most first.
---by word: each word of each block that several cores use has a line.
---every N, in place of --by: a line for steps 1 to N, one for the next N, and so on."
+--by core, --by block: each core or block that the text names has a line (docs/TEXTS.md).
+--by word: each word of each block that several cores use. --top N: the N blocks of most requests.
+--every N: a line for steps 1 to N, one for the next N, and so on. Refused options:"
+    serial
+    "
+  BadBy      neither --by nor --every, or both
+  BadTop     --top comes without --by block
+  BadEvery   --every is 0"
     faults "L, S, E, O or R" "L and E take 2 numbers, S 3, O and R 1"
     heading
     more
@@ -206,10 +218,10 @@ Example: printf 'L,0\\n' | snoop lint
   1 fault in 1 record
   no O and no R: is this a text for snoop run?
 
-The status is 0 where the text was read, with faults or without.
+The status is 0 where the text was read, with faults or without. Which requests still
+wait at the end of a text without faults is in the last line of `snoop states`.
 
-Exit statuses: snoop --help
-More in docs/TEXTS.md.";
+Exit statuses: snoop --help. More in docs/TEXTS.md.";
 
 pub(crate) static DRAW: &str = help!(
     "Reads standard input: `snoop draw < FILE`. Each line is a step:"
@@ -229,10 +241,14 @@ end names the marks. A panel for each block makes a line long: --block N draws o
 (docs/DRAWING.md). They have --theme, and --shown N, which keeps the size and leaves
 out the steps behind the N-th. --ascii is for text alone.
 
-A text is refused as by `snoop steps`, a choice by BadChoice (an option that the form
-has not), BadBlock (--block is not below --blocks) or BadRange (--from is 0, or above
---to), and more than a million cells, of svg and html 20,000, by TooLarge: choose a
-block, or fewer steps."
+A text is refused as by `snoop steps`. Refused options:"
+    serial
+    "
+  BadChoice  --theme or --shown comes with --as text, or --ascii with another form"
+    choice
+    "
+  TooLarge   more than a million cells, of svg and html 20,000: draw one --block, fewer steps
+             (--from, --to), or a text with fewer cores"
     more
 );
 
@@ -243,5 +259,4 @@ and next state, with commas between.
 nothing where the state never meets the event. The first line names the events.
 Example: snoop table --protocol mesi --which memory --as matrix
 
-Exit statuses: snoop --help
-More in docs/PROTOCOL.md.";
+Exit statuses: snoop --help. More in docs/PROTOCOL.md.";
