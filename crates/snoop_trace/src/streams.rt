@@ -1,12 +1,13 @@
 //! Readers and writers that know whether they can fail, what entries are gathered in, and the pieces that texts are made of.
 
 mod append;
+pub(crate) mod back;
 pub(crate) mod entries;
 mod sink;
 pub(crate) mod source;
 pub(crate) mod step_text;
 
-pub use crate::text::gather_steps;
+pub use crate::text::{gather_asked, gather_steps};
 pub use append::{push_byte, push_decimal, push_text};
 pub use entries::Entries;
 pub use sink::{AnyWriter, CHUNK, Sink, spill, write_whole};
