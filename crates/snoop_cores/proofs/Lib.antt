@@ -1,4 +1,5 @@
 mod Answering
+mod Dealing
 mod Beginnings
 mod Shown
 mod Joining

@@ -9,7 +9,7 @@ use Rattle.snoop_cores.specs.declared.stop.Stop.TheVariants.{Late, Fault}
 use Rattle.snoop_cores.specs.Seats.{Seating}
 use Rattle.snoop_cores.specs.Calls.{Stays, Keeps, MayBegin, Fails}
 use Rattle.snoop_cores.proofs.Performed.{settled_noted}
-use Rattle.snoop_cores.specs.Rows.{Leaves, Grows, FailsOn, RanTo, rows_of, work_on}
+use Rattle.snoop_cores.specs.Rows.{Leaves, Grows, FailsOn, Ran, work_on}
 
 -- the seat, with another note
 abbrev noted : Option Stop → Seating → Seating
@@ -42,13 +42,13 @@ fails_on_noted : (stop : Option Stop) (block : Option ℕ) (fault : SeatFault) (
 fails_on_noted stop None fault row s t h = (h.0, ap (noted stop) h.1)
 fails_on_noted stop (Some block) fault row s t h = fails_noted stop fault (work_on s.shape block row) s t h
 
-pub ran_noted : (note stop : Option Stop) (rows : List Row) (s t : Seating) → RanTo stop rows s t → RanTo stop rows s (noted note t)
-ran_noted note None rows s t h = grows_noted note (rows_of s.core rows) s t h
-ran_noted note (Some (Late number)) rows s t h = (h.0, grows_noted note (take number (rows_of s.core rows)) s t h.1)
+pub ran_noted : (note stop : Option Stop) (rows : List Row) (s t : Seating) → Ran stop rows s t → Ran stop rows s (noted note t)
+ran_noted note None rows s t h = grows_noted note rows s t h
+ran_noted note (Some (Late number)) rows s t h = (h.0, grows_noted note (take number rows) s t h.1)
 ran_noted note (Some (Fault number fault)) rows s t h = record {
   row = h.row;
   there = h.there;
   between = noted note h.between;
-  grown = grows_noted note (take number (rows_of s.core rows)) s h.between h.grown;
+  grown = grows_noted note (take number rows) s h.between h.grown;
   fails = fails_on_noted note (Rattle.snoop_trace.specs.Grammar.block_at h.between.shape h.row.address) fault h.row h.between t h.fails;
 }

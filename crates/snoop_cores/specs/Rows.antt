@@ -1,6 +1,8 @@
 -- What a seat has done of its rows.
 -- Source: this project's profile.
-use Rattle.std.specs.Prelude.{◌≡◌, ℕ, ◌<◌, ◌==◌, List, [], ◌∷◌, ◌++◌, length, take, filter, Option, Some, None, Bool, true, false, All, IsSome, ⊤, slice_get, slice_index_or}
+use Rattle.std.specs.Prelude.{◌≡◌, ℕ, ◌<◌, ◌==◌, List, [], ◌∷◌, ◌++◌, length, take, filter, map, Option, Some, None, Bool, true, false, All, IsSome, ⊤, slice_get, slice_index_or, Vec}
+use Rattle.std.specs.Borrow.{Bor}
+use Rattle.std.specs.declared.alloc.Global.{Global}
 use Rattle.std.specs.List.{AllZip}
 use Rattle.snoop_trace.specs.Extent.{Extent}
 use Rattle.snoop_trace.specs.Grammar.{block_at, word_asked}
@@ -71,16 +73,16 @@ FailsOn None fault row s t = (fault ≡ NoBlock) × (t ≡ s)
 abbrev pub FailsRow : SeatFault → Row → Seating → Seating → Type 0
 FailsRow fault row s t = FailsOn (block_at s.shape row.address) fault row s t
 
--- the gate stopped the seat before its row of this number
+-- the gate stopped the seat before the row of this number
 abbrev pub IsLate : ℕ → List Row → Seating → Seating → Type 0
-IsLate number rows s t = (number < length (rows_of s.core rows)) × Grows (take number (rows_of s.core rows)) s t
+IsLate number rows s t = (number < length rows) × Grows (take number rows) s t
 
--- the seat refused its row of this number, after it had done those before
+-- the seat refused the row of this number, after it had done those before
 pub record IsRefused (number : ℕ) (fault : SeatFault) (rows : List Row) (s t : Seating) : Type 0 where
   pub row : Row
-  pub there : slice_get (rows_of s.core rows) number ≡ Some row
+  pub there : slice_get rows number ≡ Some row
   pub between : Seating
-  pub grown : Grows (take number (rows_of s.core rows)) s between
+  pub grown : Grows (take number rows) s between
   pub fails : FailsRow fault row between t
 
 -- the gate did not stop it
@@ -88,11 +90,27 @@ abbrev pub IsNotLate : Option Stop → Type 0
 IsNotLate (Some (Late number)) = ⊥
 IsNotLate _ = ⊤
 
+-- the seat has done all these rows; or it stopped at one of them, and has done those before it
+abbrev pub Ran : Option Stop → List Row → Seating → Seating → Type 0
+Ran None rows s t = Grows rows s t
+Ran (Some (Late number)) rows s t = IsLate number rows s t
+Ran (Some (Fault number fault)) rows s t = IsRefused number fault rows s t
+
 -- the seat has done all its rows; or it stopped at a row, and has done those before it
 abbrev pub RanTo : Option Stop → List Row → Seating → Seating → Type 0
-RanTo None rows s t = Grows (rows_of s.core rows) s t
-RanTo (Some (Late number)) rows s t = IsLate number rows s t
-RanTo (Some (Fault number fault)) rows s t = IsRefused number fault rows s t
+RanTo stop rows s t = Ran stop (rows_of s.core rows) s t
+
+-- the rows that a list of references shows
+abbrev pub shown : List (Bor Row) → List Row
+shown rows = map (λ (row : Bor Row). row.now) rows
+
+-- the list at each core's place has the core's rows, in order
+abbrev pub AreDealt : List Row → List (Vec (Bor Row) Global) → Type 0
+AreDealt rows dealt = (core : ℕ) (own : Vec (Bor Row) Global) → slice_get dealt core ≡ Some own → shown own.items ≡ rows_of core rows
+
+-- the seat has done all the rows of the list at its core's place; or it stopped at one of them, and has done those before it
+abbrev pub RanDealt : List (Vec (Bor Row) Global) → Seating → Seating → Type 0
+RanDealt dealt s t = (own : Vec (Bor Row) Global) → slice_get dealt s.core ≡ Some own → Ran t.stop (shown own.items) s t
 
 -- the core has a seat, and the row's address lies within the shape of each of its seats
 pub record IsServed (seats : List Seating) (row : Row) : Type 0 where

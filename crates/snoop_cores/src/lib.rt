@@ -1,6 +1,7 @@
 //! A shared machine under a lock: a seat for each core, watches beside them, and the log that joins what the seats were answered.
 #![tactic(auto)]
 
+mod deal;
 mod fault;
 mod gate;
 mod gathering;

@@ -1,8 +1,9 @@
 //! Rows that threads perform, one thread for each seat.
 ghost use Rattle.std.specs.Prelude.{◌≡◌, ℕ, ◌<◌, true, length, IfOk, IfErr, IfSome, IfNone, OnOk, OnErr, All, IsTrue, None, slice_index_or};
 ghost use Rattle.snoop_cores.specs.Seats.{Seating, InOrder};
-ghost use Rattle.snoop_cores.specs.Rows.{RanTo, IsNotLate, IsServed, IsUnserved, RefusesRows};
+ghost use Rattle.snoop_cores.specs.Rows.{RanTo, RanDealt, IsNotLate, IsServed, IsUnserved, RefusesRows};
 
+use crate::deal::deal;
 use crate::fault::RunFault;
 use crate::gate::Gate;
 use crate::seat::Seat;
@@ -18,7 +19,7 @@ use std::thread::Threads;
 ///
 /// Before each row it waits for the gate; a gate that is never late stops no seat. Where a thread cannot be made, seats share one. A
 /// fault leaves all as it was: `NoSeat` names the core of the first row that has no seat, or whose address is outside the shape of a
-/// seat of its core; `NoMemory` where the list of stops was refused.
+/// seat of its core; `NoMemory` where a growth was refused.
 pub fn run_seats<R: Threads + Wait + Sync, G: Gate + Sync>(
     rt: &R,
     alloc: Global,
@@ -43,7 +44,10 @@ pub fn run_seats<R: Threads + Wait + Sync, G: Gate + Sync>(
     if seats.is_empty() {
         return Ok(stops);
     }
-    run_all(rt, seats, rows, gate);
+    let Ok(dealt) = deal(alloc, core_count(seats), rows) else {
+        return Err(RunFault::NoMemory);
+    };
+    run_all(rt, seats, &dealt, gate);
     for i in 0..seats.len() {
         stops[i] = seats[i].stop();
     }
@@ -113,16 +117,28 @@ fn is_served(seats: &[Seat], row: &Row) -> bool
     found
 }
 
-// Each seat runs its rows, in a thread of its own where one can be made.
+// One more than the highest core of a seat.
+fn core_count(seats: &[Seat]) -> usize
+    ensures { All (λ seat. seat.core < result) seats.now }
+{
+    let mut count = 0;
+    for seat in seats {
+        count = count.max(seat.core() as usize + 1);
+    }
+    count
+}
+
+// Each seat runs the rows of its core, in a thread of its own where one can be made.
 fn run_all<R: Threads + Wait + Sync, G: Gate + Sync>(
     rt: &R,
     seats: &mut [Seat],
-    rows: &[Row],
+    dealt: &[Vec<&Row>],
     gate: &G,
 )
-    requires { 0 < length seats.old }
+    requires some { 0 < length seats.old }
+    requires dealt { All (λ seat. seat.core < length dealt.now) seats.old }
     ensures len { length seats.new ≡ length seats.old }
-    ensures ran { (place : ℕ) (d : Seating) → place < length seats.old → RanTo (slice_index_or seats.new place d).stop rows.now (slice_index_or seats.old place d) (slice_index_or seats.new place d) }
+    ensures ran { (place : ℕ) (d : Seating) → place < length seats.old → RanDealt dealt.now (slice_index_or seats.old place d) (slice_index_or seats.new place d) }
     ensures on_time { (place : ℕ) (d : Seating) → place < length seats.old → G.never_late ≡ true → IsNotLate (slice_index_or seats.new place d).stop }
 {
     let threads = seats.len();
@@ -131,7 +147,18 @@ fn run_all<R: Threads + Wait + Sync, G: Gate + Sync>(
         seats,
         threads,
         &|_, seat: &mut Seat|
-            ensures { RanTo seat.exit.now.stop rows.entry.now seat.entry.now seat.exit.now × (G.never_late ≡ true → IsNotLate seat.exit.now.stop) }
-        { seat.run(rt, rows, gate) },
+            requires { seat.now.core < length dealt.now }
+            ensures { RanDealt dealt.entry.now seat.entry.now seat.exit.now × (G.never_late ≡ true → IsNotLate seat.exit.now.stop) }
+        { run_dealt(rt, seat, dealt, gate) },
     );
+}
+
+// The seat runs the rows of its core.
+fn run_dealt<R: Wait, G: Gate>(rt: &R, seat: &mut Seat, dealt: &[Vec<&Row>], gate: &G)
+    requires { seat.old.core < length dealt.now }
+    ensures ran { RanDealt dealt.now seat.old seat.new }
+    ensures on_time { G.never_late ≡ true → IsNotLate seat.new.stop }
+{
+    let core = seat.core() as usize;
+    seat.run(rt, &dealt[core], gate);
 }

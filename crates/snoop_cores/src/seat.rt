@@ -9,7 +9,7 @@ ghost use Rattle.snoop_bench.specs.Works.{Does};
 ghost use Rattle.snoop_versions.specs.Readings.{StartsWith};
 ghost use Rattle.snoop_cores.specs.Seats.{IsNew, Sees};
 ghost use Rattle.snoop_cores.specs.Calls.{MayBegin, Completes, Fails, RefusedAtOnce};
-ghost use Rattle.snoop_cores.specs.Rows.{FailsRow, Grows, IsNotLate, RanTo};
+ghost use Rattle.snoop_cores.specs.Rows.{FailsRow, Grows, IsNotLate, Ran, shown};
 ghost use Rattle.snoop_cores.specs.declared.fault.ViewFault.TheVariants.{NoBlock, NoVersion};
 
 use crate::fault::{SeatFault, ViewFault};
@@ -273,31 +273,27 @@ impl Seat {
         Ok(did)
     }
 
-    /// Performs the core's rows, in order, and keeps where it stopped.
-    pub(crate) fn run<R: Wait, G: Gate>(&mut self, rt: &R, rows: &[Row], gate: &G)
-        ensures ran { RanTo self.new.stop rows.now self.old self.new }
+    /// Performs rows of the core, in order, and keeps where it stopped.
+    pub(crate) fn run<R: Wait, G: Gate>(&mut self, rt: &R, rows: &[&Row], gate: &G)
+        ensures ran { Ran self.new.stop (shown rows.now) self.old self.new }
         ensures on_time { G.never_late ≡ true → IsNotLate self.new.stop }
     {
         let stop = self.run_rows(rt, rows, gate);
         self.stop = stop;
     }
 
-    // Performs the core's rows, in order, and reports where it stopped.
-    fn run_rows<R: Wait, G: Gate>(&mut self, rt: &R, rows: &[Row], gate: &G) -> Option<Stop>
-        ensures ran { RanTo result rows.now self.old self.new }
+    // Performs rows of the core, in order, and reports where it stopped.
+    fn run_rows<R: Wait, G: Gate>(&mut self, rt: &R, rows: &[&Row], gate: &G) -> Option<Stop>
+        ensures ran { Ran result (shown rows.now) self.old self.new }
         ensures on_time { G.never_late ≡ true → IsNotLate result }
     {
         let core = self.core();
-        let mut number = 0usize;
-        for row in rows {
-            if row.core == core {
-                if gate.before(core, number as u64).is_err() {
-                    return Some(Stop::Late(number as u64));
-                }
-                if let Err(fault) = self.perform_row(rt, row) {
-                    return Some(Stop::Fault(number as u64, fault));
-                }
-                number += 1;
+        for number in 0..rows.len() {
+            if gate.before(core, number as u64).is_err() {
+                return Some(Stop::Late(number as u64));
+            }
+            if let Err(fault) = self.perform_row(rt, rows[number]) {
+                return Some(Stop::Fault(number as u64, fault));
             }
         }
         None

@@ -128,7 +128,7 @@ why_refused block (seat.Busy other) row s t limits lt idle fails = absurd (let e
 why_refused block (seat.Stranger did) row s t limits lt idle fails = tt
 
 -- what new seats' rows within the shape are refused for
-row_refused : (shape : Extent) (core number : ℕ) (rows : List Row) (s t : Seating) (fault : SeatFault) → IsWithinLimits shape → IsNew core shape s → All (IsRowWithin shape) rows → IsRefused number fault rows s t → IsOfThreads (threads.Seat fault)
+row_refused : (shape : Extent) (core number : ℕ) (rows : List Row) (s t : Seating) (fault : SeatFault) → IsWithinLimits shape → IsNew core shape s → All (IsRowWithin shape) rows → IsRefused number fault (rows_of s.core rows) s t → IsOfThreads (threads.Seat fault)
 row_refused shape core number rows s t fault limits new within refused =
     let own : List Row = rows_of s.core rows in
     let lt : number < length own = slice_get_within own number refused.row refused.there in
@@ -150,7 +150,7 @@ first_refused shape rows stops old new fault limits fresh each within ran first 
     let d : Seating = record { core = 0; shape = shape; seen = []; answers = []; pending = None; strange = None; stop = None } in
     let inside : first.place < length old = let lt = slice_get_within stops first.place (Some (Fault first.number first.refused)) first.there in omega (arith, lt, each) in
     let stop : slice_index_or stops first.place None ≡ Some (Fault first.number first.refused) = get_or_from_slice_get stops first.place (Some (Fault first.number first.refused)) None first.there in
-    let refused : IsRefused first.number first.refused rows (slice_index_or old first.place d) (slice_index_or new first.place d) =
+    let refused : IsRefused first.number first.refused (rows_of (slice_index_or old first.place d).core rows) (slice_index_or old first.place d) (slice_index_or new first.place d) =
     subst (λ (o : Option Stop). RanTo o rows (slice_index_or old first.place d) (slice_index_or new first.place d)) stop (ran first.place d inside) in
     subst IsOfThreads (sym first.is) (row_refused shape first.place first.number rows (slice_index_or old first.place d) (slice_index_or new first.place d) first.refused limits (fresh.1 first.place d (omega (arith, inside, fresh.0))) within refused)
 

@@ -1,9 +1,9 @@
 use Rattle.std.proofs.Common.{subst, sym}
-use Rattle.snoop_cores.specs.Rows.{RanTo}
+use Rattle.snoop_cores.specs.Rows.{Ran, shown}
 use Rattle.snoop_cores.specs.contracts.seat.Seat.{the_view}
 use Rattle.snoop_cores.proofs.Stopping.{ran_noted}
 use Rattle.snoop_cores.proofs.seat.Seat.run.Goals as goal
 
 pub returns-clause-ran : goal.returns-clause-ran
 returns-clause-ran g c =
-    ran_noted c.run_rows-stop.result c.run_rows-stop.result c.args.rows.now c.args.self.now (the_view c.self.inside) (subst (RanTo c.run_rows-stop.result c.args.rows.now c.args.self.now) (sym c.self.view_is) c.run_rows-stop.ensures.ran)
+    ran_noted c.run_rows-stop.result c.run_rows-stop.result (shown c.args.rows.now) c.args.self.now (the_view c.self.inside) (subst (Ran c.run_rows-stop.result (shown c.args.rows.now) c.args.self.now) (sym c.self.view_is) c.run_rows-stop.ensures.ran)

@@ -1,8 +1,6 @@
-use Rattle.std.proofs.Common.{◌≡◌, length, take}
-use Rattle.snoop_cores.specs.Rows.{Grows, rows_of}
+use Rattle.std.proofs.Common.{take}
+use Rattle.snoop_cores.specs.Rows.{Grows, shown}
 use Rattle.snoop_cores.proofs.seat.Seat.run_rows.Given as goal
 
-abbrev pub invariant-loop-row : goal.invariant-loop-row
-invariant-loop-row g l =
-    Grows (rows_of l.initial.self.core (take l.row-index l.rows)) l.initial.self l.self
-    × (l.number ≡ length (rows_of l.initial.self.core (take l.row-index l.rows)))
+abbrev pub invariant-loop-number : goal.invariant-loop-number
+invariant-loop-number g l = Grows (take l.number (shown l.rows)) l.initial.self l.self

@@ -1,0 +1,6 @@
+use Rattle.std.proofs.Common.{◌≡◌, length, take}
+use Rattle.snoop_cores.specs.Rows.{AreDealt}
+use Rattle.snoop_cores.proofs.deal.deal.Given as goal
+
+abbrev pub invariant-loop-row : goal.invariant-loop-row
+invariant-loop-row l = (length l.dealt.items ≡ l.cores) × AreDealt (take l.row-index l.rows) l.dealt.items

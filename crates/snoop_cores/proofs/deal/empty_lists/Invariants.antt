@@ -1,0 +1,6 @@
+use Rattle.std.proofs.Common.{◌≡◌, ◌≤◌, [], length, vec_capacity}
+use Rattle.std.specs.Prelude.{All}
+use Rattle.snoop_cores.proofs.deal.empty_lists.Given as goal
+
+abbrev pub invariant-loop : goal.invariant-loop
+invariant-loop l = (length l.lists.items ≡ l.counter) × All (λ own. own.items ≡ []) l.lists.items × (l.count ≤ vec_capacity l.lists)

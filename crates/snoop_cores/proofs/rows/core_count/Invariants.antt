@@ -1,0 +1,7 @@
+use Rattle.std.proofs.Common.{◌<◌, ℕ}
+use Rattle.std.specs.Prelude.{slice_index_or}
+use Rattle.snoop_cores.specs.Seats.{Seating}
+use Rattle.snoop_cores.proofs.rows.core_count.Given as goal
+
+abbrev pub invariant-loop-seat : goal.invariant-loop-seat
+invariant-loop-seat l = (k : ℕ) (d : Seating) → k < l.seat-index → (slice_index_or l.seats k d).core < l.count
