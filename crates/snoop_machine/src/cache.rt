@@ -187,7 +187,6 @@ impl<B: Block> Cache<B> {
     }
 
     /// Writes the block's line, and answers the state that it was in. A line in I is taken out.
-    #[inline(always)]
     pub(crate) fn set(&mut self, block: u32, line: Line<Kept<B>>) -> CacheState
         requires place { IsSome (lookup (nat_eq block) self.old.entries) }
         requires settled { line.state ≡ I → line ≡ nothing_held }
