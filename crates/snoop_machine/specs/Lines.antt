@@ -1,9 +1,14 @@
 -- The lines of all caches.
 -- Source: this project's profile.
-use Rattle.std.specs.Prelude.{◌≡◌, ◌≢◌, ℕ, ◌+◌, ◌<◌, Bool, true, false, List, [], length, map, nat_eq, slice_index_or, ◌⊎◌, if◌then◌else◌}
+use Rattle.std.specs.Prelude.{◌≡◌, ◌≢◌, ℕ, ◌+◌, ◌<◌, Bool, true, false, List, [], length, map, nat_eq, slice_index_or, slice_set, ◌⊎◌, if◌then◌else◌}
 use Rattle.std.specs.List.{range_with_len, list_any}
 use Rattle.snoop_rules.specs.declared.names.CacheState.{CacheState}
 use Rattle.snoop_rules.specs.declared.names.CacheState.TheVariants.{I}
+use Rattle.snoop_rules.specs.declared.names.CacheAction.{CacheAction}
+use Rattle.snoop_rules.specs.declared.names.CacheEvent.{CacheEvent}
+use Rattle.snoop_rules.specs.Cell.{Cell}
+use Rattle.snoop_trace.specs.declared.protocol.Protocol.{Protocol}
+use Rattle.snoop_model.specs.Moves.Move.{moves_to}
 use Rattle.snoop_model.specs.Pictures.Lines.{Line}
 use Rattle.snoop_model.specs.Pictures.Picture.{held_at}
 use Rattle.snoop_model.specs.Pictures.Sound.{IsProper}
@@ -69,3 +74,13 @@ gone old new = if is_invalid new then (if is_invalid old then 0 else 1) else 0
 abbrev pub LinesGo : ℕ → Held → Held → Type 0
 LinesGo block old new =
     (core : ℕ) → length (slice_index_or new.lines core []) + gone (line_at old.rows core block).state (line_at new.rows core block).state ≡ length (slice_index_or old.lines core [])
+
+-- a core has taken its row of the block for an event
+pub record TookRow (protocol : Protocol) (event : CacheEvent) (core block : ℕ) (old new : Held) : Type 0 where
+  pub action : CacheAction
+  pub next : CacheState
+  pub row : Cell protocol (line_at old.rows core block).state event action next
+  pub rows : new.rows ≡ slice_set old.rows block (slice_set (row_of old.rows block) core (moves_to next (line_at old.rows core block)))
+  pub many : length new.lines ≡ length old.lines
+  pub lines : length (slice_index_or new.lines core []) + gone (line_at old.rows core block).state next ≡ length (slice_index_or old.lines core [])
+  pub others : (k : ℕ) → k ≢ core → slice_index_or new.lines k [] ≡ slice_index_or old.lines k []

@@ -1,13 +1,19 @@
 //! The lines of one core.
-ghost use Rattle.std.specs.Prelude.{◌≡◌, ℕ, ◌+◌, ◌<◌, ◌∷◌, ◌++◌, [], length, OnOk, OnErr, IsTrue, ◌↔◌, IsSome, false, is_some, nat_eq};
+ghost use Rattle.std.specs.Prelude.{◌≡◌, ◌≢◌, ℕ, ◌+◌, ◌<◌, ◌∷◌, ◌++◌, [], length, OnOk, OnErr, IfSome, IfNone, IsTrue, ◌↔◌, IsSome, false, is_some, nat_eq};
 ghost use Rattle.std.specs.Map.{lookup};
 ghost use Rattle.snoop_rules.specs.declared.names.CacheState.TheVariants.{I};
 ghost use Rattle.snoop_model.specs.Pictures.Picture.{nothing_held};
 ghost use Rattle.snoop_machine.specs.Cache.{line_in, blocks_of};
+ghost use Rattle.snoop_rules.specs.declared.names.CacheState.{CacheState};
+ghost use Rattle.snoop_rules.specs.declared.names.CacheAction.{CacheAction};
+ghost use Rattle.snoop_rules.specs.Cell.{Cell};
+ghost use Rattle.snoop_model.specs.Moves.LookUps.{HasRow};
+ghost use Rattle.snoop_model.specs.Moves.Move.{moves_to};
 
+use crate::ask::kept_in;
 use indexmap::IndexMap;
 use snoop_model::{Access, Line};
-use snoop_rules::CacheState;
+use snoop_rules::{CacheEvent, CacheState, Protocol, cache_cell};
 use snoop_trace::{Block, Kept, NoMemory, Op};
 use std::alloc::Global;
 use std::marker::Model;
@@ -88,6 +94,14 @@ impl<B: Block> Entry<B> {
         ensures { result ≡ self.now.state }
     {
         self.state
+    }
+
+    /// The line moves to its next state, with nothing performed.
+    fn move_to(&mut self, next: CacheState)
+        ensures { self.new ≡ moves_to next self.old }
+    {
+        self.state = next;
+        self.kept = kept_in(next, self.kept);
     }
 }
 
@@ -173,7 +187,6 @@ impl<B: Block> Cache<B> {
     }
 
     /// Writes the block's line, and answers the state that it was in. A line in I is taken out.
-    #[inline(always)]
     pub(crate) fn set(&mut self, block: u32, line: Line<Kept<B>>) -> CacheState
         requires place { IsSome (lookup (nat_eq block) self.old.entries) }
         requires settled { line.state ≡ I → line ≡ nothing_held }
@@ -193,5 +206,44 @@ impl<B: Block> Cache<B> {
         } else {
             CacheState::I
         }
+    }
+
+    /// Takes the row of the block's line for an event, and answers the states before and after, or `None` where the line stays as it is. A
+    /// line that moves to I is taken out.
+    #[inline(always)]
+    pub(crate) fn take_row(
+        &mut self,
+        protocol: Protocol,
+        block: u32,
+        event: CacheEvent,
+    ) -> Option<(CacheState, CacheState)>
+        requires row { HasRow protocol (line_in self.old block).state event }
+        requires absent { (action : CacheAction) → (next : CacheState) → Cell protocol I event action next → next ≡ I }
+        ensures still { IfNone result ((action : CacheAction) × (next : CacheState) × (Cell protocol (line_in self.old block).state event action next × (next ≡ (line_in self.old block).state))) }
+        ensures same { IfNone result (line_in self.new block ≡ line_in self.old block) }
+        ensures many { IfNone result (length self.new.entries ≡ length self.old.entries) }
+        ensures before { IfSome result (λ states. states.0 ≡ (line_in self.old block).state) }
+        ensures differs { IfSome result (λ states. states.1 ≢ states.0) }
+        ensures row { IfSome result (λ states. (action : CacheAction) × Cell protocol (line_in self.old block).state event action states.1) }
+        ensures here { IfSome result (λ states. states.1 ≢ I → line_in self.new block ≡ moves_to states.1 (line_in self.old block)) }
+        ensures gone { IfSome result (λ states. states.1 ≡ I → line_in self.new block ≡ nothing_held) }
+        ensures taken { IfSome result (λ states. states.1 ≡ I → length self.new.entries + 1 ≡ length self.old.entries) }
+        ensures stays { IfSome result (λ states. states.1 ≢ I → length self.new.entries ≡ length self.old.entries) }
+        ensures others { (b : ℕ) → nat_eq block b ≡ false → line_in self.new b ≡ line_in self.old b }
+    {
+        let entry = self.lines.get_mut(&block)?;
+        let before = entry.state();
+        let Some(cell) = cache_cell(protocol, before, event) else {
+            unreachable!();
+        };
+        if cell.next == before {
+            return None;
+        }
+        if matches!(&cell.next, CacheState::I) {
+            let _ = self.lines.swap_remove(&block);
+        } else {
+            entry.move_to(cell.next);
+        }
+        Some((before, cell.next))
     }
 }

@@ -10,7 +10,6 @@ ghost use Rattle.snoop_model.specs.Pictures.Message.{free_picture, IsMessage, me
 ghost use Rattle.snoop_model.specs.Moves.Move.{TakesRows};
 ghost use Rattle.snoop_machine.specs.Lines.{LinesGo};
 
-use crate::ask::moved_to;
 use crate::lines::Lines;
 use snoop_model::{Line, MemLine, Message};
 use snoop_rules::{
@@ -18,12 +17,6 @@ use snoop_rules::{
     carries_value, event_at_memory, event_seen, mem_cell,
 };
 use snoop_trace::{Block, Kept};
-
-fn is_same(one: CacheState, other: CacheState) -> bool
-    ensures { IsTrue result ↔ (one ≡ other) }
-{
-    one == other
-}
 
 impl<B: Block> Lines<B> {
     /// Each core takes its row for a request on the block. The row of a core that the request does not concern changes nothing, and is not looked up.
@@ -45,14 +38,7 @@ impl<B: Block> Lines<B> {
         let concerned = self.concerned(block, requestor, request);
         let mut from = 0;
         while let Some(core) = concerned.next(from) {
-            let line = self.get(core, block);
-            let event = event_seen(core, requestor, request);
-            let Some(cell) = cache_cell(protocol, line.state, event) else {
-                unreachable!();
-            };
-            if !is_same(cell.next, line.state) {
-                self.set(core, block, moved_to(line, cell.next));
-            }
+            self.take_row(protocol, core, block, event_seen(core, requestor, request));
             from = core + 1;
         }
     }
