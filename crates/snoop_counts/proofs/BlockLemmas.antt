@@ -50,7 +50,7 @@ all_kept p bound from (suc n) le =
     all_if (λ k. (k < bound) × (p k ≡ true)) (p from) from (filter p (range_with_len (from + 1) n)) (λ e. (omega arith, e)) (all_kept p bound (from + 1) n (omega arith))
 
 module _ (P : Ranked → Type 0) where
-  all_placed : (blocks : List Ranked) (next : Ranked) → All P blocks → P next → All P (placed blocks next)
+  pub all_placed : (blocks : List Ranked) (next : Ranked) → All P blocks → P next → All P (placed blocks next)
   all_placed blocks next all one =
       let place : ℕ = unwrap_or (position (λ (other : Ranked). nat_lt other.requests next.requests) blocks) (length blocks) in
       All-append P (take place blocks) (next ∷ drop place blocks) (All-take P place blocks all) (All-cons P next (drop place blocks) one (All-drop P place blocks all))

@@ -116,17 +116,14 @@ fn blocks_named(alloc: Global, tally: &BlockTally, blocks: u32) -> Result<Vec<Ra
 }
 
 // The blocks that the table has, of those that are named.
-fn blocks_shown(
-    alloc: Global,
-    named: Vec<Ranked>,
-    top: Option<u32>,
-) -> Result<Vec<Ranked>, NoMemory>
+fn blocks_shown(named: Vec<Ranked>, top: Option<u32>) -> Result<Vec<Ranked>, NoMemory>
     ensures { IfOk result (λ list. list.items ≡ blocks_shown top named.items) }
 {
     match top {
         None => Ok(named),
         Some(most) => {
-            let mut ranked = rank(alloc, &named)?;
+            let mut ranked = named;
+            rank(&mut ranked)?;
             ranked.truncate(most as usize);
             Ok(ranked)
         }
@@ -164,6 +161,6 @@ pub(crate) fn push_block_table(
         "block,address,cores,readers,writers,loads,load_hits,stores,store_hits,gets,getm,putm,from_memory,from_caches,writebacks,clean,stale,misses,cold,given_up,true_sharing,false_sharing,upgrades,upgrades_lost,invalidated,taken,downgraded,overtaken,stalled,bus_taken,no_transaction\n",
     )?;
     let named = blocks_named(alloc, tally, shape.blocks())?;
-    let shown = blocks_shown(alloc, named, top)?;
+    let shown = blocks_shown(named, top)?;
     push_blocks(out, shape, tally, &shown)
 }

@@ -1,14 +1,13 @@
 //! Blocks by how many requests for them were ordered.
-ghost use Rattle.std.specs.Prelude.{◌≡◌, ◌≤◌, ◌+◌, IfOk, OnOk, length, nat_lt, position, unwrap_or};
+ghost use Rattle.std.specs.Prelude.{◌≡◌, ◌+◌, OnOk};
 ghost use Rattle.snoop_history.specs.Totals.{capped};
-ghost use Rattle.snoop_counts.specs.ByBlock.{placed, ranked};
+ghost use Rattle.snoop_counts.specs.ByBlock.{ranked};
 ghost use Rattle.snoop_counts.specs.Tally.{counter_in};
 ghost use Rattle.snoop_counts.specs.declared.count.Count.TheVariants as count;
 
 use crate::count::Count;
 use crate::tally::Counters;
 use snoop_trace::NoMemory;
-use std::alloc::Global;
 
 /// A block, and how many requests for it were ordered.
 #[derive(Clone, Copy, Debug)]
@@ -26,35 +25,12 @@ pub(crate) fn requests(row: &Counters) -> u64
         .saturating_add(row.of(Count::PutM))
 }
 
-// The place of the first that has fewer requests, or the end.
-fn place_of(ranked: &[Ranked], next: Ranked) -> usize
-    ensures value { result ≡ unwrap_or (position (λ other. nat_lt other.requests next.requests) ranked.now) (length ranked.now) }
-    ensures within { result ≤ length ranked.now }
+/// Puts the blocks of most requests first, and of equals the one that comes first.
+pub(crate) fn rank(blocks: &mut Vec<Ranked>) -> Result<(), NoMemory>
+    ensures { OnOk result (blocks.new.items ≡ ranked blocks.old.items) }
 {
-    ranked
-        .iter()
-        .position(|other| other.requests < next.requests)
-        .unwrap_or(ranked.len())
-}
-
-// Puts the block before the first that has fewer requests, or last.
-fn place(ranked: &mut Vec<Ranked>, next: Ranked) -> Result<(), NoMemory>
-    ensures { OnOk result (ranked.new.items ≡ placed ranked.old.items next) }
-{
-    let place = place_of(ranked, next);
-    match ranked.insert(place, next) {
+    match blocks.sort_by(|one, other| other.requests.cmp(&one.requests)) {
         Ok(()) => Ok(()),
         Err(_) => Err(NoMemory),
     }
-}
-
-/// The blocks of most requests first, and of equals the one that comes first.
-pub(crate) fn rank(alloc: Global, blocks: &[Ranked]) -> Result<Vec<Ranked>, NoMemory>
-    ensures { IfOk result (λ list. list.items ≡ ranked blocks.now) }
-{
-    let mut ranked = Vec::new(alloc);
-    for block in blocks {
-        place(&mut ranked, *block)?;
-    }
-    Ok(ranked)
 }

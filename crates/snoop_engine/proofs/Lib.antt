@@ -1,4 +1,5 @@
 pub mod TakenLemmas
+pub mod AskerLemmas
 pub mod SimulatedLemmas
 pub mod Driving
 pub mod Fewer

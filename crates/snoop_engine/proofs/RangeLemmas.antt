@@ -1,6 +1,7 @@
 -- A list that grows piece by piece, over the numbers from 0.
-use Rattle.std.proofs.Common.{◌≡◌, ℕ, zero, suc, ◌+◌, List, [], ◌∷◌, ◌++◌, refl, sym, ap, ◌∙◌, arith}
+use Rattle.std.proofs.Common.{◌≡◌, ℕ, zero, suc, ◌+◌, ◌<◌, ◌≤◌, List, [], ◌∷◌, ◌++◌, append-nil, refl, sym, ap, ◌∙◌, inl, inr, arith}
 use Rattle.std.specs.List.{flat_map, range_with_len}
+use Rattle.std.proofs.lemmas.Bool.{cases_lt}
 use Rattle.std.proofs.lemmas.List.{flat_map_more}
 
 -- one number more
@@ -21,3 +22,25 @@ pub range_piece : {A : Type 0} (f : ℕ → List A) (i : ℕ) (before now next :
 range_piece {A} f i before now next far e =
     e ∙ ap (λ (t : List A). t ++ f i) far ∙ flat_map_more f before (range_with_len 0 i) i
     ∙ ap (λ (ks : List ℕ). before ++ flat_map f ks) (sym (more_from_zero i))
+
+-- numbers that give nothing may be left out at the end
+pub range_stops : {A : Type 0} (f : ℕ → List A) (a b : ℕ) → a ≤ b → ((k : ℕ) → a ≤ k → k < b → f k ≡ []) → flat_map f (range_with_len 0 b) ≡ flat_map f (range_with_len 0 a)
+range_stops {A} f a zero le none = let same : 0 ≡ a = omega arith in ap (λ (n : ℕ). flat_map f (range_with_len 0 n)) same
+range_stops {A} f a (suc b) le none = elim (cases_lt b a) [
+  | inl below ↦ let same : suc b ≡ a = omega arith in ap (λ (n : ℕ). flat_map f (range_with_len 0 n)) same
+  | inr up ↦
+      let next : suc b ≡ b + 1 = omega arith in
+      let last : b < suc b = omega arith in
+      ap (λ (n : ℕ). flat_map f (range_with_len 0 n)) next
+      ∙ (ap (λ (ks : List ℕ). flat_map f ks) (more_from_zero b)
+      ∙ (sym (flat_map_more f [] (range_with_len 0 b) b)
+      ∙ (ap (λ (t : List A). flat_map f (range_with_len 0 b) ++ t) (none b up last)
+      ∙ (append-nil (flat_map f (range_with_len 0 b)) ∙ range_stops f a b up (λ k low high. none k low (omega arith))))))
+]
+
+-- ranges give the same up to two numbers, where each number from the lower one on gives nothing
+pub range_same : {A : Type 0} (f : ℕ → List A) (a b : ℕ) → ((k : ℕ) → a ≤ k → f k ≡ []) → ((k : ℕ) → b ≤ k → f k ≡ []) → flat_map f (range_with_len 0 a) ≡ flat_map f (range_with_len 0 b)
+range_same {A} f a b from_a from_b = elim (cases_lt a b) [
+  | inl below ↦ sym (range_stops f a b (omega arith) (λ k low high. from_a k low))
+  | inr up ↦ range_stops f b a up (λ k low high. from_b k low)
+]

@@ -14,6 +14,7 @@ pub mod SimulatedSerial
 pub mod OneRow
 pub mod Frames
 pub mod Taken
+pub mod Askers
 pub mod States
 pub mod TrueLines
 pub mod Views

@@ -7,13 +7,14 @@ ghost use Rattle.snoop_trace.specs.declared.fault.TextFault.TheVariants as text_
 ghost use Rattle.snoop_engine.specs.SimulatedView.{BeginsToShow, ShowsRun, SimulatesView};
 ghost use Rattle.snoop_engine.specs.Views.{view_text};
 
+use crate::askers::Askers;
 use crate::fault::SimFault;
 use crate::gather::read_input;
 use crate::input::Input;
 use crate::packed::StepQueue;
 use crate::script::Script;
 use crate::seen::Seen;
-use crate::taken::{block_of, take_step};
+use crate::taken::{block_of, head_for, take_step};
 use crate::view::View;
 use snoop_machine::Machine;
 use snoop_machine::laws::runs_go_on;
@@ -132,6 +133,7 @@ fn show<W: Sink, S: Script, V: View>(
 {
     runs_go_on();
     let mut machine = Machine::reset(alloc, protocol, shape)?;
+    let mut askers = Askers::new(alloc, shape.blocks())?;
     let mut chunk = Vec::new(alloc);
     let mut lines = Vec::new(alloc);
     let count = script.left();
@@ -139,8 +141,9 @@ fn show<W: Sink, S: Script, V: View>(
     while let Some(step) = script.take_first() {
         let number = (count - script.left()) as u64;
         lines.clear();
-        let block = block_of(&machine, step);
-        let outcome = take_step(&mut lines, &mut machine, step)?;
+        let head = head_for(&machine, step);
+        let block = block_of(step, head);
+        let outcome = take_step(&mut lines, &mut machine, &mut askers, step, head)?;
         let seen = Seen {
             number,
             step,

@@ -1,13 +1,22 @@
 //! Which rows of the tables the controllers take at a step.
-ghost use Rattle.std.specs.Prelude.{◌≡◌, ◌++◌, ◌∷◌, [], true, IfOk, OnOk, Option, Some, None};
+ghost use Rattle.std.specs.Prelude.{◌≡◌, ◌<◌, ◌⊎◌, ◌++◌, ◌∷◌, [], ℕ, true, false, IfOk, OnOk, Option, Some, None};
 ghost use Rattle.std.specs.List.{flat_map, range_with_len};
+ghost use Rattle.std.specs.Option.{option_map_or};
+ghost use Rattle.snoop_rules.specs.declared.names.CacheState.TheVariants.{I};
+ghost use Rattle.snoop_rules.specs.Takers.{seen_by};
+ghost use Rattle.snoop_blocks.specs.CoreSet.{has};
 ghost use Rattle.snoop_model.specs.Moves.Refuses.{Refuses};
 ghost use Rattle.snoop_model.specs.Runs.Run.{GoesFirst};
 ghost use Rattle.snoop_model.specs.declared.replies.Refused.{Refused as Cause};
+ghost use Rattle.snoop_model.specs.Pictures.Situation.{Situation};
+ghost use Rattle.snoop_engine.specs.Askers.{AreAskers, AreOthersInI, IsHeadFor};
 ghost use Rattle.snoop_engine.specs.Views.{block_of};
+ghost use Rattle.snoop_engine.specs.declared.taken.Taken.TheVariants as Line;
 ghost use Rattle.snoop_engine.specs.Taken.{lines_of, memory_at, of_arrival, of_arrival_at_memory, of_ask, of_core, of_holder, of_memory, of_request, of_requestor, of_respond, refused_by, state_at, taken_by, of_waiting_memory, unless_i};
 
+use crate::askers::Askers;
 use crate::events::event_asked;
+use snoop_blocks::CoreSet;
 use snoop_bus::Open;
 use snoop_machine::{Machine, Refused, Reply};
 use snoop_rules::{
@@ -141,18 +150,26 @@ fn add_unless_i(lines: &mut Vec<Taken>, state: CacheState, line: Taken) -> Resul
     }
 }
 
-fn add_holder(
+// Adds the line of a core in this state, where the core is there, and takes it out of the set where it is in I.
+fn add_holder_in(
     lines: &mut Vec<Taken>,
-    machine: &Machine,
+    held: Option<CacheState>,
+    cores: &mut CoreSet,
     requestor: u32,
     block: u32,
     request: Request,
     core: u32,
 ) -> Result<(), NoMemory>
-    ensures { OnOk result (lines.new.items ≡ lines.old.items ++ of_holder machine.now.situation requestor block request core) }
+    requires { core < 256 }
+    ensures lines { OnOk result (lines.new.items ≡ lines.old.items ++ option_map_or (λ before. unless_i before (Line.Core core block (Some (seen_by core requestor request)) before)) held []) }
+    ensures others { (k : ℕ) → has cores.new k ≡ false → (has cores.old k ≡ false) ⊎ ((k ≡ core) × (held ≡ Some I)) }
 {
-    match state_at(machine, core, block) {
+    match held {
         None => Ok(()),
+        Some(CacheState::I) => {
+            cores.set(core, false);
+            Ok(())
+        }
         Some(before) => {
             let event = Some(event_seen(core, requestor, request));
             add_unless_i(
@@ -169,31 +186,59 @@ fn add_holder(
     }
 }
 
+// Adds the line of a core of the set, or takes it out of the set where it is in I.
+fn add_holder(
+    lines: &mut Vec<Taken>,
+    machine: &Machine,
+    cores: &mut CoreSet,
+    requestor: u32,
+    block: u32,
+    request: Request,
+    core: u32,
+) -> Result<(), NoMemory>
+    requires { core < 256 }
+    ensures lines { OnOk result (lines.new.items ≡ lines.old.items ++ of_holder machine.now.situation requestor block request core) }
+    ensures others { AreOthersInI machine.now.situation block cores.old → AreOthersInI machine.now.situation block cores.new }
+{
+    let held = state_at(machine, core, block);
+    add_holder_in(lines, held, cores, requestor, block, request, core)
+}
+
 fn add_holders(
     lines: &mut Vec<Taken>,
     machine: &Machine,
+    askers: &mut Askers,
     requestor: u32,
     block: u32,
     request: Request,
 ) -> Result<(), NoMemory>
-    ensures { OnOk result (lines.new.items ≡ lines.old.items ++ flat_map (of_holder machine.now.situation requestor block request) (range_with_len 0 machine.now.situation.shape.cores)) }
+    requires { AreAskers machine.now.situation askers.old.sets }
+    ensures lines { OnOk result (lines.new.items ≡ lines.old.items ++ flat_map (of_holder machine.now.situation requestor block request) (range_with_len 0 machine.now.situation.shape.cores)) }
+    ensures askers { AreAskers machine.now.situation askers.new.sets }
 {
-    for core in 0..machine.shape().cores() {
-        add_holder(lines, machine, requestor, block, request, core)?;
+    let mut cores = askers.of(block);
+    let mut from = 0;
+    while let Some(core) = cores.next(from) {
+        add_holder(lines, machine, &mut cores, requestor, block, request, core)?;
+        from = core + 1;
     }
+    askers.leave(block, cores);
     Ok(())
 }
 
 fn add_request(
     lines: &mut Vec<Taken>,
     machine: &Machine,
+    askers: &mut Askers,
     requestor: u32,
     block: u32,
     request: Request,
 ) -> Result<(), NoMemory>
-    ensures { OnOk result (lines.new.items ≡ lines.old.items ++ of_request machine.now.situation requestor block request) }
+    requires { AreAskers machine.now.situation askers.old.sets }
+    ensures lines { OnOk result (lines.new.items ≡ lines.old.items ++ of_request machine.now.situation requestor block request) }
+    ensures askers { AreAskers machine.now.situation askers.new.sets }
 {
-    add_holders(lines, machine, requestor, block, request)?;
+    add_holders(lines, machine, askers, requestor, block, request)?;
     add_memory(lines, machine, block, event_at_memory(request))
 }
 
@@ -270,13 +315,18 @@ fn add_respond(
     add_waiting_memory(lines, machine, block, opened)
 }
 
-/// Adds the rows that the controllers take at a step, if it is taken.
-pub(crate) fn add_taken(
+// Adds the rows that the controllers take at a step, if it is taken.
+fn add_taken(
     lines: &mut Vec<Taken>,
     machine: &Machine,
+    askers: &mut Askers,
     step: Step,
+    head: Option<(Request, u32)>,
 ) -> Result<(), NoMemory>
-    ensures { OnOk result (lines.new.items ≡ lines.old.items ++ taken_by machine.now.situation step) }
+    requires askers { AreAskers machine.now.situation askers.old.sets }
+    requires head { IsHeadFor machine.now.situation step head }
+    ensures lines { OnOk result (lines.new.items ≡ lines.old.items ++ taken_by machine.now.situation step) }
+    ensures askers { AreAskers machine.now.situation askers.new.sets }
 {
     match step {
         Step::Ask {
@@ -285,9 +335,9 @@ pub(crate) fn add_taken(
             word: _,
             op,
         } => add_ask(lines, machine, core, block, op),
-        Step::Order { core } => match machine.head(core) {
+        Step::Order { core } => match head {
             None => Ok(()),
-            Some((request, block)) => add_request(lines, machine, core, block, request),
+            Some((request, block)) => { add_request(lines, machine, askers, core, block, request) }
         },
         Step::Respond { block } => match machine.open(block) {
             None => Ok(()),
@@ -296,8 +346,8 @@ pub(crate) fn add_taken(
     }
 }
 
-/// Adds what there is to say of a step that was refused.
-pub(crate) fn add_refused(
+// Adds what there is to say of a step that was refused.
+fn add_refused(
     lines: &mut Vec<Taken>,
     machine: &Machine,
     step: Step,
@@ -326,7 +376,8 @@ pub(crate) fn add_refused(
 }
 
 /// Whether the step is an Order whose block has an open transaction: such a step is refused, and takes no row.
-fn is_bus_taken(machine: &Machine, step: Step) -> bool
+fn is_bus_taken(machine: &Machine, step: Step, head: Option<(Request, u32)>) -> bool
+    requires { IsHeadFor machine.now.situation step head }
     ensures { result ≡ true → (cause : Cause) × Refuses machine.now.situation step cause }
 {
     let Step::Order { core } = step else {
@@ -335,7 +386,7 @@ fn is_bus_taken(machine: &Machine, step: Step) -> bool
     if core >= machine.shape().cores() {
         return false;
     }
-    match machine.head(core) {
+    match head {
         None => false,
         Some((_, block)) => machine.requestor(block).is_some(),
     }
@@ -345,18 +396,24 @@ fn is_bus_taken(machine: &Machine, step: Step) -> bool
 pub(crate) fn take_step(
     lines: &mut Vec<Taken>,
     machine: &mut Machine,
+    askers: &mut Askers,
     step: Step,
+    head: Option<(Request, u32)>,
 ) -> Result<Result<Reply, Refused>, NoMemory>
-    requires { lines.old.items ≡ [] }
+    requires empty { lines.old.items ≡ [] }
+    requires askers { AreAskers machine.old.situation askers.old.sets }
+    requires head { IsHeadFor machine.old.situation step head }
     ensures goes { IfOk result (λ outcome. GoesFirst machine.old.situation step outcome machine.new.situation) }
     ensures lines { IfOk result (λ outcome. lines.new.items ≡ lines_of machine.old.situation step outcome) }
+    ensures askers { IfOk result (λ outcome. AreAskers machine.new.situation askers.new.sets) }
 {
-    if !is_bus_taken(machine, step) {
-        add_taken(lines, machine, step)?;
+    machine.shape().within_limits();
+    if !is_bus_taken(machine, step, head) {
+        add_taken(lines, machine, askers, step, head)?;
     }
     let outcome = machine.step(step);
     match outcome {
-        Ok(_) => {}
+        Ok(_) => askers.follow(step),
         Err(Refused::NoMemory) => return Err(NoMemory),
         Err(cause) => {
             lines.clear();
@@ -366,10 +423,20 @@ pub(crate) fn take_step(
     Ok(outcome)
 }
 
-/// The block that a step is of: that of an Ask or a Respond, at an Order that of the core's oldest request; `None` where
-/// none waits.
-pub(crate) fn block_of(machine: &Machine, step: Step) -> Option<u32>
-    ensures { result ≡ block_of machine.now.situation step }
+/// The oldest request of the core of an Order, and its block; `None` where none waits, and at another step.
+pub(crate) fn head_for(machine: &Machine, step: Step) -> Option<(Request, u32)>
+    ensures { IsHeadFor machine.now.situation step result }
+{
+    match step {
+        Step::Order { core } => machine.head(core),
+        Step::Ask { .. } | Step::Respond { .. } => None,
+    }
+}
+
+/// The block that a step is of: that of an Ask or a Respond, at an Order that of the core's oldest request, which is handed
+/// in; `None` where none waits.
+pub(crate) fn block_of(step: Step, head: Option<(Request, u32)>) -> Option<u32>
+    ensures { (s : Situation) → IsHeadFor s step head → result ≡ block_of s step }
 {
     match step {
         Step::Ask {
@@ -378,7 +445,7 @@ pub(crate) fn block_of(machine: &Machine, step: Step) -> Option<u32>
             word: _,
             op: _,
         } => Some(block),
-        Step::Order { core } => match machine.head(core) {
+        Step::Order { core: _ } => match head {
             None => None,
             Some((_, block)) => Some(block),
         },

@@ -10,4 +10,5 @@ returns-in-Some c =
     let s = c.args.machine.now.situation in
     let cores : c.cores.result ≡ s.shape.cores = c.cores.ensures.value ∙ ap (λ (x : Extent). x.cores) c.shape.ensures in
     let inside : c.in-Order.core < s.shape.cores = omega arith in
-    λ there. rw c.in-Order.is (BusTaken c.in-Some.block, (inside, c.in-Some.ensures.some.first, is_opened (picture_of s c.in-Some.block).transaction _ _ c.is_some.ensures c.requestor.ensures there))
+    let head = rw (c.in-Order.is, c.in-Some.is) at c.requires in
+    λ there. rw c.in-Order.is (BusTaken c.in-Some.block, (inside, head.first, is_opened (picture_of s c.in-Some.block).transaction _ _ c.is_some.ensures c.requestor.ensures there))

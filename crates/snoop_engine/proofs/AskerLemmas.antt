@@ -1,0 +1,242 @@
+-- Only an Ask moves its core out of I.
+use Rattle.std.proofs.Common.{◌≡◌, ℕ, ◌<◌, ◌≤◌, Bool, true, false, List, [], length, Some, None, Option, refl, sym, ap, subst, ◌∙◌, inl, inr, arith}
+use Rattle.std.specs.Prelude.{◌==◌, ◌&&◌, ◌%◌, IfNone, IfSome, Ok, nat_lt, slice_get, unwrap_or, replicate, slice_index_or, slice_set, if◌then◌else◌}
+use Rattle.std.specs.Option.{option_map_or}
+use Rattle.std.proofs.lemmas.Bool.{cases_lt, le-ltb}
+use Rattle.std.proofs.lemmas.List.{get_or-replicate, get_or_past, length-replicate}
+use Rattle.snoop_trace.specs.Extent.{Extent}
+use Rattle.snoop_trace.specs.declared.protocol.Protocol.{Protocol}
+use Rattle.snoop_trace.specs.declared.protocol.Protocol.TheVariants.{Msi, Mesi}
+use Rattle.snoop_trace.specs.declared.step.Op.{Op}
+use Rattle.snoop_trace.specs.declared.step.Step.{Step}
+use Rattle.snoop_trace.specs.declared.step.Step.TheVariants.{Ask, Order, Respond}
+use Rattle.snoop_rules.specs.declared.names.CacheCell.{CacheCell}
+use Rattle.snoop_rules.specs.declared.names.CacheEvent.{CacheEvent}
+use Rattle.snoop_rules.specs.declared.names.CacheState.{CacheState}
+use Rattle.snoop_rules.specs.declared.names.CacheState.TheVariants.{I}
+use Rattle.snoop_rules.specs.declared.names.Payload.{Payload}
+use Rattle.snoop_rules.specs.declared.names.Payload.TheVariants.{Data, DataE, NoData, NoDataE}
+use Rattle.snoop_rules.specs.declared.names.Request.{Request}
+use Rattle.snoop_rules.specs.declared.names.Request.TheVariants.{GetS, GetM, PutM}
+use Rattle.snoop_rules.specs.Cell.{cell_of}
+use Rattle.snoop_rules.specs.Takers.{arrival, other, own, seen_by}
+use Rattle.snoop_history.specs.declared.items.Did.{Did}
+use Rattle.snoop_history.specs.declared.items.Item.{Item}
+use Rattle.snoop_blocks.specs.CoreSet.{Puts, has, set_of}
+use Rattle.snoop_bus.specs.Queues.{queue_of}
+use Rattle.snoop_bus.specs.Traffic.{Open}
+use Rattle.snoop_model.specs.Moves.OrderMove.{IsHead}
+use Rattle.snoop_model.specs.declared.replies.Reply.{Reply}
+use Rattle.snoop_model.specs.Pictures.Lines.{Line}
+use Rattle.snoop_model.specs.Pictures.Picture.{Picture, held_at, held_by, nothing_held, with_line}
+use Rattle.snoop_model.specs.Pictures.Situation.{Situation, nothing_there, picture_of, reset, state_of, untouched}
+use Rattle.snoop_model.specs.Moves.Move.{ArrivesFor, FillsRequestor, MovesAsk, Orders, Responds}
+use Rattle.snoop_model.specs.Runs.Run.{GoesFirst}
+use Rattle.snoop_model.proofs.Lists.Writes.{set_cases}
+use Rattle.std.proofs.lemmas.Nat.Bits.{bit_at-zero}
+use Rattle.std.proofs.lemmas.Option.{get_or_from_slice_get, same_Some, unwrap_or-slice_get}
+use Rattle.snoop_engine.specs.Askers.{AreAskers, AreOthersInI, IsHeadFor}
+use Rattle.snoop_engine.specs.Taken.{of_holder, state_at, unless_i}
+use Rattle.snoop_engine.specs.declared.taken.Taken.{Taken}
+use Rattle.snoop_engine.specs.declared.taken.Taken.TheVariants.{Core}
+use Rattle.snoop_engine.proofs.TakenLemmas.{same_shape}
+
+-- a request that a core in I sees leaves it there
+seen_row : (p : Protocol) (own_one : Bool) (request : Request) (row : CacheCell) → cell_of p I (if own_one then own request else other request) ≡ Some row → row.next ≡ I
+seen_row Msi true GetS row h = cc
+seen_row Msi true GetM row h = cc
+seen_row Msi true PutM row h = cc
+seen_row Msi false GetS row h = cc
+seen_row Msi false GetM row h = cc
+seen_row Msi false PutM row h = cc
+seen_row Mesi true GetS row h = cc
+seen_row Mesi true GetM row h = cc
+seen_row Mesi true PutM row h = cc
+seen_row Mesi false GetS row h = cc
+seen_row Mesi false GetM row h = cc
+seen_row Mesi false PutM row h = cc
+
+-- no data comes to a core in I
+no_row : (p : Protocol) (payload : Payload) → option_map_or (λ event. cell_of p I event) (arrival payload) None ≡ None
+no_row Msi Data = refl
+no_row Msi DataE = refl
+no_row Msi NoData = refl
+no_row Msi NoDataE = refl
+no_row Mesi Data = refl
+no_row Mesi DataE = refl
+no_row Mesi NoData = refl
+no_row Mesi NoDataE = refl
+
+no_fill : (p : Protocol) (payload : Payload) (event : CacheEvent) (row : CacheCell) → arrival payload ≡ Some event → cell_of p I event ≡ Some row → ⊥
+no_fill p payload event row comes is =
+    let none : cell_of p I event ≡ None = sym (ap (λ (e : Option CacheEvent). option_map_or (λ event. cell_of p I event) e None) comes) ∙ no_row p payload in
+    cc
+
+-- a core that is in I of a block before a step
+module _ (old new : Situation) (core block : ℕ) (idle : state_of old core block ≡ I) where
+  idle_in : (b : ℕ) → block ≡ b → state_of old core b ≡ I
+  idle_in b same = subst (λ (x : ℕ). state_of old core x ≡ I) same idle
+
+  -- a block has a new picture
+  in_i_of_picture : (b : ℕ) (next : Picture) → (block ≡ b → (held_by next core).state ≡ I) → (held_by (slice_index_or (slice_set old.pictures b next) block nothing_there) core).state ≡ I
+  in_i_of_picture b next here = elim (set_cases old.pictures b block next nothing_there) [
+    | inl p ↦ ap (λ (x : Picture). (held_by x core).state) p.1 ∙ here p.0
+    | inr e ↦ ap (λ (x : Picture). (held_by x core).state) e ∙ idle
+  ]
+
+  in_i_after_ask : (asker b word : ℕ) (asking : Op) (answer : Reply) (entry : Option Item) → MovesAsk old asker b word asking answer new entry → (core ≡ asker → block ≡ b → ⊥) → state_of new core block ≡ I
+  in_i_after_ask asker b word asking answer entry moves another = elim moves [
+    | inl absent ↦ ap (λ (s : Situation). state_of s core block) absent.3 ∙ idle
+    | inr a ↦
+        let caches : List Line = (picture_of old b).caches in
+        ap (λ (s : Situation). state_of s core block) a.after
+        ∙ in_i_of_picture b (with_line (picture_of old b) asker a.held)
+        (λ same. elim (set_cases caches asker core a.held nothing_held) [
+          | inl p ↦ absurd (another p.0 same)
+          | inr e ↦ ap (λ (l : Line). l.state) e ∙ idle_in b same
+        ])
+  ]
+
+  in_i_after_order : (requestor b : ℕ) (request : Request) → Orders old requestor b request new → state_of new core block ≡ I
+  in_i_after_order requestor b request o =
+      ap (λ (s : Situation). state_of s core block) o.after
+      ∙ in_i_of_picture b o.next
+      (λ same. elim (cases_lt core (length (picture_of old b).caches)) [
+        | inl there ↦
+            let row = o.taken.rows core there in
+            let from_i : cell_of old.protocol I (seen_by core requestor request) ≡ Some row.0 = subst (λ (s : CacheState). cell_of old.protocol s (seen_by core requestor request) ≡ Some row.0) (idle_in b same) row.1 in
+            ap (λ (l : Line). l.state) row.2 ∙ seen_row old.protocol (core == requestor) request row.0 from_i
+        | inr past ↦
+            let long = o.taken.same_length in
+            ap (λ (l : Line). l.state) (get_or_past o.next.caches core nothing_held (omega arith))
+      ])
+
+  in_i_after_fill : (b : ℕ) (closing : Open) (did : Option Did) (next : List Line) → block ≡ b → FillsRequestor closing old.protocol old.log (picture_of old b).caches next did → (held_at next core).state ≡ I
+  in_i_after_fill b closing did next same f =
+      let caches : List Line = (picture_of old b).caches in
+      ap (λ (l : List Line). (held_at l core).state) f.held
+      ∙ elim (set_cases caches closing.core core f.line nothing_held) [
+        | inl p ↦
+            let here : (held_at caches closing.core).state ≡ I = subst (λ (k : ℕ). (held_at caches k).state ≡ I) p.0 (idle_in b same) in
+            absurd (no_fill old.protocol closing.payload f.fills.event f.fills.row f.fills.arrives (subst (λ (s : CacheState). cell_of old.protocol s f.fills.event ≡ Some f.fills.row) here f.fills.is_row))
+        | inr e ↦ ap (λ (l : Line). l.state) e ∙ idle_in b same
+      ]
+
+  in_i_after_arrival : (request : Request) (b : ℕ) (closing : Open) (did : Option Did) (next : List Line) → block ≡ b → ArrivesFor request closing old.protocol old.log (picture_of old b).caches next did → (held_at next core).state ≡ I
+  in_i_after_arrival PutM b closing did next same f = ap (λ (l : List Line). (held_at l core).state) f.0 ∙ idle_in b same
+  in_i_after_arrival GetS b closing did next same f = in_i_after_fill b closing did next same f
+  in_i_after_arrival GetM b closing did next same f = in_i_after_fill b closing did next same f
+
+  in_i_after_respond : (b : ℕ) (closing : Open) (did : Option Did) → Responds old b closing did new → state_of new core block ≡ I
+  in_i_after_respond b closing did r =
+      ap (λ (s : Situation). state_of s core block) r.after
+      ∙ in_i_of_picture b r.next (λ same. in_i_after_arrival closing.request b closing did r.next.caches same r.requestor)
+
+-- the step is the core's Ask for the block
+abbrev IsAskOf : Step → ℕ → ℕ → Type 0
+IsAskOf (Ask asker on word asking) core block = (core ≡ asker) × (block ≡ on)
+IsAskOf (Order requestor) core block = ⊥
+IsAskOf (Respond on) core block = ⊥
+
+stays_in_i : (old new : Situation) (step : Step) (answer : Reply) → GoesFirst old step (Ok answer) new → (core block : ℕ) → (IsAskOf step core block → ⊥) → state_of old core block ≡ I → state_of new core block ≡ I
+stays_in_i old new (Ask asker on word asking) answer goes core block another idle =
+    let m = goes.1.1.1 in
+    in_i_after_ask old new core block idle asker goes.1.0 word asking answer goes.0 m.moves (λ same here. another (same, here ∙ sym m.on_block))
+stays_in_i old new (Order requestor) answer goes core block another idle =
+    let m = goes.1.1.1 in
+    in_i_after_order old new core block idle requestor goes.1.0 m.request m.orders
+stays_in_i old new (Respond on) answer goes core block another idle =
+    let m = goes.1.1.1 in
+    in_i_after_respond old new core block idle goes.1.0 m.closing m.did m.responds
+
+-- the sets after a step that is no Ask
+follow_other : (old new : Situation) (step : Step) (answer : Reply) (sets : List (List ℕ)) → ((core block : ℕ) → IsAskOf step core block → ⊥) → AreAskers old sets → GoesFirst old step (Ok answer) new → AreAskers new sets
+follow_other old new step answer sets other are goes = record {
+  many = are.many ∙ sym (ap (λ (e : Extent). e.blocks) (same_shape old new step answer goes.0 goes.1));
+  others = λ block core out. stays_in_i old new step answer goes core block (other core block) (are.others block core out);
+}
+
+-- the sets after an Ask, whose core was put into one of them
+pub follow_ask : (old new : Situation) (asker on word : ℕ) (asking : Op) (answer : Reply) (sets next : List (List ℕ)) → AreAskers old sets → old.shape.cores ≤ 256
+    → GoesFirst old (Ask asker on word asking) (Ok answer) new → Puts on asker sets next → AreAskers new next
+follow_ask old new asker on word asking answer sets next are few goes puts =
+    let m = goes.1.1.1 in
+    let within = m.within in
+    let on_block = m.on_block in
+    let long = are.many in
+    let put : has (set_of next on) asker ≡ true = puts.here (omega arith) (omega arith) in
+    record {
+      many = puts.many ∙ are.many ∙ sym (ap (λ (e : Extent). e.blocks) (same_shape old new (Ask asker on word asking) answer goes.0 goes.1));
+      others = λ block core out.
+          let another : (core ≡ asker) × (block ≡ on) → ⊥ = λ it.
+          (let is : has (set_of next on) asker ≡ false = subst (λ (k : ℕ). has (set_of next on) k ≡ false) it.0 (subst (λ (b : ℕ). has (set_of next b) core ≡ false) it.1 out) in
+          cc) in
+          stays_in_i old new (Ask asker on word asking) answer goes core block another (are.others block core (sym (puts.apart block core (λ here same. another (same, here))) ∙ out));
+    }
+
+-- at reset each core is in I of each block
+pub asks_none : (protocol : Protocol) (shape : Extent) (sets : List (List ℕ)) → length sets ≡ shape.blocks → AreAskers (reset protocol shape) sets
+asks_none protocol shape sets long =
+    let idle : (core : ℕ) → held_at (replicate shape.cores nothing_held) core ≡ nothing_held = λ core.
+    (elim (cases_lt core shape.cores) [
+      | inl there ↦ get_or-replicate shape.cores core nothing_held nothing_held there
+      | inr past ↦
+          let many : length (replicate shape.cores nothing_held) ≡ shape.cores = length-replicate shape.cores nothing_held in
+          get_or_past (replicate shape.cores nothing_held) core nothing_held (omega arith)
+    ]) in
+    record {
+      many = long;
+      others = λ block core out. elim (cases_lt block shape.blocks) [
+        | inl there ↦ ap (λ (x : Picture). (held_by x core).state) (get_or-replicate shape.blocks block (untouched protocol shape.cores) nothing_there there) ∙ ap (λ (l : Line). l.state) (idle core)
+        | inr past ↦
+            let many : length (replicate shape.blocks (untouched protocol shape.cores)) ≡ shape.blocks = length-replicate shape.blocks (untouched protocol shape.cores) in
+            ap (λ (x : Picture). (held_by x core).state) (get_or_past (replicate shape.blocks (untouched protocol shape.cores)) block nothing_there (omega arith))
+      ];
+    }
+
+found_at : (there : Bool) (state : CacheState) → (let found : Option CacheState = if there then Some state else None in found ≡ Some I) → state ≡ I
+found_at true state is = same_Some _ _ is
+found_at false state is = cc
+
+-- a core in I has no line at an Order
+idle_line : (there : Bool) (state : CacheState) (line : CacheState → Taken) → state ≡ I → option_map_or (λ before. unless_i before (line before)) (if there then Some state else None) [] ≡ []
+idle_line true state line is = ap (λ (before : CacheState). unless_i before (line before)) is
+idle_line false state line is = refl
+
+pub no_line_in_i : (s : Situation) (requestor block : ℕ) (request : Request) (core : ℕ) → state_of s core block ≡ I → of_holder s requestor block request core ≡ []
+no_line_in_i s requestor block request core is =
+    idle_line (nat_lt core s.shape.cores && nat_lt block s.shape.blocks) (state_of s core block) (λ before. Core core block (Some (seen_by core requestor request)) before) is
+
+-- nor has a core that is not there
+pub no_line_past : (s : Situation) (requestor block : ℕ) (request : Request) (core : ℕ) → s.shape.cores ≤ core → of_holder s requestor block request core ≡ []
+no_line_past s requestor block request core past = rw (le-ltb core s.shape.cores past) refl
+
+-- of a core that was found in I, and taken out of the set
+pub found_in_i : (s : Situation) (core block : ℕ) → state_at s core block ≡ Some I → state_of s core block ≡ I
+found_in_i s core block is = found_at (nat_lt core s.shape.cores && nat_lt block s.shape.blocks) (state_of s core block) is
+
+-- the head that a machine answers is that of an Order
+pub head_is : (s : Situation) (core : ℕ) (found : Option (Request × ℕ)) → IfSome found (λ head. IsHead s core head.0 head.1) → IfNone found (slice_get (queue_of s.queues core) 0 ≡ None) → IsHeadFor s (Order core) found
+head_is s core None some none = none
+head_is s core (Some head) some none = some
+
+pub follow_order : (old new : Situation) (requestor : ℕ) (answer : Reply) (sets : List (List ℕ)) → AreAskers old sets → GoesFirst old (Order requestor) (Ok answer) new → AreAskers new sets
+follow_order old new requestor answer sets are goes = follow_other old new (Order requestor) answer sets (λ core block is. is) are goes
+
+pub follow_respond : (old new : Situation) (on : ℕ) (answer : Reply) (sets : List (List ℕ)) → AreAskers old sets → GoesFirst old (Respond on) (Ok answer) new → AreAskers new sets
+follow_respond old new on answer sets are goes = follow_other old new (Respond on) answer sets (λ core block is. is) are goes
+
+has_nothing : (core : ℕ) → has [] core ≡ false
+unfolding has
+has_nothing core = ap (λ (b : ℕ). b == 1) (bit_at-zero (core % 64))
+
+-- the set of a block, by what the table answers
+pub asked_by_none : (s : Situation) (sets : List (List ℕ)) (block : ℕ) → AreAskers s sets → slice_get sets block ≡ None → (core : ℕ) → state_of s core block ≡ I
+asked_by_none s sets block are none core =
+    let nothing : set_of sets block ≡ [] = sym (unwrap_or-slice_get sets block []) ∙ ap (λ (o : Option (List ℕ)). unwrap_or o []) none in
+    are.others block core (ap (λ (l : List ℕ). has l core) nothing ∙ has_nothing core)
+
+pub asked_by : (s : Situation) (sets : List (List ℕ)) (block : ℕ) (set : List ℕ) → AreAskers s sets → slice_get sets block ≡ Some set → AreOthersInI s block set
+asked_by s sets block set are some = λ core out.
+    let is : set_of sets block ≡ set = get_or_from_slice_get sets block set [] some in
+    are.others block core (ap (λ (l : List ℕ). has l core) is ∙ out)
