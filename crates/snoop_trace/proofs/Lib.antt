@@ -11,3 +11,4 @@ pub mod GathersLemmas
 pub mod LineLemmas
 pub mod BackLemmas
 pub mod WithinLemmas
+pub mod AskedLemmas

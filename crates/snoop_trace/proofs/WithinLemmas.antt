@@ -16,11 +16,11 @@ use Rattle.snoop_trace.specs.declared.step.Row.{Row}
 use Rattle.snoop_trace.specs.declared.step.Step.{Step}
 
 -- a reading that goes on
-if_bind : {A B : Type 0} (r : Result A TextFault) (f : A → Result B TextFault) (P : A → Type 0) (Q : B → Type 0) → IfOk r P → ((x : A) → P x → IfOk (f x) Q) → IfOk (r >>= f) Q
+pub if_bind : {A B : Type 0} (r : Result A TextFault) (f : A → Result B TextFault) (P : A → Type 0) (Q : B → Type 0) → IfOk r P → ((x : A) → P x → IfOk (f x) Q) → IfOk (r >>= f) Q
 if_bind (Ok x) f P Q p q = q x p
 if_bind (Err e) f P Q p q = tt
 
-if_any : {A : Type 0} (r : Result A TextFault) → IfOk r (λ x. ⊤)
+pub if_any : {A : Type 0} (r : Result A TextFault) → IfOk r (λ x. ⊤)
 if_any (Ok x) = tt
 if_any (Err e) = tt
 
@@ -32,7 +32,7 @@ has_core : (shape : Extent) (n core : ℕ) → IfOk (core_in shape n core) (λ c
 has_core shape n core = elim (cases_Bool (nat_lt core shape.cores)) [ inl e ↦ rw e (ltb-true core shape.cores e) | inr e ↦ rw e tt ]
 
 -- the row's core is there
-abbrev HasCore : Extent → Row → Type 0
+abbrev pub HasCore : Extent → Row → Type 0
 HasCore shape row = row.core < shape.cores
 
 core_of_without_value : (shape : Extent) (n : ℕ) (op : Op) (fs : List (List ℕ)) → IfOk (without_value shape n op fs) (HasCore shape)
@@ -52,7 +52,7 @@ core_of_store shape n fs =
     if_bind (number_in n f.2) _ _ _ (if_any (number_in n f.2)) (λ value yes.
     if_bind (core_in shape n core) _ _ _ (has_core shape n core) (λ c has. has)))))
 
-core_of_asked : (shape : Extent) (n letter : ℕ) (fs : List (List ℕ)) → IfOk (asked shape n letter fs) (HasCore shape)
+pub core_of_asked : (shape : Extent) (n letter : ℕ) (fs : List (List ℕ)) → IfOk (asked shape n letter fs) (HasCore shape)
 unfolding asked
 core_of_asked shape n letter fs =
     if_if (letter == 76) (without_value shape n Load fs) _ (HasCore shape) (core_of_without_value shape n Load fs)
@@ -66,7 +66,7 @@ block_there shape n address =
       | inr e ↦ rw e tt
     ]
 
-said_row : (shape : Extent) (n : ℕ) (fs : List (List ℕ)) → IfOk (row_in shape n fs) (IsRowWithin shape)
+pub said_row : (shape : Extent) (n : ℕ) (fs : List (List ℕ)) → IfOk (row_in shape n fs) (IsRowWithin shape)
 unfolding row_in
 said_row shape n fs =
     if_bind (ok_or (letter_of fs) (BadKind n)) _ _ _ (if_any (ok_or (letter_of fs) (BadKind n))) (λ letter yes.
@@ -82,7 +82,7 @@ pub rows_within : {X : Type 0} (shape : Extent) (items : X → List Row) (r : Re
 rows_within shape items (Ok x) said = All-weaker (IsSaid (row_in shape)) (IsRowWithin shape) (within_said shape) (items x) said
 rows_within shape items (Err e) said = tt
 
-has_block : (shape : Extent) (n address : ℕ) → IfOk (block_in shape n address) (λ block. block < shape.blocks)
+pub has_block : (shape : Extent) (n address : ℕ) → IfOk (block_in shape n address) (λ block. block < shape.blocks)
 has_block shape n address =
     elim (cases_Bool (nat_lt (address / shape.block_bytes) shape.blocks)) [
       | inl e ↦ rw e (ltb-true (address / shape.block_bytes) shape.blocks e)

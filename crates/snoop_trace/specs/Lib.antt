@@ -6,6 +6,7 @@ pub mod Grammar
 pub mod Heading
 pub mod Faults
 pub mod Text
+pub mod Asked
 pub mod Progress
 pub mod Output
 pub mod Records

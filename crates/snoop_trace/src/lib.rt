@@ -20,6 +20,6 @@ pub use faults::{kind_of, number_of, row_fault, step_fault};
 pub use output::write_steps;
 pub use protocol::Protocol;
 pub use shape::{Shape, ShapeFault};
-pub use step::{Op, Row, Step, Work};
+pub use step::{Asked, Op, Row, Step, Work};
 pub use text::{read_rows, read_steps};
 pub use words::{Block, Few, Kept, Words};

@@ -1,6 +1,7 @@
 //! From a record to a step or a row.
 ghost use Rattle.std.specs.Prelude.{◌≡◌, ℕ, List, Result, IfErr};
 ghost use Rattle.csv.specs.Records.{fields_of};
+ghost use Rattle.snoop_trace.specs.Asked.{asked_in};
 ghost use Rattle.snoop_trace.specs.Extent.{Extent};
 ghost use Rattle.snoop_trace.specs.Grammar as spec;
 ghost use Rattle.snoop_trace.specs.Grammar.{NamesRecord};
@@ -9,7 +10,7 @@ use crate::fault::TextFault;
 use crate::fields::{letter_of, one_of, three_of, two_of};
 use crate::number::number;
 use crate::shape::Shape;
-use crate::step::{Op, Row, Step};
+use crate::step::{Asked, Op, Row, Step, Work};
 use csv::ByteRecord;
 
 /// What a record of a text says.
@@ -49,6 +50,27 @@ impl Entry for Row {
         let row = asked(shape, n, letter, fields)?;
         block_in(shape, n, row.address)?;
         Ok(row)
+    }
+}
+
+impl Entry for Asked {
+    ghost says = { asked_in };
+
+    #[tactic(auto, unfolding(crate::specs::Asked::asked_in))]
+    #[inline(always)]
+    fn from_record(shape: Shape, n: u64, fields: &ByteRecord) -> Result<Self, TextFault> {
+        let letter = letter_of(fields).ok_or(TextFault::BadKind(n))?;
+        let row = asked(shape, n, letter, fields)?;
+        let block = block_in(shape, n, row.address)?;
+        let work = Work {
+            block,
+            word: shape.word_asked(row.address, row.op),
+            op: row.op,
+        };
+        Ok(Asked {
+            core: row.core,
+            work,
+        })
     }
 }
 

@@ -53,3 +53,10 @@ pub struct Work {
     pub word: u32,
     pub op: Op,
 }
+
+/// What a row asks for: a work of one core.
+#[derive(Clone, Copy, Debug, PartialEq, Eq)]
+pub struct Asked {
+    pub core: u32,
+    pub work: Work,
+}

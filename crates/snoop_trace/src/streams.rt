@@ -6,7 +6,7 @@ mod sink;
 pub(crate) mod source;
 pub(crate) mod step_text;
 
-pub use crate::text::gather_steps;
+pub use crate::text::{gather_asked, gather_steps};
 pub use append::{push_byte, push_decimal, push_text};
 pub use entries::Entries;
 pub use sink::{AnyWriter, CHUNK, Sink, spill, write_whole};

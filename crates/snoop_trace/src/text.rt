@@ -1,18 +1,20 @@
 //! Reading a text of steps or of rows.
-ghost use Rattle.std.specs.Prelude.{◌≡◌, ◌<◌, ◌≢◌, ◌+◌, [], true, All, IfSome, IfOk, IsSome, Err};
+ghost use Rattle.std.specs.Prelude.{◌≡◌, ◌<◌, ◌≢◌, ◌+◌, [], true, List, All, IfSome, IfOk, IfErr, IsSome, Err};
 ghost use Rattle.csv.specs.Reading.{ReadRecord, default_config, reader_state, records, source_of};
 ghost use Rattle.csv.specs.Records.{fields_of};
 ghost use Rattle.csv.specs.declared.parser.State.TheVariants as st;
+ghost use Rattle.snoop_trace.specs.Asked.{AreAsked, step_of};
 ghost use Rattle.snoop_trace.specs.Grammar.{IsRowWithin, IsStepWithin};
 ghost use Rattle.snoop_trace.specs.Progress.{IsPlain, IsSaid, TakesEntry, entries_after, records_left};
 ghost use Rattle.snoop_trace.specs.Text.{BlamesReader, Gives, entries_in, records_of, rows_of, steps_of};
+ghost use Rattle.snoop_trace.specs.declared.step.Row.{Row as Given};
 
 use crate::fault::{NoMemory, TextFault};
 use crate::heading::Heading;
 use crate::protocol::Protocol;
 use crate::record::Entry;
 use crate::shape::Shape;
-use crate::step::{Row, Step};
+use crate::step::{Asked, Row, Step};
 use crate::streams::Source;
 use crate::streams::entries::Entries;
 use crate::streams::source::{Begun, Watched};
@@ -267,4 +269,24 @@ pub fn read_rows<R: Source>(
     ensures blamed { BlamesReader (R.failed reader.old) (R.failed reader.new) (result ≡ Err TextFault.Read) }
 {
     read_entries::<Row, Vec<Row>, R>(alloc, reader, None, shape, Vec::new(alloc))
+}
+
+/// What the rows of a text ask for, in its order, or the fault of `read_rows`: gathered in another list, which is empty at first
+/// and fits all that rows of the shape ask for.
+pub fn gather_asked<C: Entries<Asked> + Drop, R: Source>(
+    alloc: Global,
+    reader: &mut R,
+    shape: Shape,
+    asked: C,
+) -> Result<C, TextFault>
+    requires empty { C.listed asked ≡ [] }
+    requires fits { (asked : Asked) → IsStepWithin shape (step_of asked) → C.fits asked }
+    ensures read { IfOk result (λ asked. AreAsked shape (R.remaining reader.old) (C.listed asked)) }
+    ensures fault { IfErr result (λ fault. IfSome (R.remaining reader.old)
+        (λ bytes. Gives (λ (rows : List Given). rows) (Err fault) (rows_of shape bytes))) }
+    ensures never_blamed { R.never_fails ≡ true → result ≢ Err TextFault.Read }
+    ensures blamed { BlamesReader (R.failed reader.old) (R.failed reader.new) (result ≡ Err TextFault.Read) }
+{
+    shape.within_limits();
+    read_entries::<Asked, C, R>(alloc, reader, None, shape, asked)
 }

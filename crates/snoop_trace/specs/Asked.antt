@@ -1,0 +1,37 @@
+-- What the rows of a text ask for.
+-- Source: this project's profile.
+use Rattle.std.specs.Prelude.{◌≡◌, ℕ, ◌/◌, List, map, All, IfSome, Option, Result, Ok}
+use Rattle.std.specs.Option.{ok_or}
+use Rattle.snoop_trace.specs.Extent.{Extent}
+use Rattle.snoop_trace.specs.Grammar.{◌>>=◌, IsRowWithin, asked, block_in, letter_of, word_asked}
+use Rattle.snoop_trace.specs.Text.{rows_of}
+use Rattle.snoop_trace.specs.declared.fault.TextFault.{TextFault}
+use Rattle.snoop_trace.specs.declared.fault.TextFault.TheVariants.{BadKind}
+use Rattle.snoop_trace.specs.declared.step.Asked.{Asked}
+use Rattle.snoop_trace.specs.declared.step.Row.{Row}
+use Rattle.snoop_trace.specs.declared.step.Step.{Step}
+use Rattle.snoop_trace.specs.declared.step.Step.TheVariants.{Ask}
+
+-- what a row asks for: the work of its core on the block and the word of its address
+abbrev pub asked_of : Extent → Row → Asked
+asked_of shape row =
+    record { core = row.core; work = record { block = row.address / shape.block_bytes; word = word_asked shape row.address row.op; op = row.op } }
+
+-- the step that asks for it
+abbrev pub step_of : Asked → Step
+step_of asked = Ask asked.core asked.work.block asked.work.word asked.work.op
+
+-- what the row of record n asks for
+unfoldable pub asked_in : Extent → ℕ → List (List ℕ) → Result Asked TextFault
+asked_in shape n fields = do
+  letter ← ok_or (letter_of fields) (BadKind n)
+  row ← asked shape n letter fields
+  block ← block_in shape n row.address
+  Ok (record { core = row.core; work = record { block = block; word = word_asked shape row.address row.op; op = row.op } })
+
+-- this is what the rows of a text ask for, where its bytes are known: the rows are of the shape
+pub record AreAsked (shape : Extent) (text : Option (List ℕ)) (asked : List Asked) : Type 0 where
+  pub rows : List Row
+  pub within : All (IsRowWithin shape) rows
+  pub given : IfSome text (λ bytes. rows_of shape bytes ≡ Ok rows)
+  pub asks : asked ≡ map (asked_of shape) rows
