@@ -3,6 +3,7 @@
 //! lines and its report is a `View`.
 #![tactic(auto)]
 
+mod asks;
 mod choice;
 mod counts;
 mod counts_text;
