@@ -21,6 +21,7 @@ use Rattle.snoop_trace.specs.declared.protocol.Protocol.{Protocol}
 use Rattle.snoop_model.specs.Pictures.Situation.{reset}
 use Rattle.snoop_model.specs.Turns.TurnRule.{TurnRule}
 use Rattle.snoop_engine.specs.Round.{IsFit, IsWorkWithin}
+use Rattle.snoop_engine.specs.Packed.{largest}
 use Rattle.snoop_engine.specs.Todo.{IsAskedWithin, Todo, todo_of, nothing_to_do, under_way, left_in, work_of, works, works_by, works_of}
 
 -- all asks but those that are left have been dealt
@@ -119,6 +120,17 @@ works_of_rows shape (row ∷ rows) core = go (row.core == core) (works_of_rows s
     go true rest = ap (λ (l : List Work). work_of shape row ∷ l) rest
     go false rest = rest
 
+-- what is asked for within a shape is within the largest
+pub in_largest : (shape : Extent) (asked : Asked) → IsWithinLimits shape → IsAskedWithin shape asked → IsAskedWithin largest asked
+in_largest shape asked limits within =
+    let core = within.0 in
+    let block = within.1 in
+    let word = within.2 in
+    let cores = limits.cores in
+    let blocks = limits.blocks in
+    let words = limits.words.1 in
+    (omega (arith, core, cores), omega (arith, block, blocks), omega (arith, word, words))
+
 -- asks of rows of the shape are of the shape
 pub asks_within : (shape : Extent) (rows : List Row) (asks : List Asked) → IsWithinLimits shape → All (IsRowWithin shape) rows → asks ≡ map (asked_of shape) rows → All (IsAskedWithin shape) asks
 asks_within shape rows asks limits within is =
@@ -131,7 +143,7 @@ asks_within shape rows asks limits within is =
 pub left_of_rows : (shape : Extent) (rows : List Row) (asks : List Asked) (lanes : List Todo) → asks ≡ map (asked_of shape) rows → ((core : ℕ) → (todo_of lanes core).left ≡ works_by asks core)
     → left_in lanes ≡ length asks → ((core : ℕ) → (todo_of lanes core).left ≡ works_of shape rows core) × (left_in lanes ≡ length rows)
 left_of_rows shape rows asks lanes is left counted =
-    (λ core. left core ∙ (ap (λ (l : List Asked). works_by l core) is ∙ works_of_rows shape rows core), counted ∙ (ap (λ (l : List Asked). length l) is ∙ length-map (asked_of shape) rows))
+    (λ core. left core ∙ (ap (λ (l : List Asked). works_by l core) is ∙ works_of_rows shape rows core), counted ∙ (ap (λ (l : List Asked). length l) is ∙ length-map rows (asked_of shape)))
 
 -- the block of a row's address
 pub block_is : (shape : Extent) (row : Row) → IsRowWithin shape row → (r : Option ℕ) (block : ℕ) → r ≡ block_at shape row.address → r ≡ Some block → block ≡ row.address / shape.block_bytes
