@@ -1,5 +1,5 @@
 //! The text of one step.
-ghost use Rattle.std.specs.Prelude.{◌≡◌, ◌++◌, ◌∷◌, [], OnOk, codes};
+ghost use Rattle.std.specs.Prelude.{◌≡◌, ◌≤◌, ◌+◌, ◌++◌, ◌∷◌, [], OnOk, codes, length};
 ghost use Rattle.std.specs.Fmt.{decimal};
 ghost use Rattle.snoop_trace.specs.Output.{step_text, word_address};
 ghost use Rattle.snoop_trace.specs.declared.step.Step.TheVariants.{Ask};
@@ -8,6 +8,7 @@ use crate::fault::NoMemory;
 use crate::shape::Shape;
 use crate::step::{Op, Step};
 use crate::streams::append::{push_byte, push_decimal};
+use crate::streams::back::Back;
 
 // The first address of a word of a block.
 pub(crate) fn word_address(shape: Shape, block: u32, word: u32) -> u64
@@ -24,42 +25,49 @@ pub(crate) fn push_field(out: &mut Vec<u8>, number: u64) -> Result<(), NoMemory>
     push_decimal(out, number)
 }
 
-// Appends a letter and one field.
+// Puts a comma and a number before a text.
 #[inline(always)]
-fn push_one(out: &mut Vec<u8>, letter: u8, number: u64) -> Result<(), NoMemory>
-    ensures ok { OnOk result (out.new.items ≡ out.old.items ++ (letter ∷ [] ++ codes "," ++ decimal number)) }
+fn put_field(back: &mut Back, number: u64)
+    requires { length back.old + 21 ≤ 64 }
+    ensures text { back.new ≡ codes "," ++ decimal number ++ back.old }
+    ensures short { length back.new ≤ length back.old + 21 }
 {
-    push_byte(out, letter)?;
-    push_field(out, number)
+    back.put_decimal(number);
+    back.put(b',');
 }
 
-// Appends a letter and two fields.
+// Puts a letter and one field before a text.
 #[inline(always)]
-fn push_two(out: &mut Vec<u8>, letter: u8, core: u32, address: u64) -> Result<(), NoMemory>
-    ensures ok { OnOk result (out.new.items ≡ out.old.items ++ (letter ∷ [] ++ codes "," ++ decimal core ++ codes "," ++ decimal address)) }
+fn put_one(back: &mut Back, letter: u8, number: u64)
+    requires { length back.old + 22 ≤ 64 }
+    ensures { back.new ≡ letter ∷ [] ++ codes "," ++ decimal number ++ back.old }
 {
-    push_one(out, letter, core as u64)?;
-    push_field(out, address)
+    put_field(back, number);
+    back.put(letter);
 }
 
-// Appends the record of what a core asks for.
+// Puts a letter and two fields before a text.
 #[inline(always)]
-fn push_ask(
-    out: &mut Vec<u8>,
-    shape: Shape,
-    core: u32,
-    block: u32,
-    word: u32,
-    op: Op,
-) -> Result<(), NoMemory>
-    ensures ok { OnOk result (out.new.items ≡ out.old.items ++ step_text shape (Ask core block word op)) }
+fn put_two(back: &mut Back, letter: u8, core: u32, address: u64)
+    requires { length back.old + 43 ≤ 64 }
+    ensures { back.new ≡ letter ∷ [] ++ codes "," ++ decimal core ++ codes "," ++ decimal address ++ back.old }
+{
+    put_field(back, address);
+    put_one(back, letter, core as u64);
+}
+
+// Puts the record of what a core asks for before no text.
+#[inline(always)]
+fn put_ask(back: &mut Back, shape: Shape, core: u32, block: u32, word: u32, op: Op)
+    requires { back.old ≡ [] }
+    ensures { back.new ≡ step_text shape (Ask core block word op) }
 {
     match op {
-        Op::Load => push_two(out, b'L', core, word_address(shape, block, word)),
-        Op::Evict => push_two(out, b'E', core, shape.address_of(block)),
+        Op::Load => put_two(back, b'L', core, word_address(shape, block, word)),
+        Op::Evict => put_two(back, b'E', core, shape.address_of(block)),
         Op::Store(value) => {
-            push_two(out, b'S', core, word_address(shape, block, word))?;
-            push_field(out, value)
+            put_field(back, value);
+            put_two(back, b'S', core, word_address(shape, block, word));
         }
     }
 }
@@ -72,14 +80,19 @@ fn push_ask(
 pub fn push_step(out: &mut Vec<u8>, shape: Shape, step: Step) -> Result<(), NoMemory>
     ensures ok { OnOk result (out.new.items ≡ out.old.items ++ step_text shape step) }
 {
+    let mut back = Back::new();
     match step {
         Step::Ask {
             core,
             block,
             word,
             op,
-        } => push_ask(out, shape, core, block, word, op),
-        Step::Order { core } => push_one(out, b'O', core as u64),
-        Step::Respond { block } => push_one(out, b'R', shape.address_of(block)),
+        } => put_ask(&mut back, shape, core, block, word, op),
+        Step::Order { core } => put_one(&mut back, b'O', core as u64),
+        Step::Respond { block } => put_one(&mut back, b'R', shape.address_of(block)),
+    }
+    match out.extend_from_slice(back.text()) {
+        Ok(()) => Ok(()),
+        Err(_) => Err(NoMemory),
     }
 }
