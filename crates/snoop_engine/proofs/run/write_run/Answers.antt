@@ -1,7 +1,4 @@
-use Rattle.std.proofs.Common.{◌≡◌, List, map}
 use Rattle.snoop_trace.proofs.OutputLemmas.{on_err}
-use Rattle.snoop_trace.specs.Asked.{asked_of}
-use Rattle.snoop_trace.specs.declared.step.Row.{Row}
 use Rattle.snoop_engine.proofs.Dealing.{left_of_rows}
 use Rattle.snoop_engine.proofs.DrivenLemmas.{begins_run_lines, begins_run_nothing, begins_run_report, reports_run}
 use Rattle.snoop_engine.proofs.run.write_run.Goals as goal
