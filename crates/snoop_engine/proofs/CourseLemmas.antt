@@ -1,6 +1,6 @@
 -- Courses, step by step, and the rows that they serve.
-use Rattle.std.proofs.Common.{◌≡◌, ℕ, ◌+◌, ◌*◌, ◌<◌, ◌≤◌, Bool, true, false, cond, Option, Some, None, List, [], ◌∷◌, ◌++◌, length, length-append, map, drop, refl, sym, ◌∙◌, ap, subst, arith, append_assoc, append-nil, get_or}
-use Rattle.std.specs.Prelude.{Result, Ok, Err, IsOk, IfOk, IfSome, IfNone, All, option_to_list}
+use Rattle.std.proofs.Common.{◌≡◌, ℕ, ◌+◌, ◌*◌, ◌<◌, true, Option, Some, None, List, [], ◌∷◌, ◌++◌, length, length-append, map, drop, refl, sym, ◌∙◌, ap, subst, arith, append_assoc, append-nil, get_or}
+use Rattle.std.specs.Prelude.{Result, Ok, Err, IsOk, IfOk, IfSome, IfNone, option_to_list}
 use Rattle.std.specs.List.{cons_option}
 use Rattle.std.proofs.lemmas.List.{length-map, map-append}
 use Rattle.std.proofs.lemmas.List.Elements.{All-cons, All-nil}
@@ -17,11 +17,11 @@ use Rattle.snoop_model.specs.Pictures.Situation.{Situation, reset}
 use Rattle.snoop_model.specs.Runs.Run.{FirstRunFrom}
 use Rattle.snoop_model.specs.Turns.Serving.{owed, paid}
 use Rattle.snoop_model.proofs.Turns.Laws.{turn_rule}
-use Rattle.snoop_engine.specs.InOrder.{EndsInOrder, FollowsInOrder, InOrder, IsDoneInOrder, LeadsToRest, TakesUpNext, remaining_in_order}
+use Rattle.snoop_engine.specs.InOrder.{EndsInOrder, FollowsInOrder, InOrder, IsDoneInOrder, LeadsToRest, remaining_in_order}
 use Rattle.snoop_engine.specs.Inputs.{StepsServe, StepsServeSerially}
 use Rattle.snoop_engine.specs.Journey.{IsAtTheEnd}
 use Rattle.snoop_engine.specs.Round.{Follows, IsDone, Progress, remaining}
-use Rattle.snoop_engine.specs.Serial.{ComesToRest, all_asks, ask_for, is_ask}
+use Rattle.snoop_engine.specs.Serial.{all_asks, ask_for, is_ask}
 use Rattle.snoop_engine.specs.Served.{ask_of, asks_of}
 use Rattle.snoop_engine.specs.Todo.{left_in, todo_of, works_of}
 use Rattle.snoop_engine.proofs.Journeys.{end_serves, owed_reset}

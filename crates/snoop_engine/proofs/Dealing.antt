@@ -1,14 +1,16 @@
 -- What dealing the rows to their cores gives.
-use Rattle.std.proofs.Common.{◌≡◌, ℕ, zero, suc, ◌+◌, ◌/◌, ◌<◌, Bool, true, false, cond, Option, Some, None, List, [], ◌∷◌, ◌++◌, length, map, filter, take, refl, sym, ◌∙◌, ap, subst, arith, inl, inr, get_or, ltb}
+use Rattle.std.proofs.Common.{◌≡◌, ℕ, zero, suc, ◌+◌, ◌/◌, ◌<◌, Bool, true, false, cond, Option, Some, None, List, [], ◌∷◌, ◌++◌, length, map, filter, append_assoc, refl, sym, ◌∙◌, ap, subst, arith, inl, inr, ltb}
 use Rattle.std.specs.Prelude.{◌==◌, All, Contains, IfSome, slice_set}
 use Rattle.std.proofs.lemmas.Bool.{cases_eq, cases_lt, eq-eqb, ne_eqb, lt-ltb}
 use Rattle.std.proofs.lemmas.Option.{same_Some}
-use Rattle.std.proofs.lemmas.List.{length-set, length_push, get_or-set_same, get_or-set_other, map-append, get_or_past}
-use Rattle.std.proofs.lemmas.List.Elements.{All-map, All-filter, All-push, All-weaker, Contains-push, Contains-append_left, filter_more}
+use Rattle.std.proofs.lemmas.List.{length-set, length_push, get_or-set_same, get_or-set_other, get_or_past, length-map}
+use Rattle.std.proofs.lemmas.List.Elements.{All-head, All-tail, All-map, All-filter, All-push, All-weaker, Contains-push, Contains-append_left}
 use Rattle.std.proofs.lemmas.List.Sums.{sum_by-set, sum_by-cons}
 use Rattle.snoop_trace.specs.Words.{HasWord}
 use Rattle.snoop_trace.specs.Extent.{Extent, IsWithinLimits}
-use Rattle.snoop_trace.specs.Grammar.{block_at, word_asked}
+use Rattle.snoop_trace.specs.Asked.{asked_of}
+use Rattle.snoop_trace.specs.Grammar.{block_at}
+use Rattle.snoop_trace.specs.declared.step.Asked.{Asked}
 use Rattle.snoop_trace.specs.declared.step.Op.{Op}
 use Rattle.snoop_trace.specs.declared.step.Op.TheVariants as op
 use Rattle.snoop_trace.proofs.WordPlaces.{asked_within}
@@ -19,14 +21,16 @@ use Rattle.snoop_trace.specs.declared.protocol.Protocol.{Protocol}
 use Rattle.snoop_model.specs.Pictures.Situation.{reset}
 use Rattle.snoop_model.specs.Turns.TurnRule.{TurnRule}
 use Rattle.snoop_engine.specs.Round.{IsFit, IsWorkWithin}
-use Rattle.snoop_engine.specs.Todo.{Todo, todo_of, nothing_to_do, under_way, left_in, work_of, works_of}
+use Rattle.snoop_engine.specs.Packed.{largest}
+use Rattle.snoop_engine.specs.Todo.{IsAskedWithin, Todo, todo_of, nothing_to_do, under_way, left_in, work_of, works, works_by, works_of}
 
--- the first n rows have been dealt
-pub record Dealt (shape : Extent) (rows : List Row) (n : ℕ) (lanes : List Todo) : Type 0 where
+-- all asks but those that are left have been dealt
+pub record Dealt (shape : Extent) (all rest : List Asked) (lanes : List Todo) : Type 0 where
   pub cores : length lanes ≡ shape.cores
-  pub left : (core : ℕ) → (todo_of lanes core).left ≡ works_of shape (take n rows) core
+  pub left : (core : ℕ) → (todo_of lanes core).left ++ works_by rest core ≡ works_by all core
   pub idle : (core : ℕ) → (todo_of lanes core).work ≡ None
-  pub all : left_in lanes ≡ n
+  pub counted : left_in lanes + length rest ≡ length all
+  pub within : All (IsAskedWithin shape) rest
 
 sum_empty : (lanes : List Todo) → All (λ lane. lane ≡ nothing_to_do) lanes → left_in lanes ≡ 0
 sum_empty [] none = refl
@@ -40,60 +44,106 @@ todo_empty [] none core = refl
 todo_empty (t ∷ ts) none zero = none 0 nothing_to_do (omega arith)
 todo_empty (t ∷ ts) none (suc core) = todo_empty ts (λ k d lt. none (suc k) d (omega arith)) core
 
-pub dealt_none : (shape : Extent) (rows : List Row) (lanes : List Todo) → length lanes ≡ shape.cores → All (λ lane. lane ≡ nothing_to_do) lanes → Dealt shape rows 0 lanes
-dealt_none shape rows lanes cores none = record {
+pub dealt_none : (shape : Extent) (all : List Asked) (lanes : List Todo) → All (IsAskedWithin shape) all → length lanes ≡ shape.cores → All (λ lane. lane ≡ nothing_to_do) lanes
+    → Dealt shape all all lanes
+dealt_none shape all lanes within cores none = record {
   cores = cores;
-  left = λ core. ap (λ (t : Todo). t.left) (todo_empty lanes none core);
+  left = λ core. ap (λ (t : Todo). t.left ++ works_by all core) (todo_empty lanes none core);
   idle = λ core. ap (λ (t : Todo). t.work) (todo_empty lanes none core);
-  all = sum_empty lanes none;
+  counted = let empty = sum_empty lanes none in omega (arith, empty);
+  within = within;
 }
-
-works_push : (shape : Extent) (rows : List Row) (n : ℕ) (row : Row) (core : ℕ) → n < length rows → row ≡ get_or rows n row
-    → works_of shape (take (n + 1) rows) core ≡ works_of shape (take n rows) core ++ cond (row.core == core) (work_of shape row ∷ []) []
-works_push shape rows n row core within is =
-    let p : Row → Bool = λ r. r.core == core in
-    let L : Row → List Row = λ r. filter p (take n rows) ++ cond (p r) (r ∷ []) [] in
-    let more : filter p (take (n + 1) rows) ≡ filter p (take n rows) ++ cond (p row) (row ∷ []) [] = filter_more p rows n row within ∙ ap L (sym is) in
-    ap (map (work_of shape)) more ∙ (map-append (work_of shape) (filter p (take n rows)) (cond (p row) (row ∷ []) []) ∙ ap (λ l. works_of shape (take n rows) core ++ l) (mapped (p row)))
-  where
-    mapped : (b : Bool) → map (work_of shape) (cond b (row ∷ []) []) ≡ cond b (work_of shape row ∷ []) []
-    mapped true = refl
-    mapped false = refl
 
 append_nil : {A : Type 0} (xs : List A) → xs ++ [] ≡ xs
 append_nil [] = refl
 append_nil (x ∷ xs) = ap (λ l. x ∷ l) (append_nil xs)
 
-pub dealt_more : (shape : Extent) (rows : List Row) (n : ℕ) (lanes : List Todo) (row : Row) (next : Todo) → Dealt shape rows n lanes → n < length rows → row ≡ get_or rows n row
-    → row.core < length lanes → next.left ≡ (todo_of lanes row.core).left ++ work_of shape row ∷ [] → next.work ≡ (todo_of lanes row.core).work
-    → Dealt shape rows (n + 1) (slice_set lanes row.core next)
-dealt_more shape rows n lanes row next dealt within is has_lane left work =
-    let here : todo_of (slice_set lanes row.core next) row.core ≡ next = get_or-set_same lanes row.core next nothing_to_do has_lane in
-    let other : (k : ℕ) → (k ≡ row.core → ⊥) → todo_of (slice_set lanes row.core next) k ≡ todo_of lanes k = λ k ne. get_or-set_other lanes row.core k next nothing_to_do ne in
+-- the first of the asks that are left
+pub first_within : (shape : Extent) (all rest more : List Asked) (asked : Asked) (lanes : List Todo) → Dealt shape all rest lanes → rest ≡ asked ∷ more
+    → IsAskedWithin shape asked × All (IsAskedWithin shape) more
+first_within shape all rest more asked lanes dealt first =
+    let A : List Asked → Type 0 = λ l. All (IsAskedWithin shape) l in
+    let within = subst A first dealt.within in
+    (All-head (IsAskedWithin shape) asked more within, All-tail (IsAskedWithin shape) asked more within)
+
+pub dealt_more : (shape : Extent) (all rest more : List Asked) (asked : Asked) (lanes : List Todo) (next : Todo) → Dealt shape all rest lanes → rest ≡ asked ∷ more
+    → asked.core < length lanes → next.left ≡ (todo_of lanes asked.core).left ++ asked.work ∷ [] → next.work ≡ (todo_of lanes asked.core).work
+    → Dealt shape all more (slice_set lanes asked.core next)
+dealt_more shape all rest more asked lanes next dealt first has_lane left work =
+    let new : List Todo = slice_set lanes asked.core next in
+    let here : todo_of new asked.core ≡ next = get_or-set_same lanes asked.core next nothing_to_do has_lane in
+    let other : (k : ℕ) → (k ≡ asked.core → ⊥) → todo_of new k ≡ todo_of lanes k = λ k ne. get_or-set_other lanes asked.core k next nothing_to_do ne in
+    let before : (k : ℕ) → (todo_of lanes k).left ++ works_by (asked ∷ more) k ≡ works_by all k =
+    λ k. ap (λ (l : List Asked). (todo_of lanes k).left ++ works_by l k) (sym first) ∙ dealt.left k in
     record {
-      cores = length-set lanes row.core next ∙ dealt.cores;
-      left = λ core. elim (cases_eq core row.core) [
+      cores = length-set lanes asked.core next ∙ dealt.cores;
+      left = λ core. elim (cases_eq core asked.core) [
         | inl e ↦
-            (let W : List Work = works_of shape (take n rows) core in
-            let one : cond (row.core == core) (work_of shape row ∷ []) [] ≡ work_of shape row ∷ [] = rw (eq-eqb row.core core (sym e)) refl in
-            ap (λ j. (todo_of (slice_set lanes row.core next) j).left) e ∙ (ap (λ (t : Todo). t.left) here ∙ (left
-            ∙ (ap (λ j. (todo_of lanes j).left ++ work_of shape row ∷ []) (sym e) ∙ (ap (λ l. l ++ work_of shape row ∷ []) (dealt.left core)
-            ∙ (ap (λ l. works_of shape (take n rows) core ++ l) (sym one) ∙ sym (works_push shape rows n row core within is)))))))
+            (let own : works_by (asked ∷ more) core ≡ asked.work ∷ works_by more core = ap (λ (b : Bool). works (cond b (asked ∷ of core) (of core))) (eq-eqb asked.core core (sym e)) in
+            ap (λ j. (todo_of new j).left ++ works_by more core) e ∙ (ap (λ (t : Todo). t.left ++ works_by more core) here ∙ (ap (λ (l : List Work). l ++ works_by more core) left
+            ∙ (ap (λ j. ((todo_of lanes j).left ++ asked.work ∷ []) ++ works_by more core) (sym e) ∙ (append_assoc (todo_of lanes core).left (asked.work ∷ []) (works_by more core)
+            ∙ (ap (λ (l : List Work). (todo_of lanes core).left ++ l) (sym own) ∙ before core))))))
         | inr ne ↦
-            (let none : cond (row.core == core) (work_of shape row ∷ []) [] ≡ [] = rw (ne_eqb row.core core (λ e. ne (sym e))) refl in
-            ap (λ (t : Todo). t.left) (other core ne) ∙ (dealt.left core ∙ (sym (append_nil (works_of shape (take n rows) core))
-            ∙ (ap (λ l. works_of shape (take n rows) core ++ l) (sym none) ∙ sym (works_push shape rows n row core within is)))))
+            (let none : works_by (asked ∷ more) core ≡ works_by more core = ap (λ (b : Bool). works (cond b (asked ∷ of core) (of core))) (ne_eqb asked.core core (λ e. ne (sym e))) in
+            ap (λ (t : Todo). t.left ++ works_by more core) (other core ne) ∙ (ap (λ (l : List Work). (todo_of lanes core).left ++ l) (sym none) ∙ before core))
       ];
-      idle = λ core. elim (cases_eq core row.core) [
-        | inl e ↦ ap (λ j. (todo_of (slice_set lanes row.core next) j).work) e ∙ (ap (λ (t : Todo). t.work) here ∙ (work ∙ dealt.idle row.core))
+      idle = λ core. elim (cases_eq core asked.core) [
+        | inl e ↦ ap (λ j. (todo_of new j).work) e ∙ (ap (λ (t : Todo). t.work) here ∙ (work ∙ dealt.idle asked.core))
         | inr ne ↦ ap (λ (t : Todo). t.work) (other core ne) ∙ dealt.idle core
       ];
-      all =
-          (let one : length next.left ≡ length (todo_of lanes row.core).left + 1 = ap (λ (l : List Work). length l) left ∙ length_push (todo_of lanes row.core).left (work_of shape row) in
-          let set = sum_by-set (λ (t : Todo). length t.left) lanes row.core next nothing_to_do has_lane in
-          let before = dealt.all in
+      counted =
+          (let one : length next.left ≡ length (todo_of lanes asked.core).left + 1 = ap (λ (l : List Work). length l) left ∙ length_push (todo_of lanes asked.core).left asked.work in
+          let set = sum_by-set (λ (t : Todo). length t.left) lanes asked.core next nothing_to_do has_lane in
+          let before : left_in lanes + length (asked ∷ more) ≡ length all = ap (λ (l : List Asked). left_in lanes + length l) (sym first) ∙ dealt.counted in
           omega (arith, one, set, before));
+      within = (first_within shape all rest more asked lanes dealt first).1;
     }
+  where
+    of : ℕ → List Asked
+    of core = filter (λ (a : Asked). a.core == core) more
+
+-- all were dealt
+pub dealt_all : (shape : Extent) (all rest : List Asked) (lanes : List Todo) → Dealt shape all rest lanes → rest ≡ [] → ((core : ℕ) → (todo_of lanes core).left ≡ works_by all core) × (left_in lanes ≡ length all)
+dealt_all shape all rest lanes dealt none = (
+  λ core. sym (append_nil (todo_of lanes core).left) ∙ (ap (λ (l : List Asked). (todo_of lanes core).left ++ works_by l core) (sym none) ∙ dealt.left core),
+  (let long : left_in lanes + 0 ≡ length all = ap (λ (l : List Asked). left_in lanes + length l) (sym none) ∙ dealt.counted in omega (arith, long)),
+)
+
+-- what a core's rows ask for
+pub works_of_rows : (shape : Extent) (rows : List Row) (core : ℕ) → works_by (map (asked_of shape) rows) core ≡ works_of shape rows core
+works_of_rows shape [] core = refl
+works_of_rows shape (row ∷ rows) core = go (row.core == core) (works_of_rows shape rows core)
+  where
+    go : (own : Bool) → works_by (map (asked_of shape) rows) core ≡ works_of shape rows core
+        → works (cond own (asked_of shape row ∷ filter (λ (a : Asked). a.core == core) (map (asked_of shape) rows)) (filter (λ (a : Asked). a.core == core) (map (asked_of shape) rows)))
+        ≡ map (work_of shape) (cond own (row ∷ filter (λ (r : Row). r.core == core) rows) (filter (λ (r : Row). r.core == core) rows))
+    go true rest = ap (λ (l : List Work). work_of shape row ∷ l) rest
+    go false rest = rest
+
+-- what is asked for within a shape is within the largest
+pub in_largest : (shape : Extent) (asked : Asked) → IsWithinLimits shape → IsAskedWithin shape asked → IsAskedWithin largest asked
+in_largest shape asked limits within =
+    let core = within.0 in
+    let block = within.1 in
+    let word = within.2 in
+    let cores = limits.cores in
+    let blocks = limits.blocks in
+    let words = limits.words.1 in
+    (omega (arith, core, cores), omega (arith, block, blocks), omega (arith, word, words))
+
+-- asks of rows of the shape are of the shape
+pub asks_within : (shape : Extent) (rows : List Row) (asks : List Asked) → IsWithinLimits shape → All (IsRowWithin shape) rows → asks ≡ map (asked_of shape) rows → All (IsAskedWithin shape) asks
+asks_within shape rows asks limits within is =
+    let A : List Asked → Type 0 = λ l. All (IsAskedWithin shape) l in
+    subst A (sym is)
+    (All-map (IsAskedWithin shape) (asked_of shape) rows
+    (All-weaker (IsRowWithin shape) (λ r. IsAskedWithin shape (asked_of shape r)) (λ r h. (h.0, h.1, asked_within shape r.address r.op limits)) rows within))
+
+-- what a driver of the asks has left is what it has of the rows
+pub left_of_rows : (shape : Extent) (rows : List Row) (asks : List Asked) (lanes : List Todo) → asks ≡ map (asked_of shape) rows → ((core : ℕ) → (todo_of lanes core).left ≡ works_by asks core)
+    → left_in lanes ≡ length asks → ((core : ℕ) → (todo_of lanes core).left ≡ works_of shape rows core) × (left_in lanes ≡ length rows)
+left_of_rows shape rows asks lanes is left counted =
+    (λ core. left core ∙ (ap (λ (l : List Asked). works_by l core) is ∙ works_of_rows shape rows core), counted ∙ (ap (λ (l : List Asked). length l) is ∙ length-map rows (asked_of shape)))
 
 -- the block of a row's address
 pub block_is : (shape : Extent) (row : Row) → IsRowWithin shape row → (r : Option ℕ) (block : ℕ) → r ≡ block_at shape row.address → r ≡ Some block → block ≡ row.address / shape.block_bytes
@@ -102,21 +152,21 @@ block_is shape row within r block at is =
     let some : block_at shape row.address ≡ Some (row.address / shape.block_bytes) = rw yes refl in
     same_Some _ _ (sym is ∙ (at ∙ some))
 
--- the word that an operation at an address is of is there
-word_there : (protocol : Protocol) (shape : Extent) (address : ℕ) (asking : Op) → IsWithinLimits shape → HasWord shape (word_asked shape address asking) asking
-word_there protocol shape address op.Load limits = let few = asked_within shape address op.Load limits in let most = limits.words.1 in (few, omega (arith, few, most))
-word_there protocol shape address (op.Store stored) limits = let few = asked_within shape address (op.Store stored) limits in let most = limits.words.1 in (few, omega (arith, few, most))
-word_there protocol shape address op.Evict limits = tt
+-- a word below the shape's is there
+word_there : (shape : Extent) (word : ℕ) (asking : Op) → IsWithinLimits shape → word < shape.words → HasWord shape word asking
+word_there shape word op.Load limits few = let most = limits.words.1 in (few, omega (arith, few, most))
+word_there shape word (op.Store stored) limits few = let most = limits.words.1 in (few, omega (arith, few, most))
+word_there shape word op.Evict limits few = tt
 
 -- each work is of a block and a word that there are
-pub works_within : (protocol : Protocol) (shape : Extent) (rows : List Row) (core : ℕ) → IsWithinLimits shape → All (IsRowWithin shape) rows
-    → All (IsWorkWithin (reset protocol shape)) (works_of shape rows core)
-works_within protocol shape rows core limits within =
-    let p : Row → Bool = λ r. r.core == core in
+pub works_within : (protocol : Protocol) (shape : Extent) (asks : List Asked) (core : ℕ) → IsWithinLimits shape → All (IsAskedWithin shape) asks
+    → All (IsWorkWithin (reset protocol shape)) (works_by asks core)
+works_within protocol shape asks core limits within =
+    let p : Asked → Bool = λ a. a.core == core in
     let W : Work → Type 0 = IsWorkWithin (reset protocol shape) in
-    All-map W (work_of shape) (filter p rows)
-    (All-filter p (λ r. W (work_of shape r)) rows
-    (All-weaker (IsRowWithin shape) (λ r. W (work_of shape r)) (λ r h. (h.1, word_there protocol shape r.address r.op limits)) rows within))
+    All-map W (λ (a : Asked). a.work) (filter p asks)
+    (All-filter p (λ (a : Asked). W a.work) asks
+    (All-weaker (IsAskedWithin shape) (λ (a : Asked). W a.work) (λ a h. (h.1, word_there shape a.work.word a.work.op limits h.2)) asks within))
 
 -- the cores below n, each once
 pub record Counted (cores : List ℕ) (n : ℕ) : Type 0 where
@@ -136,17 +186,17 @@ counted_more cores n counted = record {
 }
 
 -- a driver is fit at its start
-pub fit_new : TurnRule → (protocol : Protocol) (shape : Extent) (rows : List Row) (lanes : List Todo) (turns : List ℕ) → IsWithinLimits shape → All (IsRowWithin shape) rows
-    → length lanes ≡ shape.cores → ((core : ℕ) → (todo_of lanes core).left ≡ works_of shape rows core) → ((core : ℕ) → (todo_of lanes core).work ≡ None)
+pub fit_new : TurnRule → (protocol : Protocol) (shape : Extent) (asks : List Asked) (lanes : List Todo) (turns : List ℕ) → IsWithinLimits shape → All (IsAskedWithin shape) asks
+    → length lanes ≡ shape.cores → ((core : ℕ) → (todo_of lanes core).left ≡ works_by asks core) → ((core : ℕ) → (todo_of lanes core).work ≡ None)
     → All (λ core. core < shape.cores) turns → ((core : ℕ) → core < shape.cores → Contains turns core) → IsFit (reset protocol shape) lanes turns
-fit_new rule protocol shape rows lanes turns limits within cores left idle few all =
+fit_new rule protocol shape asks lanes turns limits within cores left idle few all =
     let start = rule.starts_well protocol shape (under_way lanes) in
     record {
       cores = cores;
       within = λ core.
           (let L : List Work → Type 0 = λ l. All (IsWorkWithin (reset protocol shape)) l in
           let W : Option Work → Type 0 = λ o. IfSome o (IsWorkWithin (reset protocol shape)) in
-          record { left = subst L (sym (left core)) (works_within protocol shape rows core limits within); work = subst W (sym (idle core)) tt });
+          record { left = subst L (sym (left core)) (works_within protocol shape asks core limits within); work = subst W (sym (idle core)) tt });
       serving = start.1;
       kept = start.0;
       few = few;

@@ -1,9 +1,12 @@
 -- The lines of a driver's steps: written, or in the chunk; and then the report.
-use Rattle.std.proofs.Common.{◌≡◌, ℕ, List, [], ◌∷◌, ◌++◌, Option, refl, sym, subst, inl, inr, ◌∙◌, length, arith}
-use Rattle.std.specs.Prelude.{Result, Ok}
+use Rattle.std.proofs.Common.{◌≡◌, ℕ, List, [], ◌∷◌, ◌++◌, map, Option, Some, None, refl, sym, subst, inl, inr, ◌∙◌, length, arith}
+use Rattle.std.specs.Prelude.{Result, Ok, IfSome}
 use Rattle.std.specs.Io.KnownBytes.{Appends}
 use Rattle.std.proofs.lemmas.List.{append-nil}
+use Rattle.snoop_trace.specs.Asked.{AreAsked, asked_of}
 use Rattle.snoop_trace.specs.Extent.{Extent}
+use Rattle.snoop_trace.specs.Text.{rows_of}
+use Rattle.snoop_trace.specs.declared.step.Asked.{Asked}
 use Rattle.snoop_trace.specs.Output.{AppendsFront, Gathers, Spills}
 use Rattle.snoop_trace.specs.declared.step.Row.{Row}
 use Rattle.snoop_trace.specs.declared.step.Step.{Step}
@@ -21,7 +24,7 @@ use Rattle.snoop_engine.specs.Todo.{todo_of, left_in, works_of}
 use Rattle.snoop_engine.specs.Round.{Progress, Follows, IsDone}
 use Rattle.snoop_engine.specs.Journey.{IsOnTheWay}
 use Rattle.snoop_engine.specs.Driven.{WritesDriven, WritesDrivenFront}
-use Rattle.snoop_engine.specs.SimulatedRun.{BeginsRun, ReportsRun}
+use Rattle.snoop_engine.specs.SimulatedRun.{BeginsRun, ReadsRows, ReportsRun, SimulatesRun}
 use Rattle.snoop_engine.proofs.Journeys.{end_serves, way_begins, way_ends, way_on}
 use Rattle.snoop_engine.proofs.TakenLemmas.{line_texts_more, report_words}
 use Rattle.snoop_engine.proofs.SimulatedLemmas.{front_after}
@@ -131,3 +134,13 @@ begins_run_nothing protocol shape rows a = record {
   asked = λ core. (works_of shape rows core, refl);
   output = inl (record { front = []; rest = []; whole = refl; appends = appends_none a });
 }
+
+-- the rows of a text are read where what they ask for is
+rows_read : (shape : Extent) (input : Option (List ℕ)) (rows : List Row) → IfSome input (λ bytes. rows_of shape bytes ≡ Ok rows) → ReadsRows shape input (Ok rows)
+rows_read shape None rows given = tt
+rows_read shape (Some bytes) rows given = given
+
+-- all of it was served, and its lines and the report were written
+pub simulates_run : (protocol : Protocol) (shape : Extent) (input : Option (List ℕ)) (asks : List Asked) (old new : Option (List ℕ)) → AreAsked shape input asks
+    → ((rows : List Row) → asks ≡ map (asked_of shape) rows → ReportsRun protocol shape rows old new) → SimulatesRun protocol shape input (Ok tt) old new
+simulates_run protocol shape input asks old new asked reports = (asked.rows, (rows_read shape input asked.rows asked.given, reports asked.rows asked.asks))

@@ -4,6 +4,7 @@ pub mod SimulatedLemmas
 pub mod Driving
 pub mod Fewer
 pub mod Rounds
+pub mod Asking
 pub mod Dealing
 pub mod Journeys
 pub mod DrivenLemmas

@@ -1,5 +1,5 @@
 -- What a core's line says nothing of: values in a state that may not be read, a place where no request waits.
-use Rattle.std.proofs.Common.{◌≡◌, ℕ, ◌+◌, ◌<◌, Bool, true, false, cond, Option, Some, None, List, [], ◌∷◌, ◌++◌, length, refl, sym, ◌∙◌, ap, arith}
+use Rattle.std.proofs.Common.{◌≡◌, ℕ, ◌+◌, Bool, true, false, cond, Option, Some, None, List, [], ◌∷◌, ◌++◌, length, refl, sym, ◌∙◌, ap, arith}
 use Rattle.std.specs.Prelude.{◌&&◌, ◌==◌, count_by, is_some, nat_lt, not, option_map}
 use Rattle.std.specs.List.{flat_map, position_or_len, range_with_len}
 use Rattle.std.proofs.lemmas.Bool.{le-ltb}

@@ -1,6 +1,6 @@
 -- A driver that serves rows one after another.
 -- Source: this project's profile.
-use Rattle.std.specs.Prelude.{◌≡◌, ℕ, ◌+◌, ◌*◌, ◌/◌, ◌<◌, ◌≤◌, true, List, [], ◌∷◌, ◌++◌, length, map, All, IsOk, IfSome, Option, Some, None, Result}
+use Rattle.std.specs.Prelude.{◌≡◌, ℕ, ◌+◌, ◌*◌, ◌/◌, ◌≤◌, true, List, [], ◌∷◌, ◌++◌, length, map, All, IsOk, IfSome, Option, Some, None, Result}
 use Rattle.snoop_trace.specs.Extent.{Extent, IsWithinLimits}
 use Rattle.snoop_trace.specs.Grammar.{IsRowWithin}
 use Rattle.snoop_trace.specs.declared.step.Row.{Row}

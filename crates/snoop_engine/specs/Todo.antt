@@ -1,9 +1,13 @@
 -- What each core has to do.
 -- Source: this project's profile.
-use Rattle.std.specs.Prelude.{ℕ, ◌/◌, ◌==◌, List, [], length, map, filter, sum_by, Option, Some, None, slice_index_or}
+use Rattle.std.specs.Prelude.{ℕ, ◌/◌, ◌==◌, List, [], ◌∷◌, length, map, filter, sum_by, Option, Some, None, slice_index_or}
 use Rattle.snoop_trace.specs.Extent.{Extent}
-use Rattle.snoop_trace.specs.Grammar.{word_asked}
+use Rattle.snoop_trace.specs.Asked.{step_of}
+use Rattle.snoop_trace.specs.Grammar.{IsStepWithin, word_asked}
+use Rattle.snoop_trace.specs.declared.step.Asked.{Asked}
 use Rattle.snoop_trace.specs.declared.step.Row.{Row}
+use Rattle.snoop_trace.specs.declared.step.Step.{Step}
+use Rattle.snoop_trace.specs.declared.step.Step.TheVariants.{Ask, Order, Respond}
 use Rattle.snoop_trace.specs.declared.step.Work.{Work}
 
 -- a core's rows that are left, and its work under way, which may be over
@@ -39,3 +43,22 @@ work_of shape row = record { block = row.address / shape.block_bytes; word = wor
 -- the work that a core's rows ask for, in order
 abbrev pub works_of : Extent → List Row → ℕ → List Work
 works_of shape rows core = map (work_of shape) (filter (λ (row : Row). row.core == core) rows)
+
+-- what the Asks among steps ask for
+abbrev pub asked_by : List Step → List Asked
+asked_by [] = []
+asked_by (Ask core block word asking ∷ steps) = record { core = core; work = record { block = block; word = word; op = asking } } ∷ asked_by steps
+asked_by (Order core ∷ steps) = asked_by steps
+asked_by (Respond block ∷ steps) = asked_by steps
+
+-- the core, the block and the word that are asked for are there
+abbrev pub IsAskedWithin : Extent → Asked → Type 0
+IsAskedWithin shape asked = IsStepWithin shape (step_of asked)
+
+-- the works that are asked for
+abbrev pub works : List Asked → List Work
+works asks = map (λ (asked : Asked). asked.work) asks
+
+-- those of a core, in order
+abbrev pub works_by : List Asked → ℕ → List Work
+works_by asks core = works (filter (λ (asked : Asked). asked.core == core) asks)

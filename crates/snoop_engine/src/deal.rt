@@ -1,30 +1,25 @@
 //! Rows, dealt to the cores that they are of.
 ghost use Rattle.std.specs.Prelude.{◌≡◌, ℕ, ◌<◌, All, Contains, None, IfOk, length};
-ghost use Rattle.snoop_engine.specs.Todo.{todo_of, nothing_to_do, left_in, works_of};
-ghost use Rattle.snoop_trace.specs.Grammar.{IsRowWithin};
+ghost use Rattle.snoop_engine.specs.Todo.{IsAskedWithin, todo_of, nothing_to_do, left_in, works_by};
 
+use crate::asks::AskQueue;
 use crate::lane::Lane;
-use snoop_trace::{NoMemory, Row, Shape, Work};
+use snoop_trace::{NoMemory, Shape};
 use std::alloc::Global;
 use std::collections::VecDeque;
 
-/// Each core's rows, in the order of the text.
-pub(crate) fn deal(alloc: Global, shape: Shape, rows: &[Row]) -> Result<Vec<Lane>, NoMemory>
-    requires { All (IsRowWithin shape) rows.now }
+/// What each core's rows ask for, in the order of the text.
+pub(crate) fn deal(alloc: Global, shape: Shape, mut asks: AskQueue) -> Result<Vec<Lane>, NoMemory>
+    requires { All (IsAskedWithin shape) asks }
     ensures cores { IfOk result (λ lanes. length lanes.items ≡ shape.cores) }
-    ensures left { IfOk result (λ lanes. (core : ℕ) → (todo_of lanes.items core).left ≡ works_of shape rows.now core) }
+    ensures left { IfOk result (λ lanes. (core : ℕ) → (todo_of lanes.items core).left ≡ works_by asks core) }
     ensures idle { IfOk result (λ lanes. (core : ℕ) → (todo_of lanes.items core).work ≡ None) }
-    ensures all { IfOk result (λ lanes. left_in lanes.items ≡ length rows.now) }
+    ensures all { IfOk result (λ lanes. left_in lanes.items ≡ length asks) }
 {
+    shape.within_limits();
     let mut lanes = empty_lanes(alloc, shape)?;
-    for row in rows {
-        let block = shape.block_of(row.address).unwrap();
-        let work = Work {
-            block,
-            word: shape.word_asked(row.address, row.op),
-            op: row.op,
-        };
-        lanes[row.core as usize].push(work)?;
+    while let Some(asked) = asks.next() {
+        lanes[asked.core as usize].push(asked)?;
     }
     Ok(lanes)
 }

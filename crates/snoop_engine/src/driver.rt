@@ -5,17 +5,17 @@ ghost use Rattle.snoop_model.specs.Moves.Move.{FirstMove};
 ghost use Rattle.snoop_model.specs.Pictures.Situation.{reset};
 ghost use Rattle.snoop_model.specs.Turns.Quiet.{IsQuiet};
 ghost use Rattle.snoop_model.specs.Turns.Serving.{IsUnderWay};
-ghost use Rattle.snoop_engine.specs.Todo.{todo_of, under_way, left_in, works_of};
-ghost use Rattle.snoop_trace.specs.Grammar.{IsRowWithin};
+ghost use Rattle.snoop_engine.specs.Todo.{IsAskedWithin, todo_of, under_way, left_in, works_by};
 ghost use Rattle.snoop_engine.specs.Served.{ask_of};
 ghost use Rattle.snoop_engine.specs.Round.{TakesUp, IsIdle, IsOver, IsEnabled, Follows, IsDone};
 
+use crate::asks::AskQueue;
 use crate::deal::{all_cores, deal};
 use crate::lane::Lane;
 use snoop_history::Log;
 use snoop_machine::{Machine, Refused, Reply};
 use snoop_rules::Protocol;
-use snoop_trace::{NoMemory, Row, Shape, Step};
+use snoop_trace::{NoMemory, Shape, Step};
 use std::alloc::Global;
 use std::collections::VecDeque;
 use std::marker::Model;
@@ -39,21 +39,21 @@ impl Model for Driver {
 }
 
 impl Driver {
-    /// A driver of these rows, with a machine at reset. The rows are let go before the first step.
+    /// A driver of the rows that ask for this, with a machine at reset. What they ask for is dealt before the first step.
     pub(crate) fn new(
         alloc: Global,
         protocol: Protocol,
         shape: Shape,
-        rows: Vec<Row>,
+        asks: AskQueue,
     ) -> Result<Self, NoMemory>
-        requires { All (IsRowWithin shape) rows.items }
+        requires { All (IsAskedWithin shape) asks }
         ensures situation { IfOk result (λ driver. driver.situation ≡ reset protocol shape) }
-        ensures left { IfOk result (λ driver. (core : ℕ) → (todo_of driver.lanes core).left ≡ works_of shape rows.items core) }
-        ensures all { IfOk result (λ driver. left_in driver.lanes ≡ length rows.items) }
+        ensures left { IfOk result (λ driver. (core : ℕ) → (todo_of driver.lanes core).left ≡ works_by asks core) }
+        ensures all { IfOk result (λ driver. left_in driver.lanes ≡ length asks) }
     {
         shape.within_limits();
         let machine = Machine::reset(alloc, protocol, shape)?;
-        let lanes = deal(alloc, shape, &rows)?;
+        let lanes = deal(alloc, shape, asks)?;
         let turns = all_cores(alloc, shape)?;
         Ok(Driver {
             machine,

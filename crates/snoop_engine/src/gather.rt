@@ -1,18 +1,22 @@
 //! The steps that come of a text.
-ghost use Rattle.std.specs.Prelude.{◌≡◌, ◌≢◌, ◌++◌, ◌∷◌, [], true, All, Err, IfErr, IfOk, List, OnOk, Result};
+ghost use Rattle.std.specs.Prelude.{◌≡◌, ◌≢◌, ◌++◌, ◌∷◌, [], true, map, All, Err, IfErr, IfOk, List, OnOk, Result};
 ghost use Rattle.snoop_model.specs.Pictures.Situation.{Situation};
 ghost use Rattle.snoop_model.specs.declared.replies.Refused.{Refused as Cause};
 ghost use Rattle.snoop_model.specs.declared.replies.Reply.{Reply as Answer};
+ghost use Rattle.snoop_trace.specs.Asked.{asked_of};
 ghost use Rattle.snoop_trace.specs.Grammar.{IsRowWithin};
 ghost use Rattle.snoop_trace.specs.Text.{BlamesReader};
+ghost use Rattle.snoop_trace.specs.declared.step.Row.{Row as Given};
+ghost use Rattle.snoop_engine.specs.Todo.{IsAskedWithin};
 ghost use Rattle.snoop_engine.specs.Inputs.{GivesSteps, IsRefusedText, StepsServe, StepsServeSerially};
 
+use crate::asks::AskQueue;
 use crate::course::Course;
 use crate::driver::Driver;
 use crate::input::Input;
 use crate::serial_driver::SerialDriver;
 use snoop_rules::Protocol;
-use snoop_trace::streams::Source;
+use snoop_trace::streams::{Source, gather_asked};
 use snoop_trace::{NoMemory, Row, Shape, Step, TextFault, read_rows, read_steps};
 use std::alloc::Global;
 
@@ -33,8 +37,9 @@ pub fn read_input<R: Source>(
     match input {
         Input::Steps => read_steps(alloc, reader, protocol, shape),
         Input::Rows => {
-            let rows = read_rows(alloc, reader, shape)?;
-            Ok(steps_of_rows(alloc, protocol, shape, rows)?)
+            shape.within_limits();
+            let asks = gather_asked(alloc, reader, shape, AskQueue::new(alloc))?;
+            Ok(steps_of_rows(alloc, protocol, shape, asks)?)
         }
         Input::SerialRows => {
             let rows = read_rows(alloc, reader, shape)?;
@@ -48,12 +53,12 @@ fn steps_of_rows(
     alloc: Global,
     protocol: Protocol,
     shape: Shape,
-    rows: Vec<Row>,
+    asks: AskQueue,
 ) -> Result<Vec<Step>, NoMemory>
-    requires { All (IsRowWithin shape) rows.items }
-    ensures { IfOk result (λ steps. StepsServe protocol shape rows.items steps.items) }
+    requires { All (IsAskedWithin shape) asks }
+    ensures { IfOk result (λ steps. (rows : List Given) → asks ≡ map (asked_of shape) rows → StepsServe protocol shape rows steps.items) }
 {
-    let mut driver = Driver::new(alloc, protocol, shape, rows)?;
+    let mut driver = Driver::new(alloc, protocol, shape, asks)?;
     gather(alloc, &mut driver)
 }
 

@@ -1,25 +1,29 @@
 //! What one core has left to do, and the work that it has under way.
 ghost use Rattle.std.specs.Prelude.{◌≡◌, ◌∷◌, ◌++◌, [], IfNone, OnOk, option_to_list};
+ghost use Rattle.snoop_trace.specs.Asked.{step_of};
+ghost use Rattle.snoop_trace.specs.Grammar.{IsStepWithin};
+ghost use Rattle.snoop_engine.specs.Packed.{largest};
 ghost use Rattle.snoop_engine.specs.Todo.{nothing_to_do};
 
-use snoop_trace::{NoMemory, Work};
+use crate::asks::AskQueue;
+use snoop_trace::streams::Entries;
+use snoop_trace::{Asked, NoMemory, Work};
 use std::alloc::Global;
-use std::collections::VecDeque;
 use std::marker::Model;
 
 /// What one core has to do: its rows that are left, and the work under way.
 #[derive(Debug, Drop)]
 pub(crate) struct Lane {
-    rows: VecDeque<Work>,
+    rows: AskQueue,
     work: Option<Work>,
 }
 
 impl Model for Lane {
-    ghost use Rattle.snoop_engine.specs.Todo.{Todo};
+    ghost use Rattle.snoop_engine.specs.Todo.{Todo, works};
 
     ghost Value = { Todo };
 
-    ghost view = { λ l. record { left = l.rows.items; work = l.work } };
+    ghost view = { λ l. record { left = works l.rows; work = l.work } };
 }
 
 impl Lane {
@@ -28,17 +32,18 @@ impl Lane {
         ensures { result ≡ nothing_to_do }
     {
         Lane {
-            rows: VecDeque::new(alloc),
+            rows: AskQueue::new(alloc),
             work: None,
         }
     }
 
-    /// Puts a row last.
-    pub(crate) fn push(&mut self, work: Work) -> Result<(), NoMemory>
-        ensures left { OnOk result (self.new.left ≡ self.old.left ++ work ∷ []) }
+    /// Puts what a row of the core asks for last.
+    pub(crate) fn push(&mut self, asked: Asked) -> Result<(), NoMemory>
+        requires { IsStepWithin largest (step_of asked) }
+        ensures left { OnOk result (self.new.left ≡ self.old.left ++ asked.work ∷ []) }
         ensures work { self.new.work ≡ self.old.work }
     {
-        self.rows.push_back(work).map_err(|_| NoMemory)
+        self.rows.append(asked)
     }
 
     /// The work under way. It may be over.
@@ -54,7 +59,7 @@ impl Lane {
         ensures left { self.old.left ≡ option_to_list result ++ self.new.left }
         ensures done { IfNone result (self.old.left ≡ []) }
     {
-        self.work = self.rows.pop_front();
+        self.work = self.rows.next().map(|asked| asked.work);
         self.work
     }
 }

@@ -4,6 +4,7 @@
 #![tactic(auto)]
 
 mod askers;
+mod asks;
 mod choice;
 mod counts;
 mod counts_text;

@@ -1,5 +1,5 @@
 //! The steps of a text, packed until they are taken.
-ghost use Rattle.std.specs.Prelude.{◌≡◌, ◌++◌, [], length, IfNone, OnOk, OnErr, option_to_list, slice_index_or};
+ghost use Rattle.std.specs.Prelude.{◌≡◌, ◌<◌, ◌^◌, ◌++◌, ◌∷◌, [], length, IfNone, OnOk, OnErr, option_to_list, slice_index_or};
 ghost use Rattle.snoop_trace.specs.Grammar.{IsStepWithin};
 ghost use Rattle.snoop_trace.specs.declared.step.Step.TheVariants.{Ask};
 ghost use Rattle.snoop_engine.specs.declared.packed.Head.{Head};
@@ -151,6 +151,20 @@ impl StepQueue {
         self.heads.len()
     }
 
+    /// Puts a step last. Where there is no memory for it, nothing is changed.
+    #[inline(always)]
+    pub(crate) fn push(&mut self, step: Step) -> Result<(), NoMemory>
+        requires { IsStepWithin largest step }
+        ensures items { OnOk result (self.new ≡ self.old ++ step ∷ []) }
+        ensures bounded { OnOk result (length self.new < 2 ^ 63) }
+        ensures err { OnErr result (self.new ≡ self.old) }
+    {
+        self.heads.reserve(1)?;
+        append_data(&mut self.words, &mut self.values, step)?;
+        self.heads.push_back_reserved(Head::new(step));
+        Ok(())
+    }
+
     /// Takes the first step away.
     pub(crate) fn next(&mut self) -> Option<Step>
         ensures first { self.old ≡ option_to_list result ++ self.new }
@@ -210,9 +224,6 @@ impl Entries<Step> for StepQueue {
 
     #[inline(always)]
     fn append(&mut self, step: Step) -> Result<(), NoMemory> {
-        self.heads.reserve(1)?;
-        append_data(&mut self.words, &mut self.values, step)?;
-        self.heads.push_back_reserved(Head::new(step));
-        Ok(())
+        self.push(step)
     }
 }

@@ -1,5 +1,9 @@
+use Rattle.std.specs.Prelude.{length}
 use Rattle.snoop_engine.proofs.Dealing.{Dealt}
 use Rattle.snoop_engine.proofs.deal.deal.Given as goal
 
-abbrev pub invariant-loop-row : goal.invariant-loop-row
-invariant-loop-row l = Dealt l.shape l.rows l.row-index l.lanes.items
+abbrev pub invariant-loop-asked : goal.invariant-loop-asked
+invariant-loop-asked l = Dealt l.fn.shape l.fn.asks l.asks l.lanes.items
+
+abbrev pub decreases-loop-asked : goal.decreases-loop-asked
+decreases-loop-asked l = length l.asks

@@ -1,4 +1,4 @@
-use Rattle.std.proofs.Common.{◌∙◌, inl, inr, subst, ℕ, sym, ap}
+use Rattle.std.proofs.Common.{◌∙◌, inl, inr, subst, ℕ, sym}
 use Rattle.std.specs.Prelude.{◌≡◌}
 use Rattle.snoop_rules.specs.declared.names.CacheState.TheVariants.{I}
 use Rattle.snoop_model.specs.Pictures.Situation.{state_of}

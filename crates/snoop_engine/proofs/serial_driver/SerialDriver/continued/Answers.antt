@@ -1,6 +1,5 @@
-use Rattle.std.proofs.Common.{rules, ◌≡◌, ◌/◌, ℕ, Option, Some, sym, subst}
+use Rattle.std.proofs.Common.{rules, ◌≡◌, Option, Some, subst}
 use Rattle.std.specs.Prelude.{IfNone, IfSome}
-use Rattle.snoop_trace.specs.Grammar.{word_asked}
 use Rattle.snoop_trace.specs.declared.step.Row.{Row}
 use Rattle.snoop_engine.specs.InOrder.{InOrder, IsInOrder}
 use Rattle.snoop_engine.specs.OneRow.{ServesOnly, nothing}

@@ -1,4 +1,4 @@
-use Rattle.std.proofs.Common.{Option, Result, sym, subst, ap}
+use Rattle.std.proofs.Common.{Option, Result, sym, subst, ap, rules}
 use Rattle.std.specs.Prelude.{IfOk}
 use Rattle.snoop_trace.specs.declared.fault.NoMemory.{NoMemory}
 use Rattle.snoop_history.specs.declared.items.Item.{Item}
@@ -7,6 +7,8 @@ use Rattle.snoop_model.specs.Moves.Move.{FirstMove}
 use Rattle.snoop_model.specs.Pictures.Situation.{Situation}
 use Rattle.snoop_model.specs.Turns.Serving.{IsUnderWay}
 use Rattle.snoop_engine.specs.InOrder.{InOrder, IsInOrder, under_way}
+use Rattle.snoop_engine.specs.Round.{IsEnabled}
+use Rattle.snoop_engine.proofs.Driving.{only_memory}
 use Rattle.snoop_engine.proofs.InOrderLemmas.{in_order_moves}
 use Rattle.snoop_engine.proofs.serial_driver.SerialDriver.take.Goals as goal
 use Rattle.snoop_engine.proofs.serial_driver.SerialDriver.take.Goals.{in-Ok, in-Err-NoMemory}
@@ -30,3 +32,9 @@ returns-clause-taken c =
       | in-Ok w ↦ subst T (sym w.result-is) (subst (λ (d : InOrder). P d.situation w.in-Ok.reply) c.self.view_is w.in-Ok.ensures.taken)
       | in-Err-NoMemory w ↦ subst T (sym w.result-is) tt
     ]
+
+pub unreachable-requires : goal.unreachable-requires
+unreachable-requires c =
+    let E : InOrder → Type 0 = λ d. IsEnabled d.situation c.args.step in
+    let only = only_memory c.self.inside.machine.situation c.args.step c.in-Err.field-0 c.in-Err.ensures.refused.0 (subst E (sym c.self.view_is) c.requires.enabled) in
+    search rules
