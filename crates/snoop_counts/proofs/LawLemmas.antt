@@ -1,14 +1,9 @@
 -- Sums of counts: over causes, over parts of a run, and over cores and blocks.
-use Rattle.std.proofs.Common.{◌≡◌, ℕ, zero, suc, ◌+◌, ◌<◌, ◌≤◌, Bool, true, false, cond, List, [], ◌∷◌, ◌++◌, All, filter, length, length-append, map, refl, sym, ap, subst, append_assoc, append-nil, ◌∙◌, inl, inr, arith}
-use Rattle.std.specs.Prelude.{◌||◌, ◌&&◌, ◌==◌, Option, Some, None, Result, Ok, Err, option_to_list, slice_get, if◌then◌else◌}
-use Rattle.std.specs.List.{flat_map, range_with_len, sum_by}
+use Rattle.std.proofs.Common.{◌≡◌, ℕ, ◌+◌, Bool, true, false, cond, List, [], ◌∷◌, ◌++◌, All, filter, length, length-append, map, refl, sym, ap, append_assoc, append-nil, ◌∙◌, arith}
+use Rattle.std.specs.Prelude.{◌||◌, ◌&&◌, ◌==◌, Option, Some, None, Result, Ok, Err, option_to_list, if◌then◌else◌}
 use Rattle.std.specs.Option.{option_map_or}
-use Rattle.std.proofs.lemmas.Bool.{cases_eq, eq-eqb, ne_eqb}
 use Rattle.std.proofs.lemmas.List.Elements.{All-append, All-cons, All-head, All-map, All-nil, All-tail, filter-append}
-use Rattle.snoop_trace.specs.Extent.{Extent}
 use Rattle.snoop_trace.specs.declared.step.Step.{Step}
-use Rattle.snoop_rules.specs.declared.names.CacheEvent.{CacheEvent}
-use Rattle.snoop_rules.specs.declared.names.CacheState.{CacheState}
 use Rattle.snoop_history.specs.declared.items.Did.{Did}
 use Rattle.snoop_history.specs.declared.items.Item.{Item}
 use Rattle.snoop_model.specs.declared.replies.Refused.{Refused}
@@ -18,12 +13,11 @@ use Rattle.snoop_engine.specs.Taken.{lines_of}
 use Rattle.snoop_engine.specs.declared.taken.Taken.{Taken}
 use Rattle.snoop_engine.specs.declared.taken.Taken.TheVariants.{Core, Memory, Nobody}
 use Rattle.snoop_counts.specs.Causes.{cause_after, cause_of, item_of, operation_in, word_of}
-use Rattle.snoop_counts.specs.Counted.{counts, counts_cause, is_counted, is_it, is_miss, subject_of, times}
+use Rattle.snoop_counts.specs.Counted.{counts_cause, is_counted, is_miss}
 use Rattle.snoop_counts.specs.Happenings.{happenings, seen_after, seen_in}
 use Rattle.snoop_counts.specs.Laws.{CausesAreAll, PartsAddUp}
 use Rattle.snoop_counts.specs.declared.count.Cause.{Cause}
 use Rattle.snoop_counts.specs.declared.count.Cause.TheVariants as cause
-use Rattle.snoop_counts.specs.declared.count.Count.{Count}
 use Rattle.snoop_counts.specs.declared.count.Count.TheVariants as count
 use Rattle.snoop_counts.specs.declared.count.Happening.{Happening}
 use Rattle.snoop_counts.specs.declared.count.Happening.TheVariants as happening
@@ -67,7 +61,7 @@ module _ {X : Type 0} (p a b c d : X → Bool) where
       let nd = kept_if (d x) x (filter d xs) in
       omega (arith, here, rest, np, na, nb, nc, nd)
 
-all_of : {X : Type 0} (P : X → Type 0) → ((x : X) → P x) → (xs : List X) → All P xs
+pub all_of : {X : Type 0} (P : X → Type 0) → ((x : X) → P x) → (xs : List X) → All P xs
 all_of P each [] = All-nil P
 all_of P each (x ∷ xs) = All-cons P x xs (each x) (all_of P each xs)
 

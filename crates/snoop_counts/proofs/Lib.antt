@@ -8,3 +8,4 @@ pub mod CauseLemmas
 pub mod WindowLemmas
 pub mod LawLemmas
 pub mod TotalLemmas
+pub mod SumLemmas

@@ -1,22 +1,34 @@
 -- Rows of counters, and how they go up.
-use Rattle.std.proofs.Common.{◌≡◌, ℕ, ◌+◌, ◌<◌, ◌≤◌, Bool, true, false, cond, List, [], ◌∷◌, ◌++◌, filter, length, length-append, get_or, get_or-set_other, get_or-set_same, set, map, take, zero, suc, refl, sym, ap, append_assoc, ◌∙◌, inl, inr, arith}
-use Rattle.std.specs.Prelude.{◌≢◌, ◌&&◌, Option, Some, None, replicate, slice_get, if◌then◌else◌}
-use Rattle.std.specs.List.{range_with_len}
+use Rattle.std.proofs.Common.{◌≡◌, ℕ, ◌+◌, ◌<◌, Bool, true, false, cond, List, [], ◌∷◌, ◌++◌, filter, length, length-append, get_or, get_or-set_other, get_or-set_same, set, map, take, refl, sym, ap, append_assoc, ◌∙◌, inl, inr, arith}
+use Rattle.std.specs.Prelude.{◌≢◌, ◌||◌, ◌&&◌, ◌==◌, not, Option, Some, None, Ok, Err, replicate, slice_get, if◌then◌else◌}
+use Rattle.std.specs.List.{list_any}
 use Rattle.std.specs.Option.{option_map_or}
-use Rattle.std.proofs.lemmas.Bool.{cases_eq, eq-eqb, ne_eqb}
+use Rattle.std.proofs.Math.Bool.{and-true, or-false}
+use Rattle.std.proofs.lemmas.Bool.{and_left, and_parts, and_right, cases_eq, eq-eqb, false≢true, ne_eqb}
 use Rattle.std.proofs.lemmas.List.{get_or-map, get_or-replicate, length-replicate, length-set, take_more}
 use Rattle.std.proofs.lemmas.List.Elements.{filter-append}
-use Rattle.std.proofs.lemmas.List.FromFn.{get_or-range_with_len}
 use Rattle.std.proofs.lemmas.Option.{slice_get-get_or}
 use Rattle.snoop_history.specs.Journal.{counted}
 use Rattle.snoop_history.specs.Totals.{capped}
-use Rattle.snoop_counts.specs.Counted.{counts, is_counted, is_it, subject_of, times}
-use Rattle.snoop_counts.specs.Tally.{Tallies, all_counts, counter_in, empty_row, number, raised, raised_by, raised_row, row_at}
+use Rattle.snoop_history.specs.declared.items.Item.TheVariants as item
+use Rattle.snoop_engine.specs.declared.taken.Taken.TheVariants.{Core, Memory, Nobody}
+use Rattle.snoop_counts.specs.Counted.{core_counted, counts, is_counted, is_it, own_core, subject_of, times}
+use Rattle.snoop_counts.specs.Tally.{Tallies, changed, counter_in, empty_row, number, own_raised, raised_all, raised_by, raised_if, raised_row, row_at, tried}
 use Rattle.snoop_counts.specs.declared.count.Count.{Count}
 use Rattle.snoop_counts.specs.declared.count.Count.TheVariants as count
 use Rattle.snoop_counts.specs.declared.count.Happening.{Happening}
+use Rattle.snoop_counts.specs.declared.count.Happening.TheVariants as happening
 use Rattle.snoop_counts.specs.declared.count.Subjects.{Subjects}
+use Rattle.snoop_counts.specs.declared.count.Subjects.TheVariants as subjects
 use Rattle.snoop_counts.specs.declared.tally.Counters.{Counters}
+
+-- all counts, by their places
+abbrev all_counts : List Count
+all_counts =
+    count.Loads ∷ count.LoadHits ∷ count.Stores ∷ count.StoreHits ∷ count.GetS ∷ count.GetM ∷ count.PutM ∷ count.FromMemory ∷ count.FromCaches ∷ count.Writebacks ∷ count.Clean ∷ count.Stale
+    ∷ count.Misses ∷ count.Cold ∷ count.GivenUp ∷ count.TrueSharing ∷ count.FalseSharing
+    ∷ count.Upgrades ∷ count.UpgradesLost ∷ count.Invalidated ∷ count.Taken ∷ count.Downgraded ∷ count.Overtaken ∷ count.Invalidates ∷ count.Supplied
+    ∷ count.Stalled ∷ count.BusTaken ∷ count.NothingWaiting ∷ count.NoTransaction ∷ count.Lines ∷ count.Operations ∷ []
 
 -- each count stands at its place
 at_place : (c : Count) → get_or all_counts (number c) count.Loads ≡ c
@@ -86,138 +98,296 @@ place_below count.NoTransaction = omega arith
 place_below count.Lines = omega arith
 place_below count.Operations = omega arith
 
--- at each place stands the count of that place
-place_of : (i : ℕ) → i < 31 → number (get_or all_counts i count.Loads) ≡ i
-place_of i below =
-    let numbers : map number all_counts ≡ range_with_len 0 31 = refl in
-    let there : i < length all_counts = omega arith in
-    let at : get_or (range_with_len 0 31) i 0 ≡ 0 + i = get_or-range_with_len 0 31 i 0 below in
-    sym (get_or-map number all_counts i count.Loads 0 there) ∙ ap (λ (l : List ℕ). get_or l i 0) numbers ∙ at ∙ omega arith
+-- so what holds of all counts by their places holds of each
+each_count : {Y : Type 0} (y : Y) (f g : Count → Y) → map f all_counts ≡ map g all_counts → (c : Count) → f c ≡ g c
+each_count {Y} y f g same c =
+    let below = place_below c in
+    let there : number c < length all_counts = omega arith in
+    sym (ap f (at_place c)) ∙ sym (get_or-map f all_counts (number c) count.Loads y there) ∙ ap (λ (l : List Y). get_or l (number c) y) same
+    ∙ get_or-map g all_counts (number c) count.Loads y there ∙ ap g (at_place c)
 
--- one more of a count of a subject
-module _ (rows : List Counters) (subject : ℕ) (c : Count) where
-  many_if : (found : Option Counters) → length (option_map_or (λ row. set rows subject (raised_row c row)) found rows) ≡ length rows
-  many_if None = refl
-  many_if (Some row) = length-set rows subject (raised_row c row)
+same_count : (a b : Count) → number a ≡ number b → a ≡ b
+same_count a b e = sym (at_place a) ∙ ap (λ (k : ℕ). get_or all_counts k count.Loads) e ∙ at_place b
 
-  many_raised : length (raised rows subject c) ≡ length rows
-  many_raised = many_if (slice_get rows subject)
+-- the count stands in the list
+abbrev is_one_of : List Count → Count → Bool
+is_one_of list c = list_any (λ a. number a == number c) list
 
-  other_if : (s : ℕ) → s ≢ subject → (found : Option Counters) → row_at (option_map_or (λ row. set rows subject (raised_row c row)) found rows) s ≡ row_at rows s
-  other_if s ne None = refl
-  other_if s ne (Some row) = get_or-set_other rows subject s (raised_row c row) empty_row ne
+-- no count stands in the list twice
+abbrev are_apart : List Count → Bool
+are_apart [] = true
+are_apart (a ∷ list) = not (is_one_of list a) && are_apart list
 
-  other_raised : (s : ℕ) → s ≢ subject → row_at (raised rows subject c) s ≡ row_at rows s
-  other_raised s ne = other_if s ne (slice_get rows subject)
+not_true : (b : Bool) → not b ≡ true → b ≡ false
+not_true true h = sym h
+not_true false h = refl
 
-  here_raised : subject < length rows → row_at (raised rows subject c) subject ≡ raised_row c (row_at rows subject)
-  here_raised there =
-      ap (λ (found : Option Counters). row_at (option_map_or (λ row. set rows subject (raised_row c row)) found rows) subject) (slice_get-get_or rows subject empty_row there)
-      ∙ get_or-set_same rows subject (raised_row c (row_at rows subject)) empty_row there
+not_both : (a : Count) (list : List Count) (c : Count) → not (is_one_of list a) ≡ true → ((number a == number c) && is_one_of list c) ≡ false
+not_both a list c apart = elim (cases_eq (number a) (number c)) [
+  | inl e ↦
+      let none : is_one_of list c ≡ false = ap (λ (k : ℕ). list_any (λ x. number x == k) list) (sym e) ∙ not_true (is_one_of list a) apart in
+      and_right (number a == number c) (is_one_of list c) none
+  | inr ne ↦ and_left (number a == number c) (is_one_of list c) (ne_eqb (number a) (number c) ne)
+]
 
-  long_raised : (s : ℕ) → s < length rows → length (row_at (raised rows subject c) s).counters ≡ length (row_at rows s).counters
-  long_raised s there = elim (cases_eq s subject) [
-    | inl e ↦
-        let there' : subject < length rows = omega arith in
-        ap (λ (k : ℕ). length (row_at (raised rows subject c) k).counters) e ∙ ap (λ (row : Counters). length row.counters) (here_raised there')
-        ∙ length-set (row_at rows subject).counters (number c) (capped (counter_in (row_at rows subject) c + 1)) ∙ ap (λ (k : ℕ). length (row_at rows k).counters) (sym e)
-    | inr ne ↦ ap (λ (row : Counters). length row.counters) (other_raised s ne)
-  ]
+-- a counter that goes up twice, where at most one of two tests passes
+up_twice : (n : ℕ) (a b k : Bool) → (a && b) ≡ false → counted (counted n (a && k)) (b && k) ≡ counted n ((a || b) && k)
+up_twice n true true k h = absurd (false≢true (sym h))
+up_twice n true false k h = refl
+up_twice n false b k h = refl
 
-  -- of another count
-  apart_raised : (s : ℕ) (other : Count) → s < length rows → number other ≢ number c → counter_in (row_at (raised rows subject c) s) other ≡ counter_in (row_at rows s) other
-  apart_raised s other there ne = elim (cases_eq s subject) [
-    | inl e ↦
-        let there' : subject < length rows = omega arith in
-        ap (λ (k : ℕ). counter_in (row_at (raised rows subject c) k) other) e ∙ ap (λ (row : Counters). counter_in row other) (here_raised there')
-        ∙ get_or-set_other (row_at rows subject).counters (number c) (number other) (capped (counter_in (row_at rows subject) c + 1)) 0 ne
-        ∙ ap (λ (k : ℕ). counter_in (row_at rows k) other) (sym e)
-    | inr ne' ↦ ap (λ (row : Counters). counter_in row other) (other_raised s ne')
-  ]
+up_before : (n : ℕ) (a b k : Bool) → (a && b) ≡ false → counted (counted n (b && k)) (a && k) ≡ counted n ((a || b) && k)
+up_before n true true k h = absurd (false≢true (sym h))
+up_before n true false k h = refl
+up_before n false b k h = refl
 
-  -- of this count
-  same_raised : (s : ℕ) → s < length rows → length (row_at rows s).counters ≡ 31 → counter_in (row_at (raised rows subject c) s) c ≡ counted (counter_in (row_at rows s) c) (is_it (Some subject) s)
-  same_raised s there long = elim (cases_eq subject s) [
-    | inl e ↦
-        let there' : subject < length rows = omega arith in
-        let below = place_below c in
-        let long' : length (row_at rows subject).counters ≡ 31 = ap (λ (k : ℕ). length (row_at rows k).counters) e ∙ long in
-        let fits : number c < length (row_at rows subject).counters = omega arith in
-        let up : counter_in (row_at (raised rows subject c) subject) c ≡ capped (counter_in (row_at rows subject) c + 1) =
-        ap (λ (row : Counters). counter_in row c) (here_raised there')
-        ∙ get_or-set_same (row_at rows subject).counters (number c) (capped (counter_in (row_at rows subject) c + 1)) 0 fits in
-        ap (λ (k : ℕ). counter_in (row_at (raised rows subject c) k) c) (sym e) ∙ up ∙ ap (λ (k : ℕ). capped (counter_in (row_at rows k) c + 1)) e
-        ∙ ap (counted (counter_in (row_at rows s) c)) (sym (eq-eqb subject s e))
+-- one row, by some counts
+module _ (seen : Happening) where
+  one_row : (a c : Count) (row : Counters) → length row.counters ≡ 31 → counter_in (raised_row a row) c ≡ counted (counter_in row c) (number a == number c)
+  one_row a c row long =
+      let up : ℕ = capped (counter_in row a + 1) in
+      elim (cases_eq (number a) (number c)) [
+        | inl e ↦
+            let below = place_below a in
+            let fits : number a < length row.counters = omega arith in
+            ap (λ (k : ℕ). get_or (set row.counters (number a) up) k 0) (sym e) ∙ get_or-set_same row.counters (number a) up 0 fits
+            ∙ ap (λ (k : ℕ). capped (get_or row.counters k 0 + 1)) e ∙ ap (counted (counter_in row c)) (sym (eq-eqb (number a) (number c) e))
+        | inr ne ↦
+            get_or-set_other row.counters (number a) (number c) up 0 (λ q. ne (sym q)) ∙ ap (counted (counter_in row c)) (sym (ne_eqb (number a) (number c) ne))
+      ]
+
+  one_if_counts : (a c : Count) (row : Counters) → length row.counters ≡ 31 → (here : Bool)
+      → counter_in (if here then raised_row a row else row) c ≡ counted (counter_in row c) ((number a == number c) && here)
+  one_if_counts a c row long true = one_row a c row long ∙ ap (counted (counter_in row c)) (sym (and-true (number a == number c)))
+  one_if_counts a c row long false = ap (counted (counter_in row c)) (sym (and_right (number a == number c) false refl))
+
+  same_test : (a c : Count) → ((number a == number c) && counts a seen) ≡ ((number a == number c) && counts c seen)
+  same_test a c = elim (cases_eq (number a) (number c)) [
+    | inl e ↦ ap (λ (x : Count). (number a == number c) && counts x seen) (same_count a c e)
     | inr ne ↦
-        ap (λ (row : Counters). counter_in row c) (other_raised s (λ q. ne (sym q))) ∙ ap (counted (counter_in (row_at rows s) c)) (sym (ne_eqb subject s ne))
+        let off : (number a == number c) ≡ false = ne_eqb (number a) (number c) ne in
+        and_left (number a == number c) (counts a seen) off ∙ sym (and_left (number a == number c) (counts c seen) off)
   ]
 
--- the rows, one more where it is counted and there is a subject
-abbrev up : List Counters → Count → Bool → Option ℕ → List Counters
-up rows c here found = if here then option_map_or (λ subject. raised rows subject c) found rows else rows
+  long_if : (a : Count) (row : Counters) (here : Bool) → length (if here then raised_row a row else row).counters ≡ length row.counters
+  long_if a row true = length-set row.counters (number a) (capped (counter_in row a + 1))
+  long_if a row false = refl
 
-module _ (rows : List Counters) (c : Count) where
-  many_up : (here : Bool) (found : Option ℕ) → length (up rows c here found) ≡ length rows
-  many_up false found = refl
-  many_up true None = refl
-  many_up true (Some subject) = many_raised rows subject c
+  long_all : (list : List Count) (row : Counters) → length (raised_all list seen row).counters ≡ length row.counters
+  long_all [] row = refl
+  long_all (a ∷ list) row = long_all list (raised_if seen row a) ∙ long_if a row (counts a seen)
 
-  long_up : (here : Bool) (found : Option ℕ) (s : ℕ) → s < length rows → length (row_at (up rows c here found) s).counters ≡ length (row_at rows s).counters
-  long_up false found s there = refl
-  long_up true None s there = refl
-  long_up true (Some subject) s there = long_raised rows subject c s there
+  counted_all : (list : List Count) → are_apart list ≡ true → (row : Counters) → length row.counters ≡ 31 → (c : Count)
+      → counter_in (raised_all list seen row) c ≡ counted (counter_in row c) (is_one_of list c && counts c seen)
+  counted_all [] apart row long c = refl
+  counted_all (a ∷ list) apart row long c =
+      let both = and_parts (not (is_one_of list a)) (are_apart list) apart in
+      counted_all list both.1 (raised_if seen row a) (long_if a row (counts a seen) ∙ long) c
+      ∙ ap (λ (n : ℕ). counted n (is_one_of list c && counts c seen)) (one_if_counts a c row long (counts a seen) ∙ ap (counted (counter_in row c)) (same_test a c))
+      ∙ up_twice (counter_in row c) (number a == number c) (is_one_of list c) (counts c seen) (not_both a list c both.0)
 
-  apart_up : (here : Bool) (found : Option ℕ) (s : ℕ) (other : Count) → s < length rows → number other ≢ number c
-      → counter_in (row_at (up rows c here found) s) other ≡ counter_in (row_at rows s) other
-  apart_up false found s other there ne = refl
-  apart_up true None s other there ne = refl
-  apart_up true (Some subject) s other there ne = apart_raised rows subject c s other there ne
+-- the row of a subject goes on
+module _ (rows : List Counters) (subject : ℕ) (next : Counters → Counters) where
+  many_if : (found : Option Counters) → length (option_map_or (λ row. set rows subject (next row)) found rows) ≡ length rows
+  many_if None = refl
+  many_if (Some row) = length-set rows subject (next row)
 
-  same_up : (here : Bool) (found : Option ℕ) (s : ℕ) → s < length rows → length (row_at rows s).counters ≡ 31
-      → counter_in (row_at (up rows c here found) s) c ≡ counted (counter_in (row_at rows s) c) (here && is_it found s)
-  same_up false found s there long = refl
-  same_up true None s there long = refl
-  same_up true (Some subject) s there long = same_raised rows subject c s there long
+  other_if : (s : ℕ) → s ≢ subject → (found : Option Counters) → row_at (option_map_or (λ row. set rows subject (next row)) found rows) s ≡ row_at rows s
+  other_if s ne None = refl
+  other_if s ne (Some row) = get_or-set_other rows subject s (next row) empty_row ne
 
--- the rows after the counts of the first places have counted what has happened
-pub record Raises (whose : Subjects) (seen : Happening) (old new : List Counters) (upto : ℕ) : Type 0 where
+  other_changed : (s : ℕ) → s ≢ subject → row_at (changed rows subject next) s ≡ row_at rows s
+  other_changed s ne = other_if s ne (slice_get rows subject)
+
+  here_changed : (s : ℕ) → subject ≡ s → s < length rows → row_at (changed rows subject next) s ≡ next (row_at rows s)
+  here_changed s e there =
+      let there' : subject < length rows = omega arith in
+      ap (λ (k : ℕ). row_at (changed rows subject next) k) (sym e)
+      ∙ ap (λ (found : Option Counters). row_at (option_map_or (λ row. set rows subject (next row)) found rows) subject) (slice_get-get_or rows subject empty_row there')
+      ∙ get_or-set_same rows subject (next (row_at rows subject)) empty_row there'
+      ∙ ap (λ (k : ℕ). next (row_at rows k)) e
+
+-- the rows, where the row of the subject that was found goes on
+abbrev going : List Counters → Option ℕ → (Counters → Counters) → List Counters
+going rows found next = option_map_or (λ subject. changed rows subject next) found rows
+
+module _ (rows : List Counters) (next : Counters → Counters) (b : Count → Bool) (keeps : (row : Counters) → length (next row).counters ≡ length row.counters)
+    (step : (row : Counters) → length row.counters ≡ 31 → (c : Count) → counter_in (next row) c ≡ counted (counter_in row c) (b c)) where
+  many_going : (found : Option ℕ) → length (going rows found next) ≡ length rows
+  many_going None = refl
+  many_going (Some subject) = many_if rows subject next (slice_get rows subject)
+
+  long_going : (found : Option ℕ) (s : ℕ) → s < length rows → length (row_at (going rows found next) s).counters ≡ length (row_at rows s).counters
+  long_going None s there = refl
+  long_going (Some subject) s there = elim (cases_eq subject s) [
+    | inl e ↦ ap (λ (row : Counters). length row.counters) (here_changed rows subject next s e there) ∙ keeps (row_at rows s)
+    | inr ne ↦ ap (λ (row : Counters). length row.counters) (other_changed rows subject next s (λ q. ne (sym q)))
+  ]
+
+  counted_going : (found : Option ℕ) (s : ℕ) (c : Count) → s < length rows → length (row_at rows s).counters ≡ 31
+      → counter_in (row_at (going rows found next) s) c ≡ counted (counter_in (row_at rows s) c) (b c && is_it found s)
+  counted_going None s c there long = ap (counted (counter_in (row_at rows s) c)) (sym (and_right (b c) false refl))
+  counted_going (Some subject) s c there long = elim (cases_eq subject s) [
+    | inl e ↦
+        ap (λ (row : Counters). counter_in row c) (here_changed rows subject next s e there) ∙ step (row_at rows s) long c
+        ∙ ap (counted (counter_in (row_at rows s) c)) (sym (and-true (b c)) ∙ ap (λ (k : Bool). b c && k) (sym (eq-eqb subject s e)))
+    | inr ne ↦
+        ap (λ (row : Counters). counter_in row c) (other_changed rows subject next s (λ q. ne (sym q)))
+        ∙ ap (counted (counter_in (row_at rows s) c)) (sym (and_right (b c) (subject == s) (ne_eqb subject s ne)))
+  ]
+
+-- the counts of a list, which are those alone that go up, have counted what has happened
+pub record Raises (whose : Subjects) (seen : Happening) (list : List Count) (old new : List Counters) : Type 0 where
   pub many : length new ≡ length old
   pub long : (s : ℕ) → s < length old → length (row_at new s).counters ≡ length (row_at old s).counters
-  pub done : (s : ℕ) (c : Count) → s < length old → length (row_at old s).counters ≡ 31 → number c < upto
-      → counter_in (row_at new s) c ≡ counted (counter_in (row_at old s) c) (is_counted whose s c seen)
-  pub left : (s : ℕ) (c : Count) → s < length old → upto ≤ number c → counter_in (row_at new s) c ≡ counter_in (row_at old s) c
+  pub done : (s : ℕ) (c : Count) → s < length old → length (row_at old s).counters ≡ 31
+      → counter_in (row_at new s) c ≡ counted (counter_in (row_at old s) c) (is_one_of list c && is_counted whose s c seen)
 
-pub raises_none : (whose : Subjects) (seen : Happening) (rows : List Counters) → Raises whose seen rows rows 0
-raises_none whose seen rows = record { many = refl; long = λ s there. refl; done = λ s c there long below. absurd (omega arith); left = λ s c there above. refl }
+moved : (b k : Bool) (f g : Option ℕ) (s : ℕ) → (b ≡ true → f ≡ g) → ((b && k) && is_it g s) ≡ (b && (k && is_it f s))
+moved true k f g s e = ap (λ (x : Option ℕ). k && is_it x s) (sym (e refl))
+moved false k f g s e = refl
 
-module _ (whose : Subjects) (seen : Happening) (old now : List Counters) (i : ℕ) (far : Raises whose seen old now i) where
-  -- the next count
-  pub raises_more : i < 31 → Raises whose seen old (raised_by whose (get_or all_counts i count.Loads) seen now) (i + 1)
-  raises_more below =
-      let next : Count = get_or all_counts i count.Loads in
-      let here : Bool = counts next seen in
-      let found : Option ℕ = subject_of whose next seen in
-      let place : number next ≡ i = place_of i below in
+module _ (whose : Subjects) (seen : Happening) where
+  raises_list : (list : List Count) → are_apart list ≡ true → (found : Option ℕ) → ((c : Count) → is_one_of list c ≡ true → subject_of whose c seen ≡ found) → (rows : List Counters)
+      → Raises whose seen list rows (going rows found (raised_all list seen))
+  raises_list list apart found is rows =
+      let b : Count → Bool = λ c. is_one_of list c && counts c seen in
+      let keeps = long_all seen list in
+      let step : (row : Counters) → length row.counters ≡ 31 → (c : Count) → counter_in (raised_all list seen row) c ≡ counted (counter_in row c) (b c) = λ row long c. counted_all seen list apart row long c in
       record {
-        many = many_up now next here found ∙ far.many;
-        long = λ s there. let there' : s < length now = omega (arith, far.many) in long_up now next here found s there' ∙ far.long s there;
-        done = λ s c there long lt. let there' : s < length now = omega (arith, far.many) in elim (cases_eq (number c) i) [
-          | inl e ↦
-              let is : c ≡ next = sym (at_place c) ∙ ap (λ (k : ℕ). get_or all_counts k count.Loads) e in
-              let before : counter_in (row_at now s) c ≡ counter_in (row_at old s) c = far.left s c there (omega arith) in
-              let long' : length (row_at now s).counters ≡ 31 = far.long s there ∙ long in
-              ap (λ (x : Count). counter_in (row_at (up now next here found) s) x) is ∙ same_up now next here found s there' long'
-              ∙ ap (λ (x : Count). counted (counter_in (row_at now s) x) (is_counted whose s x seen)) (sym is)
-              ∙ ap (λ (n : ℕ). counted n (is_counted whose s c seen)) before
-          | inr ne ↦
-              let ne' : number c ≢ number next = λ q. ne (q ∙ place) in
-              apart_up now next here found s c there' ne' ∙ far.done s c there long (omega arith)
-        ];
-        left = λ s c there above.
-            let there' : s < length now = omega (arith, far.many) in
-            let ne : number c ≢ number next = λ q. absurd (omega arith) in
-            apart_up now next here found s c there' ne ∙ far.left s c there (omega arith);
+        many = many_going rows (raised_all list seen) b keeps step found;
+        long = long_going rows (raised_all list seen) b keeps step found;
+        done = λ s c there long.
+            counted_going rows (raised_all list seen) b keeps step found s c there long
+            ∙ ap (counted (counter_in (row_at rows s) c)) (moved (is_one_of list c) (counts c seen) (subject_of whose c seen) found s (is c));
       }
+
+  same_counted : (a : Count) (here : Bool) → counts a seen ≡ here → (s : ℕ) (c : Count)
+      → ((number a == number c) && (here && is_it (subject_of whose a seen) s)) ≡ (is_one_of (a ∷ []) c && is_counted whose s c seen)
+  same_counted a here is s c = elim (cases_eq (number a) (number c)) [
+    | inl e ↦
+        ap (λ (k : Bool). (number a == number c) && (k && is_it (subject_of whose a seen) s)) (sym is)
+        ∙ ap (λ (x : Count). (number a == number c) && is_counted whose s x seen) (same_count a c e)
+        ∙ ap (λ (k : Bool). k && is_counted whose s c seen) (sym (or-false (number a == number c)))
+    | inr ne ↦
+        let off : (number a == number c) ≡ false = ne_eqb (number a) (number c) ne in
+        and_left (number a == number c) (here && is_it (subject_of whose a seen) s) off
+        ∙ sym (and_left (is_one_of (a ∷ []) c) (is_counted whose s c seen) (or-false (number a == number c) ∙ off))
+  ]
+
+  raises_if : (a : Count) (rows : List Counters) (here : Bool) → counts a seen ≡ here
+      → Raises whose seen (a ∷ []) rows (if here then going rows (subject_of whose a seen) (raised_row a) else rows)
+  raises_if a rows true is =
+      let found : Option ℕ = subject_of whose a seen in
+      let b : Count → Bool = λ c. number a == number c in
+      let keeps : (row : Counters) → length (raised_row a row).counters ≡ length row.counters = λ row. long_if seen a row true in
+      let step : (row : Counters) → length row.counters ≡ 31 → (c : Count) → counter_in (raised_row a row) c ≡ counted (counter_in row c) (b c) = λ row long c. one_row seen a c row long in
+      record {
+        many = many_going rows (raised_row a) b keeps step found;
+        long = long_going rows (raised_row a) b keeps step found;
+        done = λ s c there long. counted_going rows (raised_row a) b keeps step found s c there long ∙ ap (counted (counter_in (row_at rows s) c)) (same_counted a true is s c);
+      }
+  raises_if a rows false is = record {
+    many = refl;
+    long = λ s there. refl;
+    done = λ s c there long. ap (counted (counter_in (row_at rows s) c)) (sym (and_right (number a == number c) false refl) ∙ same_counted a false is s c);
+  }
+
+  -- one count more
+  raises_one : (a : Count) (rows : List Counters) → Raises whose seen (a ∷ []) rows (raised_by whose a seen rows)
+  raises_one a rows = raises_if a rows (counts a seen) refl
+
+  raises_both : (a : Count) (list : List Count) (old mid new : List Counters) → not (is_one_of list a) ≡ true → Raises whose seen list old mid → Raises whose seen (a ∷ []) mid new → Raises whose seen (a ∷ list) old new
+  raises_both a list old mid new apart first later = record {
+    many = later.many ∙ first.many;
+    long = λ s there. later.long s (omega (arith, first.many)) ∙ first.long s there;
+    done = λ s c there long.
+        let there' : s < length mid = omega (arith, first.many) in
+        let k : Bool = is_counted whose s c seen in
+        later.done s c there' (first.long s there ∙ long) ∙ ap (λ (n : ℕ). counted n (((number a == number c) || false) && k)) (first.done s c there long)
+        ∙ ap (λ (e : Bool). counted (counted (counter_in (row_at old s) c) (is_one_of list c && k)) (e && k)) (or-false (number a == number c))
+        ∙ up_before (counter_in (row_at old s) c) (number a == number c) (is_one_of list c) k (not_both a list c apart);
+  }
+
+-- all counts that are tried
+abbrev named : Happening → List Count
+named seen = count.Supplied ∷ count.Invalidates ∷ tried seen
+
+-- the rows after something has happened
+abbrev pub all_raised : Subjects → Happening → List Counters → List Counters
+all_raised whose seen rows = raised_by whose count.Supplied seen (raised_by whose count.Invalidates seen (own_raised whose seen rows))
+
+-- no count is tried twice
+apart_named : (seen : Happening) → are_apart (named seen) ≡ true
+apart_named (happening.Item (item.Did did)) = refl
+apart_named (happening.Item (item.Sent sent)) = refl
+apart_named (happening.Item (item.Came came None)) = refl
+apart_named (happening.Item (item.Came came (Some did))) = refl
+apart_named (happening.Line step (Ok answer) line None) = refl
+apart_named (happening.Line step (Ok answer) line (Some cause)) = refl
+apart_named (happening.Line step (Err refused) line why) = refl
+
+-- each count that counts it is tried
+abbrev AreAllNamed : Happening → Type 0
+AreAllNamed seen = map (λ c. is_one_of (named seen) c && counts c seen) all_counts ≡ map (λ c. counts c seen) all_counts
+
+all_named : (seen : Happening) → AreAllNamed seen
+all_named (happening.Item (item.Did did)) = refl
+all_named (happening.Item (item.Sent sent)) = refl
+all_named (happening.Item (item.Came came None)) = refl
+all_named (happening.Item (item.Came came (Some did))) = refl
+all_named (happening.Line step (Ok answer) (Core core block None before) None) = refl
+all_named (happening.Line step (Ok answer) (Core core block (Some event) before) None) = refl
+all_named (happening.Line step (Ok answer) (Memory block event before) None) = refl
+all_named (happening.Line step (Ok answer) (Nobody core block) None) = refl
+all_named (happening.Line step (Ok answer) (Core core block None before) (Some cause)) = refl
+all_named (happening.Line step (Ok answer) (Core core block (Some event) before) (Some cause)) = refl
+all_named (happening.Line step (Ok answer) (Memory block event before) (Some cause)) = refl
+all_named (happening.Line step (Ok answer) (Nobody core block) (Some cause)) = refl
+all_named (happening.Line step (Err refused) (Core core block None before) None) = refl
+all_named (happening.Line step (Err refused) (Core core block (Some event) before) None) = refl
+all_named (happening.Line step (Err refused) (Memory block event before) None) = refl
+all_named (happening.Line step (Err refused) (Nobody core block) None) = refl
+all_named (happening.Line step (Err refused) (Core core block None before) (Some cause)) = refl
+all_named (happening.Line step (Err refused) (Core core block (Some event) before) (Some cause)) = refl
+all_named (happening.Line step (Err refused) (Memory block event before) (Some cause)) = refl
+all_named (happening.Line step (Err refused) (Nobody core block) (Some cause)) = refl
+
+passed : (x k it : Bool) → (x && k) ≡ k → (x && (k && it)) ≡ (k && it)
+passed true k it same = refl
+passed false k it same = ap (λ (j : Bool). j && it) same
+
+-- all counts but two are counted for whom it is of
+own_core_of : (c : Count) → (number count.Supplied == number c) ≡ false → (number count.Invalidates == number c) ≡ false → core_counted c ≡ own_core
+own_core_of c supplied invalidates =
+    let found : Count → Happening → Option ℕ = λ c. if (number count.Supplied == number c) || (number count.Invalidates == number c) then own_core else core_counted c in
+    sym (ap (λ (k : Bool). if k then own_core else core_counted c) (ap (λ (k : Bool). k || (number count.Invalidates == number c)) supplied ∙ invalidates))
+    ∙ each_count own_core found (λ c. own_core) refl c
+
+own_subject : (whose : Subjects) (seen : Happening) (c : Count) → (number count.Supplied == number c) ≡ false → (number count.Invalidates == number c) ≡ false
+    → subject_of whose c seen ≡ subject_of whose count.Lines seen
+own_subject subjects.Cores seen c supplied invalidates = ap (λ (found : Happening → Option ℕ). found seen) (own_core_of c supplied invalidates)
+own_subject subjects.Blocks seen c supplied invalidates = refl
+own_subject (subjects.Words words) seen c supplied invalidates = refl
+own_subject subjects.Machine seen c supplied invalidates = refl
+
+is_other : (a : Count) (list : List Count) (c : Count) → not (is_one_of list a) ≡ true → is_one_of list c ≡ true → (number a == number c) ≡ false
+is_other a list c apart is = sym (and-true (number a == number c)) ∙ ap (λ (k : Bool). (number a == number c) && k) (sym is) ∙ not_both a list c apart
+
+-- after all that are tried, all counts have counted what has happened
+pub raises_all : (whose : Subjects) (seen : Happening) (rows : List Counters) → Raises whose seen (named seen) rows (all_raised whose seen rows)
+raises_all whose seen rows =
+    let list : List Count = tried seen in
+    let first : List Counters = own_raised whose seen rows in
+    let second : List Counters = raised_by whose count.Invalidates seen first in
+    let supplied = and_parts (not (is_one_of (count.Invalidates ∷ list) count.Supplied)) (are_apart (count.Invalidates ∷ list)) (apart_named seen) in
+    let invalidates = and_parts (not (is_one_of list count.Invalidates)) (are_apart list) supplied.1 in
+    let mine : (c : Count) → is_one_of list c ≡ true → subject_of whose c seen ≡ subject_of whose count.Lines seen = λ c is.
+    let other : (number count.Invalidates == number c) ≡ false = is_other count.Invalidates list c invalidates.0 is in
+    own_subject whose seen c (is_other count.Supplied (count.Invalidates ∷ list) c supplied.0 (ap (λ (k : Bool). k || is_one_of list c) other ∙ is)) other in
+    raises_both whose seen count.Supplied (count.Invalidates ∷ list) rows second (raised_by whose count.Supplied seen second) supplied.0
+    (raises_both whose seen count.Invalidates list rows first second invalidates.0 (raises_list whose seen list invalidates.1 (subject_of whose count.Lines seen) mine rows) (raises_one whose seen count.Invalidates first))
+    (raises_one whose seen count.Supplied second)
 
 one_if : (p : Happening → Bool) (seen : Happening) (b : Bool) → p seen ≡ b → length (filter p (seen ∷ [])) ≡ cond b 1 0
 one_if p seen true e = rw e refl
@@ -233,14 +403,15 @@ counted_capped n true = omega arith
 counted_capped n false = omega arith
 
 -- all counts have counted what has happened
-pub tallies_more : (whose : Subjects) (all : List Happening) (seen : Happening) (old new : List Counters) (upto : ℕ) → 31 ≤ upto → Raises whose seen old new upto → Tallies whose old all → Tallies whose new (all ++ seen ∷ [])
-tallies_more whose all seen old new upto over far before = record {
+pub tallies_more : (whose : Subjects) (all : List Happening) (seen : Happening) (old new : List Counters) → Raises whose seen (named seen) old new → Tallies whose old all → Tallies whose new (all ++ seen ∷ [])
+tallies_more whose all seen old new far before = record {
   long = λ s there. far.long s (omega (arith, far.many)) ∙ before.long s (omega (arith, far.many));
   counted = λ s c there.
       let there' : s < length old = omega (arith, far.many) in
-      let below = place_below c in
       let b : Bool = is_counted whose s c seen in
-      far.done s c there' (before.long s there') (omega arith) ∙ ap (λ (n : ℕ). counted n b) (before.counted s c there')
+      far.done s c there' (before.long s there')
+      ∙ ap (counted (counter_in (row_at old s) c)) (passed (is_one_of (named seen) c) (counts c seen) (is_it (subject_of whose c seen) s) (each_count false (λ c. is_one_of (named seen) c && counts c seen) (λ c. counts c seen) (all_named seen) c))
+      ∙ ap (λ (n : ℕ). counted n b) (before.counted s c there')
       ∙ counted_capped (times whose all s c) b ∙ ap capped (sym (one_more (is_counted whose s c) all seen));
 }
 

@@ -26,7 +26,7 @@ use Rattle.snoop_engine.specs.declared.taken.Taken.{Taken}
 use Rattle.snoop_engine.specs.declared.taken.Taken.TheVariants.{Core, Memory, Nobody}
 use Rattle.snoop_counts.specs.Causes.{cause_of, item_of, operation_in}
 use Rattle.snoop_counts.specs.Counted.{counts, counts_cause, counts_item, counts_lines, counts_refusal, counts_row, has_row, is_counted, is_it, is_refused, subject_of, times}
-use Rattle.snoop_counts.specs.Happenings.{happenings, seen_after, seen_in}
+use Rattle.snoop_counts.specs.Happenings.{happenings, seen_after}
 use Rattle.snoop_counts.specs.Laws.{SumsAreTotals, sum_of, sums_of}
 use Rattle.snoop_counts.specs.declared.count.Cause.{Cause}
 use Rattle.snoop_counts.specs.declared.count.Count.{Count}
@@ -38,7 +38,7 @@ use Rattle.snoop_counts.specs.declared.count.Subjects.TheVariants.{Blocks, Cores
 use Rattle.snoop_counts.proofs.LawLemmas.{kept_if}
 
 -- what the steps add to the history
-abbrev items_in : List Frame → List Item
+abbrev pub items_in : List Frame → List Item
 items_in frames = flat_map (λ frame. option_to_list (item_of frame)) frames
 
 -- a step that is taken adds its item
@@ -79,7 +79,7 @@ kept_mapped p f [] = refl
 kept_mapped p f (x ∷ xs) = kept_if (p (f x)) (f x) (filter p (map f xs)) ∙ ap (λ (n : ℕ). cond (p (f x)) 1 0 + n) (kept_mapped p f xs) ∙ sym (kept_if (p (f x)) x (filter (λ y. p (f y)) xs))
 
 -- one where it is true
-abbrev once : Bool → ℕ
+abbrev pub once : Bool → ℕ
 once b = cond b 1 0
 
 none_kept : {X Y : Type 0} (p : Y → Bool) (f : X → Y) → ((x : X) → p (f x) ≡ false) → (xs : List X) → length (filter p (map f xs)) ≡ 0
@@ -111,7 +111,7 @@ module _ (c : Count) (of_lines : counts_lines c ≡ false) (of_rows : (state : C
   no_line step outcome line why = λ i. of_lines i || no_row line i || no_refusal outcome i || no_cause why i
 
   module _ (whose : Subjects) (subject : ℕ) where
-    items_alone : (earlier frames : List Frame) → times whose (seen_after earlier frames) subject c ≡ length (filter (λ entry. is_counted whose subject c (happening.Item entry)) (items_in frames))
+    pub items_alone : (earlier frames : List Frame) → times whose (seen_after earlier frames) subject c ≡ length (filter (λ entry. is_counted whose subject c (happening.Item entry)) (items_in frames))
     items_alone earlier [] = refl
     items_alone earlier (frame ∷ frames) =
         let p : Happening → Bool = is_counted whose subject c in
@@ -129,7 +129,7 @@ module _ (c : Count) (of_lines : counts_lines c ≡ false) (of_rows : (state : C
         let kept : length (filter p (map of_line lines ++ map happening.Item items)) ≡ length (filter q items) = omega (arith, e2, none, here) in
         e1 ∙ ap (λ (n : ℕ). n + length (filter p rest)) kept ∙ ap (λ (n : ℕ). length (filter q items) + n) later ∙ sym e3
 
-sum_zero : (xs : List ℕ) → sum_by (λ (s : ℕ). 0) xs ≡ 0
+pub sum_zero : (xs : List ℕ) → sum_by (λ (s : ℕ). 0) xs ≡ 0
 sum_zero [] = refl
 sum_zero (x ∷ xs) =
     let here = sum_by-cons (λ (s : ℕ). 0) x xs in
@@ -153,7 +153,7 @@ none_at k a (suc n) lt =
     let rest = none_at k (a + 1) n (omega arith) in
     omega (arith, here, head, rest)
 
-one_at : (k a n : ℕ) → a ≤ k → k < a + n → sum_by (λ (s : ℕ). cond (k == s) 1 0) (range_with_len a n) ≡ 1
+pub one_at : (k a n : ℕ) → a ≤ k → k < a + n → sum_by (λ (s : ℕ). cond (k == s) 1 0) (range_with_len a n) ≡ 1
 one_at k a zero le lt = absurd (omega arith)
 one_at k a (suc n) le lt =
     let here = sum_by-cons (λ (s : ℕ). cond (k == s) 1 0) a (range_with_len (a + 1) n) in
@@ -168,34 +168,45 @@ one_at k a (suc n) le lt =
           omega (arith, here, head, rest)
     ]
 
--- each element that passes is one subject's
+pub all_then : {X : Type 0} (P Q : X → Type 0) → ((x : X) → P x → Q x) → (xs : List X) → All P xs → All Q xs
+all_then P Q then [] all = All-nil Q
+all_then P Q then (x ∷ xs) all = All-cons Q x xs (then x (All-head P x xs all)) (all_then P Q then xs (All-tail P x xs all))
+
+-- each element that passes does so for one subject: the sum over all subjects is how many pass
+module _ {X : Type 0} (q : ℕ → X → Bool) (p : X → Bool) (many : ℕ) where
+  abbrev IsOnce : X → Type 0
+  IsOnce x = sum_by (λ s. once (q s x)) (range_with_len 0 many) ≡ once (p x)
+
+  pub sum_kept : (xs : List X) → All IsOnce xs → sum_by (λ s. length (filter (q s) xs)) (range_with_len 0 many) ≡ length (filter p xs)
+  sum_kept [] all = sum_zero (range_with_len 0 many)
+  sum_kept (x ∷ xs) all =
+      let range : List ℕ = range_with_len 0 many in
+      (λ i. sum_by (λ s. kept_if (q s x) x (filter (q s) xs) i) range)
+      ∙ sum_two (λ s. cond (q s x) 1 0) (λ s. length (filter (q s) xs)) range
+      ∙ ap (λ (m : ℕ). m + sum_by (λ s. length (filter (q s) xs)) range) (All-head IsOnce x xs all)
+      ∙ ap (λ (m : ℕ). cond (p x) 1 0 + m) (sum_kept xs (All-tail IsOnce x xs all))
+      ∙ sym (kept_if (p x) x (filter p xs))
+
+-- the subject is that of each element
 module _ {X : Type 0} (p : X → Bool) (found : X → Option ℕ) (n : X → ℕ) (many : ℕ) (is : (x : X) → found x ≡ Some (n x)) where
   mine : (b : Bool) (k : ℕ) → k < many → sum_by (λ s. cond (b && k == s) 1 0) (range_with_len 0 many) ≡ cond b 1 0
   mine true k lt = one_at k 0 many (omega arith) (omega arith)
   mine false k lt = sum_zero (range_with_len 0 many)
 
-  sum_is : (xs : List X) → All (λ x. n x < many) xs → sum_by (λ s. length (filter (λ x. p x && is_it (found x) s) xs)) (range_with_len 0 many) ≡ length (filter p xs)
-  sum_is [] all = sum_zero (range_with_len 0 many)
-  sum_is (x ∷ xs) all =
-      let range : List ℕ = range_with_len 0 many in
-      let q : ℕ → X → Bool = λ s y. p y && is_it (found y) s in
-      (λ i. sum_by (λ s. kept_if (q s x) x (filter (q s) xs) i) range)
-      ∙ sum_two (λ s. cond (q s x) 1 0) (λ s. length (filter (q s) xs)) range
-      ∙ ap (λ (m : ℕ). m + sum_by (λ s. length (filter (q s) xs)) range)
-      ((λ i. sum_by (λ s. cond (p x && is_it (is x i) s) 1 0) range) ∙ mine (p x) (n x) (All-head (λ y. n y < many) x xs all))
-      ∙ ap (λ (m : ℕ). cond (p x) 1 0 + m) (sum_is xs (All-tail (λ y. n y < many) x xs all))
-      ∙ sym (kept_if (p x) x (filter p xs))
+  is_once : (x : X) → n x < many → sum_by (λ s. once (p x && is_it (found x) s)) (range_with_len 0 many) ≡ once (p x)
+  is_once x lt = (λ i. sum_by (λ s. cond (p x && is_it (is x i) s) 1 0) (range_with_len 0 many)) ∙ mine (p x) (n x) lt
 
-all_then : {X : Type 0} (P Q : X → Type 0) → ((x : X) → P x → Q x) → (xs : List X) → All P xs → All Q xs
-all_then P Q then [] all = All-nil Q
-all_then P Q then (x ∷ xs) all = All-cons Q x xs (then x (All-head P x xs all)) (all_then P Q then xs (All-tail P x xs all))
+  sum_is : (xs : List X) → All (λ x. n x < many) xs → sum_by (λ s. length (filter (λ x. p x && is_it (found x) s) xs)) (range_with_len 0 many) ≡ length (filter p xs)
+  sum_is xs all =
+      sum_kept (λ s x. p x && is_it (found x) s) p many xs
+      (all_then (λ x. n x < many) (λ x. sum_by (λ s. once (p x && is_it (found x) s)) (range_with_len 0 many) ≡ once (p x)) is_once xs all)
 
 module _ (protocol : Protocol) (shape : Extent) (frames : List Frame) (final : Situation) (run : FramesFrom (reset protocol shape) frames final) where
-  whole : items_in frames ≡ final.log
+  pub whole : items_in frames ≡ final.log
   whole = sym (logged frames (reset protocol shape) final run)
 
   module _ (whose : Subjects) (many : ℕ) (n : Item → ℕ) (within : All (λ entry. n entry < many) final.log) where
-    sum_total : (c : Count) → ((entry : Item) → subject_of whose c (happening.Item entry) ≡ Some (n entry)) → counts_lines c ≡ false → ((state : CacheState) (event : CacheEvent) → counts_row c state event ≡ false)
+    pub sum_total : (c : Count) → ((entry : Item) → subject_of whose c (happening.Item entry) ≡ Some (n entry)) → counts_lines c ≡ false → ((state : CacheState) (event : CacheEvent) → counts_row c state event ≡ false)
         → ((cause : Refused) → counts_refusal c cause ≡ false) → ((cause : Cause) → counts_cause c cause ≡ false) → sum_of whose many (happenings frames) c ≡ how_many (counts_item c) final.log
     sum_total c is of_lines of_rows of_refusals of_causes =
         let all : All (λ entry. n entry < many) (items_in frames) = subst (All (λ entry. n entry < many)) (sym whole) within in

@@ -7,13 +7,13 @@ use Rattle.snoop_history.specs.Totals.{totals_of}
 use Rattle.snoop_history.specs.declared.items.Item.{Item}
 use Rattle.snoop_history.specs.declared.items.Totals.{Totals}
 use Rattle.snoop_engine.specs.Frames.{Frame}
-use Rattle.snoop_counts.specs.Counted.{times}
+use Rattle.snoop_counts.specs.Counted.{place_of_word, times}
 use Rattle.snoop_counts.specs.Happenings.{happenings, seen_after}
 use Rattle.snoop_counts.specs.declared.count.Count.{Count}
 use Rattle.snoop_counts.specs.declared.count.Count.TheVariants as count
 use Rattle.snoop_counts.specs.declared.count.Happening.{Happening}
 use Rattle.snoop_counts.specs.declared.count.Subjects.{Subjects}
-use Rattle.snoop_counts.specs.declared.count.Subjects.TheVariants.{Blocks, Cores}
+use Rattle.snoop_counts.specs.declared.count.Subjects.TheVariants.{Blocks, Cores, Words}
 
 -- the sum of a count over so many subjects
 abbrev pub sum_of : Subjects → ℕ → List Happening → Count → ℕ
@@ -54,3 +54,19 @@ abbrev pub PartsAddUp : Type 0
 PartsAddUp =
     (earlier first rest : List Frame) (whose : Subjects) (subject : ℕ) (counted : Count)
     → times whose (seen_after earlier (first ++ rest)) subject counted ≡ times whose (seen_after earlier first) subject counted + times whose (seen_after (earlier ++ first) rest) subject counted
+
+-- over all cores, what cores do to others has the sum of what others do to them
+pub record DoneIsSuffered (shape : Extent) (frames : List Frame) : Type 0 where
+  pub invalidates : sum_of Cores shape.cores (happenings frames) count.Invalidates ≡ sum_of Cores shape.cores (happenings frames) count.Invalidated
+  pub supplied : sum_of Cores shape.cores (happenings frames) count.Supplied ≡ sum_of Cores shape.cores (happenings frames) count.FromCaches
+
+-- the sum of a count over the words of a block
+abbrev pub sum_of_words : Extent → List Happening → ℕ → Count → ℕ
+sum_of_words shape seen block counted = sum_by (λ word. times (Words shape.words) seen (place_of_word shape.words block word) counted) (range_with_len 0 shape.words)
+
+-- over the words of a block, the counts of the words have the sums that the block has
+pub record WordsAddUp (shape : Extent) (seen : List Happening) (block : ℕ) : Type 0 where
+  pub loads : sum_of_words shape seen block count.Loads ≡ times Blocks seen block count.Loads
+  pub load_hits : sum_of_words shape seen block count.LoadHits ≡ times Blocks seen block count.LoadHits
+  pub stores : sum_of_words shape seen block count.Stores ≡ times Blocks seen block count.Stores
+  pub store_hits : sum_of_words shape seen block count.StoreHits ≡ times Blocks seen block count.StoreHits

@@ -1,6 +1,6 @@
 -- For which cores something of each block, or each word, was counted.
 -- Source: this project's profile.
-use Rattle.std.specs.Prelude.{◌≡◌, ◌<◌, ℕ, ◌&&◌, Bool, true, List, filter, length}
+use Rattle.std.specs.Prelude.{◌≡◌, ◌<◌, ℕ, ◌&&◌, Bool, List, filter, length}
 use Rattle.std.specs.List.{list_any, range_with_len}
 use Rattle.snoop_blocks.specs.CoreSet.{has, set_of}
 use Rattle.snoop_counts.specs.Counted.{is_counted}

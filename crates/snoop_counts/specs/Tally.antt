@@ -1,12 +1,15 @@
 -- Counters, a row of them for each core or block, and what they have counted.
 -- Source: this project's profile.
-use Rattle.std.specs.Prelude.{◌≡◌, ◌<◌, ℕ, ◌+◌, true, false, List, [], ◌∷◌, length, Option, Some, None, replicate, set, slice_get, slice_index, slice_index_or, slice_set, if◌then◌else◌}
+use Rattle.std.specs.Prelude.{◌≡◌, ◌<◌, ℕ, ◌+◌, true, false, List, [], ◌∷◌, ◌++◌, length, Option, Some, None, Ok, Err, replicate, set, slice_get, slice_index, slice_index_or, slice_set, if◌then◌else◌}
+use Rattle.std.specs.List.{fold}
 use Rattle.std.specs.Option.{option_map_or}
 use Rattle.snoop_history.specs.Totals.{capped}
+use Rattle.snoop_history.specs.declared.items.Item.TheVariants as item
 use Rattle.snoop_counts.specs.Counted.{counted_of, counts, is_named, subject_of}
 use Rattle.snoop_counts.specs.declared.count.Count.{Count}
 use Rattle.snoop_counts.specs.declared.count.Count.TheVariants as count
 use Rattle.snoop_counts.specs.declared.count.Happening.{Happening}
+use Rattle.snoop_counts.specs.declared.count.Happening.TheVariants as happening
 use Rattle.snoop_counts.specs.declared.count.Subjects.{Subjects}
 use Rattle.snoop_counts.specs.declared.tally.Counters.{Counters}
 use Rattle.snoop_counts.specs.declared.tally.Tally.{Tally}
@@ -45,14 +48,6 @@ number count.NoTransaction = 28
 number count.Lines = 29
 number count.Operations = 30
 
--- all counts, by their places
-abbrev pub all_counts : List Count
-all_counts =
-    count.Loads ∷ count.LoadHits ∷ count.Stores ∷ count.StoreHits ∷ count.GetS ∷ count.GetM ∷ count.PutM ∷ count.FromMemory ∷ count.FromCaches ∷ count.Writebacks ∷ count.Clean ∷ count.Stale
-    ∷ count.Misses ∷ count.Cold ∷ count.GivenUp ∷ count.TrueSharing ∷ count.FalseSharing
-    ∷ count.Upgrades ∷ count.UpgradesLost ∷ count.Invalidated ∷ count.Taken ∷ count.Downgraded ∷ count.Overtaken ∷ count.Invalidates ∷ count.Supplied
-    ∷ count.Stalled ∷ count.BusTaken ∷ count.NothingWaiting ∷ count.NoTransaction ∷ count.Lines ∷ count.Operations ∷ []
-
 -- what a row has of a count
 abbrev pub counter_in : Counters → Count → ℕ
 counter_in row counted = slice_index row.counters (number counted)
@@ -65,13 +60,61 @@ empty_row = record { counters = replicate 31 0 }
 abbrev pub raised_row : Count → Counters → Counters
 raised_row counted row = record { counters = set row.counters (number counted) (capped (counter_in row counted + 1)) }
 
+-- the row with one more of a count, if it counts what has happened
+abbrev pub raised_if : Happening → Counters → Count → Counters
+raised_if seen row counted = if counts counted seen then raised_row counted row else row
+
+-- the row after something has happened, by these counts alone
+abbrev pub raised_all : List Count → Happening → Counters → Counters
+raised_all list seen row = fold (raised_if seen) row list
+
+-- the rows where that of the subject goes on, if it has one
+abbrev pub changed : List Counters → ℕ → (Counters → Counters) → List Counters
+changed rows subject next = option_map_or (λ row. slice_set rows subject (next row)) (slice_get rows subject) rows
+
 -- the rows with one more of a count of the subject, if it has a row
 abbrev pub raised : List Counters → ℕ → Count → List Counters
-raised rows subject counted = option_map_or (λ row. slice_set rows subject (raised_row counted row)) (slice_get rows subject) rows
+raised rows subject counted = changed rows subject (raised_row counted)
 
 -- the rows after something has happened, by this count alone
 abbrev pub raised_by : Subjects → Count → Happening → List Counters → List Counters
 raised_by whose counted seen rows = if counts counted seen then option_map_or (λ subject. raised rows subject counted) (subject_of whose counted seen) rows else rows
+
+-- the counts that may count an operation
+abbrev pub of_operations : List Count
+of_operations = count.Loads ∷ count.LoadHits ∷ count.Stores ∷ count.StoreHits ∷ count.Operations ∷ []
+
+-- the counts that may count a request that was ordered
+abbrev pub of_requests : List Count
+of_requests = count.GetS ∷ count.GetM ∷ count.PutM ∷ []
+
+-- the counts that may count a response, for whom it was sent to
+abbrev pub of_responses : List Count
+of_responses = count.FromMemory ∷ count.FromCaches ∷ count.Writebacks ∷ count.Clean ∷ count.Stale ∷ []
+
+-- the counts that may count a line, for whom it names: of a step that was taken, and that is no miss
+abbrev pub of_rows : List Count
+of_rows = count.Lines ∷ count.Misses ∷ count.Upgrades ∷ count.UpgradesLost ∷ count.Invalidated ∷ count.Taken ∷ count.Downgraded ∷ count.Overtaken ∷ []
+
+-- the same of any line
+abbrev pub of_lines : List Count
+of_lines =
+    count.Lines ∷ count.Misses ∷ count.Upgrades ∷ count.UpgradesLost ∷ count.Invalidated ∷ count.Taken ∷ count.Downgraded ∷ count.Overtaken
+    ∷ count.Cold ∷ count.GivenUp ∷ count.TrueSharing ∷ count.FalseSharing ∷ count.Stalled ∷ count.BusTaken ∷ count.NothingWaiting ∷ count.NoTransaction ∷ []
+
+-- the counts that may count it, but for `Invalidates` and `Supplied`
+abbrev pub tried : Happening → List Count
+tried (happening.Item (item.Did did)) = of_operations
+tried (happening.Item (item.Sent sent)) = of_requests
+tried (happening.Item (item.Came came None)) = of_responses
+tried (happening.Item (item.Came came (Some did))) = of_responses ++ of_operations
+tried (happening.Line step (Ok answer) line None) = of_rows
+tried (happening.Line step (Ok answer) line (Some cause)) = of_lines
+tried (happening.Line step (Err refused) line why) = of_lines
+
+-- the rows after something has happened, by these counts
+abbrev pub own_raised : Subjects → Happening → List Counters → List Counters
+own_raised whose seen rows = option_map_or (λ subject. changed rows subject (raised_all (tried seen) seen)) (subject_of whose count.Lines seen) rows
 
 -- the row of a subject
 abbrev pub row_at : List Counters → ℕ → Counters

@@ -1,6 +1,6 @@
 -- What the table by word has counted.
 -- Source: this project's profile.
-use Rattle.std.specs.Prelude.{ℕ, ◌*◌, List}
+use Rattle.std.specs.Prelude.{◌*◌, List}
 use Rattle.snoop_trace.specs.Extent.{Extent}
 use Rattle.snoop_counts.specs.Sharers.{HasMarked}
 use Rattle.snoop_counts.specs.Tally.{HasCounted}

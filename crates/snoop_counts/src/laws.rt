@@ -1,8 +1,9 @@
 //! What holds of all tables of counts. These functions do nothing: a proof calls them for what they ensure.
-ghost use Rattle.std.specs.Prelude.{List};
+ghost use Rattle.std.specs.Prelude.{List, ℕ};
 ghost use Rattle.snoop_model.specs.Pictures.Situation.{reset};
 ghost use Rattle.snoop_engine.specs.Frames.{Frame, FramesFrom};
-ghost use Rattle.snoop_counts.specs.Laws.{CausesAreAll, PartsAddUp, SumsAreTotals};
+ghost use Rattle.snoop_counts.specs.Laws.{CausesAreAll, DoneIsSuffered, PartsAddUp, SumsAreTotals, WordsAddUp};
+ghost use Rattle.snoop_counts.specs.Happenings.{happenings};
 
 use snoop_machine::Machine;
 
@@ -24,5 +25,24 @@ pub fn sums(machine: &Machine)
     ensures { (frames : List Frame) → FramesFrom (reset machine.now.situation.protocol machine.now.situation.shape) frames machine.now.situation
         → SumsAreTotals machine.now.situation.shape frames machine.now.situation.log }
 {
+    machine.log().kept();
+}
+
+/// Of a machine that some steps have led to: over all cores, `invalidates` has the sum of `invalidated`, and `supplied` that
+/// of `from_caches`.
+pub fn others(machine: &Machine)
+    ensures { (frames : List Frame) → FramesFrom (reset machine.now.situation.protocol machine.now.situation.shape) frames machine.now.situation
+        → DoneIsSuffered machine.now.situation.shape frames }
+{
+    machine.log().kept();
+}
+
+/// Of a machine that some steps have led to: over the words of each block, the counts of the words have the sums that the block
+/// has.
+pub fn words(machine: &Machine)
+    ensures { (frames : List Frame) → FramesFrom (reset machine.now.situation.protocol machine.now.situation.shape) frames machine.now.situation
+        → (block : ℕ) → WordsAddUp machine.now.situation.shape (happenings frames) block }
+{
+    machine.shape().within_limits();
     machine.log().kept();
 }

@@ -1,4 +1,3 @@
-use Rattle.std.proofs.Common.{◌≡◌, ℕ, ap, ◌∙◌, arith}
 use Rattle.snoop_engine.proofs.RangeLemmas.{range_piece}
 use Rattle.snoop_counts.specs.ByWord.{word_line}
 use Rattle.snoop_counts.proofs.word_table.push_words.Goals as goal

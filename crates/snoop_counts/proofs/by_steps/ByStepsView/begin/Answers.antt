@@ -1,4 +1,4 @@
-use Rattle.std.proofs.Common.{List, [], ◌%◌, refl, subst, sym}
+use Rattle.std.proofs.Common.{List, ◌%◌, refl, subst, sym}
 use Rattle.std.specs.Int.NonZero.{non_zero_u64_get}
 use Rattle.std.proofs.lemmas.Result.{on_ok_weaker}
 use Rattle.snoop_counts.specs.Tally.{HasCounted}

@@ -9,7 +9,6 @@ use Rattle.snoop_engine.specs.Frames.{Frame}
 use Rattle.snoop_engine.specs.Views.{frame_seen}
 use Rattle.snoop_engine.specs.declared.taken.Taken.{Taken}
 use Rattle.snoop_counts.specs.Causes.{cause_of, item_of, operation_in}
-use Rattle.snoop_counts.specs.declared.count.Happening.{Happening}
 use Rattle.snoop_counts.specs.declared.count.Happening.TheVariants as happening
 use Rattle.snoop_counts.proofs.CauseLemmas.{led_by_last}
 use Rattle.snoop_counts.proofs.watch.Watch.see.Goals as goal
