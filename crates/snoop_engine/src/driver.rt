@@ -163,6 +163,7 @@ impl Driver {
     }
 
     /// Takes the next step, and answers it with its reply; `None` once every row is done. After `NoMemory` the run can't go on.
+    #[inline(always)]
     pub(crate) fn next(&mut self) -> Result<Option<(Step, Reply)>, NoMemory>
         ensures step { IfOk result (λ taken. IfSome taken (λ t. Follows self.old t.0 t.1 self.new)) }
         ensures done { IfOk result (λ taken. IfNone taken (IsDone self.old self.new)) }

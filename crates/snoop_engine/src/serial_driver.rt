@@ -123,6 +123,7 @@ impl<'a> SerialDriver<'a> {
     }
 
     /// Takes the next step, and answers it with its reply; `None` once every row is served. After `NoMemory` the run can't go on.
+    #[inline(always)]
     pub(crate) fn next(&mut self) -> Result<Option<(Step, Reply)>, NoMemory>
         ensures step { IfOk result (λ taken. IfSome taken (λ t. FollowsInOrder self.old t.0 t.1 self.new)) }
         ensures done { IfOk result (λ taken. IfNone taken (IsDoneInOrder self.old self.new)) }
