@@ -5,8 +5,8 @@
 pub enum Input {
     /// Steps, taken as they stand.
     Steps,
-    /// Rows of cores that go side by side: the steps are those of `simulate_run`.
+    /// Rows of cores that go side by side: the steps serve them. That they are those of `simulate_run` is tested.
     Rows,
-    /// Rows that are served one after another: the steps are those of `simulate_serial`.
+    /// Rows that are served one after another, in the order of the text.
     SerialRows,
 }

@@ -23,7 +23,8 @@ use snoop_trace::{NoMemory, Shape};
 use std::alloc::Global;
 
 /// Reads a text to its end, takes the steps that come of it in order on a machine at reset, for the protocol and the shape, and writes
-/// a line for each controller that takes a row of its table at one of the steps that are shown. A step that is refused
+/// a line for each controller that takes a row of its table at one of the steps that are shown, but for cores in I at an Order,
+/// and a line for a step at which no controller takes one. A step that is refused
 /// because it is out of memory ends the simulation.
 pub fn simulate_states<R: Source, W: Sink>(
     alloc: Global,

@@ -16,7 +16,7 @@ use Rattle.snoop_model.specs.Pictures.Situation.{Situation, picture_of, state_of
 use Rattle.snoop_model.specs.Pictures.OneWriter.{OneWriter}
 use Rattle.snoop_model.specs.Pictures.Sound.{IsProper}
 use Rattle.snoop_model.specs.Pictures.InQueue.{IsInQueue}
-use Rattle.snoop_model.specs.Moves.Move.{IsWithin, Orders, Move}
+use Rattle.snoop_model.specs.Moves.Move.{IsWithin, Orders, FirstMove}
 use Rattle.snoop_model.specs.Moves.Refuses.{Refuses}
 use Rattle.snoop_model.specs.Moves.SenderTable.{IsLine, IsOpenByTable}
 use Rattle.snoop_model.specs.Runs.Once.{Once}
@@ -37,8 +37,8 @@ pub record IsCoherent (s : Situation) : Type 0 where
   pub memory : (block : ℕ) → block < s.shape.blocks → ((core : ℕ) → ¬ MayStore s.protocol (state_of s core block)) → data_under_way (picture_of s block).transaction ≡ None → (picture_of s block).memory.value ≡ flat_words s.log block
   -- a block's open transaction is of this block, by a core of the machine
   pub opened : (block : ℕ) → IfSome (picture_of s block).transaction (λ transaction. (transaction.block ≡ block) × (transaction.core < s.shape.cores))
-  -- no step is stuck at an impossible cell: each that is not refused is a move, in which every controller takes its row
-  pub moves : (step : Step) → ((cause : Refused) → ¬ Refuses s step cause) → (answer : Reply) × ((new : Situation) × ((entry : Option Item) × Move s step answer new entry))
+  -- no step is stuck at an impossible cell: each that is not refused is a move, an Order's on the first block of its core's queue, in which every controller takes its row
+  pub moves : (step : Step) → ((cause : Refused) → ¬ Refuses s step cause) → (answer : Reply) × ((new : Situation) × ((entry : Option Item) × FirstMove s step answer new entry))
   -- so is an Order of a waiting request of any free block: each controller takes its row for it, and exactly one sends
   pub orders : (core block : ℕ) (request : Request) → CanOrder s core block request → (new : Situation) × Orders s core block request new
   -- each Order that is taken next, of any block, is a line of the table of senders

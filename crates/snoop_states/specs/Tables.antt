@@ -46,7 +46,7 @@ abbrev pub led_to : Situation → List Frame → Situation
 led_to here [] = here
 led_to here (frame ∷ frames) = led_to frame.after frames
 
--- the machine before the first step that is shown
+-- the machine before the first step that is chosen
 abbrev pub first_shown : Chosen → Protocol → Extent → List Frame → Situation
 first_shown choice protocol shape frames = led_to (reset protocol shape) (take (choice.from - 1) frames)
 
@@ -61,7 +61,7 @@ rows_text widths shape block columns above (n ∷ ns) =
 abbrev pub first_line : ℕ → List ℕ
 first_line from = if from == 1 then codes "at reset\n" else codes "before\n"
 
--- the first row, with nothing above it: the block before the first step that is shown
+-- the first row, with nothing above it: the block before the first step that is chosen
 abbrev pub first_row : Widths → Chosen → ℕ → List Column → Situation → List ℕ
 first_row widths choice block columns start = cells_text widths columns (λ column. []) (cell_text start block) (choice.from - 1) ++ first_line choice.from
 

@@ -40,7 +40,7 @@ use Rattle.snoop_model.specs.declared.replies.Refused.{Refused}
 use Rattle.snoop_model.specs.Pictures.Picture.{Picture, held_at, held_by}
 use Rattle.snoop_model.specs.Pictures.Situation.{Situation, picture_of, state_of, Waits, CanOrder, StandsFirst}
 use Rattle.snoop_model.specs.Pictures.Sound.{keeps, request_for, missed_request, IsProper}
-use Rattle.snoop_model.specs.Moves.Move.{Orders, IsFillFor, Move, IsWithin}
+use Rattle.snoop_model.specs.Moves.Move.{Orders, IsFillFor, FirstMove, IsWithin}
 use Rattle.snoop_model.specs.Runs.Run.{GoesFirst, FirstRunFrom}
 use Rattle.snoop_model.specs.Moves.Refuses.{Refuses, WaitsOnNone}
 use Rattle.snoop_model.specs.Pictures.InQueue.{IsInQueue}
@@ -325,12 +325,12 @@ leads_on s g heads (Ask core block word asking) = ask_leads s g core block word 
 leads_on s g heads (Order core) = order_leads s g heads core
 leads_on s g heads (Respond block) = respond_leads s g block
 
--- a step that is not refused is a move
-pub moves_on : (s : Situation) → Invariant s → HeadsWait s → (step : Step) → ((cause : Refused) → ¬ Refuses s step cause) → (answer : Reply) × ((new : Situation) × ((entry : Option Item) × Move s step answer new entry))
+-- a step that is not refused is a move, an Order's on the first block of its core's queue
+pub moves_on : (s : Situation) → Invariant s → HeadsWait s → (step : Step) → ((cause : Refused) → ¬ Refuses s step cause) → (answer : Reply) × ((new : Situation) × ((entry : Option Item) × FirstMove s step answer new entry))
 moves_on s g heads step allowed = let on = leads_on s g heads step in go on.outcome on.new on.goes
   where
-    go : (outcome : Result Reply Refused) (new : Situation) → GoesFirst s step outcome new → (answer : Reply) × ((new : Situation) × ((entry : Option Item) × Move s step answer new entry))
-    go (Ok answer) new goes = (answer, (new, (goes.0, (goes.1.0, goes.1.1.1))))
+    go : (outcome : Result Reply Refused) (new : Situation) → GoesFirst s step outcome new → (answer : Reply) × ((new : Situation) × ((entry : Option Item) × FirstMove s step answer new entry))
+    go (Ok answer) new goes = (answer, (new, goes))
     go (Err cause) new goes = absurd (allowed cause goes.0)
 
 -- what every run keeps

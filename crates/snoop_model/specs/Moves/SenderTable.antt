@@ -33,7 +33,7 @@ pub record FollowsSenderTable (protocol : Protocol) (before : Picture) (core : â
   pub ordered : TakesMemRow protocol (at_memory request) before.memory.state next
   pub is_line : IsLine protocol before core request from payload next
 
--- the open transaction is on a line of the table, that of an Order of this request by this core from some picture, with memory's state now; and a Respond taken next closes it and leaves memory in that line's last state
+-- the open transaction is on a line of the table, with this core as requestor, memory's state and the sender's in some picture, and memory's state now; and a Respond taken next closes it and leaves memory in that line's last state
 pub record IsOpenByTable (s : Situation) (block : â„•) (transaction : Open) : Type 0 where
   pub before : Picture
   pub on_line : IsLine s.protocol before transaction.core transaction.request transaction.from transaction.payload (picture_of s block).memory.state
