@@ -149,6 +149,7 @@ impl Driver {
     }
 
     /// Takes the step.
+    #[inline(always)]
     fn take(&mut self, step: Step) -> Result<Reply, NoMemory>
         requires under_way { IsUnderWay (under_way self.old.lanes) step }
         requires enabled { IsEnabled self.old.situation step }

@@ -109,6 +109,7 @@ impl<'a> SerialDriver<'a> {
     }
 
     /// Takes the step.
+    #[inline(always)]
     fn take(&mut self, step: Step) -> Result<Reply, NoMemory>
         requires under_way { IsUnderWay (under_way self.old.situation.shape self.old.row) step }
         requires enabled { IsEnabled self.old.situation step }
