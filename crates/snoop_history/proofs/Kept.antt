@@ -1,7 +1,7 @@
 -- What a log's board says of its items.
-use Rattle.std.proofs.Common.{◌≡◌, ℕ, suc, ◌^◌, ◌<◌, ◌≤◌, List, [], ◌∷◌, ◌++◌, length, Option, Some, None, arith, refl, sym, ap, ◌∙◌, map, get_or}
+use Rattle.std.proofs.Common.{◌≡◌, ℕ, suc, ◌^◌, ◌<◌, ◌≤◌, List, [], ◌∷◌, ◌++◌, length, Option, Some, None, arith, refl, sym, ap, ◌∙◌, map, get_or, subst}
 use Rattle.std.specs.Prelude.{All, IfSome, slice_get, nat_lt, is_some, ◌&&◌, if◌then◌else◌}
-use Rattle.std.specs.Option.{option_map}
+use Rattle.std.specs.Option.{ForSome, option_map}
 use Rattle.std.proofs.lemmas.Bool.{ltb-true}
 use Rattle.std.proofs.lemmas.Option.{slice_get_read, slice_get-map}
 use Rattle.std.specs.List.{filter_map}
@@ -9,17 +9,44 @@ use Rattle.snoop_history.specs.declared.items.Did.{Did}
 use Rattle.snoop_history.specs.declared.items.Item.{Item}
 use Rattle.snoop_history.specs.declared.items.Totals.{Totals}
 use Rattle.snoop_history.specs.History.{next_number, flat, last_of, IsNumbered}
-use Rattle.snoop_history.specs.Within.{IsWithin, inside}
+use Rattle.snoop_history.specs.Within.{HasOwnOperation, IsWithin, inside}
 use Rattle.snoop_history.specs.Totals.{totals_of, touched, capped, capped_totals}
 use Rattle.snoop_history.specs.Journal.{Journal}
 use Rattle.snoop_history.specs.Board.{Tables, board_of}
-use Rattle.snoop_history.specs.Packed.{unpacked}
+use Rattle.snoop_history.specs.declared.packed.Kind.{Kind}
+use Rattle.snoop_history.specs.declared.packed.Kind.TheVariants as kind
+use Rattle.snoop_history.specs.Packed.{NumberFits, item_of, operation_in, unpacked}
 use Rattle.snoop_history.specs.declared.packed.Packed.{Packed}
 use Rattle.snoop_history.specs.Kept.{IsKept}
-use Rattle.snoop_history.proofs.Pushed.{next_number-few, totals-few}
+use Rattle.snoop_history.proofs.Pushed.{next_number-few, next_number_le, totals-few}
 use Rattle.snoop_history.proofs.Legal.{listed-push}
 use Rattle.snoop_history.proofs.Boards.{inside_all, board_lengths}
 use Rattle.snoop_history.proofs.Touching.{all_places, touched_within}
+
+-- the number of an operation that may come next in a short list
+pub numbers_fit : (items : List Item) (entry : Item) → IsNumbered items entry → length items < 2 ^ 40 → NumberFits entry
+numbers_fit items entry numbered few did is = omega (arith, numbered did is, next_number_le items did.core, few)
+
+-- what a packed item stands for has its own operation
+own-here : (p : Packed) → ForSome (Some (operation_in p)) (λ did. (did.core ≡ p.core) × (did.block ≡ p.block))
+own-here p did is =
+    let same : operation_in p ≡ did = cc in
+    subst (λ (d : Did). (d.core ≡ p.core) × (d.block ≡ p.block)) same (refl, refl)
+
+own-by : (k : Kind) (p : Packed) → HasOwnOperation (item_of k p)
+own-by kind.Sent p = λ did is. cc
+own-by kind.Came p = λ did is. cc
+own-by kind.LoadHit p = own-here p
+own-by kind.LoadMiss p = own-here p
+own-by kind.StoreHit p = own-here p
+own-by kind.StoreMiss p = own-here p
+own-by kind.CameLoadHit p = own-here p
+own-by kind.CameLoadMiss p = own-here p
+own-by kind.CameStoreHit p = own-here p
+own-by kind.CameStoreMiss p = own-here p
+
+pub own-unpacked : (p : Packed) → HasOwnOperation (unpacked p)
+own-unpacked p = own-by p.kind p
 
 -- what a `get` found, read by a function of it
 pub read-at : {A B : Type 0} (now : B → A) (xs : List A) (place : ℕ) (got : Option B) (x : A) → is_some got ≡ nat_lt place (length xs) → IfSome got (λ y. now y ≡ get_or xs place (now y)) →

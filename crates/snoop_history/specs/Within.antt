@@ -1,6 +1,6 @@
 -- Which core and block an item is of, and which items lie within a shape.
 -- Source: this project's profile.
-use Rattle.std.specs.Prelude.{ℕ, ◌<◌, Bool, true, ◌&&◌, List, filter, nat_lt}
+use Rattle.std.specs.Prelude.{◌≡◌, ℕ, ◌<◌, Bool, true, ◌&&◌, ◌==◌, List, filter, nat_lt}
 use Rattle.std.specs.Option.{option_map_or, ForSome}
 use Rattle.snoop_history.specs.declared.items.Item.{Item}
 use Rattle.snoop_history.specs.declared.items.Item.TheVariants as item
@@ -29,6 +29,14 @@ abbrev pub is_within : ℕ → ℕ → ℕ → Item → Bool
 is_within cores blocks words entry =
     nat_lt (core_of entry) cores && nat_lt (block_of entry) blocks
     && option_map_or (λ did. nat_lt did.core cores && nat_lt did.block blocks && nat_lt did.word words) (operation_of entry) true
+
+-- the item's operation, if it has one, is of the item's core and block
+abbrev pub HasOwnOperation : Item → Type 0
+HasOwnOperation entry = ForSome (operation_of entry) (λ did. (did.core ≡ core_of entry) × (did.block ≡ block_of entry))
+
+-- the same as a test
+abbrev pub has_own_operation : Item → Bool
+has_own_operation entry = option_map_or (λ did. did.core == core_of entry && did.block == block_of entry) (operation_of entry) true
 
 -- the items of a list that lie within the shape
 abbrev pub inside : ℕ → ℕ → ℕ → List Item → List Item

@@ -1,7 +1,7 @@
 //! What happens in a machine, as its history has it.
 ghost use Rattle.std.specs.Prelude.{◌≡◌};
 ghost use Rattle.snoop_history.specs.History.{operation_of};
-ghost use Rattle.snoop_history.specs.Within.{core_of, block_of, is_within};
+ghost use Rattle.snoop_history.specs.Within.{core_of, block_of, has_own_operation, is_within};
 ghost use Rattle.snoop_history.specs.Board.{operation_within};
 
 use snoop_rules::{Payload, Request};
@@ -100,6 +100,15 @@ impl Item {
             && self
                 .did()
                 .is_none_or(|did| lies(did.core, did.block) && did.word < words)
+    }
+
+    /// Whether the item's operation, if it has one, is of the item's core and block.
+    pub(crate) fn has_own_operation(self) -> bool
+        ensures { result ≡ has_own_operation self }
+    {
+        let (core, block) = (self.core(), self.block());
+        self.did()
+            .is_none_or(|did| did.core == core && did.block == block)
     }
 
     /// The operation of an item within the shape.

@@ -1,7 +1,7 @@
 //! The history of a machine.
 ghost use Rattle.std.specs.Prelude.{All, ◌&&◌, ◌==◌, ◌≡◌, ◌-◌, ◌<◌, ◌≤◌, ◌↔◌, [], ◌∷◌, ◌++◌, length, take, IsTrue, IfOk, IfSome, OnOk, OnErr, Some, None, slice_get, if◌then◌else◌, nat_lt};
 ghost use Rattle.snoop_history.specs.History.{next_number, flat, answers_of, last_of, IsNumbered};
-ghost use Rattle.snoop_history.specs.Within.{IsWithin};
+ghost use Rattle.snoop_history.specs.Within.{HasOwnOperation, IsWithin};
 ghost use Rattle.snoop_history.specs.Totals.{totals_of, touched};
 
 use crate::board::Board;
@@ -11,6 +11,9 @@ use crate::touched::TouchedBlocks;
 use snoop_trace::{NoMemory, Shape};
 use std::alloc::Global;
 use std::marker::Model;
+
+/// How many items a log may have: the number of an operation is kept in five bytes. They take 26 TB.
+const MOST_ITEMS: usize = 1 << 40;
 
 /// The history of a machine: the items of its steps in order, with their board and the blocks that they mention,
 /// so that none is worked out anew.
@@ -55,6 +58,9 @@ impl Log {
         ensures full { OnErr result (self.old.room ≡ 0) }
         ensures room { self.old.room ≤ self.new.room }
     {
+        if self.len() >= MOST_ITEMS {
+            return Err(NoMemory);
+        }
         self.items.reserve(1)?;
         Ok(())
     }
@@ -63,7 +69,7 @@ impl Log {
     pub fn has_room(&self) -> bool
         ensures { IsTrue result ↔ (0 < self.now.room) }
     {
-        self.len() < self.items.capacity()
+        self.len() < self.items.capacity() && self.len() < MOST_ITEMS
     }
 
     /// How many items there are.
@@ -84,6 +90,8 @@ impl Log {
     pub fn item(&self, place: usize) -> Option<Item>
         ensures value { result ≡ slice_get self.now.items place }
         ensures within { IfSome result (λ entry. IsWithin self.now.cores self.now.blocks self.now.words entry) }
+
+        ensures own { IfSome result HasOwnOperation }
 
         // The k-th operation of a core, from 0, carries number k.
         ensures numbered { IfSome result (λ entry. IsNumbered (take place self.now.items) entry) }
@@ -195,17 +203,19 @@ impl Log {
         true
     }
 
-    /// Whether `push` may take the item, room aside: it lies within the shape, and an operation carries its
-    /// core's `count` as its number.
+    /// Whether `push` may take the item, room aside: it lies within the shape, and an operation is of the item's
+    /// own core and block, and carries its core's `count` as its number.
     pub fn takes(&self, item: Item) -> bool
-        ensures sound { IsTrue result → IsWithin self.now.cores self.now.blocks self.now.words item × IsNumbered self.now.items item }
-        ensures whole { IsWithin self.now.cores self.now.blocks self.now.words item → IsNumbered self.now.items item → IsTrue result }
+        ensures sound { IsTrue result → IsWithin self.now.cores self.now.blocks self.now.words item × IsNumbered self.now.items item × HasOwnOperation item }
+        ensures whole { IsWithin self.now.cores self.now.blocks self.now.words item → IsNumbered self.now.items item → HasOwnOperation item → IsTrue result }
     {
         let numbered = match item.did() {
             Some(did) => self.is_next(did),
             None => true,
         };
-        numbered && item.is_within(self.board.cores(), self.board.blocks(), self.board.words())
+        numbered
+            && item.has_own_operation()
+            && item.is_within(self.board.cores(), self.board.blocks(), self.board.words())
     }
 
     // Whether the operation carries its core's next number.
@@ -224,6 +234,7 @@ impl Log {
         requires room { 0 < self.old.room }
         requires within { IsWithin self.old.cores self.old.blocks self.old.words item }
         requires numbered { IsNumbered self.old.items item }
+        requires own { HasOwnOperation item }
         ensures { self.new ≡ record self.old { items = self.old.items ++ item ∷ []; room = self.old.room - 1 } }
     {
         self.board.absorb(item);

@@ -258,16 +258,6 @@ block 3 value 18446744073709551615
 block 0 value 0
 ";
 
-const OF_ANOTHER_BLOCK: &str = "\
-loads 0 hits 0
-stores 1 hits 0
-GetS 0 GetM 0 PutM 0
-from memory 1 from caches 0
-writebacks 0 clean 0 stale 0
-block 0 value 0
-block 1 value 7
-";
-
 fn report_of(alloc: Global, shape: Shape, items: &[Item]) -> Result<Vec<u8>, Fail> {
     let log = log_of(alloc, shape, items)?;
     let mut report = Vec::new(alloc);
@@ -283,8 +273,8 @@ fn hit(core: u32, block: u32, load: bool, value: u64) -> Item {
     })
 }
 
-// An answer to a request for block 0, with an operation of block 1.
-fn of_another_block() -> Item {
+// An answer to core 0's request for block 0, with a store of this core to this block.
+fn answer_with(core: u32, block: u32) -> Item {
     Item::Came(
         Came {
             core: 0,
@@ -293,7 +283,7 @@ fn of_another_block() -> Item {
             from: None,
             payload: Payload::Data,
         },
-        Some(did(0, 0, 1, false, 7)),
+        Some(did(core, 0, block, false, 7)),
     )
 }
 
@@ -315,12 +305,10 @@ fn reports(rt: HostRuntime) -> Result<(), Fail> {
     look_at_report(alloc, shape, block_boundary().as_slice(), BLOCK_BOUNDARY)?;
     look_at_report(alloc, shape, two_blocks_open().as_slice(), TWO_BLOCKS_OPEN)?;
     look_at_report(alloc, shape, hits.as_slice(), LATER_BLOCK_FIRST)?;
-    look_at_report(
-        alloc,
-        shape,
-        [of_another_block()].as_slice(),
-        OF_ANOTHER_BLOCK,
-    )
+
+    // A log takes no answer with an operation of another core or block.
+    let not_taken = [answer_with(1, 0), answer_with(0, 1)];
+    look_at_report(alloc, shape, not_taken.as_slice(), EMPTY)
 }
 
 // Whether a writer that takes twelve bytes in all is blamed, and holds the beginning of the report.

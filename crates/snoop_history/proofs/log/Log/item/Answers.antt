@@ -6,7 +6,7 @@ use Rattle.snoop_history.specs.Journal.{Journal}
 use Rattle.snoop_history.specs.Packed.{unpacked}
 use Rattle.snoop_history.specs.Within.{IsWithin}
 use Rattle.snoop_history.specs.History.{IsNumbered}
-use Rattle.snoop_history.proofs.Kept.{read-at}
+use Rattle.snoop_history.proofs.Kept.{own-unpacked, read-at}
 use Rattle.snoop_history.proofs.log.Log.item.Goals as goal
 
 pub returns-clause-within : goal.returns-clause-within
@@ -28,3 +28,6 @@ returns-clause-numbered c =
     let item = slice_get-map unpacked l.items.items place ∙ ap (option_map unpacked) there in
     let P : Journal → Type 0 = λ j. IsNumbered (take place j.items) c.unpack.result in
     subst P c.self.view_is (rw c.unpack.ensures (c.self.invariant.kept.listed.in_order place _ item))
+
+pub returns-clause-own : goal.returns-clause-own
+returns-clause-own c = rw c.unpack.ensures (own-unpacked c.in_ok-packed.packed)
