@@ -5,7 +5,7 @@ use Rattle.std.specs.List.{range_with_len}
 use Rattle.std.specs.Option.{option_map_or, ForSome}
 use Rattle.std.proofs.Math.Nat.{div-add-mod, mul_comm}
 use Rattle.std.proofs.lemmas.Nat.{div-mul-add, mod-mul-add, mul-le}
-use Rattle.std.proofs.lemmas.Bool.{cases_eq, cases_lt, eq-eqb, ne_eqb, ltb-true, lt-ltb, le-ltb}
+use Rattle.std.proofs.lemmas.Bool.{cases_eq, cases_lt, eq-eqb, eqb-true, ne_eqb, ltb-true, lt-ltb, le-ltb}
 use Rattle.std.proofs.lemmas.Bool.Decides.{nat_tests}
 use Rattle.std.proofs.lemmas.List.{map-append, length-append, append-nil}
 use Rattle.std.proofs.lemmas.List.FromFn.{length-map-range_with_len, get_or-map-range_with_len}
@@ -14,7 +14,7 @@ use Rattle.snoop_history.specs.declared.items.Did.{Did}
 use Rattle.snoop_history.specs.declared.items.Item.{Item}
 use Rattle.snoop_history.specs.declared.items.Totals.{Totals}
 use Rattle.snoop_history.specs.History.{operation_of, operations, next_number, is_store_to, last_or, flat, last_of}
-use Rattle.snoop_history.specs.Within.{core_of, block_of, IsWithin, is_within, inside}
+use Rattle.snoop_history.specs.Within.{core_of, block_of, HasOwnOperation, IsWithin, has_own_operation, is_within, inside}
 use Rattle.snoop_history.specs.Totals.{totals_of, capped, capped_totals}
 use Rattle.snoop_history.specs.Journal.{counted, tallied}
 use Rattle.snoop_history.specs.Board.{Tables, for_each_below, board_of, operation_within, noted, absorbed, place_of}
@@ -236,6 +236,12 @@ passes-within cores blocks words entry e =
       block = ltb-true (block_of entry) blocks q.1;
       operation = λ did is. lies-within cores blocks words did (ap (λ (o : Option Did). option_map_or (λ d. nat_lt d.core cores && nat_lt d.block blocks && nat_lt d.word words) o true) (sym is) ∙ p.1);
     }
+
+-- an item that passes the test has its own operation
+pub own-passes : (entry : Item) → has_own_operation entry ≡ true → HasOwnOperation entry
+own-passes entry e did is =
+    let p = both (did.core == core_of entry) (did.block == block_of entry) (ap (λ (o : Option Did). option_map_or (λ d. d.core == core_of entry && d.block == block_of entry) o true) (sym is) ∙ e) in
+    (eqb-true did.core (core_of entry) p.0, eqb-true did.block (block_of entry) p.1)
 
 pub operation_within-lies : (cores blocks words : ℕ) (entry : Item) (did : Did) → operation_within cores blocks words entry ≡ Some did → (did.core < cores) × (did.block < blocks) × (did.word < words)
 operation_within-lies cores blocks words entry did is =

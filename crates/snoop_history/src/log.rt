@@ -213,8 +213,9 @@ impl Log {
             Some(did) => self.is_next(did),
             None => true,
         };
+        let own = item.has_own_operation();
         numbered
-            && item.has_own_operation()
+            && own
             && item.is_within(self.board.cores(), self.board.blocks(), self.board.words())
     }
 

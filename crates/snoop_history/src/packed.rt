@@ -174,9 +174,7 @@ impl Packed {
         ensures { unpacked result ≡ item }
     {
         match item {
-            Item::Did(did) => {
-                Packed::of_operation(Kind::of_operation(did.load, did.hit), did)
-            }
+            Item::Did(did) => { Packed::of_operation(Kind::of_operation(did.load, did.hit), did) }
             Item::Sent(sent) => Packed::of_request(sent),
             Item::Came(came, None) => EMPTY.with_response(came),
             Item::Came(came, Some(did)) => {
@@ -250,10 +248,8 @@ impl Packed {
             Kind::LoadHit | Kind::LoadMiss | Kind::StoreHit | Kind::StoreMiss => {
                 Item::Did(self.did())
             }
-            Kind::CameLoadHit
-            | Kind::CameLoadMiss
-            | Kind::CameStoreHit
-            | Kind::CameStoreMiss => Item::Came(self.came(), Some(self.did())),
+            Kind::CameLoadHit | Kind::CameLoadMiss | Kind::CameStoreHit | Kind::CameStoreMiss =>
+                Item::Came(self.came(), Some(self.did())),
         }
     }
 
