@@ -27,7 +27,8 @@ use Rattle.snoop_model.specs.declared.replies.Reply.{Reply}
 use Rattle.snoop_model.specs.declared.replies.Reply.TheVariants as reply
 use Rattle.snoop_model.specs.Pictures.Situation.{Situation, reset, picture_of, state_of}
 use Rattle.snoop_model.specs.Moves.Move.{FirstMove}
-use Rattle.snoop_model.specs.Runs.Once.{did_it, waits_for, asks, same_op, one_if, OnceMore, same_access}
+use Rattle.snoop_model.specs.Runs.Once.{did_it, waits_for, asks, same_op, OnceMore, same_access}
+use Rattle.snoop_model.proofs.Lists.Facts.{one_if}
 use Rattle.snoop_model.specs.Runs.Owed.{IsOwed}
 use Rattle.snoop_model.specs.Turns.Serving.{IsServing, IsUnderWay}
 use Rattle.snoop_model.specs.Invariant.WellKept.{IsWellKept}

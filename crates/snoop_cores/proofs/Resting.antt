@@ -16,7 +16,8 @@ use Rattle.snoop_model.specs.Runs.Safe.{IsSafe}
 use Rattle.snoop_model.specs.Turns.Serving.{IsServing}
 use Rattle.snoop_model.specs.Turns.Quiet.{IsQuiet}
 use Rattle.snoop_model.specs.Turns.TurnRule.{ComesToRest}
-use Rattle.snoop_model.specs.Runs.Once.{asks, did_it, waits_for, same_access, one_if, tally}
+use Rattle.snoop_model.specs.Runs.Once.{asks, did_it, waits_for, same_access, tally}
+use Rattle.snoop_model.proofs.Lists.Facts.{one_if}
 use Rattle.snoop_model.specs.Runs.Run.{AllTaken}
 use Rattle.snoop_trace.specs.declared.step.Work.{Work}
 use Rattle.snoop_bench.specs.Works.{work_at, under_way}

@@ -1,5 +1,5 @@
 -- Only an Ask moves its core out of I.
-use Rattle.std.proofs.Common.{◌≡◌, ℕ, ◌≤◌, Bool, true, false, List, [], length, Some, None, Option, refl, sym, ap, subst, ◌∙◌, inl, inr, arith}
+use Rattle.std.proofs.Common.{◌≡◌, ◌⊎◌, ℕ, ◌≤◌, Bool, true, false, List, [], length, Some, None, Option, refl, sym, ap, subst, ◌∙◌, inl, inr, arith}
 use Rattle.std.specs.Prelude.{◌==◌, ◌&&◌, ◌%◌, IfNone, IfSome, Ok, nat_lt, slice_get, unwrap_or, replicate, slice_index_or, slice_set, if◌then◌else◌}
 use Rattle.std.specs.Option.{option_map_or}
 use Rattle.std.proofs.lemmas.Bool.{cases_lt, le-ltb}
@@ -30,7 +30,7 @@ use Rattle.snoop_model.specs.declared.replies.Reply.{Reply}
 use Rattle.snoop_model.specs.Pictures.Lines.{Line}
 use Rattle.snoop_model.specs.Pictures.Picture.{Picture, held_at, held_by, nothing_held, with_line}
 use Rattle.snoop_model.specs.Pictures.Situation.{Situation, nothing_there, picture_of, reset, state_of, untouched}
-use Rattle.snoop_model.specs.Moves.Move.{ArrivesFor, FillsRequestor, MovesAsk, Orders, Responds}
+use Rattle.snoop_model.specs.Moves.Move.{ArrivesFor, FillsRequestor, IsAbsent, Asks, Orders, Responds}
 use Rattle.snoop_model.specs.Runs.Run.{GoesFirst}
 use Rattle.snoop_model.proofs.Lists.Writes.{set_cases}
 use Rattle.std.proofs.lemmas.Nat.Bits.{bit_at-zero}
@@ -84,7 +84,7 @@ module _ (old new : Situation) (core block : ℕ) (idle : state_of old core bloc
     | inr e ↦ ap (λ (x : Picture). (held_by x core).state) e ∙ idle
   ]
 
-  in_i_after_ask : (asker b word : ℕ) (asking : Op) (answer : Reply) (entry : Option Item) → MovesAsk old asker b word asking answer new entry → (core ≡ asker → block ≡ b → ⊥) → state_of new core block ≡ I
+  in_i_after_ask : (asker b word : ℕ) (asking : Op) (answer : Reply) (entry : Option Item) → IsAbsent old asker b asking answer new entry ⊎ Asks old asker b word asking answer new entry → (core ≡ asker → block ≡ b → ⊥) → state_of new core block ≡ I
   in_i_after_ask asker b word asking answer entry moves another = elim moves [
     | inl absent ↦ ap (λ (s : Situation). state_of s core block) absent.3 ∙ idle
     | inr a ↦

@@ -12,7 +12,7 @@ use Rattle.snoop_model.specs.Pictures.InQueue.{IsInQueue}
 use Rattle.snoop_model.specs.Pictures.Picture.{held_by}
 use Rattle.snoop_model.specs.Pictures.Situation.{Situation, picture_of, state_of}
 use Rattle.snoop_model.specs.Pictures.Sound.{IsProper, keeps}
-use Rattle.snoop_model.specs.Runs.Once.{one_if}
+use Rattle.snoop_model.proofs.Lists.Facts.{one_if}
 use Rattle.snoop_engine.specs.States.{kept_at, kept_text, number_field, place_text, value_text}
 use Rattle.snoop_engine.specs.Taken.{state_at}
 

@@ -1,5 +1,5 @@
 -- Each line of the frames of a run fits its step.
-use Rattle.std.proofs.Common.{◌≡◌, ℕ, ◌<◌, ◌+◌, Bool, true, false, zero, suc, List, [], ◌∷◌, length, Option, Some, None, refl, sym, ap, subst, ◌∙◌, inl, inr, arith}
+use Rattle.std.proofs.Common.{◌≡◌, ◌⊎◌, ℕ, ◌<◌, ◌+◌, Bool, true, false, zero, suc, List, [], ◌∷◌, length, Option, Some, None, refl, sym, ap, subst, ◌∙◌, inl, inr, arith}
 use Rattle.std.specs.Prelude.{◌≢◌, ◌&&◌, ◌||◌, All, IsSomeAnd, MatchBool, Result, Ok, Err, nat_lt, not, if◌then◌else◌}
 use Rattle.std.specs.List.{flat_map, range_with_len}
 use Rattle.std.specs.Option.{option_map_or}
@@ -40,7 +40,7 @@ use Rattle.snoop_model.specs.Pictures.Lines.{Line}
 use Rattle.snoop_model.specs.Pictures.Picture.{Picture, held_at, held_by, nothing_held}
 use Rattle.snoop_model.specs.Pictures.Situation.{Situation, picture_of, reset, state_of}
 use Rattle.snoop_model.specs.Moves.LookUps.{ConsultsCache, ConsultsMemory}
-use Rattle.snoop_model.specs.Moves.Move.{ArrivesFor, FillsRequestor, IsWithin, MovesAsk, Orders, Responds, Settles, Takes, TakesFirst}
+use Rattle.snoop_model.specs.Moves.Move.{ArrivesFor, FillsRequestor, IsAbsent, Asks, IsWithin, Orders, Responds, Settles, Takes, TakesFirst}
 use Rattle.snoop_model.specs.Moves.Refuses.{Refuses}
 use Rattle.snoop_model.specs.Runs.Run.{GoesFirst}
 use Rattle.snoop_model.specs.Invariant.Invariant.{Invariant}
@@ -207,7 +207,7 @@ module _ (old new : Situation) (step : Step) (outcome : Result Reply Refused) wh
       (all_one (FitsStep here) (Memory block event s) (record { first = first; looks = looks; held = refl; action = row.0; row = row.1 }))
 
   -- the lines of a move
-  ask_fits : (core block word : ℕ) (asking : Op) (answer : Reply) (entry : Option Item) → Invariant old → IsWithin old core block → MovesAsk old core block word asking answer new entry
+  ask_fits : (core block word : ℕ) (asking : Op) (answer : Reply) (entry : Option Item) → Invariant old → IsWithin old core block → IsAbsent old core block asking answer new entry ⊎ Asks old core block word asking answer new entry
       → TakesFirst old step block → (event_asked asking (state_of old core block) ≡ Some (asked asking) → ConsultsCache old step core block (Some (asked asking))) → All (FitsStep here) (of_ask old core block asking)
   ask_fits core block word asking answer entry g within moves first looks = elim moves [
     | inl absent ↦ absent_fits core block asking absent.0 absent.1 absent.3
@@ -325,7 +325,7 @@ step_fits : (old new : Situation) (step : Step) (outcome : Result Reply Refused)
 step_fits old new step (Err cause) steady goes = refused_fits old new step cause goes.0 goes.1
 step_fits old new (Ask core block word asking) (Ok answer) steady goes =
     let m = goes.1 in
-    let P : ℕ → Type 0 = λ b. IsWithin old core b × MovesAsk old core b word asking answer new goes.0 in
+    let P : ℕ → Type 0 = λ b. IsWithin old core b × (IsAbsent old core b asking answer new goes.0 ⊎ Asks old core b word asking answer new goes.0) in
     let moved : P block = subst P (sym m.1.1.on_block) (m.1.1.within, m.1.1.moves) in
     ask_fits old new (Ask core block word asking) (Ok answer) core block word asking answer goes.0 steady.0 moved.0 moved.1 tt (asker_looks old core block word asking)
 step_fits old new (Order core) (Ok answer) steady goes =

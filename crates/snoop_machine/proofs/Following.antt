@@ -8,7 +8,7 @@ use Rattle.snoop_rules.specs.declared.names.CacheState.TheVariants.{I}
 use Rattle.snoop_model.specs.Pictures.Lines.{Line}
 use Rattle.snoop_model.specs.Pictures.Picture.{Picture, held_at, held_by}
 use Rattle.snoop_model.specs.Pictures.Situation.{state_of, nothing_there}
-use Rattle.snoop_model.specs.Moves.Standing.{Standing, lines_of}
+use Rattle.snoop_model.specs.Moves.Standing.{Standing, line_count}
 use Rattle.snoop_machine.specs.PartsView.{Fields, standing, IsWhole}
 use Rattle.snoop_machine.specs.Lines.{Held, LinesGo, gone, is_invalid, row_of, line_at}
 use Rattle.snoop_machine.specs.Following.{LosesLines}
@@ -26,7 +26,7 @@ gone-from old new e = rw e (go (is_invalid new))
     go false = refl
 
 module _ (old new : Standing) (block : ℕ) (next : Picture) (within : block < length old.situation.pictures) (wrote : new.situation.pictures ≡ slice_set old.situation.pictures block next)
-    (lines : (k : ℕ) → lines_of new k + gone (state_of old.situation k block) (held_by next k).state ≡ lines_of old k) where
+    (lines : (k : ℕ) → line_count new k + gone (state_of old.situation k block) (held_by next k).state ≡ line_count old k) where
   -- only the block's lines have changed
   follows : (k : ℕ) → LosesLines old new k
   follows k =

@@ -11,7 +11,7 @@ use Rattle.snoop_model.specs.declared.replies.Reply.{Reply}
 use Rattle.snoop_model.specs.Pictures.Picture.{Picture, held_by, with_line}
 use Rattle.snoop_model.specs.Pictures.Situation.{Situation, picture_of, state_of, nothing_there}
 use Rattle.snoop_model.specs.Moves.Move.{FirstMove}
-use Rattle.snoop_model.specs.Moves.Standing.{Standing, lines_of}
+use Rattle.snoop_model.specs.Moves.Standing.{Standing, line_count}
 use Rattle.snoop_model.specs.Moves.Holding.{NeedsLine, MovesToI, HoldsOn}
 use Rattle.snoop_model.proofs.Tables.EvictInI.{no_row}
 use Rattle.snoop_machine.specs.declared.ask.Asked.TheVariants.{Absent, Hit, Issue, Drop}
@@ -39,7 +39,7 @@ stays_out before new (step.Order orderer) core answer entry m leaves moved = lea
 stays_out before new (step.Respond block) core answer entry m leaves moved = leaves
 
 -- the room for a step adds a line where the step needs one
-adds_plan : (old new : Standing) (x : Plan) (core : ℕ) → IsPlan old.situation x → AddsLines x old new core → (lines_of new core ≡ lines_of old core) ⊎ (NeedsLine old (step_of x) core × (lines_of new core ≡ lines_of old core + 1))
+adds_plan : (old new : Standing) (x : Plan) (core : ℕ) → IsPlan old.situation x → AddsLines x old new core → (line_count new core ≡ line_count old core) ⊎ (NeedsLine old (step_of x) core × (line_count new core ≡ line_count old core + 1))
 adds_plan old new (plan.Ask asker block word asking (Issue request line)) core h (inl same) = inl same
 adds_plan old new (plan.Ask asker block word asking (Issue request line)) core h (inr more) =
     let s = old.situation in
@@ -51,9 +51,9 @@ adds_plan old new (plan.Order orderer request block message memory) core h same 
 adds_plan old new (plan.Writeback block closing memory) core h same = inl same
 adds_plan old new (plan.Fill block closing memory filled) core h same = inl same
 
-adds_step : (old new : Standing) (taking : Step) (x : Plan) (core : ℕ) → IsPlanFor old.situation taking x → AddsLines x old new core → (lines_of new core ≡ lines_of old core) ⊎ (NeedsLine old taking core × (lines_of new core ≡ lines_of old core + 1))
+adds_step : (old new : Standing) (taking : Step) (x : Plan) (core : ℕ) → IsPlanFor old.situation taking x → AddsLines x old new core → (line_count new core ≡ line_count old core) ⊎ (NeedsLine old taking core × (line_count new core ≡ line_count old core + 1))
 adds_step old new taking x core h adds =
-    let P : Step → Type 0 = λ t. (lines_of new core ≡ lines_of old core) ⊎ (NeedsLine old t core × (lines_of new core ≡ lines_of old core + 1)) in
+    let P : Step → Type 0 = λ t. (line_count new core ≡ line_count old core) ⊎ (NeedsLine old t core × (line_count new core ≡ line_count old core + 1)) in
     subst P h.0 (adds_plan old new x core h.1 adds)
 
 -- the room for the step was made, and nothing else
@@ -81,7 +81,7 @@ pub HoldsOn-taken : (old middle new : Standing) (taking : Step) (x : Plan) (core
     → LosesLines middle new core → FirstMove old.situation taking answer new.situation entry → HoldsOn old new taking core
 HoldsOn-taken old middle new taking x core answer entry h unchanged adds loses move =
     let all = adds_step old middle taking x core h adds in
-    let still_in : ¬ MovesToI old.situation new.situation core → lines_of new core ≡ lines_of middle core = λ still.
+    let still_in : ¬ MovesToI old.situation new.situation core → line_count new core ≡ line_count middle core = λ still.
     loses.same (λ moved. still (moved.0, (subst (λ (s : Situation). state_of s core moved.0 ≢ I) unchanged moved.1.0, moved.1.1))) in
     record {
       raised = λ leaves.

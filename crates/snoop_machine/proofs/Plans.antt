@@ -35,7 +35,7 @@ use Rattle.snoop_model.specs.Moves.Standing.{Standing}
 use Rattle.snoop_model.specs.Pictures.Picture.{held_at, held_by}
 use Rattle.snoop_model.specs.Pictures.Situation.{Situation, picture_of, state_of, Waits}
 use Rattle.snoop_machine.specs.Asked.{TakesAsk, RefusesAsk}
-use Rattle.snoop_model.specs.Moves.Move.{Performs, Takes, Fills, FillsRequestor, ArrivesFor, MovesAsk, FirstMove, came_of, next_did}
+use Rattle.snoop_model.specs.Moves.Move.{Performs, Takes, Fills, FillsRequestor, ArrivesFor, IsAbsent, Asks, FirstMove, came_of, next_did}
 use Rattle.snoop_model.specs.Moves.OrderMove.{IsHead}
 use Rattle.snoop_model.specs.Moves.Refuses.{Refuses}
 use Rattle.snoop_model.specs.Moves.StepMove.{IsDenied, RefusedFor}
@@ -126,7 +126,7 @@ performs-one word op.Evict a b v w m n e p q = absurd p
 
 -- an Ask adds the item that was found
 module _ (s : Situation) (core block word : ℕ) (asking : Op) (answer : Reply) (new : Situation) (added : Option Item) where
-  ask-adds : (way : Asked) → TakesAsk s.protocol (held_by (picture_of s block) core) word asking way → MovesAsk s core block word asking answer new added → added ≡ entry_of_ask s.log core block word asking way
+  ask-adds : (way : Asked) → TakesAsk s.protocol (held_by (picture_of s block) core) word asking way → IsAbsent s core block asking answer new added ⊎ Asks s core block word asking answer new added → added ≡ entry_of_ask s.log core block word asking way
   ask-adds Absent t (inl absent) = absent.4
   ask-adds Absent t (inr asks) = absurd (no_row s.protocol (state_of s core block) asking asks.row.action asks.row.next t.0 t.1 asks.is_row)
   ask-adds (Hit line value) t (inl absent) = absurd (no_row s.protocol (state_of s core block) asking action.Hit t.0 absent.0 absent.1 t.1.0)
@@ -169,7 +169,7 @@ fills-adds closing p log old new did filled f t =
 -- a planned step adds the plan's item, whatever move it is
 pub plan-adds : (s : Situation) (x : Plan) → IsPlan s x → (answer : Reply) (new : Situation) (added : Option Item) → FirstMove s (step_of x) answer new added → added ≡ entry_of s.log x
 plan-adds s (plan.Ask core block word asking way) h answer new added m =
-    let P : ℕ → Type 0 = λ x. MovesAsk s core x word asking answer new added in
+    let P : ℕ → Type 0 = λ x. IsAbsent s core x asking answer new added ⊎ Asks s core x word asking answer new added in
     ask-adds s core block word asking answer new added way h.1 (subst P (sym m.1.1.on_block) m.1.1.moves)
 plan-adds s (plan.Order core request block message memory) h answer new added m =
     let same : m.0 ≡ block = same_Some _ _ (sym m.1.0 ∙ h.1.head.first) in

@@ -15,7 +15,7 @@ use Rattle.snoop_machine.specs.declared.ask.Asked as declared
 use Rattle.snoop_machine.specs.declared.ask.Asked.TheVariants.{Absent, Hit, Issue, Drop}
 use Rattle.snoop_model.specs.declared.replies.Refused.{Refused}
 use Rattle.snoop_model.specs.declared.replies.Refused.TheVariants.{Stalled}
-use Rattle.snoop_model.specs.Moves.Move.{Hits, moves_to, moves_waiting}
+use Rattle.snoop_model.specs.Moves.Move.{Hits, moves_to, kept_waiting}
 
 -- what an Ask does to its core's line
 abbrev pub Asked : Type 0
@@ -26,7 +26,7 @@ abbrev pub TakesAsk : Protocol → Line → ℕ → Op → Asked → Type 0
 TakesAsk protocol old word asking Absent = (asking ≡ op.Evict) × (old.state ≡ state.I)
 TakesAsk protocol old word asking (Hit new value) = (next : CacheState) × (Cell protocol old.state (asked asking) action.Hit next × Hits next old new word asking value)
 TakesAsk protocol old word asking (Issue request new) =
-    (next : CacheState) × (Cell protocol old.state (asked asking) (action.Issue request) next × (new ≡ moves_waiting next word asking old))
+    (next : CacheState) × (Cell protocol old.state (asked asking) (action.Issue request) next × (new ≡ record (moves_to next old) { waiting = kept_waiting word asking }))
 TakesAsk protocol old word asking (Drop new) = (next : CacheState) × (Cell protocol old.state (asked asking) action.Drop next × (new ≡ moves_to next old))
 
 -- why the Ask is refused on this line

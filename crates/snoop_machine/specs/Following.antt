@@ -7,25 +7,25 @@ use Rattle.snoop_machine.specs.Plan.{Plan}
 use Rattle.snoop_machine.specs.declared.plan.Plan.TheVariants.{Ask}
 use Rattle.snoop_rules.specs.declared.names.CacheState.TheVariants.{I}
 use Rattle.snoop_model.specs.Pictures.Situation.{state_of}
-use Rattle.snoop_model.specs.Moves.Standing.{Standing, lines_of, has_line}
+use Rattle.snoop_model.specs.Moves.Standing.{Standing, line_count, has_line}
 use Rattle.snoop_model.specs.Moves.Holding.{MovesToI}
 
 -- of a core's map as many lines go as blocks on which it moves to I, which is one at most
 pub record LosesLines (old new : Standing) (core : ℕ) : Type 0 where
-  pub lowered : MovesToI old.situation new.situation core → lines_of new core + 1 ≡ lines_of old core
-  pub same : ¬ MovesToI old.situation new.situation core → lines_of new core ≡ lines_of old core
+  pub lowered : MovesToI old.situation new.situation core → line_count new core + 1 ≡ line_count old core
+  pub same : ¬ MovesToI old.situation new.situation core → line_count new core ≡ line_count old core
 
 -- a core's map has as many lines as before, or one more where this is the core that leaves I on the block, and its map had no line for it
 abbrev pub AddsLine : ℕ → ℕ → Standing → Standing → ℕ → Type 0
 AddsLine asker block old new core =
-    (lines_of new core ≡ lines_of old core) ⊎ ((asker ≡ core) × (state_of old.situation asker block ≡ I) × (has_line old asker block ≡ false) × (lines_of new core ≡ lines_of old core + 1))
+    (line_count new core ≡ line_count old core) ⊎ ((asker ≡ core) × (state_of old.situation asker block ≡ I) × (has_line old asker block ≡ false) × (line_count new core ≡ line_count old core + 1))
 
 -- the room for an Ask adds one line at most, and only where it issues a request that has no line yet
 abbrev pub AddsLinesToAsk : Asked → ℕ → ℕ → Standing → Standing → ℕ → Type 0
 AddsLinesToAsk (asked.Issue request line) asker block old new core = AddsLine asker block old new core
-AddsLinesToAsk _ asker block old new core = lines_of new core ≡ lines_of old core
+AddsLinesToAsk _ asker block old new core = line_count new core ≡ line_count old core
 
 -- the room for a step adds one line at most, and only where it is an Ask that issues a request that has no line yet
 abbrev pub AddsLines : Plan → Standing → Standing → ℕ → Type 0
 AddsLines (Ask asker block word asking way) old new core = AddsLinesToAsk way asker block old new core
-AddsLines _ old new core = lines_of new core ≡ lines_of old core
+AddsLines _ old new core = line_count new core ≡ line_count old core

@@ -5,7 +5,7 @@ ghost use Rattle.snoop_model.specs.Moves.Holding.{HoldsOn};
 ghost use Rattle.snoop_model.specs.Moves.Move.{FirstMove};
 ghost use Rattle.snoop_model.specs.Moves.Prepared.{IsFull, IsPrepared};
 ghost use Rattle.snoop_model.specs.Moves.Refuses.{Refuses};
-ghost use Rattle.snoop_model.specs.Moves.Standing.{lines_of, KeepsRoom};
+ghost use Rattle.snoop_model.specs.Moves.Standing.{line_count, KeepsRoom};
 ghost use Rattle.snoop_model.specs.Moves.StepMove.{RefusedFor};
 ghost use Rattle.snoop_model.specs.Pictures.Picture.{held_by};
 ghost use Rattle.snoop_model.specs.Pictures.Situation.{picture_of, reset, state_of};
@@ -56,7 +56,7 @@ impl AnyParts {
     /// The parts of a machine at reset.
     pub(crate) fn reset(alloc: Global, protocol: Protocol, shape: Shape) -> Result<Self, NoMemory>
         ensures situation { IfOk result (λ parts. (stand parts).situation ≡ reset protocol shape) }
-        ensures empty { IfOk result (λ parts. (core : ℕ) → lines_of (stand parts) core ≡ 0) }
+        ensures empty { IfOk result (λ parts. (core : ℕ) → line_count (stand parts) core ≡ 0) }
     {
         let parts = match shape.words() {
             1 => AnyParts::One(Parts::reset(alloc, protocol, shape)?),

@@ -17,7 +17,7 @@ ghost use Rattle.snoop_model.specs.Moves.OrderMove.{IsHead};
 ghost use Rattle.snoop_model.specs.Moves.Replies.{IsReplyTo, IsLoadHit};
 ghost use Rattle.snoop_model.specs.Moves.Refuses.{Refuses};
 ghost use Rattle.snoop_model.specs.Moves.StepMove.{RefusedFor};
-ghost use Rattle.snoop_model.specs.Moves.Standing.{KeepsRoom, lines_of};
+ghost use Rattle.snoop_model.specs.Moves.Standing.{KeepsRoom, line_count};
 ghost use Rattle.snoop_model.specs.Moves.Holding.{HoldsOn, HasHeldLines};
 ghost use Rattle.snoop_model.specs.Moves.Prepared.{IsFull, IsPrepared};
 ghost use Rattle.snoop_model.specs.Runs.Safe.{IsSafe};
@@ -73,7 +73,7 @@ impl Machine {
     pub fn reset(alloc: Global, protocol: Protocol, shape: Shape) -> Result<Self, NoMemory>
         ensures at_reset { IfOk result (λ machine. machine.situation ≡ reset protocol shape) }
         ensures safe { IfOk result (λ machine. IsSafe machine.situation) }
-        ensures empty { IfOk result (λ machine. (core : ℕ) → lines_of machine core ≡ 0) }
+        ensures empty { IfOk result (λ machine. (core : ℕ) → line_count machine core ≡ 0) }
     {
         let parts = AnyParts::reset(alloc, protocol, shape)?;
         Ok(Machine { parts })
@@ -229,7 +229,7 @@ impl Machine {
     /// How many lines the core's map has, or `None` outside the shape: one for each block in which the core isn't in
     /// I, and perhaps some in I, at most one for each Ask that was prepared.
     pub fn lines(&self, core: u32) -> Option<usize>
-        ensures inside { core < self.now.situation.shape.cores → result ≡ Some (lines_of self.now core) }
+        ensures inside { core < self.now.situation.shape.cores → result ≡ Some (line_count self.now core) }
         ensures held { HasHeldLines self.now core }
         ensures outside { IfSome result (λ _. core < self.now.situation.shape.cores) }
     {

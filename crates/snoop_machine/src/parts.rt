@@ -7,7 +7,7 @@ ghost use Rattle.snoop_model.specs.Pictures.Picture.{first_memory, held_by};
 ghost use Rattle.snoop_model.specs.Pictures.Situation.{picture_of, reset, state_of};
 ghost use Rattle.snoop_model.specs.Pictures.Sound.{IsProper, keeps};
 ghost use Rattle.snoop_model.specs.Moves.Move.{next_did};
-ghost use Rattle.snoop_model.specs.Moves.Standing.{lines_of};
+ghost use Rattle.snoop_model.specs.Moves.Standing.{line_count};
 ghost use Rattle.snoop_model.specs.Moves.Holding.{HasHeldLines};
 ghost use Rattle.snoop_machine.specs.PartsView.{no_memory};
 
@@ -78,7 +78,7 @@ impl<B: Block> Parts<B> {
     pub(crate) fn reset(alloc: Global, protocol: Protocol, shape: Shape) -> Result<Self, NoMemory>
         requires words { shape.words ≡ B.count }
         ensures situation { IfOk result (λ parts. parts.situation ≡ reset protocol shape) }
-        ensures empty { IfOk result (λ parts. (core : ℕ) → lines_of parts core ≡ 0) }
+        ensures empty { IfOk result (λ parts. (core : ℕ) → line_count parts core ≡ 0) }
     {
         prove!(shape.cores() <= 256);
         prove!(shape.words() <= 64);
@@ -217,7 +217,7 @@ impl<B: Block> Parts<B> {
 
     /// How many lines the core's map has, or `None` outside the shape.
     pub(crate) fn lines(&self, core: u32) -> Option<usize>
-        ensures inside { core < self.now.situation.shape.cores → result ≡ Some (lines_of self.now core) }
+        ensures inside { core < self.now.situation.shape.cores → result ≡ Some (line_count self.now core) }
         ensures held { HasHeldLines self.now core }
         ensures outside { IfSome result (λ _. core < self.now.situation.shape.cores) }
     {

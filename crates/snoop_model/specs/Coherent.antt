@@ -1,6 +1,6 @@
 -- Coherence: what holds after any steps that a machine at reset takes or refuses, in any order.
 -- Source: chapters 2 and 7 of "A Primer on Memory Consistency and Cache Coherence", 2nd edition; the rest is this project's profile.
-use Rattle.std.specs.Prelude.{◌≡◌, ◌<◌, ℕ, List, All, Option, Some, None, Result, IfSome}
+use Rattle.std.specs.Prelude.{◌≡◌, ◌<◌, ℕ, List, All, Option, Some, None, Result, IfSome, IsSome, option_map}
 use Rattle.snoop_trace.specs.Extent.{Extent}
 use Rattle.snoop_trace.specs.Words.{IsWord}
 use Rattle.snoop_trace.specs.declared.step.Step.{Step}
@@ -14,7 +14,7 @@ use Rattle.snoop_model.specs.declared.replies.Refused.{Refused}
 use Rattle.snoop_model.specs.Pictures.Picture.{held_by, data_under_way}
 use Rattle.snoop_model.specs.Pictures.Situation.{Situation, picture_of, state_of, CanOrder}
 use Rattle.snoop_model.specs.Pictures.OneWriter.{OneWriter}
-use Rattle.snoop_model.specs.Pictures.Sound.{IsProper}
+use Rattle.snoop_model.specs.Pictures.Sound.{missed_request, request_for}
 use Rattle.snoop_model.specs.Pictures.InQueue.{IsInQueue}
 use Rattle.snoop_model.specs.Moves.Move.{IsWithin, Orders, FirstMove}
 use Rattle.snoop_model.specs.Moves.Refuses.{Refuses}
@@ -29,6 +29,8 @@ pub record IsCoherent (s : Situation) : Type 0 where
   pub legal : Legal s.log
   -- each operation of the history is by a core, of a block and of a word that the machine has
   pub logged : All (λ did. IsWithin s did.core did.block × IsWord s.shape did.word) (operations s.log)
+  -- no core keeps words of a block that it may not read
+  pub kept : (core block : ℕ) → IsSome (held_by (picture_of s block) core).kept → MayLoad s.protocol (state_of s core block)
   -- each copy that may be read has in each word the value of the last store to it
   pub current : (core block : ℕ) → MayLoad s.protocol (state_of s core block) → (held_by (picture_of s block) core).kept ≡ Some (flat_words s.log block)
   -- so has data under way
@@ -45,8 +47,8 @@ pub record IsCoherent (s : Situation) : Type 0 where
   pub by_table : (core block : ℕ) (request : Request) (new : Situation) (made : Orders s core block request new) → IsLine s.protocol (picture_of s block) core request made.from made.payload made.next.memory.state
   -- an open transaction is on such a line, and a Respond taken next closes it and leaves memory as the line says
   pub on_table : (block : ℕ) → IfSome (picture_of s block).transaction (IsOpenByTable s block)
-  -- a core keeps words of a block exactly where its state may read, and an operation waits exactly where one has missed
-  pub proper : (core block : ℕ) → IsProper (held_by (picture_of s block) core)
+  -- an operation waits exactly where one has missed: a load or a store, as the state says
+  pub waiting : (core block : ℕ) → option_map (λ access. request_for access.op) (held_by (picture_of s block) core).waiting ≡ missed_request (state_of s core block)
   -- each core's queue has the blocks on which it waits to be ordered, each once
   pub queued : (core block : ℕ) → IsInQueue s core block
 

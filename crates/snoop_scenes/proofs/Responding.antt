@@ -1,5 +1,6 @@
 -- A Respond played.
-use Rattle.std.proofs.Common.{Bool, true, false, List, Option, Some, None, refl}
+use Rattle.std.proofs.Common.{◌≡◌, Bool, true, false, List, Option, Some, None, refl}
+use Rattle.std.specs.Prelude.{if◌then◌else◌}
 use Rattle.snoop_trace.specs.declared.step.Op.{Op}
 use Rattle.snoop_trace.specs.declared.step.Op.TheVariants as op
 use Rattle.snoop_trace.specs.declared.protocol.Protocol.{Protocol}
@@ -17,15 +18,15 @@ use Rattle.snoop_history.specs.declared.items.Item.{Item}
 use Rattle.snoop_bus.specs.Traffic.{Open}
 use Rattle.snoop_model.specs.Pictures.Lines.{Line}
 use Rattle.snoop_model.specs.Pictures.Picture.{held_at}
-use Rattle.snoop_model.specs.Moves.Move.{IsFillFor}
+use Rattle.snoop_model.specs.Moves.Move.{is_load}
 use Rattle.snoop_scenes.proofs.Deciding.{if_some}
 use Rattle.snoop_model.proofs.Steps.Played.{performed}
 use Rattle.snoop_model.proofs.Steps.Responds.{Filled, filled_by, Arrived, Remembered}
 
 -- the action fills for the operation
-abbrev pub fill_for : (act : CacheAction) (asking : Op) → Option (IsFillFor act asking)
-fill_for action.FillLoad op.Load = Some tt
-fill_for action.FillStore (op.Store stored) = Some tt
+abbrev pub fill_for : (act : CacheAction) (asking : Op) → Option (act ≡ (if is_load asking then action.FillLoad else action.FillStore))
+fill_for action.FillLoad op.Load = Some refl
+fill_for action.FillStore (op.Store stored) = Some refl
 fill_for _ _ = None
 
 abbrev pub filled : (closing : Open) (protocol : Protocol) (log : List Item) (lines : List Line) → Option (Filled closing protocol log lines)

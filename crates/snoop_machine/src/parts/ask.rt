@@ -1,5 +1,5 @@
 //! An Ask: found, and made.
-ghost use Rattle.std.specs.Prelude.{◌≡◌, ◌≢◌, ◌<◌, ℕ, [], ◌∷◌, ◌++◌, slice_index, IfOk, IfErr, None, Some, true, Err};
+ghost use Rattle.std.specs.Prelude.{◌≡◌, ◌≢◌, ◌<◌, ℕ, [], ◌∷◌, ◌++◌, slice_index, IfOk, IfErr, None, Some, true, Err, if◌then◌else◌};
 ghost use Rattle.snoop_trace.specs.declared.step.Step.TheVariants.{Ask};
 ghost use Rattle.snoop_trace.specs.Words.{HasWord, IsWord};
 ghost use Rattle.snoop_rules.specs.Waits.{waiting_request};
@@ -11,13 +11,14 @@ ghost use Rattle.snoop_machine.specs.Following.{LosesLines};
 ghost use Rattle.snoop_model.specs.Pictures.Picture.{held_by, with_line};
 ghost use Rattle.snoop_model.specs.Pictures.Situation.{picture_of, state_of, with_picture};
 ghost use Rattle.snoop_model.specs.Pictures.Sound.{IsProper};
-ghost use Rattle.snoop_model.specs.Moves.Move.{MovesAsk, next_did, hit_reply as reply_to_hit};
+ghost use Rattle.snoop_model.specs.Moves.Move.{AskMove, is_load, next_did};
 ghost use Rattle.snoop_machine.specs.Asked.{TakesAsk};
 ghost use Rattle.snoop_model.specs.Moves.StepMove.{IsDenied};
 ghost use Rattle.snoop_machine.specs.Plan.{IsPlanFor, HasRoomToAsk, entry_of_ask};
 ghost use Rattle.snoop_model.specs.Moves.Refuses.{Refuses};
 ghost use Rattle.snoop_model.specs.Invariant.Invariant.{Invariant};
 ghost use Rattle.snoop_model.specs.declared.replies.Refused.{Refused};
+ghost use Rattle.snoop_model.specs.declared.replies.Reply.TheVariants as reply;
 
 use super::Parts;
 use crate::ask::{Asked, ask};
@@ -72,7 +73,7 @@ impl<B: Block> Parts<B> {
         requires word { HasWord self.old.situation.shape word op }
         requires proper { IsProper (held_by (picture_of self.old.situation block) core) }
         requires room { HasRoomToAsk self.old core block asked }
-        ensures moved { MovesAsk self.old.situation core block word op result self.new.situation (entry_of_ask self.old.situation.log core block word op asked) }
+        ensures moved { AskMove block self.old.situation core block word op result self.new.situation (entry_of_ask self.old.situation.log core block word op asked) }
         ensures room { KeepsRoom self.old self.new }
         ensures lines { (k : ℕ) → LosesLines self.old self.new k }
     {
@@ -145,13 +146,12 @@ impl<B: Block> Parts<B> {
     }
 }
 
-/// The reply to a hit. An Evict never hits, and no reply of a hit would be its.
+/// The reply to a hit of a load or a store; an Evict never hits.
 fn hit_reply(op: Op, value: u64) -> Reply
-    ensures { result ≡ reply_to_hit op value }
+    ensures { result ≡ (if is_load op then reply.Hit value else reply.StoreHit) }
 {
     match op {
         Op::Load => Reply::Hit(value),
-        Op::Store(_) => Reply::StoreHit,
-        Op::Evict => Reply::Gone,
+        Op::Store(_) | Op::Evict => Reply::StoreHit,
     }
 }

@@ -6,7 +6,7 @@ ghost use Rattle.snoop_model.specs.Moves.Move.{FirstMove};
 ghost use Rattle.snoop_model.specs.Moves.StepMove.{RefusedFor, IsDenied};
 ghost use Rattle.snoop_rules.specs.declared.names.CacheState.TheVariants.{I};
 ghost use Rattle.snoop_model.specs.Pictures.Situation.{state_of};
-ghost use Rattle.snoop_model.specs.Moves.Standing.{KeepsRoom, lines_of, has_line};
+ghost use Rattle.snoop_model.specs.Moves.Standing.{KeepsRoom, line_count, has_line};
 ghost use Rattle.snoop_model.specs.Moves.Holding.{HoldsOn};
 ghost use Rattle.snoop_model.specs.Moves.Prepared.{IsFull, IsPrepared, room_to_issue};
 ghost use Rattle.snoop_machine.specs.Following.{LosesLines, AddsLine, AddsLinesToAsk, AddsLines};
@@ -176,8 +176,8 @@ impl<B: Block> Parts<B> {
         ensures full { OnErr result (slice_index self.old.places core ≡ 0) }
         ensures refused { OnErr result (self.new ≡ self.old) }
         ensures room { KeepsRoom self.old self.new }
-        ensures more { OnOk result (lines_of self.new core ≡ lines_of self.old core + 1) }
-        ensures others { (k : ℕ) → k ≢ core → lines_of self.new k ≡ lines_of self.old k }
+        ensures more { OnOk result (line_count self.new core ≡ line_count self.old core + 1) }
+        ensures others { (k : ℕ) → k ≢ core → line_count self.new k ≡ line_count self.old k }
         ensures unchanged { self.new.situation ≡ self.old.situation }
     {
         self.lines.reserve(core)?;

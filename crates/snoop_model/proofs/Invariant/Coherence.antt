@@ -1,6 +1,6 @@
 -- What the invariant says of a situation: one writer, current copies and memory, all rows, one sender.
 use Rattle.std.proofs.Common.{◌≡◌, ◌≢◌, ℕ, true, false, not, ◌||◌, List, [], length, Option, Some, None, refl, ◌⊎◌, inl, inr, ap, sym, ◌∙◌, subst, arith}
-use Rattle.std.specs.Prelude.{◌<◌, IfSome, IsSomeAnd, ◌≤◌}
+use Rattle.std.specs.Prelude.{◌<◌, IfSome, IsSome, IsSomeAnd, ◌≤◌}
 use Rattle.std.proofs.lemmas.Bool.{cases_lt, and_parts, eq-eqb}
 use Rattle.std.proofs.lemmas.List.{get_or_past}
 use Rattle.std.proofs.lemmas.Option.{same_Some}
@@ -113,6 +113,31 @@ owner_stores _ state.MiA known owns = (state.MiA, refl)
 owner_stores Mesi state.E known owns = (state.M, refl)
 owner_stores Mesi state.EiA known owns = (state.MiA, refl)
 owner_stores _ _ known owns = cc
+
+-- a core that keeps words may load
+keeper_loads : (p : Protocol) (s : CacheState) → in_protocol p s ≡ true → keeps s ≡ true → MayLoad p s
+unfolding in_protocol is_clean
+keeper_loads _ state.S known kept = (state.S, refl)
+keeper_loads _ state.SmAd known kept = (state.SmAd, refl)
+keeper_loads _ state.SmD known kept = (state.SmD, refl)
+keeper_loads _ state.M known kept = (state.M, refl)
+keeper_loads _ state.MiA known kept = (state.MiA, refl)
+keeper_loads Mesi state.E known kept = (state.E, refl)
+keeper_loads Mesi state.EiA known kept = (state.EiA, refl)
+keeper_loads _ _ known kept = cc
+
+-- no core keeps words that it may not read
+pub kept_read : (s : Situation) → Invariant s → (core block : ℕ) → IsSome (held_by (picture_of s block) core).kept → MayLoad s.protocol (state_of s core block)
+unfolding fits
+kept_read s g core block is = elim (place s g core block) [
+  | inl within ↦
+      let good = g.blocks block within.1 in
+      keeper_loads s.protocol (state_of s core block) (and_parts _ _ (good.states core within.0)).0 (sym (good.proper core within.0).kept ∙ is)
+  | inr nothing ↦
+      let P : Line → Type 0 = λ x. IsSome x.kept in
+      let none : false ≡ true = subst P nothing is in
+      cc
+]
 
 -- where no core may write the block, none owns it
 nobody_owns : (p : Protocol) (n : ℕ) (value : List ℕ) (picture : Picture) (g : BlockInvariant p n value picture) → ((core : ℕ) → ¬ MayStore p (held_by picture core).state) → (owner : Option ℕ) → g.owner ≡ owner → g.claims.owned ≡ false

@@ -22,7 +22,7 @@ use Rattle.snoop_model.specs.Invariant.MachineKeeps.{AreOnLines, MachineKeeps}
 use Rattle.snoop_model.specs.Runs.Safe.{IsSafe}
 use Rattle.snoop_model.proofs.Invariant.TableLines.{order_is_line, open_is_by_table}
 use Rattle.snoop_model.proofs.Invariant.OpenLines.{reset_on_lines, move_on_lines}
-use Rattle.snoop_model.proofs.Invariant.Coherence.{has_one_writer, readers_current, data_current, memory_current, names_its_block, finds_rows, place}
+use Rattle.snoop_model.proofs.Invariant.Coherence.{has_one_writer, kept_read, readers_current, data_current, memory_current, names_its_block, finds_rows, place}
 use Rattle.snoop_model.proofs.Invariant.Runs.{reset_invariant, nothing_proper}
 use Rattle.snoop_model.proofs.Runs.GoOn.{order_made, moves_on, heads_of_queues}
 use Rattle.snoop_model.proofs.Queues.Runs.{reset_queued, move_queued}
@@ -61,12 +61,13 @@ is_coherent s g on_lines queued = record {
   orders = order_made s g;
   by_table = order_is_line s g;
   on_table = open_is_by_table s g on_lines;
-  proper = all_proper s g;
+  kept = kept_read s g;
+  waiting = λ core block. (all_proper s g core block).waiting;
   queued = queued;
 }
 
 pub is_safe : (s : Situation) → MachineKeeps s → IsSafe s
-is_safe s keeps = record { coherent = is_coherent s keeps.inductive keeps.on_lines keeps.queued; finds_rows = finds_rows s keeps.inductive; well_kept = keeps.well_kept }
+is_safe s keeps = record { coherent = is_coherent s keeps.inductive keeps.on_lines keeps.queued; finds_rows = finds_rows s keeps.inductive; proper = all_proper s keeps.inductive; well_kept = keeps.well_kept }
 
 pub reset_keeps : (protocol : Protocol) (shape : Extent) → MachineKeeps (reset protocol shape)
 reset_keeps protocol shape = record {

@@ -1,18 +1,16 @@
 -- How often a block stands in a queue.
-use Rattle.std.proofs.Common.{◌≡◌, ℕ, ◌+◌, not, cond, eqb, List, [], ◌∷◌, ◌++◌, filter, refl, inl, inr, ap, sym, ◌∙◌, arith}
+use Rattle.std.proofs.Common.{◌≡◌, ℕ, ◌+◌, not, cond, eqb, List, [], ◌∷◌, ◌++◌, filter, refl, inl, inr, sym, ◌∙◌, arith}
 use Rattle.std.specs.Prelude.{count_by}
 use Rattle.std.proofs.lemmas.Bool.Decides.{eqb_tells}
 use Rattle.std.proofs.lemmas.List.Sums.{sum_by-append, sum_by-cons}
-use Rattle.snoop_model.specs.Runs.Once.{one_if}
-use Rattle.snoop_model.proofs.Lists.Facts.{either_way}
+use Rattle.snoop_model.proofs.Lists.Facts.{either_way, one_if}
 use Rattle.snoop_model.proofs.OneBlock.Facts.{not_eqb}
-use Rattle.snoop_model.proofs.Once.Counts.{one_if_cond}
 
 abbrev pub times : ℕ → List ℕ → ℕ
 times block queue = count_by (λ b. eqb b block) queue
 
 pub times_cons : (block x : ℕ) (queue : List ℕ) → times block (x ∷ queue) ≡ one_if (eqb x block) + times block queue
-times_cons block x queue = sum_by-cons (λ b. cond (eqb b block) 1 0) x queue ∙ ap (λ (n : ℕ). n + times block queue) (one_if_cond (eqb x block))
+times_cons block x queue = sum_by-cons (λ b. cond (eqb b block) 1 0) x queue
 
 pub times_push : (block x : ℕ) (queue : List ℕ) → times block (queue ++ x ∷ []) ≡ times block queue + one_if (eqb x block)
 times_push block x queue =

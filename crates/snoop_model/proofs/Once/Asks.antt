@@ -23,7 +23,8 @@ use Rattle.snoop_model.specs.Pictures.Lines.{Line}
 use Rattle.snoop_model.specs.declared.replies.Reply.{Reply}
 use Rattle.snoop_model.specs.Pictures.Sound.{IsProper, request_for, missed_request}
 use Rattle.snoop_model.specs.Moves.Move.{Takes, Performs, kept_waiting, is_load, next_did}
-use Rattle.snoop_model.specs.Runs.Once.{same_op, same_access, did_access, one_if}
+use Rattle.snoop_model.specs.Runs.Once.{same_op, same_access, did_access}
+use Rattle.snoop_model.proofs.Lists.Facts.{one_if}
 use Rattle.snoop_model.proofs.Tables.Rows.{same_request, same_request-true}
 use Rattle.snoop_model.proofs.OneBlock.Operation.{did_in}
 use Rattle.snoop_model.proofs.Once.Counts.{did_so}

@@ -8,12 +8,9 @@ use Rattle.snoop_history.specs.declared.items.Item.{Item}
 use Rattle.snoop_history.specs.History.{operation_of, answers_of}
 use Rattle.snoop_history.proofs.Pushed.{answers_of-push, of_core}
 use Rattle.snoop_model.specs.declared.line.Access.{Access}
-use Rattle.snoop_model.specs.Runs.Once.{same_access, did_access, did_it, one_if}
+use Rattle.snoop_model.specs.Runs.Once.{same_access, did_access, did_it}
+use Rattle.snoop_model.proofs.Lists.Facts.{one_if}
 use Rattle.snoop_model.proofs.OneBlock.Operation.{did_in}
-
-pub one_if_cond : (b : Bool) → cond b 1 0 ≡ one_if b
-one_if_cond true = refl
-one_if_cond false = refl
 
 -- 1 where the operation that was done is this one
 abbrev pub did_so : Access → Option Did → ℕ

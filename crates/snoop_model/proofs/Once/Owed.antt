@@ -11,7 +11,8 @@ use Rattle.snoop_history.proofs.Pushed.{answers_of-push, of_core}
 use Rattle.snoop_model.specs.declared.line.Access.{Access}
 use Rattle.snoop_model.specs.Pictures.Picture.{held_by}
 use Rattle.snoop_model.specs.Pictures.Situation.{Situation, picture_of}
-use Rattle.snoop_model.specs.Runs.Once.{did_it, tally, waits_for, asks, one_if, same_access}
+use Rattle.snoop_model.specs.Runs.Once.{did_it, tally, waits_for, asks, same_access}
+use Rattle.snoop_model.proofs.Lists.Facts.{one_if}
 use Rattle.snoop_model.specs.Runs.Owed.{IsOwed, Owes}
 use Rattle.snoop_model.proofs.Runs.Prepared.{move-log}
 

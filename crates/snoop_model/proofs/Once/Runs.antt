@@ -29,11 +29,12 @@ use Rattle.snoop_model.specs.Pictures.Picture.{Picture, held_at, held_by, nothin
 use Rattle.snoop_model.specs.Pictures.Situation.{Situation, picture_of, reset}
 use Rattle.snoop_model.specs.Moves.Move.{Takes, FillsRequestor, ArrivesFor, Asks, Orders, Responds, IsWithin, MoveOn, next_did, came_of}
 use Rattle.snoop_model.specs.Runs.Run.{RunFrom}
-use Rattle.snoop_model.specs.Runs.Once.{same_access, did_it, one_if, waits_for, tally, asks, taken, OnceMore, Once}
+use Rattle.snoop_model.specs.Runs.Once.{same_access, did_it, waits_for, tally, asks, taken, OnceMore, Once}
+use Rattle.snoop_model.proofs.Lists.Facts.{one_if}
 use Rattle.snoop_model.specs.Invariant.Invariant.{Invariant}
 use Rattle.snoop_model.proofs.OneBlock.Operation.{did_in}
 use Rattle.snoop_model.proofs.OneBlock.AfterMoves.{ask_line, ask_other_core, ask_other_block, order_here, order_other_block, respond_here, respond_other_block}
-use Rattle.snoop_model.proofs.Once.Counts.{did_so, IsBy, none_either, one_if_cond, count_logged}
+use Rattle.snoop_model.proofs.Once.Counts.{did_so, IsBy, none_either, count_logged}
 use Rattle.snoop_model.proofs.Once.Asks.{waits_so, line_once, performed_so, no_evict}
 use Rattle.snoop_model.proofs.Invariant.Runs.{goes_keeps, refusal_same, reset_invariant, reset_line}
 
@@ -198,7 +199,6 @@ run_once (step ∷ steps) (Ok answer ∷ outcomes) old new g r core block wanted
     let x = move_once r.1.0.1.0 old step answer middle r.1.0.0 g r.1.0.1.1 core block wanted in
     let y = run_once steps outcomes middle new (goes_keeps old step (Ok answer) middle g r.1.0) r.1.1 core block wanted in
     let z : count_by (asks core block wanted) (taken (step ∷ steps) (Ok answer ∷ outcomes)) ≡ cond (asks core block wanted step) 1 0 + count_by (asks core block wanted) (taken steps outcomes) = sum_by-cons (λ x. cond (asks core block wanted x) 1 0) step (taken steps outcomes) in
-    let w = one_if_cond (asks core block wanted step) in
     omega arith
 run_once (step ∷ steps) (Err cause ∷ outcomes) old new g r core block wanted =
     let middle = r.0 in

@@ -21,7 +21,7 @@ use Rattle.snoop_bus.specs.Traffic.{Open}
 use Rattle.snoop_model.specs.Pictures.Lines.{Line}
 use Rattle.snoop_model.specs.Pictures.Picture.{Picture, held_by}
 use Rattle.snoop_model.specs.Pictures.Situation.{Situation, picture_of}
-use Rattle.snoop_model.specs.Pictures.Sends.{Sends, value_at, value_sent}
+use Rattle.snoop_model.specs.Pictures.Sends.{Sends, value_sent}
 use Rattle.snoop_model.proofs.Tables.SentBy.{sent_by, sent_by_memory}
 use Rattle.snoop_model.specs.Moves.Move.{moves_to, TakesRow, TakesRows, Orders}
 use Rattle.snoop_model.specs.Pictures.Sound.{keeps, IsProper}
@@ -223,12 +223,12 @@ order_fresh p flat before c q l h =
       | inr k ↦ l.good.clean c l.requestor_in k
     ]
 
--- the value that a sender can send is the block's
-pub sender_value : (p : Protocol) (flat : List ℕ) (before : Picture) (c : ℕ) (q : Request) (l : Looked p flat before c q) (from : Option ℕ) (sent : Payload) → Sends p before c q from sent → carries_value sent ≡ true → value_at before from ≡ flat
+-- the value that a sender sends is the block's
+pub sender_value : (p : Protocol) (flat : List ℕ) (before : Picture) (c : ℕ) (q : Request) (l : Looked p flat before c q) (from : Option ℕ) (sent : Payload) → Sends p before c q from sent → carries_value sent ≡ true → value_sent before from sent ≡ flat
 sender_value p flat before c q l None sent sends carrying =
     let e : sent_by_memory (Some l.mc) ≡ Some sent = ap sent_by_memory (sym l.is_mc) ∙ ap sent_by_memory sends.1 in
     let t = end_of p flat before c q l OrderTests.memory_sends_fresh OrderTests.memory_sends_fresh_holds in
-    l.good.fresh (implied (is_some (sent_by_memory (Some l.mc))) l.good.claims.fresh t (some_true (sent_by_memory (Some l.mc)) sent e))
+    rw carrying (l.good.fresh (implied (is_some (sent_by_memory (Some l.mc))) l.good.claims.fresh t (some_true (sent_by_memory (Some l.mc)) sent e)))
 sender_value p flat before c q l (Some d) sent sends carrying =
     let reads : keeps (held_by before d).state ≡ true =
     elim (eqb_tells d c) as (λ _. keeps (held_by before d).state ≡ true) [
@@ -251,7 +251,7 @@ sender_value p flat before c q l (Some d) sent sends carrying =
           let fit = l.good.states d sends.0 in
           owner_reads (held_by before d).state (fits_is_owner p l.good.claims.shared (owns l.good.owner d) (awaited before.transaction d) (held_by before d).state fit ∙ owning)
     ] in
-    ap (λ (k : Option (List ℕ)). unwrap_or k zero_words) (l.good.kept d sends.0 reads)
+    rw carrying (ap (λ (k : Option (List ℕ)). unwrap_or k zero_words) (l.good.kept d sends.0 reads))
 
 next_owner_in : (put : Bool) (c : ℕ) (owner : Option ℕ) (n : ℕ) → ((o : ℕ) → owner ≡ Some o → o < n) → (o : ℕ) → cond put (cond (owns owner c) None owner) None ≡ Some o → o < n
 next_owner_in true c None n was o e = cc
@@ -287,7 +287,7 @@ order_keeps s core block q new flat good in_row o =
       carried = λ x is_x carrying.
           let e : opened ≡ x = some_is after.transaction opened x o.opened is_x in
           let carry : carries_value o.payload ≡ true = ap (λ (y : Open). carries_value y.payload) e ∙ carrying in
-          let v : value_sent before o.from o.payload ≡ flat = rw carry (sender_value p flat before core q l o.from o.payload o.sent.sends carry) in
+          let v : value_sent before o.from o.payload ≡ flat = sender_value p flat before core q l o.from o.payload o.sent.sends carry in
           ap (λ (y : Open). y.value) (sym e) ∙ v;
       proper = λ d d_in.
           let t = o.taken.rows d d_in in

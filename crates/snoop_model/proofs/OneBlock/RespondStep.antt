@@ -1,6 +1,6 @@
 -- A Respond keeps the invariant, and a load that it performs gives the flat value.
 use Rattle.std.proofs.Common.{◌≡◌, ◌≢◌, ◌<◌, ◌&&◌, ◌||◌, ◌∙◌, ℕ, length, List, Bool, true, false, not, cond, eqb, Option, Some, None, refl, inl, inr, ap, sym, subst}
-use Rattle.std.specs.Prelude.{is_some}
+use Rattle.std.specs.Prelude.{is_some, if◌then◌else◌}
 use Rattle.std.proofs.lemmas.Bool.Decides.{eqb_tells}
 use Rattle.std.proofs.lemmas.Bool.{eq-eqb, and_parts}
 use Rattle.std.specs.Prelude.{slice_set}
@@ -31,7 +31,7 @@ use Rattle.snoop_model.specs.Pictures.Lines.{Line}
 use Rattle.snoop_model.specs.declared.line.Access.{Access}
 use Rattle.snoop_model.specs.Pictures.Picture.{Picture, held_at, held_by, nothing_held}
 use Rattle.snoop_model.specs.Pictures.Situation.{Situation, picture_of}
-use Rattle.snoop_model.specs.Moves.Move.{Performs, IsFillFor, Fills, FillsRequestor, ArrivesFor, ArrivesAtMemory, Responds, next_did, written}
+use Rattle.snoop_model.specs.Moves.Move.{Performs, is_load, Fills, FillsRequestor, ArrivesFor, ArrivesAtMemory, Responds, next_did, written}
 use Rattle.snoop_model.specs.Pictures.Sound.{keeps, IsProper}
 use Rattle.snoop_model.specs.Invariant.Fits.{Claims, claims_of, is_clean, fits}
 use Rattle.snoop_model.specs.Invariant.Block.{BlockInvariant, talk_of, awaited, owns}
@@ -242,10 +242,10 @@ module _ (flat : List ℕ) (log : List Item) (core block word value : ℕ) (came
   abbrev done : Op → Option Did
   done asking = Some (next_did log core block word asking value false)
 
-  filled_words : (a : CacheAction) (asking : Op) → came ≡ flat → IsFillFor a asking → Performs word asking came value after → (after ≡ flat_after flat (done asking)) × IsLawful flat (done asking) × (fills_store a ≡ false → flat_after flat (done asking) ≡ flat)
-  filled_words action.FillLoad op.Load same fill did = (did.1 ∙ same, λ h. did.0 ∙ ap (λ (ws : List ℕ). word_at ws word) same, λ h. refl)
-  filled_words action.FillStore (op.Store stored) same fill did = (did.1 ∙ (ap (λ (ws : List ℕ). slice_set ws word stored) same ∙ ap (λ (v : ℕ). slice_set flat word v) (sym did.0)), λ h. cc, λ h. cc)
-  filled_words _ _ same fill did = absurd fill
+  filled_words : (a : CacheAction) (asking : Op) → came ≡ flat → a ≡ (if is_load asking then action.FillLoad else action.FillStore) → Performs word asking came value after → (after ≡ flat_after flat (done asking)) × IsLawful flat (done asking) × (fills_store a ≡ false → flat_after flat (done asking) ≡ flat)
+  filled_words a op.Load same fill did = (did.1 ∙ same, λ h. did.0 ∙ ap (λ (ws : List ℕ). word_at ws word) same, λ h. refl)
+  filled_words a (op.Store stored) same fill did = (did.1 ∙ (ap (λ (ws : List ℕ). slice_set ws word stored) same ∙ ap (λ (v : ℕ). slice_set flat word v) (sym did.0)), λ h. cc, λ h. let stores : fills_store a ≡ true = ap fills_store fill in cc)
+  filled_words a op.Evict same fill did = absurd did
 
 fill : (flat : List ℕ) (p : Protocol) (o : Open) (log : List Item) (old new : Line) (asking : Access) (value : ℕ) (did : Option Did) (f : Fills o p old new asking value) → o.value ≡ flat → did ≡ Some (next_did log o.core o.block asking.word asking.op value false) → Filled flat f.row new did
 fill flat p o log old new asking value did f same logged =

@@ -27,7 +27,6 @@ use Rattle.snoop_model.specs.Pictures.Picture.{Picture, held_at, held_by}
 use Rattle.snoop_model.specs.Pictures.Situation.{Situation, picture_of, state_of, reset}
 use Rattle.snoop_model.specs.Moves.Move.{Takes, Asks, Orders, Responds, IsWithin, MoveOn, queues_after}
 use Rattle.snoop_model.specs.Runs.Run.{Goes, RunFrom}
-use Rattle.snoop_model.specs.Runs.Once.{one_if}
 use Rattle.snoop_model.specs.Pictures.InQueue.{IsInQueue}
 use Rattle.snoop_model.specs.Invariant.Invariant.{Invariant}
 use Rattle.snoop_model.proofs.Tables.Rows.{issue-waits, hit-waits, drop-waits}
@@ -36,7 +35,7 @@ use Rattle.snoop_model.proofs.OneBlock.OfBlocks.{in_pictures, same_everywhere}
 use Rattle.snoop_model.proofs.Lines.OneLine.{lined, line_here, line_cases, same_lines}
 use Rattle.snoop_model.proofs.Queues.Orders.{own_waits, others_wait}
 use Rattle.snoop_model.proofs.Queues.Responds.{arrives_waits}
-use Rattle.snoop_model.proofs.Lists.Facts.{either_way}
+use Rattle.snoop_model.proofs.Lists.Facts.{either_way, one_if}
 use Rattle.snoop_model.proofs.Lists.QueueCounts.{times, times_push, times_without}
 use Rattle.snoop_model.proofs.Invariant.Runs.{goes_keeps, refusal_same, reset_line}
 

@@ -1,6 +1,6 @@
 -- The run of some steps is the only one: a step has one outcome, and leads to one situation.
 use Rattle.std.proofs.Common.{◌≡◌, ℕ, ◌<◌, ◌≤◌, Bool, true, false, List, [], ◌∷◌, ◌++◌, length, Option, Some, None, refl, ◌⊎◌, inl, inr, ap, sym, ◌∙◌, subst, arith}
-use Rattle.std.specs.Prelude.{Result, Ok, Err, is_some, slice_set}
+use Rattle.std.specs.Prelude.{Result, Ok, Err, is_some, slice_set, if◌then◌else◌}
 use Rattle.std.proofs.lemmas.List.{same_lists, get_or_default}
 use Rattle.snoop_trace.specs.Words.{HasWord}
 use Rattle.snoop_trace.specs.declared.step.Op.{Op}
@@ -20,7 +20,7 @@ use Rattle.snoop_rules.specs.declared.names.Request.TheVariants as request
 use Rattle.snoop_rules.specs.declared.names.Payload.{Payload}
 use Rattle.snoop_rules.specs.declared.names.CacheCell.{CacheCell}
 use Rattle.snoop_rules.specs.declared.names.MemCell.{MemCell}
-use Rattle.snoop_rules.specs.Cell.{cell_of}
+use Rattle.snoop_rules.specs.Cell.{Cell, cell_of}
 use Rattle.snoop_rules.specs.Takers.{asked, arrival_at_memory, takes_payload, seen_by}
 use Rattle.snoop_rules.proofs.Rows.{Cell-one}
 use Rattle.snoop_rules.proofs.MemRows.{MemoryCell-one}
@@ -39,8 +39,8 @@ use Rattle.snoop_model.specs.Pictures.Picture.{Picture, held_at, held_by, nothin
 use Rattle.snoop_model.specs.Pictures.Situation.{Situation, picture_of, with_picture, state_of, StandsFirst}
 use Rattle.snoop_model.specs.Pictures.Sends.{Sends, value_sent}
 use Rattle.snoop_model.proofs.Tables.SentBy.{sent_by, sent_by_memory}
-use Rattle.snoop_model.specs.Moves.Move.{TakesRow, Takes, FillsRequestor, ArrivesFor, ArrivesAtMemory, Asks, Orders, Responds, IsAbsent, IsWithin, FirstMove, Performs, hit_reply, moves_to, next_did, came_of, written}
-use Rattle.snoop_model.specs.Moves.Refuses.{Refuses, IsStall, WaitsOnNone}
+use Rattle.snoop_model.specs.Moves.Move.{TakesRow, Takes, FillsRequestor, ArrivesFor, ArrivesAtMemory, Asks, Orders, Responds, IsAbsent, IsWithin, FirstMove, Performs, is_load, moves_to, next_did, came_of, written}
+use Rattle.snoop_model.specs.Moves.Refuses.{Refuses, WaitsOnNone}
 use Rattle.snoop_model.specs.Runs.Run.{GoesFirst, FirstRunFrom}
 use Rattle.snoop_model.specs.Turns.TurnRule.{KeepsWell}
 use Rattle.snoop_model.proofs.Tables.EvictInI.{no_row}
@@ -112,7 +112,7 @@ module _ (s : Situation) (heads : HeadsWait s) where
   one_cause (Respond block) = respond_cause block
 
 -- a move is not refused
-asks_no_stall : (s : Situation) (core block word : ℕ) (asking : Op) (answer : Reply) (new : Situation) (entry : Option Item) → IsAbsent s core block asking answer new entry ⊎ Asks s core block word asking answer new entry → ¬ IsStall s core block asking
+asks_no_stall : (s : Situation) (core block word : ℕ) (asking : Op) (answer : Reply) (new : Situation) (entry : Option Item) → IsAbsent s core block asking answer new entry ⊎ Asks s core block word asking answer new entry → ¬ ((next : CacheState) × Cell s.protocol (state_of s core block) (asked asking) action.Stall next)
 asks_no_stall s core block word asking answer new entry (inl absent) stall = no_row s.protocol (state_of s core block) asking action.Stall stall.0 absent.0 absent.1 stall.1
 asks_no_stall s core block word asking answer new entry (inr asks) stall =
     let same = (Cell-one s.protocol (state_of s core block) (asked asking) asks.row.action action.Stall asks.row.next stall.0 asks.is_row stall.1).0 in
@@ -158,7 +158,7 @@ hits_one next log core block word asking old new new' answer answer' entry entry
     let before : g.before ≡ f.before = same_some (sym g.kept ∙ f.kept) in
     let same = performs_one word asking f.before a.0 b.0 f.after g.after f.performed (subst (λ (ws : List ℕ). Performs word asking ws b.0 g.after) before g.performed) in (
       f.held ∙ (ap (λ (v : List ℕ). let x : Line = record { state = next; kept = Some v; waiting = old.waiting } in x) same.1 ∙ sym g.held),
-      a.1.1 ∙ (ap (hit_reply asking) same.0 ∙ sym b.1.1),
+      a.1.1 ∙ (ap (λ (v : ℕ). let x : Reply = if is_load asking then reply.Hit v else reply.StoreHit in x) same.0 ∙ sym b.1.1),
       a.1.2 ∙ (ap (λ (v : ℕ). let x : Option Item = Some (item.Did (next_did log core block word asking v true)) in x) same.0 ∙ sym b.1.2),
     )
 
@@ -217,8 +217,8 @@ orders_one s core block q new new' a b =
     let memory : a.next.memory.state ≡ b.next.memory.state = a.memory.2 ∙ (ap (λ (row : MemCell). row.next) (same_some (sym a.memory.1 ∙ b.memory.1)) ∙ sym b.memory.2) in
     let opened : a.next.transaction ≡ b.next.transaction = a.opened ∙ (ap (λ f. opening before core block q f a.payload) (sym from) ∙ (ap (λ x. opening before core block q b.from x) payload ∙ sym b.opened)) in
     let next : a.next ≡ b.next = same_picture _ _ _ _ _ _ caches (same_memory _ _ _ _ memory (a.value ∙ sym b.value)) opened in
-    let then : Picture → Situation = λ x. record (with_picture s block x) { queues = after_order s.queues core block; log = s.log ++ item.Sent (record { core = core; request = q; block = block }) ∷ [] } in
-    a.after ∙ (ap then next ∙ sym b.after)
+    let moved : Picture → Situation = λ x. record (with_picture s block x) { queues = after_order s.queues core block; log = s.log ++ item.Sent (record { core = core; request = q; block = block }) ∷ [] } in
+    a.after ∙ (ap moved next ∙ sym b.after)
 
 -- data does one thing at its requestor
 fills_one : (o : Open) (p : Protocol) (log : List Item) (old new new' : List Line) (did did' : Option Did) → FillsRequestor o p log old new did → FillsRequestor o p log old new' did' → (new ≡ new') × (did ≡ did')
@@ -261,10 +261,10 @@ responds_one s block o o' did did' new new' a b =
     let memory = memory_one (takes_payload o.request before.memory.state) p before.memory.state (arrival_at_memory o.payload) a.memory.act its.act a.next.memory.state b.next.memory.state a.memory.settled its.settled in
     let value : a.next.memory.value ≡ b.next.memory.value = a.memory.value ∙ (ap (λ act. written act o.value before.memory.value) memory.0 ∙ sym its.value) in
     let next : a.next ≡ b.next = same_picture _ _ _ _ _ _ caches.0 (same_memory _ _ _ _ memory.1 value) (a.closed ∙ sym b.closed) in
-    let then : Open → Option Did → Picture → Situation = λ x d n. record (with_picture s block n) { log = s.log ++ item.Came (came_of x) d ∷ [] } in (
+    let moved : Open → Option Did → Picture → Situation = λ x d n. record (with_picture s block n) { log = s.log ++ item.Came (came_of x) d ∷ [] } in (
       sym same,
       caches.1,
-      a.after ∙ (ap (λ n. then o did n) next ∙ (ap (λ d. then o d b.next) caches.1 ∙ (ap (λ x. then x did' b.next) (sym same) ∙ sym b.after))),
+      a.after ∙ (ap (λ n. moved o did n) next ∙ (ap (λ d. moved o d b.next) caches.1 ∙ (ap (λ x. moved x did' b.next) (sym same) ∙ sym b.after))),
     )
 
 -- a step moves in one way

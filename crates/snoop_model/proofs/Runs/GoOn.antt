@@ -1,6 +1,6 @@
 -- From every situation of a run each step leads on: it is a move, or refused for a cause.
 use Rattle.std.proofs.Common.{◌⊎◌, ◌≡◌, ℕ, ◌<◌, Bool, true, false, not, ◌&&◌, ◌||◌, List, [], ◌∷◌, Option, Some, None, refl, inl, inr, ap, sym, ◌∙◌, subst, arith, eqb}
-use Rattle.std.specs.Prelude.{Contains, Result, Ok, Err, is_some, option_map, slice_get, slice_set}
+use Rattle.std.specs.Prelude.{Contains, Result, Ok, Err, is_some, option_map, slice_get, slice_set, if◌then◌else◌}
 use Rattle.std.proofs.lemmas.Bool.{cases_lt, and_parts, eq-eqb}
 use Rattle.std.proofs.lemmas.Option.{same_Some}
 use Rattle.snoop_trace.specs.Words.{HasWord, IsWord, word_at}
@@ -40,11 +40,11 @@ use Rattle.snoop_model.specs.declared.replies.Refused.{Refused}
 use Rattle.snoop_model.specs.Pictures.Picture.{Picture, held_at, held_by}
 use Rattle.snoop_model.specs.Pictures.Situation.{Situation, picture_of, state_of, Waits, CanOrder, StandsFirst}
 use Rattle.snoop_model.specs.Pictures.Sound.{keeps, request_for, missed_request, IsProper}
-use Rattle.snoop_model.specs.Moves.Move.{Orders, IsFillFor, FirstMove, IsWithin}
+use Rattle.snoop_model.specs.Moves.Move.{Orders, is_load, FirstMove, IsWithin}
 use Rattle.snoop_model.specs.Runs.Run.{GoesFirst, FirstRunFrom}
 use Rattle.snoop_model.specs.Moves.Refuses.{Refuses, WaitsOnNone}
 use Rattle.snoop_model.specs.Pictures.InQueue.{IsInQueue}
-use Rattle.snoop_model.specs.Runs.Once.{one_if}
+use Rattle.snoop_model.proofs.Lists.Facts.{one_if}
 use Rattle.snoop_model.specs.Invariant.WellKept.{IsWellKept}
 use Rattle.snoop_model.proofs.Lists.QueueCounts.{times, times_cons}
 use Rattle.snoop_model.specs.Turns.TurnRule.{KeepsWell}
@@ -252,29 +252,29 @@ arrives_as_data Payload.Data e is = cc
 arrives_as_data _ e is = cc
 
 -- the operation that waits
-waits_for : (waiting : Option Access) (q : Request) → option_map (λ access. request_for access.op) waiting ≡ Some q → (access : Access) × (waiting ≡ Some access) × (request_for access.op ≡ q)
-waits_for None q e = cc
-waits_for (Some access) q e = (access, refl, same_Some _ _ e)
+waiting_access : (waiting : Option Access) (q : Request) → option_map (λ access. request_for access.op) waiting ≡ Some q → (access : Access) × (waiting ≡ Some access) × (request_for access.op ≡ q)
+waiting_access None q e = cc
+waiting_access (Some access) q e = (access, refl, same_Some _ _ e)
 
 -- the fill is for it, and performs it
-fill_load : (o : Op) → request_for o ≡ request.GetS → (word : ℕ) (ws : List ℕ) → IsFillFor action.FillLoad o × Performed word o ws
-fill_load op.Load e word ws = (tt, record { value = word_at ws word; after = ws; performs = (refl, refl) })
+fill_load : (o : Op) → request_for o ≡ request.GetS → (word : ℕ) (ws : List ℕ) → (action.FillLoad ≡ (if is_load o then action.FillLoad else action.FillStore)) × Performed word o ws
+fill_load op.Load e word ws = (refl, record { value = word_at ws word; after = ws; performs = (refl, refl) })
 fill_load _ e word ws = cc
 
-fill_store : (o : Op) → request_for o ≡ request.GetM → (word : ℕ) (ws : List ℕ) → IsFillFor action.FillStore o × Performed word o ws
+fill_store : (o : Op) → request_for o ≡ request.GetM → (word : ℕ) (ws : List ℕ) → (action.FillStore ≡ (if is_load o then action.FillLoad else action.FillStore)) × Performed word o ws
 fill_store op.Load e word ws = cc
-fill_store (op.Store v) e word ws = (tt, record { value = v; after = slice_set ws word v; performs = (refl, refl) })
+fill_store (op.Store v) e word ws = (refl, record { value = v; after = slice_set ws word v; performs = (refl, refl) })
 fill_store op.Evict e word ws = cc
 
 -- what the response brings to the caches
 module _ (p : Protocol) (log : List Item) (old : List Line) (o : Open) where
   fill : (e : CacheEvent) → arrival o.payload ≡ Some e → (act : CacheAction) (next : CacheState) → Cell p (held_at old o.core).state e act next → fills act (held_at old o.core).state ≡ true → IsProper (held_at old o.core) → Filled o p log old
   fill e arrives action.FillLoad next row fits proper =
-      let waits = waits_for (held_at old o.core).waiting request.GetS (proper.waiting ∙ same_request-true _ _ fits) in
+      let waits = waiting_access (held_at old o.core).waiting request.GetS (proper.waiting ∙ same_request-true _ _ fits) in
       let does = fill_load waits.0.op waits.2 waits.0.word o.value in
       responds.filled_by o p log old e arrives (record { action = action.FillLoad; next = next }) row waits.0 waits.1 does.0 does.1
   fill e arrives action.FillStore next row fits proper =
-      let waits = waits_for (held_at old o.core).waiting request.GetM (proper.waiting ∙ same_request-true _ _ fits) in
+      let waits = waiting_access (held_at old o.core).waiting request.GetM (proper.waiting ∙ same_request-true _ _ fits) in
       let does = fill_store waits.0.op waits.2 waits.0.word o.value in
       responds.filled_by o p log old e arrives (record { action = action.FillStore; next = next }) row waits.0 waits.1 does.0 does.1
   fill e arrives _ next row fits proper = cc

@@ -1,6 +1,6 @@
 -- The reply of each move, and the item of a load that hits.
 use Rattle.std.proofs.Common.{◌≡◌, ℕ, Bool, true, false, ◌++◌, List, Option, Some, refl, ap, sym, ◌∙◌, subst, inl, inr}
-use Rattle.std.specs.Prelude.{option_to_list, Result, Ok, Err, IfOk}
+use Rattle.std.specs.Prelude.{option_to_list, Result, Ok, Err, IfOk, if◌then◌else◌}
 use Rattle.snoop_trace.specs.declared.step.Op.{Op}
 use Rattle.snoop_trace.specs.declared.step.Op.TheVariants as op
 use Rattle.snoop_trace.specs.declared.step.Step.{Step}
@@ -26,7 +26,7 @@ use Rattle.snoop_model.specs.declared.replies.Reply.TheVariants as reply
 use Rattle.snoop_model.specs.declared.replies.Refused.{Refused}
 use Rattle.snoop_model.specs.Pictures.Picture.{held_by}
 use Rattle.snoop_model.specs.Pictures.Situation.{Situation, picture_of}
-use Rattle.snoop_model.specs.Moves.Move.{FirstMove, Takes, Performs, hit_reply, next_did}
+use Rattle.snoop_model.specs.Moves.Move.{FirstMove, Takes, Performs, is_load, next_did}
 use Rattle.snoop_model.specs.Moves.Replies.{IsReplyTo, IsLoadHit}
 use Rattle.snoop_model.proofs.Once.Asks.{is_evict, drop_evicts}
 use Rattle.snoop_model.proofs.Runs.Prepared.{move-log}
@@ -59,7 +59,7 @@ gone_reply : (core block word : ℕ) (asking : Op) → is_evict (asked asking) �
 gone_reply core block word op.Evict h = tt
 gone_reply core block word _ h = cc
 
-performed_reply : (core block word : ℕ) (asking : Op) (before : List ℕ) (value : ℕ) (after : List ℕ) → Performs word asking before value after → IsReplyTo (Ask core block word asking) (hit_reply asking value)
+performed_reply : (core block word : ℕ) (asking : Op) (before : List ℕ) (value : ℕ) (after : List ℕ) → Performs word asking before value after → IsReplyTo (Ask core block word asking) (if is_load asking then reply.Hit value else reply.StoreHit)
 performed_reply core block word op.Load before value after h = tt
 performed_reply core block word (op.Store v) before value after h = tt
 performed_reply core block word op.Evict before value after h = absurd h
@@ -118,9 +118,9 @@ step_replies old new step (Ok answer) taken = move_replies old new step answer t
 step_replies old new step (Err cause) taken = tt
 
 -- a load that hits stands in the log
-abbrev pub Hits : List Item → List Item → Step → Result Reply Refused → Type 0
-Hits before after step result = IfOk result (λ answer. (value : ℕ) → answer ≡ reply.Hit value → IsLoadHit step value before after)
+abbrev pub LoadsHit : List Item → List Item → Step → Result Reply Refused → Type 0
+LoadsHit before after step result = IfOk result (λ answer. (value : ℕ) → answer ≡ reply.Hit value → IsLoadHit step value before after)
 
-pub step_hits : (old new : Situation) (step : Step) (result : Result Reply Refused) → IfOk result (λ reply. (entry : Option Item) × FirstMove old step reply new entry) → Hits old.log new.log step result
+pub step_hits : (old new : Situation) (step : Step) (result : Result Reply Refused) → IfOk result (λ reply. (entry : Option Item) × FirstMove old step reply new entry) → LoadsHit old.log new.log step result
 step_hits old new step (Ok answer) taken = λ value is. load_hit old new step value taken.0 (subst (λ (r : Reply). FirstMove old step r new taken.0) is taken.1)
 step_hits old new step (Err cause) taken = tt

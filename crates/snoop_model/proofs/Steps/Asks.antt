@@ -1,6 +1,6 @@
 -- Asks: of an Evict in I, and by each row.
 use Rattle.std.proofs.Common.{◌≡◌, ℕ, true, List, ◌++◌, Option, Some, None, Ok, Err, inl, inr, ◌⊎◌, refl}
-use Rattle.std.specs.Prelude.{option_to_list}
+use Rattle.std.specs.Prelude.{option_to_list, if◌then◌else◌}
 use Rattle.snoop_trace.specs.Words.{HasWord}
 use Rattle.snoop_trace.specs.declared.step.Op.{Op}
 use Rattle.snoop_trace.specs.declared.step.Op.TheVariants as op
@@ -20,7 +20,7 @@ use Rattle.snoop_model.specs.declared.replies.Reply.TheVariants as reply
 use Rattle.snoop_model.specs.declared.replies.Refused.TheVariants.{Stalled}
 use Rattle.snoop_model.specs.Pictures.Picture.{held_by, with_line, kept_on}
 use Rattle.snoop_model.specs.Pictures.Situation.{Situation, picture_of, with_picture, state_of}
-use Rattle.snoop_model.specs.Moves.Move.{hit_reply, next_did, moves_to, kept_waiting, queues_after, IsWithin, IsAbsent, Asks, Takes}
+use Rattle.snoop_model.specs.Moves.Move.{is_load, next_did, moves_to, kept_waiting, queues_after, IsWithin, IsAbsent, Asks, Takes}
 use Rattle.snoop_model.specs.Runs.Run.{GoesFirst}
 use Rattle.snoop_model.proofs.Steps.Played.{Played, Performed}
 
@@ -54,10 +54,11 @@ module _ (old : Situation) (core block word : ℕ) (asking : Op) (within : IsWit
     hits row before kept done =
         let held : Line = record { state = next; kept = Some done.after; waiting = line.waiting } in
         let entry : Option Item = Some (item.Did (next_did old.log core block word asking done.value true)) in
+        let answer : Reply = if is_load asking then reply.Hit done.value else reply.StoreHit in
         record {
-          outcome = Ok (hit_reply asking done.value);
+          outcome = Ok answer;
           new = leads old core block action.Hit held entry;
-          goes = goes_by action.Hit row held (hit_reply asking done.value) entry (done.value, (record { before = before; after = done.after; kept = kept; performed = done.performs; held = refl }, refl, refl));
+          goes = goes_by action.Hit row held answer entry (done.value, (record { before = before; after = done.after; kept = kept; performed = done.performs; held = refl }, refl, refl));
         }
 
     abbrev pub issues : (request : Request) → Cell old.protocol (state_of old core block) (asked asking) (action.Issue request) next → Played old (Ask core block word asking)

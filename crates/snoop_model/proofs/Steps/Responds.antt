@@ -1,10 +1,11 @@
 -- A Respond of a block's open transaction.
 use Rattle.std.proofs.Common.{◌≡◌, ℕ, ◌<◌, Bool, false, List, [], ◌∷◌, ◌++◌, Option, Some, None, Ok, refl}
-use Rattle.std.specs.Prelude.{slice_set}
+use Rattle.std.specs.Prelude.{slice_set, if◌then◌else◌}
 use Rattle.snoop_trace.specs.declared.step.Step.TheVariants.{Respond}
 use Rattle.snoop_trace.specs.declared.protocol.Protocol.{Protocol}
 use Rattle.snoop_rules.specs.declared.names.CacheState.{CacheState}
 use Rattle.snoop_rules.specs.declared.names.CacheEvent.{CacheEvent}
+use Rattle.snoop_rules.specs.declared.names.CacheAction.TheVariants as action
 use Rattle.snoop_rules.specs.declared.names.CacheCell.{CacheCell}
 use Rattle.snoop_rules.specs.declared.names.MemState.{MemState}
 use Rattle.snoop_rules.specs.declared.names.MemAction.{MemAction}
@@ -22,7 +23,7 @@ use Rattle.snoop_model.specs.declared.replies.Reply.{Reply}
 use Rattle.snoop_model.specs.declared.replies.Reply.TheVariants as reply
 use Rattle.snoop_model.specs.Pictures.Picture.{Picture, held_at}
 use Rattle.snoop_model.specs.Pictures.Situation.{Situation, picture_of, with_picture}
-use Rattle.snoop_model.specs.Moves.Move.{next_did, IsFillFor, FillsRequestor, ArrivesFor, written, came_of}
+use Rattle.snoop_model.specs.Moves.Move.{next_did, is_load, FillsRequestor, ArrivesFor, written, came_of}
 use Rattle.snoop_model.specs.Runs.Run.{GoesFirst}
 use Rattle.snoop_model.proofs.Tables.RespondTests.{SettlesIf}
 use Rattle.snoop_model.proofs.Steps.Played.{Played, Performed}
@@ -45,7 +46,7 @@ module _ (closing : Open) (protocol : Protocol) (log : List Item) (lines : List 
   did_after access value = Some (next_did log closing.core closing.block access.word access.op value false)
 
   module _ (event : CacheEvent) (arrives : arrival closing.payload ≡ Some event) (row : CacheCell) (is_row : cell_of protocol (held_at lines closing.core).state event ≡ Some row)
-      (asking : Access) (waited : (held_at lines closing.core).waiting ≡ Some asking) (fill : IsFillFor row.action asking.op) (done : Performed asking.word asking.op closing.value) where
+      (asking : Access) (waited : (held_at lines closing.core).waiting ≡ Some asking) (fill : row.action ≡ (if is_load asking.op then action.FillLoad else action.FillStore)) (done : Performed asking.word asking.op closing.value) where
     pub fills_so : FillsRequestor closing protocol log lines (lines_after row.next done.after) (did_after asking done.value)
     fills_so = record {
       line = filled_line row.next done.after;

@@ -1,9 +1,9 @@
 -- What holds of every row, found by trying all.
-use Rattle.std.proofs.Common.{List, ◌≡◌, ℕ, Bool, true, false, not, ◌&&◌, ◌||◌, Option, Some, None, refl, sym, ◌∙◌}
+use Rattle.std.proofs.Common.{List, ◌≡◌, ℕ, Bool, true, false, not, ◌&&◌, ◌||◌, Option, Some, None, refl, sym, ap, ◌∙◌}
 use Rattle.std.proofs.Common.{inl, inr, subst}
 use Rattle.std.proofs.Math.Bool.{and-true, and-false}
 use Rattle.std.proofs.lemmas.Bool.{and_parts, cases_eq, eq-eqb, ne_eqb}
-use Rattle.std.specs.Prelude.{is_some, option_map}
+use Rattle.std.specs.Prelude.{is_some, option_map, if◌then◌else◌}
 use Rattle.snoop_trace.specs.declared.step.Op.{Op}
 use Rattle.snoop_trace.specs.declared.step.Op.TheVariants as op
 use Rattle.snoop_trace.specs.declared.protocol.Protocol.{Protocol}
@@ -24,7 +24,7 @@ use Rattle.snoop_rules.proofs.Rows.{each_row, each_row-at}
 use Rattle.snoop_model.specs.Pictures.Lines.{Line}
 use Rattle.snoop_model.specs.Pictures.Picture.{kept_on}
 use Rattle.snoop_model.specs.Pictures.Sound.{keeps, request_for, missed_request, IsProper}
-use Rattle.snoop_model.specs.Moves.Move.{moves_to, kept_waiting, IsFillFor}
+use Rattle.snoop_model.specs.Moves.Move.{moves_to, kept_waiting, is_load}
 
 -- requests, or none, as numbers that a test compares
 abbrev pub same_request : Option Request → Option Request → Bool
@@ -273,10 +273,20 @@ fill_test p s e row = elim row.action [
   | _ ↦ true
 ]
 
-fill_facts : (p : Protocol) (s : CacheState) (e : CacheEvent) (a : CacheAction) (n : CacheState) (asking : Op) → IsFillFor a asking → Cell p s e a n
+abbrev is_fill : CacheAction → Bool
+is_fill action.FillLoad = true
+is_fill action.FillStore = true
+is_fill _ = false
+
+is_fill-of : (a : CacheAction) (asking : Op) → a ≡ (if is_load asking then action.FillLoad else action.FillStore) → is_fill a ≡ true
+is_fill-of a op.Load fill = ap is_fill fill
+is_fill-of a (op.Store v) fill = ap is_fill fill
+is_fill-of a op.Evict fill = ap is_fill fill
+
+fill_facts : (p : Protocol) (s : CacheState) (e : CacheEvent) (a : CacheAction) (n : CacheState) → is_fill a ≡ true → Cell p s e a n
     → (keeps n ≡ true) × (missed_request n ≡ None) × (waiting_request n ≡ waiting_request s)
 unfolding each_row all_protocols all_states all_events
-fill_facts p s e action.FillLoad n asking fill row =
+fill_facts p s e action.FillLoad n fill row =
     let a = same_bool (keeps n) true in
     let b = same_request (missed_request n) None in
     let c = same_request (waiting_request n) (waiting_request s) in
@@ -284,7 +294,7 @@ fill_facts p s e action.FillLoad n asking fill row =
     let l = and_parts a (b && c) t in
     let r = and_parts b c l.1 in
     (same_bool-true _ _ l.0, same_request-true _ _ r.0, same_request-true _ _ r.1)
-fill_facts p s e action.FillStore n asking fill row =
+fill_facts p s e action.FillStore n fill row =
     let a = same_bool (keeps n) true in
     let b = same_request (missed_request n) None in
     let c = same_request (waiting_request n) (waiting_request s) in
@@ -292,13 +302,13 @@ fill_facts p s e action.FillStore n asking fill row =
     let l = and_parts a (b && c) t in
     let r = and_parts b c l.1 in
     (same_bool-true _ _ l.0, same_request-true _ _ r.0, same_request-true _ _ r.1)
-fill_facts p s e a n asking fill row = absurd fill
+fill_facts p s e a n fill row = cc
 
-pub fill-waits : (p : Protocol) (s : CacheState) (e : CacheEvent) (a : CacheAction) (n : CacheState) (asking : Op) → IsFillFor a asking → Cell p s e a n → waiting_request n ≡ waiting_request s
-fill-waits p s e a n asking fill row = (fill_facts p s e a n asking fill row).2
+pub fill-waits : (p : Protocol) (s : CacheState) (e : CacheEvent) (a : CacheAction) (n : CacheState) (asking : Op) → a ≡ (if is_load asking then action.FillLoad else action.FillStore) → Cell p s e a n → waiting_request n ≡ waiting_request s
+fill-waits p s e a n asking fill row = (fill_facts p s e a n (is_fill-of a asking fill) row).2
 
-pub IsProper-fill : (p : Protocol) (s : CacheState) (e : CacheEvent) (a : CacheAction) (n : CacheState) (asking : Op) (after : List ℕ) → IsFillFor a asking → Cell p s e a n
+pub IsProper-fill : (p : Protocol) (s : CacheState) (e : CacheEvent) (a : CacheAction) (n : CacheState) (asking : Op) (after : List ℕ) → a ≡ (if is_load asking then action.FillLoad else action.FillStore) → Cell p s e a n
     → IsProper (record { state = n; kept = Some after; waiting = None })
 IsProper-fill p s e a n asking after fill row =
-    let f = fill_facts p s e a n asking fill row in
+    let f = fill_facts p s e a n (is_fill-of a asking fill) row in
     record { kept = sym f.0; waiting = sym f.1 }

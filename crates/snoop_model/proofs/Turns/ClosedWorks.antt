@@ -18,7 +18,8 @@ use Rattle.snoop_model.specs.Pictures.Situation.{Situation, picture_of, state_of
 use Rattle.snoop_model.specs.Invariant.WellKept.{IsWellKept, awaited_request}
 use Rattle.snoop_model.proofs.Tables.WaitingRows.{has_missed}
 use Rattle.snoop_model.specs.Turns.Turn.{turn_of, step_under_way}
-use Rattle.snoop_model.specs.Runs.Once.{waits_for, one_if, same_access}
+use Rattle.snoop_model.specs.Runs.Once.{waits_for, same_access}
+use Rattle.snoop_model.proofs.Lists.Facts.{one_if}
 use Rattle.snoop_model.specs.Runs.Owed.{ClosedIsLast}
 
 -- a request waits, or its data is awaited

@@ -8,7 +8,7 @@ use Rattle.snoop_trace.specs.declared.step.Step.TheVariants.{Ask, Order, Respond
 use Rattle.snoop_rules.specs.declared.names.CacheState.TheVariants.{I}
 use Rattle.snoop_model.specs.Pictures.Situation.{Situation, state_of}
 use Rattle.snoop_model.specs.Moves.Move.{IsWithin}
-use Rattle.snoop_model.specs.Moves.Standing.{Standing, lines_of, has_line}
+use Rattle.snoop_model.specs.Moves.Standing.{Standing, line_count, has_line}
 
 -- the step is an Ask of the core that leaves I, a load or a store of a block that the core does not hold, and its map has no line for the block yet
 abbrev pub NeedsLine : Standing → Step → ℕ → Type 0
@@ -23,9 +23,9 @@ MovesToI old new core = (block : ℕ) × ((state_of old core block ≢ I) × (st
 
 -- an Ask that needs a line adds one for its core at most; where a core moves to I one line of it goes; nothing else changes how many there are
 pub record HoldsOn (old new : Standing) (step : Step) (core : ℕ) : Type 0 where
-  pub raised : NeedsLine old step core → (lines_of old core ≤ lines_of new core) × (lines_of new core ≤ lines_of old core + 1)
-  pub lowered : MovesToI old.situation new.situation core → lines_of new core + 1 ≡ lines_of old core
-  pub same : ¬ NeedsLine old step core → ¬ MovesToI old.situation new.situation core → lines_of new core ≡ lines_of old core
+  pub raised : NeedsLine old step core → (line_count old core ≤ line_count new core) × (line_count new core ≤ line_count old core + 1)
+  pub lowered : MovesToI old.situation new.situation core → line_count new core + 1 ≡ line_count old core
+  pub same : ¬ NeedsLine old step core → ¬ MovesToI old.situation new.situation core → line_count new core ≡ line_count old core
 
 -- the core's map has a line for each block that the core holds
 abbrev pub HasHeldLines : Standing → ℕ → Type 0

@@ -1,6 +1,6 @@
 -- The moves of the machine.
 -- Source: "A Primer on Memory Consistency and Cache Coherence", 2nd edition, chapter 7: atomic transactions, each controller taking its row of the tables; replies and items are this project's profile.
-use Rattle.std.specs.Prelude.{◌≡◌, ℕ, ◌<◌, Bool, true, false, List, [], ◌∷◌, ◌++◌, length, Option, Some, None, option_to_list, slice_set, MatchBool, IsSomeAnd, ◌⊎◌, ⊤}
+use Rattle.std.specs.Prelude.{◌≡◌, ℕ, ◌<◌, Bool, true, false, List, [], ◌∷◌, ◌++◌, length, Option, Some, None, option_to_list, slice_set, MatchBool, IsSomeAnd, ◌⊎◌, ⊤, if◌then◌else◌}
 use Rattle.snoop_trace.specs.Words.{Data, HasWord, word_at}
 use Rattle.snoop_trace.specs.declared.step.Op.{Op}
 use Rattle.snoop_trace.specs.declared.step.Op.TheVariants as op
@@ -17,7 +17,7 @@ use Rattle.snoop_rules.specs.declared.names.MemState.{MemState}
 use Rattle.snoop_rules.specs.declared.names.MemAction.{MemAction}
 use Rattle.snoop_rules.specs.declared.names.MemAction.TheVariants as mem_action
 use Rattle.snoop_rules.specs.declared.names.Request.{Request}
-use Rattle.snoop_rules.specs.declared.names.Request.TheVariants.{GetS, GetM, PutM}
+use Rattle.snoop_rules.specs.declared.names.Request.TheVariants.{PutM}
 use Rattle.snoop_rules.specs.declared.names.Payload.{Payload}
 use Rattle.snoop_rules.specs.declared.names.CacheCell.{CacheCell}
 use Rattle.snoop_rules.specs.declared.names.MemCell.{MemCell}
@@ -48,20 +48,12 @@ Performs word op.Evict before value after = ⊥
 -- the operation is a load
 abbrev pub is_load : Op → Bool
 is_load op.Load = true
-is_load (op.Store stored) = false
-is_load op.Evict = false
+is_load _ = false
 
--- the reply to a hit
-abbrev pub hit_reply : Op → ℕ → Reply
-hit_reply op.Load value = reply.Hit value
-hit_reply (op.Store stored) value = reply.StoreHit
-hit_reply op.Evict value = reply.Gone
-
--- the operation that waits once its request is issued
+-- what waits once a request is issued: a load or a store of this word, but not an eviction
 abbrev pub kept_waiting : ℕ → Op → Option Access
-kept_waiting word op.Load = Some (record { word = word; op = op.Load })
-kept_waiting word (op.Store stored) = Some (record { word = word; op = op.Store stored })
 kept_waiting word op.Evict = None
+kept_waiting word asking = Some (record { word = word; op = asking })
 
 -- the core's next operation in the log, as it is performed
 abbrev pub next_did : List Item → ℕ → ℕ → ℕ → Op → ℕ → Bool → Did
@@ -70,10 +62,6 @@ next_did log core block word op value hit = record { core = core; number = next_
 -- a core that moves to a state with nothing performed
 abbrev pub moves_to : CacheState → Line → Line
 moves_to next held = record { state = next; kept = kept_on next held.kept; waiting = held.waiting }
-
--- a core that moves to a state with its request issued: the operation waits, but an eviction does not
-abbrev pub moves_waiting : CacheState → ℕ → Op → Line → Line
-moves_waiting next word asking held = record (moves_to next held) { waiting = kept_waiting word asking }
 
 -- what a hit leaves in a line: the operation is performed on the kept words
 pub record Hits (next : CacheState) (old new : Line) (word : ℕ) (asking : Op) (value : ℕ) : Type 0 where
@@ -96,13 +84,7 @@ pub record TakesRows (protocol : Protocol) (core : ℕ) (request : Request) (old
 abbrev pub TakesMemRow : Protocol → MemEvent → MemState → MemState → Type 0
 TakesMemRow protocol event old new = (row : MemCell) × (memory_cell_of protocol old event ≡ Some row) × (new ≡ row.next)
 
--- a fill is for the operation that waits
-abbrev pub IsFillFor : CacheAction → Op → Type 0
-IsFillFor action.FillLoad op.Load = ⊤
-IsFillFor action.FillStore (op.Store stored) = ⊤
-IsFillFor _ _ = ⊥
-
--- the data reaches the requestor's line, and the operation that waits there is performed with it
+-- the data reaches the requestor's line, whose row is a fill for the operation that waits there, and this is performed with it
 pub record Fills (closing : Open) (protocol : Protocol) (old new : Line) (asking : Access) (value : ℕ) : Type 0 where
   pub event : CacheEvent
   pub row : CacheCell
@@ -110,7 +92,7 @@ pub record Fills (closing : Open) (protocol : Protocol) (old new : Line) (asking
   pub arrives : arrival closing.payload ≡ Some event
   pub is_row : cell_of protocol old.state event ≡ Some row
   pub waited : old.waiting ≡ Some asking
-  pub fill : IsFillFor row.action asking.op
+  pub fill : row.action ≡ (if is_load asking.op then action.FillLoad else action.FillStore)
   pub performed : Performs asking.word asking.op closing.value value after
   pub held : new ≡ record { state = row.next; kept = Some after; waiting = None }
 
@@ -126,8 +108,7 @@ pub record FillsRequestor (closing : Open) (protocol : Protocol) (log : List Ite
 -- what a response brings to the caches: nothing at a PutM
 abbrev pub ArrivesFor : Request → Open → Protocol → List Item → List Line → List Line → Option Did → Type 0
 ArrivesFor PutM closing protocol log old new did = (new ≡ old) × (did ≡ None)
-ArrivesFor GetS closing protocol log old new did = FillsRequestor closing protocol log old new did
-ArrivesFor GetM closing protocol log old new did = FillsRequestor closing protocol log old new did
+ArrivesFor _ closing protocol log old new did = FillsRequestor closing protocol log old new did
 
 -- memory's words after an action: a write takes the data's
 abbrev pub written : MemAction → Data → Data → Data
@@ -163,10 +144,10 @@ IsAbsent old core block asking answer new entry =
 -- what one core holds after an Ask by this row, what is replied, and the item that is added; a stall is no move
 abbrev pub Takes : CacheAction → CacheState → List Item → ℕ → ℕ → ℕ → Op → Line → Line → Reply → Option Item → Type 0
 Takes action.Hit next log core block word asking old new answer entry =
-    (value : ℕ) × (Hits next old new word asking value × (answer ≡ hit_reply asking value)
+    (value : ℕ) × (Hits next old new word asking value × (answer ≡ (if is_load asking then reply.Hit value else reply.StoreHit))
     × (entry ≡ Some (item.Did (next_did log core block word asking value true))))
 Takes (action.Issue request) next log core block word asking old new answer entry =
-    (new ≡ moves_waiting next word asking old) × (answer ≡ reply.Issued request) × (entry ≡ None)
+    (new ≡ record (moves_to next old) { waiting = kept_waiting word asking }) × (answer ≡ reply.Issued request) × (entry ≡ None)
 Takes action.Drop next log core block word asking old new answer entry =
     (new ≡ moves_to next old) × (answer ≡ reply.Gone) × (entry ≡ None)
 Takes _ next log core block word asking old new answer entry = ⊥
@@ -186,10 +167,6 @@ pub record Asks (old : Situation) (core block word : ℕ) (asking : Op) (answer 
     queues = queues_after row.action old.queues core block;
     log = old.log ++ option_to_list entry;
   }
-
--- an Evict in I, or an Ask that takes a row
-abbrev pub MovesAsk : Situation → ℕ → ℕ → ℕ → Op → Reply → Situation → Option Item → Type 0
-MovesAsk old core block word asking answer new entry = IsAbsent old core block asking answer new entry ⊎ Asks old core block word asking answer new entry
 
 -- an Order: each controller takes its row for the request, looked up before it, at once
 pub record Orders (old : Situation) (core block : ℕ) (request : Request) (new : Situation) : Type 0 where
@@ -218,11 +195,11 @@ pub record Responds (old : Situation) (block : ℕ) (closing : Open) (did : Opti
     log = old.log ++ item.Came (came_of closing) did ∷ [];
   }
 
--- an Ask of a core that there is, on this block, by a word that there is
+-- an Ask on this block, of a core and a word that there are: an Evict in I, or one that takes a row
 pub record AskMove (block : ℕ) (old : Situation) (core on word : ℕ) (asking : Op) (answer : Reply) (new : Situation) (entry : Option Item) : Type 0 where
   pub on_block : on ≡ block
   pub within : IsWithin old core block
-  pub moves : MovesAsk old core block word asking answer new entry
+  pub moves : IsAbsent old core block asking answer new entry ⊎ Asks old core block word asking answer new entry
   pub has_word : HasWord old.shape word asking
 
 -- an Order on this block: what is ordered is replied, and is the item
@@ -243,21 +220,16 @@ pub record RespondMove (block : ℕ) (old : Situation) (on : ℕ) (answer : Repl
   pub logged : entry ≡ Some (item.Came (came_of closing) did)
   pub responds : Responds old block closing did new
 
--- the step, on this block, is answered by this reply, leads from old to new, and adds this item, if any
+-- a move: the step, on this block, is answered by this reply, leads from old to new, and adds this item, if any
 abbrev pub MoveOn : ℕ → Situation → Step → Reply → Situation → Option Item → Type 0
 MoveOn block old (Ask core on word asking) answer new entry = AskMove block old core on word asking answer new entry
 MoveOn block old (Order core) answer new entry = OrderMove block old core answer new entry
 MoveOn block old (Respond on) answer new entry = RespondMove block old on answer new entry
 
--- a move, on any block where it is one
-abbrev pub Move : Situation → Step → Reply → Situation → Option Item → Type 0
-Move old step answer new entry = (block : ℕ) × MoveOn block old step answer new entry
-
 -- an Order takes the block that stands first
 abbrev pub TakesFirst : Situation → Step → ℕ → Type 0
 TakesFirst old (Order core) block = StandsFirst old core block
-TakesFirst old (Ask core on word asking) block = ⊤
-TakesFirst old (Respond on) block = ⊤
+TakesFirst old _ block = ⊤
 
 -- a move in which an Order takes the block that stands first
 abbrev pub FirstMove : Situation → Step → Reply → Situation → Option Item → Type 0

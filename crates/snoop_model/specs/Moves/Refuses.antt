@@ -2,7 +2,6 @@
 -- Source: this project's profile.
 use Rattle.std.specs.Prelude.{◌≡◌, ℕ, ◌<◌, ◌≤◌, ◌⊎◌, None, IsSome}
 use Rattle.snoop_trace.specs.Words.{HasWord}
-use Rattle.snoop_trace.specs.declared.step.Op.{Op}
 use Rattle.snoop_trace.specs.declared.step.Step.{Step}
 use Rattle.snoop_trace.specs.declared.step.Step.TheVariants.{Ask, Order, Respond}
 use Rattle.snoop_rules.specs.declared.names.CacheState.{CacheState}
@@ -15,10 +14,6 @@ use Rattle.snoop_model.specs.declared.replies.Refused.TheVariants.{NoCore, NoBlo
 use Rattle.snoop_model.specs.Pictures.Situation.{Situation, picture_of, state_of, Waits, StandsFirst}
 use Rattle.snoop_model.specs.Moves.Move.{IsWithin}
 
--- the cell is a stall
-abbrev pub IsStall : Situation → ℕ → ℕ → Op → Type 0
-IsStall s core block asking = (next : CacheState) × Cell s.protocol (state_of s core block) (asked asking) Stall next
-
 -- the core waits on no block
 abbrev pub WaitsOnNone : Situation → ℕ → Type 0
 WaitsOnNone s core = (block : ℕ) (request : Request) → ¬ Waits s core block request
@@ -27,7 +22,7 @@ WaitsOnNone s core = (block : ℕ) (request : Request) → ¬ Waits s core block
 abbrev pub Refuses : Situation → Step → Refused → Type 0
 Refuses s (Ask core block word asking) NoCore = s.shape.cores ≤ core
 Refuses s (Ask core block word asking) NoBlock = (core < s.shape.cores) × ((s.shape.blocks ≤ block) ⊎ (¬ HasWord s.shape word asking))
-Refuses s (Ask core block word asking) (Stalled state) = IsWithin s core block × (state ≡ state_of s core block) × IsStall s core block asking × HasWord s.shape word asking
+Refuses s (Ask core block word asking) (Stalled state) = IsWithin s core block × (state ≡ state_of s core block) × ((next : CacheState) × Cell s.protocol (state_of s core block) (asked asking) Stall next) × HasWord s.shape word asking
 Refuses s (Order core) NoCore = s.shape.cores ≤ core
 Refuses s (Order core) NothingWaiting = (core < s.shape.cores) × WaitsOnNone s core
 Refuses s (Order core) (BusTaken block) = (core < s.shape.cores) × StandsFirst s core block × IsSome (picture_of s block).transaction

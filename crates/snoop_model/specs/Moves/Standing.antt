@@ -14,8 +14,8 @@ pub record Standing : Type 0 where
   pub lines : List (List ℕ)
 
 -- how many lines the core's map has
-abbrev pub lines_of : Standing → ℕ → ℕ
-lines_of s core = length (slice_index_or s.lines core [])
+abbrev pub line_count : Standing → ℕ → ℕ
+line_count s core = length (slice_index_or s.lines core [])
 
 -- whether the core's map has a line for the block
 abbrev pub has_line : Standing → ℕ → ℕ → Bool

@@ -26,11 +26,7 @@ pub record IsOnlySender (protocol : Protocol) (before : Picture) (core : ℕ) (r
   pub sends : Sends protocol before core request from payload
   pub alone : (other : Option ℕ) (message : Payload) → Sends protocol before core request other message → other ≡ from
 
--- the words that the controller can send
-abbrev pub value_at : Picture → Option ℕ → Data
-value_at before None = before.memory.value
-value_at before (Some core) = unwrap_or (held_by before core).kept zero_words
-
--- the words in the message
+-- the words in the message: the sender's, where the payload carries them
 abbrev pub value_sent : Picture → Option ℕ → Payload → Data
-value_sent before from payload = if carries_value payload then value_at before from else zero_words
+value_sent before None payload = if carries_value payload then before.memory.value else zero_words
+value_sent before (Some core) payload = if carries_value payload then unwrap_or (held_by before core).kept zero_words else zero_words

@@ -26,10 +26,9 @@ same_access wanted access = wanted.word == access.word && same_op wanted.op acce
 
 -- the steps that were taken
 abbrev pub taken : List Step → List (Result Reply Refused) → List Step
-taken [] outcomes = []
-taken (step ∷ steps) [] = []
 taken (step ∷ steps) (Ok answer ∷ outcomes) = step ∷ taken steps outcomes
 taken (step ∷ steps) (Err cause ∷ outcomes) = taken steps outcomes
+taken _ _ = []
 
 -- the step is this core's Ask of the operation on the block
 abbrev pub asks : ℕ → ℕ → Access → Step → Bool
@@ -44,14 +43,9 @@ did_access did = record { word = did.word; op = if did.load then op.Load else op
 abbrev pub did_it : ℕ → Access → Did → Bool
 did_it block wanted did = did.block == block && same_access wanted (did_access did)
 
--- 1 where it is so, else 0
-abbrev pub one_if : Bool → ℕ
-one_if true = 1
-one_if false = 0
-
 -- 1 where the core's operation on the block waits, else 0
 abbrev pub waits_for : Situation → ℕ → ℕ → Access → ℕ
-waits_for s core block wanted = option_map_or (λ access. one_if (same_access wanted access)) (held_by (picture_of s block) core).waiting 0
+waits_for s core block wanted = option_map_or (λ access. if same_access wanted access then 1 else 0) (held_by (picture_of s block) core).waiting 0
 
 -- how often the core's operation on the block stands in the log or waits
 abbrev pub tally : Situation → ℕ → ℕ → Access → ℕ

@@ -1,6 +1,6 @@
 -- Whole runs from reset.
 -- Source: this project's profile.
-use Rattle.std.specs.Prelude.{◌≡◌, List, [], ◌∷◌, ◌++◌, map, Option, Result, Ok, Err}
+use Rattle.std.specs.Prelude.{◌≡◌, ℕ, List, [], ◌∷◌, ◌++◌, map, Option, Result, Ok, Err}
 use Rattle.snoop_trace.specs.Extent.{Extent}
 use Rattle.snoop_trace.specs.declared.step.Step.{Step}
 use Rattle.snoop_trace.specs.declared.protocol.Protocol.{Protocol}
@@ -9,12 +9,12 @@ use Rattle.snoop_model.specs.declared.replies.Reply.{Reply}
 use Rattle.snoop_model.specs.declared.replies.Refused.{Refused}
 use Rattle.snoop_model.specs.declared.replies.Refused.TheVariants.{NoMemory}
 use Rattle.snoop_model.specs.Pictures.Situation.{Situation, reset}
-use Rattle.snoop_model.specs.Moves.Move.{Move, FirstMove}
+use Rattle.snoop_model.specs.Moves.Move.{MoveOn, FirstMove}
 use Rattle.snoop_model.specs.Moves.Refuses.{Refuses}
 
 -- one step of a run: a move, an Order being on any block, or a refusal, which leaves all equal; any step may be refused as out of memory
 abbrev pub Goes : Situation → Step → Result Reply Refused → Situation → Type 0
-Goes old step (Ok answer) new = (entry : Option Item) × Move old step answer new entry
+Goes old step (Ok answer) new = (entry : Option Item) × ((block : ℕ) × MoveOn block old step answer new entry)
 Goes old step (Err NoMemory) new = new ≡ old
 Goes old step (Err cause) new = Refuses old step cause × (new ≡ old)
 

@@ -6,7 +6,7 @@ use Rattle.snoop_model.specs.Runs.Once.{OnceMore}
 use Rattle.snoop_model.proofs.Invariant.Safety.{step_keeps, is_safe}
 use Rattle.snoop_model.proofs.Invariant.Steps.{step_once}
 use Rattle.snoop_model.proofs.Runs.Shape.{step_stays, IsAlike}
-use Rattle.snoop_model.proofs.Runs.Replies.{Hits, step_replies, step_hits}
+use Rattle.snoop_model.proofs.Runs.Replies.{LoadsHit, step_replies, step_hits}
 use Rattle.snoop_machine.specs.AnyParts.{stand}
 use Rattle.snoop_machine.proofs.machine.Machine.step.Goals as goal
 use Rattle.snoop_machine.proofs.machine.Machine.step.Goals.{After-step}
@@ -36,5 +36,5 @@ returns-clause-replied c = step_replies (stand c.self.inside.parts).situation (s
 
 pub returns-clause-hit : goal.returns-clause-hit
 returns-clause-hit c =
-    let P : Standing → Type 0 = λ s. Hits s.situation.log (stand c.step.new.self).situation.log c.args.step c.step.result in
+    let P : Standing → Type 0 = λ s. LoadsHit s.situation.log (stand c.step.new.self).situation.log c.args.step c.step.result in
     subst P c.self.view_is (step_hits (stand c.self.inside.parts).situation (stand c.step.new.self).situation c.args.step c.step.result c.step.ensures.taken)
