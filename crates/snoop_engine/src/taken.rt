@@ -10,11 +10,13 @@ ghost use Rattle.snoop_model.specs.Runs.Run.{GoesFirst};
 ghost use Rattle.snoop_model.specs.declared.replies.Refused.{Refused as Cause};
 ghost use Rattle.snoop_model.specs.Pictures.Situation.{Situation};
 ghost use Rattle.snoop_engine.specs.Askers.{AreAskers, AreOthersInI, IsHeadFor};
+ghost use Rattle.snoop_engine.specs.Courses.{LeadsOn};
 ghost use Rattle.snoop_engine.specs.Views.{block_of};
 ghost use Rattle.snoop_engine.specs.declared.taken.Taken.TheVariants as Line;
 ghost use Rattle.snoop_engine.specs.Taken.{lines_of, memory_at, of_arrival, of_arrival_at_memory, of_ask, of_core, of_holder, of_memory, of_request, of_requestor, of_respond, refused_by, state_at, taken_by, of_waiting_memory, unless_i};
 
 use crate::askers::Askers;
+use crate::course::Course;
 use crate::events::event_asked;
 use snoop_blocks::CoreSet;
 use snoop_bus::Open;
@@ -392,32 +394,35 @@ fn is_bus_taken(machine: &Machine, step: Step, head: Option<(Request, u32)>) -> 
     }
 }
 
-/// Takes one step, and adds what there is to say of it to the lines, which are empty.
-pub(crate) fn take_step(
+/// Takes the step that was found, and adds what there is to say of it to the lines, which are empty.
+pub(crate) fn take_step<C: Course>(
     lines: &mut Vec<Taken>,
-    machine: &mut Machine,
+    course: &mut C,
     askers: &mut Askers,
     step: Step,
     head: Option<(Request, u32)>,
 ) -> Result<Result<Reply, Refused>, NoMemory>
     requires empty { lines.old.items ≡ [] }
-    requires askers { AreAskers machine.old.situation askers.old.sets }
-    requires head { IsHeadFor machine.old.situation step head }
-    ensures goes { IfOk result (λ outcome. GoesFirst machine.old.situation step outcome machine.new.situation) }
-    ensures lines { IfOk result (λ outcome. lines.new.items ≡ lines_of machine.old.situation step outcome) }
-    ensures askers { IfOk result (λ outcome. AreAskers machine.new.situation askers.new.sets) }
+    requires found { (before : C) × C.finds before step course.old }
+    requires askers { AreAskers (C.situation course.old) askers.old.sets }
+    requires head { IsHeadFor (C.situation course.old) step head }
+    ensures goes { IfOk result (λ outcome. GoesFirst (C.situation course.old) step outcome (C.situation course.new)) }
+    ensures fewer { (before : C) → C.finds before step course.old → IfOk result (λ outcome. C.left course.new < C.left before) }
+    ensures leads { (before : C) → C.finds before step course.old → IfOk result (λ outcome. LeadsOn (C.leads before) step outcome (C.leads course.new)) }
+    ensures lines { IfOk result (λ outcome. lines.new.items ≡ lines_of (C.situation course.old) step outcome) }
+    ensures askers { IfOk result (λ outcome. AreAskers (C.situation course.new) askers.new.sets) }
 {
+    let machine = course.machine();
     machine.shape().within_limits();
     if !is_bus_taken(machine, step, head) {
         add_taken(lines, machine, askers, step, head)?;
     }
-    let outcome = machine.step(step);
+    let outcome = course.take(step)?;
     match outcome {
         Ok(_) => askers.follow(step),
-        Err(Refused::NoMemory) => return Err(NoMemory),
         Err(cause) => {
             lines.clear();
-            add_refused(lines, machine, step, cause)?;
+            add_refused(lines, course.machine(), step, cause)?;
         }
     }
     Ok(outcome)
