@@ -402,6 +402,7 @@ fn is_bus_taken(machine: &Machine, step: Step, head: Option<(Request, u32)>) -> 
 }
 
 /// Takes the step that was found, and adds what there is to say of it to the lines, which are empty.
+#[inline(always)]
 pub(crate) fn take_step<C: Course>(
     lines: &mut Vec<Taken>,
     course: &mut C,
