@@ -1,7 +1,7 @@
 //! What each count counts, and for whom.
 ghost use Rattle.std.specs.Prelude.{◌≡◌, ◌||◌, false, None};
 ghost use Rattle.std.specs.Option.{option_map_or};
-ghost use Rattle.snoop_counts.specs.Counted.{block_named, core_counted, core_named, counts, counts_cause, counts_lines, counts_refusal, counts_row, has_row, is_downgrade, is_from_cache, is_giving_up, is_invalidation, is_loss, is_lost_upgrade, is_miss, is_overtaking, is_refused, is_taking, is_upgrade, named_place, own_block, own_core, own_word, requestor_of, sender_of, subject_of};
+ghost use Rattle.snoop_counts.specs.Counted.{block_named, core_counted, core_named, counts, counts_cause, counts_lines, counts_refusal, counts_row, has_row, is_downgrade, is_from_cache, is_giving_up, is_invalidation, is_loss, is_lost_upgrade, is_miss, is_overtaking, is_refused, is_some_row, is_taking, is_upgrade, named_place, own_block, own_core, own_word, requestor_of, sender_of, subject_of};
 ghost use Rattle.snoop_counts.specs.declared.count.Happening.TheVariants as happening;
 ghost use Rattle.snoop_history.specs.declared.items.Item.TheVariants as item;
 
@@ -178,6 +178,36 @@ fn counts_row(count: Count, state: CacheState, event: CacheEvent) -> bool
         Count::Taken => is_taking(state, event),
         Count::Downgraded => is_downgrade(state, event),
         Count::Overtaken => is_overtaking(state, event),
+        _ => false,
+    }
+}
+
+// Whether a row is counted by any of the counts of rows.
+#[inline(always)]
+fn is_some_row(state: CacheState, event: CacheEvent) -> bool
+    ensures { result ≡ is_some_row state event }
+{
+    is_miss(state, event)
+        || is_upgrade(state, event)
+        || is_lost_upgrade(state, event)
+        || is_invalidation(state, event)
+        || is_taking(state, event)
+        || is_downgrade(state, event)
+        || is_overtaking(state, event)
+}
+
+/// Whether the row of a line is counted by any of the counts of rows, if it has one.
+#[inline(always)]
+pub(crate) fn has_some_row(line: Taken) -> bool
+    ensures { result ≡ has_row is_some_row line }
+{
+    match line {
+        Taken::Core {
+            core: _,
+            block: _,
+            event: Some(event),
+            before,
+        } => is_some_row(before, event),
         _ => false,
     }
 }

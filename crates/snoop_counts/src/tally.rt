@@ -1,70 +1,21 @@
 //! Counters, a row of them for each core or block.
-ghost use Rattle.std.specs.Prelude.{◌≡◌, ◌<◌, ◌++◌, ◌∷◌, [], ℕ, List, IfOk, IsSomeAnd};
+ghost use Rattle.std.specs.Prelude.{◌≡◌, ◌<◌, ◌++◌, ◌∷◌, [], ℕ, List, IfOk, IsSomeAnd, None, Ok};
+ghost use Rattle.snoop_model.specs.declared.replies.Reply.{Reply as Answer};
+ghost use Rattle.snoop_trace.specs.declared.step.Step.{Step as Given};
 ghost use Rattle.snoop_counts.specs.Counted.{counted_of};
-ghost use Rattle.snoop_counts.specs.Tally.{HasCounted, IsRowOf, counter_in, empty_row, own_raised, raised, raised_all, raised_by, raised_if, raised_row, tried};
+ghost use Rattle.snoop_counts.specs.Tally.{HasCounted, IsRowOf, counter_in, empty_row, of_lines, of_operations, of_requests, of_responses, of_rows, own_raised, raised, raised_all, raised_by, raised_if, raised_row, tried};
 ghost use Rattle.snoop_counts.specs.declared.count.Count.{Count as Counted};
 ghost use Rattle.snoop_counts.specs.declared.count.Happening.{Happening};
+ghost use Rattle.snoop_counts.specs.declared.count.Happening.TheVariants.{Line};
 ghost use Rattle.snoop_counts.specs.declared.count.Subjects.{Subjects};
 
 use crate::count::{Count, Happening, Subjects};
-use crate::counted::{counts, subject_of};
+use crate::counted::{counts, has_some_row, subject_of};
 use snoop_blocks::BlockTable;
+use snoop_engine::Taken;
 use snoop_history::Item;
 use snoop_trace::NoMemory;
 use std::alloc::Global;
-
-// The counts that may count an operation.
-static OF_OPERATIONS: [Count; 5] = [
-    Count::Loads,
-    Count::LoadHits,
-    Count::Stores,
-    Count::StoreHits,
-    Count::Operations,
-];
-
-// The counts that may count a request that was ordered.
-static OF_REQUESTS: [Count; 3] = [Count::GetS, Count::GetM, Count::PutM];
-
-// The counts that may count a response, for whom it was sent to.
-static OF_RESPONSES: [Count; 5] = [
-    Count::FromMemory,
-    Count::FromCaches,
-    Count::Writebacks,
-    Count::Clean,
-    Count::Stale,
-];
-
-// The counts that may count a line, for whom it names: of a step that was taken, and that is no miss.
-static OF_ROWS: [Count; 8] = [
-    Count::Lines,
-    Count::Misses,
-    Count::Upgrades,
-    Count::UpgradesLost,
-    Count::Invalidated,
-    Count::Taken,
-    Count::Downgraded,
-    Count::Overtaken,
-];
-
-// The same of any line.
-static OF_LINES: [Count; 16] = [
-    Count::Lines,
-    Count::Misses,
-    Count::Upgrades,
-    Count::UpgradesLost,
-    Count::Invalidated,
-    Count::Taken,
-    Count::Downgraded,
-    Count::Overtaken,
-    Count::Cold,
-    Count::GivenUp,
-    Count::TrueSharing,
-    Count::FalseSharing,
-    Count::Stalled,
-    Count::BusTaken,
-    Count::NothingWaiting,
-    Count::NoTransaction,
-];
 
 /// A counter for each count.
 #[derive(Clone, Copy, Debug)]
@@ -99,13 +50,74 @@ impl Counters {
         }
     }
 
-    // Counts the happening by each of these counts that counts it.
-    fn raise_all(&mut self, tried: &[Count], happening: Happening)
-        ensures { self.new ≡ raised_all tried.now happening self.old }
+    // Counts an operation.
+    fn raise_operation(&mut self, happening: Happening)
+        ensures { self.new ≡ raised_all of_operations happening self.old }
     {
-        for count in tried {
-            self.raise_if(*count, happening);
+        self.raise_if(Count::Loads, happening);
+        self.raise_if(Count::LoadHits, happening);
+        self.raise_if(Count::Stores, happening);
+        self.raise_if(Count::StoreHits, happening);
+        self.raise_if(Count::Operations, happening);
+    }
+
+    // Counts a request that was ordered.
+    fn raise_request(&mut self, happening: Happening)
+        ensures { self.new ≡ raised_all of_requests happening self.old }
+    {
+        self.raise_if(Count::GetS, happening);
+        self.raise_if(Count::GetM, happening);
+        self.raise_if(Count::PutM, happening);
+    }
+
+    // Counts a response, for whom it was sent to.
+    fn raise_response(&mut self, happening: Happening)
+        ensures { self.new ≡ raised_all of_responses happening self.old }
+    {
+        self.raise_if(Count::FromMemory, happening);
+        self.raise_if(Count::FromCaches, happening);
+        self.raise_if(Count::Writebacks, happening);
+        self.raise_if(Count::Clean, happening);
+        self.raise_if(Count::Stale, happening);
+    }
+
+    // Counts the line of a step that was taken, and that is no miss, for whom it names.
+    fn raise_row(&mut self, happening: Happening, line: Taken)
+        requires { (step : Given) × ((answer : Answer) × (happening ≡ Line step (Ok answer) line None)) }
+        ensures { self.new ≡ raised_all of_rows happening self.old }
+    {
+        self.raise(Count::Lines);
+        if has_some_row(line) {
+            self.raise_if(Count::Misses, happening);
+            self.raise_if(Count::Upgrades, happening);
+            self.raise_if(Count::UpgradesLost, happening);
+            self.raise_if(Count::Invalidated, happening);
+            self.raise_if(Count::Taken, happening);
+            self.raise_if(Count::Downgraded, happening);
+            self.raise_if(Count::Overtaken, happening);
         }
+    }
+
+    // Counts any line, for whom it names.
+    fn raise_line(&mut self, happening: Happening)
+        ensures { self.new ≡ raised_all of_lines happening self.old }
+    {
+        self.raise_if(Count::Lines, happening);
+        self.raise_if(Count::Misses, happening);
+        self.raise_if(Count::Upgrades, happening);
+        self.raise_if(Count::UpgradesLost, happening);
+        self.raise_if(Count::Invalidated, happening);
+        self.raise_if(Count::Taken, happening);
+        self.raise_if(Count::Downgraded, happening);
+        self.raise_if(Count::Overtaken, happening);
+        self.raise_if(Count::Cold, happening);
+        self.raise_if(Count::GivenUp, happening);
+        self.raise_if(Count::TrueSharing, happening);
+        self.raise_if(Count::FalseSharing, happening);
+        self.raise_if(Count::Stalled, happening);
+        self.raise_if(Count::BusTaken, happening);
+        self.raise_if(Count::NothingWaiting, happening);
+        self.raise_if(Count::NoTransaction, happening);
     }
 
     // Counts the happening by all counts but those of what a core does to others.
@@ -113,19 +125,20 @@ impl Counters {
         ensures { self.new ≡ raised_all (tried happening) happening self.old }
     {
         match happening {
-            Happening::Item(Item::Did(_)) => self.raise_all(&OF_OPERATIONS, happening),
-            Happening::Item(Item::Sent(_)) => self.raise_all(&OF_REQUESTS, happening),
-            Happening::Item(Item::Came(_, None)) => self.raise_all(&OF_RESPONSES, happening),
+            Happening::Item(Item::Did(_)) => self.raise_operation(happening),
+            Happening::Item(Item::Sent(_)) => self.raise_request(happening),
+            Happening::Item(Item::Came(_, None)) => self.raise_response(happening),
             Happening::Item(Item::Came(_, Some(_))) => {
-                self.raise_all(&OF_RESPONSES, happening);
-                self.raise_all(&OF_OPERATIONS, happening);
+                self.raise_response(happening);
+                self.raise_operation(happening);
             }
             Happening::Line {
                 outcome: Ok(_),
+                line,
                 cause: None,
                 ..
-            } => self.raise_all(&OF_ROWS, happening),
-            Happening::Line { .. } => self.raise_all(&OF_LINES, happening),
+            } => self.raise_row(happening, line),
+            Happening::Line { .. } => self.raise_line(happening),
         }
     }
 
@@ -194,6 +207,7 @@ impl Tally {
     }
 
     // Counts the happening by this count, if it counts it.
+    #[inline(always)]
     fn count(&mut self, count: Count, happening: Happening)
         ensures { self.new ≡ record self.old { rows = raised_by self.old.subjects count happening self.old.rows } }
     {

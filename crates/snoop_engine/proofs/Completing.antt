@@ -21,6 +21,7 @@ use Rattle.snoop_model.specs.Runs.Run.{FirstRunFrom, RunsGoOn, TheRun}
 use Rattle.snoop_model.specs.Turns.Serving.{IsUnderWay}
 use Rattle.snoop_model.specs.Turns.Turn.{turn_of}
 use Rattle.snoop_model.proofs.Turns.Laws.{turn_rule}
+use Rattle.snoop_engine.specs.Courses.{CanEnd}
 use Rattle.snoop_engine.specs.InOrder.{EndsInOrder, FollowsInOrder, InOrder, IsInOrder, TakesUpNext, remaining_in_order}
 use Rattle.snoop_engine.specs.InOrder as in_order
 use Rattle.snoop_engine.specs.Journey.{IsAtTheEnd}
@@ -242,3 +243,16 @@ module _ (go_on : RunsGoOn) (protocol : Protocol) (shape : Extent) where
   pub complete_in_order : (fuel : ℕ) → CompleteInOrder fuel
   complete_in_order zero before answered s left row run fit few = absurd (omega (arith, few))
   complete_in_order (suc fuel) before answered s left row run fit few = then_row fuel (complete_in_order fuel) before answered s left row run fit few row refl
+
+  -- wherever they have come, such drivers can go on to their ends
+  pub driver_can_end : (d : Progress) → IsFit d.situation d.lanes d.turns → (steps : List Step) (outcomes : List (Result Reply Refused)) → TheRun protocol shape steps outcomes d.situation
+      → CanEnd (λ more answers final. IsAtTheEnd d more answers final)
+  driver_can_end d fit steps outcomes run =
+      let end = complete (suc (remaining d + length d.turns)) steps outcomes d.situation d.lanes d.turns run fit (omega arith) in
+      record { steps = end.0; outcomes = end.1.0; final = end.1.1.0; way = end.1.1.1 }
+
+  pub in_order_can_end : (d : InOrder) → IsInOrder d.situation d.left d.row → (steps : List Step) (outcomes : List (Result Reply Refused)) → TheRun protocol shape steps outcomes d.situation
+      → CanEnd (λ more answers final. EndsInOrder d more answers final)
+  in_order_can_end d fit steps outcomes run =
+      let end = complete_in_order (suc (remaining_in_order d)) steps outcomes d.situation d.left d.row run fit (omega arith) in
+      record { steps = end.0; outcomes = end.1.0; final = end.1.1.0; way = end.1.1.1 }

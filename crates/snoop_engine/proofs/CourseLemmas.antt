@@ -1,54 +1,57 @@
 -- Courses, step by step, and the rows that they serve.
 use Rattle.std.proofs.Common.{◌≡◌, ℕ, ◌+◌, ◌*◌, ◌<◌, true, Option, Some, None, List, [], ◌∷◌, ◌++◌, length, length-append, map, drop, refl, sym, ◌∙◌, ap, subst, arith, append_assoc, append-nil, get_or}
-use Rattle.std.specs.Prelude.{Result, Ok, Err, IsOk, IfOk, IfSome, IfNone, option_to_list}
+use Rattle.std.specs.Prelude.{Result, Ok, IsOk, IfNone, option_to_list}
 use Rattle.std.specs.List.{cons_option}
 use Rattle.std.proofs.lemmas.List.{length-map, map-append}
 use Rattle.std.proofs.lemmas.List.Elements.{All-cons, All-nil}
 use Rattle.snoop_trace.specs.Extent.{Extent}
-use Rattle.snoop_trace.specs.declared.fault.NoMemory.{NoMemory}
 use Rattle.snoop_trace.specs.declared.step.Row.{Row}
 use Rattle.snoop_trace.specs.declared.step.Step.{Step}
 use Rattle.snoop_trace.specs.declared.step.Step.TheVariants.{Ask, Order, Respond}
 use Rattle.snoop_trace.specs.declared.step.Work.{Work}
 use Rattle.snoop_trace.specs.declared.protocol.Protocol.{Protocol}
+use Rattle.snoop_history.specs.declared.items.Item.{Item}
 use Rattle.snoop_model.specs.declared.replies.Reply.{Reply}
 use Rattle.snoop_model.specs.declared.replies.Refused.{Refused}
 use Rattle.snoop_model.specs.Pictures.Situation.{Situation, reset}
+use Rattle.snoop_model.specs.Moves.Move.{FirstMove}
 use Rattle.snoop_model.specs.Runs.Run.{FirstRunFrom}
+use Rattle.snoop_model.specs.Turns.Quiet.{IsQuiet}
 use Rattle.snoop_model.specs.Turns.Serving.{owed, paid}
 use Rattle.snoop_model.proofs.Turns.Laws.{turn_rule}
-use Rattle.snoop_engine.specs.InOrder.{EndsInOrder, FollowsInOrder, InOrder, IsDoneInOrder, LeadsToRest, remaining_in_order}
+use Rattle.snoop_engine.specs.Courses.{Leading, LeadsOn}
+use Rattle.snoop_engine.specs.InOrder.{EndsInOrder, FindsInOrder, FollowsInOrder, InOrder, IsDoneInOrder, LeadsToRest, remaining_in_order}
 use Rattle.snoop_engine.specs.Inputs.{StepsServe, StepsServeSerially}
-use Rattle.snoop_engine.specs.Journey.{IsAtTheEnd}
-use Rattle.snoop_engine.specs.Round.{Follows, IsDone, Progress, remaining}
+use Rattle.snoop_engine.specs.Journey.{IsAtTheEnd, IsAtTheStart}
+use Rattle.snoop_engine.specs.Round.{Finds, Follows, IsDone, Progress, TakesUp, remaining}
 use Rattle.snoop_engine.specs.Serial.{all_asks, ask_for, is_ask}
 use Rattle.snoop_engine.specs.Served.{ask_of, asks_of}
-use Rattle.snoop_engine.specs.Todo.{left_in, todo_of, works_of}
+use Rattle.snoop_engine.specs.Todo.{Todo, todo_of}
+use Rattle.snoop_engine.proofs.Fewer.{leaves_fewer}
 use Rattle.snoop_engine.proofs.Journeys.{end_serves, owed_reset}
 use Rattle.snoop_engine.proofs.SerialLemmas.{asks_among, asks_of_rows}
 use Rattle.snoop_engine.proofs.TakenLemmas.{same_shape}
 
 -- what leads on from here leads on from the first place too, after the steps so far
-pub record Gathered (first now : List Step → List (Result Reply Refused) → Situation → Type 0) (steps : List Step) : Type 0 where
+pub record Gathered (first now : Leading) (steps : List Step) : Type 0 where
   pub outcomes : List (Result Reply Refused)
   pub leads : (rest : List Step) (more : List (Result Reply Refused)) (final : Situation) → now rest more final → first (steps ++ rest) (outcomes ++ more) final
 
-pub gathered_none : (first : List Step → List (Result Reply Refused) → Situation → Type 0) (steps : List Step) → steps ≡ [] → Gathered first first steps
+pub gathered_none : (first : Leading) (steps : List Step) → steps ≡ [] → Gathered first first steps
 gathered_none first steps e = record {
   outcomes = [];
   leads = λ rest more final h. subst (λ (l : List Step). first (l ++ rest) more final) (sym e) h;
 }
 
-module _ (first now : List Step → List (Result Reply Refused) → Situation → Type 0) (steps : List Step) (far : Gathered first now steps) where
-  pub gathered_more : (next : List Step → List (Result Reply Refused) → Situation → Type 0) (step : Step) (answer : Reply) (grown : List Step) → grown ≡ steps ++ step ∷ []
-      → ((rest : List Step) (more : List (Result Reply Refused)) (final : Situation) → next rest more final → now (step ∷ rest) (Ok answer ∷ more) final) → Gathered first next grown
-  gathered_more next step answer grown e on = record {
-    outcomes = far.outcomes ++ Ok answer ∷ [];
+module _ (first now : Leading) (steps : List Step) (far : Gathered first now steps) where
+  pub gathered_more : (next : Leading) (step : Step) (outcome : Result Reply Refused) (grown : List Step) → grown ≡ steps ++ step ∷ [] → LeadsOn now step outcome next → Gathered first next grown
+  gathered_more next step outcome grown e on = record {
+    outcomes = far.outcomes ++ outcome ∷ [];
     leads = λ rest more final h.
-        (let later : first (steps ++ step ∷ rest) (far.outcomes ++ Ok answer ∷ more) final = far.leads (step ∷ rest) (Ok answer ∷ more) final (on rest more final h) in
-        let answered : first (steps ++ step ∷ rest) ((far.outcomes ++ Ok answer ∷ []) ++ more) final =
-        subst (λ (l : List (Result Reply Refused)). first (steps ++ step ∷ rest) l final) (sym (append_assoc far.outcomes (Ok answer ∷ []) more)) later in
-        subst (λ (l : List Step). first l ((far.outcomes ++ Ok answer ∷ []) ++ more) final) (sym (append_assoc steps (step ∷ []) rest) ∙ ap (λ (l : List Step). l ++ rest) (sym e)) answered);
+        (let later : first (steps ++ step ∷ rest) (far.outcomes ++ outcome ∷ more) final = far.leads (step ∷ rest) (outcome ∷ more) final (on rest more final h) in
+        let answered : first (steps ++ step ∷ rest) ((far.outcomes ++ outcome ∷ []) ++ more) final =
+        subst (λ (l : List (Result Reply Refused)). first (steps ++ step ∷ rest) l final) (sym (append_assoc far.outcomes (outcome ∷ []) more)) later in
+        subst (λ (l : List Step). first l ((far.outcomes ++ outcome ∷ []) ++ more) final) (sym (append_assoc steps (step ∷ []) rest) ∙ ap (λ (l : List Step). l ++ rest) (sym e)) answered);
   }
 
   pub gathered_all : (final : Situation) → now [] [] final → (outcomes : List (Result Reply Refused)) × ((end : Situation) × first steps outcomes end)
@@ -81,23 +84,22 @@ driver_leads old new step answer follows steps outcomes final h = record {
   few = omega (arith, follows.fewer, h.few);
 }
 
-pub driver_ends : (old new : Progress) → IsDone old new → IsAtTheEnd old [] [] new.situation
+pub driver_ends : (old new : Progress) → IsDone old new → IsAtTheEnd old [] [] old.situation
 driver_ends old new done = record {
-  run = done.situation;
+  run = refl;
   taken = All-nil IsOk;
   asked = λ core. done.left core;
-  quiet = done.quiet;
+  quiet = subst IsQuiet done.situation done.quiet;
   few = omega arith;
 }
 
 pub driver_serves : (protocol : Protocol) (shape : Extent) (rows : List Row) (start : Progress) (steps : List Step) (outcomes : List (Result Reply Refused)) (final : Situation)
-    → start.situation ≡ reset protocol shape → ((core : ℕ) → (todo_of start.lanes core).left ≡ works_of shape rows core) → left_in start.lanes ≡ length rows
-    → IsAtTheEnd start steps outcomes final → StepsServe protocol shape rows steps
-driver_serves protocol shape rows start steps outcomes final at left all end = record {
+    → IsAtTheStart protocol shape rows start → IsAtTheEnd start steps outcomes final → StepsServe protocol shape rows steps
+driver_serves protocol shape rows start steps outcomes final begins end = record {
   outcomes = outcomes;
   final = final;
-  run = subst (λ (s : Situation). FirstRunFrom s steps outcomes final) at end.run;
-  serves = end_serves protocol shape rows start steps outcomes final at left all end;
+  run = subst (λ (s : Situation). FirstRunFrom s steps outcomes final) begins.situation end.run;
+  serves = end_serves protocol shape rows start steps outcomes final begins.situation begins.left begins.all end;
 }
 
 -- an Ask pays for three steps
@@ -195,41 +197,33 @@ in_order_serves protocol shape rows start steps outcomes final at left end =
       };
     }
 
--- the same of what a driver answered
-module _ (old new : Progress) where
-  pub driver_steps : (r : Result (Option (Step × Reply)) NoMemory) → IfOk r (λ taken. IfSome taken (λ t. Follows old t.0 t.1 new))
-      → IfOk r (λ taken. IfSome taken (λ t. (steps : List Step) (outcomes : List (Result Reply Refused)) (final : Situation) → IsAtTheEnd new steps outcomes final → IsAtTheEnd old (t.0 ∷ steps) (Ok t.1 ∷ outcomes) final))
-  driver_steps (Ok (Some t)) h = driver_leads old new t.0 t.1 h
-  driver_steps (Ok None) h = tt
-  driver_steps (Err fault) h = tt
+-- a step that a driver found, taken
+module _ (before old new : Progress) (step : Step) (answer : Reply) (finds : Finds before step old) (move : (entry : Option Item) × FirstMove old.situation step answer new.situation entry) (lanes : new.lanes ≡ old.lanes) where
+  pub driver_follows : Follows before step answer new
+  driver_follows =
+      let moved : FirstMove before.situation step answer new.situation move.0 = subst (λ (s : Situation). FirstMove s step answer new.situation move.0) finds.situation move.1 in
+      let takes_up : TakesUp before.lanes step new.lanes = subst (λ (l : List Todo). TakesUp before.lanes step l) (sym lanes) finds.takes_up in
+      record { entry = move.0; move = moved; takes_up = takes_up; fewer = leaves_fewer before new step answer move.0 moved takes_up }
 
-  pub driver_fewer : (r : Result (Option (Step × Reply)) NoMemory) → IfOk r (λ taken. IfSome taken (λ t. Follows old t.0 t.1 new))
-      → IfOk r (λ taken. IfSome taken (λ t. remaining new < remaining old))
-  driver_fewer (Ok (Some t)) h = h.fewer
-  driver_fewer (Ok None) h = tt
-  driver_fewer (Err fault) h = tt
+-- the same where rows are served one after another
+module _ (before old new : InOrder) (step : Step) (answer : Reply) (finds : FindsInOrder before step old) (move : (entry : Option Item) × FirstMove old.situation step answer new.situation entry) (left : new.left ≡ old.left) where
+  pub in_order_follows : FollowsInOrder before step answer new
+  in_order_follows = record {
+    entry = move.0;
+    move = subst (λ (s : Situation). FirstMove s step answer new.situation move.0) finds.situation move.1;
+    takes_up = record {
+      first = finds.takes_up.first;
+      left = finds.takes_up.left ∙ ap (λ (l : List Row). finds.takes_up.first ++ l) (sym left);
+      asked = finds.takes_up.asked;
+      rest = finds.takes_up.rest;
+    };
+  }
 
-  pub driver_end : (r : Result (Option (Step × Reply)) NoMemory) → IfOk r (λ taken. IfNone taken (IsDone old new))
-      → IfOk r (λ taken. IfNone taken ((final : Situation) × IsAtTheEnd old [] [] final))
-  driver_end (Ok (Some t)) h = tt
-  driver_end (Ok None) h = (new.situation, driver_ends old new h)
-  driver_end (Err fault) h = tt
+-- at the end
+pub driver_end : (old new : Progress) (r : Option Step) → IfNone r (IsDone old new) → IfNone r (IsAtTheEnd old [] [] old.situation)
+driver_end old new (Some step) h = tt
+driver_end old new None h = driver_ends old new h
 
-module _ (old new : InOrder) where
-  pub in_order_steps : (r : Result (Option (Step × Reply)) NoMemory) → IfOk r (λ taken. IfSome taken (λ t. FollowsInOrder old t.0 t.1 new))
-      → IfOk r (λ taken. IfSome taken (λ t. (steps : List Step) (outcomes : List (Result Reply Refused)) (final : Situation) → EndsInOrder new steps outcomes final → EndsInOrder old (t.0 ∷ steps) (Ok t.1 ∷ outcomes) final))
-  in_order_steps (Ok (Some t)) h = in_order_leads old new t.0 t.1 h
-  in_order_steps (Ok None) h = tt
-  in_order_steps (Err fault) h = tt
-
-  pub in_order_fewer : (r : Result (Option (Step × Reply)) NoMemory) → IfOk r (λ taken. IfSome taken (λ t. FollowsInOrder old t.0 t.1 new))
-      → IfOk r (λ taken. IfSome taken (λ t. remaining_in_order new < remaining_in_order old))
-  in_order_fewer (Ok (Some t)) h = fewer_in_order old new t.0 t.1 h
-  in_order_fewer (Ok None) h = tt
-  in_order_fewer (Err fault) h = tt
-
-  pub in_order_end : (r : Result (Option (Step × Reply)) NoMemory) → IfOk r (λ taken. IfNone taken (IsDoneInOrder old new))
-      → IfOk r (λ taken. IfNone taken ((final : Situation) × EndsInOrder old [] [] final))
-  in_order_end (Ok (Some t)) h = tt
-  in_order_end (Ok None) h = (old.situation, in_order_ends old new h)
-  in_order_end (Err fault) h = tt
+pub in_order_end : (old : InOrder) (r : Option Step) → IfNone r ((old.left ≡ []) × IsQuiet old.situation) → IfNone r (EndsInOrder old [] [] old.situation)
+in_order_end old (Some step) h = tt
+in_order_end old None h = in_order_ends old old (record { situation = refl; left = h.0; quiet = h.1 })

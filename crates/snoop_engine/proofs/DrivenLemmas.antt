@@ -136,7 +136,7 @@ begins_run_nothing protocol shape rows a = record {
 }
 
 -- the rows of a text are read where what they ask for is
-rows_read : (shape : Extent) (input : Option (List ℕ)) (rows : List Row) → IfSome input (λ bytes. rows_of shape bytes ≡ Ok rows) → ReadsRows shape input (Ok rows)
+pub rows_read : (shape : Extent) (input : Option (List ℕ)) (rows : List Row) → IfSome input (λ bytes. rows_of shape bytes ≡ Ok rows) → ReadsRows shape input (Ok rows)
 rows_read shape None rows given = tt
 rows_read shape (Some bytes) rows given = given
 

@@ -5,16 +5,12 @@ use Rattle.std.proofs.lemmas.Bool.{cases_eq}
 use Rattle.std.proofs.lemmas.List.{take-append-drop}
 use Rattle.std.proofs.lemmas.List.Elements.{All-append, All-take, All-drop, Contains-append_cases, Contains-append_left, Contains-append_right}
 use Rattle.snoop_trace.specs.declared.step.Step.{Step}
-use Rattle.snoop_history.specs.declared.items.Item.{Item}
-use Rattle.snoop_model.specs.declared.replies.Reply.{Reply}
 use Rattle.snoop_model.specs.Pictures.Situation.{Situation}
-use Rattle.snoop_model.specs.Moves.Move.{FirstMove}
 use Rattle.snoop_model.specs.Turns.Quiet.{IsQuiet}
-use Rattle.snoop_model.specs.Turns.Serving.{IsServing}
+use Rattle.snoop_model.specs.Turns.Serving.{IsServing, IsUnderWay}
 use Rattle.snoop_model.specs.Turns.TurnRule.{TurnRule}
-use Rattle.snoop_engine.proofs.Fewer.{leaves_fewer}
 use Rattle.snoop_engine.specs.Todo.{Todo, todo_of, under_way, block_of}
-use Rattle.snoop_engine.specs.Round.{Progress, IsFit, IsIdle, IsUnasked, IsDone, TakesUp, Follows}
+use Rattle.snoop_engine.specs.Round.{Progress, IsFit, IsIdle, IsUnasked, IsDone, IsEnabled, TakesUp, Finds}
 
 -- the turns may come in another order
 pub fit_reordered : (s : Situation) (lanes : List Todo) (old new : List ℕ) → IsFit s lanes old → All (λ core. core < s.shape.cores) new → ((core : ℕ) → Contains old core → Contains new core) → IsFit s lanes new
@@ -69,17 +65,17 @@ module _ (start loop : Progress) (so_far : IsUnasked start loop) where
       ] in
       record { situation = same_too ∙ (same ∙ so_far.situation); left = subst L (sym lanes) left }
 
-  -- a turn with a step follows
-  pub follows_on : (mid passed new : Progress) (step : Step) (answer : Reply) → mid.situation ≡ loop.situation → TakesUp loop.lanes step mid.lanes
-      → passed.situation ≡ mid.situation → passed.lanes ≡ mid.lanes
-      → (entry : Option Item) × FirstMove passed.situation step answer new.situation entry → new.lanes ≡ passed.lanes → Follows start step answer new
-  follows_on mid passed new step answer same takes same_too same_lanes move lanes =
-      let M : Situation → Type 0 = λ s. FirstMove s step answer new.situation move.0 in
-      let L : List Todo → Type 0 = λ l. TakesUp start.lanes step l in
+  -- a turn with a step finds it
+  pub found_on : (mid passed : Progress) (step : Step) → mid.situation ≡ loop.situation → TakesUp loop.lanes step mid.lanes → IsUnderWay (under_way mid.lanes) step → IsEnabled mid.situation step
+      → passed.situation ≡ mid.situation → passed.lanes ≡ mid.lanes → Finds start step passed
+  found_on mid passed step same takes its enabled same_too lanes =
       let taken : TakesUp start.lanes step mid.lanes = λ core. sym (so_far.left core) ∙ takes core in
-      let moved : FirstMove start.situation step answer new.situation move.0 = subst M (same_too ∙ (same ∙ so_far.situation)) move.1 in
-      let takes_up : TakesUp start.lanes step new.lanes = subst L (sym (lanes ∙ same_lanes)) taken in
-      record { entry = move.0; move = moved; takes_up = takes_up; fewer = leaves_fewer start new step answer move.0 moved takes_up }
+      record {
+        situation = same_too ∙ (same ∙ so_far.situation);
+        takes_up = subst (λ (l : List Todo). TakesUp start.lanes step l) (sym lanes) taken;
+        under_way = subst (λ (l : List Todo). IsUnderWay (under_way l) step) (sym lanes) its;
+        enabled = subst (λ (s : Situation). IsEnabled s step) (sym same_too) enabled;
+      }
 
   pub done_now : ((core : ℕ) → (todo_of loop.lanes core).left ≡ []) × IsQuiet loop.situation → IsDone start loop
   done_now done = record { situation = so_far.situation; left = λ core. sym (so_far.left core) ∙ done.0 core; quiet = done.1 }

@@ -12,8 +12,9 @@ use Rattle.snoop_model.specs.Pictures.Situation.{Situation}
 use Rattle.snoop_model.specs.Moves.Move.{FirstMove}
 use Rattle.snoop_model.specs.Runs.Run.{FirstRunFrom}
 use Rattle.snoop_model.specs.Turns.Quiet.{IsQuiet}
-use Rattle.snoop_model.specs.Turns.Serving.{owed}
+use Rattle.snoop_model.specs.Turns.Serving.{IsUnderWay, owed}
 use Rattle.snoop_engine.specs.OneRow.{ServesOnly, nothing, only}
+use Rattle.snoop_engine.specs.Round.{IsEnabled}
 use Rattle.snoop_engine.specs.Serial.{all_asks, ask_for, is_ask}
 
 -- the value of the driver: the machine's situation, the rows that have not been asked, and the row under way, which may be over
@@ -44,6 +45,13 @@ pub record TakesUpNext (old : InOrder) (step : Step) (new : InOrder) : Type 0 wh
   pub left : old.left ≡ first ++ new.left
   pub asked : all_asks (step ∷ []) ≡ map (ask_for old.situation.shape) first
   pub rest : is_ask step ≡ true → IsQuiet old.situation
+
+-- the step is the next one: the Ask of the row that was left first, or of the row under way, and no cause refuses it
+pub record FindsInOrder (old : InOrder) (step : Step) (new : InOrder) : Type 0 where
+  pub situation : new.situation ≡ old.situation
+  pub takes_up : TakesUpNext old step new
+  pub under_way : IsUnderWay (under_way new.situation.shape new.row) step
+  pub enabled : IsEnabled new.situation step
 
 -- the machine moves by the step
 pub record FollowsInOrder (old : InOrder) (step : Step) (answer : Reply) (new : InOrder) : Type 0 where

@@ -1,15 +1,24 @@
 -- How far a driver has come with its rows.
 -- Source: this project's profile.
 use Rattle.std.specs.Prelude.{◌≡◌, ℕ, ◌+◌, ◌≤◌, List, ◌++◌, length, All, IsOk, Result}
+use Rattle.snoop_trace.specs.Extent.{Extent}
+use Rattle.snoop_trace.specs.declared.protocol.Protocol.{Protocol}
+use Rattle.snoop_trace.specs.declared.step.Row.{Row}
 use Rattle.snoop_trace.specs.declared.step.Step.{Step}
 use Rattle.snoop_model.specs.declared.replies.Reply.{Reply}
 use Rattle.snoop_model.specs.declared.replies.Refused.{Refused}
-use Rattle.snoop_model.specs.Pictures.Situation.{Situation}
+use Rattle.snoop_model.specs.Pictures.Situation.{Situation, reset}
 use Rattle.snoop_model.specs.Turns.Quiet.{IsQuiet}
 use Rattle.snoop_model.specs.Runs.Run.{FirstRunFrom}
-use Rattle.snoop_engine.specs.Todo.{todo_of}
+use Rattle.snoop_engine.specs.Todo.{left_in, todo_of, works_of}
 use Rattle.snoop_engine.specs.Round.{Progress, remaining}
 use Rattle.snoop_engine.specs.Served.{asks_of}
+
+-- the machine is at reset, and each core has its rows left
+pub record IsAtTheStart (protocol : Protocol) (shape : Extent) (rows : List Row) (start : Progress) : Type 0 where
+  pub situation : start.situation ≡ reset protocol shape
+  pub left : (core : ℕ) → (todo_of start.lanes core).left ≡ works_of shape rows core
+  pub all : left_in start.lanes ≡ length rows
 
 -- the steps so far, each taken, lead on from the start and ask what each core had left first
 pub record IsOnTheWay (start : Progress) (steps : List Step) (outcomes : List (Result Reply Refused)) (here : Progress) : Type 0 where

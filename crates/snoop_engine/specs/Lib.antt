@@ -26,3 +26,4 @@ pub mod Tallies
 pub mod Chosen
 pub mod Choice
 pub mod InOrder
+pub mod Courses

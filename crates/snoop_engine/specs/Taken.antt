@@ -1,6 +1,6 @@
 -- Which rows of the tables the controllers take at a step.
 -- Source: "A Primer on Memory Consistency and Cache Coherence", 2nd edition, chapter 7, whose tables they are; which lines there are is this project's profile.
-use Rattle.std.specs.Prelude.{ℕ, ◌&&◌, List, [], ◌∷◌, ◌++◌, Option, Some, None, Result, Ok, Err, nat_lt, slice_get, if◌then◌else◌}
+use Rattle.std.specs.Prelude.{◌≡◌, ℕ, ◌&&◌, List, [], ◌∷◌, ◌++◌, Option, Some, None, Result, Ok, Err, nat_lt, slice_get, if◌then◌else◌}
 use Rattle.std.specs.List.{flat_map, range_with_len}
 use Rattle.std.specs.Option.{option_map_or}
 use Rattle.snoop_trace.specs.declared.step.Op.{Op}
@@ -12,6 +12,7 @@ use Rattle.snoop_rules.specs.declared.names.CacheState.TheVariants.{I}
 use Rattle.snoop_rules.specs.declared.names.CacheEvent.{CacheEvent}
 use Rattle.snoop_rules.specs.declared.names.MemEvent.{MemEvent}
 use Rattle.snoop_rules.specs.declared.names.MemState.{MemState}
+use Rattle.snoop_rules.specs.declared.names.Payload.{Payload}
 use Rattle.snoop_rules.specs.declared.names.Request.{Request}
 use Rattle.snoop_rules.specs.declared.names.Request.TheVariants.{GetS, GetM, PutM}
 use Rattle.snoop_rules.specs.Takers.{asked, seen_by, at_memory, arrival, arrival_at_memory, takes_payload}
@@ -73,6 +74,12 @@ of_order s core block = option_map_or (of_request s core block) (waiting_request
 abbrev pub of_arrival : Situation → ℕ → ℕ → Option CacheEvent → List Taken
 of_arrival s core block None = []
 of_arrival s core block (Some event) = of_core s core block (Some event)
+
+-- the transaction is that of the core, its request and what is sent
+pub record IsTransfer (opened : Open) (core : ℕ) (request : Request) (payload : Payload) : Type 0 where
+  pub requestor : opened.core ≡ core
+  pub requests : opened.request ≡ request
+  pub sends : opened.payload ≡ payload
 
 -- the requestor meets what comes to it; at a PutM nothing does
 abbrev pub of_requestor : Request → Situation → ℕ → Open → List Taken

@@ -1,50 +1,108 @@
 //! Courses of steps, each of which is found when the one before it was taken.
-ghost use Rattle.std.specs.Prelude.{◌≡◌, ◌<◌, ◌∷◌, [], ℕ, List, IfOk, IfSome, IfNone, Ok, Result};
+ghost use Rattle.std.specs.Prelude.{◌≡◌, ◌<◌, ◌∷◌, [], ℕ, List, length, IfOk, IfSome, IfNone, Result};
 ghost use Rattle.snoop_model.specs.declared.replies.Refused.{Refused as Cause};
 ghost use Rattle.snoop_model.specs.declared.replies.Reply.{Reply as Answer};
-ghost use Rattle.snoop_model.specs.Pictures.Situation.{Situation};
+ghost use Rattle.snoop_model.specs.Pictures.Situation.{Situation, reset};
+ghost use Rattle.snoop_model.specs.Runs.Run.{GoesFirst, TheRun};
+ghost use Rattle.snoop_trace.specs.Extent.{Extent};
+ghost use Rattle.snoop_trace.specs.declared.protocol.Protocol.{Protocol};
 ghost use Rattle.snoop_trace.specs.declared.step.Step.{Step as Given};
-ghost use Rattle.snoop_engine.specs.Journey.{IsAtTheEnd};
-ghost use Rattle.snoop_engine.specs.InOrder.{EndsInOrder, remaining_in_order};
-ghost use Rattle.snoop_engine.specs.Round.{remaining};
+ghost use Rattle.snoop_engine.specs.Courses.{CanEnd, FindsListed, LeadsListed, LeadsOn};
 
-use crate::driver::Driver;
-use crate::serial_driver::SerialDriver;
-use snoop_machine::Reply;
-use snoop_trace::{NoMemory, Step};
+use crate::script::Script;
+use snoop_machine::laws::runs_go_on;
+use snoop_machine::{Machine, Refused, Reply};
+use snoop_rules::Protocol;
+use snoop_trace::{NoMemory, Shape, Step};
+use std::alloc::Global;
 
-/// Steps that are taken one after another, to an end.
+/// Steps that are found and taken one after another, to an end, and the machine that takes them.
 pub(crate) trait Course {
+    // Where the machine is.
+    ghost situation: { Self → Situation };
+
     // From here on these steps, answered so, lead to the end, where the machine is this.
     ghost leads: { Self → List Given → List (Result Answer Cause) → Situation → Type 0 };
 
     // No more steps than these are to come.
     ghost left: { Self → ℕ };
 
-    /// Takes the next step, and answers it with its reply; `None` at the end. After `NoMemory` the course can't go on.
-    fn advance(&mut self) -> Result<Option<(Step, Reply)>, NoMemory>
-        ensures fewer { IfOk result (λ taken. IfSome taken (λ t. left self.new < left self.old)) }
-        ensures step { IfOk result (λ taken. IfSome taken (λ t. (steps : List Given) (outcomes : List (Result Answer Cause)) (final : Situation)
-            → leads self.new steps outcomes final → leads self.old (t.0 ∷ steps) (Ok t.1 ∷ outcomes) final)) }
-        ensures end { IfOk result (λ taken. IfNone taken ((final : Situation) × leads self.old [] [] final)) };
+    // The first course has found this step, and is the second now, which has not taken it yet.
+    ghost finds: { Self → Given → Self → Type 0 };
+
+    /// The machine that takes the steps.
+    fn machine(&self) -> &Machine
+        ensures { result.now.situation ≡ situation self.now };
+
+    /// Finds the next step; `None` at the end.
+    fn find(&mut self) -> Option<Step>
+        ensures same { situation self.new ≡ situation self.old }
+        ensures found { IfSome result (λ step. finds self.old step self.new) }
+        ensures end { IfNone result (leads self.old [] [] (situation self.old)) };
+
+    /// Takes the step that was found. After `NoMemory` the course can't go on.
+    fn take(&mut self, step: Step) -> Result<Result<Reply, Refused>, NoMemory>
+        requires { (before : Self) × finds before step self.old }
+        ensures goes { IfOk result (λ outcome. GoesFirst (situation self.old) step outcome (situation self.new)) }
+        ensures fewer { (before : Self) → finds before step self.old → IfOk result (λ outcome. left self.new < left before) }
+        ensures leads { (before : Self) → finds before step self.old → IfOk result (λ outcome. LeadsOn (leads before) step outcome (leads self.new)) };
+
+    /// Wherever some steps from reset have led, the course can go on to its end. This does nothing: a proof calls it for what it
+    /// ensures.
+    fn can_end(&self)
+        ensures { (protocol : Protocol) (shape : Extent) (steps : List Given) (outcomes : List (Result Answer Cause))
+            → TheRun protocol shape steps outcomes (situation self.now) → CanEnd (leads self.now) };
 }
 
-impl Course for Driver {
-    ghost leads = { λ d steps outcomes final. IsAtTheEnd d steps outcomes final };
+/// Steps that are all known before the first is taken.
+#[derive(Drop)]
+pub(crate) struct Listed<S> {
+    machine: Machine,
+    script: S,
+}
 
-    ghost left = { λ d. remaining d };
-
-    fn advance(&mut self) -> Result<Option<(Step, Reply)>, NoMemory> {
-        self.next()
+impl<S: Script + Drop> Listed<S> {
+    /// The steps of a script, with a machine at reset.
+    pub(crate) fn new(
+        alloc: Global,
+        protocol: Protocol,
+        shape: Shape,
+        script: S,
+    ) -> Result<Self, NoMemory>
+        ensures situation { IfOk result (λ listed. listed.machine.situation ≡ reset protocol shape) }
+        ensures script { IfOk result (λ listed. listed.script ≡ script) }
+    {
+        let machine = Machine::reset(alloc, protocol, shape)?;
+        Ok(Listed { machine, script })
     }
 }
 
-impl<'a> Course for SerialDriver<'a> {
-    ghost leads = { λ d steps outcomes final. EndsInOrder d steps outcomes final };
+impl<S: Script + Drop> Course for Listed<S> {
+    ghost situation = { λ l. l.machine.situation };
 
-    ghost left = { λ d. remaining_in_order d };
+    ghost leads = { λ l steps outcomes final. LeadsListed (S.steps l.script) l.machine.situation steps outcomes final };
 
-    fn advance(&mut self) -> Result<Option<(Step, Reply)>, NoMemory> {
-        self.next()
+    ghost left = { λ l. length (S.steps l.script) };
+
+    ghost finds = { λ before step now. FindsListed (S.steps before.script) before.machine.situation step (S.steps now.script) now.machine.situation };
+
+    fn machine(&self) -> &Machine {
+        &self.machine
+    }
+
+    fn find(&mut self) -> Option<Step> {
+        self.script.take_first()
+    }
+
+    #[inline(always)]
+    fn take(&mut self, step: Step) -> Result<Result<Reply, Refused>, NoMemory> {
+        match self.machine.step(step) {
+            Err(Refused::NoMemory) => Err(NoMemory),
+            outcome => Ok(outcome),
+        }
+    }
+
+    fn can_end(&self) {
+        runs_go_on();
     }
 }

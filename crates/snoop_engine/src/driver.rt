@@ -7,12 +7,14 @@ ghost use Rattle.snoop_model.specs.Turns.Quiet.{IsQuiet};
 ghost use Rattle.snoop_model.specs.Turns.Serving.{IsUnderWay};
 ghost use Rattle.snoop_engine.specs.Todo.{IsAskedWithin, todo_of, under_way, left_in, works_by};
 ghost use Rattle.snoop_engine.specs.Served.{ask_of};
-ghost use Rattle.snoop_engine.specs.Round.{TakesUp, IsIdle, IsOver, IsEnabled, Follows, IsDone};
+ghost use Rattle.snoop_engine.specs.Round.{TakesUp, Finds, IsIdle, IsOver, IsEnabled, Follows, IsDone};
 
 use crate::asks::AskQueue;
+use crate::course::Course;
 use crate::deal::{all_cores, deal};
 use crate::lane::Lane;
 use snoop_history::Log;
+use snoop_machine::laws::runs_go_on;
 use snoop_machine::{Machine, Refused, Reply};
 use snoop_rules::Protocol;
 use snoop_trace::{NoMemory, Shape, Step};
@@ -150,7 +152,7 @@ impl Driver {
 
     /// Takes the step.
     #[inline(always)]
-    fn take(&mut self, step: Step) -> Result<Reply, NoMemory>
+    fn take_step(&mut self, step: Step) -> Result<Reply, NoMemory>
         requires under_way { IsUnderWay (under_way self.old.lanes) step }
         requires enabled { IsEnabled self.old.situation step }
         ensures taken { IfOk result (λ reply. (entry : Option Item) × FirstMove self.old.situation step reply self.new.situation entry) }
@@ -163,20 +165,66 @@ impl Driver {
         }
     }
 
+    /// Finds the next step; `None` once every row is done.
+    #[inline(always)]
+    fn next_step(&mut self) -> Option<Step>
+        ensures machine { self.new.situation ≡ self.old.situation }
+        ensures finds { IfSome result (λ step. Finds self.old step self.new) }
+        ensures done { IfNone result (IsDone self.old self.new) }
+    {
+        while let Some(core) = self.whose_turn() {
+            if let Some(step) = self.turn(core) {
+                self.pass_on();
+                return Some(step);
+            }
+            self.dismiss(core);
+        }
+        None
+    }
+
     /// Takes the next step, and answers it with its reply; `None` once every row is done. After `NoMemory` the run can't go on.
     #[inline(always)]
     pub(crate) fn next(&mut self) -> Result<Option<(Step, Reply)>, NoMemory>
         ensures step { IfOk result (λ taken. IfSome taken (λ t. Follows self.old t.0 t.1 self.new)) }
         ensures done { IfOk result (λ taken. IfNone taken (IsDone self.old self.new)) }
     {
-        while let Some(core) = self.whose_turn() {
-            if let Some(step) = self.turn(core) {
-                self.pass_on();
-                let reply = self.take(step)?;
-                return Ok(Some((step, reply)));
-            }
-            self.dismiss(core);
-        }
-        Ok(None)
+        let Some(step) = self.next_step() else {
+            return Ok(None);
+        };
+        let reply = self.take_step(step)?;
+        Ok(Some((step, reply)))
+    }
+}
+
+impl Course for Driver {
+    ghost use Rattle.snoop_engine.specs.Journey.{IsAtTheEnd};
+    ghost use Rattle.snoop_engine.specs.Round.{Finds, remaining};
+
+    ghost situation = { λ d. d.situation };
+
+    ghost leads = { λ d steps outcomes final. IsAtTheEnd d steps outcomes final };
+
+    ghost left = { λ d. remaining d };
+
+    ghost finds = { λ before step now. Finds before step now };
+
+    fn machine(&self) -> &Machine {
+        &self.machine
+    }
+
+    #[inline(always)]
+    fn find(&mut self) -> Option<Step> {
+        self.next_step()
+    }
+
+    #[inline(always)]
+    fn take(&mut self, step: Step) -> Result<Result<Reply, Refused>, NoMemory> {
+        let reply = self.take_step(step)?;
+        Ok(Ok(reply))
+    }
+
+    fn can_end(&self) {
+        runs_go_on();
+        let _ = &self.machine;
     }
 }

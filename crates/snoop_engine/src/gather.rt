@@ -1,14 +1,13 @@
 //! The steps that come of a text.
-ghost use Rattle.std.specs.Prelude.{◌≡◌, ◌≢◌, ◌++◌, ◌∷◌, [], true, map, All, Err, IfErr, IfOk, List, OnOk, Result};
+ghost use Rattle.std.specs.Prelude.{◌≡◌, ◌≢◌, ◌++◌, ◌∷◌, [], true, Err, IfErr, IfOk, List, Ok, OnOk, Result};
 ghost use Rattle.snoop_model.specs.Pictures.Situation.{Situation};
 ghost use Rattle.snoop_model.specs.declared.replies.Refused.{Refused as Cause};
 ghost use Rattle.snoop_model.specs.declared.replies.Reply.{Reply as Answer};
-ghost use Rattle.snoop_trace.specs.Asked.{asked_of};
-ghost use Rattle.snoop_trace.specs.Grammar.{IsRowWithin};
 ghost use Rattle.snoop_trace.specs.Text.{BlamesReader};
 ghost use Rattle.snoop_trace.specs.declared.step.Row.{Row as Given};
-ghost use Rattle.snoop_engine.specs.Todo.{IsAskedWithin};
-ghost use Rattle.snoop_engine.specs.Inputs.{GivesSteps, IsRefusedText, StepsServe, StepsServeSerially};
+ghost use Rattle.snoop_engine.specs.Inputs.{GivesSteps, IsRefusedText};
+ghost use Rattle.snoop_engine.specs.Journey.{IsAtTheStart};
+ghost use Rattle.snoop_engine.specs.SimulatedRun.{ReadsRows};
 
 use crate::asks::AskQueue;
 use crate::course::Course;
@@ -17,7 +16,7 @@ use crate::input::Input;
 use crate::serial_driver::SerialDriver;
 use snoop_rules::Protocol;
 use snoop_trace::streams::{Source, gather_asked};
-use snoop_trace::{NoMemory, Row, Shape, Step, TextFault, read_rows, read_steps};
+use snoop_trace::{NoMemory, Shape, Step, TextFault, read_rows, read_steps};
 use std::alloc::Global;
 
 /// Reads a text to its end, and answers the steps that come of it: its own, or those that serve its rows, for the protocol
@@ -37,51 +36,41 @@ pub fn read_input<R: Source>(
     match input {
         Input::Steps => read_steps(alloc, reader, protocol, shape),
         Input::Rows => {
-            shape.within_limits();
-            let asks = gather_asked(alloc, reader, shape, AskQueue::new(alloc))?;
-            Ok(steps_of_rows(alloc, protocol, shape, asks)?)
+            let mut driver = read_driver(alloc, reader, protocol, shape)?;
+            Ok(gather(alloc, &mut driver)?)
         }
         Input::SerialRows => {
             let rows = read_rows(alloc, reader, shape)?;
-            Ok(steps_in_order(alloc, protocol, shape, &rows)?)
+            let mut driver = SerialDriver::new(alloc, protocol, shape, &rows)?;
+            Ok(gather(alloc, &mut driver)?)
         }
     }
 }
 
-/// The steps that serve the rows of cores that go side by side.
-fn steps_of_rows(
+/// Reads a text of rows to its end, and answers a driver that has them to do. `NoMemory` may come in dealing them, too.
+pub(crate) fn read_driver<R: Source>(
     alloc: Global,
+    reader: &mut R,
     protocol: Protocol,
     shape: Shape,
-    asks: AskQueue,
-) -> Result<Vec<Step>, NoMemory>
-    requires { All (IsAskedWithin shape) asks }
-    ensures { IfOk result (λ steps. (rows : List Given) → asks ≡ map (asked_of shape) rows → StepsServe protocol shape rows steps.items) }
+) -> Result<Driver, TextFault>
+    ensures rows { IfOk result (λ driver. (rows : List Given) × (ReadsRows shape (R.remaining reader.old) (Ok rows) × IsAtTheStart protocol shape rows driver)) }
+    ensures fault { IfErr result (λ fault. ReadsRows shape (R.remaining reader.old) (Err fault)) }
+    ensures never_blamed { R.never_fails ≡ true → result ≢ Err TextFault.Read }
+    ensures blamed { BlamesReader (R.failed reader.old) (R.failed reader.new) (result ≡ Err TextFault.Read) }
 {
-    let mut driver = Driver::new(alloc, protocol, shape, asks)?;
-    gather(alloc, &mut driver)
+    shape.within_limits();
+    let asks = gather_asked(alloc, reader, shape, AskQueue::new(alloc))?;
+    Ok(Driver::new(alloc, protocol, shape, asks)?)
 }
 
-/// The steps that serve the rows one after another.
-fn steps_in_order(
-    alloc: Global,
-    protocol: Protocol,
-    shape: Shape,
-    rows: &[Row],
-) -> Result<Vec<Step>, NoMemory>
-    requires { All (IsRowWithin shape) rows.now }
-    ensures { IfOk result (λ steps. StepsServeSerially protocol shape rows.now steps.items) }
-{
-    let mut driver = SerialDriver::new(alloc, protocol, shape, rows)?;
-    gather(alloc, &mut driver)
-}
-
-/// The steps of a course, all of which are taken.
+/// The steps of a course, to its end.
 fn gather<C: Course>(alloc: Global, course: &mut C) -> Result<Vec<Step>, NoMemory>
     ensures { IfOk result (λ steps. (outcomes : List (Result Answer Cause)) × ((final : Situation) × C.leads course.old steps.items outcomes final)) }
 {
     let mut steps = Vec::new(alloc);
-    while let Some((step, _)) = course.advance()? {
+    while let Some(step) = course.find() {
+        let _ = course.take(step)?;
         add(&mut steps, step)?;
     }
     Ok(steps)

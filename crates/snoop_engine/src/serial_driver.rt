@@ -11,6 +11,8 @@ ghost use Rattle.snoop_engine.specs.OneRow.{ServesOnly, nothing};
 ghost use Rattle.snoop_engine.specs.Round.{IsEnabled};
 ghost use Rattle.snoop_engine.specs.Serial.{is_ask};
 
+use crate::course::Course;
+use snoop_machine::laws::runs_go_on;
 use snoop_machine::{Machine, Refused, Reply};
 use snoop_rules::Protocol;
 use snoop_trace::{NoMemory, Row, Shape, Step};
@@ -110,7 +112,7 @@ impl<'a> SerialDriver<'a> {
 
     /// Takes the step.
     #[inline(always)]
-    fn take(&mut self, step: Step) -> Result<Reply, NoMemory>
+    fn take_step(&mut self, step: Step) -> Result<Reply, NoMemory>
         requires under_way { IsUnderWay (under_way self.old.situation.shape self.old.row) step }
         requires enabled { IsEnabled self.old.situation step }
         ensures taken { IfOk result (λ reply. (entry : Option Item) × FirstMove self.old.situation step reply self.new.situation entry) }
@@ -122,17 +124,36 @@ impl<'a> SerialDriver<'a> {
             Err(_) => unreachable!(),
         }
     }
+}
 
-    /// Takes the next step, and answers it with its reply; `None` once every row is served. After `NoMemory` the run can't go on.
+impl<'a> Course for SerialDriver<'a> {
+    ghost use Rattle.snoop_engine.specs.InOrder.{EndsInOrder, FindsInOrder, remaining_in_order};
+
+    ghost situation = { λ d. d.situation };
+
+    ghost leads = { λ d steps outcomes final. EndsInOrder d steps outcomes final };
+
+    ghost left = { λ d. remaining_in_order d };
+
+    ghost finds = { λ before step now. FindsInOrder before step now };
+
+    fn machine(&self) -> &Machine {
+        &self.machine
+    }
+
     #[inline(always)]
-    pub(crate) fn next(&mut self) -> Result<Option<(Step, Reply)>, NoMemory>
-        ensures step { IfOk result (λ taken. IfSome taken (λ t. FollowsInOrder self.old t.0 t.1 self.new)) }
-        ensures done { IfOk result (λ taken. IfNone taken (IsDoneInOrder self.old self.new)) }
-    {
-        let Some(step) = self.turn() else {
-            return Ok(None);
-        };
-        let reply = self.take(step)?;
-        Ok(Some((step, reply)))
+    fn find(&mut self) -> Option<Step> {
+        self.turn()
+    }
+
+    #[inline(always)]
+    fn take(&mut self, step: Step) -> Result<Result<Reply, Refused>, NoMemory> {
+        let reply = self.take_step(step)?;
+        Ok(Ok(reply))
+    }
+
+    fn can_end(&self) {
+        runs_go_on();
+        let _ = &self.machine;
     }
 }

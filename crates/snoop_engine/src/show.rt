@@ -1,26 +1,29 @@
 //! The loop that shows a run to a view.
-ghost use Rattle.std.specs.Prelude.{◌≡◌, ◌≢◌, ◌+◌, ◌++◌, true, Err, IfOk, OnOk, OnErr};
+ghost use Rattle.std.specs.Prelude.{◌≡◌, ◌≢◌, ◌+◌, true, Err, IfOk, OnOk, OnErr};
 ghost use Rattle.snoop_trace.specs.Output.{BlamesWriter};
 ghost use Rattle.snoop_trace.specs.Text.{BlamesReader};
 ghost use Rattle.snoop_trace.specs.declared.fault.TextFault.{TextFault};
 ghost use Rattle.snoop_trace.specs.declared.fault.TextFault.TheVariants as text_fault;
+ghost use Rattle.snoop_model.specs.Pictures.Situation.{reset};
+ghost use Rattle.snoop_engine.specs.Courses.{EndsWith};
 ghost use Rattle.snoop_engine.specs.SimulatedView.{BeginsToShow, ShowsRun, SimulatesView};
 ghost use Rattle.snoop_engine.specs.Views.{view_text};
 
 use crate::askers::Askers;
+use crate::course::{Course, Listed};
 use crate::fault::SimFault;
-use crate::gather::read_input;
+use crate::gather::read_driver;
 use crate::input::Input;
 use crate::packed::StepQueue;
 use crate::script::Script;
 use crate::seen::Seen;
+use crate::serial_driver::SerialDriver;
 use crate::taken::{block_of, head_for, take_step};
 use crate::view::View;
-use snoop_machine::Machine;
 use snoop_machine::laws::runs_go_on;
 use snoop_rules::Protocol;
 use snoop_trace::streams::{Sink, Source, gather_steps, spill, write_whole};
-use snoop_trace::{NoMemory, Shape, Step, WriteFault};
+use snoop_trace::{NoMemory, Shape, Step, TextFault, WriteFault, read_rows};
 use std::alloc::Global;
 
 /// Reads a text to its end, takes the steps that come of it in order on a machine at reset, for the protocol and the shape,
@@ -47,7 +50,8 @@ pub fn simulate_view<R: Source, W: Sink, V: View>(
 {
     match input {
         Input::Steps => view_steps(alloc, reader, writer, protocol, shape, view),
-        _ => view_input(alloc, reader, writer, protocol, shape, input, view),
+        Input::Rows => view_rows(alloc, reader, writer, protocol, shape, view),
+        Input::SerialRows => view_serial_rows(alloc, reader, writer, protocol, shape, view),
     }
 }
 
@@ -67,32 +71,55 @@ fn view_steps<R: Source, W: Sink, V: View>(
     ensures read_blamed { BlamesReader (R.failed reader.old) (R.failed reader.new) (result ≡ Err (SimFault.Text text_fault.Read)) }
     ensures blamed { BlamesWriter (W.failed writer.old) (W.failed writer.new) (result ≡ Err SimFault.Write) }
 {
-    let mut steps = gather_steps(alloc, reader, protocol, shape, StepQueue::new(alloc)).map_err(
+    let script = gather_steps(alloc, reader, protocol, shape, StepQueue::new(alloc)).map_err(
         SimFault::Text,
     )?;
-    show(alloc, writer, protocol, shape, &mut steps, view)?;
+    show_script(alloc, writer, protocol, shape, script, view)?;
     Ok(())
 }
 
-/// Shows the steps that come of a text; they are all known before the first is taken.
-fn view_input<R: Source, W: Sink, V: View>(
+/// Shows the steps that serve the rows of a text, whose cores go side by side.
+fn view_rows<R: Source, W: Sink, V: View>(
     alloc: Global,
     reader: &mut R,
     writer: &mut W,
     protocol: Protocol,
     shape: Shape,
-    input: Input,
     view: &mut V,
 ) -> Result<(), SimFault>
-    ensures does { SimulatesView protocol shape input (view_text (V.heading view.old protocol shape) (V.shows view.old protocol shape) (V.ending view.old protocol shape)) (R.remaining reader.old) result (W.contents writer.old) (W.contents writer.new) }
+    ensures does { SimulatesView protocol shape Input.Rows (view_text (V.heading view.old protocol shape) (V.shows view.old protocol shape) (V.ending view.old protocol shape)) (R.remaining reader.old) result (W.contents writer.old) (W.contents writer.new) }
     ensures unwritten { (fault : TextFault) → result ≡ Err (SimFault.Text fault) → writer.new ≡ writer.old }
     ensures reads { R.never_fails ≡ true → result ≢ Err (SimFault.Text text_fault.Read) }
     ensures writes { W.never_fails ≡ true → result ≢ Err SimFault.Write }
     ensures read_blamed { BlamesReader (R.failed reader.old) (R.failed reader.new) (result ≡ Err (SimFault.Text text_fault.Read)) }
     ensures blamed { BlamesWriter (W.failed writer.old) (W.failed writer.new) (result ≡ Err SimFault.Write) }
 {
-    let steps = read_input(alloc, reader, protocol, shape, input).map_err(SimFault::Text)?;
-    show_steps(alloc, writer, protocol, shape, &steps, view)?;
+    let mut driver = read_driver(alloc, reader, protocol, shape).map_err(SimFault::Text)?;
+    show(alloc, writer, &mut driver, view)?;
+    Ok(())
+}
+
+/// Shows the steps that serve the rows of a text one after another.
+fn view_serial_rows<R: Source, W: Sink, V: View>(
+    alloc: Global,
+    reader: &mut R,
+    writer: &mut W,
+    protocol: Protocol,
+    shape: Shape,
+    view: &mut V,
+) -> Result<(), SimFault>
+    ensures does { SimulatesView protocol shape Input.SerialRows (view_text (V.heading view.old protocol shape) (V.shows view.old protocol shape) (V.ending view.old protocol shape)) (R.remaining reader.old) result (W.contents writer.old) (W.contents writer.new) }
+    ensures unwritten { (fault : TextFault) → result ≡ Err (SimFault.Text fault) → writer.new ≡ writer.old }
+    ensures reads { R.never_fails ≡ true → result ≢ Err (SimFault.Text text_fault.Read) }
+    ensures writes { W.never_fails ≡ true → result ≢ Err SimFault.Write }
+    ensures read_blamed { BlamesReader (R.failed reader.old) (R.failed reader.new) (result ≡ Err (SimFault.Text text_fault.Read)) }
+    ensures blamed { BlamesWriter (W.failed writer.old) (W.failed writer.new) (result ≡ Err SimFault.Write) }
+{
+    let rows = read_rows(alloc, reader, shape).map_err(SimFault::Text)?;
+    let Ok(mut driver) = SerialDriver::new(alloc, protocol, shape, &rows) else {
+        return Err(SimFault::Text(TextFault::NoMemory));
+    };
+    show(alloc, writer, &mut driver, view)?;
     Ok(())
 }
 
@@ -113,37 +140,54 @@ pub fn show_steps<W: Sink, V: View>(
     // Where it is known that no write had failed, it is blamed exactly where one fails, and none is tried again.
     ensures blamed { BlamesWriter (W.failed writer.old) (W.failed writer.new) (result ≡ Err WriteFault.Write) }
 {
-    let mut left = steps;
-    show(alloc, writer, protocol, shape, &mut left, view)
+    show_script(alloc, writer, protocol, shape, steps, view)
 }
 
 /// Takes the steps of a script on a machine at reset, and writes what the view shows of them.
-fn show<W: Sink, S: Script, V: View>(
+fn show_script<W: Sink, S: Script + Drop, V: View>(
     alloc: Global,
     writer: &mut W,
     protocol: Protocol,
     shape: Shape,
-    script: &mut S,
+    script: S,
     view: &mut V,
 ) -> Result<(), WriteFault>
-    ensures ok { OnOk result (ShowsRun protocol shape (view_text (V.heading view.old protocol shape) (V.shows view.old protocol shape) (V.ending view.old protocol shape)) (S.steps script.old) (W.contents writer.old) (W.contents writer.new)) }
-    ensures front { OnErr result (BeginsToShow protocol shape (view_text (V.heading view.old protocol shape) (V.shows view.old protocol shape) (V.ending view.old protocol shape)) (S.steps script.old) (W.contents writer.old) (W.contents writer.new)) }
+    ensures ok { OnOk result (ShowsRun protocol shape (view_text (V.heading view.old protocol shape) (V.shows view.old protocol shape) (V.ending view.old protocol shape)) (S.steps script) (W.contents writer.old) (W.contents writer.new)) }
+    ensures front { OnErr result (BeginsToShow protocol shape (view_text (V.heading view.old protocol shape) (V.shows view.old protocol shape) (V.ending view.old protocol shape)) (S.steps script) (W.contents writer.old) (W.contents writer.new)) }
     ensures never_blamed { W.never_fails ≡ true → result ≢ Err WriteFault.Write }
     ensures blamed { BlamesWriter (W.failed writer.old) (W.failed writer.new) (result ≡ Err WriteFault.Write) }
 {
     runs_go_on();
-    let mut machine = Machine::reset(alloc, protocol, shape)?;
-    let mut askers = Askers::new(alloc, shape.blocks())?;
+    let mut course = Listed::new(alloc, protocol, shape, script)?;
+    show(alloc, writer, &mut course, view)
+}
+
+/// Takes the steps of a course to its end, and writes what the view shows of them.
+fn show<W: Sink, C: Course, V: View>(
+    alloc: Global,
+    writer: &mut W,
+    course: &mut C,
+    view: &mut V,
+) -> Result<(), WriteFault>
+    requires { let s = C.situation course.old in s ≡ reset s.protocol s.shape }
+    ensures ok { let s = C.situation course.old in OnOk result (EndsWith (C.leads course.old) (λ steps. ShowsRun s.protocol s.shape (view_text (V.heading view.old s.protocol s.shape) (V.shows view.old s.protocol s.shape) (V.ending view.old s.protocol s.shape)) steps (W.contents writer.old) (W.contents writer.new))) }
+    ensures front { let s = C.situation course.old in OnErr result (EndsWith (C.leads course.old) (λ steps. BeginsToShow s.protocol s.shape (view_text (V.heading view.old s.protocol s.shape) (V.shows view.old s.protocol s.shape) (V.ending view.old s.protocol s.shape)) steps (W.contents writer.old) (W.contents writer.new))) }
+    ensures never_blamed { W.never_fails ≡ true → result ≢ Err WriteFault.Write }
+    ensures blamed { BlamesWriter (W.failed writer.old) (W.failed writer.new) (result ≡ Err WriteFault.Write) }
+{
+    runs_go_on();
+    course.can_end();
+    let mut askers = Askers::new(alloc, course.machine().shape().blocks())?;
     let mut chunk = Vec::new(alloc);
     let mut lines = Vec::new(alloc);
-    let count = script.left();
-    view.begin(&mut chunk, &machine)?;
-    while let Some(step) = script.take_first() {
-        let number = (count - script.left()) as u64;
+    let mut number = 0;
+    view.begin(&mut chunk, course.machine())?;
+    while let Some(step) = course.find() {
+        number = next_number(number)?;
         lines.clear();
-        let head = head_for(&machine, step);
+        let head = head_for(course.machine(), step);
         let block = block_of(step, head);
-        let outcome = take_step(&mut lines, &mut machine, &mut askers, step, head)?;
+        let outcome = take_step(&mut lines, course, &mut askers, step, head)?;
         let seen = Seen {
             number,
             step,
@@ -151,10 +195,18 @@ fn show<W: Sink, S: Script, V: View>(
             outcome,
             lines: &lines,
         };
-        view.see(&mut chunk, &machine, seen)?;
+        view.see(&mut chunk, course.machine(), seen)?;
+        course.can_end();
         spill(writer, &mut chunk)?;
     }
-    view.end(&mut chunk, &machine)?;
+    view.end(&mut chunk, course.machine())?;
     write_whole(writer, &chunk)?;
     Ok(())
+}
+
+/// The number of the next step. A run of so many steps that there is none has no memory.
+fn next_number(number: u64) -> Result<u64, NoMemory>
+    ensures { IfOk result (λ next. next ≡ number + 1) }
+{
+    number.checked_add(1).ok_or(NoMemory)
 }

@@ -5,22 +5,24 @@ ghost use Rattle.std.specs.Option.{option_map_or};
 ghost use Rattle.snoop_rules.specs.declared.names.CacheState.TheVariants.{I};
 ghost use Rattle.snoop_rules.specs.Takers.{seen_by};
 ghost use Rattle.snoop_blocks.specs.CoreSet.{has};
+ghost use Rattle.snoop_bus.specs.Traffic.{Open};
 ghost use Rattle.snoop_model.specs.Moves.Refuses.{Refuses};
 ghost use Rattle.snoop_model.specs.Runs.Run.{GoesFirst};
 ghost use Rattle.snoop_model.specs.declared.replies.Refused.{Refused as Cause};
 ghost use Rattle.snoop_model.specs.Pictures.Situation.{Situation};
 ghost use Rattle.snoop_engine.specs.Askers.{AreAskers, AreOthersInI, IsHeadFor};
+ghost use Rattle.snoop_engine.specs.Courses.{LeadsOn};
 ghost use Rattle.snoop_engine.specs.Views.{block_of};
 ghost use Rattle.snoop_engine.specs.declared.taken.Taken.TheVariants as Line;
-ghost use Rattle.snoop_engine.specs.Taken.{lines_of, memory_at, of_arrival, of_arrival_at_memory, of_ask, of_core, of_holder, of_memory, of_request, of_requestor, of_respond, refused_by, state_at, taken_by, of_waiting_memory, unless_i};
+ghost use Rattle.snoop_engine.specs.Taken.{IsTransfer, lines_of, memory_at, of_arrival, of_arrival_at_memory, of_ask, of_core, of_holder, of_memory, of_request, of_requestor, of_respond, refused_by, state_at, taken_by, of_waiting_memory, unless_i};
 
 use crate::askers::Askers;
+use crate::course::Course;
 use crate::events::event_asked;
 use snoop_blocks::CoreSet;
-use snoop_bus::Open;
 use snoop_machine::{Machine, Refused, Reply};
 use snoop_rules::{
-    CacheEvent, CacheState, MemEvent, MemState, Request, arrival, arrival_at_memory,
+    CacheEvent, CacheState, MemEvent, MemState, Payload, Request, arrival, arrival_at_memory,
     event_at_memory, event_seen, takes_payload,
 };
 use snoop_trace::{NoMemory, Op, Step};
@@ -261,14 +263,16 @@ fn add_requestor(
     lines: &mut Vec<Taken>,
     machine: &Machine,
     block: u32,
-    opened: &Open,
+    core: u32,
+    request: Request,
+    payload: Payload,
 ) -> Result<(), NoMemory>
-    ensures { OnOk result (lines.new.items ≡ lines.old.items ++ of_requestor opened.now.request machine.now.situation block opened.now) }
+    ensures { (opened : Open) → IsTransfer opened core request payload → OnOk result (lines.new.items ≡ lines.old.items ++ of_requestor opened.request machine.now.situation block opened) }
 {
-    match opened.request {
+    match request {
         Request::PutM => Ok(()),
         Request::GetS | Request::GetM => {
-            add_arrival(lines, machine, opened.core, block, arrival(opened.payload))
+            add_arrival(lines, machine, core, block, arrival(payload))
         }
     }
 }
@@ -291,13 +295,14 @@ fn add_waiting_memory(
     lines: &mut Vec<Taken>,
     machine: &Machine,
     block: u32,
-    opened: &Open,
+    request: Request,
+    payload: Payload,
 ) -> Result<(), NoMemory>
-    ensures { OnOk result (lines.new.items ≡ lines.old.items ++ of_waiting_memory machine.now.situation block opened.now) }
+    ensures { (opened : Open) (core : ℕ) → IsTransfer opened core request payload → OnOk result (lines.new.items ≡ lines.old.items ++ of_waiting_memory machine.now.situation block opened) }
 {
     match memory_at(machine, block) {
-        Some(before) if takes_payload(opened.request, before) => {
-            add_arrival_at_memory(lines, machine, block, arrival_at_memory(opened.payload))
+        Some(before) if takes_payload(request, before) => {
+            add_arrival_at_memory(lines, machine, block, arrival_at_memory(payload))
         }
         _ => Ok(()),
     }
@@ -307,12 +312,14 @@ fn add_respond(
     lines: &mut Vec<Taken>,
     machine: &Machine,
     block: u32,
-    opened: &Open,
+    core: u32,
+    request: Request,
+    payload: Payload,
 ) -> Result<(), NoMemory>
-    ensures { OnOk result (lines.new.items ≡ lines.old.items ++ of_respond machine.now.situation block opened.now) }
+    ensures { (opened : Open) → IsTransfer opened core request payload → OnOk result (lines.new.items ≡ lines.old.items ++ of_respond machine.now.situation block opened) }
 {
-    add_requestor(lines, machine, block, opened)?;
-    add_waiting_memory(lines, machine, block, opened)
+    add_requestor(lines, machine, block, core, request, payload)?;
+    add_waiting_memory(lines, machine, block, request, payload)
 }
 
 // Adds the rows that the controllers take at a step, if it is taken.
@@ -339,9 +346,11 @@ fn add_taken(
             None => Ok(()),
             Some((request, block)) => { add_request(lines, machine, askers, core, block, request) }
         },
-        Step::Respond { block } => match machine.open(block) {
+        Step::Respond { block } => match machine.transfer(block) {
             None => Ok(()),
-            Some(opened) => add_respond(lines, machine, block, &opened),
+            Some((core, request, payload)) => {
+                add_respond(lines, machine, block, core, request, payload)
+            }
         },
     }
 }
@@ -392,32 +401,36 @@ fn is_bus_taken(machine: &Machine, step: Step, head: Option<(Request, u32)>) -> 
     }
 }
 
-/// Takes one step, and adds what there is to say of it to the lines, which are empty.
-pub(crate) fn take_step(
+/// Takes the step that was found, and adds what there is to say of it to the lines, which are empty.
+#[inline(always)]
+pub(crate) fn take_step<C: Course>(
     lines: &mut Vec<Taken>,
-    machine: &mut Machine,
+    course: &mut C,
     askers: &mut Askers,
     step: Step,
     head: Option<(Request, u32)>,
 ) -> Result<Result<Reply, Refused>, NoMemory>
     requires empty { lines.old.items ≡ [] }
-    requires askers { AreAskers machine.old.situation askers.old.sets }
-    requires head { IsHeadFor machine.old.situation step head }
-    ensures goes { IfOk result (λ outcome. GoesFirst machine.old.situation step outcome machine.new.situation) }
-    ensures lines { IfOk result (λ outcome. lines.new.items ≡ lines_of machine.old.situation step outcome) }
-    ensures askers { IfOk result (λ outcome. AreAskers machine.new.situation askers.new.sets) }
+    requires found { (before : C) × C.finds before step course.old }
+    requires askers { AreAskers (C.situation course.old) askers.old.sets }
+    requires head { IsHeadFor (C.situation course.old) step head }
+    ensures goes { IfOk result (λ outcome. GoesFirst (C.situation course.old) step outcome (C.situation course.new)) }
+    ensures fewer { (before : C) → C.finds before step course.old → IfOk result (λ outcome. C.left course.new < C.left before) }
+    ensures leads { (before : C) → C.finds before step course.old → IfOk result (λ outcome. LeadsOn (C.leads before) step outcome (C.leads course.new)) }
+    ensures lines { IfOk result (λ outcome. lines.new.items ≡ lines_of (C.situation course.old) step outcome) }
+    ensures askers { IfOk result (λ outcome. AreAskers (C.situation course.new) askers.new.sets) }
 {
+    let machine = course.machine();
     machine.shape().within_limits();
     if !is_bus_taken(machine, step, head) {
         add_taken(lines, machine, askers, step, head)?;
     }
-    let outcome = machine.step(step);
+    let outcome = course.take(step)?;
     match outcome {
         Ok(_) => askers.follow(step),
-        Err(Refused::NoMemory) => return Err(NoMemory),
         Err(cause) => {
             lines.clear();
-            add_refused(lines, machine, step, cause)?;
+            add_refused(lines, course.machine(), step, cause)?;
         }
     }
     Ok(outcome)

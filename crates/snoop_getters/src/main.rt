@@ -60,17 +60,9 @@ fn push_held(out: &mut String, machine: &Machine, core: u32, block: u32) -> Resu
     Ok(())
 }
 
-/// Appends the open transaction: requestor, request, payload, values, and the core that sends it or memory.
+/// Appends the rest of the open transaction: values, and the core that sends it or memory.
 fn push_open(out: &mut String, open: &Open, words: u32) -> Result<()> {
-    let Open {
-        core,
-        request,
-        payload,
-        value,
-        from,
-        ..
-    } = open;
-    write!(out, "{core}:{request}:{payload}:")?;
+    let Open { value, from, .. } = open;
     for word in 0..words {
         push_value(out, word, value.get(word))?;
     }
@@ -95,6 +87,9 @@ fn push_block(out: &mut String, machine: &Machine, block: u32) -> Result<()> {
         push_value(out, word, machine.mem_value(block, word))?;
     }
     out.push(',')?;
+    if let Some((core, request, payload)) = machine.transfer(block) {
+        write!(out, "{core}:{request}:{payload}:")?;
+    }
     if let Some(open) = machine.open(block) {
         push_open(out, &open, words)?;
     }

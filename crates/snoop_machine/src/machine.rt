@@ -28,7 +28,7 @@ use crate::any_parts::{AnyParts, each};
 use snoop_bus::Open;
 use snoop_history::{Item, Log};
 use snoop_model::{Refused, Reply};
-use snoop_rules::{CacheState, MemState, Protocol, Request};
+use snoop_rules::{CacheState, MemState, Payload, Protocol, Request};
 use snoop_trace::{NoMemory, Shape, Step};
 use std::alloc::Global;
 use std::fmt;
@@ -187,6 +187,14 @@ impl Machine {
         ensures { result ≡ option_map (λ opened. opened.core) (picture_of self.now.situation block).transaction }
     {
         each!(&self.parts, parts => parts.requestor(block))
+    }
+
+    /// The requestor of the block's open transaction, its request, and the payload of the message: `open` without the words
+    /// and the sender. `None` where none is open, and outside the shape.
+    pub fn transfer(&self, block: u32) -> Option<(u32, Request, Payload)>
+        ensures { result ≡ option_map (λ opened. (opened.core, opened.request, opened.payload)) (picture_of self.now.situation block).transaction }
+    {
+        each!(&self.parts, parts => parts.transfer(block))
     }
 
     /// Whether a request of the core waits to be ordered; false outside the shape.

@@ -21,7 +21,7 @@ use snoop_blocks::BlockTable;
 use snoop_bus::{Bus, Open};
 use snoop_history::{Did, Log};
 use snoop_model::{Access, Line, MemLine};
-use snoop_rules::{CacheState, MemState, Protocol, waits};
+use snoop_rules::{CacheState, MemState, Payload, Protocol, Request, waits};
 use snoop_trace::{Block, Kept, NoMemory, Op, Shape};
 use std::alloc::Global;
 use std::marker::Model;
@@ -185,6 +185,14 @@ impl<B: Block> Parts<B> {
     {
         let opened = self.transaction(block)?;
         Some(opened.core)
+    }
+
+    /// The requestor of the block's open transaction, its request, and the payload of the message, if one is open.
+    pub(crate) fn transfer(&self, block: u32) -> Option<(u32, Request, Payload)>
+        ensures { result ≡ option_map (λ opened. (opened.core, opened.request, opened.payload)) (picture_of self.now.situation block).transaction }
+    {
+        let opened = self.transaction(block)?;
+        Some((opened.core, opened.request, opened.payload))
     }
 
     /// Whether a request of the core waits to be ordered.

@@ -10,11 +10,11 @@ use std::test::Fail;
 
 /// Whether core 1 has won the race: its GetM is open on block 0, and core 0 has lost its copy.
 fn has_a_winner(machine: &Machine) -> bool {
-    let Some(open) = machine.open(0) else {
+    let Some((core, request, _)) = machine.transfer(0) else {
         return false;
     };
-    open.core == 1
-        && open.request == Request::GetM
+    core == 1
+        && request == Request::GetM
         && machine.state(0, 0) == Some(CacheState::ImAd)
         && machine.state(1, 0) == Some(CacheState::SmD)
         && machine.mem_state(0) == Some(MemState::M)

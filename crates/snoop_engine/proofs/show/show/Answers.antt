@@ -1,88 +1,115 @@
-use Rattle.std.proofs.Common.{◌≡◌, ◌-◌, ◌∙◌, length, arith, refl, subst, sym}
+use Rattle.std.proofs.Common.{◌≡◌, ap, ◌∙◌, [], sym, subst}
 use Rattle.snoop_trace.proofs.OutputLemmas.{on_err}
+use Rattle.snoop_trace.specs.Extent.{Extent}
 use Rattle.snoop_model.specs.Pictures.Situation.{Situation}
 use Rattle.snoop_engine.specs.Askers.{AreAskers}
-use Rattle.snoop_engine.proofs.ShownLemmas.{begins_nothing, showing_cut, showing_cut_at_end, showing_done, showing_more, showing_none, showing_spilled, showing_stop}
+use Rattle.snoop_engine.specs.Courses.{CanEnd}
+use Rattle.snoop_engine.specs.Frames.{outcomes_of, steps_of}
+use Rattle.snoop_engine.proofs.ShownLemmas.{ends_with_nothing, showing_cut, showing_cut_at_end, showing_done, showing_more, showing_none, showing_run, showing_spilled, showing_stop}
 use Rattle.snoop_engine.proofs.show.show.Goals as goal
-
-pub returns-in_err-machine-clause-front : goal.returns-in_err-machine-clause-front
-returns-in_err-machine-clause-front g c =
-    on_err c.from_residual.result _ (begins_nothing c.args.protocol c.args.shape _ _ _ (g.S.Script.steps c.args.script.now) c.runs_go_on.ensures (g.W.Write.contents c.args.writer.now))
 
 pub returns-in_err-askers-clause-front : goal.returns-in_err-askers-clause-front
 returns-in_err-askers-clause-front g c =
-    on_err c.from_residual-in_err-askers.result _ (begins_nothing c.args.protocol c.args.shape _ _ _ (g.S.Script.steps c.args.script.now) c.runs_go_on.ensures (g.W.Write.contents c.args.writer.now))
+    let s = g.C.Course.situation c.args.course.now in
+    on_err c.from_residual.result _
+    (ends_with_nothing s.protocol s.shape _ _ _ _ c.runs_go_on.ensures (c.can_end.ensures s.protocol s.shape [] [] c.requires) (g.W.Write.contents c.args.writer.now))
 
 pub returns-in_err-begin-clause-front : goal.returns-in_err-begin-clause-front
 returns-in_err-begin-clause-front g c =
-    on_err c.from_residual-in_err-begin.result _ (begins_nothing c.args.protocol c.args.shape _ _ _ (g.S.Script.steps c.args.script.now) c.runs_go_on.ensures (g.W.Write.contents c.args.writer.now))
+    let s = g.C.Course.situation c.args.course.now in
+    on_err c.from_residual-in_err-begin.result _
+    (ends_with_nothing s.protocol s.shape _ _ _ _ c.runs_go_on.ensures (c.can_end.ensures s.protocol s.shape [] [] c.requires) (g.W.Write.contents c.args.writer.now))
 
 pub loop-step-init : goal.loop-step-init
-loop-step-init g c = (
-  showing_none c.args.protocol c.args.shape _ _ (λ p s frames. g.V.View.has_seen c.args.view.now p s frames c.begin.new.self) (g.V.View.heading c.args.view.now)
-      _ c.in_ok-machine.machine.situation _ c.new-chunk.result.items c.begin.new.out.items
-      c.in_ok-machine.ensures.at_reset refl c.in_ok-begin.ensures.begins c.new-chunk.ensures.items c.in_ok-begin.ensures.text,
-  (λ none. none),
-  subst (λ (s : Situation). AreAskers s c.in_ok-askers.askers.sets) (sym c.in_ok-machine.ensures.at_reset) (c.in_ok-askers.ensures c.args.protocol c.args.shape (sym c.blocks-2.ensures.value)),
-)
+loop-step-init g c =
+    let s = g.C.Course.situation c.args.course.now in
+    let blocks = c.blocks-2.ensures.value ∙ ap (λ (x : Extent). x.blocks) (c.shape.ensures ∙ ap (λ (m : Situation). m.shape) c.machine.ensures) in (
+      showing_none s.protocol s.shape _ _ _ _ s _ _ _ c.requires (rw c.machine-2.ensures at c.in_ok-begin.ensures.begins) c.new-chunk.ensures.items (rw c.machine-2.ensures at c.in_ok-begin.ensures.text),
+      c.can_end.ensures s.protocol s.shape [] [] c.requires,
+      (λ none. none),
+      subst (λ (m : Situation). AreAskers m c.in_ok-askers.askers.sets) (sym c.requires) (c.in_ok-askers.ensures s.protocol s.shape (sym blocks)),
+    )
+
+pub take_step-requires-clause-found : goal.take_step-requires-clause-found
+take_step-requires-clause-found g c = (c.loop-step.course, c.in-Some.ensures.found)
+
+pub take_step-requires-clause-askers : goal.take_step-requires-clause-askers
+take_step-requires-clause-askers g c = subst (λ (m : Situation). AreAskers m c.loop-step.askers.sets) (sym c.in-Some.ensures.same) c.loop-step.invariant.3
+
+pub take_step-requires-clause-head : goal.take_step-requires-clause-head
+take_step-requires-clause-head g c = rw c.machine-in-Some.ensures at c.head_for-head.ensures
+
+pub returns-in_err-number-clause-front : goal.returns-in_err-number-clause-front
+returns-in_err-number-clause-front g c =
+    let s = g.C.Course.situation c.args.course.now in
+    on_err c.from_residual-in_err-number.result _
+    (showing_stop s.protocol s.shape _ (g.V.View.shows c.args.view.now) (λ p s frames. g.V.View.has_seen c.args.view.now p s frames c.loop-step.view) _ _ _ _ _ _ _ c.loop-step.invariant.0
+    (g.V.View.ending c.args.view.now) c.runs_go_on.ensures c.loop-step.invariant.1)
 
 pub returns-in_err-outcome-clause-front : goal.returns-in_err-outcome-clause-front
 returns-in_err-outcome-clause-front g c =
+    let s = g.C.Course.situation c.args.course.now in
     on_err c.from_residual-in_err-outcome.result _
-    (showing_stop c.args.protocol c.args.shape _ (g.V.View.shows c.args.view.now) (λ p s frames. g.V.View.has_seen c.args.view.now p s frames c.loop-step.view) _ _ _ _ _ _
-    c.loop-step.invariant.0 c.runs_go_on.ensures _)
+    (showing_stop s.protocol s.shape _ (g.V.View.shows c.args.view.now) (λ p s frames. g.V.View.has_seen c.args.view.now p s frames c.loop-step.view) _ _ _ _ _ _ _ c.loop-step.invariant.0
+    (g.V.View.ending c.args.view.now) c.runs_go_on.ensures c.loop-step.invariant.1)
 
 pub returns-in_err-see-clause-front : goal.returns-in_err-see-clause-front
 returns-in_err-see-clause-front g c =
+    let s = g.C.Course.situation c.args.course.now in
     on_err c.from_residual-in_err-see.result _
-    (showing_stop c.args.protocol c.args.shape _ (g.V.View.shows c.args.view.now) (λ p s frames. g.V.View.has_seen c.args.view.now p s frames c.loop-step.view) _ _ _ _ _ _
-    c.loop-step.invariant.0 c.runs_go_on.ensures _)
+    (showing_stop s.protocol s.shape _ (g.V.View.shows c.args.view.now) (λ p s frames. g.V.View.has_seen c.args.view.now p s frames c.loop-step.view) _ _ _ _ _ _ _ c.loop-step.invariant.0
+    (g.V.View.ending c.args.view.now) c.runs_go_on.ensures c.loop-step.invariant.1)
 
 pub loop-step-preserved : goal.loop-step-preserved
 loop-step-preserved g c =
-    let more = rw c.in-Some.is at c.take_first.ensures.first in
-    let all = c.left-count.ensures in
-    let left = c.left.ensures in
-    let counted : c.left-count.result - c.left.result ≡ length (g.S.Script.steps c.args.script.now) - length (g.S.Script.steps c.take_first.new.self) = omega arith in
+    let s = g.C.Course.situation c.args.course.now in
+    let head = rw (c.machine-in-Some.ensures, c.in-Some.ensures.same) at c.head_for-head.ensures in
     let far =
-    showing_more c.args.protocol c.args.shape _ (g.V.View.shows c.args.view.now) (λ p s frames. g.V.View.has_seen c.args.view.now p s frames c.loop-step.view) _ _ _ _ _ _
-    c.loop-step.invariant.0 (λ p s frames. g.V.View.has_seen c.args.view.now p s frames c.see.new.self) _ _ _ _ more counted c.in_ok-outcome.ensures.goes
-    (c.deref.ensures.value ∙ c.in_ok-outcome.ensures.lines) (c.block_of-block.ensures c.loop-step.machine.situation c.head_for-head.ensures) (c.in_ok-see.ensures c.args.view.now) in (
-      showing_spilled c.args.protocol c.args.shape _ (g.V.View.shows c.args.view.now) (λ p s frames. g.V.View.has_seen c.args.view.now p s frames c.see.new.self) _ _ _ _ _ _ far _ _ c.in_ok-spill.ensures.ok,
-      (λ none. (c.in_ok-spill.ensures.blamed (c.loop-step.invariant.1 none)).1 (λ failed. cc)),
+    showing_more s.protocol s.shape _ (g.V.View.shows c.args.view.now) (λ p s frames. g.V.View.has_seen c.args.view.now p s frames c.loop-step.view) _ _ _ _ _ _ _ c.loop-step.invariant.0
+    (λ p s frames. g.V.View.has_seen c.args.view.now p s frames c.see.new.self) _ _ _ _ c.in_ok-number.ensures (rw c.in-Some.ensures.same at c.in_ok-outcome.ensures.goes)
+    (c.deref.ensures.value ∙ (rw c.in-Some.ensures.same at c.in_ok-outcome.ensures.lines)) (c.block_of-block.ensures (g.C.Course.situation c.loop-step.course) head)
+    (c.in_ok-outcome.ensures.leads c.loop-step.course c.in-Some.ensures.found) (rw c.machine-in-Some-2.ensures at (c.in_ok-see.ensures c.args.view.now)) in
+    let run = showing_run s.protocol s.shape _ (g.V.View.shows c.args.view.now) (λ p s frames. g.V.View.has_seen c.args.view.now p s frames c.see.new.self) _ _ _ _ _ _ _ far in (
+      showing_spilled s.protocol s.shape _ (g.V.View.shows c.args.view.now) (λ p s frames. g.V.View.has_seen c.args.view.now p s frames c.see.new.self) _ _ _ _ _ _ _ far _ _ c.in_ok-spill.ensures.ok,
+      c.can_end-in-Some.ensures s.protocol s.shape (steps_of far.frames) (outcomes_of far.frames) run,
+      (λ none. (c.in_ok-spill.ensures.blamed (c.loop-step.invariant.2 none)).1 (λ failed. cc)),
       c.in_ok-outcome.ensures.askers,
     )
 
 pub returns-in_err-spill-clause-front : goal.returns-in_err-spill-clause-front
 returns-in_err-spill-clause-front g c =
-    let more = rw c.in-Some.is at c.take_first.ensures.first in
-    let all = c.left-count.ensures in
-    let left = c.left.ensures in
-    let counted : c.left-count.result - c.left.result ≡ length (g.S.Script.steps c.args.script.now) - length (g.S.Script.steps c.take_first.new.self) = omega arith in
+    let s = g.C.Course.situation c.args.course.now in
+    let head = rw (c.machine-in-Some.ensures, c.in-Some.ensures.same) at c.head_for-head.ensures in
     let far =
-    showing_more c.args.protocol c.args.shape _ (g.V.View.shows c.args.view.now) (λ p s frames. g.V.View.has_seen c.args.view.now p s frames c.loop-step.view) _ _ _ _ _ _
-    c.loop-step.invariant.0 (λ p s frames. g.V.View.has_seen c.args.view.now p s frames c.see.new.self) _ _ _ _ more counted c.in_ok-outcome.ensures.goes
-    (c.deref.ensures.value ∙ c.in_ok-outcome.ensures.lines) (c.block_of-block.ensures c.loop-step.machine.situation c.head_for-head.ensures) (c.in_ok-see.ensures c.args.view.now) in
+    showing_more s.protocol s.shape _ (g.V.View.shows c.args.view.now) (λ p s frames. g.V.View.has_seen c.args.view.now p s frames c.loop-step.view) _ _ _ _ _ _ _ c.loop-step.invariant.0
+    (λ p s frames. g.V.View.has_seen c.args.view.now p s frames c.see.new.self) _ _ _ _ c.in_ok-number.ensures (rw c.in-Some.ensures.same at c.in_ok-outcome.ensures.goes)
+    (c.deref.ensures.value ∙ (rw c.in-Some.ensures.same at c.in_ok-outcome.ensures.lines)) (c.block_of-block.ensures (g.C.Course.situation c.loop-step.course) head)
+    (c.in_ok-outcome.ensures.leads c.loop-step.course c.in-Some.ensures.found) (rw c.machine-in-Some-2.ensures at (c.in_ok-see.ensures c.args.view.now)) in
+    let run = showing_run s.protocol s.shape _ (g.V.View.shows c.args.view.now) (λ p s frames. g.V.View.has_seen c.args.view.now p s frames c.see.new.self) _ _ _ _ _ _ _ far in
     on_err c.from_residual-in_err-spill.result _
-    (showing_cut c.args.protocol c.args.shape _ (g.V.View.shows c.args.view.now) (λ p s frames. g.V.View.has_seen c.args.view.now p s frames c.see.new.self) _ _ _ _ _ _ far c.runs_go_on.ensures _ _ c.in_err-spill.ensures.front)
+    (showing_cut s.protocol s.shape _ (g.V.View.shows c.args.view.now) (λ p s frames. g.V.View.has_seen c.args.view.now p s frames c.see.new.self) _ _ _ _ _ _ _ far
+    (g.V.View.ending c.args.view.now) c.runs_go_on.ensures (c.can_end-in-Some.ensures s.protocol s.shape (steps_of far.frames) (outcomes_of far.frames) run) _ c.in_err-spill.ensures.front)
 
 pub returns-in_err-end-clause-front : goal.returns-in_err-end-clause-front
 returns-in_err-end-clause-front g c =
+    let s = g.C.Course.situation c.args.course.now in
     on_err c.from_residual-in_err-end.result _
-    (showing_stop c.args.protocol c.args.shape _ (g.V.View.shows c.args.view.now) (λ p s frames. g.V.View.has_seen c.args.view.now p s frames c.loop-step.view) _ _ _ _ _ _
-    c.loop-step.invariant.0 c.runs_go_on.ensures _)
+    (showing_stop s.protocol s.shape _ (g.V.View.shows c.args.view.now) (λ p s frames. g.V.View.has_seen c.args.view.now p s frames c.loop-step.view) _ _ _ _ _ _ _ c.loop-step.invariant.0
+    (g.V.View.ending c.args.view.now) c.runs_go_on.ensures c.loop-step.invariant.1)
 
 pub returns-in_err-write_whole-clause-front : goal.returns-in_err-write_whole-clause-front
 returns-in_err-write_whole-clause-front g c =
-    let over = rw c.in_default.is at c.take_first.ensures.none in
+    let s = g.C.Course.situation c.args.course.now in
+    let over = rw c.in_default.is at c.find.ensures.end in
     let cut = rw c.deref-2.ensures.value at c.in_err-write_whole.ensures.front in
     on_err c.from_residual-in_err-write_whole.result _
-    (showing_cut_at_end c.args.protocol c.args.shape _ (g.V.View.shows c.args.view.now) (λ p s frames. g.V.View.has_seen c.args.view.now p s frames c.loop-step.view) _ _ _ _ _ _
-    c.loop-step.invariant.0 (g.V.View.ending c.args.view.now) c.end.new.out.items over (c.in_ok-end.ensures c.args.view.now) _ cut)
+    (showing_cut_at_end s.protocol s.shape _ (g.V.View.shows c.args.view.now) (λ p s frames. g.V.View.has_seen c.args.view.now p s frames c.loop-step.view) _ _ _ _ _ _ _ c.loop-step.invariant.0
+    (g.V.View.ending c.args.view.now) c.end.new.out.items _ over (rw (c.machine-3.ensures, c.find.ensures.same) at (c.in_ok-end.ensures c.args.view.now)) _ cut)
 
 pub returns-clause-ok : goal.returns-clause-ok
 returns-clause-ok g c =
-    let over = rw c.in_default.is at c.take_first.ensures.none in
+    let s = g.C.Course.situation c.args.course.now in
+    let over = rw c.in_default.is at c.find.ensures.end in
     let all = rw c.deref-2.ensures.value at c.in_ok-write_whole.ensures.ok in
-    showing_done c.args.protocol c.args.shape _ (g.V.View.shows c.args.view.now) (λ p s frames. g.V.View.has_seen c.args.view.now p s frames c.loop-step.view) _ _ _ _ _ _
-    c.loop-step.invariant.0 (g.V.View.ending c.args.view.now) c.end.new.out.items over (c.in_ok-end.ensures c.args.view.now) _ all
+    showing_done s.protocol s.shape _ (g.V.View.shows c.args.view.now) (λ p s frames. g.V.View.has_seen c.args.view.now p s frames c.loop-step.view) _ _ _ _ _ _ _ c.loop-step.invariant.0
+    (g.V.View.ending c.args.view.now) c.end.new.out.items _ over (rw (c.machine-3.ensures, c.find.ensures.same) at (c.in_ok-end.ensures c.args.view.now)) _ all

@@ -1,25 +1,6 @@
-use Rattle.std.proofs.Common.{◌≡◌, ℕ, List, length, refl, ap, arith}
-use Rattle.snoop_engine.proofs.Rounds.{still_unasked, follows_on, done_now}
+use Rattle.snoop_engine.proofs.CourseLemmas.{driver_follows}
 use Rattle.snoop_engine.proofs.driver.Driver.next.Goals as goal
 
-pub loop-core-init : goal.loop-core-init
-loop-core-init c = record { situation = refl; left = λ core. refl }
-
-pub returns-in-Some-turn-clause-step : goal.returns-in-Some-turn-clause-step
-returns-in-Some-turn-clause-step c =
-    follows_on c.args.self.now c.loop-core.self c.loop-core.invariant c.turn.new.self c.pass_on.new.self c.take.new.self c.in-Some-turn.step c.in_ok-reply.reply
-    c.in-Some-turn.ensures.machine c.in-Some-turn.ensures.takes_up c.pass_on.ensures.machine c.pass_on.ensures.lanes c.in_ok-reply.ensures.taken c.in_ok-reply.ensures.lanes
-
-pub loop-core-smaller : goal.loop-core-smaller
-loop-core-smaller c =
-    let same : length c.turn.new.self.turns ≡ length c.loop-core.self.turns = ap (λ (l : List ℕ). length l) c.turn.ensures.turns in
-    let fewer = c.dismiss.ensures.fewer in
-    omega arith
-
-pub loop-core-preserved : goal.loop-core-preserved
-loop-core-preserved c =
-    still_unasked c.args.self.now c.loop-core.self c.loop-core.invariant c.in-Some.core c.turn.new.self c.dismiss.new.self
-    c.turn.ensures.machine c.turn.ensures.others c.in_default-turn.ensures.idle c.dismiss.ensures.machine c.dismiss.ensures.lanes
-
-pub returns-clause-done : goal.returns-clause-done
-returns-clause-done c = done_now c.args.self.now c.loop-core.self c.loop-core.invariant c.in_default.ensures.done
+pub returns-clause-step : goal.returns-clause-step
+returns-clause-step c =
+    driver_follows c.args.self.now c.next_step.new.self c.take_step.new.self c.in-Some.step c.in_ok-reply.reply c.in-Some.ensures.finds c.in_ok-reply.ensures.taken c.in_ok-reply.ensures.lanes

@@ -10,8 +10,8 @@ use Rattle.snoop_engine.specs.InOrder.{InOrder, IsInOrder, under_way}
 use Rattle.snoop_engine.specs.Round.{IsEnabled}
 use Rattle.snoop_engine.proofs.Driving.{only_memory}
 use Rattle.snoop_engine.proofs.InOrderLemmas.{in_order_moves}
-use Rattle.snoop_engine.proofs.serial_driver.SerialDriver.take.Goals as goal
-use Rattle.snoop_engine.proofs.serial_driver.SerialDriver.take.Goals.{in-Ok, in-Err-NoMemory}
+use Rattle.snoop_engine.proofs.serial_driver.SerialDriver.take_step.Goals as goal
+use Rattle.snoop_engine.proofs.serial_driver.SerialDriver.take_step.Goals.{in-Ok, in-Err-NoMemory}
 
 pub invariant_of-self : goal.invariant_of-self
 invariant_of-self c =

@@ -10,8 +10,8 @@ use Rattle.snoop_model.proofs.Turns.Laws.{turn_rule}
 use Rattle.snoop_engine.specs.Todo.{under_way}
 use Rattle.snoop_engine.specs.Round.{Progress, IsEnabled, IsFit}
 use Rattle.snoop_engine.proofs.Driving.{fit_moves, only_memory}
-use Rattle.snoop_engine.proofs.driver.Driver.take.Goals as goal
-use Rattle.snoop_engine.proofs.driver.Driver.take.Goals.{in-Ok, in-Err-NoMemory}
+use Rattle.snoop_engine.proofs.driver.Driver.take_step.Goals as goal
+use Rattle.snoop_engine.proofs.driver.Driver.take_step.Goals.{in-Ok, in-Err-NoMemory}
 
 pub invariant_of-self : goal.invariant_of-self
 invariant_of-self c =

@@ -1,6 +1,6 @@
 use Rattle.std.specs.Prelude.{length}
 use Rattle.snoop_engine.specs.Round.{IsUnasked}
-use Rattle.snoop_engine.proofs.driver.Driver.next.Given as goal
+use Rattle.snoop_engine.proofs.driver.Driver.next_step.Given as goal
 
 abbrev pub invariant-loop-core : goal.invariant-loop-core
 invariant-loop-core l = IsUnasked l.fn.self l.self

@@ -1,0 +1,15 @@
+use Rattle.snoop_engine.proofs.Dealing.{asks_within, left_of_rows}
+use Rattle.snoop_engine.proofs.DrivenLemmas.{rows_read}
+use Rattle.snoop_engine.proofs.gather.read_driver.Goals as goal
+
+pub new-requires-2 : goal.new-requires-2
+new-requires-2 g c =
+    let asked = c.in_ok-asks.ensures.read in
+    asks_within c.args.shape asked.rows c.in_ok-asks.asks c.within_limits.ensures asked.within asked.asks
+
+pub returns-clause-rows : goal.returns-clause-rows
+returns-clause-rows g c =
+    let asked = c.in_ok-asks.ensures.read in
+    let driver = c.in_ok-new.field-0 in
+    let dealt = left_of_rows c.args.shape asked.rows c.in_ok-asks.asks driver.lanes asked.asks c.in_ok-new.ensures.left c.in_ok-new.ensures.all in
+    (asked.rows, (rows_read c.args.shape (g.R.Read.remaining c.args.reader.now) asked.rows asked.given, record { situation = c.in_ok-new.ensures.situation; left = dealt.0; all = dealt.1 }))

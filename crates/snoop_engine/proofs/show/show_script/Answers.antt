@@ -1,0 +1,8 @@
+use Rattle.std.proofs.Common.{◌≡◌}
+use Rattle.snoop_trace.proofs.OutputLemmas.{on_err}
+use Rattle.snoop_engine.proofs.ShownLemmas.{all_listed_err, all_listed_ok, begins_nothing}
+use Rattle.snoop_engine.proofs.show.show_script.Goals as goal
+
+pub returns-in_err-course-clause-front : goal.returns-in_err-course-clause-front
+returns-in_err-course-clause-front g c =
+    on_err c.from_residual.result _ (begins_nothing c.args.protocol c.args.shape _ _ _ (g.S.Script.steps c.args.script) c.runs_go_on.ensures (g.W.Write.contents c.args.writer.now))
