@@ -67,11 +67,20 @@ HEAD = """# The theorem
 ```
 
 So it is about every list of steps that a machine takes from reset, in any order. Each step is taken
-or refused, an Order may take any block on which its core waits, and any step may be refused as out
-of memory. It says nothing of time, nor that a request is ever ordered or answered. That the code
-takes such steps and no others is what `Machine::step` and `run_steps` promise (docs/PROVED.md), and
-why all this holds is in docs/COHERENCE.md. `tools/theorem.py --write` makes this page of the
-sources, whose files say where each rule comes from.
+or refused, an Order may take any block on which its core waits and that has no open transaction,
+and any step may be refused as out of memory. An Order is atomic: all caches and memory move at
+once, each by its row of the tables, and the block's transaction is open until its Respond.
+
+The history has operations in the order in which they are performed, at a hit or with the data that
+came. That need not be the order in which a core asked: while its store to a block waits for its
+request, a load of the block may hit, and reads what was there before the store. Nothing is said of
+the order of one core's operations on different blocks, of time, nor that a request is ever ordered
+or answered. Who sends a message is part of a move; the target that a row names is not looked at, as
+memory takes the data where it waits for it (`takes_payload`).
+
+That the code takes such steps and no others is what `Machine::step` and `run_steps` promise
+(docs/PROVED.md), and why all this holds is in docs/COHERENCE.md. `tools/theorem.py --write` makes
+this page of the sources, whose files say where each rule comes from.
 
 ## How to read it
 
@@ -79,8 +88,12 @@ A fact is spelled like a type (`OneWriter`), a function like a function (`flat`)
 of a and b. A definition begins with the types of its arguments and of what it is; `Type 0` says
 that it is a fact or a type. Below stands what it means, case by case, the first that fits, with `_`
 for any value. A record of facts holds where all of them do, and `record s {{ .. }}` is s with these
-fields. `x.log` is a field. A member of a type may stand with a short name of its type before it, as
-`op.Load`; `Nothing` is a controller's `None`.
+fields; with no `s` all of them stand there. `x.log` is a field. `{{A : Type 0}}` is a type that the
+other arguments tell. A member of a type may stand with a short name of its type before it, as
+`op.Load`, `state.ImAd`, `mem.IorS` or `reply.Hit`, and what it carries follows it in order, as in
+`Ask core block word op`; `Nothing` is a controller's `None`. Each cache is a controller, and memory
+is one; a row is a cell of a controller's table, and a cell is impossible where the table has none.
+The log is the history.
 
 `A × B` is "A and B", `(x : T) × P` "there is an x with P", `(x : T) → P` "P for every x", `A → B`
 "if A then B", `¬ A` "not A", `⊥` what never holds, and `λ x. ..` a function of x.

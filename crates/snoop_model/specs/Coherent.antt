@@ -25,7 +25,7 @@ use Rattle.snoop_model.specs.Runs.Once.{Once}
 pub record IsCoherent (s : Situation) : Type 0 where
   -- each block has one writer alone, or only readers
   pub one_writer : (block : ℕ) → OneWriter s.protocol (picture_of s block)
-  -- each load of the history has the value of the last store to its word before it, and each core's operations are numbered in order
+  -- in the history, which has operations in the order in which they were performed, each load has the value of the last store to its word before it, or 0 where there is none, and each core's operations are numbered in order
   pub legal : Legal s.log
   -- each operation of the history is by a core, of a block and of a word that the machine has
   pub logged : All (λ did. IsWithin s did.core did.block × IsWord s.shape did.word) (operations s.log)
@@ -39,24 +39,24 @@ pub record IsCoherent (s : Situation) : Type 0 where
   pub memory : (block : ℕ) → block < s.shape.blocks → ((core : ℕ) → ¬ MayStore s.protocol (state_of s core block)) → data_under_way (picture_of s block).transaction ≡ None → (picture_of s block).memory.value ≡ flat_words s.log block
   -- a block's open transaction is of this block, by a core of the machine
   pub opened : (block : ℕ) → IfSome (picture_of s block).transaction (λ transaction. (transaction.block ≡ block) × (transaction.core < s.shape.cores))
-  -- no step is stuck at an impossible cell: each that is not refused is a move, an Order's on the first block of its core's queue, in which every controller takes its row
-  pub moves : (step : Step) → ((cause : Refused) → ¬ Refuses s step cause) → (answer : Reply) × ((new : Situation) × ((entry : Option Item) × FirstMove s step answer new entry))
-  -- so is an Order of a waiting request of any free block: each controller takes its row for it, and exactly one sends
-  pub orders : (core block : ℕ) (request : Request) → CanOrder s core block request → (new : Situation) × Orders s core block request new
-  -- each Order that is taken next, of any block, is a line of the table of senders
-  pub by_table : (core block : ℕ) (request : Request) (new : Situation) (made : Orders s core block request new) → IsLine s.protocol (picture_of s block) core request made.from made.payload made.next.memory.state
-  -- an open transaction is on such a line, and a Respond taken next closes it and leaves memory as the line says
-  pub on_table : (block : ℕ) → IfSome (picture_of s block).transaction (IsOpenByTable s block)
   -- an operation waits exactly where one has missed: a load or a store, as the state says
   pub waiting : (core block : ℕ) → option_map (λ access. request_for access.op) (held_by (picture_of s block) core).waiting ≡ missed_request (state_of s core block)
   -- each core's queue has the blocks on which it waits to be ordered, each once
   pub queued : (core block : ℕ) → IsInQueue s core block
+  -- no step is stuck at an impossible cell: each that is not refused is a move, an Order's on the first block of its core's queue
+  pub moves : (step : Step) → ((cause : Refused) → ¬ Refuses s step cause) → (answer : Reply) × ((new : Situation) × ((entry : Option Item) × FirstMove s step answer new entry))
+  -- so is an Order of a waiting request of any free block: each controller takes its row for it, and exactly one sends
+  pub orders : (core block : ℕ) (request : Request) → CanOrder s core block request → (new : Situation) × Orders s core block request new
+  -- each Order that is taken next, of any block, is a line of the table of senders, `lines_of`
+  pub by_table : (core block : ℕ) (request : Request) (new : Situation) (made : Orders s core block request new) → IsLine s.protocol (picture_of s block) core request made.from made.payload made.next.memory.state
+  -- an open transaction is on such a line, and a Respond taken next closes it and leaves memory as the line says
+  pub on_table : (block : ℕ) → IfSome (picture_of s block).transaction (IsOpenByTable s block)
 
--- where these steps, with these outcomes, lead a machine of this protocol and shape from reset
+-- what holds of a run from reset: these steps, with these outcomes, have led a machine of this protocol and shape to this situation
 pub record IsCoherentRun (protocol : Protocol) (shape : Extent) (steps : List Step) (outcomes : List (Result Reply Refused)) (s : Situation) : Type 0 where
   -- it has the protocol and the shape still
   pub stays : (s.protocol ≡ protocol) × (s.shape ≡ shape)
   -- it is coherent
   pub coherent : IsCoherent s
-  -- each load and store that was asked stands once in the history, or waits
+  -- each load and store whose Ask was taken stands once in the history, or waits
   pub once : Once steps outcomes s

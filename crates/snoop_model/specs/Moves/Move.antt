@@ -71,16 +71,16 @@ pub record Hits (next : CacheState) (old new : Line) (word : ℕ) (asking : Op) 
   pub performed : Performs word asking before value after
   pub held : new ≡ record { state = next; kept = Some after; waiting = old.waiting }
 
--- a core takes its row for a request, its own or another's
+-- a core moves to the next state of its row for a request, its own or another's
 abbrev pub TakesRow : Protocol → CacheEvent → Line → Line → Type 0
 TakesRow protocol event old new = (row : CacheCell) × (cell_of protocol old.state event ≡ Some row) × (new ≡ moves_to row.next old)
 
--- each core takes its row for a request
+-- each core does
 pub record TakesRows (protocol : Protocol) (core : ℕ) (request : Request) (old new : List Line) : Type 0 where
   pub same_length : length new ≡ length old
   pub rows : (k : ℕ) → k < length old → TakesRow protocol (seen_by k core request) (held_at old k) (held_at new k)
 
--- memory takes its row for an event
+-- memory moves to the next state of its row for an event
 abbrev pub TakesMemRow : Protocol → MemEvent → MemState → MemState → Type 0
 TakesMemRow protocol event old new = (row : MemCell) × (memory_cell_of protocol old event ≡ Some row) × (new ≡ row.next)
 
@@ -141,7 +141,7 @@ abbrev pub IsAbsent : Situation → ℕ → ℕ → Op → Reply → Situation �
 IsAbsent old core block asking answer new entry =
     (asking ≡ op.Evict) × (state_of old core block ≡ state.I) × (answer ≡ reply.Absent) × (new ≡ old) × (entry ≡ None)
 
--- what one core holds after an Ask by this row, what is replied, and the item that is added; a stall is no move
+-- what one core holds after an Ask by this row, what is replied, and the item that is added; no other action answers an Ask with a move
 abbrev pub Takes : CacheAction → CacheState → List Item → ℕ → ℕ → ℕ → Op → Line → Line → Reply → Option Item → Type 0
 Takes action.Hit next log core block word asking old new answer entry =
     (value : ℕ) × (Hits next old new word asking value × (answer ≡ (if is_load asking then reply.Hit value else reply.StoreHit))

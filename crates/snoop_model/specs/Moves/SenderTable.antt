@@ -17,7 +17,7 @@ use Rattle.snoop_model.specs.Pictures.Situation.{Situation, picture_of, CanOrder
 use Rattle.snoop_model.specs.Moves.Move.{TakesMemRow, Settles, MoveOn}
 use Rattle.snoop_model.specs.Pictures.Sends.{IsOnlySender}
 
--- the core's request is met as a line of the table says: from memory's state and the sender's before it, to memory's state after it, from which memory's row for the payload leads to `done`
+-- the core's request is met as a line of the table says: from memory's state and the sender's before it, to memory's state after it, from which memory's row for the payload, where memory takes it, leads to `done`
 pub record IsLine (protocol : Protocol) (before : Picture) (core : ℕ) (request : Request) (from : Option ℕ) (payload : Payload) (next : MemState) : Type 0 where
   pub done : MemState
   pub line : Contains (lines_of protocol request before.memory.state) (sender_of core (λ k. (held_by before k).state) from, payload, next, done)

@@ -12,7 +12,7 @@ use Rattle.snoop_model.specs.Pictures.Picture.{Picture, first_memory, nothing_he
 use Rattle.snoop_bus.specs.Queues.{queue_of}
 use Rattle.snoop_rules.specs.declared.names.MemState.TheVariants.{IorS}
 
--- the picture of each block, each core's queue, and the log
+-- the protocol and the shape, the picture of each block, each core's queue, and the log, which is the history
 pub record Situation : Type 0 where
   pub protocol : Protocol
   pub shape : Extent
