@@ -46,7 +46,7 @@ is_drawn choice number of = nat_le choice.from number && nat_le number choice.to
 
 -- the last words of the first row
 abbrev pub first_words : ℕ → List ℕ
-first_words number = if number == 0 then codes "  at reset\n" else codes "  before\n"
+first_words number = if number == 0 then codes " at reset\n" else codes " before\n"
 
 -- the first row: the machine as it stands after so many steps
 abbrev pub standing_text : Sheet → ℕ → Situation → List ℕ
@@ -60,7 +60,7 @@ panel_seen style s step outcome lines panel = panel_text style s (event_in panel
 -- the row of a step: its number, the panels, and its line
 abbrev pub row_seen : Sheet → Extent → ℕ → Situation → Step → Result Reply Refused → List Taken → List ℕ
 row_seen sheet shape number s step outcome lines =
-    right_text sheet.style.widths.number (decimal number) ++ flat_map (panel_seen sheet.style s step outcome lines) sheet.panels ++ codes "  " ++ line_text shape step outcome
+    right_text sheet.style.widths.number (decimal number) ++ flat_map (panel_seen sheet.style s step outcome lines) sheet.panels ++ codes " " ++ line_text shape step outcome
 
 -- what is drawn at a step: its row, or after the last step that is not drawn the first row
 abbrev pub rows_seen : Sheet → Extent → ℕ → Situation → Step → Result Reply Refused → List Taken → List ℕ

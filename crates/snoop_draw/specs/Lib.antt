@@ -1,7 +1,7 @@
 pub mod Marks
 pub mod Words
-pub mod Widths
 pub mod Panels
+pub mod Widths
 pub mod Events
 pub mod Cells
 pub mod Rows

@@ -79,7 +79,7 @@ memory_column style s block event lines = field_text style.charset Blank style.w
 -- what a line shows of a block: the column of each of these cores, the bus, and memory
 abbrev pub moment_text : Style → Situation → ℕ → Event → Option ℕ → List Taken → List ℕ → List ℕ
 moment_text style s block event sender lines cores =
-    codes "  " ++ flat_map (core_text style s block event sender lines) cores ++ bus_text style s block event sender lines ++ memory_column style s block event lines
+    codes " " ++ flat_map (core_text style s block event sender lines) cores ++ bus_text style s block event sender lines ++ memory_column style s block event lines
 
 -- what a line shows of a panel
 abbrev pub panel_text : Style → Situation → Event → List Taken → Panel → List ℕ

@@ -1,12 +1,13 @@
 -- How wide the columns of a drawing are.
 -- Source: this project's profile.
-use Rattle.std.specs.Prelude.{ℕ, ◌+◌, ◌-◌, ◌*◌, List, [], ◌∷◌, length, max}
+use Rattle.std.specs.Prelude.{ℕ, ◌+◌, ◌-◌, ◌*◌, List, [], ◌∷◌, None, length, max, nat_lt, if◌then◌else◌}
 use Rattle.std.specs.Fmt.{decimal}
 use Rattle.snoop_trace.specs.Extent.{Extent}
 use Rattle.snoop_trace.specs.declared.step.Op.TheVariants.{Store}
 use Rattle.snoop_trace.specs.declared.step.Step.{Step}
 use Rattle.snoop_trace.specs.declared.step.Step.TheVariants.{Ask}
 use Rattle.snoop_draw.specs.declared.widths.Widths.{Widths}
+use Rattle.snoop_draw.specs.Panels.{panels_for}
 
 -- how many decimal digits a number has
 abbrev pub digits : ℕ → ℕ
@@ -26,12 +27,20 @@ most_stored (step ∷ steps) = max (stored step) (most_stored steps)
 abbrev pub values_width : Extent → List Step → ℕ
 values_width shape steps = shape.words * (digits (most_stored steps) + 1) - 1
 
+-- ` #PLACE`, where so many blocks are asked for: no place is behind their number, and where there is one alone no place is said
+abbrev pub place_width : ℕ → ℕ
+place_width blocks = if nat_lt blocks 2 then 0 else 2 + digits blocks
+
 -- the number of the last step, or the word step; `SM_AD VALUES #PLACE`; `CCORE GetS: DataE VALUES`; `IorS_D (VALUES)`
-abbrev pub widths_for : Extent → List Step → Widths
-widths_for shape steps =
+abbrev pub widths_of : Extent → List Step → ℕ → Widths
+widths_of shape steps blocks =
     record {
       number = max (digits (length steps)) 4;
-      core = 8 + values_width shape steps + digits shape.blocks;
+      core = 6 + values_width shape steps + place_width blocks;
       bus = 14 + values_width shape steps + digits shape.cores;
       memory = 9 + values_width shape steps;
     }
+
+-- the widths for steps, whichever block is drawn: each block that they ask for has a panel among those of all blocks
+abbrev pub widths_for : Extent → List Step → Widths
+widths_for shape steps = widths_of shape steps (length (panels_for shape steps None))

@@ -85,7 +85,7 @@ impl Drawing {
     {
         self.push_number(out, seen.number)?;
         push_panels_seen(out, self.alloc, self.style, machine, seen, &self.panels)?;
-        push_text(out, "  ")?;
+        push_text(out, " ")?;
         push_line(out, machine.shape(), seen.step, seen.outcome)
     }
 
@@ -198,9 +198,9 @@ fn first_words(number: u64) -> &'static str
     ensures { result.now ≡ first_words number }
 {
     if number == 0 {
-        "  at reset\n"
+        " at reset\n"
     } else {
-        "  before\n"
+        " before\n"
     }
 }
 

@@ -60,7 +60,7 @@ fn push_core_names(
 fn push_names(out: &mut Vec<u8>, alloc: Global, style: Style, panel: &Panel) -> Result<(), NoMemory>
     ensures { OnOk result (out.new.items ≡ out.old.items ++ names_of style panel.now) }
 {
-    push_text(out, "  ")?;
+    push_text(out, " ")?;
     push_core_names(out, alloc, style, panel.cores())?;
     push_mark(out, style.charset, Mark::Blank)?;
     push_field(out, style.charset, Mark::Blank, style.widths.bus, b"bus")?;
@@ -82,7 +82,7 @@ fn title_of(alloc: Global, shape: Shape, block: u32) -> Result<Vec<u8>, NoMemory
     let first = block as u64 * shape.block_bytes() as u64;
     let last = first + shape.block_bytes() as u64 - 1;
     let mut title = Vec::new(alloc);
-    write!(title, "  block {block} (bytes {first} to {last})").map_err(|_| NoMemory)?;
+    write!(title, " block {block} (bytes {first} to {last})").map_err(|_| NoMemory)?;
     Ok(title)
 }
 
@@ -136,8 +136,8 @@ fn protocol_title(protocol: Protocol) -> &'static str
     ensures { result.now ≡ protocol_title protocol }
 {
     match protocol {
-        Protocol::Msi => "  MSI\n",
-        Protocol::Mesi => "  MESI\n",
+        Protocol::Msi => " MSI\n",
+        Protocol::Mesi => " MESI\n",
     }
 }
 
@@ -157,7 +157,7 @@ pub(crate) fn push_heading(
     push_text(out, protocol_title(protocol))?;
     push_right(out, style.widths.number, b"step")?;
     push_all_names(out, alloc, style, panels)?;
-    push_text(out, "  line\n")
+    push_text(out, " line\n")
 }
 
 // Appends a mark, a blank, and what it says.

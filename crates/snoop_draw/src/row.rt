@@ -205,7 +205,7 @@ fn push_moment(
 ) -> Result<(), NoMemory>
     ensures { OnOk result (out.new.items ≡ out.old.items ++ moment_text style machine.now.situation moment.now.block moment.now.event moment.now.sender moment.now.lines.now cores.now) }
 {
-    push_text(out, "  ")?;
+    push_text(out, " ")?;
     push_cores(out, alloc, style, machine, moment, cores)?;
     push_bus(out, alloc, style, machine, moment)?;
     push_memory(out, alloc, style, machine, moment)

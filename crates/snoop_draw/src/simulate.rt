@@ -74,10 +74,10 @@ fn draw_steps<W: Sink>(
     if !is_small(choice, steps.len() as u64, &panels) {
         return Err(DrawFault::TooLarge);
     }
-    let style = Style {
-        charset,
-        widths: widths_for(shape, steps),
+    let Ok(widths) = widths_for(alloc, shape, steps) else {
+        return Err(DrawFault::Simulation(SimFault::NoMemory));
     };
+    let style = Style { charset, widths };
     let mut drawing = Drawing::new(alloc, style, panels, choice);
     match show_steps(alloc, writer, protocol, shape, steps, &mut drawing) {
         Ok(()) => Ok(()),
