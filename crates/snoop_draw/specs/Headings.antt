@@ -6,7 +6,7 @@ use Rattle.std.specs.List.{flat_map}
 use Rattle.snoop_trace.specs.Extent.{Extent}
 use Rattle.snoop_trace.specs.Output.{address_of}
 use Rattle.snoop_trace.specs.declared.protocol.Protocol.{Protocol}
-use Rattle.snoop_trace.specs.declared.protocol.Protocol.TheVariants.{Msi, Mesi}
+use Rattle.snoop_engine.specs.Words.{capitals}
 use Rattle.snoop_draw.specs.declared.cells.Cell.{Cell}
 use Rattle.snoop_draw.specs.declared.cells.Link.TheVariants.{Nothing}
 use Rattle.snoop_draw.specs.declared.cells.Style.{Style}
@@ -43,8 +43,7 @@ title_line style shape panel = left_text (length (names_of style panel)) (title_
 
 -- the protocol, at the end of its line
 abbrev pub protocol_title : Protocol → List ℕ
-protocol_title Msi = codes " MSI\n"
-protocol_title Mesi = codes " MESI\n"
+protocol_title protocol = codes " " ++ capitals protocol ++ codes "\n"
 
 -- the two lines above the first row: the blocks and the protocol, and the names of the columns
 abbrev pub heading_text : Style → Protocol → Extent → List Panel → List ℕ

@@ -6,8 +6,6 @@ pub mod Events
 pub mod Cells
 pub mod Rows
 pub mod Headings
-pub mod Choices
-pub mod Choice
 pub mod Drawings
 pub mod Size
 pub mod Simulated

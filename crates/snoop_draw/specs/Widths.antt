@@ -1,27 +1,11 @@
 -- How wide the columns of a drawing are.
 -- Source: this project's profile.
-use Rattle.std.specs.Prelude.{ℕ, ◌+◌, ◌-◌, ◌*◌, List, [], ◌∷◌, None, length, max, nat_lt, if◌then◌else◌}
-use Rattle.std.specs.Fmt.{decimal}
+use Rattle.std.specs.Prelude.{ℕ, ◌+◌, ◌-◌, ◌*◌, List, None, length, max, nat_lt, if◌then◌else◌}
 use Rattle.snoop_trace.specs.Extent.{Extent}
-use Rattle.snoop_trace.specs.declared.step.Op.TheVariants.{Store}
 use Rattle.snoop_trace.specs.declared.step.Step.{Step}
-use Rattle.snoop_trace.specs.declared.step.Step.TheVariants.{Ask}
+use Rattle.snoop_engine.specs.Widths.{digits, most_stored}
 use Rattle.snoop_draw.specs.declared.widths.Widths.{Widths}
 use Rattle.snoop_draw.specs.Panels.{panels_for}
-
--- how many decimal digits a number has
-abbrev pub digits : ℕ → ℕ
-digits number = length (decimal number)
-
--- the value that a step stores, or 0
-abbrev pub stored : Step → ℕ
-stored (Ask core block word (Store value)) = value
-stored _ = 0
-
--- the largest value that the steps store, or 0
-abbrev pub most_stored : List Step → ℕ
-most_stored [] = 0
-most_stored (step ∷ steps) = max (stored step) (most_stored steps)
 
 -- the values of a block's words, each with as many digits as the largest that is stored, and a blank between two
 abbrev pub values_width : Extent → List Step → ℕ

@@ -9,9 +9,9 @@ use crate::event::{
 };
 use crate::marks::{Mark, push_mark};
 use crate::panels::Panel;
-use crate::words::{bus_words, core_words, memory_words, state_at};
+use crate::words::{bus_words, core_words, memory_words};
 use snoop_bus::Open;
-use snoop_engine::Taken;
+use snoop_engine::{Taken, state_at};
 use snoop_machine::Machine;
 use snoop_rules::CacheState;
 use snoop_trace::NoMemory;

@@ -7,14 +7,13 @@ ghost use Rattle.snoop_trace.specs.declared.fault.TextFault.TheVariants as text_
 ghost use Rattle.snoop_draw.specs.Simulated.{Draws, DrawsSteps};
 
 use crate::cells::Style;
-use crate::choice::Choice;
 use crate::drawing::Drawing;
 use crate::fault::DrawFault;
 use crate::marks::Charset;
 use crate::panels::panels_for;
 use crate::size::is_small;
 use crate::widths::widths_for;
-use snoop_engine::{Input, SimFault, read_input, show_steps};
+use snoop_engine::{Choice, Input, SimFault, read_input, show_steps};
 use snoop_rules::Protocol;
 use snoop_trace::streams::{Sink, Source};
 use snoop_trace::{Shape, Step, WriteFault};

@@ -1,7 +1,7 @@
 //! Whole drawings.
 
-use snoop_draw::{Charset, Choice, simulate_drawing};
-use snoop_engine::Input;
+use snoop_draw::{Charset, simulate_drawing};
+use snoop_engine::{Choice, Input};
 use snoop_trace::{Protocol, Shape};
 use std::alloc::Global;
 use std::test::Fail;
@@ -10,8 +10,7 @@ use std::test::Fail;
 const RACE: &str = "L,0,0\nO,0\nR,0\nL,1,0\nO,1\nR,0\nS,0,0,5\nS,1,0,6\nO,1\nO,0\nR,0\nO,0\nR,0\n";
 
 /// The same, drawn: core 1 is ordered first, and core 0 gets the block from it.
-const RACE_DRAWN: &str =
-    "     block 0 (bytes 0 to 63)                                     MSI
+const RACE_DRAWN: &str = "     block 0 (bytes 0 to 63)                                     MSI
 step   core 0       core 1       bus                 memory      line
    0   I            I                                IorS 0      at reset
    1   IS_AD   ○                                                 L,0,0: issued GetS

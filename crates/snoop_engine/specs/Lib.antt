@@ -26,3 +26,6 @@ pub mod Tallies
 pub mod Chosen
 pub mod Choice
 pub mod InOrder
+pub mod Widths
+pub mod Words
+pub mod Numbered

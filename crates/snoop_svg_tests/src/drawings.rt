@@ -1,7 +1,6 @@
 //! Whole drawings. The expected texts are those of the second reading, which follows docs/DRAWING.md alone.
 
-use snoop_draw::Choice;
-use snoop_engine::Input;
+use snoop_engine::{Choice, Input};
 use snoop_svg::{Form, Paper, Theme, simulate_svg};
 use snoop_trace::{Protocol, Shape};
 use std::alloc::Global;
