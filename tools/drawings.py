@@ -7,7 +7,7 @@
 No words may lie over others, be crossed by a line, a dot or a cross, be wider than 8 pixels a letter, or leave the picture. Where the
 drawing is gone to a row, that row and those above it are as they were, and all below are faded, in further sheets too. A page also answers
 its keys: arrows go to the next and the previous row and stop at the ends, Esc shows the whole run, and the line at the foot tells the
-row. With --paper the ground has this colour; with --dark the browser says that its reader likes it dark. Prints each mistake, and ends
+row. The row is in view then, sideways what happens there too, and so are the names of the columns, over those of the sheets. With --paper the ground has this colour; with --dark the browser says that its reader likes it dark. Prints each mistake, and ends
 with 1 if there is one. The browser is $CHROMIUM, or else chromium.
 """
 import argparse
@@ -34,7 +34,7 @@ function marks(path) {
   return [];
 }
 if (!document.querySelector("svg")) found.push("there is no picture");
-for (const svg of document.querySelectorAll("svg")) {
+for (const svg of document.querySelectorAll("svg:not(#names)")) {
   const picture = {left: 0, top: 0, right: svg.viewBox.baseVal.width, bottom: svg.viewBox.baseVal.height};
   const words = [...svg.querySelectorAll("text")].map(text => {
     const box = text.getBBox(), foot = Number(text.getAttribute("y"));
@@ -87,17 +87,35 @@ const press = key => {
   return event.defaultPrevented;
 };
 const notes = () => document.querySelector("pre").textContent;
+const heads = svg => [...svg.querySelectorAll(":scope > text")].filter(text => Number(text.getAttribute("y")) < 56)
+  .map(text => `${text.textContent} at ${text.getBoundingClientRect().left.toFixed(1)}`).join("; ");
+function look(place, why) {
+  const bar = document.querySelector("#names"), top = bar.getBoundingClientRect(), wide = document.documentElement.clientWidth;
+  const row = all[place].querySelector(".y").getBoundingClientRect(), foot = document.querySelector("pre").getBoundingClientRect();
+  if (Math.abs(top.top) > 1 || top.height < 48) found.push(`${why}: the names stand from ${top.top} to ${top.bottom}`);
+  for (const svg of document.querySelectorAll("svg:not(#names)")) {
+    if (heads(svg) !== heads(bar)) found.push(`${why}: the names are '${heads(bar)}' over '${heads(svg)}'`);
+  }
+  if (row.top < top.bottom || row.bottom > foot.top) found.push(`${why}: the row from ${row.top} to ${row.bottom} is not in view`);
+  const events = [...all[place].children].filter(part => /^[oaixpgv]$/.test(part.getAttribute("class"))).map(part => part.getBoundingClientRect());
+  const left = Math.min(...events.map(box => box.left)), right = Math.max(...events.map(box => box.right));
+  const starts = [...bar.querySelectorAll(".t"), all[place].querySelectorAll("text")[2]].map(text => text.getBoundingClientRect().left);
+  const panel = Math.max(...starts.filter(x => x <= left)), end = Math.min(...starts.filter(x => x > left));
+  if (events.length && end - panel <= wide && (panel < -1 || end > wide + 1)) found.push(`${why}: the panel, from ${panel} to ${end}, is not in view`);
+  if (events.length && (left < 0 || left > wide || right > wide && right - left + 96 <= wide)) found.push(`${why}: what happens, from ${left} to ${right}, is not in view`);
+}
 async function at(place, why) {
   expect(place, why);
   if (location.hash !== "#" + all[place].id) found.push(`${why}: the row gone to is ${location.hash}`);
   await later();
   if (notes() !== all[place].querySelector("title").textContent) found.push(`${why}: the line at the foot is '${notes()}'`);
+  look(place, why);
 }
 if (!all.length) {
   if (press("ArrowDown")) found.push("a key of a page without rows is taken");
 } else {
   const last = all.length - 1;
-  for (let place = 0; place <= Math.min(2, last); place++) {
+  for (let place = 0; place <= Math.min(29, last); place++) {
     if (!press(["ArrowDown", "ArrowRight"][place % 2])) found.push("the page is scrolled, too");
     await at(place, "a key forward");
   }
@@ -146,7 +164,7 @@ def look(path, paper, is_dark):
     with tempfile.TemporaryDirectory() as folder:
         page = pathlib.Path(folder, "page.html")
         page.write_text(drawing.replace("</body>", script(is_page, paper) + "</body>"), encoding="utf-8")
-        words = [os.environ.get("CHROMIUM", "chromium"), "--headless=new", "--no-sandbox", "--disable-gpu", f"--user-data-dir={folder}/profile",
+        words = [os.environ.get("CHROMIUM", "chromium"), "--headless=new", "--no-sandbox", "--disable-gpu", "--window-size=1000,700", f"--user-data-dir={folder}/profile",
                  f"--blink-settings=preferredColorScheme={0 if is_dark else 1}", "--virtual-time-budget=10000", "--dump-dom", page.as_uri()]
         done = subprocess.run(words, stdin=subprocess.DEVNULL, capture_output=True, text=True, check=False, timeout=120)
     left = re.search(r"<samp>(.*?)</samp>", done.stdout, re.S)

@@ -32,9 +32,11 @@ class Cell(NamedTuple):
 
 
 def widths_of(options, given):
-    """The widths of words, by the text alone."""
+    """The widths of words, by the text alone: a place in a queue needs room only where several blocks are asked for."""
     values = options.words * (pictures.digits_of_values(given) + 1) - 1
-    return Widths(max(4, len(str(len(given)))), 8 + values + len(str(options.blocks)), 14 + len(str(options.cores)) + values, 9 + values)
+    blocks = len(pictures.asking(options, given))
+    place = len(f" #{blocks}") if blocks > 1 else 0
+    return Widths(max(4, len(str(len(given)))), 6 + values + place, 14 + len(str(options.cores)) + values, 9 + values)
 
 
 def field(width, words, fill=" "):
@@ -61,7 +63,7 @@ def first_panel(machine, block, cores, widths):
     """The panel of the first row: all that stands."""
     words = [pictures.of_core(machine, block, core, 2) for core in cores]
     cells = [cell._replace(words=said) for cell, said in zip(standing(machine, block, cores), words)]
-    return panel(widths, cells, None, " ", " ", pictures.of_bus(machine, block), "    ", pictures.of_memory(machine, block))
+    return panel(widths, cells, None, " ", " ", pictures.of_bus(machine, block), "  ", pictures.of_memory(machine, block))
 
 
 def rail_of(machine, step, core):
@@ -94,15 +96,15 @@ def link_of(machine, step, has_memory):
     """The message from memory or to it."""
     kind, is_refused = step.record[0], step.reply.startswith("refused")
     if kind == "O" and not is_refused and machine.open[step.block].sender is None:
-        return LEFT + 3 * WIRE
-    return 3 * WIRE + RIGHT if kind == "R" and has_memory else "    "
+        return LEFT + WIRE
+    return WIRE + RIGHT if kind == "R" and has_memory else "  "
 
 
 def panel_of(machine, step, block, cores, widths):
     """The panel of a step's row."""
     cells = standing(machine, block, cores)
     if step.block != block:
-        return panel(widths, cells, None, " ", " ", "", "    ", "")
+        return panel(widths, cells, None, " ", " ", "", "  ", "")
     moved = {row.controller for row in step.rows}
     cells = [cell._replace(words=pictures.of_core(machine, block, core, 2) if core in moved else "", rail=rail_of(machine, step, core) or cell.rail)
              for core, cell in zip(cores, cells)]
@@ -127,17 +129,17 @@ def as_text(options, text):
     widths = widths_of(options, given)
 
     def line(number, parts, last):
-        written = "".join(f"  {part}" for part in parts)
-        text = f"{number:>{widths.number}}{written}  {last}"
+        written = "".join(f" {part}" for part in parts)
+        text = f"{number:>{widths.number}}{written} {last}"
         print(text.translate(IN_ASCII) if options.ascii else text)
 
     def head(block, cores):
         begins = block * options.block_bytes
-        wide = len(cores) * (widths.core + 6) + widths.bus + widths.memory + 9
+        wide = len(cores) * (widths.core + 6) + widths.bus + widths.memory + 7
         return f"block {block} (bytes {begins} to {begins + options.block_bytes - 1})".ljust(wide)
 
     def names(cores):
-        return panel(widths, [Cell(" ", f"core {core}", " ") for core in cores], None, " ", " ", "bus", "    ", "memory")
+        return panel(widths, [Cell(" ", f"core {core}", " ") for core in cores], None, " ", " ", "bus", "  ", "memory")
 
     def first_row():
         line(options.first - 1, [first_panel(machine, *one, widths) for one in panels], "at reset" if options.first == 1 else "before")

@@ -7,11 +7,11 @@ use Rattle.snoop_trace.specs.Output.{AppendsFront}
 use Rattle.snoop_trace.specs.declared.protocol.Protocol.{Protocol}
 use Rattle.snoop_trace.specs.declared.step.Step.{Step}
 use Rattle.snoop_model.specs.Pictures.Situation.{Situation}
+use Rattle.snoop_engine.specs.Chosen.{Chosen}
 use Rattle.snoop_engine.specs.Frames.{Frame, steps_of}
 use Rattle.snoop_engine.specs.SimulatedView.{BeginsToShow, ShowsRun}
 use Rattle.snoop_engine.specs.Views.{shown, view_text}
 use Rattle.snoop_draw.specs.declared.marks.Charset.{Charset}
-use Rattle.snoop_draw.specs.Choices.{Chosen}
 use Rattle.snoop_draw.specs.Drawings.{Sheet, beginning_text, rows_at, rows_from, sheet_for}
 use Rattle.snoop_draw.specs.Headings.{legend_text}
 use Rattle.snoop_draw.specs.Panels.{Panel, panels_for}

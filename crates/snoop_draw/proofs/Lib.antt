@@ -1,5 +1,4 @@
 pub mod PanelLemmas
-pub mod WidthLemmas
 pub mod DrawnLemmas
 pub mod MayLemmas
 pub mod EdgeLemmas

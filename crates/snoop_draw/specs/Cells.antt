@@ -36,6 +36,6 @@ cell_text charset width cell words =
 
 -- what stands between the bus and memory
 abbrev pub link_text : Charset → Link → List ℕ
-link_text charset Nothing = marks_text charset Blank 4
-link_text charset FromMemory = mark_text charset Gets ++ marks_text charset Wire 3
-link_text charset ToMemory = marks_text charset Wire 3 ++ mark_text charset Tip
+link_text charset Nothing = marks_text charset Blank 2
+link_text charset FromMemory = mark_text charset Gets ++ mark_text charset Wire
+link_text charset ToMemory = mark_text charset Wire ++ mark_text charset Tip

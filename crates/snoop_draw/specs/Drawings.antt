@@ -1,6 +1,6 @@
 -- The drawing of a run.
 -- Source: this project's profile.
-use Rattle.std.specs.Prelude.{ℕ, ◌+◌, ◌==◌, ◌&&◌, Bool, true, List, [], ◌∷◌, ◌++◌, codes, Option, Some, None, Result, nat_le, if◌then◌else◌}
+use Rattle.std.specs.Prelude.{ℕ, ◌+◌, ◌==◌, List, [], ◌∷◌, ◌++◌, codes, Option, Result, if◌then◌else◌}
 use Rattle.std.specs.Fmt.{decimal}
 use Rattle.std.specs.List.{flat_map}
 use Rattle.snoop_trace.specs.Extent.{Extent}
@@ -9,16 +9,17 @@ use Rattle.snoop_trace.specs.declared.step.Step.{Step}
 use Rattle.snoop_model.specs.Pictures.Situation.{Situation, reset}
 use Rattle.snoop_model.specs.declared.replies.Reply.{Reply}
 use Rattle.snoop_model.specs.declared.replies.Refused.{Refused}
+use Rattle.snoop_engine.specs.Chosen.{Chosen, is_shown}
 use Rattle.snoop_engine.specs.Frames.{Frame, steps_of}
 use Rattle.snoop_engine.specs.Line.{line_text}
 use Rattle.snoop_engine.specs.Taken.{lines_of}
+use Rattle.snoop_engine.specs.Views.{block_of}
 use Rattle.snoop_engine.specs.declared.taken.Taken.{Taken}
 use Rattle.snoop_draw.specs.declared.cells.Style.{Style}
 use Rattle.snoop_draw.specs.declared.event.Event.TheVariants.{Before}
 use Rattle.snoop_draw.specs.declared.marks.Charset.{Charset}
 use Rattle.snoop_draw.specs.Cells.{right_text}
-use Rattle.snoop_draw.specs.Choices.{Chosen}
-use Rattle.snoop_draw.specs.Events.{block_of, event_in, is_of}
+use Rattle.snoop_draw.specs.Events.{event_in}
 use Rattle.snoop_draw.specs.Headings.{heading_text, legend_text}
 use Rattle.snoop_draw.specs.Panels.{Panel, panels_for}
 use Rattle.snoop_draw.specs.Rows.{panel_text}
@@ -35,43 +36,34 @@ abbrev pub sheet_for : Extent → Charset → Chosen → List Step → Sheet
 sheet_for shape charset choice steps =
     record { style = record { charset = charset; widths = widths_for shape steps }; panels = panels_for shape steps choice.block; choice = choice }
 
--- something of this block, if of any, is among what is chosen
-abbrev pub is_chosen : Option ℕ → Option ℕ → Bool
-is_chosen None of = true
-is_chosen (Some block) of = is_of of block
-
--- the step of this number, that is of this block if of any, is drawn
-abbrev pub is_drawn : Chosen → ℕ → Option ℕ → Bool
-is_drawn choice number of = nat_le choice.from number && nat_le number choice.to && is_chosen choice.block of
-
 -- the last words of the first row
 abbrev pub first_words : ℕ → List ℕ
-first_words number = if number == 0 then codes "  at reset\n" else codes "  before\n"
+first_words number = if number == 0 then codes " at reset\n" else codes " before\n"
 
 -- the first row: the machine as it stands after so many steps
 abbrev pub standing_text : Sheet → ℕ → Situation → List ℕ
 standing_text sheet number s =
     right_text sheet.style.widths.number (decimal number) ++ flat_map (panel_text sheet.style s Before []) sheet.panels ++ first_words number
 
--- what the row of a step shows of a panel
-abbrev pub panel_seen : Style → Situation → Step → Result Reply Refused → List Taken → Panel → List ℕ
-panel_seen style s step outcome lines panel = panel_text style s (event_in panel.block step outcome lines) lines panel
+-- what the row of a step, which is of this block if of any, shows of a panel
+abbrev pub panel_seen : Style → Situation → Option ℕ → Step → Result Reply Refused → List Taken → Panel → List ℕ
+panel_seen style s of step outcome lines panel = panel_text style s (event_in panel.block of step outcome lines) lines panel
 
 -- the row of a step: its number, the panels, and its line
-abbrev pub row_seen : Sheet → Extent → ℕ → Situation → Step → Result Reply Refused → List Taken → List ℕ
-row_seen sheet shape number s step outcome lines =
-    right_text sheet.style.widths.number (decimal number) ++ flat_map (panel_seen sheet.style s step outcome lines) sheet.panels ++ codes "  " ++ line_text shape step outcome
+abbrev pub row_seen : Sheet → Extent → ℕ → Situation → Option ℕ → Step → Result Reply Refused → List Taken → List ℕ
+row_seen sheet shape number s of step outcome lines =
+    right_text sheet.style.widths.number (decimal number) ++ flat_map (panel_seen sheet.style s of step outcome lines) sheet.panels ++ codes " " ++ line_text shape step outcome
 
 -- what is drawn at a step: its row, or after the last step that is not drawn the first row
-abbrev pub rows_seen : Sheet → Extent → ℕ → Situation → Step → Result Reply Refused → List Taken → List ℕ
-rows_seen sheet shape number s step outcome lines =
+abbrev pub rows_seen : Sheet → Extent → ℕ → Situation → Option ℕ → Step → Result Reply Refused → List Taken → List ℕ
+rows_seen sheet shape number s of step outcome lines =
     if number + 1 == sheet.choice.from then standing_text sheet number s
-    else (if is_drawn sheet.choice number (block_of step outcome lines) then row_seen sheet shape number s step outcome lines else [])
+    else (if is_shown sheet.choice of number then row_seen sheet shape number s of step outcome lines else [])
 
--- the same of a frame: by the machine after it, and the lines of its step
+-- the same of a frame: by the machine after it, and the block and the lines of its step
 abbrev pub rows_at : Sheet → Extent → ℕ → Frame → List ℕ
 rows_at sheet shape number frame =
-    rows_seen sheet shape number frame.after frame.step frame.outcome (lines_of frame.before frame.step frame.outcome)
+    rows_seen sheet shape number frame.after (block_of frame.before frame.step) frame.step frame.outcome (lines_of frame.before frame.step frame.outcome)
 
 -- what is drawn at steps, the first of which has this number
 abbrev pub rows_from : Sheet → Extent → ℕ → List Frame → List ℕ

@@ -14,7 +14,6 @@ use Rattle.snoop_rules.specs.declared.names.CacheState.TheVariants as state
 use Rattle.snoop_model.specs.declared.replies.Reply.{Reply}
 use Rattle.snoop_model.specs.declared.replies.Reply.TheVariants.{Issued as WasIssued}
 use Rattle.snoop_model.specs.declared.replies.Refused.{Refused}
-use Rattle.snoop_model.specs.declared.replies.Refused.TheVariants.{BusTaken}
 use Rattle.snoop_engine.specs.declared.taken.Taken.{Taken}
 use Rattle.snoop_engine.specs.declared.taken.Taken.TheVariants as line
 use Rattle.snoop_draw.specs.declared.event.Event.{Event}
@@ -46,23 +45,9 @@ abbrev pub is_of : Option ℕ → ℕ → Bool
 is_of None number = false
 is_of (Some named) number = named == number
 
--- the block of the first line
-abbrev pub block_in : List Taken → Option ℕ
-block_in (line.Core core block event before ∷ lines) = Some block
-block_in (line.Memory block event before ∷ lines) = Some block
-block_in _ = None
-
--- the block that a step is of: that of an Ask or a Respond, that of a request which is ordered or has to wait for the bus; none where no request waits
-abbrev pub block_of : Step → Result Reply Refused → List Taken → Option ℕ
-block_of (Ask core block word op) outcome lines = Some block
-block_of (Order core) (Ok answer) lines = block_in lines
-block_of (Order core) (Err (BusTaken block)) lines = Some block
-block_of (Order core) (Err cause) lines = None
-block_of (Respond block) outcome lines = Some block
-
--- what happens in the panel of this block at a step, which may be of another
-abbrev pub event_in : ℕ → Step → Result Reply Refused → List Taken → Event
-event_in block step outcome lines = if is_of (block_of step outcome lines) block then event_of step outcome lines else Nothing
+-- what happens in the panel of this block at a step, which may be of another or of none
+abbrev pub event_in : ℕ → Option ℕ → Step → Result Reply Refused → List Taken → Event
+event_in block of step outcome lines = if is_of of block then event_of step outcome lines else Nothing
 
 -- the line is of this core and this block
 abbrev pub names_core : ℕ → ℕ → Taken → Bool

@@ -6,7 +6,7 @@ use Rattle.std.specs.List.{flat_map}
 use Rattle.snoop_trace.specs.Extent.{Extent}
 use Rattle.snoop_trace.specs.Output.{address_of}
 use Rattle.snoop_trace.specs.declared.protocol.Protocol.{Protocol}
-use Rattle.snoop_trace.specs.declared.protocol.Protocol.TheVariants.{Msi, Mesi}
+use Rattle.snoop_engine.specs.Words.{capitals}
 use Rattle.snoop_draw.specs.declared.cells.Cell.{Cell}
 use Rattle.snoop_draw.specs.declared.cells.Link.TheVariants.{Nothing}
 use Rattle.snoop_draw.specs.declared.cells.Style.{Style}
@@ -29,13 +29,13 @@ name_of_core style core = cell_text style.charset style.widths.core bare (codes 
 -- the names of the columns of a panel
 abbrev pub names_of : Style → Panel → List ℕ
 names_of style panel =
-    codes "  " ++ flat_map (name_of_core style) panel.cores ++ mark_text style.charset sign.Blank ++ field_text style.charset sign.Blank style.widths.bus (codes "bus")
+    codes " " ++ flat_map (name_of_core style) panel.cores ++ mark_text style.charset sign.Blank ++ field_text style.charset sign.Blank style.widths.bus (codes "bus")
     ++ link_text style.charset Nothing ++ field_text style.charset sign.Blank style.widths.memory (codes "memory")
 
 -- a block, and its first and last byte
 abbrev pub title_of : Extent → ℕ → List ℕ
 title_of shape block =
-    codes "  block " ++ decimal block ++ codes " (bytes " ++ decimal (address_of shape block) ++ codes " to " ++ decimal (address_of shape block + shape.block_bytes - 1) ++ codes ")"
+    codes " block " ++ decimal block ++ codes " (bytes " ++ decimal (address_of shape block) ++ codes " to " ++ decimal (address_of shape block + shape.block_bytes - 1) ++ codes ")"
 
 -- the title of a panel, as wide as the names below it
 abbrev pub title_line : Style → Extent → Panel → List ℕ
@@ -43,14 +43,13 @@ title_line style shape panel = left_text (length (names_of style panel)) (title_
 
 -- the protocol, at the end of its line
 abbrev pub protocol_title : Protocol → List ℕ
-protocol_title Msi = codes "  MSI\n"
-protocol_title Mesi = codes "  MESI\n"
+protocol_title protocol = codes " " ++ capitals protocol ++ codes "\n"
 
 -- the two lines above the first row: the blocks and the protocol, and the names of the columns
 abbrev pub heading_text : Style → Protocol → Extent → List Panel → List ℕ
 heading_text style protocol shape panels =
     marks_text Ascii sign.Blank style.widths.number ++ flat_map (title_line style shape) panels ++ protocol_title protocol
-    ++ right_text style.widths.number (codes "step") ++ flat_map (names_of style) panels ++ codes "  line\n"
+    ++ right_text style.widths.number (codes "step") ++ flat_map (names_of style) panels ++ codes " line\n"
 
 -- a mark, and what it says
 abbrev pub named_mark : Charset → Mark → List ℕ → List ℕ

@@ -1,13 +1,11 @@
 pub mod Marks
 pub mod Words
-pub mod Widths
 pub mod Panels
+pub mod Widths
 pub mod Events
 pub mod Cells
 pub mod Rows
 pub mod Headings
-pub mod Choices
-pub mod Choice
 pub mod Drawings
 pub mod Size
 pub mod Simulated

@@ -19,7 +19,8 @@ use Rattle.snoop_draw.specs.Cells.{cell_text, field_text, link_text}
 use Rattle.snoop_draw.specs.Events.{may, names_core, names_memory, rail, shows_all, shows_bus, tip, wire_at}
 use Rattle.snoop_draw.specs.Marks.{mark_text}
 use Rattle.snoop_draw.specs.Panels.{Panel}
-use Rattle.snoop_draw.specs.Words.{bus_words, core_words, memory_words}
+use Rattle.snoop_engine.specs.Words.{core_words, memory_words}
+use Rattle.snoop_draw.specs.Words.{bus_words}
 
 -- the state in which the core holds the block
 abbrev pub held_in : Situation → ℕ → ℕ → CacheState
@@ -45,7 +46,7 @@ shows_memory block event lines = shows_all event || list_any (names_memory block
 
 -- what a core says in the line
 abbrev pub core_said : Situation → ℕ → Event → List Taken → ℕ → List ℕ
-core_said s block event lines core = if shows_core block event lines core then core_words s block core else []
+core_said s block event lines core = if shows_core block event lines core then core_words 2 s block core else []
 
 -- what the bus says in the line
 abbrev pub bus_said : Situation → ℕ → Event → List ℕ
@@ -79,7 +80,7 @@ memory_column style s block event lines = field_text style.charset Blank style.w
 -- what a line shows of a block: the column of each of these cores, the bus, and memory
 abbrev pub moment_text : Style → Situation → ℕ → Event → Option ℕ → List Taken → List ℕ → List ℕ
 moment_text style s block event sender lines cores =
-    codes "  " ++ flat_map (core_text style s block event sender lines) cores ++ bus_text style s block event sender lines ++ memory_column style s block event lines
+    codes " " ++ flat_map (core_text style s block event sender lines) cores ++ bus_text style s block event sender lines ++ memory_column style s block event lines
 
 -- what a line shows of a panel
 abbrev pub panel_text : Style → Situation → Event → List Taken → Panel → List ℕ

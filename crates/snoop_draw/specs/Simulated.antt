@@ -13,7 +13,7 @@ use Rattle.snoop_engine.specs.declared.input.Input.{Input}
 use Rattle.snoop_draw.specs.declared.fault.DrawFault.{DrawFault}
 use Rattle.snoop_draw.specs.declared.fault.DrawFault.TheVariants.{Simulation, TooLarge}
 use Rattle.snoop_draw.specs.declared.marks.Charset.{Charset}
-use Rattle.snoop_draw.specs.Choices.{Chosen}
+use Rattle.snoop_engine.specs.Chosen.{Chosen}
 use Rattle.snoop_draw.specs.Drawings.{drawing_text}
 use Rattle.snoop_draw.specs.Panels.{panels_for}
 use Rattle.snoop_draw.specs.Size.{IsSmall}

@@ -1,7 +1,7 @@
 -- How large a drawing is.
 -- Source: this project's profile.
 use Rattle.std.specs.Prelude.{ℕ, ◌+◌, ◌-◌, ◌*◌, ◌≤◌, List, [], ◌∷◌, length, min}
-use Rattle.snoop_draw.specs.Choices.{Chosen}
+use Rattle.snoop_engine.specs.Chosen.{Chosen}
 use Rattle.snoop_draw.specs.Panels.{Panel}
 
 -- how many of so many steps have a number that is chosen

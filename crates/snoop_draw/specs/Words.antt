@@ -1,73 +1,10 @@
--- What the columns of a panel say of a block.
+-- What the bus says of a block.
 -- Source: this project's profile.
-use Rattle.std.specs.Prelude.{ℕ, Bool, true, false, List, [], ◌++◌, codes, Option, Some, None, nat_lt, if◌then◌else◌}
-use Rattle.std.specs.Fmt.{decimal}
-use Rattle.std.specs.List.{flat_map, range_with_len}
+use Rattle.std.specs.Prelude.{ℕ, List, []}
 use Rattle.std.specs.Option.{option_map_or}
-use Rattle.snoop_trace.specs.Words.{Data, word_at}
-use Rattle.snoop_rules.specs.declared.names.CacheState.{CacheState}
-use Rattle.snoop_rules.specs.declared.names.MemState.{MemState}
-use Rattle.snoop_rules.specs.declared.names.MemState.TheVariants.{IorS, I, S}
-use Rattle.snoop_rules.specs.declared.names.Payload.{Payload}
-use Rattle.snoop_rules.specs.Names.{memory_state_name, payload_name, request_name, state_name}
-use Rattle.snoop_rules.specs.Takers.{carries_value}
-use Rattle.snoop_bus.specs.Queues.{place_in, queue_of}
-use Rattle.snoop_bus.specs.Traffic.{Open}
 use Rattle.snoop_model.specs.Pictures.Situation.{Situation, picture_of}
-use Rattle.snoop_engine.specs.States.{kept_at, memory_text}
-use Rattle.snoop_engine.specs.Taken.{memory_at, state_at}
+use Rattle.snoop_engine.specs.Words.{message_words}
 
--- a value that is there, a blank before it
-abbrev pub spaced : Option ℕ → List ℕ
-spaced None = []
-spaced (Some value) = codes " " ++ decimal value
-
--- the values that the core keeps
-abbrev pub kept_words : Situation → ℕ → ℕ → List ℕ
-kept_words s core block = flat_map (λ word. spaced (kept_at s core block word)) (range_with_len 0 s.shape.words)
-
--- a state that is there
-abbrev pub state_words : Option CacheState → List ℕ
-state_words state = option_map_or state_name state []
-
--- a place in the queue, unless it is the first
-abbrev pub place_words : Option ℕ → List ℕ
-place_words None = []
-place_words (Some place) = if nat_lt place 2 then [] else codes " #" ++ decimal place
-
--- a core: its state, its values, and the place of its request in its queue
-abbrev pub core_words : Situation → ℕ → ℕ → List ℕ
-core_words s block core = state_words (state_at s core block) ++ kept_words s core block ++ place_words (place_in (queue_of s.queues core) block)
-
--- the values of so many words
-abbrev pub data_words : ℕ → Data → List ℕ
-data_words count values = flat_map (λ word. codes " " ++ decimal (word_at values word)) (range_with_len 0 count)
-
--- the values that a message carries, if any
-abbrev pub carried_words : ℕ → Payload → Data → List ℕ
-carried_words count payload values = if carries_value payload then data_words count values else []
-
--- the message of an open transaction, for the core that asked for it
-abbrev pub message_words : ℕ → Open → List ℕ
-message_words count opened =
-    codes "C" ++ decimal opened.core ++ codes " " ++ request_name opened.request ++ codes ": " ++ payload_name opened.payload ++ carried_words count opened.payload opened.value
-
--- the bus: the message of the open transaction, if there is one
+-- the message of the open transaction, if there is one
 abbrev pub bus_words : Situation → ℕ → List ℕ
 bus_words s block = option_map_or (message_words s.shape.words) (picture_of s block).transaction []
-
--- memory would send its values to a core that asks
-abbrev pub answers : MemState → Bool
-answers IorS = true
-answers I = true
-answers S = true
-answers _ = false
-
--- a state of memory and its values, in brackets where it would not send them
-abbrev pub memory_state_words : List ℕ → MemState → List ℕ
-memory_state_words values state =
-    memory_state_name state ++ (if answers state then codes " " ++ values else codes " (" ++ values ++ codes ")")
-
--- memory: its state and its values
-abbrev pub memory_words : Situation → ℕ → List ℕ
-memory_words s block = option_map_or (memory_state_words (memory_text s block)) (memory_at s block) []

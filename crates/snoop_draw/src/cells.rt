@@ -119,13 +119,13 @@ pub(crate) fn push_link(out: &mut Vec<u8>, charset: Charset, link: Link) -> Resu
     ensures { OnOk result (out.new.items ≡ out.old.items ++ link_text charset link) }
 {
     match link {
-        Link::Nothing => push_marks(out, charset, Mark::Blank, 4),
+        Link::Nothing => push_marks(out, charset, Mark::Blank, 2),
         Link::FromMemory => {
             push_mark(out, charset, Mark::Gets)?;
-            push_marks(out, charset, Mark::Wire, 3)
+            push_mark(out, charset, Mark::Wire)
         }
         Link::ToMemory => {
-            push_marks(out, charset, Mark::Wire, 3)?;
+            push_mark(out, charset, Mark::Wire)?;
             push_mark(out, charset, Mark::Tip)
         }
     }

@@ -3,22 +3,20 @@ ghost use Rattle.std.specs.Prelude.{◌≡◌, ◌++◌, [], OnOk};
 ghost use Rattle.std.specs.Fmt.{decimal};
 ghost use Rattle.std.specs.List.{flat_map};
 ghost use Rattle.snoop_model.specs.Pictures.Situation.{reset};
-ghost use Rattle.snoop_engine.specs.Line.{line_text};
 ghost use Rattle.snoop_draw.specs.Cells.{right_text};
 ghost use Rattle.snoop_draw.specs.Drawings.{beginning_text, first_words, panel_seen, row_seen, rows_seen, standing_text};
 ghost use Rattle.snoop_draw.specs.Rows.{panel_text};
 ghost use Rattle.snoop_draw.specs.declared.event.Event.TheVariants.{Before};
 
 use crate::cells::{Style, push_right};
-use crate::choice::Choice;
-use crate::event::{Event, block_of, event_in};
+use crate::event::{Event, event_in};
 use crate::heading::{push_heading, push_legend};
 use crate::panels::Panel;
 use crate::row::push_panel;
-use snoop_engine::{Seen, View, push_outcome};
-use snoop_machine::{Machine, Refused, Reply};
-use snoop_trace::streams::{push_byte, push_decimal, push_step, push_text};
-use snoop_trace::{NoMemory, Shape, Step};
+use snoop_engine::{Choice, Seen, View, push_line};
+use snoop_machine::Machine;
+use snoop_trace::NoMemory;
+use snoop_trace::streams::{push_decimal, push_text};
 use std::alloc::Global;
 use std::marker::Model;
 
@@ -81,11 +79,11 @@ impl Drawing {
         machine: &Machine,
         seen: &Seen<'_>,
     ) -> Result<(), NoMemory>
-        ensures { OnOk result (out.new.items ≡ out.old.items ++ row_seen self.now machine.now.situation.shape seen.now.number machine.now.situation seen.now.step seen.now.outcome seen.now.lines.now) }
+        ensures { OnOk result (out.new.items ≡ out.old.items ++ row_seen self.now machine.now.situation.shape seen.now.number machine.now.situation seen.now.block seen.now.step seen.now.outcome seen.now.lines.now) }
     {
         self.push_number(out, seen.number)?;
         push_panels_seen(out, self.alloc, self.style, machine, seen, &self.panels)?;
-        push_text(out, "  ")?;
+        push_text(out, " ")?;
         push_line(out, machine.shape(), seen.step, seen.outcome)
     }
 
@@ -96,13 +94,12 @@ impl Drawing {
         machine: &Machine,
         seen: &Seen<'_>,
     ) -> Result<(), NoMemory>
-        ensures { OnOk result (out.new.items ≡ out.old.items ++ rows_seen self.now machine.now.situation.shape seen.now.number machine.now.situation seen.now.step seen.now.outcome seen.now.lines.now) }
+        ensures { OnOk result (out.new.items ≡ out.old.items ++ rows_seen self.now machine.now.situation.shape seen.now.number machine.now.situation seen.now.block seen.now.step seen.now.outcome seen.now.lines.now) }
     {
         if self.choice.is_first_after(seen.number) {
             return self.push_standing(out, machine, seen.number);
         }
-        let of = block_of(seen.step, seen.outcome, seen.lines);
-        if self.choice.has(seen.number, of) {
+        if self.choice.has_step(seen.block, seen.number) {
             self.push_row(out, machine, seen)
         } else {
             Ok(())
@@ -130,21 +127,6 @@ impl Drawing {
     }
 }
 
-// Appends the line of a step and what the machine answered.
-fn push_line(
-    out: &mut Vec<u8>,
-    shape: Shape,
-    step: Step,
-    outcome: Result<Reply, Refused>,
-) -> Result<(), NoMemory>
-    ensures { OnOk result (out.new.items ≡ out.old.items ++ line_text shape step outcome) }
-{
-    push_step(out, shape, step)?;
-    push_text(out, ": ")?;
-    push_outcome(out, outcome)?;
-    push_byte(out, b'\n')
-}
-
 // Appends the panels as they stand.
 fn push_standing_panels(
     out: &mut Vec<u8>,
@@ -170,9 +152,9 @@ fn push_panel_seen(
     seen: &Seen<'_>,
     panel: &Panel,
 ) -> Result<(), NoMemory>
-    ensures { OnOk result (out.new.items ≡ out.old.items ++ panel_seen style machine.now.situation seen.now.step seen.now.outcome seen.now.lines.now panel.now) }
+    ensures { OnOk result (out.new.items ≡ out.old.items ++ panel_seen style machine.now.situation seen.now.block seen.now.step seen.now.outcome seen.now.lines.now panel.now) }
 {
-    let event = event_in(panel.block(), seen.step, seen.outcome, seen.lines);
+    let event = event_in(panel.block(), seen);
     push_panel(out, alloc, style, machine, panel, event, seen.lines)
 }
 
@@ -185,7 +167,7 @@ fn push_panels_seen(
     seen: &Seen<'_>,
     panels: &[Panel],
 ) -> Result<(), NoMemory>
-    ensures { OnOk result (out.new.items ≡ out.old.items ++ flat_map (panel_seen style machine.now.situation seen.now.step seen.now.outcome seen.now.lines.now) panels.now) }
+    ensures { OnOk result (out.new.items ≡ out.old.items ++ flat_map (panel_seen style machine.now.situation seen.now.block seen.now.step seen.now.outcome seen.now.lines.now) panels.now) }
 {
     for panel in panels {
         push_panel_seen(out, alloc, style, machine, seen, panel)?;
@@ -198,9 +180,9 @@ fn first_words(number: u64) -> &'static str
     ensures { result.now ≡ first_words number }
 {
     if number == 0 {
-        "  at reset\n"
+        " at reset\n"
     } else {
-        "  before\n"
+        " before\n"
     }
 }
 

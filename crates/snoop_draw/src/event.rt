@@ -1,10 +1,10 @@
 //! What happens in a panel at a step.
 ghost use Rattle.std.specs.Prelude.{◌≡◌};
 ghost use Rattle.std.specs.List.{list_any};
-ghost use Rattle.snoop_draw.specs.Events.{ask_mark, awaits, block_in, block_of, event_in, event_of, is_of, may, names_core, names_memory, rail, requestor_in, shows_all, shows_bus, tip, wire_at, wire_from};
+ghost use Rattle.snoop_draw.specs.Events.{ask_mark, awaits, event_in, event_of, is_of, may, names_core, names_memory, rail, requestor_in, shows_all, shows_bus, tip, wire_at, wire_from};
 
 use crate::marks::Mark;
-use snoop_engine::Taken;
+use snoop_engine::{Seen, Taken};
 use snoop_machine::{Refused, Reply};
 use snoop_rules::{CacheState, Protocol, may_load, may_store};
 use snoop_trace::Step;
@@ -83,8 +83,8 @@ fn event_of(step: Step, outcome: Result<Reply, Refused>, lines: &[Taken]) -> Eve
     }
 }
 
-/// Whether something is of this block.
-pub(crate) fn is_of(of: Option<u32>, block: u32) -> bool
+// Whether something is of this block.
+fn is_of(of: Option<u32>, block: u32) -> bool
     ensures { result ≡ is_of of block }
 {
     match of {
@@ -93,61 +93,12 @@ pub(crate) fn is_of(of: Option<u32>, block: u32) -> bool
     }
 }
 
-// The block of the first line.
-fn block_in(lines: &[Taken]) -> Option<u32>
-    ensures { result ≡ block_in lines.now }
+/// What happens in the panel of this block at a step, which may be of another or of none.
+pub(crate) fn event_in(block: u32, seen: &Seen<'_>) -> Event
+    ensures { result ≡ event_in block seen.now.block seen.now.step seen.now.outcome seen.now.lines.now }
 {
-    match lines.first() {
-        Some(
-            Taken::Core {
-                core: _,
-                block,
-                event: _,
-                before: _,
-            },
-        ) => Some(*block),
-        Some(
-            Taken::Memory {
-                block,
-                event: _,
-                before: _,
-            },
-        ) => Some(*block),
-        _ => None,
-    }
-}
-
-/// The block that a step is of: that of an Ask or a Respond, that of a request which is ordered or has to wait for the bus.
-pub(crate) fn block_of(step: Step, outcome: Result<Reply, Refused>, lines: &[Taken]) -> Option<u32>
-    ensures { result ≡ block_of step outcome lines.now }
-{
-    match step {
-        Step::Ask {
-            core: _,
-            block,
-            word: _,
-            op: _,
-        }
-        | Step::Respond { block } => Some(block),
-        Step::Order { core: _ } => match outcome {
-            Ok(_) => block_in(lines),
-            Err(Refused::BusTaken(block)) => Some(block),
-            Err(_) => None,
-        },
-    }
-}
-
-/// What happens in the panel of this block at a step, which may be of another.
-pub(crate) fn event_in(
-    block: u32,
-    step: Step,
-    outcome: Result<Reply, Refused>,
-    lines: &[Taken],
-) -> Event
-    ensures { result ≡ event_in block step outcome lines.now }
-{
-    if is_of(block_of(step, outcome, lines), block) {
-        event_of(step, outcome, lines)
+    if is_of(seen.block, block) {
+        event_of(seen.step, seen.outcome, seen.lines)
     } else {
         Event::Nothing
     }

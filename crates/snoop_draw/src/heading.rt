@@ -7,6 +7,7 @@ ghost use Rattle.snoop_draw.specs.Headings.{bare, first_line, heading_text, lege
 use crate::cells::{Cell, Link, Style, push_cell, push_field, push_left, push_link, push_right};
 use crate::marks::{Charset, Mark, push_mark, push_marks};
 use crate::panels::Panel;
+use snoop_engine::capitals;
 use snoop_rules::Protocol;
 use snoop_trace::streams::push_text;
 use snoop_trace::{NoMemory, Shape};
@@ -60,7 +61,7 @@ fn push_core_names(
 fn push_names(out: &mut Vec<u8>, alloc: Global, style: Style, panel: &Panel) -> Result<(), NoMemory>
     ensures { OnOk result (out.new.items ≡ out.old.items ++ names_of style panel.now) }
 {
-    push_text(out, "  ")?;
+    push_text(out, " ")?;
     push_core_names(out, alloc, style, panel.cores())?;
     push_mark(out, style.charset, Mark::Blank)?;
     push_field(out, style.charset, Mark::Blank, style.widths.bus, b"bus")?;
@@ -82,7 +83,7 @@ fn title_of(alloc: Global, shape: Shape, block: u32) -> Result<Vec<u8>, NoMemory
     let first = block as u64 * shape.block_bytes() as u64;
     let last = first + shape.block_bytes() as u64 - 1;
     let mut title = Vec::new(alloc);
-    write!(title, "  block {block} (bytes {first} to {last})").map_err(|_| NoMemory)?;
+    write!(title, " block {block} (bytes {first} to {last})").map_err(|_| NoMemory)?;
     Ok(title)
 }
 
@@ -131,14 +132,13 @@ fn push_all_names(
     Ok(())
 }
 
-// The end of the line of titles.
-fn protocol_title(protocol: Protocol) -> &'static str
-    ensures { result.now ≡ protocol_title protocol }
+// Appends the end of the line of titles.
+fn push_protocol(out: &mut Vec<u8>, protocol: Protocol) -> Result<(), NoMemory>
+    ensures { OnOk result (out.new.items ≡ out.old.items ++ protocol_title protocol) }
 {
-    match protocol {
-        Protocol::Msi => "  MSI\n",
-        Protocol::Mesi => "  MESI\n",
-    }
+    push_text(out, " ")?;
+    push_text(out, capitals(protocol))?;
+    push_text(out, "\n")
 }
 
 /// Appends the lines above the first row: the blocks and the protocol, and the names of the columns.
@@ -154,10 +154,10 @@ pub(crate) fn push_heading(
 {
     push_marks(out, Charset::Ascii, Mark::Blank, style.widths.number)?;
     push_titles(out, alloc, style, shape, panels)?;
-    push_text(out, protocol_title(protocol))?;
+    push_protocol(out, protocol)?;
     push_right(out, style.widths.number, b"step")?;
     push_all_names(out, alloc, style, panels)?;
-    push_text(out, "  line\n")
+    push_text(out, " line\n")
 }
 
 // Appends a mark, a blank, and what it says.

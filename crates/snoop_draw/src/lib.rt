@@ -2,7 +2,6 @@
 #![tactic(auto)]
 
 mod cells;
-mod choice;
 mod drawing;
 mod event;
 mod fault;
@@ -16,7 +15,6 @@ mod size;
 mod widths;
 mod words;
 
-pub use choice::{Choice, ChoiceFault};
 pub use event::{any_of_memory, awaits, may};
 pub use fault::DrawFault;
 pub use marks::{Charset, Mark};
@@ -24,5 +22,5 @@ pub use panels::{Panel, panels_for};
 pub use row::held_in;
 pub use simulate::simulate_drawing;
 pub use size::columns_of;
-pub use widths::{digits, most_stored, values_width};
-pub use words::{answers, bus_words, core_words, memory_words};
+pub use widths::values_width;
+pub use words::{bus_words, core_words, memory_words};

@@ -9,9 +9,9 @@ use crate::event::{
 };
 use crate::marks::{Mark, push_mark};
 use crate::panels::Panel;
-use crate::words::{bus_words, core_words, memory_words, state_at};
+use crate::words::{bus_words, core_words, memory_words};
 use snoop_bus::Open;
-use snoop_engine::Taken;
+use snoop_engine::{Taken, state_at};
 use snoop_machine::Machine;
 use snoop_rules::CacheState;
 use snoop_trace::NoMemory;
@@ -205,7 +205,7 @@ fn push_moment(
 ) -> Result<(), NoMemory>
     ensures { OnOk result (out.new.items ≡ out.old.items ++ moment_text style machine.now.situation moment.now.block moment.now.event moment.now.sender moment.now.lines.now cores.now) }
 {
-    push_text(out, "  ")?;
+    push_text(out, " ")?;
     push_cores(out, alloc, style, machine, moment, cores)?;
     push_bus(out, alloc, style, machine, moment)?;
     push_memory(out, alloc, style, machine, moment)

@@ -7,14 +7,13 @@ ghost use Rattle.snoop_trace.specs.declared.fault.TextFault.TheVariants as text_
 ghost use Rattle.snoop_draw.specs.Simulated.{Draws, DrawsSteps};
 
 use crate::cells::Style;
-use crate::choice::Choice;
 use crate::drawing::Drawing;
 use crate::fault::DrawFault;
 use crate::marks::Charset;
 use crate::panels::panels_for;
 use crate::size::is_small;
 use crate::widths::widths_for;
-use snoop_engine::{Input, SimFault, read_input, show_steps};
+use snoop_engine::{Choice, Input, SimFault, read_input, show_steps};
 use snoop_rules::Protocol;
 use snoop_trace::streams::{Sink, Source};
 use snoop_trace::{Shape, Step, WriteFault};
@@ -74,10 +73,10 @@ fn draw_steps<W: Sink>(
     if !is_small(choice, steps.len() as u64, &panels) {
         return Err(DrawFault::TooLarge);
     }
-    let style = Style {
-        charset,
-        widths: widths_for(shape, steps),
+    let Ok(widths) = widths_for(alloc, shape, steps) else {
+        return Err(DrawFault::Simulation(SimFault::NoMemory));
     };
+    let style = Style { charset, widths };
     let mut drawing = Drawing::new(alloc, style, panels, choice);
     match show_steps(alloc, writer, protocol, shape, steps, &mut drawing) {
         Ok(()) => Ok(()),

@@ -2,8 +2,8 @@
 ghost use Rattle.std.specs.Prelude.{◌≡◌, ◌↔◌, ◌-◌, ◌^◌, IsTrue, min};
 ghost use Rattle.snoop_draw.specs.Size.{IsSmall, columns_of, steps_within};
 
-use crate::choice::Choice;
 use crate::panels::Panel;
+use snoop_engine::Choice;
 
 /// The most cells of a drawing.
 const MAX_CELLS: u64 = 1_000_000;

@@ -1,7 +1,7 @@
 //! What is refused.
 
-use snoop_draw::{Charset, Choice, ChoiceFault, DrawFault, simulate_drawing};
-use snoop_engine::{Input, SimFault};
+use snoop_draw::{Charset, DrawFault, simulate_drawing};
+use snoop_engine::{Choice, ChoiceFault, Input, SimFault};
 use snoop_trace::{Protocol, Shape, TextFault};
 use std::alloc::Global;
 use std::io::Write;

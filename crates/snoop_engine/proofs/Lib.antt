@@ -25,3 +25,5 @@ pub mod CourseLemmas
 pub mod InOrderLemmas
 pub mod NowLemmas
 pub mod Completing
+pub mod WidthLemmas
+pub mod NumberedLemmas

@@ -27,3 +27,6 @@ pub mod Chosen
 pub mod Choice
 pub mod InOrder
 pub mod Courses
+pub mod Widths
+pub mod Words
+pub mod Numbered

@@ -39,6 +39,7 @@ impl Model for Choice {
 }
 
 impl Choice {
+    ghost use Rattle.std.specs.Prelude.{◌+◌, ◌==◌};
     ghost use Rattle.snoop_engine.specs.Choice.{IsBlock, IsChoice};
     ghost use Rattle.snoop_engine.specs.Chosen.{is_chosen, is_shown, is_within};
 
@@ -78,6 +79,13 @@ impl Choice {
         ensures { result ≡ self.now.to }
     {
         self.to
+    }
+
+    /// Whether the first step that is shown comes next after so many steps.
+    pub fn is_first_after(&self, number: u64) -> bool
+        ensures { result ≡ (number + 1 == self.now.from) }
+    {
+        number < self.from && self.from - number == 1
     }
 
     /// Whether the block is shown.

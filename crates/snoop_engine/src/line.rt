@@ -14,7 +14,7 @@ use snoop_trace::streams::{push_byte, push_decimal, push_step, push_text};
 use snoop_trace::{NoMemory, Shape, Step};
 
 /// Appends a text and then a number.
-pub(crate) fn push_numbered(out: &mut Vec<u8>, text: &str, number: u64) -> Result<(), NoMemory>
+pub fn push_numbered(out: &mut Vec<u8>, text: &str, number: u64) -> Result<(), NoMemory>
     ensures ok { OnOk result (out.new.items ≡ out.old.items ++ (text.now ++ decimal number)) }
 {
     push_text(out, text)?;
@@ -95,7 +95,7 @@ pub fn push_outcome(out: &mut Vec<u8>, outcome: Result<Reply, Refused>) -> Resul
 
 /// Appends the line of a step and what the machine answered.
 #[inline(always)]
-pub(crate) fn push_line(
+pub fn push_line(
     out: &mut Vec<u8>,
     shape: Shape,
     step: Step,

@@ -51,14 +51,14 @@ pub enum Taken {
 }
 
 /// The core's state of the block, where both are there.
-pub(crate) fn state_at(machine: &Machine, core: u32, block: u32) -> Option<CacheState>
+pub fn state_at(machine: &Machine, core: u32, block: u32) -> Option<CacheState>
     ensures { result ≡ state_at machine.now.situation core block }
 {
     machine.state(core, block)
 }
 
 /// Memory's state of the block, where it is there.
-pub(crate) fn memory_at(machine: &Machine, block: u32) -> Option<MemState>
+pub fn memory_at(machine: &Machine, block: u32) -> Option<MemState>
     ensures { result ≡ memory_at machine.now.situation block }
 {
     machine.mem_state(block)

@@ -14,7 +14,7 @@ use Rattle.snoop_engine.specs.declared.fault.SimFault.TheVariants.{NoMemory}
 use Rattle.snoop_lint.specs.declared.fault.LintFault.{LintFault}
 use Rattle.snoop_sim.specs.declared.fault.ThreadsFault.{ThreadsFault}
 use Rattle.snoop_sim.specs.declared.failure.Failure.{Failure}
-use Rattle.snoop_sim.specs.declared.failure.Failure.TheVariants.{BadBy, BadChoice, BadEvery, BadSerial, BadTop, CommandLine, NoCommand, NotUtf8, Shape, Simulation, Threads as ThreadsFailure, Lint as LintFailure, Drawing, Unchosen, Undrawn}
+use Rattle.snoop_sim.specs.declared.failure.Failure.TheVariants.{BadBy, BadChoice, BadEvery, BadSerial, BadTop, CommandLine, NoCommand, NotUtf8, Shape, Simulation, Threads as ThreadsFailure, Lint as LintFailure, Drawing, Unchosen}
 use Rattle.snoop_sim.specs.declared.options.Task.{Task}
 use Rattle.snoop_sim.specs.declared.options.Task.TheVariants.{Help, Table, Simulate, States, StateFields, Draw, DrawSvg}
 
@@ -75,7 +75,6 @@ without_task app words command NoCommand snoop well named has = (app, snoop, (we
 without_task app words command (Shape fault) snoop well named has = (app, snoop, (well, subst (λ c. HasNoTask c (Shape fault)) named has))
 without_task app words command BadSerial snoop well named has = (app, snoop, (well, subst (λ c. HasNoTask c BadSerial) named has))
 without_task app words command BadChoice snoop well named has = (app, snoop, (well, subst (λ c. HasNoTask c BadChoice) named has))
-without_task app words command (Undrawn fault) snoop well named has = (app, snoop, (well, subst (λ c. HasNoTask c (Undrawn fault)) named has))
 without_task app words command BadBy snoop well named has = (app, snoop, (well, subst (λ c. HasNoTask c BadBy) named has))
 without_task app words command BadTop snoop well named has = (app, snoop, (well, subst (λ c. HasNoTask c BadTop) named has))
 without_task app words command BadEvery snoop well named has = (app, snoop, (well, subst (λ c. HasNoTask c BadEvery) named has))
@@ -165,7 +164,6 @@ refused_status words BadTop refuses = two_is_not_four
 refused_status words BadEvery refuses = two_is_not_four
 refused_status words BadSerial refuses = two_is_not_four
 refused_status words BadChoice refuses = two_is_not_four
-refused_status words (Undrawn fault) refuses = two_is_not_four
 refused_status words (Unchosen fault) refuses = two_is_not_four
 refused_status words (Simulation fault) refuses = λ four. three_is_not_four (ap status_of_fault (sym refuses) ∙ four)
 refused_status words (ThreadsFailure fault) (app, snoop, (well, has)) = absurd (no_threads (subcommand_of app words) fault has)

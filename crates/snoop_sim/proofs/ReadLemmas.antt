@@ -8,7 +8,7 @@ use Rattle.snoop_draw.specs.declared.fault.DrawFault.TheVariants as draw
 use Rattle.snoop_lint.specs.declared.fault.LintFault.TheVariants as lint
 use Rattle.snoop_sim.specs.declared.fault.ThreadsFault.TheVariants as threads
 use Rattle.snoop_sim.specs.declared.failure.Failure.{Failure}
-use Rattle.snoop_sim.specs.declared.failure.Failure.TheVariants.{CommandLine, NoCommand, NotUtf8, Shape, BadBy, BadChoice, BadEvery, BadTop, BadSerial, Undrawn, Simulation, Threads, Lint, Drawing, Unchosen}
+use Rattle.snoop_sim.specs.declared.failure.Failure.TheVariants.{CommandLine, NoCommand, NotUtf8, Shape, BadBy, BadChoice, BadEvery, BadTop, BadSerial, Simulation, Threads, Lint, Drawing, Unchosen}
 use Rattle.snoop_sim.specs.Performed.{IsFailedRead}
 use Rattle.snoop_sim.specs.Status.{status_of}
 
@@ -25,7 +25,6 @@ failed_read_status NotUtf8 before after blames old new = absurd (not_blamed befo
 failed_read_status (Shape fault) before after blames old new = absurd (not_blamed before after blames old new)
 failed_read_status BadSerial before after blames old new = absurd (not_blamed before after blames old new)
 failed_read_status BadChoice before after blames old new = absurd (not_blamed before after blames old new)
-failed_read_status (Undrawn fault) before after blames old new = absurd (not_blamed before after blames old new)
 failed_read_status BadBy before after blames old new = absurd (not_blamed before after blames old new)
 failed_read_status BadTop before after blames old new = absurd (not_blamed before after blames old new)
 failed_read_status BadEvery before after blames old new = absurd (not_blamed before after blames old new)

@@ -9,7 +9,7 @@ use Rattle.snoop_cores.specs.declared.fault.GatherFault.TheVariants as gathering
 use Rattle.snoop_engine.specs.declared.fault.SimFault.{SimFault}
 use Rattle.snoop_engine.specs.declared.fault.SimFault.TheVariants.{Text, NoMemory, Write}
 use Rattle.snoop_sim.specs.declared.failure.Failure.{Failure}
-use Rattle.snoop_sim.specs.declared.failure.Failure.TheVariants.{CommandLine, NoCommand, NotUtf8, Shape, BadBy, BadChoice, BadEvery, BadTop, BadSerial, Undrawn, Simulation, Threads, Lint, Drawing, Unchosen}
+use Rattle.snoop_sim.specs.declared.failure.Failure.TheVariants.{CommandLine, NoCommand, NotUtf8, Shape, BadBy, BadChoice, BadEvery, BadTop, BadSerial, Simulation, Threads, Lint, Drawing, Unchosen}
 use Rattle.snoop_lint.specs.declared.fault.LintFault.{LintFault}
 use Rattle.snoop_draw.specs.declared.fault.DrawFault.TheVariants as draw
 use Rattle.snoop_lint.specs.declared.fault.LintFault.TheVariants as lint
@@ -52,7 +52,6 @@ status_known BadTop = omega arith
 status_known BadEvery = omega arith
 status_known BadSerial = omega arith
 status_known BadChoice = omega arith
-status_known (Undrawn fault) = omega arith
 status_known (Simulation fault) = fault_known fault
 status_known (Threads fault) = threads_known fault
 status_known (Lint fault) = lint_known fault

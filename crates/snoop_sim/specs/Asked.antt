@@ -6,12 +6,12 @@ use Rattle.clap.specs.declared.error.kind.ErrorKind.{ErrorKind}
 use Rattle.clap.specs.declared.error.kind.ErrorKind.TheVariants.{DisplayHelp, DisplayVersion}
 use Rattle.snoop_trace.specs.Extent.{Extent}
 use Rattle.snoop_sim.specs.CommandLine.{IsSnoop}
-use Rattle.snoop_sim.specs.Options.{IsChoiceOf, IsDrawnOf, IsGroupingOf, IsInputOf, IsLongOf, IsPaperOf, IsShapeOf, HasNoGrouping, MisplacesPaper, MisplacesSerial, asks_serial, charset_named, kind_named, layout_named, protocol_named, says, which_named}
+use Rattle.snoop_sim.specs.Options.{IsChoiceOf, IsGroupingOf, IsInputOf, IsLongOf, IsPaperOf, IsShapeOf, HasNoGrouping, MisplacesPaper, MisplacesSerial, asks_serial, charset_named, kind_named, layout_named, protocol_named, says, which_named}
 use Rattle.snoop_engine.specs.declared.fault.SimFault.TheVariants.{NoMemory}
 use Rattle.snoop_engine.specs.declared.input.Input.{Input}
 use Rattle.snoop_svg.specs.declared.paper.Paper.{Paper}
 use Rattle.snoop_sim.specs.declared.failure.Failure.{Failure}
-use Rattle.snoop_sim.specs.declared.failure.Failure.TheVariants.{BadBy, BadChoice, BadEvery, BadSerial, BadTop, CommandLine, NoCommand, Shape, Simulation, Unchosen, Undrawn}
+use Rattle.snoop_sim.specs.declared.failure.Failure.TheVariants.{BadBy, BadChoice, BadEvery, BadSerial, BadTop, CommandLine, NoCommand, Shape, Simulation, Unchosen}
 use Rattle.snoop_sim.specs.declared.options.Engine.{Engine}
 use Rattle.snoop_sim.specs.declared.options.Engine.TheVariants.{Steps, Run, Serial, Threads, Counts, Lint}
 use Rattle.snoop_sim.specs.declared.options.Task.{Task}
@@ -35,8 +35,8 @@ IsTaskOf (name, options) (States protocol shape input choice) = (protocol ≡ pr
     × (says false (codes "as") (codes "csv") options ≡ false)
 IsTaskOf (name, options) (StateFields protocol shape input choice) = (protocol ≡ protocol_named options) × IsShapeOf options (Ok shape) × (name ≡ codes "states") × IsInputOf options input × IsChoiceOf shape options (Ok choice)
     × (says false (codes "as") (codes "csv") options ≡ true)
-IsTaskOf (name, options) (Draw protocol shape input charset choice) = (protocol ≡ protocol_named options) × IsShapeOf options (Ok shape) × (name ≡ codes "draw") × IsInputOf options input × IsPaperOf options None × (charset ≡ charset_named options) × IsDrawnOf shape options (Ok choice)
-IsTaskOf (name, options) (DrawSvg protocol shape input choice paper) = (protocol ≡ protocol_named options) × IsShapeOf options (Ok shape) × (name ≡ codes "draw") × IsInputOf options input × IsPaperOf options (Some paper) × IsDrawnOf shape options (Ok choice)
+IsTaskOf (name, options) (Draw protocol shape input charset choice) = (protocol ≡ protocol_named options) × IsShapeOf options (Ok shape) × (name ≡ codes "draw") × IsInputOf options input × IsPaperOf options None × (charset ≡ charset_named options) × IsChoiceOf shape options (Ok choice)
+IsTaskOf (name, options) (DrawSvg protocol shape input choice paper) = (protocol ≡ protocol_named options) × IsShapeOf options (Ok shape) × (name ≡ codes "draw") × IsInputOf options input × IsPaperOf options (Some paper) × IsChoiceOf shape options (Ok choice)
 
 -- the command that was named has this task
 abbrev pub HasTask : Option (Text × List Row) → Task → Type 0
@@ -60,9 +60,8 @@ abbrev pub HasNoEngine : Text → List Row → Extent → Failure → Type 0
 HasNoEngine name options shape NoCommand = (name ≢ codes "steps") × (name ≢ codes "run") × (name ≢ codes "threads") × (name ≢ codes "states") × (name ≢ codes "counts")
     × (name ≢ codes "lint") × (name ≢ codes "draw")
 HasNoEngine name options shape BadSerial = IsViewer name × MisplacesSerial options
-HasNoEngine name options shape (Unchosen fault) = (name ≡ codes "states") × ReadsInput options × IsChoiceOf shape options (Err fault)
+HasNoEngine name options shape (Unchosen fault) = ((name ≡ codes "states") ⊎ ((name ≡ codes "draw") × HasPaper options)) × ReadsInput options × IsChoiceOf shape options (Err fault)
 HasNoEngine name options shape BadChoice = (name ≡ codes "draw") × ReadsInput options × MisplacesPaper options
-HasNoEngine name options shape (Undrawn fault) = (name ≡ codes "draw") × ReadsInput options × HasPaper options × IsDrawnOf shape options (Err fault)
 HasNoEngine name options shape BadBy = (name ≡ codes "counts") × ReadsInput options × HasNoGrouping options BadBy
 HasNoEngine name options shape BadTop = (name ≡ codes "counts") × ReadsInput options × HasNoGrouping options BadTop
 HasNoEngine name options shape BadEvery = (name ≡ codes "counts") × ReadsInput options × HasNoGrouping options BadEvery

@@ -15,9 +15,6 @@ use Rattle.snoop_engine.specs.Chosen.{Chosen}
 use Rattle.snoop_engine.specs.declared.choice.ChoiceFault.{ChoiceFault}
 use Rattle.snoop_engine.specs.declared.input.Input.{Input}
 use Rattle.snoop_engine.specs.declared.input.Input.TheVariants as input
-use Rattle.snoop_draw.specs.Choice.{IsChoice as IsDrawn}
-use Rattle.snoop_draw.specs.Choices.{Chosen as Drawn}
-use Rattle.snoop_draw.specs.declared.choice.ChoiceFault.{ChoiceFault as DrawnFault}
 use Rattle.snoop_draw.specs.declared.marks.Charset.{Charset}
 use Rattle.snoop_draw.specs.declared.marks.Charset.TheVariants as charset
 use Rattle.snoop_svg.specs.declared.paper.Form.{Form as SvgForm}
@@ -195,11 +192,3 @@ IsChoiceOf shape options made = (block from to : Option ℕ)
     × IsReadAs (2 ^ 64) (one_of (codes "from") options) from
     × IsReadAs (2 ^ 64) (one_of (codes "to") options) to
     × IsChoice shape block (unwrap_or from 0) (unwrap_or to 18446744073709551615) made
-
--- what they choose to be drawn
-abbrev pub IsDrawnOf : Extent → List Row → Result Drawn DrawnFault → Type 0
-IsDrawnOf shape options made = (block from to : Option ℕ)
-    × IsReadAs (2 ^ 32) (one_of (codes "block") options) block
-    × IsReadAs (2 ^ 64) (one_of (codes "from") options) from
-    × IsReadAs (2 ^ 64) (one_of (codes "to") options) to
-    × IsDrawn shape block (unwrap_or from 0) (unwrap_or to 18446744073709551615) made

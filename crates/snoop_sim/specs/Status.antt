@@ -8,7 +8,7 @@ use Rattle.snoop_cores.specs.declared.fault.RunFault.TheVariants as run
 use Rattle.snoop_cores.specs.declared.fault.SeatFault.TheVariants as seat
 use Rattle.snoop_cores.specs.declared.fault.GatherFault.TheVariants as gathering
 use Rattle.snoop_sim.specs.declared.failure.Failure.{Failure}
-use Rattle.snoop_sim.specs.declared.failure.Failure.TheVariants.{CommandLine, NoCommand, NotUtf8, Shape, BadBy, BadChoice, BadEvery, BadTop, BadSerial, Undrawn, Simulation, Threads, Lint, Drawing, Unchosen}
+use Rattle.snoop_sim.specs.declared.failure.Failure.TheVariants.{CommandLine, NoCommand, NotUtf8, Shape, BadBy, BadChoice, BadEvery, BadTop, BadSerial, Simulation, Threads, Lint, Drawing, Unchosen}
 use Rattle.snoop_engine.specs.declared.fault.SimFault.{SimFault}
 use Rattle.snoop_engine.specs.declared.fault.SimFault.TheVariants.{Text, NoMemory, Write}
 use Rattle.snoop_lint.specs.declared.fault.LintFault.{LintFault}
@@ -53,7 +53,6 @@ status_of BadTop = 2
 status_of BadEvery = 2
 status_of BadSerial = 2
 status_of BadChoice = 2
-status_of (Undrawn fault) = 2
 status_of (Simulation fault) = status_of_fault fault
 status_of (Threads fault) = status_of_threads fault
 status_of (Lint fault) = status_of_lint fault

@@ -6,7 +6,7 @@ ghost use Rattle.snoop_sim.specs.Status.{status_of, status_of_fault};
 
 use crate::fault::ThreadsFault;
 use clap::error::ErrorKind;
-use snoop_draw::{ChoiceFault as DrawnFault, DrawFault};
+use snoop_draw::DrawFault;
 use snoop_engine::{ChoiceFault, SimFault};
 use snoop_lint::LintFault;
 use snoop_trace::{ShapeFault, TextFault};
@@ -52,9 +52,6 @@ pub(crate) enum Failure {
     Lint(LintFault),
     #[error(transparent)]
     Drawing(DrawFault),
-    /// The block or the steps that are to be drawn are refused.
-    #[error(transparent)]
-    Undrawn(DrawnFault),
 }
 
 impl From<ShapeFault> for Failure {
@@ -76,17 +73,6 @@ impl From<ChoiceFault> for Failure {
 
     fn from(fault: ChoiceFault) -> Self {
         Failure::Unchosen(fault)
-    }
-}
-
-impl From<DrawnFault> for Failure {
-    ghost use Rattle.std.specs.Prelude.{◌≡◌};
-    ghost use Rattle.snoop_sim.specs.declared.failure.Failure.TheVariants as failure;
-
-    ghost from_gives = { λ e r. r ≡ failure.Undrawn e };
-
-    fn from(fault: DrawnFault) -> Self {
-        Failure::Undrawn(fault)
     }
 }
 
@@ -149,7 +135,6 @@ impl Failure {
             | Failure::BadEvery
             | Failure::BadSerial
             | Failure::BadChoice
-            | Failure::Undrawn(_)
             | Failure::Drawing(DrawFault::TooLarge) => 2,
             Failure::Simulation(fault) | Failure::Drawing(DrawFault::Simulation(fault)) => {
                 status_of_fault(*fault)

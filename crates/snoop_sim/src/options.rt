@@ -3,13 +3,13 @@ ghost use Rattle.std.specs.Prelude.{◌≡◌, ◌≢◌, ◌^◌, [], IfErr, If
 ghost use Rattle.clap.specs.Words.{app_of, found_of, one_of, rows_of, rule_of, subcommand_rows_of};
 ghost use Rattle.snoop_sim.specs.Asked.{Asks, HasNoEngine, HasNoTask, HasTask, IsTaskOf, Refuses};
 ghost use Rattle.snoop_sim.specs.CommandLine.{IsCounts, IsDraw, IsForms, IsGroupings, IsKinds, IsLayouts, IsLint, IsLocal, IsProtocols, IsRun, IsSimulation, IsSnoop, IsStates, IsSteps, IsTable, IsThemes, IsThreads, IsView, Names, choice_rules, flag_rule, form_rule, grouping_rule, kind_rule, layout_rule, number_rule, optional_rule, protocol_rule, theme_rule, top_app, with_rules};
-ghost use Rattle.snoop_sim.specs.Options.{IsChoiceOf, HasNoGrouping, HasNoNamed, HasNoSteps, IsDrawnOf, IsGroupingOf, IsInputOf, IsNamed, IsPaperOf, IsSteps as IsStepsOf, names_grouping, names_theme, IsNumberOf, IsReadAs, IsShapeOf, MisplacesPaper, MisplacesSerial, asks_ascii, asks_serial, charset_named, form_named, kind_named, layout_named, protocol_named, says, theme_named, which_named};
+ghost use Rattle.snoop_sim.specs.Options.{IsChoiceOf, HasNoGrouping, HasNoNamed, HasNoSteps, IsGroupingOf, IsInputOf, IsNamed, IsPaperOf, IsSteps as IsStepsOf, names_grouping, names_theme, IsNumberOf, IsReadAs, IsShapeOf, MisplacesPaper, MisplacesSerial, asks_ascii, asks_serial, charset_named, form_named, kind_named, layout_named, protocol_named, says, theme_named, which_named};
 
 use crate::failure::Failure;
 use crate::help;
 use clap::builder::ValueParser;
 use clap::{Arg, ArgAction, ArgMatches, Command, Error, value_parser};
-use snoop_draw::{Charset, Choice as Drawn, ChoiceFault as DrawnFault};
+use snoop_draw::Charset;
 use snoop_engine::{Choice, ChoiceFault, Input};
 use snoop_lint::Form;
 use snoop_rules::{Protocol, Which};
@@ -29,9 +29,9 @@ pub(crate) enum Task {
     /// Its states, in fields.
     StateFields(Protocol, Shape, Input, Choice),
     /// Its drawing as a text.
-    Draw(Protocol, Shape, Input, Charset, Drawn),
+    Draw(Protocol, Shape, Input, Charset, Choice),
     /// Its drawing as SVG or as a page.
-    DrawSvg(Protocol, Shape, Input, Drawn, Paper),
+    DrawSvg(Protocol, Shape, Input, Choice, Paper),
 }
 
 /// What is done with a text.
@@ -154,7 +154,7 @@ fn task_on(name: &str, options: &ArgMatches, shape: Shape) -> Result<Task, Failu
         "draw" => {
             let input = input_in(options)?;
             let paper = paper_in(options)?;
-            let choice = drawn_in(options, shape)?;
+            let choice = choice_in(options, shape)?;
             match paper {
                 None => Ok(Task::Draw(protocol, shape, input, charset_in(options), choice)),
                 Some(paper) => Ok(Task::DrawSvg(protocol, shape, input, choice, paper)),
@@ -530,18 +530,6 @@ fn layout_in(options: &ArgMatches) -> Layout
     } else {
         Layout::Rows
     }
-}
-
-/// The block and the steps that are drawn.
-fn drawn_in(options: &ArgMatches, shape: Shape) -> Result<Drawn, DrawnFault>
-    ensures { IsDrawnOf shape (rows_of (found_of options.now)) result }
-{
-    Drawn::new(
-        shape,
-        short_in(options, "block"),
-        long_in(options, "from").unwrap_or(0),
-        long_in(options, "to").unwrap_or(u64::MAX),
-    )
 }
 
 /// Whether the drawing is of ASCII characters alone.

@@ -2,7 +2,6 @@ pub mod OnOkLemmas
 pub mod ListLemmas
 pub mod HoldsLemmas
 pub mod AskLemmas
-pub mod WidthLemmas
 pub mod RowLemmas
 pub mod ShownLemmas
 pub mod TableLemmas

@@ -10,21 +10,14 @@ use Rattle.snoop_trace.specs.declared.protocol.Protocol.{Protocol}
 use Rattle.snoop_model.specs.Pictures.Situation.{Situation, reset}
 use Rattle.snoop_engine.specs.Frames.{Frame}
 use Rattle.snoop_engine.specs.Line.{line_text}
+use Rattle.snoop_engine.specs.Numbered.{Numbered, led_to, numbered_from}
+use Rattle.snoop_engine.proofs.NumberedLemmas.{led_on, numbered_on}
 use Rattle.snoop_states.specs.declared.column.Column.{Column}
 use Rattle.snoop_states.specs.declared.widths.Widths.{Widths}
 use Rattle.snoop_states.specs.Cells.{cell_text}
 use Rattle.snoop_engine.specs.Chosen.{Chosen, is_within}
 use Rattle.snoop_states.specs.Rows.{cells_text}
-use Rattle.snoop_states.specs.Tables.{Numbered, first_shown, is_of, led_to, numbered_from, rows_text, shown_of}
-
-numbered_on : (number : ℕ) (frames : List Frame) (frame : Frame)
-    → numbered_from number (frames ++ frame ∷ []) ≡ numbered_from number frames ++ (record { number = number + length frames; frame = frame }) ∷ []
-numbered_on number [] frame = let e : number ≡ number + 0 = omega arith in ap (λ (n : ℕ). (let one : Numbered = record { number = n; frame = frame } in one) ∷ []) e
-numbered_on number (f ∷ fs) frame =
-    let e : number + 1 + length fs ≡ number + length (f ∷ fs) = omega arith in
-    let first : Numbered = record { number = number; frame = f } in
-    ap (λ (l : List Numbered). first ∷ l)
-    (numbered_on (number + 1) fs frame ∙ ap (λ (n : ℕ). numbered_from (number + 1) fs ++ (let one : Numbered = record { number = n; frame = frame } in one) ∷ []) e)
+use Rattle.snoop_states.specs.Tables.{first_shown, is_of, rows_text, shown_of}
 
 -- a frame more is shown, or is not
 pub shown_on : (choice : Chosen) (block : ℕ) (frames : List Frame) (frame : Frame) (number : ℕ) → number ≡ 1 + length frames
@@ -34,11 +27,6 @@ shown_on choice block frames frame number e =
     let one : ℕ → Numbered = λ n. record { number = n; frame = frame } in
     ap (filter test) (numbered_on 1 frames frame) ∙ filter-append test (numbered_from 1 frames) (one (1 + length frames) ∷ [])
     ∙ ap (λ (n : ℕ). filter test (numbered_from 1 frames) ++ filter test (one n ∷ [])) (sym e)
-
--- where one frame more leads
-pub led_on : (here : Situation) (frames : List Frame) (frame : Frame) → led_to here (frames ++ frame ∷ []) ≡ frame.after
-led_on here [] frame = refl
-led_on here (f ∷ fs) frame = led_on f.after fs frame
 
 -- the machine before the first step that is shown, once it is there
 pub first_stays : (choice : Chosen) (protocol : Protocol) (shape : Extent) (frames : List Frame) (frame : Frame) → choice.from ≤ 1 + length frames

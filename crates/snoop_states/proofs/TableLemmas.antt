@@ -8,6 +8,8 @@ use Rattle.snoop_trace.specs.declared.protocol.Protocol.{Protocol}
 use Rattle.snoop_model.specs.Pictures.Situation.{Situation, reset}
 use Rattle.snoop_engine.specs.Frames.{Frame}
 use Rattle.snoop_engine.specs.Line.{line_text}
+use Rattle.snoop_engine.specs.Numbered.{Numbered, led_to}
+use Rattle.snoop_engine.proofs.NumberedLemmas.{led_on}
 use Rattle.snoop_states.specs.declared.column.Column.{Column}
 use Rattle.snoop_states.specs.declared.widths.Widths.{Widths}
 use Rattle.snoop_states.specs.declared.table.Table.{Table}
@@ -15,8 +17,8 @@ use Rattle.snoop_states.specs.Cells.{cell_text}
 use Rattle.snoop_engine.specs.Chosen.{Chosen, is_within}
 use Rattle.snoop_states.specs.Rows.{cells_text, names_text}
 use Rattle.snoop_states.specs.Seen.{HasCells, HasRows, IsEmpty, IsRowMore, IsTable}
-use Rattle.snoop_states.specs.Tables.{Numbered, first_row, first_shown, heading_text, is_of, led_to, rows_text, shown_of, table_text}
-use Rattle.snoop_states.proofs.ShownLemmas.{first_comes, first_stays, led_on, none_yet, rows_on, shown_on}
+use Rattle.snoop_states.specs.Tables.{first_row, first_shown, heading_text, is_of, rows_text, shown_of, table_text}
+use Rattle.snoop_states.proofs.ShownLemmas.{first_comes, first_stays, none_yet, rows_on, shown_on}
 
 whole : (out a b c d e x y z u v : List ℕ) → x ≡ out ++ a → y ≡ x ++ b → z ≡ c ++ d → u ≡ y ++ z → v ≡ u ++ e → v ≡ out ++ ((((a ++ b) ++ c) ++ d) ++ e)
 whole out a b c d e x y z u v p q r s t =

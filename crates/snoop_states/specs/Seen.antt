@@ -6,6 +6,7 @@ use Rattle.snoop_trace.specs.Extent.{Extent}
 use Rattle.snoop_trace.specs.declared.protocol.Protocol.{Protocol}
 use Rattle.snoop_model.specs.Pictures.Situation.{Situation}
 use Rattle.snoop_engine.specs.Frames.{Frame}
+use Rattle.snoop_engine.specs.Numbered.{Numbered, led_to}
 use Rattle.snoop_states.specs.declared.column.Column.{Column}
 use Rattle.snoop_states.specs.declared.widths.Widths.{Widths}
 use Rattle.snoop_states.specs.declared.table.Cell.{Cell}
@@ -13,7 +14,7 @@ use Rattle.snoop_states.specs.declared.table.Table.{Table}
 use Rattle.snoop_states.specs.Cells.{cell_text}
 use Rattle.snoop_engine.specs.Chosen.{Chosen, is_chosen}
 use Rattle.snoop_states.specs.Rows.{cells_text}
-use Rattle.snoop_states.specs.Tables.{Numbered, first_row, first_shown, led_to, rows_text, shown_of}
+use Rattle.snoop_states.specs.Tables.{first_row, first_shown, rows_text, shown_of}
 
 -- a column of a table, and the text that stands above its next row there
 abbrev pub pair : Cell → Column × List ℕ

@@ -7,26 +7,17 @@ use Rattle.std.specs.Option.{option_map_or}
 use Rattle.snoop_trace.specs.Extent.{Extent}
 use Rattle.snoop_trace.specs.Output.{address_of}
 use Rattle.snoop_trace.specs.declared.protocol.Protocol.{Protocol}
-use Rattle.snoop_trace.specs.declared.protocol.Protocol.TheVariants.{Msi, Mesi}
 use Rattle.snoop_model.specs.Pictures.Situation.{Situation, reset}
 use Rattle.snoop_engine.specs.Chosen.{Chosen, is_chosen, is_within}
 use Rattle.snoop_engine.specs.Frames.{Frame}
 use Rattle.snoop_engine.specs.Line.{line_text}
+use Rattle.snoop_engine.specs.Numbered.{Numbered, led_to, numbered_from}
 use Rattle.snoop_engine.specs.Views.{block_of}
+use Rattle.snoop_engine.specs.Words.{capitals}
 use Rattle.snoop_states.specs.declared.column.Column.{Column}
 use Rattle.snoop_states.specs.declared.widths.Widths.{Widths}
 use Rattle.snoop_states.specs.Cells.{cell_text}
 use Rattle.snoop_states.specs.Rows.{cells_text, names_text}
-
--- a frame, and the number of its step
-pub record Numbered : Type 0 where
-  pub number : ℕ
-  pub frame : Frame
-
--- frames with the numbers of their steps, the first of which has this number
-abbrev pub numbered_from : ℕ → List Frame → List Numbered
-numbered_from number [] = []
-numbered_from number (frame ∷ frames) = record { number = number; frame = frame } ∷ numbered_from (number + 1) frames
 
 -- the step is of the block
 abbrev pub is_of : ℕ → Frame → Bool
@@ -40,11 +31,6 @@ shown_of choice block frames = filter (λ n. is_within choice n.number && is_of 
 abbrev pub shown_block : Chosen → Option ℕ → ℕ → Option ℕ
 shown_block choice None number = None
 shown_block choice (Some block) number = if is_chosen choice.block block && is_within choice number then Some block else None
-
--- where frames lead to
-abbrev pub led_to : Situation → List Frame → Situation
-led_to here [] = here
-led_to here (frame ∷ frames) = led_to frame.after frames
 
 -- the machine before the first step that is chosen
 abbrev pub first_shown : Chosen → Protocol → Extent → List Frame → Situation
@@ -64,11 +50,6 @@ first_line from = if from == 1 then codes "at reset\n" else codes "before\n"
 -- the first row, with nothing above it: the block before the first step that is chosen
 abbrev pub first_row : Widths → Chosen → ℕ → List Column → Situation → List ℕ
 first_row widths choice block columns start = cells_text widths columns (λ column. []) (cell_text start block) (choice.from - 1) ++ first_line choice.from
-
--- a protocol in capitals
-abbrev pub capitals : Protocol → List ℕ
-capitals Msi = codes "MSI"
-capitals Mesi = codes "MESI"
 
 -- what stands over a table: the protocol, the block and its bytes
 abbrev pub heading_text : Protocol → Extent → ℕ → List ℕ

@@ -4,7 +4,8 @@ ghost use Rattle.std.specs.Fmt.{decimal};
 ghost use Rattle.std.specs.List.{filter, flat_map, range_with_len};
 ghost use Rattle.snoop_states.specs.AtEnd.{end_text, is_open, is_waiting, listed, still_open_text, waiting_text};
 
-use crate::pieces::{add_if, push_numbered};
+use crate::pieces::add_if;
+use snoop_engine::push_numbered;
 use snoop_machine::Machine;
 use snoop_trace::NoMemory;
 use snoop_trace::streams::push_text;

@@ -2,22 +2,12 @@
 ghost use Rattle.std.specs.Prelude.{◌≡◌, ◌+◌, ◌-◌, ◌++◌, codes, OnOk};
 ghost use Rattle.std.specs.Fmt.{decimal};
 ghost use Rattle.snoop_trace.specs.Output.{address_of};
-ghost use Rattle.snoop_states.specs.Tables.{capitals, heading_text};
+ghost use Rattle.snoop_states.specs.Tables.{heading_text};
 
-use crate::pieces::push_numbered;
+use snoop_engine::{capitals, push_numbered};
 use snoop_machine::Machine;
 use snoop_trace::streams::push_text;
-use snoop_trace::{NoMemory, Protocol, Shape};
-
-// A protocol in capitals.
-fn capitals(protocol: Protocol) -> &'static str
-    ensures { result.now ≡ capitals protocol }
-{
-    match protocol {
-        Protocol::Msi => "MSI",
-        Protocol::Mesi => "MESI",
-    }
-}
+use snoop_trace::{NoMemory, Shape};
 
 // The last byte of a block.
 fn last_byte(shape: Shape, block: u32) -> u64

@@ -1,31 +1,11 @@
 //! Pieces of texts, and texts that are filled up with blanks.
-ghost use Rattle.std.specs.Prelude.{◌≡◌, ◌++◌, ◌∷◌, [], if◌then◌else◌, IfOk, List, OnOk, ℕ, Some};
+ghost use Rattle.std.specs.Prelude.{◌≡◌, ◌++◌, ◌∷◌, [], if◌then◌else◌, IfOk, OnOk};
 ghost use Rattle.std.specs.Fmt.{decimal};
-ghost use Rattle.snoop_model.specs.Texts.{refusal_text};
-ghost use Rattle.snoop_engine.specs.Line.{line_text, outcome_text};
 ghost use Rattle.snoop_states.specs.Rows.{below, blanks, padded, to_the_right};
 
-use snoop_machine::{Refused, Reply};
-use snoop_trace::streams::{push_byte, push_decimal, push_step, push_text};
-use snoop_trace::{NoMemory, Shape, Step};
+use snoop_trace::NoMemory;
+use snoop_trace::streams::{push_byte, push_decimal, push_text};
 use std::alloc::Global;
-use std::fmt::Display;
-use std::io::Write;
-
-/// Appends a text and then a number.
-pub(crate) fn push_numbered(out: &mut Vec<u8>, text: &str, number: u64) -> Result<(), NoMemory>
-    ensures { OnOk result (out.new.items ≡ out.old.items ++ (text.now ++ decimal number)) }
-{
-    push_text(out, text)?;
-    push_decimal(out, number)
-}
-
-/// Appends a word of the protocols, whatever it is.
-pub(crate) fn push_word<D: Display + Copy>(out: &mut Vec<u8>, word: D) -> Result<(), NoMemory>
-    ensures { (text : List ℕ) → D.output word ≡ Some text → OnOk result (out.new.items ≡ out.old.items ++ text) }
-{
-    write!(out, "{word}").map_err(|_| NoMemory)
-}
 
 /// Appends bytes.
 pub(crate) fn push_bytes(out: &mut Vec<u8>, text: &[u8]) -> Result<(), NoMemory>
@@ -92,41 +72,6 @@ pub(crate) fn decimal_text(alloc: Global, number: u64) -> Result<Vec<u8>, NoMemo
     let mut text = Vec::new(alloc);
     push_decimal(&mut text, number)?;
     Ok(text)
-}
-
-// Appends why a step was refused.
-fn push_cause(out: &mut Vec<u8>, cause: Refused) -> Result<(), NoMemory>
-    ensures { OnOk result (out.new.items ≡ out.old.items ++ refusal_text cause) }
-{
-    push_word(out, cause)
-}
-
-// Appends what the machine answered.
-fn push_outcome(out: &mut Vec<u8>, outcome: Result<Reply, Refused>) -> Result<(), NoMemory>
-    ensures { OnOk result (out.new.items ≡ out.old.items ++ outcome_text outcome) }
-{
-    match outcome {
-        Ok(reply) => push_word(out, reply),
-        Err(cause) => {
-            push_text(out, "refused ")?;
-            push_cause(out, cause)
-        }
-    }
-}
-
-/// Appends the line of a step and what the machine answered.
-pub(crate) fn push_line(
-    out: &mut Vec<u8>,
-    shape: Shape,
-    step: Step,
-    outcome: Result<Reply, Refused>,
-) -> Result<(), NoMemory>
-    ensures { OnOk result (out.new.items ≡ out.old.items ++ line_text shape step outcome) }
-{
-    push_step(out, shape, step)?;
-    push_text(out, ": ")?;
-    push_outcome(out, outcome)?;
-    push_text(out, "\n")
 }
 
 /// Adds a number, if it is to be there.

@@ -16,10 +16,9 @@ ghost use Rattle.snoop_states.specs.declared.column.Column.TheVariants.{Bus, Cor
 use crate::cells::cell_text;
 use crate::column::{Column, name_of, width_of};
 use crate::heading::push_heading;
-use crate::pieces::{
-    decimal_text, push_below, push_bytes, push_line, push_padded, push_to_the_right,
-};
+use crate::pieces::{decimal_text, push_below, push_bytes, push_padded, push_to_the_right};
 use crate::widths::Widths;
+use snoop_engine::push_line;
 use snoop_machine::{Machine, Refused, Reply};
 use snoop_trace::streams::push_text;
 use snoop_trace::{NoMemory, Step};

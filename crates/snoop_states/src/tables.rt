@@ -44,7 +44,7 @@ impl Tables {
     ) -> Result<Tables, NoMemory>
         ensures { IfOk result (IsFor shape choice steps.now) }
     {
-        let widths = widths_of(alloc, shape, steps)?;
+        let widths = widths_of(shape, steps);
         let asked = asked_by(alloc, shape, steps)?;
         Ok(Tables {
             alloc,

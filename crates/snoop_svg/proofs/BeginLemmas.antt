@@ -5,9 +5,10 @@ use Rattle.std.proofs.lemmas.Bool.{cond-false, cond-true, eq-eqb, ne_eqb}
 use Rattle.snoop_trace.specs.Extent.{Extent}
 use Rattle.snoop_trace.specs.declared.protocol.Protocol.{Protocol}
 use Rattle.snoop_model.specs.Pictures.Situation.{Situation, reset}
-use Rattle.snoop_draw.specs.Choices.{Chosen}
+use Rattle.snoop_engine.specs.Chosen.{Chosen}
+use Rattle.snoop_engine.specs.Numbered.{led_to}
 use Rattle.snoop_svg.specs.declared.drawing.Drawing.{Drawing}
-use Rattle.snoop_svg.specs.Drawings.{HasSeen, StandsBelow, beginning_text, drawn, led_to, opening, standing}
+use Rattle.snoop_svg.specs.Drawings.{HasSeen, StandsBelow, beginning_text, drawn, opening, standing}
 use Rattle.snoop_svg.specs.Sheets.{Plan, Standing, first_row}
 
 -- the machine at reset

@@ -1,6 +1,6 @@
 -- What one frame more adds to what is drawn.
 use Rattle.std.proofs.Common.{◌≡◌, ℕ, ◌+◌, ◌-◌, ◌<◌, ◌≤◌, Bool, true, false, cond, List, [], ◌∷◌, ◌++◌, length, length-append, refl, sym, ap, ◌∙◌, append-nil, arith}
-use Rattle.std.specs.Prelude.{◌&&◌, nat_le}
+use Rattle.std.specs.Prelude.{nat_le}
 use Rattle.std.specs.List.{filter}
 use Rattle.std.proofs.lemmas.Bool.{and_left, cond-false, lt-leb}
 use Rattle.std.proofs.lemmas.List.{take-append-le, take_all}
@@ -10,24 +10,15 @@ use Rattle.snoop_trace.specs.declared.protocol.Protocol.{Protocol}
 use Rattle.snoop_model.specs.Pictures.Situation.{Situation, reset}
 use Rattle.snoop_engine.specs.Frames.{Frame}
 use Rattle.snoop_engine.specs.Views.{block_of}
-use Rattle.snoop_draw.specs.Choices.{Chosen}
-use Rattle.snoop_draw.specs.Drawings.{is_chosen}
-use Rattle.snoop_svg.specs.Drawings.{Numbered, drawn, first_standing, has_row, last_standing, led_to, numbered_from, standing}
+use Rattle.snoop_engine.specs.Chosen.{Chosen}
+use Rattle.snoop_engine.specs.Numbered.{Numbered, led_to, numbered_from}
+use Rattle.snoop_engine.proofs.NumberedLemmas.{led_on, not_within, numbered, numbered_on}
+use Rattle.snoop_svg.specs.Drawings.{drawn, first_standing, has_row, last_standing, standing}
 use Rattle.snoop_svg.specs.Sheets.{Standing}
-
--- a frame with its number
-abbrev pub numbered : ℕ → Frame → Numbered
-numbered number frame = record { number = number; frame = frame }
 
 -- what is there after a frame
 abbrev pub after : ℕ → Frame → Standing
 after number frame = record { number = number; situation = frame.after }
-
-numbered_on : (number : ℕ) (frames : List Frame) (frame : Frame) → numbered_from number (frames ++ frame ∷ []) ≡ numbered_from number frames ++ numbered (number + length frames) frame ∷ []
-numbered_on number [] frame = let e : number ≡ number + 0 = omega arith in ap (λ (n : ℕ). numbered n frame ∷ []) e
-numbered_on number (f ∷ fs) frame =
-    let e : number + 1 + length fs ≡ number + length (f ∷ fs) = omega arith in
-    ap (λ (l : List Numbered). numbered number f ∷ l) (numbered_on (number + 1) fs frame ∙ ap (λ (n : ℕ). numbered_from (number + 1) fs ++ numbered n frame ∷ []) e)
 
 -- a frame more is drawn, or is not
 pub drawn_on : (choice : Chosen) (frames : List Frame) (frame : Frame)
@@ -35,17 +26,12 @@ pub drawn_on : (choice : Chosen) (frames : List Frame) (frame : Frame)
 drawn_on choice frames frame =
     ap (filter (has_row choice)) (numbered_on 1 frames frame) ∙ filter-append (has_row choice) (numbered_from 1 frames) (numbered (1 + length frames) frame ∷ [])
 
-led_on : (here : Situation) (frames : List Frame) (frame : Frame) → led_to here (frames ++ frame ∷ []) ≡ frame.after
-led_on here [] frame = refl
-led_on here (f ∷ fs) frame = led_on f.after fs frame
-
 none_from : (choice : Chosen) (number : ℕ) (frames : List Frame) → number + length frames ≤ choice.from → filter (has_row choice) (numbered_from number frames) ≡ []
 none_from choice number [] h = refl
 none_from choice number (f ∷ fs) h =
     let low : number < choice.from = omega arith in
     let more : number + 1 + length fs ≤ choice.from = omega arith in
-    let off : has_row choice (numbered number f) ≡ false =
-    and_left (nat_le choice.from number && nat_le number choice.to) (is_chosen choice.block (block_of f.before f.step)) (and_left (nat_le choice.from number) (nat_le number choice.to) (lt-leb choice.from number low)) in
+    let off : has_row choice (numbered number f) ≡ false = not_within choice (block_of f.before f.step) number (and_left (nat_le choice.from number) (nat_le number choice.to) (lt-leb choice.from number low)) in
     cond-false (has_row choice (numbered number f)) _ _ off ∙ none_from choice (number + 1) fs more
 
 -- nothing is drawn before the first number

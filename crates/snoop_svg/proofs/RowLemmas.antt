@@ -3,10 +3,11 @@ use Rattle.std.proofs.Common.{◌≡◌, ℕ, ◌+◌, List, [], ◌∷◌, ◌+
 use Rattle.snoop_engine.specs.Frames.{Frame}
 use Rattle.snoop_engine.specs.Views.{block_of, shown}
 use Rattle.std.specs.List.{filter}
-use Rattle.snoop_draw.specs.Choices.{Chosen}
-use Rattle.snoop_svg.specs.Drawings.{Numbered, drawn, has_row, numbered_from}
+use Rattle.snoop_engine.specs.Chosen.{Chosen}
+use Rattle.snoop_engine.specs.Numbered.{Numbered, numbered_from}
+use Rattle.snoop_engine.proofs.NumberedLemmas.{numbered}
+use Rattle.snoop_svg.specs.Drawings.{drawn, has_row}
 use Rattle.snoop_svg.specs.Size.{mark_text}
-use Rattle.snoop_svg.proofs.DrawnLemmas.{numbered}
 
 -- a mark for a row
 one_mark : (b : Bool) (n : Numbered) (ns : List Numbered) (rest : List ℕ) → length rest ≡ length ns → length (cond b (codes "\n") [] ++ rest) ≡ length (cond b (n ∷ ns) ns)

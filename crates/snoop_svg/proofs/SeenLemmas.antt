@@ -1,18 +1,19 @@
 -- A drawing, when it sees one frame more.
 use Rattle.std.proofs.Common.{◌≡◌, ℕ, ◌+◌, ◌-◌, ◌%◌, ◌<◌, ◌≤◌, min, true, false, List, [], ◌∷◌, ◌++◌, length, length-append, refl, sym, ap, subst, ◌∙◌, arith}
-use Rattle.std.specs.Prelude.{◌==◌, ◌&&◌, Result, nat_le, nat_lt}
+use Rattle.std.specs.Prelude.{◌==◌, Result, nat_le, nat_lt}
 use Rattle.std.proofs.lemmas.Bool.{and_parts, cond-false, cond-true, eq-eqb, leb-true, le-ltb, lt-ltb, ne_eqb}
 use Rattle.snoop_trace.specs.Extent.{Extent}
 use Rattle.snoop_trace.specs.declared.protocol.Protocol.{Protocol}
 use Rattle.snoop_engine.specs.Frames.{Frame}
 use Rattle.snoop_engine.specs.Taken.{lines_of}
 use Rattle.snoop_engine.specs.Views.{block_of}
-use Rattle.snoop_draw.specs.Choices.{Chosen}
-use Rattle.snoop_draw.specs.Drawings.{is_chosen}
+use Rattle.snoop_engine.specs.Chosen.{Chosen}
+use Rattle.snoop_engine.specs.Numbered.{Numbered}
+use Rattle.snoop_engine.proofs.NumberedLemmas.{numbered, within_of_shown}
 use Rattle.snoop_svg.specs.declared.drawing.Drawing.{Drawing}
-use Rattle.snoop_svg.specs.Drawings.{HasSeen, Numbered, StandsBelow, drawn, frame_text, has_row, placed_row, rows_per_sheet, standing, turn_text}
+use Rattle.snoop_svg.specs.Drawings.{HasSeen, StandsBelow, drawn, frame_text, has_row, placed_row, rows_per_sheet, standing, turn_text}
 use Rattle.snoop_svg.specs.Sheets.{Plan, Standing, first_row, row_text, row_y}
-use Rattle.snoop_svg.proofs.DrawnLemmas.{after, drawn_grows, drawn_stays, none_yet, numbered, standing_grows, standing_starts, standing_stays}
+use Rattle.snoop_svg.proofs.DrawnLemmas.{after, drawn_grows, drawn_stays, none_yet, standing_grows, standing_starts, standing_stays}
 
 longer : (frames : List Frame) (frame : Frame) → length (frames ++ frame ∷ []) ≡ 1 + length frames
 longer frames frame = omega (arith, length-append frames (frame ∷ []))
@@ -20,7 +21,7 @@ longer frames frame = omega (arith, length-append frames (frame ∷ []))
 -- a step that is drawn has a number that may be
 pub late_row : (choice : Chosen) (number : ℕ) (frame : Frame) → has_row choice (numbered number frame) ≡ true → choice.from ≤ number
 late_row choice number frame on =
-    leb-true choice.from number (and_parts (nat_le choice.from number) (nat_le number choice.to) (and_parts (nat_le choice.from number && nat_le number choice.to) (is_chosen choice.block (block_of frame.before frame.step)) on).0).0
+    leb-true choice.from number (and_parts (nat_le choice.from number) (nat_le number choice.to) (within_of_shown choice (block_of frame.before frame.step) number on)).0
 
 -- how many rows there are
 abbrev pub shown_rows : Plan → List Frame → ℕ

@@ -9,7 +9,7 @@ use Rattle.snoop_model.specs.Pictures.Situation.{Situation}
 use Rattle.snoop_model.specs.Runs.Run.{RunsAreOne}
 use Rattle.snoop_engine.specs.Frames.{AreFrames, Frame}
 use Rattle.snoop_engine.specs.SimulatedView.{BeginsToShow, ShowsRun}
-use Rattle.snoop_draw.specs.Choices.{Chosen}
+use Rattle.snoop_engine.specs.Chosen.{Chosen}
 use Rattle.snoop_svg.specs.declared.paper.Paper.{Paper}
 use Rattle.snoop_svg.specs.Drawings.{drawing_text, drawn, plan_for, planned_text}
 use Rattle.snoop_svg.specs.Sheets.{Plan}

@@ -6,8 +6,8 @@ use Rattle.snoop_rules.specs.declared.names.CacheState.{CacheState}
 use Rattle.snoop_rules.specs.declared.names.CacheState.TheVariants.{E, EiA}
 use Rattle.snoop_rules.specs.declared.names.MemState.{MemState}
 use Rattle.snoop_bus.specs.Traffic.{Open}
+use Rattle.snoop_engine.specs.Words.{answers}
 use Rattle.snoop_draw.specs.Events.{may}
-use Rattle.snoop_draw.specs.Words.{answers}
 use Rattle.snoop_draw.specs.declared.marks.Mark.{Mark}
 use Rattle.snoop_draw.specs.declared.marks.Mark.TheVariants as sign
 use Rattle.snoop_svg.specs.declared.bands.Band.{Band}

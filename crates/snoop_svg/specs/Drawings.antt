@@ -6,11 +6,11 @@ use Rattle.snoop_trace.specs.Extent.{Extent}
 use Rattle.snoop_trace.specs.declared.protocol.Protocol.{Protocol}
 use Rattle.snoop_trace.specs.declared.step.Step.{Step}
 use Rattle.snoop_model.specs.Pictures.Situation.{Situation, reset}
+use Rattle.snoop_engine.specs.Chosen.{Chosen, is_shown}
 use Rattle.snoop_engine.specs.Frames.{Frame, steps_of}
+use Rattle.snoop_engine.specs.Numbered.{Numbered, led_to, numbered_from}
 use Rattle.snoop_engine.specs.Taken.{lines_of}
 use Rattle.snoop_engine.specs.Views.{block_of, view_text}
-use Rattle.snoop_draw.specs.Choices.{Chosen}
-use Rattle.snoop_draw.specs.Drawings.{is_drawn}
 use Rattle.snoop_draw.specs.Panels.{panels_for}
 use Rattle.snoop_svg.specs.declared.drawing.Drawing.{Drawing}
 use Rattle.snoop_svg.specs.declared.paper.Form.{Form}
@@ -21,28 +21,13 @@ use Rattle.snoop_svg.specs.Looks.{cells_at}
 use Rattle.snoop_svg.specs.Sheets.{Plan, Standing, first_row, heading_text, row_text, row_y, sheet_closed}
 use Rattle.snoop_svg.specs.Styles.{page_end, page_head}
 
--- a frame, and the number of its step
-pub record Numbered : Type 0 where
-  pub number : ℕ
-  pub frame : Frame
-
--- frames with the numbers of their steps, the first of which has this number
-abbrev pub numbered_from : ℕ → List Frame → List Numbered
-numbered_from number [] = []
-numbered_from number (frame ∷ frames) = record { number = number; frame = frame } ∷ numbered_from (number + 1) frames
-
 -- the step of a frame is drawn
 abbrev pub has_row : Chosen → Numbered → Bool
-has_row choice n = is_drawn choice n.number (block_of n.frame.before n.frame.step)
+has_row choice n = is_shown choice (block_of n.frame.before n.frame.step) n.number
 
 -- the frames whose steps are drawn
 abbrev pub drawn : Chosen → List Frame → List Numbered
 drawn choice frames = filter (has_row choice) (numbered_from 1 frames)
-
--- where frames lead to
-abbrev pub led_to : Situation → List Frame → Situation
-led_to here [] = here
-led_to here (frame ∷ frames) = led_to frame.after frames
 
 -- the first row: the machine before the first step that may be drawn
 abbrev pub first_standing : Chosen → Protocol → Extent → List Frame → Standing

@@ -3,8 +3,9 @@
 use Rattle.std.specs.Prelude.{ℕ, ◌+◌, ◌*◌, ◌≤◌, ◌==◌, ◌&&◌, Bool, false, List, [], ◌∷◌, ◌++◌, length, Option, Some, None, if◌then◌else◌}
 use Rattle.snoop_trace.specs.Extent.{Extent}
 use Rattle.snoop_trace.specs.declared.step.Step.{Step}
+use Rattle.snoop_engine.specs.Widths.{digits, most_stored}
 use Rattle.snoop_draw.specs.Panels.{Panel}
-use Rattle.snoop_draw.specs.Widths.{digits, most_stored, values_width}
+use Rattle.snoop_draw.specs.Widths.{values_width}
 use Rattle.snoop_svg.specs.declared.columns.Column.{Column}
 use Rattle.snoop_svg.specs.declared.columns.Subject.{Subject}
 use Rattle.snoop_svg.specs.declared.columns.Subject.TheVariants.{Core, Bus, Memory}

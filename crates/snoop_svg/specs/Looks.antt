@@ -3,9 +3,10 @@
 use Rattle.std.specs.Prelude.{ℕ, List, [], codes, map}
 use Rattle.snoop_model.specs.Pictures.Situation.{Situation, picture_of}
 use Rattle.snoop_engine.specs.Taken.{memory_at}
+use Rattle.snoop_engine.specs.Words.{core_words, memory_words}
 use Rattle.snoop_draw.specs.Events.{awaits}
 use Rattle.snoop_draw.specs.Rows.{held_in}
-use Rattle.snoop_draw.specs.Words.{bus_words, core_words, memory_words}
+use Rattle.snoop_draw.specs.Words.{bus_words}
 use Rattle.snoop_draw.specs.declared.marks.Mark.{Mark}
 use Rattle.snoop_draw.specs.declared.marks.Mark.TheVariants as sign
 use Rattle.snoop_svg.specs.declared.bands.Band.{Band}
@@ -30,7 +31,7 @@ waiting_rail _ = rail.Free
 
 -- what a column of this subject shows
 abbrev pub look_at : Situation → Subject → Look
-look_at s (Core block core) = record { band = core_band s.protocol (held_in s block core); rail = waiting_rail (awaits (held_in s block core)); words = core_words s block core }
+look_at s (Core block core) = record { band = core_band s.protocol (held_in s block core); rail = waiting_rail (awaits (held_in s block core)); words = core_words 2 s block core }
 look_at s (Bus block) = record { band = bus_band (picture_of s block).transaction; rail = rail.Free; words = bus_words s block }
 look_at s (Memory block) = record { band = memory_band (memory_at s block); rail = rail.Free; words = memory_words s block }
 

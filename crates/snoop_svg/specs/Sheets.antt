@@ -6,14 +6,14 @@ use Rattle.std.specs.List.{flat_map}
 use Rattle.snoop_trace.specs.Extent.{Extent}
 use Rattle.snoop_trace.specs.Output.{address_of, step_text}
 use Rattle.snoop_trace.specs.declared.protocol.Protocol.{Protocol}
-use Rattle.snoop_trace.specs.declared.protocol.Protocol.TheVariants.{Msi, Mesi}
 use Rattle.snoop_trace.specs.declared.step.Step.{Step}
 use Rattle.snoop_model.specs.Pictures.Situation.{Situation}
 use Rattle.snoop_model.specs.declared.replies.Refused.{Refused}
 use Rattle.snoop_model.specs.declared.replies.Reply.{Reply}
 use Rattle.snoop_engine.specs.Line.{outcome_text}
+use Rattle.snoop_engine.specs.Words.{capitals}
 use Rattle.snoop_engine.specs.declared.taken.Taken.{Taken}
-use Rattle.snoop_draw.specs.Choices.{Chosen}
+use Rattle.snoop_engine.specs.Chosen.{Chosen}
 use Rattle.snoop_svg.specs.declared.columns.Column.{Column}
 use Rattle.snoop_svg.specs.declared.columns.Subject.{Subject}
 use Rattle.snoop_svg.specs.declared.columns.Subject.TheVariants.{Core, Bus, Memory}
@@ -49,11 +49,6 @@ width_of plan = 12 + max 788 (plan.replies + plan.sizes.reply)
 -- the y of the row in this place of a sheet, from 0; and where so many rows end
 abbrev pub row_y : ℕ → ℕ
 row_y place = 82 + 54 * place
-
--- a protocol in capitals
-abbrev pub capitals : Protocol → List ℕ
-capitals Msi = codes "MSI"
-capitals Mesi = codes "MESI"
 
 -- the rules of a drawing that stands alone
 abbrev pub own_style : Paper → Form → List ℕ
@@ -93,8 +88,7 @@ sheet_opened width height = svg_opened ++ size width height ++ codes ">\n"
 
 -- the beginning of a title
 abbrev pub protocol_title : Protocol → List ℕ
-protocol_title Msi = codes "<title>Snoop, MSI, "
-protocol_title Mesi = codes "<title>Snoop, MESI, "
+protocol_title protocol = codes "<title>Snoop, " ++ capitals protocol ++ codes ", "
 
 -- the title of a sheet with so many rows
 abbrev pub sheet_title : Protocol → ℕ → List ℕ

@@ -8,7 +8,7 @@ use Rattle.snoop_engine.specs.Inputs.{GivesSteps, IsRefusedText}
 use Rattle.snoop_engine.specs.SimulatedView.{BeginsToShow, ShowsRun}
 use Rattle.snoop_engine.specs.declared.fault.SimFault.TheVariants.{Text, NoMemory, Write}
 use Rattle.snoop_engine.specs.declared.input.Input.{Input}
-use Rattle.snoop_draw.specs.Choices.{Chosen}
+use Rattle.snoop_engine.specs.Chosen.{Chosen}
 use Rattle.snoop_draw.specs.Panels.{panels_for}
 use Rattle.snoop_draw.specs.declared.fault.DrawFault.{DrawFault}
 use Rattle.snoop_draw.specs.declared.fault.DrawFault.TheVariants.{Simulation, TooLarge}

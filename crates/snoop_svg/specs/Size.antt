@@ -6,8 +6,7 @@ use Rattle.snoop_trace.specs.declared.protocol.Protocol.{Protocol}
 use Rattle.snoop_trace.specs.declared.step.Step.{Step}
 use Rattle.snoop_model.specs.Pictures.Situation.{Situation}
 use Rattle.snoop_engine.specs.Frames.{AreFrames, Frame}
-use Rattle.snoop_draw.specs.Choices.{Chosen}
-use Rattle.snoop_draw.specs.Drawings.{is_drawn}
+use Rattle.snoop_engine.specs.Chosen.{Chosen, is_shown}
 use Rattle.snoop_draw.specs.Panels.{Panel}
 use Rattle.snoop_draw.specs.Size.{columns_of}
 use Rattle.snoop_svg.specs.Drawings.{drawn}
@@ -25,4 +24,4 @@ pub record HasRows (protocol : Protocol) (shape : Extent) (choice : Chosen) (ste
 
 -- a byte for a step that is drawn
 abbrev pub mark_text : Chosen → ℕ → Option ℕ → List ℕ
-mark_text choice number of = if is_drawn choice number of then codes "\n" else []
+mark_text choice number of = if is_shown choice of number then codes "\n" else []

@@ -34,7 +34,7 @@ page_top = codes "<!DOCTYPE html>\n<html lang=\"en\">\n<head>\n<meta charset=\"u
 
 -- what stands behind the schemes, before the rules
 unfoldable pub page_rules : List ℕ
-page_rules = codes "}\nbody{margin:0 0 12em;font:12px ui-monospace,Menlo,Consolas,\"DejaVu Sans Mono\",monospace}\nsvg{display:block;margin:0 0 24px;break-inside:avoid}\nsvg:has(a:target)~svg a{opacity:.12}\npre{position:fixed;left:0;right:0;bottom:0;margin:0;padding:10px 12px;max-height:11em;overflow:auto;background:Canvas;border-top:2px solid;font-size:14px}\n@media print{pre{display:none}body,svg{margin:0}svg{width:auto;height:auto;max-width:100%;max-height:100vh}}\n"
+page_rules = codes "}\nbody{margin:0 0 12em;font:12px ui-monospace,Menlo,Consolas,\"DejaVu Sans Mono\",monospace}\nsvg{display:block;margin:0 0 24px;break-inside:avoid}\nsvg:has(a:target)~svg a{opacity:.12}\nhtml{scroll-padding:56px 0 11em}\n#names{position:sticky;top:0;z-index:1;margin-bottom:-56px;box-shadow:0 1px #808080}\npre{position:fixed;left:0;right:0;bottom:0;margin:0;padding:10px 12px;max-height:11em;overflow:auto;background:Canvas;border-top:2px solid;font-size:14px}\n@media print{pre,#names{display:none}body,svg{margin:0}svg{width:auto;height:auto;max-width:100%;max-height:100vh}}\n"
 
 -- what stands between the rules and the first sheet
 unfoldable pub page_middle : List ℕ
@@ -42,7 +42,7 @@ page_middle = codes "</style>\n</head>\n<body>\n"
 
 -- what stands behind the last sheet
 unfoldable pub page_end : List ℕ
-page_end = codes "<pre aria-live=\"polite\">Click a row, or go through the steps with the arrow keys. Esc shows the whole run.</pre>\n<script>\nconst rows = [...document.querySelectorAll(\"a[id]\")], notes = document.querySelector(\"pre\");\nconst at = () => rows.findIndex(row => \"#\" + row.id === location.hash);\nfunction show() {\n  const row = rows[at()];\n  if (!row) return;\n  notes.textContent = row.querySelector(\"title\").textContent;\n  row.scrollIntoView({block: \"center\"});\n}\naddEventListener(\"hashchange\", show);\naddEventListener(\"keydown\", event => {\n  const by = {ArrowDown: 1, ArrowRight: 1, ArrowUp: -1, ArrowLeft: -1}[event.key];\n  if (event.key === \"Escape\") location.hash = \"all\";\n  if (!by || !rows.length) return;\n  event.preventDefault();\n  location.hash = rows[Math.max(0, Math.min(rows.length - 1, at() + by))].id;\n});\nshow();\n</script>\n</body>\n</html>\n"
+page_end = codes "<pre aria-live=\"polite\">Click a row, or go through the steps with the arrow keys. Esc shows the whole run.</pre>\n<script>\nconst rows = [...document.querySelectorAll(\"a[id]\")], notes = document.querySelector(\"pre\");\nconst sheet = document.querySelector(\"svg\"), names = sheet.cloneNode();\nnames.id = \"names\";\nnames.setAttribute(\"height\", 56);\nnames.setAttribute(\"viewBox\", `0 0 ${names.getAttribute(\"width\")} 56`);\nnames.setAttribute(\"aria-hidden\", true);\nfor (const part of sheet.children) {\n  if (part.matches(\".paper\") || part.matches(\"text\") && part.getAttribute(\"y\") < 56) names.append(part.cloneNode(true));\n}\ndocument.body.prepend(names);\nconst at = () => rows.findIndex(row => \"#\" + row.id === location.hash);\nfunction show() {\n  const row = rows[at()];\n  if (!row) return;\n  notes.textContent = row.querySelector(\"title\").textContent;\n  row.scrollIntoView({block: \"center\"});\n  const marks = [...row.querySelectorAll(\".o,.a,.i,.x,.p,.g,.v\")].map(mark => mark.getBoundingClientRect());\n  if (!marks.length) return;\n  const left = Math.min(...marks.map(mark => mark.left)), right = Math.max(...marks.map(mark => mark.right));\n  const panels = [...names.querySelectorAll(\".t\"), row.querySelectorAll(\"text\")[2]].map(text => text.getBoundingClientRect().left);\n  const start = Math.max(...panels.filter(x => x <= left)), end = Math.min(...panels.filter(x => x > left));\n  const wide = document.documentElement.clientWidth, [from, to] = end - start > wide ? [left - 48, right + 48] : [start, end];\n  scrollBy(from < 0 || to - from > wide ? from : Math.max(0, to - wide), 0);\n}\naddEventListener(\"hashchange\", show);\naddEventListener(\"keydown\", event => {\n  const by = {ArrowDown: 1, ArrowRight: 1, ArrowUp: -1, ArrowLeft: -1}[event.key];\n  if (event.key === \"Escape\") location.hash = \"all\";\n  if (!by || !rows.length) return;\n  event.preventDefault();\n  location.hash = rows[Math.max(0, Math.min(rows.length - 1, at() + by))].id;\n});\naddEventListener(\"load\", show);\n</script>\n</body>\n</html>\n"
 
 -- all that stands before the first sheet of a page
 abbrev pub page_head : Theme → List ℕ

@@ -4,7 +4,8 @@ ghost use Rattle.snoop_svg.specs.Bands.{band_text, bus_band, class_of, core_band
 
 use crate::elements::push_box;
 use snoop_bus::Open;
-use snoop_draw::{Mark, answers, may};
+use snoop_draw::{Mark, may};
+use snoop_engine::answers;
 use snoop_rules::{CacheState, MemState, Protocol};
 use snoop_trace::NoMemory;
 

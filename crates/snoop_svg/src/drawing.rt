@@ -291,7 +291,7 @@ impl View for Drawing {
         if choice.is_first_after(seen.number) {
             return self.start(out, machine, seen.number);
         }
-        if choice.has(seen.number, seen.block) {
+        if choice.has_step(seen.block, seen.number) {
             self.push_drawn(out, machine, &seen)
         } else {
             Ok(())

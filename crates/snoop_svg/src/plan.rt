@@ -6,7 +6,7 @@ ghost use Rattle.snoop_svg.specs.Drawings.{rows_per_sheet, sheet_rows};
 use crate::columns::Column;
 use crate::paper::{Form, Paper};
 use crate::sizes::Sizes;
-use snoop_draw::Choice;
+use snoop_engine::Choice;
 use std::marker::Model;
 
 /// What all sheets of a drawing share: its sizes and columns, where replies begin, which steps are drawn and how many, and

@@ -2,8 +2,7 @@
 ghost use Rattle.std.specs.Prelude.{◌≡◌, ◌++◌, IfOk, OnOk, length};
 ghost use Rattle.snoop_svg.specs.Size.{HasRows, mark_text};
 
-use snoop_draw::Choice;
-use snoop_engine::{Seen, View, show_steps};
+use snoop_engine::{Choice, Seen, View, show_steps};
 use snoop_machine::Machine;
 use snoop_rules::Protocol;
 use snoop_trace::streams::push_byte;
@@ -20,7 +19,7 @@ struct Rows {
 fn push_mark(out: &mut Vec<u8>, choice: Choice, seen: &Seen<'_>) -> Result<(), NoMemory>
     ensures { OnOk result (out.new.items ≡ out.old.items ++ mark_text choice seen.now.number seen.now.block) }
 {
-    if choice.has(seen.number, seen.block) {
+    if choice.has_step(seen.block, seen.number) {
         push_byte(out, b'\n')
     } else {
         Ok(())

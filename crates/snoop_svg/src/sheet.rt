@@ -8,7 +8,7 @@ ghost use Rattle.snoop_svg.specs.Elements.{number, text_closed, text_opened};
 ghost use Rattle.snoop_svg.specs.Legends.{legend_text};
 ghost use Rattle.snoop_svg.specs.Looks.{cells_at};
 ghost use Rattle.snoop_svg.specs.Titles.{row_title};
-ghost use Rattle.snoop_svg.specs.Sheets.{block_title, border, capitals, captions, column_heading, first_row, first_word, first_words, ground, heading_text, name_of, own_style, panel_heading, protocol_title, reply_class, row_end, row_ground, row_head, row_opened, row_text, row_y, sheet_closed, sheet_opened, sheet_title, svg_opened, width_of};
+ghost use Rattle.snoop_svg.specs.Sheets.{block_title, border, captions, column_heading, first_row, first_word, first_words, ground, heading_text, name_of, own_style, panel_heading, protocol_title, reply_class, row_end, row_ground, row_head, row_opened, row_text, row_y, sheet_closed, sheet_opened, sheet_title, svg_opened, width_of};
 
 use crate::cells::{push_first_cells, push_next_cells};
 use crate::columns::{Column, Subject};
@@ -22,7 +22,7 @@ use crate::paper::{Form, Paper};
 use crate::plan::Plan;
 use crate::style::push_style;
 use crate::titles::push_row_title;
-use snoop_engine::{Seen, push_outcome};
+use snoop_engine::{Seen, capitals, push_outcome};
 use snoop_machine::{Machine, Refused, Reply};
 use snoop_rules::Protocol;
 use snoop_trace::streams::{push_decimal, push_step, push_text};
@@ -36,15 +36,6 @@ pub(crate) fn row_y(place: u32) -> u32
     ensures low { result ≤ 1080082 }
 {
     82 + 54 * place
-}
-
-fn capitals(protocol: Protocol) -> &'static str
-    ensures { result.now ≡ capitals protocol }
-{
-    match protocol {
-        Protocol::Msi => "MSI",
-        Protocol::Mesi => "MESI",
-    }
 }
 
 fn push_own_style(out: &mut Vec<u8>, paper: Paper) -> Result<(), NoMemory>
@@ -179,10 +170,9 @@ fn open_sheet(out: &mut Vec<u8>, width: u64, height: u64) -> Result<(), NoMemory
 fn push_protocol(out: &mut Vec<u8>, protocol: Protocol) -> Result<(), NoMemory>
     ensures { OnOk result (out.new.items ≡ out.old.items ++ protocol_title protocol) }
 {
-    match protocol {
-        Protocol::Msi => push_text(out, "<title>Snoop, MSI, "),
-        Protocol::Mesi => push_text(out, "<title>Snoop, MESI, "),
-    }
+    push_text(out, "<title>Snoop, ")?;
+    push_text(out, capitals(protocol))?;
+    push_text(out, ", ")
 }
 
 fn push_sheet_title(out: &mut Vec<u8>, protocol: Protocol, rows: u32) -> Result<(), NoMemory>

@@ -2,7 +2,8 @@
 ghost use Rattle.std.specs.Prelude.{◌≡◌};
 ghost use Rattle.snoop_svg.specs.Layout.{AreNarrow, sizes_for};
 
-use snoop_draw::{digits, most_stored, values_width};
+use snoop_draw::values_width;
+use snoop_engine::{count_digits, most_stored};
 use snoop_trace::{Shape, Step};
 
 /// The sizes of a drawing, in pixels: where the numbers of steps end, their records and the panels begin, how wide a
@@ -25,11 +26,11 @@ pub(crate) fn sizes_for(shape: Shape, steps: &[Step]) -> Sizes
 {
     shape.within_limits();
     let values = values_width(shape, steps) as u32;
-    let cores = digits(shape.cores() as u64) as u32;
-    let blocks = digits(shape.blocks() as u64) as u32;
-    let bytes = digits(shape.blocks() as u64 * shape.block_bytes() as u64) as u32;
-    let stored = digits(most_stored(steps)) as u32;
-    let numbers = 12 + 8 * digits(steps.len() as u64) as u32;
+    let cores = count_digits(shape.cores() as u64) as u32;
+    let blocks = count_digits(shape.blocks() as u64) as u32;
+    let bytes = count_digits(shape.blocks() as u64 * shape.block_bytes() as u64) as u32;
+    let stored = count_digits(most_stored(steps)) as u32;
+    let numbers = 12 + 8 * count_digits(steps.len() as u64) as u32;
     let records = numbers + 12;
     Sizes {
         numbers,

@@ -1,7 +1,6 @@
 //! Whole drawings. The expected texts are those of the second reading, which follows docs/DRAWING.md alone.
 
-use snoop_draw::Choice;
-use snoop_engine::Input;
+use snoop_engine::{Choice, Input};
 use snoop_svg::{Form, Paper, Theme, simulate_svg};
 use snoop_trace::{Protocol, Shape};
 use std::alloc::Global;
@@ -262,8 +261,10 @@ const BEHIND_DRAWN: &str = "<!DOCTYPE html>
 body{margin:0 0 12em;font:12px ui-monospace,Menlo,Consolas,\"DejaVu Sans Mono\",monospace}
 svg{display:block;margin:0 0 24px;break-inside:avoid}
 svg:has(a:target)~svg a{opacity:.12}
+html{scroll-padding:56px 0 11em}
+#names{position:sticky;top:0;z-index:1;margin-bottom:-56px;box-shadow:0 1px #808080}
 pre{position:fixed;left:0;right:0;bottom:0;margin:0;padding:10px 12px;max-height:11em;overflow:auto;background:Canvas;border-top:2px solid;font-size:14px}
-@media print{pre{display:none}body,svg{margin:0}svg{width:auto;height:auto;max-width:100%;max-height:100vh}}
+@media print{pre,#names{display:none}body,svg{margin:0}svg{width:auto;height:auto;max-width:100%;max-height:100vh}}
 text{font:12px ui-monospace,Menlo,Consolas,\"DejaVu Sans Mono\",\"Liberation Mono\",monospace;fill:#1a1a1a}
 .paper{fill:#fff}.h,.l{stroke:#d0d0d0}.j{stroke:#808080;stroke-dasharray:1 5}
 .w{fill:#f0a050}.c{fill:#fbdcb4}.r{fill:#b5d8f0}.m{fill:#cfe6dc}.bus{fill:#f2f2f2}.b{fill:#d9d2e9}
@@ -414,12 +415,28 @@ core 1: IS_D,Data,fill load,S</title>
 <pre aria-live=\"polite\">Click a row, or go through the steps with the arrow keys. Esc shows the whole run.</pre>
 <script>
 const rows = [...document.querySelectorAll(\"a[id]\")], notes = document.querySelector(\"pre\");
+const sheet = document.querySelector(\"svg\"), names = sheet.cloneNode();
+names.id = \"names\";
+names.setAttribute(\"height\", 56);
+names.setAttribute(\"viewBox\", `0 0 ${names.getAttribute(\"width\")} 56`);
+names.setAttribute(\"aria-hidden\", true);
+for (const part of sheet.children) {
+  if (part.matches(\".paper\") || part.matches(\"text\") && part.getAttribute(\"y\") < 56) names.append(part.cloneNode(true));
+}
+document.body.prepend(names);
 const at = () => rows.findIndex(row => \"#\" + row.id === location.hash);
 function show() {
   const row = rows[at()];
   if (!row) return;
   notes.textContent = row.querySelector(\"title\").textContent;
   row.scrollIntoView({block: \"center\"});
+  const marks = [...row.querySelectorAll(\".o,.a,.i,.x,.p,.g,.v\")].map(mark => mark.getBoundingClientRect());
+  if (!marks.length) return;
+  const left = Math.min(...marks.map(mark => mark.left)), right = Math.max(...marks.map(mark => mark.right));
+  const panels = [...names.querySelectorAll(\".t\"), row.querySelectorAll(\"text\")[2]].map(text => text.getBoundingClientRect().left);
+  const start = Math.max(...panels.filter(x => x <= left)), end = Math.min(...panels.filter(x => x > left));
+  const wide = document.documentElement.clientWidth, [from, to] = end - start > wide ? [left - 48, right + 48] : [start, end];
+  scrollBy(from < 0 || to - from > wide ? from : Math.max(0, to - wide), 0);
 }
 addEventListener(\"hashchange\", show);
 addEventListener(\"keydown\", event => {
@@ -429,7 +446,7 @@ addEventListener(\"keydown\", event => {
   event.preventDefault();
   location.hash = rows[Math.max(0, Math.min(rows.length - 1, at() + by))].id;
 });
-show();
+addEventListener(\"load\", show);
 </script>
 </body>
 </html>
@@ -445,8 +462,10 @@ const SHEETS_DRAWN: &str = "<!DOCTYPE html>
 body{margin:0 0 12em;font:12px ui-monospace,Menlo,Consolas,\"DejaVu Sans Mono\",monospace}
 svg{display:block;margin:0 0 24px;break-inside:avoid}
 svg:has(a:target)~svg a{opacity:.12}
+html{scroll-padding:56px 0 11em}
+#names{position:sticky;top:0;z-index:1;margin-bottom:-56px;box-shadow:0 1px #808080}
 pre{position:fixed;left:0;right:0;bottom:0;margin:0;padding:10px 12px;max-height:11em;overflow:auto;background:Canvas;border-top:2px solid;font-size:14px}
-@media print{pre{display:none}body,svg{margin:0}svg{width:auto;height:auto;max-width:100%;max-height:100vh}}
+@media print{pre,#names{display:none}body,svg{margin:0}svg{width:auto;height:auto;max-width:100%;max-height:100vh}}
 text{font:12px ui-monospace,Menlo,Consolas,\"DejaVu Sans Mono\",\"Liberation Mono\",monospace;fill:#1a1a1a}
 .paper{fill:#fff}.h,.l{stroke:#d0d0d0}.j{stroke:#808080;stroke-dasharray:1 5}
 .w{fill:#f0a050}.c{fill:#fbdcb4}.r{fill:#b5d8f0}.m{fill:#cfe6dc}.bus{fill:#f2f2f2}.b{fill:#d9d2e9}
@@ -722,12 +741,28 @@ a:focus{outline:none}a:focus .y{stroke:#1a1a1a;stroke-width:2}a:target .y{fill:#
 <pre aria-live=\"polite\">Click a row, or go through the steps with the arrow keys. Esc shows the whole run.</pre>
 <script>
 const rows = [...document.querySelectorAll(\"a[id]\")], notes = document.querySelector(\"pre\");
+const sheet = document.querySelector(\"svg\"), names = sheet.cloneNode();
+names.id = \"names\";
+names.setAttribute(\"height\", 56);
+names.setAttribute(\"viewBox\", `0 0 ${names.getAttribute(\"width\")} 56`);
+names.setAttribute(\"aria-hidden\", true);
+for (const part of sheet.children) {
+  if (part.matches(\".paper\") || part.matches(\"text\") && part.getAttribute(\"y\") < 56) names.append(part.cloneNode(true));
+}
+document.body.prepend(names);
 const at = () => rows.findIndex(row => \"#\" + row.id === location.hash);
 function show() {
   const row = rows[at()];
   if (!row) return;
   notes.textContent = row.querySelector(\"title\").textContent;
   row.scrollIntoView({block: \"center\"});
+  const marks = [...row.querySelectorAll(\".o,.a,.i,.x,.p,.g,.v\")].map(mark => mark.getBoundingClientRect());
+  if (!marks.length) return;
+  const left = Math.min(...marks.map(mark => mark.left)), right = Math.max(...marks.map(mark => mark.right));
+  const panels = [...names.querySelectorAll(\".t\"), row.querySelectorAll(\"text\")[2]].map(text => text.getBoundingClientRect().left);
+  const start = Math.max(...panels.filter(x => x <= left)), end = Math.min(...panels.filter(x => x > left));
+  const wide = document.documentElement.clientWidth, [from, to] = end - start > wide ? [left - 48, right + 48] : [start, end];
+  scrollBy(from < 0 || to - from > wide ? from : Math.max(0, to - wide), 0);
 }
 addEventListener(\"hashchange\", show);
 addEventListener(\"keydown\", event => {
@@ -737,7 +772,7 @@ addEventListener(\"keydown\", event => {
   event.preventDefault();
   location.hash = rows[Math.max(0, Math.min(rows.length - 1, at() + by))].id;
 });
-show();
+addEventListener(\"load\", show);
 </script>
 </body>
 </html>

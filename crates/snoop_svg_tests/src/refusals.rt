@@ -1,7 +1,7 @@
 //! What is refused.
 
-use snoop_draw::{Choice, DrawFault};
-use snoop_engine::{Input, SimFault};
+use snoop_draw::DrawFault;
+use snoop_engine::{Choice, Input, SimFault};
 use snoop_svg::{Form, Paper, Theme, simulate_svg};
 use snoop_trace::{Protocol, Shape, TextFault};
 use std::alloc::Global;

@@ -8,7 +8,7 @@ loop-number-preserved c =
     let number : List ℕ = c.args.word.now ++ decimal (get_or c.args.numbers.now c.loop-number.number-index 0) in
     piece_more (λ m. codes ", " ++ c.args.word.now ++ decimal m) c.args.numbers.now c.loop-number.number-index 0 c.args.out.now.items c.loop-number.out.items c.push_numbered.new.out.items
     c.loop-number-test.true c.loop-number.invariant
-    (c.in_ok-push_numbered.ensures ∙ ap (λ (t : List ℕ). t ++ number) c.in_ok-push_text.ensures.ok ∙ append_assoc c.loop-number.out.items (codes ", ") number)
+    (c.in_ok-push_numbered.ensures.ok ∙ ap (λ (t : List ℕ). t ++ number) c.in_ok-push_text.ensures.ok ∙ append_assoc c.loop-number.out.items (codes ", ") number)
 
 pub returns : goal.returns
 returns c =

@@ -22,6 +22,6 @@ pub returns-in_ok-push_numbered-in-len1-up : goal.returns-in_ok-push_numbered-in
 returns-in_ok-push_numbered-in-len1-up c =
     rw (some_listed c.args.none.now c.args.intro.now c.args.word.now c.args.numbers.now c.in-len1-up.len_at_least)
     (on_ok_weaker c.push_further.result
-    (λ e. four c.args.out.now.items c.args.intro.now c.args.word.now _ _ _ _ _ c.in_ok-push_text-in-len1-up.ensures.ok c.in_ok-push_numbered-in-len1-up.ensures
+    (λ e. four c.args.out.now.items c.args.intro.now c.args.word.now _ _ _ _ _ c.in_ok-push_text-in-len1-up.ensures.ok c.in_ok-push_numbered-in-len1-up.ensures.ok
     (e ∙ ap (λ (l : List ℕ). c.push_numbered.new.out.items ++ flat_map (λ m. codes ", " ++ c.args.word.now ++ decimal m) l) (rest_whole c.args.numbers.now)))
     c.push_further.ensures)

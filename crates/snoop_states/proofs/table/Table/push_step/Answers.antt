@@ -13,7 +13,7 @@ returns c columns above has =
       record {
         cells = row.0.cells;
         rows = row_then c.args.self.now.rows.items (cells_text c.args.widths columns above (cell_text s c.args.block) c.args.number) (line_text s.shape c.args.step c.args.outcome) _ _
-            row.0.rows (c.in_ok-push_line.ensures ∙ ap (λ (e : Extent). c.push_row.new.self.rows.items ++ line_text e c.args.step c.args.outcome) c.shape.ensures);
+            row.0.rows (c.in_ok-push_line.ensures.ok ∙ ap (λ (e : Extent). c.push_row.new.self.rows.items ++ line_text e c.args.step c.args.outcome) c.shape.ensures);
       },
       refl,
     )

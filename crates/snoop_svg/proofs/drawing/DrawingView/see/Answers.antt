@@ -6,11 +6,11 @@ use Rattle.snoop_engine.specs.Taken.{lines_of}
 use Rattle.snoop_engine.specs.Views.{block_of, frame_seen}
 use Rattle.snoop_engine.specs.declared.taken.Taken.{Taken}
 use Rattle.snoop_engine.specs.Frames.{Frame}
-use Rattle.snoop_draw.specs.Choices.{Chosen}
-use Rattle.snoop_draw.specs.Drawings.{is_drawn}
+use Rattle.snoop_engine.specs.Chosen.{Chosen, is_shown}
+use Rattle.snoop_engine.proofs.NumberedLemmas.{numbered}
 use Rattle.snoop_svg.specs.Drawings.{HasSeen, StandsBelow, drawn, frame_text, has_row, placed_row, rows_per_sheet, standing, turn_text}
 use Rattle.snoop_svg.specs.Sheets.{Plan, Standing, first_row, row_text, row_y}
-use Rattle.snoop_svg.proofs.DrawnLemmas.{after, numbered}
+use Rattle.snoop_svg.proofs.DrawnLemmas.{after}
 use Rattle.snoop_svg.proofs.SeenLemmas.{row_blank, row_shown, seen_blank, seen_drawn, seen_start, seen_stays, shown_rows, stands_above, text_drawn, text_start, text_stays}
 use Rattle.snoop_svg.proofs.TextLemmas.{on_ok_any, on_ok_three, on_ok_two}
 use Rattle.snoop_svg.proofs.drawing.DrawingView.see.Goals as goal
@@ -35,8 +35,8 @@ returns-then-is_first_after c first frames before has next =
     ))
     c.start.ensures.below c.start.ensures.text
 
-pub returns-then-has : goal.returns-then-has
-returns-then-has c first frames before has next =
+pub returns-then-has_step : goal.returns-then-has_step
+returns-then-has_step c first frames before has next =
     let s = c.args.machine.now.situation in
     let old = c.args.self.now in
     let new = c.push_drawn.new.self in
@@ -45,8 +45,8 @@ returns-then-has c first frames before has next =
     let frame : Frame = frame_seen before seen s in
     let number : seen.number ≡ 1 + length frames = next.number in
     let on : has_row old.plan.choice (numbered (1 + length frames) frame) ≡ true =
-    ap (λ (n : ℕ). is_drawn old.plan.choice n (block_of before seen.step)) (sym number) ∙ ap (λ (of : Option ℕ). is_drawn old.plan.choice seen.number of) (sym next.block)
-    ∙ ap (λ (choice : Chosen). is_drawn choice seen.number seen.block) (sym c.choice-choice.ensures) ∙ sym c.has.ensures ∙ c.if-has.true in
+    ap (is_shown old.plan.choice (block_of before seen.step)) (sym number) ∙ ap (λ (of : Option ℕ). is_shown old.plan.choice of seen.number) (sym next.block)
+    ∙ ap (λ (choice : Chosen). is_shown choice seen.block seen.number) (sym c.choice-choice.ensures) ∙ sym c.has_step.ensures ∙ c.if-has_step.true in
     let first_on : has_row first.plan.choice (numbered (1 + length frames) frame) ≡ true = ap (λ (plan : Plan). has_row plan.choice (numbered (1 + length frames) frame)) (sym has.plan) ∙ on in
     let other : first.plan.choice.from ≡ 2 + length frames → ⊥ =
     λ from. absurd (let e : seen.number + 1 ≡ old.plan.choice.from = omega (arith, ap (λ (plan : Plan). plan.choice.from) has.plan) in
@@ -88,8 +88,8 @@ returns-then-has c first frames before has next =
           )
     ]
 
-pub returns-else-has : goal.returns-else-has
-returns-else-has c first frames before has next =
+pub returns-else-has_step : goal.returns-else-has_step
+returns-else-has_step c first frames before has next =
     let s = c.args.machine.now.situation in
     let old = c.args.self.now in
     let seen = c.args.seen in
@@ -97,8 +97,8 @@ returns-else-has c first frames before has next =
     let frame : Frame = frame_seen before seen s in
     let number : seen.number ≡ 1 + length frames = next.number in
     let off : has_row old.plan.choice (numbered (1 + length frames) frame) ≡ false =
-    ap (λ (n : ℕ). is_drawn old.plan.choice n (block_of before seen.step)) (sym number) ∙ ap (λ (of : Option ℕ). is_drawn old.plan.choice seen.number of) (sym next.block)
-    ∙ ap (λ (choice : Chosen). is_drawn choice seen.number seen.block) (sym c.choice-choice.ensures) ∙ sym c.has.ensures ∙ c.if-has.false in
+    ap (is_shown old.plan.choice (block_of before seen.step)) (sym number) ∙ ap (λ (of : Option ℕ). is_shown old.plan.choice of seen.number) (sym next.block)
+    ∙ ap (λ (choice : Chosen). is_shown choice seen.block seen.number) (sym c.choice-choice.ensures) ∙ sym c.has_step.ensures ∙ c.if-has_step.false in
     let other : old.plan.choice.from ≡ 2 + length frames → ⊥ =
     λ from. absurd (let e : seen.number + 1 ≡ old.plan.choice.from = omega arith in
     let test : c.is_first_after.result ≡ true = c.is_first_after.ensures ∙ ap (λ (choice : Chosen). seen.number + 1 == choice.from) c.choice-choice.ensures ∙ eq-eqb (seen.number + 1) old.plan.choice.from e in

@@ -1,0 +1,34 @@
+-- Frames with their numbers, when one frame more is seen, and which of them are shown.
+use Rattle.std.proofs.Common.{◌≡◌, ℕ, ◌+◌, true, false, List, [], ◌∷◌, ◌++◌, Option, Some, None, length, refl, ap, ◌∙◌, arith}
+use Rattle.std.specs.Prelude.{is_none}
+use Rattle.std.proofs.lemmas.Bool.{and_left, and_parts}
+use Rattle.snoop_model.specs.Pictures.Situation.{Situation}
+use Rattle.snoop_engine.specs.Chosen.{Chosen, is_chosen, is_shown, is_within}
+use Rattle.snoop_engine.specs.Frames.{Frame}
+use Rattle.snoop_engine.specs.Numbered.{Numbered, led_to, numbered_from}
+
+-- a frame with its number
+abbrev pub numbered : ℕ → Frame → Numbered
+numbered number frame = record { number = number; frame = frame }
+
+-- one frame more
+pub numbered_on : (number : ℕ) (frames : List Frame) (frame : Frame) → numbered_from number (frames ++ frame ∷ []) ≡ numbered_from number frames ++ numbered (number + length frames) frame ∷ []
+numbered_on number [] frame = let e : number ≡ number + 0 = omega arith in ap (λ (n : ℕ). numbered n frame ∷ []) e
+numbered_on number (f ∷ fs) frame =
+    let e : number + 1 + length fs ≡ number + length (f ∷ fs) = omega arith in
+    ap (λ (l : List Numbered). numbered number f ∷ l) (numbered_on (number + 1) fs frame ∙ ap (λ (n : ℕ). numbered_from (number + 1) fs ++ numbered n frame ∷ []) e)
+
+-- where one frame more leads
+pub led_on : (here : Situation) (frames : List Frame) (frame : Frame) → led_to here (frames ++ frame ∷ []) ≡ frame.after
+led_on here [] frame = refl
+led_on here (f ∷ fs) frame = led_on f.after fs frame
+
+-- a step whose number is not chosen is not shown
+pub not_within : (choice : Chosen) (of : Option ℕ) (number : ℕ) → is_within choice number ≡ false → is_shown choice of number ≡ false
+not_within choice None number off = and_left (is_within choice number) (is_none choice.block) off
+not_within choice (Some block) number off = and_left (is_within choice number) (is_chosen choice.block block) off
+
+-- and the number of one that is shown is chosen
+pub within_of_shown : (choice : Chosen) (of : Option ℕ) (number : ℕ) → is_shown choice of number ≡ true → is_within choice number ≡ true
+within_of_shown choice None number on = (and_parts (is_within choice number) (is_none choice.block) on).0
+within_of_shown choice (Some block) number on = (and_parts (is_within choice number) (is_chosen choice.block block) on).0

@@ -1,9 +1,0 @@
-use Rattle.std.proofs.Common.{◌≡◌, ◌++◌}
-use Rattle.std.specs.List.{flat_map, range_with_len}
-use Rattle.snoop_engine.specs.States.{kept_at}
-use Rattle.snoop_states.specs.Cells.{value_after_blank}
-use Rattle.snoop_states.proofs.cells.push_kept.Given as goal
-
--- the values so far
-abbrev pub invariant-loop-word : goal.invariant-loop-word
-invariant-loop-word l = l.out.items ≡ l.fn.out.items ++ flat_map (λ word. value_after_blank (kept_at l.machine.situation l.core l.block word)) (range_with_len 0 l.word)
