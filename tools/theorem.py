@@ -75,8 +75,8 @@ The history has operations in the order in which they are performed, at a hit or
 came. That need not be the order in which a core asked: while its store to a block waits for its
 request, a load of the block may hit, and reads what was there before the store. Nothing is said of
 the order of one core's operations on different blocks, of time, nor that a request is ever ordered
-or answered. Who sends a message is part of a move; the target that a row names is not looked at, as
-memory takes the data where it waits for it (`takes_payload`).
+or answered. Who sends a message is part of a move; the target that a row names is not looked at:
+memory takes the message of a PutM, and another's where its state waits for one (`takes_payload`).
 
 That the code takes such steps and no others is what `Machine::step` and `run_steps` promise
 (docs/PROVED.md), and why all this holds is in docs/COHERENCE.md. `tools/theorem.py --write` makes
@@ -92,8 +92,8 @@ fields; with no `s` all of them stand there. `x.log` is a field. `{{A : Type 0}}
 other arguments tell. A member of a type may stand with a short name of its type before it, as
 `op.Load`, `state.ImAd`, `mem.IorS` or `reply.Hit`, and what it carries follows it in order, as in
 `Ask core block word op`; `Nothing` is a controller's `None`. Each cache is a controller, and memory
-is one; a row is a cell of a controller's table, and a cell is impossible where the table has none.
-The log is the history.
+is one. A row is what a controller's table has for a state and an event; where it has none, the cell
+is impossible. The log is the history.
 
 `A × B` is "A and B", `(x : T) × P` "there is an x with P", `(x : T) → P` "P for every x", `A → B`
 "if A then B", `¬ A` "not A", `⊥` what never holds, and `λ x. ..` a function of x.
