@@ -1,10 +1,11 @@
 //! The cores that may hold something of a block.
-ghost use Rattle.std.specs.Prelude.{◌≡◌, ◌≤◌, IfOk, Ok};
+ghost use Rattle.std.specs.Prelude.{◌≡◌, ◌≤◌, ◌<◌, IfOk, Ok, length};
 ghost use Rattle.snoop_trace.specs.Extent.{Extent};
 ghost use Rattle.snoop_trace.specs.declared.protocol.Protocol.{Protocol};
 ghost use Rattle.snoop_model.specs.declared.replies.Reply.{Reply as Answer};
 ghost use Rattle.snoop_model.specs.Pictures.Situation.{Situation, reset};
 ghost use Rattle.snoop_model.specs.Runs.Run.{GoesFirst};
+ghost use Rattle.snoop_blocks.specs.CoreSet.{set_of};
 ghost use Rattle.snoop_engine.specs.Askers.{AreAskers, AreOthersInI};
 
 use snoop_blocks::{BlockTable, CoreSet};
@@ -56,7 +57,8 @@ impl Askers {
 
     /// Leaves these cores for the block; all others are in I.
     pub(crate) fn leave(&mut self, block: u32, cores: CoreSet)
-        ensures { (s : Situation) → AreAskers s self.old.sets → AreOthersInI s block cores → AreAskers s self.new.sets }
+        ensures askers { (s : Situation) → AreAskers s self.old.sets → AreOthersInI s block cores → AreAskers s self.new.sets }
+        ensures left { block < length self.old.sets → set_of self.new.sets block ≡ cores }
     {
         if self.sets.get(block).is_some() {
             self.sets.set(block, cores);

@@ -4,7 +4,7 @@ ghost use Rattle.std.specs.List.{flat_map, range_with_len};
 ghost use Rattle.std.specs.Option.{option_map_or};
 ghost use Rattle.snoop_rules.specs.declared.names.CacheState.TheVariants.{I};
 ghost use Rattle.snoop_rules.specs.Takers.{seen_by};
-ghost use Rattle.snoop_blocks.specs.CoreSet.{has};
+ghost use Rattle.snoop_blocks.specs.CoreSet.{has, set_of};
 ghost use Rattle.snoop_model.specs.Moves.Refuses.{Refuses};
 ghost use Rattle.snoop_model.specs.Runs.Run.{GoesFirst};
 ghost use Rattle.snoop_model.specs.declared.replies.Refused.{Refused as Cause};
@@ -163,6 +163,8 @@ fn add_holder_in(
     requires { core < 256 }
     ensures lines { OnOk result (lines.new.items ≡ lines.old.items ++ option_map_or (λ before. unless_i before (Line.Core core block (Some (seen_by core requestor request)) before)) held []) }
     ensures others { (k : ℕ) → has cores.new k ≡ false → (has cores.old k ≡ false) ⊎ ((k ≡ core) × (held ≡ Some I)) }
+    ensures fewer { (k : ℕ) → has cores.old k ≡ false → has cores.new k ≡ false }
+    ensures gone { held ≡ Some I → has cores.new core ≡ false }
 {
     match held {
         None => Ok(()),
@@ -199,6 +201,8 @@ fn add_holder(
     requires { core < 256 }
     ensures lines { OnOk result (lines.new.items ≡ lines.old.items ++ of_holder machine.now.situation requestor block request core) }
     ensures others { AreOthersInI machine.now.situation block cores.old → AreOthersInI machine.now.situation block cores.new }
+    ensures fewer { (k : ℕ) → has cores.old k ≡ false → has cores.new k ≡ false }
+    ensures gone { state_at machine.now.situation core block ≡ Some I → has cores.new core ≡ false }
 {
     let held = state_at(machine, core, block);
     add_holder_in(lines, held, cores, requestor, block, request, core)
@@ -215,6 +219,7 @@ fn add_holders(
     requires { AreAskers machine.now.situation askers.old.sets }
     ensures lines { OnOk result (lines.new.items ≡ lines.old.items ++ flat_map (of_holder machine.now.situation requestor block request) (range_with_len 0 machine.now.situation.shape.cores)) }
     ensures askers { AreAskers machine.now.situation askers.new.sets }
+    ensures gone { OnOk result (block < machine.now.situation.shape.blocks → (core : ℕ) → state_at machine.now.situation core block ≡ Some I → has (set_of askers.new.sets block) core ≡ false) }
 {
     let mut cores = askers.of(block);
     let mut from = 0;

@@ -12,3 +12,6 @@ returns-clause-others c = λ others k out.
       | inl was ↦ others k was
       | inr found ↦ subst (λ (j : ℕ). state_of s j c.args.block ≡ I) (sym found.0) (found_in_i s c.args.core c.args.block (sym c.state_at-held.ensures ∙ found.1))
     ]
+
+pub returns-clause-gone : goal.returns-clause-gone
+returns-clause-gone c = λ is. c.add_holder_in.ensures.gone (c.state_at-held.ensures ∙ is)

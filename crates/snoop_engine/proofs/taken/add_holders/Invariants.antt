@@ -1,14 +1,18 @@
-use Rattle.std.proofs.Common.{◌≡◌, ◌++◌, ◌≤◌, ◌-◌}
+use Rattle.std.proofs.Common.{◌≡◌, ◌++◌, ◌≤◌, ◌-◌, ℕ, false, Some}
+use Rattle.std.specs.Prelude.{◌<◌}
 use Rattle.std.specs.List.{flat_map, range_with_len}
+use Rattle.snoop_blocks.specs.CoreSet.{has}
+use Rattle.snoop_rules.specs.declared.names.CacheState.TheVariants.{I}
 use Rattle.snoop_engine.specs.Askers.{AreOthersInI}
-use Rattle.snoop_engine.specs.Taken.{of_holder}
+use Rattle.snoop_engine.specs.Taken.{of_holder, state_at}
 use Rattle.snoop_engine.proofs.taken.add_holders.Given as goal
 
--- the lines of the cores so far; the others of the block are in I
+-- the lines of the cores so far, of which none in I is left; the others of the block are in I
 abbrev pub invariant-loop-core : goal.invariant-loop-core
 invariant-loop-core l =
     (l.lines.items ≡ l.fn.lines.items ++ flat_map (of_holder l.machine.situation l.requestor l.block l.request) (range_with_len 0 l.from))
     × AreOthersInI l.machine.situation l.block l.cores × (l.from ≤ 256)
+    × ((k : ℕ) → k < l.from → state_at l.machine.situation k l.block ≡ Some I → has l.cores k ≡ false)
 
 abbrev pub decreases-loop-core : goal.decreases-loop-core
 decreases-loop-core l = 256 - l.from
