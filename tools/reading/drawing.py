@@ -135,8 +135,7 @@ def as_text(options, text):
 
     def head(block, cores):
         begins = block * options.block_bytes
-        wide = len(cores) * (widths.core + 6) + widths.bus + widths.memory + 7
-        return f"block {block} (bytes {begins} to {begins + options.block_bytes - 1})".ljust(wide)
+        return f"block {block} (bytes {begins} to {begins + options.block_bytes - 1})".ljust(len(names(cores)))
 
     def names(cores):
         return panel(widths, [Cell(" ", f"core {core}", " ") for core in cores], None, " ", " ", "bus", "  ", "memory")
