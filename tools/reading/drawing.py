@@ -36,7 +36,7 @@ def widths_of(options, given):
     values = options.words * (pictures.digits_of_values(given) + 1) - 1
     blocks = len(pictures.asking(options, given))
     place = len(f" #{blocks}") if blocks > 1 else 0
-    return Widths(max(4, len(str(len(given)))), 6 + values + place, 14 + len(str(options.cores)) + values, 9 + values)
+    return Widths(max(4, len(str(len(given)))), max(6 + values + place, len(f"core {options.cores}")), 14 + len(str(options.cores)) + values, 9 + values)
 
 
 def field(width, words, fill=" "):
@@ -135,7 +135,8 @@ def as_text(options, text):
 
     def head(block, cores):
         begins = block * options.block_bytes
-        return f"block {block} (bytes {begins} to {begins + options.block_bytes - 1})".ljust(len(names(cores)))
+        wide = len(cores) * (widths.core + 6) + widths.bus + widths.memory + 7
+        return f"block {block} (bytes {begins} to {begins + options.block_bytes - 1})".ljust(wide)
 
     def names(cores):
         return panel(widths, [Cell(" ", f"core {core}", " ") for core in cores], None, " ", " ", "bus", "  ", "memory")

@@ -70,7 +70,7 @@ is_overtaking MiA OtherGetS = true
 is_overtaking MiA OtherGetM = true
 is_overtaking _ _ = false
 
--- one of these
+-- a row of one of these kinds
 abbrev pub is_some_row : CacheState → CacheEvent → Bool
 is_some_row state event =
     is_miss state event || is_upgrade state event || is_lost_upgrade state event || is_invalidation state event || is_taking state event || is_downgrade state event || is_overtaking state event

@@ -15,12 +15,12 @@ values_width shape steps = shape.words * (digits (most_stored steps) + 1) - 1
 abbrev pub place_width : ℕ → ℕ
 place_width blocks = if nat_lt blocks 2 then 0 else 2 + digits blocks
 
--- the number of the last step, or the word step; `SM_AD VALUES #PLACE`; `CCORE GetS: DataE VALUES`; `IorS_D (VALUES)`
+-- the number of the last step, or the word step; `SM_AD VALUES #PLACE`, or the name `core CORE`; `CCORE GetS: DataE VALUES`; `IorS_D (VALUES)`
 abbrev pub widths_of : Extent → List Step → ℕ → Widths
 widths_of shape steps blocks =
     record {
       number = max (digits (length steps)) 4;
-      core = 6 + values_width shape steps + place_width blocks;
+      core = max (6 + values_width shape steps + place_width blocks) (5 + digits shape.cores);
       bus = 14 + values_width shape steps + digits shape.cores;
       memory = 9 + values_width shape steps;
     }

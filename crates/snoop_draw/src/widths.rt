@@ -51,10 +51,11 @@ fn widths_of(shape: Shape, steps: &[Step], blocks: u64) -> Widths
     ensures { result ≡ widths_of shape steps.now blocks }
 {
     let values = values_width(shape, steps);
+    let cores = count_digits(shape.cores() as u64);
     Widths {
         number: count_digits(steps.len() as u64).max(4),
-        core: 6 + values + place_width(blocks),
-        bus: 14 + values + count_digits(shape.cores() as u64),
+        core: (6 + values + place_width(blocks)).max(5 + cores),
+        bus: 14 + values + cores,
         memory: 9 + values,
     }
 }

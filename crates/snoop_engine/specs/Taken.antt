@@ -81,7 +81,7 @@ pub record IsTransfer (opened : Open) (core : ℕ) (request : Request) (payload 
   pub requests : opened.request ≡ request
   pub sends : opened.payload ≡ payload
 
--- the requestor meets what comes to it; at a PutM nothing does
+-- the requestor meets what comes to it; after a PutM nothing comes
 abbrev pub of_requestor : Request → Situation → ℕ → Open → List Taken
 of_requestor PutM s block opened = []
 of_requestor GetS s block opened = of_arrival s opened.core block (arrival opened.payload)

@@ -59,7 +59,7 @@ abbrev pub message_words : ℕ → Open → List ℕ
 message_words count opened =
     codes "C" ++ decimal opened.core ++ codes " " ++ request_name opened.request ++ codes ": " ++ payload_name opened.payload ++ carried_words count opened.payload opened.value
 
--- memory would send its values to a core that asks
+-- in this state memory sends its values to a core that asks
 abbrev pub answers : MemState → Bool
 answers IorS = true
 answers I = true

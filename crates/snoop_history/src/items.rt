@@ -46,7 +46,7 @@ pub struct Came {
     pub payload: Payload,
 }
 
-/// What one step adds to a history; most steps add none.
+/// What one step adds to a history, if it adds an item.
 #[derive(Clone, Copy, Debug, PartialEq, Eq)]
 pub enum Item {
     /// A hit.

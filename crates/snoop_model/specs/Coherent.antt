@@ -52,7 +52,7 @@ pub record IsCoherent (s : Situation) : Type 0 where
   -- an open transaction is on such a line, and a Respond taken next closes it and leaves memory as the line says
   pub on_table : (block : ℕ) → IfSome (picture_of s block).transaction (IsOpenByTable s block)
 
--- what holds of a run from reset: these steps, with these outcomes, have led a machine of this protocol and shape to this situation
+-- what holds where these steps, with these outcomes, have led a machine of this protocol and shape from reset to this situation
 pub record IsCoherentRun (protocol : Protocol) (shape : Extent) (steps : List Step) (outcomes : List (Result Reply Refused)) (s : Situation) : Type 0 where
   -- it has the protocol and the shape still
   pub stays : (s.protocol ≡ protocol) × (s.shape ≡ shape)

@@ -11,7 +11,7 @@ use Rattle.snoop_states.specs.declared.column.Column.TheVariants.{Core, Bus, Mem
 abbrev pub bus_cell : Situation → ℕ → List ℕ
 bus_cell s block = option_map_or (message_words s.shape.words) (picture_of s block).transaction (codes "free")
 
--- what stands in a column; a core says each place of its request in its queue, from the first on
+-- what stands in a column; a core's place in the queue is said from 1 on
 abbrev pub cell_text : Situation → ℕ → Column → List ℕ
 cell_text s block (Core core) = core_words 1 s block core
 cell_text s block Bus = bus_cell s block

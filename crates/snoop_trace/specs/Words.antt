@@ -34,7 +34,7 @@ padded n values = values ++ replicate (64 - n) 0
 pub taken-padded : (n : ℕ) (values : List ℕ) → length values ≡ n → take n (padded n values) ≡ values
 taken-padded n values long = rw (← long) (take-append_seam values (replicate (64 - length values) 0))
 
--- a word that blocks of the shape have: below their number of words, and so one of the places, as no shape has more words
+-- a word that blocks of the shape have: below their number of words, and one of the places for words
 abbrev pub IsWord : Extent → ℕ → Type 0
 IsWord shape word = (word < shape.words) × (word < word_places)
 

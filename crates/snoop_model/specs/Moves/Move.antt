@@ -75,7 +75,7 @@ pub record Hits (next : CacheState) (old new : Line) (word : ℕ) (asking : Op) 
 abbrev pub TakesRow : Protocol → CacheEvent → Line → Line → Type 0
 TakesRow protocol event old new = (row : CacheCell) × (cell_of protocol old.state event ≡ Some row) × (new ≡ moves_to row.next old)
 
--- each core does
+-- each core takes its row for the request
 pub record TakesRows (protocol : Protocol) (core : ℕ) (request : Request) (old new : List Line) : Type 0 where
   pub same_length : length new ≡ length old
   pub rows : (k : ℕ) → k < length old → TakesRow protocol (seen_by k core request) (held_at old k) (held_at new k)
