@@ -1,7 +1,7 @@
 -- The places of a table: at first, and after one write.
-use Rattle.std.proofs.Common.{◌≡◌, ◌≢◌, ◌<◌, ◌≤◌, ◌+◌, ◌^◌, ℕ, zero, suc, List, [], ◌∷◌, ◌++◌, length, map, replicate, slice_index_or, slice_set, refl, sym, ◌∙◌, ap, subst, inl, inr, arith}
+use Rattle.std.proofs.Common.{◌≡◌, ◌≢◌, ◌<◌, ◌≤◌, ◌+◌, ◌^◌, ℕ, zero, suc, List, [], ◌∷◌, ◌++◌, length, replicate, slice_index_or, slice_set, refl, sym, ◌∙◌, ap, subst, inl, inr, arith}
 use Rattle.std.proofs.lemmas.Bool.{cases_eq}
-use Rattle.std.proofs.lemmas.List.{ext_get_or, get_or-map, get_or_push, get_or_append_left, get_or-set_same, get_or-set_other, get_or_past, get_or-replicate, length-set, length-map, length-replicate, length_push}
+use Rattle.std.proofs.lemmas.List.{ext_get_or, get_or-map, get_or_push, get_or_append_left, get_or-set_same, get_or-set_other, length-set, length-map, length-replicate, length_push}
 use Rattle.snoop_blocks.specs.Places.{value_at, seen, unwritten, ArePlaces}
 
 unwritten-new : (n : ℕ) → unwritten (replicate n 0) ≡ n
