@@ -66,8 +66,10 @@ enum Kind {
 /// An item in fewer bytes. A field that its kind does not need is 0.
 #[derive(Clone, Copy)]
 struct Packed {
-    number: u64,
     value: u64,
+    /// The number in five bytes.
+    number_low: u32,
+    number_high: u8,
     block: u16,
     core: u8,
     word: u8,
@@ -93,8 +95,9 @@ impl Packed {
 
     fn empty(kind: Kind, core: u32, block: u32) -> Packed {
         Packed {
-            number: 0,
             value: 0,
+            number_low: 0,
+            number_high: 0,
             block: block as u16,
             core: core as u8,
             word: 0,
@@ -110,8 +113,9 @@ impl Packed {
 
     fn of_operation(did: Did) -> Packed {
         Packed {
-            number: did.number,
             value: did.value,
+            number_low: did.number as u32,
+            number_high: (did.number >> 32) as u8,
             word: did.word as u8,
             load: did.load,
             hit: did.hit,
@@ -133,7 +137,7 @@ impl Packed {
         let core = u32::from(self.core);
         let block = u32::from(self.block);
         let did = Did {
-            number: self.number,
+            number: u64::from(self.number_low) | u64::from(self.number_high) << 32,
             core,
             block,
             word: u32::from(self.word),

@@ -13,13 +13,17 @@ use Rattle.snoop_history.specs.Within.{IsWithin, inside}
 use Rattle.snoop_history.specs.Totals.{totals_of, touched, capped, capped_totals}
 use Rattle.snoop_history.specs.Journal.{Journal}
 use Rattle.snoop_history.specs.Board.{Tables, board_of}
-use Rattle.snoop_history.specs.Packed.{unpacked}
+use Rattle.snoop_history.specs.Packed.{NumberFits, unpacked}
 use Rattle.snoop_history.specs.declared.packed.Packed.{Packed}
 use Rattle.snoop_history.specs.Kept.{IsKept}
-use Rattle.snoop_history.proofs.Pushed.{next_number-few, totals-few}
+use Rattle.snoop_history.proofs.Pushed.{next_number-few, next_number_le, totals-few}
 use Rattle.snoop_history.proofs.Legal.{listed-push}
 use Rattle.snoop_history.proofs.Boards.{inside_all, board_lengths}
 use Rattle.snoop_history.proofs.Touching.{all_places, touched_within}
+
+-- the number of an operation that may come next in a short list
+pub numbers_fit : (items : List Item) (entry : Item) → IsNumbered items entry → length items < 2 ^ 40 → NumberFits entry
+numbers_fit items entry numbered few did is = omega (arith, numbered did is, next_number_le items did.core, few)
 
 -- what a `get` found, read by a function of it
 pub read-at : {A B : Type 0} (now : B → A) (xs : List A) (place : ℕ) (got : Option B) (x : A) → is_some got ≡ nat_lt place (length xs) → IfSome got (λ y. now y ≡ get_or xs place (now y)) →
@@ -83,6 +87,7 @@ module _ {cores blocks words : ℕ} {items : List Item} {board : Tables} {order 
       record {
         core = omega arith;
         block = omega arith;
+        sender = λ core is. omega (arith, lies.sender core is);
         operation = λ did is. let p = lies.operation did is in (omega (arith, p.0), omega (arith, p.1), omega (arith, p.2));
       }
 

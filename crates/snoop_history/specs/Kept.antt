@@ -1,6 +1,6 @@
 -- What a log keeps.
 -- Source: this project's profile.
-use Rattle.std.specs.Prelude.{◌≡◌, ℕ, ◌≤◌, ◌-◌, List, length, map, take, Some, slice_get, vec_len, vec_capacity}
+use Rattle.std.specs.Prelude.{◌≡◌, ℕ, ◌≤◌, ◌-◌, ◌^◌, min, List, length, map, take, Some, slice_get, vec_len, vec_capacity}
 use Rattle.snoop_history.specs.declared.items.Item.{Item}
 use Rattle.snoop_history.specs.declared.log.Log.TheInside.{Inside}
 use Rattle.snoop_history.specs.History.{IsNumbered}
@@ -10,7 +10,7 @@ use Rattle.snoop_history.specs.Within.{IsWithin}
 use Rattle.snoop_history.specs.Packed.{unpacked}
 use Rattle.snoop_history.specs.Board.{Tables, board_of}
 
--- a log as callers see it
+-- a log as callers see it: there is room below its list's capacity and below the most items that a log has
 abbrev pub journal : Inside → Journal
 journal l =
     record {
@@ -18,7 +18,7 @@ journal l =
       blocks = l.board.blocks;
       words = l.board.words;
       items = map unpacked l.items.items;
-      room = vec_capacity l.items - vec_len l.items;
+      room = min (vec_capacity l.items) (2 ^ 40) - vec_len l.items;
     }
 
 -- each item lies within the shape, and its operation carries its core's next number

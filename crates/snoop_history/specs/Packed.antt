@@ -1,6 +1,9 @@
 -- The items that a log's packed items stand for.
 -- Source: this project's profile.
-use Rattle.std.specs.Prelude.{Bool, true, false, Some, None, if◌then◌else◌}
+use Rattle.std.specs.Prelude.{◌+◌, ◌*◌, ◌^◌, ◌<◌, Bool, true, false, Some, None, if◌then◌else◌}
+use Rattle.std.specs.Option.{ForSome}
+use Rattle.snoop_rules.specs.declared.names.Payload.{Payload}
+use Rattle.snoop_rules.specs.declared.names.Payload.TheVariants.{Data, DataE, NoData, NoDataE}
 use Rattle.snoop_history.specs.declared.items.Did.{Did}
 use Rattle.snoop_history.specs.declared.items.Sent.{Sent}
 use Rattle.snoop_history.specs.declared.items.Came.{Came}
@@ -8,27 +11,52 @@ use Rattle.snoop_history.specs.declared.items.Item.{Item}
 use Rattle.snoop_history.specs.declared.items.Item.TheVariants as item
 use Rattle.snoop_history.specs.declared.packed.Kind.{Kind}
 use Rattle.snoop_history.specs.declared.packed.Kind.TheVariants as kind
+use Rattle.snoop_history.specs.declared.packed.Message.{Message}
+use Rattle.snoop_history.specs.declared.packed.Message.TheVariants as message
 use Rattle.snoop_history.specs.declared.packed.Packed.{Packed}
-use Rattle.snoop_history.specs.declared.packed.Way.{Way}
-use Rattle.snoop_history.specs.declared.packed.Way.TheVariants as way
+use Rattle.snoop_history.specs.History.{operation_of}
 
 -- the operation was a load
-abbrev pub is_load : Way → Bool
-is_load way.LoadHit = true
-is_load way.LoadMiss = true
-is_load way.StoreHit = false
-is_load way.StoreMiss = false
+abbrev pub is_load : Kind → Bool
+is_load kind.LoadHit = true
+is_load kind.LoadMiss = true
+is_load kind.CameLoadHit = true
+is_load kind.CameLoadMiss = true
+is_load _ = false
 
 -- the operation was a hit
-abbrev pub is_hit : Way → Bool
-is_hit way.LoadHit = true
-is_hit way.StoreHit = true
-is_hit way.LoadMiss = false
-is_hit way.StoreMiss = false
+abbrev pub is_hit : Kind → Bool
+is_hit kind.LoadHit = true
+is_hit kind.StoreHit = true
+is_hit kind.CameLoadHit = true
+is_hit kind.CameStoreHit = true
+is_hit _ = false
+
+-- what the response carries
+abbrev pub payload_in : Message → Payload
+payload_in message.DataOfMemory = Data
+payload_in message.DataEOfMemory = DataE
+payload_in message.NoDataOfMemory = NoData
+payload_in message.NoDataEOfMemory = NoDataE
+payload_in message.DataOfCore = Data
+payload_in message.DataEOfCore = DataE
+payload_in message.NoDataOfCore = NoData
+payload_in message.NoDataEOfCore = NoDataE
+
+-- a core sent the response
+abbrev pub is_of_core : Message → Bool
+is_of_core message.DataOfMemory = false
+is_of_core message.DataEOfMemory = false
+is_of_core message.NoDataOfMemory = false
+is_of_core message.NoDataEOfMemory = false
+is_of_core message.DataOfCore = true
+is_of_core message.DataEOfCore = true
+is_of_core message.NoDataOfCore = true
+is_of_core message.NoDataEOfCore = true
 
 -- the operation of a packed item
 abbrev pub operation_in : Packed → Did
-operation_in p = record { core = p.did_core; number = p.number; block = p.did_block; word = p.word; load = is_load p.way; value = p.value; hit = is_hit p.way }
+operation_in p = record { core = p.did_core; number = p.number_low + p.number_high * 2 ^ 32; block = p.did_block; word = p.word; load = is_load p.kind; value = p.value; hit = is_hit p.kind }
 
 -- its request
 abbrev pub request_in : Packed → Sent
@@ -36,15 +64,25 @@ request_in p = record { core = p.core; request = p.request; block = p.block }
 
 -- its response
 abbrev pub response_in : Packed → Came
-response_in p = record { core = p.core; request = p.request; block = p.block; from = if p.has_sender then Some p.from else None; payload = p.payload }
+response_in p = record { core = p.core; request = p.request; block = p.block; from = if is_of_core p.message then Some p.from else None; payload = payload_in p.message }
 
 -- an item of this kind with what a packed item has
 abbrev pub item_of : Kind → Packed → Item
-item_of kind.Did p = item.Did (operation_in p)
 item_of kind.Sent p = item.Sent (request_in p)
 item_of kind.Came p = item.Came (response_in p) None
-item_of kind.Performed p = item.Came (response_in p) (Some (operation_in p))
+item_of kind.LoadHit p = item.Did (operation_in p)
+item_of kind.LoadMiss p = item.Did (operation_in p)
+item_of kind.StoreHit p = item.Did (operation_in p)
+item_of kind.StoreMiss p = item.Did (operation_in p)
+item_of kind.CameLoadHit p = item.Came (response_in p) (Some (operation_in p))
+item_of kind.CameLoadMiss p = item.Came (response_in p) (Some (operation_in p))
+item_of kind.CameStoreHit p = item.Came (response_in p) (Some (operation_in p))
+item_of kind.CameStoreMiss p = item.Came (response_in p) (Some (operation_in p))
 
 -- the item
 abbrev pub unpacked : Packed → Item
 unpacked p = item_of p.kind p
+
+-- the number of the item's operation, if it has one, fits in five bytes
+abbrev pub NumberFits : Item → Type 0
+NumberFits entry = ForSome (operation_of entry) (λ did. did.number < 2 ^ 40)

@@ -1,7 +1,7 @@
 //! What happens in a machine, as its history has it.
 ghost use Rattle.std.specs.Prelude.{◌≡◌};
 ghost use Rattle.snoop_history.specs.History.{operation_of};
-ghost use Rattle.snoop_history.specs.Within.{core_of, block_of, is_within};
+ghost use Rattle.snoop_history.specs.Within.{core_of, block_of, sender_of, is_within};
 ghost use Rattle.snoop_history.specs.Board.{operation_within};
 
 use snoop_rules::{Payload, Request};
@@ -91,12 +91,24 @@ impl Item {
         }
     }
 
-    /// Whether the item's core and block lie within the shape, and the core, block and word of its operation.
+    /// The core that sent the item's response, if one did.
+    pub(crate) fn sender(self) -> Option<u32>
+        ensures { result ≡ sender_of self }
+    {
+        match self {
+            Item::Came(came, _) => came.from,
+            _ => None,
+        }
+    }
+
+    /// Whether the item's core and block lie within the shape, the core that sent its response, and the core, block
+    /// and word of its operation.
     pub(crate) fn is_within(self, cores: usize, blocks: u32, words: u32) -> bool
         ensures { result ≡ is_within cores blocks words self }
     {
         let lies = |core: u32, block: u32| (core as usize) < cores && block < blocks;
         lies(self.core(), self.block())
+            && self.sender().is_none_or(|core| (core as usize) < cores)
             && self
                 .did()
                 .is_none_or(|did| lies(did.core, did.block) && did.word < words)

@@ -12,6 +12,9 @@ use snoop_trace::{NoMemory, Shape};
 use std::alloc::Global;
 use std::marker::Model;
 
+/// How many items a log may have, since the number of an operation is kept in five bytes. They would take 26 TB.
+const MOST_ITEMS: usize = 1 << 40;
+
 /// The history of a machine: the items of its steps in order, with their board and the blocks that they mention,
 /// so that none is worked out anew.
 #[derive(Debug, Drop)]
@@ -47,7 +50,8 @@ impl Log {
         })
     }
 
-    /// Makes room for one more item. `NoMemory` leaves all as it was, and comes only where there was no room.
+    /// Makes room for one more item. `NoMemory` leaves all as it was, and comes only where there was no room. A log
+    /// of 2^40 items has no room for more.
     pub fn reserve(&mut self) -> Result<(), NoMemory>
         ensures ok { OnOk result (0 < self.new.room) }
         ensures same { self.new ≡ record self.old { room = self.new.room } }
@@ -55,6 +59,9 @@ impl Log {
         ensures full { OnErr result (self.old.room ≡ 0) }
         ensures room { self.old.room ≤ self.new.room }
     {
+        if self.len() >= MOST_ITEMS {
+            return Err(NoMemory);
+        }
         self.items.reserve(1)?;
         Ok(())
     }
@@ -63,7 +70,7 @@ impl Log {
     pub fn has_room(&self) -> bool
         ensures { IsTrue result ↔ (0 < self.now.room) }
     {
-        self.len() < self.items.capacity()
+        self.len() < self.items.capacity() && self.len() < MOST_ITEMS
     }
 
     /// How many items there are.
@@ -195,8 +202,9 @@ impl Log {
         true
     }
 
-    /// Whether `push` may take the item, room aside: it lies within the shape, and an operation carries its
-    /// core's `count` as its number.
+    /// Whether `push` may take the item, room aside: its core and block lie within the shape, and so do the core
+    /// that sent its response and the core, block and word of its operation; and an operation carries its core's
+    /// `count` as its number.
     pub fn takes(&self, item: Item) -> bool
         ensures sound { IsTrue result → IsWithin self.now.cores self.now.blocks self.now.words item × IsNumbered self.now.items item }
         ensures whole { IsWithin self.now.cores self.now.blocks self.now.words item → IsNumbered self.now.items item → IsTrue result }
@@ -218,7 +226,9 @@ impl Log {
         }
     }
 
-    /// Puts an item last, in the room that `reserve` made. It takes no memory.
+    /// Puts an item last, in the room that `reserve` made. Its core and block lie within the shape, and so do the
+    /// core that sent its response and the core, block and word of its operation; and an operation carries its
+    /// core's `count` as its number. It takes no memory.
     #[inline(always)]
     pub fn push(&mut self, item: Item)
         requires room { 0 < self.old.room }

@@ -1,103 +1,210 @@
 //! Items as a log keeps them.
-ghost use Rattle.std.specs.Prelude.{◌≡◌, ◌<◌};
+ghost use Rattle.std.specs.Prelude.{◌≡◌, ◌<◌, ◌^◌, Some};
+ghost use Rattle.std.specs.Option.{ForSome};
+ghost use Rattle.snoop_history.specs.declared.packed.Packed.{Packed};
+ghost use Rattle.snoop_history.specs.declared.items.Item.TheVariants as item;
 ghost use Rattle.snoop_history.specs.History.{operation_of};
 ghost use Rattle.snoop_history.specs.Within.{IsWithin};
-ghost use Rattle.snoop_history.specs.Packed.{unpacked, operation_in, request_in, response_in, is_load, is_hit};
+ghost use Rattle.snoop_history.specs.Packed.{NumberFits, is_hit, is_load, is_of_core, item_of, operation_in, payload_in, request_in, response_in, unpacked};
 
 use crate::items::{Came, Did, Item, Sent};
 use snoop_rules::{Payload, Request};
 
-/// What an item is, without its data.
+/// What an item is, and how its operation was performed, if it has one.
 #[derive(Clone, Copy, Debug)]
 pub(crate) enum Kind {
-    /// A hit.
-    Did,
     /// An ordered request.
     Sent,
     /// A response that performed no operation.
     Came,
-    /// A response that performed an operation.
-    Performed,
-}
-
-/// How an operation was performed.
-#[derive(Clone, Copy, Debug)]
-pub(crate) enum Way {
     LoadHit,
     LoadMiss,
     StoreHit,
     StoreMiss,
+    /// A response that performed the operation.
+    CameLoadHit,
+    CameLoadMiss,
+    CameStoreHit,
+    CameStoreMiss,
+}
+
+impl Kind {
+    /// Of an operation alone.
+    fn of_operation(load: bool, hit: bool) -> Self
+        ensures load { is_load result ≡ load }
+        ensures hit { is_hit result ≡ hit }
+        ensures item { (packed : Packed) → item_of result packed ≡ item.Did (operation_in packed) }
+    {
+        match (load, hit) {
+            (true, true) => Kind::LoadHit,
+            (true, false) => Kind::LoadMiss,
+            (false, true) => Kind::StoreHit,
+            (false, false) => Kind::StoreMiss,
+        }
+    }
+
+    /// Of a response that performed an operation.
+    fn of_response(load: bool, hit: bool) -> Self
+        ensures load { is_load result ≡ load }
+        ensures hit { is_hit result ≡ hit }
+        ensures item { (packed : Packed) → item_of result packed ≡ item.Came (response_in packed) (Some (operation_in packed)) }
+    {
+        match (load, hit) {
+            (true, true) => Kind::CameLoadHit,
+            (true, false) => Kind::CameLoadMiss,
+            (false, true) => Kind::CameStoreHit,
+            (false, false) => Kind::CameStoreMiss,
+        }
+    }
+
+    fn is_load(self) -> bool
+        ensures { result ≡ is_load self }
+    {
+        matches!(
+            &self,
+            Kind::LoadHit | Kind::LoadMiss | Kind::CameLoadHit | Kind::CameLoadMiss
+        )
+    }
+
+    fn is_hit(self) -> bool
+        ensures { result ≡ is_hit self }
+    {
+        matches!(
+            &self,
+            Kind::LoadHit | Kind::StoreHit | Kind::CameLoadHit | Kind::CameStoreHit
+        )
+    }
+}
+
+/// What a response carries, and whether memory or a core sent it.
+#[derive(Clone, Copy, Debug)]
+pub(crate) enum Message {
+    DataOfMemory,
+    DataEOfMemory,
+    NoDataOfMemory,
+    NoDataEOfMemory,
+    DataOfCore,
+    DataEOfCore,
+    NoDataOfCore,
+    NoDataEOfCore,
+}
+
+impl Message {
+    fn new(payload: Payload, of_core: bool) -> Self
+        ensures payload { payload_in result ≡ payload }
+        ensures sender { is_of_core result ≡ of_core }
+    {
+        match (of_core, payload) {
+            (false, Payload::Data) => Message::DataOfMemory,
+            (false, Payload::DataE) => Message::DataEOfMemory,
+            (false, Payload::NoData) => Message::NoDataOfMemory,
+            (false, Payload::NoDataE) => Message::NoDataEOfMemory,
+            (true, Payload::Data) => Message::DataOfCore,
+            (true, Payload::DataE) => Message::DataEOfCore,
+            (true, Payload::NoData) => Message::NoDataOfCore,
+            (true, Payload::NoDataE) => Message::NoDataEOfCore,
+        }
+    }
+
+    fn payload(self) -> Payload
+        ensures { result ≡ payload_in self }
+    {
+        match self {
+            Message::DataOfMemory | Message::DataOfCore => Payload::Data,
+            Message::DataEOfMemory | Message::DataEOfCore => Payload::DataE,
+            Message::NoDataOfMemory | Message::NoDataOfCore => Payload::NoData,
+            Message::NoDataEOfMemory | Message::NoDataEOfCore => Payload::NoDataE,
+        }
+    }
+
+    fn is_of_core(self) -> bool
+        ensures { result ≡ is_of_core self }
+    {
+        matches!(
+            &self,
+            Message::DataOfCore
+                | Message::DataEOfCore
+                | Message::NoDataOfCore
+                | Message::NoDataEOfCore
+        )
+    }
 }
 
 /// An item of a machine's shape, in fewer bytes than an `Item`. A field that its kind does not need is arbitrary.
 #[derive(Clone, Copy, Debug)]
 pub(crate) struct Packed {
-    // The operation's number and value.
-    number: u64,
+    // The operation's value, and its number in five bytes.
     value: u64,
-    // The sender, where `has_sender`.
-    from: u32,
+    number_low: u32,
     block: u16,
     did_block: u16,
+    number_high: u8,
     core: u8,
     did_core: u8,
     word: u8,
-    way: Way,
+    // The sender, where it is a core.
+    from: u8,
     kind: Kind,
     request: Request,
-    payload: Payload,
-    has_sender: bool,
+    message: Message,
 }
 
-/// The fields of no item.
+/// An item of no fields.
 const EMPTY: Packed = Packed {
-    number: 0,
     value: 0,
-    from: 0,
+    number_low: 0,
     block: 0,
     did_block: 0,
+    number_high: 0,
     core: 0,
     did_core: 0,
     word: 0,
-    way: Way::LoadHit,
-    kind: Kind::Did,
+    from: 0,
+    kind: Kind::Came,
     request: Request::GetS,
-    payload: Payload::Data,
-    has_sender: false,
+    message: Message::DataOfMemory,
 };
+
+/// How many numbers the low four bytes hold.
+const LOW: u64 = 1 << 32;
 
 impl Packed {
     /// Packs an item of the largest shape or a smaller one.
     #[inline(always)]
     pub(crate) fn new(item: Item) -> Self
-        requires { IsWithin 256 65536 64 item }
+        requires within { IsWithin 256 65536 64 item }
+        requires number { NumberFits item }
         ensures { unpacked result ≡ item }
     {
         match item {
-            Item::Did(did) => Packed::of_operation(did),
+            Item::Did(did) => Packed::of_operation(Kind::of_operation(did.load, did.hit), did),
             Item::Sent(sent) => Packed::of_request(sent),
-            Item::Came(came, None) => EMPTY.with_response(Kind::Came, came),
+            Item::Came(came, None) => EMPTY.with_response(came),
             Item::Came(came, Some(did)) => {
-                Packed::of_operation(did).with_response(Kind::Performed, came)
+                let kind = Kind::of_response(did.load, did.hit);
+                Packed::of_operation(kind, did).with_response(came)
             }
         }
     }
 
-    fn of_operation(did: Did) -> Self
+    fn of_operation(kind: Kind, did: Did) -> Self
         requires core { did.core < 256 }
         requires block { did.block < 65536 }
         requires word { did.word < 64 }
-        ensures kind { result.kind ≡ Kind.Did }
+        requires number { did.number < 2 ^ 40 }
+        requires load { is_load kind ≡ did.load }
+        requires hit { is_hit kind ≡ did.hit }
+        ensures kind { result.kind ≡ kind }
         ensures operation { operation_in result ≡ did }
     {
         Packed {
-            number: did.number,
             value: did.value,
+            number_low: (did.number % LOW) as u32,
             did_block: did.block as u16,
+            number_high: (did.number / LOW) as u8,
             did_core: did.core as u8,
             word: did.word as u8,
-            way: way_of(did.load, did.hit),
-            kind: Kind::Did,
+            kind,
             ..EMPTY
         }
     }
@@ -105,8 +212,7 @@ impl Packed {
     fn of_request(sent: Sent) -> Self
         requires core { sent.core < 256 }
         requires block { sent.block < 65536 }
-        ensures kind { result.kind ≡ Kind.Sent }
-        ensures request { request_in result ≡ sent }
+        ensures { unpacked result ≡ item.Sent sent }
     {
         Packed {
             block: sent.block as u16,
@@ -117,22 +223,21 @@ impl Packed {
         }
     }
 
-    // The same operation with a response.
-    fn with_response(self, kind: Kind, came: Came) -> Self
+    // The response, with the operation that it performed, where there is one.
+    fn with_response(self, came: Came) -> Self
         requires core { came.core < 256 }
         requires block { came.block < 65536 }
-        ensures kind { result.kind ≡ kind }
+        requires sender { ForSome came.from (λ core. core < 256) }
+        ensures kind { result.kind ≡ self.kind }
         ensures response { response_in result ≡ came }
         ensures operation { operation_in result ≡ operation_in self }
     {
         Packed {
-            from: came.from.unwrap_or(0),
+            from: came.from.unwrap_or(0) as u8,
             block: came.block as u16,
             core: came.core as u8,
-            kind,
             request: came.request,
-            payload: came.payload,
-            has_sender: came.from.is_some(),
+            message: Message::new(came.payload, came.from.is_some()),
             ..self
         }
     }
@@ -142,10 +247,13 @@ impl Packed {
         ensures { result ≡ unpacked self.now }
     {
         match self.kind {
-            Kind::Did => Item::Did(self.did()),
             Kind::Sent => Item::Sent(self.sent()),
             Kind::Came => Item::Came(self.came(), None),
-            Kind::Performed => Item::Came(self.came(), Some(self.did())),
+            Kind::LoadHit | Kind::LoadMiss | Kind::StoreHit | Kind::StoreMiss => {
+                Item::Did(self.did())
+            }
+            Kind::CameLoadHit | Kind::CameLoadMiss | Kind::CameStoreHit | Kind::CameStoreMiss =>
+                Item::Came(self.came(), Some(self.did())),
         }
     }
 
@@ -161,12 +269,12 @@ impl Packed {
     {
         Did {
             core: self.did_core as u32,
-            number: self.number,
+            number: self.number_low as u64 + self.number_high as u64 * LOW,
             block: self.did_block as u32,
             word: self.word as u32,
-            load: is_load(self.way),
+            load: self.kind.is_load(),
             value: self.value,
-            hit: is_hit(self.way),
+            hit: self.kind.is_hit(),
         }
     }
 
@@ -187,36 +295,12 @@ impl Packed {
             core: self.core as u32,
             request: self.request,
             block: self.block as u32,
-            from: if self.has_sender {
-                Some(self.from)
+            from: if self.message.is_of_core() {
+                Some(self.from as u32)
             } else {
                 None
             },
-            payload: self.payload,
+            payload: self.message.payload(),
         }
     }
-}
-
-fn way_of(load: bool, hit: bool) -> Way
-    ensures load { is_load result ≡ load }
-    ensures hit { is_hit result ≡ hit }
-{
-    match (load, hit) {
-        (true, true) => Way::LoadHit,
-        (true, false) => Way::LoadMiss,
-        (false, true) => Way::StoreHit,
-        (false, false) => Way::StoreMiss,
-    }
-}
-
-fn is_load(way: Way) -> bool
-    ensures { result ≡ is_load way }
-{
-    matches!(&way, Way::LoadHit | Way::LoadMiss)
-}
-
-fn is_hit(way: Way) -> bool
-    ensures { result ≡ is_hit way }
-{
-    matches!(&way, Way::LoadHit | Way::StoreHit)
 }

@@ -1,6 +1,7 @@
 -- What a step will do, found before anything changes: a plan, the room that it needs, and the item that it adds.
 -- Source: this project's profile.
 use Rattle.std.specs.Prelude.{◌≡◌, ◌≢◌, ℕ, ◌<◌, true, false, List, Option, Some, None, slice_index, ⊤}
+use Rattle.std.specs.Option.{ForSome}
 use Rattle.snoop_trace.specs.Words.{Data, HasWord, IsWord}
 use Rattle.snoop_trace.specs.declared.step.Op.{Op}
 use Rattle.snoop_trace.specs.declared.step.Step.{Step}
@@ -54,6 +55,7 @@ pub record IsClosing (s : Situation) (block : ℕ) (closing : Open) (memory : Me
   pub opened : (picture_of s block).transaction ≡ Some closing
   pub its : closing.block ≡ block
   pub core : closing.core < s.shape.cores
+  pub sender : ForSome closing.from (λ sender. sender < s.shape.cores)
   pub arrives : ArrivesAtMemory closing s.protocol (picture_of s block).memory memory
 
 -- the rows were found for what the plan says

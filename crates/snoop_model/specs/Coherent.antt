@@ -37,8 +37,8 @@ pub record IsCoherent (s : Situation) : Type 0 where
   pub carried : (block : ℕ) → block < s.shape.blocks → IfSome (data_under_way (picture_of s block).transaction) (λ words. words ≡ flat_words s.log block)
   -- and so has memory, where no core may write the block and no data is under way
   pub memory : (block : ℕ) → block < s.shape.blocks → ((core : ℕ) → ¬ MayStore s.protocol (state_of s core block)) → data_under_way (picture_of s block).transaction ≡ None → (picture_of s block).memory.value ≡ flat_words s.log block
-  -- a block's open transaction is of this block, by a core of the machine
-  pub opened : (block : ℕ) → IfSome (picture_of s block).transaction (λ transaction. (transaction.block ≡ block) × (transaction.core < s.shape.cores))
+  -- a block's open transaction is of this block, and its requestor is a core of the machine; so is its sender, where that isn't memory
+  pub opened : (block : ℕ) → IfSome (picture_of s block).transaction (λ transaction. (transaction.block ≡ block) × (transaction.core < s.shape.cores) × IfSome transaction.from (λ sender. sender < s.shape.cores))
   -- an operation waits exactly where one has missed: a load or a store, as the state says
   pub waiting : (core block : ℕ) → option_map (λ access. request_for access.op) (held_by (picture_of s block) core).waiting ≡ missed_request (state_of s core block)
   -- each core's queue has the blocks on which it waits to be ordered, each once

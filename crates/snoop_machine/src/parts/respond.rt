@@ -1,5 +1,6 @@
 //! A Respond: found, and made.
 ghost use Rattle.std.specs.Prelude.{◌≡◌, ◌≢◌, ◌<◌, ℕ, IfOk, IfErr, Some, None, Err};
+ghost use Rattle.std.specs.Option.{ForSome};
 ghost use Rattle.snoop_trace.specs.declared.step.Step.TheVariants.{Respond};
 ghost use Rattle.snoop_trace.specs.Words.{IsWord};
 ghost use Rattle.snoop_rules.specs.declared.names.Request.TheVariants.{PutM};
@@ -64,6 +65,7 @@ impl<B: Block> Parts<B> {
         memory: MemLine<Kept<B>>,
     )
         requires core { closing.core < self.old.situation.shape.cores }
+        requires sender { ForSome closing.from (λ sender. sender < self.old.situation.shape.cores) }
         requires block { block < self.old.situation.shape.blocks }
         requires its { closing.block ≡ block }
         requires room { 0 < self.old.room }
@@ -89,6 +91,7 @@ impl<B: Block> Parts<B> {
         memory: MemLine<Kept<B>>,
     ) -> Did
         requires core { closing.core < self.old.situation.shape.cores }
+        requires sender { ForSome closing.from (λ sender. sender < self.old.situation.shape.cores) }
         requires block { block < self.old.situation.shape.blocks }
         requires its { closing.block ≡ block }
         requires room { 0 < self.old.room }

@@ -1,6 +1,7 @@
 -- What the invariant says of a situation: one writer, current copies and memory, all rows, one sender.
 use Rattle.std.proofs.Common.{◌≡◌, ◌≢◌, ℕ, true, false, not, ◌||◌, List, [], length, Option, Some, None, refl, ◌⊎◌, inl, inr, ap, sym, ◌∙◌, subst, arith}
 use Rattle.std.specs.Prelude.{◌<◌, IfSome, IsSome, IsSomeAnd, ◌≤◌}
+use Rattle.std.specs.Option.{ForSome}
 use Rattle.std.proofs.lemmas.Bool.{cases_lt, and_parts, eq-eqb}
 use Rattle.std.proofs.lemmas.List.{get_or_past}
 use Rattle.std.proofs.lemmas.Option.{same_Some}
@@ -184,13 +185,21 @@ opened_within s g block o is = elim (cases_lt block s.shape.blocks) [
       cc
 ]
 
--- it is of its block, by a core of the machine
-pub names_its_block : (s : Situation) → Invariant s → (block : ℕ) → IfSome (picture_of s block).transaction (λ o. (o.block ≡ block) × (o.core < s.shape.cores))
+-- a core that sent its message is there
+pub sender_within : (s : Situation) → Invariant s → (block : ℕ) (o : Open) → (picture_of s block).transaction ≡ Some o → ForSome o.from (λ sender. sender < s.shape.cores)
+sender_within s g block o is = (g.blocks block (opened_within s g block o is)).sender_in o is
+
+-- it is of its block, and its requestor is a core of the machine; so is its sender, where that isn't memory
+pub names_its_block : (s : Situation) → Invariant s → (block : ℕ) → IfSome (picture_of s block).transaction (λ o. (o.block ≡ block) × (o.core < s.shape.cores) × IfSome o.from (λ sender. sender < s.shape.cores))
 names_its_block s g block = go (picture_of s block).transaction refl
   where
-    go : (found : Option Open) → (picture_of s block).transaction ≡ found → IfSome found (λ o. (o.block ≡ block) × (o.core < s.shape.cores))
+    told : (from : Option ℕ) → ForSome from (λ sender. sender < s.shape.cores) → IfSome from (λ sender. sender < s.shape.cores)
+    told None h = tt
+    told (Some sender) h = h sender refl
+
+    go : (found : Option Open) → (picture_of s block).transaction ≡ found → IfSome found (λ o. (o.block ≡ block) × (o.core < s.shape.cores) × IfSome o.from (λ sender. sender < s.shape.cores))
     go None is = tt
-    go (Some o) is = (g.opened block o is, (g.blocks block (opened_within s g block o is)).requestor_in o is)
+    go (Some o) is = (g.opened block o is, (g.blocks block (opened_within s g block o is)).requestor_in o is, told o.from (sender_within s g block o is))
 
 -- a core that waits is within the shape, and so is its block
 pub waits_within : (s : Situation) → Invariant s → (core block : ℕ) (q : Request) → Waits s core block q → IsWithin s core block

@@ -45,6 +45,7 @@ untouched_block protocol.Msi n = record {
   fresh = λ h. refl;
   carried = λ o e h. cc;
   requestor_in = λ o e. cc;
+  sender_in = λ o e. cc;
   proper = λ d d_in. subst IsProper (sym (replicated n d nothing_held)) nothing_proper;
 }
 untouched_block protocol.Mesi n = record {
@@ -59,6 +60,7 @@ untouched_block protocol.Mesi n = record {
   fresh = λ h. refl;
   carried = λ o e h. cc;
   requestor_in = λ o e. cc;
+  sender_in = λ o e. cc;
   proper = λ d d_in. subst IsProper (sym (replicated n d nothing_held)) nothing_proper;
 }
 

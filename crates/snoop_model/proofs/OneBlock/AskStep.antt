@@ -159,6 +159,7 @@ module _ (s : Situation) (core block word : ℕ) (asking : Op) (answer : Reply) 
               fresh = g.fresh;
               carried = g.carried;
               requestor_in = g.requestor_in;
+              sender_in = g.sender_in;
               proper = ask_proper;
             } in
             (rw k.same_flat good, k.lawful)
@@ -187,6 +188,7 @@ module _ (s : Situation) (core block word : ℕ) (asking : Op) (answer : Reply) 
               fresh = λ h. absurd (clash g.claims.fresh h alone.unfresh);
               carried = λ x is_x carrying. absurd (calm_carries before.transaction x alone.calm is_x carrying);
               requestor_in = g.requestor_in;
+              sender_in = g.sender_in;
               proper = ask_proper;
             } in
             (rw stored.new_flat good, stored.lawful)

@@ -1,6 +1,7 @@
 -- An Order keeps the invariant.
 use Rattle.std.proofs.Common.{◌≡◌, ◌≢◌, ◌<◌, ◌&&◌, ◌||◌, ◌∙◌, ℕ, length, List, Bool, true, false, not, cond, eqb, Option, Some, None, refl, inl, inr, ap, sym, subst}
 use Rattle.std.specs.Prelude.{is_some, unwrap_or}
+use Rattle.std.specs.Option.{ForSome}
 use Rattle.std.proofs.lemmas.Bool.Decides.{eqb_tells}
 use Rattle.std.proofs.Math.Bool.{and-true, and-false}
 use Rattle.std.proofs.lemmas.Bool.{eq-eqb, and_parts}
@@ -261,6 +262,11 @@ next_owner_in true c (Some k) n was o e = elim (or_not (eqb c k)) as (λ _. o < 
 ]
 next_owner_in false c owner n was o e = cc
 
+-- a core that sends is there
+sender_there : (p : Protocol) (before : Picture) (c : ℕ) (q : Request) (from : Option ℕ) (sent : Payload) → Sends p before c q from sent → ForSome from (λ sender. sender < length before.caches)
+sender_there p before c q None sent sends = λ sender is. cc
+sender_there p before c q (Some d) sent sends = λ sender is. let same : d ≡ sender = cc in subst (λ (k : ℕ). k < length before.caches) same sends.0
+
 -- an Order keeps the invariant of a picture
 pub order_keeps : (s : Situation) (core block : ℕ) (q : Request) (new : Situation) (flat : List ℕ) → BlockInvariant s.protocol (length (picture_of s block).caches) flat (picture_of s block) → core < length (picture_of s block).caches
     → (o : Orders s core block q new) → BlockInvariant s.protocol (length (picture_of s block).caches) flat o.next
@@ -293,4 +299,6 @@ order_keeps s core block q new flat good in_row o =
           let t = o.taken.rows d d_in in
           subst IsProper (sym t.2) (IsProper-order p (held_by before d) d core q t.0.action t.0.next (good.proper d d_in) t.1);
       requestor_in = λ x is_x. subst (λ (y : Open). y.core < length before.caches) (some_is after.transaction opened x o.opened is_x) in_row;
+      sender_in = λ x is_x.
+          subst (λ (y : Open). ForSome y.from (λ sender. sender < length before.caches)) (some_is after.transaction opened x o.opened is_x) (sender_there p before core q o.from o.payload o.sent.sends);
     }

@@ -174,6 +174,7 @@ respond_put p n flat before after o g was_open arrives closes put same_held =
       fresh = λ h. (f.refreshed h).1;
       carried = λ x is_x. absurd (none_some x (sym closes ∙ is_x));
       requestor_in = λ x is_x. absurd (none_some x (sym closes ∙ is_x));
+      sender_in = λ x is_x. absurd (none_some x (sym closes ∙ is_x));
       proper = λ d d_in. subst IsProper (sym (same_held d)) (g.proper d d_in);
     }
 
@@ -300,6 +301,7 @@ respond_get p n flat before after o g was_open arrives closes no_put log asking 
       fresh = λ h. (f.refreshed h).1 ∙ sym (same_flat (f.refreshed h).0);
       carried = λ x is_x. absurd (none_some x (sym closes ∙ is_x));
       requestor_in = λ x is_x. absurd (none_some x (sym closes ∙ is_x));
+      sender_in = λ x is_x. absurd (none_some x (sym closes ∙ is_x));
       proper = λ d d_in. elim (eqb_tells d c) as (λ _. IsProper (held_by after d)) [
         | inl h ↦ subst (λ (x : ℕ). IsProper (held_by after x)) (sym h.1) (subst IsProper (sym fills.held) (IsProper-fill p (held_by before c).state fills.event fills.row.action fills.row.next asking.op fills.after fills.fill fills.is_row))
         | inr h ↦ subst IsProper (sym (others d h.1)) (g.proper d d_in)

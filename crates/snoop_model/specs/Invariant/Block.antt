@@ -1,6 +1,7 @@
 -- The inductive invariant of one block's picture, for any number of cores.
 -- Source: this project's profile.
 use Rattle.std.specs.Prelude.{◌≡◌, ◌<◌, ◌==◌, ℕ, Bool, true, false, cond, Option, Some, None, is_some}
+use Rattle.std.specs.Option.{ForSome}
 use Rattle.snoop_trace.specs.Words.{Data}
 use Rattle.snoop_trace.specs.declared.protocol.Protocol.{Protocol}
 use Rattle.snoop_rules.specs.declared.names.Request.{Request}
@@ -38,4 +39,5 @@ pub record BlockInvariant (p : Protocol) (n : ℕ) (flat : Data) (picture : Pict
   pub fresh : claims.fresh ≡ true → picture.memory.value ≡ flat
   pub carried : (o : Open) → picture.transaction ≡ Some o → carries_value o.payload ≡ true → o.value ≡ flat
   pub requestor_in : (o : Open) → picture.transaction ≡ Some o → o.core < n
+  pub sender_in : (o : Open) → picture.transaction ≡ Some o → ForSome o.from (λ sender. sender < n)
   pub proper : (d : ℕ) → d < n → IsProper (held_by picture d)

@@ -1,11 +1,11 @@
-use Rattle.std.proofs.Common.{◌≡◌, [], ◌∷◌, ◌++◌, map, sym, ap, ◌∙◌, subst}
-use Rattle.std.proofs.lemmas.List.{map-append}
+use Rattle.std.proofs.Common.{◌≡◌, [], ◌∷◌, ◌++◌, map, sym, ap, ◌∙◌, subst, arith, ◌<◌, ◌^◌, length}
+use Rattle.std.proofs.lemmas.List.{length-map, map-append}
 use Rattle.snoop_history.specs.Journal.{Journal}
 use Rattle.snoop_history.specs.Packed.{unpacked}
 use Rattle.snoop_history.specs.History.{IsNumbered}
 use Rattle.snoop_history.specs.Within.{IsWithin}
 use Rattle.snoop_history.specs.declared.items.Item.{Item}
-use Rattle.snoop_history.proofs.Kept.{kept-push, kept-as, board-shape}
+use Rattle.snoop_history.proofs.Kept.{kept-push, kept-as, board-shape, numbers_fit}
 use Rattle.snoop_history.proofs.log.Log.push.Goals as goal
 
 pub invariant_of-self : goal.invariant_of-self
@@ -24,3 +24,12 @@ invariant_of-self c =
       kept = kept-as _ _ _ shape.0 shape.1 shape.2 (kept-push kept entry _ _ _ (subst P (sym c.self.view_is) c.requires.within) (subst Q (sym c.self.view_is) c.requires.numbered) more tallied (c.add.ensures.order items kept.mentioned));
       as_many = c.add.ensures.blocks ∙ (c.self.invariant.as_many ∙ sym shape.1);
     }
+
+pub new-requires-clause-number : goal.new-requires-clause-number
+new-requires-clause-number c =
+    let items = map unpacked c.self.inside.items.items in
+    let Q : Journal → Type 0 = λ j. IsNumbered j.items c.args.item in
+    let R : Journal → Type 0 = λ j. 0 < j.room in
+    let room = subst R (sym c.self.view_is) c.requires.room in
+    let few : length items < 2 ^ 40 = omega (arith, room, length-map c.self.inside.items.items unpacked, c.self.inside.items.ok.0) in
+    numbers_fit items c.args.item (subst Q (sym c.self.view_is) c.requires.numbered) few

@@ -1,4 +1,4 @@
-use Rattle.std.proofs.Common.{◌≡◌, ◌≢◌, true, false, refl, sym, ap, ◌∙◌, subst}
+use Rattle.std.proofs.Common.{rules, ◌≡◌, ◌≢◌, true, false, Some, refl, sym, ap, ◌∙◌, subst}
 use Rattle.std.specs.Prelude.{IsSomeAnd, IsTrue}
 use Rattle.snoop_trace.specs.declared.step.Step.TheVariants.{Respond}
 use Rattle.snoop_rules.specs.declared.names.Request.TheVariants.{PutM}
@@ -8,7 +8,8 @@ use Rattle.snoop_model.specs.Moves.Standing.{Standing}
 use Rattle.snoop_model.specs.Pictures.Situation.{picture_of}
 use Rattle.snoop_model.specs.Pictures.Picture.{held_by}
 use Rattle.snoop_model.specs.Moves.LookUps.{HasRow, HasMemRow}
-use Rattle.snoop_model.proofs.Invariant.Coherence.{finds_rows}
+use Rattle.snoop_model.proofs.Invariant.Coherence.{finds_rows, sender_within}
+use Rattle.snoop_machine.specs.Plan.{IsClosing}
 use Rattle.snoop_machine.proofs.WordsHeld.{waiting_held}
 use Rattle.snoop_machine.proofs.parts.Parts.plan_respond.Goals as goal
 use Rattle.snoop_machine.proofs.parts.Parts.plan_respond.Goals.{in-PutM, in_default-matches}
@@ -43,3 +44,23 @@ pub fill-filled-requires-clause-word : goal.fill-filled-requires-clause-word
 fill-filled-requires-clause-word g c =
     let held = sym (ap (λ (x : Standing). x.situation.shape.words) c.self.view_is) ∙ c.self.invariant.sized.held in
     rw c.line-line.ensures.line (waiting_held c.args.self.now.situation _ c.in-Some.closing.core c.args.block held c.requires.inductive)
+
+pub returns-clause-found : goal.returns-clause-found
+returns-clause-found g c =
+    let s = c.args.self.now.situation in
+    let block = c.args.block in
+    let closing = c.in-Some.closing in
+    let opened : (picture_of s block).transaction ≡ Some closing = sym c.transaction.ensures.value ∙ c.in-Some.is in
+    let get : closing.request ≢ PutM = elim c.match-matches.branch [
+      | in-PutM w ↦ λ e. (let clash : true ≡ false = sym w.matches-is ∙ c.if-matches.false in cc)
+      | in_default-matches w ↦ w.in_default-matches.not-PutM
+    ] in
+    let closes : IsClosing s block closing c.arrive-memory.result = record {
+      opened = opened;
+      its = c.in-Some.ensures.within.0;
+      core = c.in-Some.ensures.within.1;
+      sender = sender_within s c.requires.inductive block closing opened;
+      arrives = search rules;
+    } in
+    let waits = ap (λ (x : Line). x.waiting) (sym c.line-line.ensures.line) ∙ c.fill-filled.ensures.waited in
+    (refl, (c.requires.block, closes, get, search rules, c.requires.inductive.accesses closing.core block c.fill-filled.result.access waits))
