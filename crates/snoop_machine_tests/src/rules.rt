@@ -13,7 +13,8 @@ use snoop_trace::{Op, WriteFault};
 use std::alloc::Global;
 use std::test::Fail;
 
-const MSI_CACHE: &str = "\
+/// Of a cache: the rows of I, IS_AD and IS_D under MSI, which MESI has too.
+const TO_LOAD: &str = "\
 I,Load,issue GetS,IS_AD
 I,Store,issue GetM,IM_AD
 I,OtherGetS,none,I
@@ -30,6 +31,13 @@ IS_D,Load,stall,IS_D
 IS_D,Store,stall,IS_D
 IS_D,Evict,stall,IS_D
 IS_D,Data,fill load,S
+";
+
+/// The row that MESI adds to them.
+const TO_LOAD_ALONE: &str = "IS_D,DataE,fill load,E\n";
+
+/// The rows of IM_AD, IM_D, S, SM_AD and SM_D under both.
+const TO_STORE: &str = "\
 IM_AD,Load,stall,IM_AD
 IM_AD,Store,stall,IM_AD
 IM_AD,Evict,stall,IM_AD
@@ -58,12 +66,41 @@ SM_D,Load,hit,SM_D
 SM_D,Store,stall,SM_D
 SM_D,Evict,stall,SM_D
 SM_D,Data,fill store,M
+";
+
+/// The rows of E under MESI.
+const UNCHANGED: &str = "\
+E,Load,hit,E
+E,Store,hit,M
+E,Evict,issue PutM,EI_A
+E,OtherGetS,Data to requestor and memory,S
+E,OtherGetM,Data to requestor,I
+E,OtherPutM,none,E
+";
+
+/// The rows of M under both.
+const CHANGED: &str = "\
 M,Load,hit,M
 M,Store,hit,M
 M,Evict,issue PutM,MI_A
 M,OtherGetS,Data to requestor and memory,S
 M,OtherGetM,Data to requestor,I
 M,OtherPutM,none,M
+";
+
+/// The rows of EI_A under MESI.
+const LEAVING_UNCHANGED: &str = "\
+EI_A,Load,hit,EI_A
+EI_A,Store,hit,MI_A
+EI_A,Evict,stall,EI_A
+EI_A,OwnPutM,NoDataE to memory,I
+EI_A,OtherGetS,Data to requestor and memory,II_A
+EI_A,OtherGetM,Data to requestor,II_A
+EI_A,OtherPutM,none,EI_A
+";
+
+/// The rows of MI_A and II_A under both.
+const LEAVING: &str = "\
 MI_A,Load,hit,MI_A
 MI_A,Store,hit,MI_A
 MI_A,Evict,stall,MI_A
@@ -80,86 +117,17 @@ II_A,OtherGetM,none,II_A
 II_A,OtherPutM,none,II_A
 ";
 
-const MESI_CACHE: &str = "\
-I,Load,issue GetS,IS_AD
-I,Store,issue GetM,IM_AD
-I,OtherGetS,none,I
-I,OtherGetM,none,I
-I,OtherPutM,none,I
-IS_AD,Load,stall,IS_AD
-IS_AD,Store,stall,IS_AD
-IS_AD,Evict,stall,IS_AD
-IS_AD,OwnGetS,none,IS_D
-IS_AD,OtherGetS,none,IS_AD
-IS_AD,OtherGetM,none,IS_AD
-IS_AD,OtherPutM,none,IS_AD
-IS_D,Load,stall,IS_D
-IS_D,Store,stall,IS_D
-IS_D,Evict,stall,IS_D
-IS_D,Data,fill load,S
-IS_D,DataE,fill load,E
-IM_AD,Load,stall,IM_AD
-IM_AD,Store,stall,IM_AD
-IM_AD,Evict,stall,IM_AD
-IM_AD,OwnGetM,none,IM_D
-IM_AD,OtherGetS,none,IM_AD
-IM_AD,OtherGetM,none,IM_AD
-IM_AD,OtherPutM,none,IM_AD
-IM_D,Load,stall,IM_D
-IM_D,Store,stall,IM_D
-IM_D,Evict,stall,IM_D
-IM_D,Data,fill store,M
-S,Load,hit,S
-S,Store,issue GetM,SM_AD
-S,Evict,drop,I
-S,OtherGetS,none,S
-S,OtherGetM,none,I
-S,OtherPutM,none,S
-SM_AD,Load,hit,SM_AD
-SM_AD,Store,stall,SM_AD
-SM_AD,Evict,stall,SM_AD
-SM_AD,OwnGetM,none,SM_D
-SM_AD,OtherGetS,none,SM_AD
-SM_AD,OtherGetM,none,IM_AD
-SM_AD,OtherPutM,none,SM_AD
-SM_D,Load,hit,SM_D
-SM_D,Store,stall,SM_D
-SM_D,Evict,stall,SM_D
-SM_D,Data,fill store,M
-E,Load,hit,E
-E,Store,hit,M
-E,Evict,issue PutM,EI_A
-E,OtherGetS,Data to requestor and memory,S
-E,OtherGetM,Data to requestor,I
-E,OtherPutM,none,E
-M,Load,hit,M
-M,Store,hit,M
-M,Evict,issue PutM,MI_A
-M,OtherGetS,Data to requestor and memory,S
-M,OtherGetM,Data to requestor,I
-M,OtherPutM,none,M
-EI_A,Load,hit,EI_A
-EI_A,Store,hit,MI_A
-EI_A,Evict,stall,EI_A
-EI_A,OwnPutM,NoDataE to memory,I
-EI_A,OtherGetS,Data to requestor and memory,II_A
-EI_A,OtherGetM,Data to requestor,II_A
-EI_A,OtherPutM,none,EI_A
-MI_A,Load,hit,MI_A
-MI_A,Store,hit,MI_A
-MI_A,Evict,stall,MI_A
-MI_A,OwnPutM,Data to memory,I
-MI_A,OtherGetS,Data to requestor and memory,II_A
-MI_A,OtherGetM,Data to requestor,II_A
-MI_A,OtherPutM,none,MI_A
-II_A,Load,stall,II_A
-II_A,Store,stall,II_A
-II_A,Evict,stall,II_A
-II_A,OwnPutM,NoData to memory,I
-II_A,OtherGetS,none,II_A
-II_A,OtherGetM,none,II_A
-II_A,OtherPutM,none,II_A
-";
+static MSI_CACHE: [&str; 4] = [TO_LOAD, TO_STORE, CHANGED, LEAVING];
+
+static MESI_CACHE: [&str; 7] = [
+    TO_LOAD,
+    TO_LOAD_ALONE,
+    TO_STORE,
+    UNCHANGED,
+    CHANGED,
+    LEAVING_UNCHANGED,
+    LEAVING,
+];
 
 const MSI_MEMORY: &str = "\
 IorS,GetS,send Data,IorS
@@ -192,20 +160,34 @@ EorM_D,NoData,none,EorM
 EorM_D,NoDataE,none,I
 ";
 
-static TABLES: [(Protocol, Which, &str); 4] = [
-    (Protocol::Msi, Which::Cache, MSI_CACHE),
-    (Protocol::Mesi, Which::Cache, MESI_CACHE),
-    (Protocol::Msi, Which::Memory, MSI_MEMORY),
-    (Protocol::Mesi, Which::Memory, MESI_MEMORY),
-];
+// The rows of a table.
+fn rows_of(alloc: Global, protocol: Protocol, which: Which) -> Result<String, Fail> {
+    let parts: &[&str] = match (protocol, which) {
+        (Protocol::Msi, Which::Cache) => &MSI_CACHE,
+        (Protocol::Mesi, Which::Cache) => &MESI_CACHE,
+        (Protocol::Msi, Which::Memory) => &[MSI_MEMORY],
+        (Protocol::Mesi, Which::Memory) => &[MESI_MEMORY],
+    };
+    let mut rows = String::new(alloc);
+    for part in parts {
+        rows.push_str(part)?;
+    }
+    Ok(rows)
+}
 
 #[test]
 fn writes_the_four_tables(rt: HostRuntime) -> Result<(), Fail> {
-    for (protocol, which, table) in &TABLES {
+    for (protocol, which) in [
+        (Protocol::Msi, Which::Cache),
+        (Protocol::Mesi, Which::Cache),
+        (Protocol::Msi, Which::Memory),
+        (Protocol::Mesi, Which::Memory),
+    ] {
+        let rows = rows_of(rt.alloc(), protocol, which)?;
         let mut text = Vec::new(rt.alloc());
-        write_table(rt.alloc(), &mut text, *protocol, *which)?;
-        if text.as_slice() != table.as_bytes() {
-            Err((*protocol, *which))?
+        write_table(rt.alloc(), &mut text, protocol, which)?;
+        if text.as_slice() != rows.as_bytes() {
+            Err((protocol, which))?
         }
     }
     Ok(())
@@ -221,14 +203,15 @@ fn is_cut_off(alloc: Global, protocol: Protocol, which: Which, table: &str, room
 
 #[test]
 fn stops_at_a_failing_writer(rt: HostRuntime) -> Result<(), Fail> {
-    for (protocol, which, table, room) in [
-        (Protocol::Msi, Which::Cache, MSI_CACHE, 0),
-        (Protocol::Msi, Which::Cache, MSI_CACHE, 20),
-        (Protocol::Mesi, Which::Cache, MESI_CACHE, 1000),
-        (Protocol::Msi, Which::Memory, MSI_MEMORY, 1),
-        (Protocol::Mesi, Which::Memory, MESI_MEMORY, 25),
+    for (protocol, which, room) in [
+        (Protocol::Msi, Which::Cache, 0),
+        (Protocol::Msi, Which::Cache, 20),
+        (Protocol::Mesi, Which::Cache, 1000),
+        (Protocol::Msi, Which::Memory, 1),
+        (Protocol::Mesi, Which::Memory, 25),
     ] {
-        if !is_cut_off(rt.alloc(), protocol, which, table, room) {
+        let rows = rows_of(rt.alloc(), protocol, which)?;
+        if !is_cut_off(rt.alloc(), protocol, which, &rows, room) {
             Err(room)?
         }
     }
