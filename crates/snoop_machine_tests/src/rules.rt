@@ -117,18 +117,6 @@ II_A,OtherGetM,none,II_A
 II_A,OtherPutM,none,II_A
 ";
 
-static MSI_CACHE: [&str; 4] = [TO_LOAD, TO_STORE, CHANGED, LEAVING];
-
-static MESI_CACHE: [&str; 7] = [
-    TO_LOAD,
-    TO_LOAD_ALONE,
-    TO_STORE,
-    UNCHANGED,
-    CHANGED,
-    LEAVING_UNCHANGED,
-    LEAVING,
-];
-
 const MSI_MEMORY: &str = "\
 IorS,GetS,send Data,IorS
 IorS,GetM,send Data,M
@@ -160,58 +148,85 @@ EorM_D,NoData,none,EorM
 EorM_D,NoDataE,none,I
 ";
 
-// The rows of a table.
-fn rows_of(alloc: Global, protocol: Protocol, which: Which) -> Result<String, Fail> {
-    let parts: &[&str] = match (protocol, which) {
-        (Protocol::Msi, Which::Cache) => &MSI_CACHE,
-        (Protocol::Mesi, Which::Cache) => &MESI_CACHE,
-        (Protocol::Msi, Which::Memory) => &[MSI_MEMORY],
-        (Protocol::Mesi, Which::Memory) => &[MESI_MEMORY],
-    };
-    let mut rows = String::new(alloc);
-    for part in parts {
-        rows.push_str(part)?;
+/// The tables, each in parts.
+static TABLES: [(Protocol, Which, &[&str]); 4] = [
+    (
+        Protocol::Msi,
+        Which::Cache,
+        &[TO_LOAD, TO_STORE, CHANGED, LEAVING],
+    ),
+    (
+        Protocol::Mesi,
+        Which::Cache,
+        &[
+            TO_LOAD,
+            TO_LOAD_ALONE,
+            TO_STORE,
+            UNCHANGED,
+            CHANGED,
+            LEAVING_UNCHANGED,
+            LEAVING,
+        ],
+    ),
+    (Protocol::Msi, Which::Memory, &[MSI_MEMORY]),
+    (Protocol::Mesi, Which::Memory, &[MESI_MEMORY]),
+];
+
+// Whether a text is a table. It takes no memory.
+fn is_table(text: &[u8], table: &[&str]) -> bool {
+    let mut left = text;
+    for part in table {
+        let Some(rest) = left.strip_prefix(part.as_bytes()) else {
+            return false;
+        };
+        left = rest;
     }
-    Ok(rows)
+    left.is_empty()
+}
+
+// Whether a text is the beginning of a table. It takes no memory.
+fn begins_table(text: &[u8], table: &[&str]) -> bool {
+    let mut left = text;
+    for part in table {
+        let Some(rest) = left.strip_prefix(part.as_bytes()) else {
+            return part.as_bytes().starts_with(left);
+        };
+        left = rest;
+    }
+    left.is_empty()
 }
 
 #[test]
 fn writes_the_four_tables(rt: HostRuntime) -> Result<(), Fail> {
-    for (protocol, which) in [
-        (Protocol::Msi, Which::Cache),
-        (Protocol::Mesi, Which::Cache),
-        (Protocol::Msi, Which::Memory),
-        (Protocol::Mesi, Which::Memory),
-    ] {
-        let rows = rows_of(rt.alloc(), protocol, which)?;
+    for (protocol, which, table) in &TABLES {
         let mut text = Vec::new(rt.alloc());
-        write_table(rt.alloc(), &mut text, protocol, which)?;
-        if text.as_slice() != rows.as_bytes() {
-            Err((protocol, which))?
+        write_table(rt.alloc(), &mut text, *protocol, *which)?;
+        if !is_table(&text, table) {
+            Err((*protocol, *which))?
         }
     }
     Ok(())
 }
 
 // Whether a writer of so much room, that then takes nothing, is blamed, and then holds the beginning of the table.
-fn is_cut_off(alloc: Global, protocol: Protocol, which: Which, table: &str, room: usize) -> bool {
+fn is_cut_off(
+    alloc: Global,
+    protocol: Protocol,
+    which: Which,
+    table: &[&str],
+    room: usize,
+) -> bool {
     let mut writer = AnyWriter::new(Stopping::new(alloc, 1, room, Failure::TakesNothing));
     let written = write_table(alloc, &mut writer, protocol, which);
-    let beginning = table.as_bytes().get(..room).unwrap_or(&[]);
-    written == Err(WriteFault::Write) && writer.inner.held.as_slice() == beginning
+    let held = writer.inner.held.as_slice();
+    written == Err(WriteFault::Write) && held.len() == room && begins_table(held, table)
 }
 
 #[test]
 fn stops_at_a_failing_writer(rt: HostRuntime) -> Result<(), Fail> {
-    for (protocol, which, room) in [
-        (Protocol::Msi, Which::Cache, 0),
-        (Protocol::Msi, Which::Cache, 20),
-        (Protocol::Mesi, Which::Cache, 1000),
-        (Protocol::Msi, Which::Memory, 1),
-        (Protocol::Mesi, Which::Memory, 25),
-    ] {
-        let rows = rows_of(rt.alloc(), protocol, which)?;
-        if !is_cut_off(rt.alloc(), protocol, which, &rows, room) {
+    for (place, room) in [(0, 0), (0, 20), (1, 1000), (2, 1), (3, 25)] {
+        let (protocol, which, table) = TABLES[place];
+        if !is_cut_off(rt.alloc(), protocol, which, table, room) {
             Err(room)?
         }
     }
