@@ -67,7 +67,9 @@ impl Bench {
     }
 
     /// What makes readers of the published versions. `NoMemory` where the count of its owners is full.
-    pub fn readers(&self) -> Result<Readers, NoMemory> {
+    pub fn readers(&self) -> Result<Readers, NoMemory>
+        ensures { IfOk result (λ readers. (readers.cores ≡ self.now.situation.shape.cores) × (readers.blocks ≡ self.now.situation.shape.blocks) × (readers.words ≡ self.now.situation.shape.words)) }
+    {
         self.recorder.readers()
     }
 
@@ -253,9 +255,11 @@ impl Bench {
         over(work.op, last)
     }
 
-    /// Waits for the readers that are inside, and gives the versions up.
-    pub fn end<R: Wait>(self, rt: &R) {
+    /// Waits for the readers that are inside, gives the versions up, and hands over the steps that were taken, from reset on.
+    pub fn end<R: Wait>(self, rt: &R) -> Vec<Step>
+        ensures { result.items ≡ self.steps }
+    {
         let Bench { recorder, works: _ } = self;
-        recorder.end(rt);
+        recorder.end(rt)
     }
 }

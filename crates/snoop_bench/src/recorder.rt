@@ -58,7 +58,9 @@ impl Recorder {
     }
 
     /// What makes readers of the published versions.
-    pub(crate) fn readers(&self) -> Result<Readers, NoMemory> {
+    pub(crate) fn readers(&self) -> Result<Readers, NoMemory>
+        ensures { IfOk result (λ readers. (readers.cores ≡ self.now.situation.shape.cores) × (readers.blocks ≡ self.now.situation.shape.blocks) × (readers.words ≡ self.now.situation.shape.words)) }
+    {
         self.writer.readers()
     }
 
@@ -110,14 +112,17 @@ impl Recorder {
         Ok(reply)
     }
 
-    /// Waits for the readers that are inside, and gives the versions up.
-    pub(crate) fn end<R: Wait>(self, rt: &R) {
+    /// Waits for the readers that are inside, gives the versions up, and hands over the steps.
+    pub(crate) fn end<R: Wait>(self, rt: &R) -> Vec<Step>
+        ensures { result.items ≡ self.steps }
+    {
         let Recorder {
             machine: _,
-            steps: _,
+            steps,
             writer,
         } = self;
         writer.end(rt);
+        steps
     }
 }
 

@@ -86,7 +86,8 @@ impl Shared {
         seats: &mut Vec<Seat>,
         watches: &mut Vec<Watch>,
     ) -> Result<(), MakeFault>
-        requires { (seats.old.items ≡ []) × (watches.old.items ≡ []) }
+        requires readers { (readers.now.cores ≡ self.now.shape.cores) × (readers.now.blocks ≡ self.now.shape.blocks) × (readers.now.words ≡ self.now.shape.words) }
+        requires empty { (seats.old.items ≡ []) × (watches.old.items ≡ []) }
         ensures seats { OnOk result (AreSeats self.now.shape seats.new.items) }
         ensures watches { OnOk result (AreWatches count self.now.shape watches.new.items) }
     {
@@ -102,7 +103,8 @@ impl Shared {
         readers: &Readers,
         seats: &mut Vec<Seat>,
     ) -> Result<(), MakeFault>
-        requires { seats.old.items ≡ [] }
+        requires readers { (readers.now.cores ≡ self.now.shape.cores) × (readers.now.blocks ≡ self.now.shape.blocks) × (readers.now.words ≡ self.now.shape.words) }
+        requires empty { seats.old.items ≡ [] }
         ensures { OnOk result (AreSeats self.now.shape seats.new.items) }
     {
         for core in 0..self.share.shape().cores() {
@@ -124,7 +126,8 @@ impl Shared {
         count: u32,
         watches: &mut Vec<Watch>,
     ) -> Result<(), MakeFault>
-        requires { watches.old.items ≡ [] }
+        requires readers { (readers.now.cores ≡ self.now.shape.cores) × (readers.now.blocks ≡ self.now.shape.blocks) × (readers.now.words ≡ self.now.shape.words) }
+        requires empty { watches.old.items ≡ [] }
         ensures { OnOk result (AreWatches count self.now.shape watches.new.items) }
     {
         for _ in 0..count {
@@ -140,10 +143,11 @@ impl Shared {
 
     // A share of the lock and a reader of versions, for a seat or a watch.
     fn entrance(&self, readers: &Readers) -> Result<(Share, VersionReader), MakeFault>
+        requires { (readers.now.cores ≡ self.now.shape.cores) × (readers.now.blocks ≡ self.now.shape.blocks) × (readers.now.words ≡ self.now.shape.words) }
         ensures share { IfOk result (λ entrance. entrance.0.shape ≡ self.now.shape) }
         ensures reader { IfOk result (λ entrance. (entrance.1.cores ≡ self.now.shape.cores) × (entrance.1.blocks ≡ self.now.shape.blocks) × (entrance.1.words ≡ self.now.shape.words)) }
     {
-        let Some(reader) = readers.reader(self.share.shape()) else {
+        let Some(reader) = readers.reader() else {
             return Err(MakeFault::NoPlace);
         };
         let Ok(share) = self.share.another() else {

@@ -1,4 +1,5 @@
 //! A writer that fails in mid-stream.
+ghost use Rattle.std.specs.Prelude.{◌≡◌, []};
 
 use std::alloc::Global;
 use std::io;
@@ -22,7 +23,11 @@ pub struct Stopping {
 }
 
 impl Stopping {
-    pub fn new(alloc: Global, a_call: usize, calls_left: usize, failure: Failure) -> Self {
+    /// It holds nothing and has counted no call.
+    pub fn new(alloc: Global, a_call: usize, calls_left: usize, failure: Failure) -> Self
+        ensures empty { (result.held.items ≡ []) × (result.calls_after ≡ 0) }
+        ensures fails { (result.a_call ≡ a_call) × (result.calls_left ≡ calls_left) × (result.failure ≡ failure) }
+    {
         Stopping {
             held: Vec::new(alloc),
             a_call,

@@ -169,7 +169,7 @@ fn print_times<R: Eprint>(rt: &R, cores: u32, number: u64, times: Times) -> io::
 
 /// Prints how many steps one thread takes for so many rows of this shape, and how long: by seats, on a bench that no lock guards,
 /// and on a machine alone.
-pub fn report<R: Wait + Clock + Print + Eprint>(
+pub(crate) fn report<R: Wait + Clock + Print + Eprint>(
     rt: &R,
     alloc: Global,
     shape: Shape,

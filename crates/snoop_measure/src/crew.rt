@@ -1,4 +1,7 @@
 //! A shared machine with its seats and its watches, which end together.
+ghost use Rattle.std.specs.Prelude.{◌≡◌, IfOk};
+ghost use Rattle.snoop_trace.specs.declared.protocol.Protocol.TheVariants.{Msi};
+ghost use Rattle.snoop_cores.specs.Seats.{AreSeats, AreWatches};
 
 use snoop_cores::{MakeFault, Seat, Shared, Watch, end_seats, end_watches};
 use snoop_rules::Protocol;
@@ -22,7 +25,10 @@ impl Crew {
         alloc: Global,
         shape: Shape,
         watches: u32,
-    ) -> Result<Crew, MakeFault> {
+    ) -> Result<Crew, MakeFault>
+        ensures shared { IfOk result (λ crew. crew.shared ≡ record { protocol = Msi; shape = shape }) }
+        ensures seats { IfOk result (λ crew. AreSeats shape crew.seats.items × AreWatches watches shape crew.watches.items) }
+    {
         let (shared, seats, watches) = Shared::new(rt, alloc, Protocol::Msi, shape, watches)?;
         Ok(Crew {
             shared,
@@ -32,7 +38,7 @@ impl Crew {
     }
 
     /// Ends the seats, the watches and the machine.
-    pub fn end<R: Wait>(self, rt: &R) {
+    pub(crate) fn end<R: Wait>(self, rt: &R) {
         let Crew {
             shared,
             seats,

@@ -68,7 +68,7 @@ fn print_pace<R: Eprint>(rt: &R, cores: u32, pace: u128) -> io::Result<()> {
 }
 
 /// Prints how many loads and stores the seats of this shape do at once for so many rows, and how many rows a second.
-pub fn report<R: Threads + Wait + Clock + Print + Eprint + Sync>(
+pub(crate) fn report<R: Threads + Wait + Clock + Print + Eprint + Sync>(
     rt: &R,
     alloc: Global,
     shape: Shape,

@@ -1,4 +1,6 @@
 //! Storms: steps of which most race with others, and rows that share blocks.
+ghost use Rattle.std.specs.Prelude.{◌≡◌, ◌<◌, ◌*◌, ◌^◌, ℕ, All, length, IfOk};
+ghost use Rattle.snoop_trace.specs.Output.{IsWithin, address_of};
 
 use snoop_trace::{NoMemory, Op, Row, Shape, Step};
 use std::alloc::Global;
@@ -12,17 +14,23 @@ fn next(seed: &mut u64) -> u64 {
 }
 
 /// The core that a number stands for.
-fn core_of(number: u64, shape: Shape) -> u32 {
+fn core_of(number: u64, shape: Shape) -> u32
+    ensures { result < shape.cores }
+{
     (number / 5 % shape.cores() as u64) as u32
 }
 
 /// The block that a number stands for.
-fn block_of(number: u64, shape: Shape) -> u32 {
+fn block_of(number: u64, shape: Shape) -> u32
+    ensures { result < shape.blocks }
+{
     (number / 5 / shape.cores() as u64 % shape.blocks() as u64) as u32
 }
 
 /// The step that a number stands for; a store stores its own place in the storm.
-fn step_of(number: u64, place: u64, shape: Shape) -> Step {
+fn step_of(number: u64, place: u64, shape: Shape) -> Step
+    ensures { IsWithin shape result }
+{
     let core = core_of(number, shape);
     let block = block_of(number, shape);
     match number % 5 {
@@ -50,7 +58,9 @@ fn step_of(number: u64, place: u64, shape: Shape) -> Step {
 }
 
 /// The row that a number stands for; a store stores its own place among the rows.
-fn row_of(number: u64, place: u64, shape: Shape) -> Row {
+fn row_of(number: u64, place: u64, shape: Shape) -> Row
+    ensures { (result.core < shape.cores) × (result.address < address_of shape shape.blocks) }
+{
     let op = match number % 5 {
         0 | 1 => Op::Load,
         2 | 3 => Op::Store(place),
@@ -64,7 +74,10 @@ fn row_of(number: u64, place: u64, shape: Shape) -> Row {
 }
 
 /// A storm of so many steps over the cores and blocks of the shape.
-pub fn storm(alloc: Global, count: u64, shape: Shape) -> Result<Vec<Step>, NoMemory> {
+pub fn storm(alloc: Global, count: u64, shape: Shape) -> Result<Vec<Step>, NoMemory>
+    ensures count { IfOk result (λ steps. length steps.items ≡ count) }
+    ensures within { IfOk result (λ steps. All (IsWithin shape) steps.items) }
+{
     let mut seed = 1;
     let mut steps = Vec::new(alloc);
     for place in 1..=count {
@@ -76,7 +89,10 @@ pub fn storm(alloc: Global, count: u64, shape: Shape) -> Result<Vec<Step>, NoMem
 }
 
 /// So many rows over the cores and blocks of the shape: of five, two load, two store and one evicts.
-pub fn rows(alloc: Global, count: u64, shape: Shape) -> Result<Vec<Row>, NoMemory> {
+pub fn rows(alloc: Global, count: u64, shape: Shape) -> Result<Vec<Row>, NoMemory>
+    ensures count { IfOk result (λ rows. length rows.items ≡ count) }
+    ensures within { IfOk result (λ rows. All (λ row. (row.core < shape.cores) × (row.address < address_of shape shape.blocks)) rows.items) }
+{
     let mut seed = 1;
     let mut rows = Vec::new(alloc);
     for place in 1..=count {

@@ -141,7 +141,7 @@ fn print_paces<R: Eprint>(rt: &R, watches: u32, stores: u128, readings: u128) ->
 }
 
 /// Prints how many stores a seat of this shape does a second beside watches, and how many readings these do meanwhile.
-pub fn report<R: Threads + Wait + Clock + Print + Eprint + Sync>(
+pub(crate) fn report<R: Threads + Wait + Clock + Print + Eprint + Sync>(
     rt: &R,
     alloc: Global,
     shape: Shape,

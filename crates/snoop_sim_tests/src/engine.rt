@@ -106,7 +106,8 @@ pub static ENGINES: [Engine; 5] = [
 ];
 
 impl Engine {
-    pub fn text(self) -> &'static [u8] {
+    /// Its text.
+    pub(crate) fn text(self) -> &'static [u8] {
         match self {
             Engine::Steps => STEPS.as_bytes(),
             Engine::Run | Engine::Serial => ROWS.as_bytes(),
@@ -116,7 +117,7 @@ impl Engine {
     }
 
     /// The whole output of the text under MSI.
-    pub fn output(self) -> &'static [u8] {
+    pub(crate) fn output(self) -> &'static [u8] {
         match self {
             Engine::Steps => STEPS_OUTPUT.as_bytes(),
             Engine::Run => ROWS_OUTPUT.as_bytes(),
@@ -127,7 +128,7 @@ impl Engine {
     }
 
     /// How the simulation ends, with 2 cores and 4 blocks.
-    pub fn simulate<T: Threads + Wait + Sync, R: Source, W: Sink>(
+    pub(crate) fn simulate<T: Threads + Wait + Sync, R: Source, W: Sink>(
         self,
         rt: &T,
         alloc: Global,

@@ -1,4 +1,5 @@
 //! Readers and writers that fail in mid-stream.
+ghost use Rattle.std.specs.Prelude.{◌≡◌, [], false};
 
 use std::alloc::Global;
 use std::io;
@@ -25,7 +26,11 @@ pub struct FailingWriter {
 }
 
 impl FailingWriter {
-    pub fn new(alloc: Global, calls: usize, most: usize, fault: Fault) -> Self {
+    /// It holds nothing and has not failed.
+    pub fn new(alloc: Global, calls: usize, most: usize, fault: Fault) -> Self
+        ensures empty { (result.held.items ≡ []) × (result.failed ≡ false) × (result.calls_after ≡ 0) }
+        ensures fails { (result.calls ≡ calls) × (result.most ≡ most) × (result.fault ≡ fault) }
+    {
         FailingWriter {
             held: Vec::new(alloc),
             calls,

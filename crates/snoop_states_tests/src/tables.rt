@@ -114,8 +114,8 @@ step  core 0        core 1        bus                 memory      line
 at the end: nothing waits; nothing is open
 ";
 
-/// Whether the tables of a text, with 2 cores and 4 blocks of 64 bytes, are these.
-fn writes(
+/// Whether the tables of a text are these.
+fn are_tables(
     alloc: Global,
     text: &[u8],
     protocol: Protocol,
@@ -138,34 +138,26 @@ fn writes(
     Ok(written.as_slice() == output.as_bytes())
 }
 
+/// Whether they are under MSI, with 2 cores and 4 blocks of 64 bytes.
+fn writes(
+    alloc: Global,
+    text: &[u8],
+    input: Input,
+    choice: Choice,
+    output: &str,
+) -> Result<bool, Fail> {
+    let shape = Shape::new(2, 4, 64)?;
+    are_tables(alloc, text, Protocol::Msi, shape, input, choice, output)
+}
+
 /// A whole table, with dots, places and values that memory does not send.
 #[test]
 fn an_upgrade_race(rt: HostRuntime) -> Result<(), Fail> {
     let shape = Shape::new(2, 4, 64)?;
     let all = Choice::new(shape, None, 1, u64::MAX)?;
     let one = Choice::new(shape, None, 12, 12)?;
-    assert!(rt;
-        writes(
-            rt.alloc(),
-            RACE,
-            Protocol::Msi,
-            shape,
-            Input::Steps,
-            all,
-            RACE_TABLE
-        )?
-    );
-    assert!(rt;
-        writes(
-            rt.alloc(),
-            RACE,
-            Protocol::Msi,
-            shape,
-            Input::Steps,
-            one,
-            CUT_TABLE
-        )?
-    );
+    assert!(rt; writes(rt.alloc(), RACE, Input::Steps, all, RACE_TABLE)?);
+    assert!(rt; writes(rt.alloc(), RACE, Input::Steps, one, CUT_TABLE)?);
     Ok(())
 }
 
@@ -174,21 +166,11 @@ fn an_upgrade_race(rt: HostRuntime) -> Result<(), Fail> {
 fn several_blocks(rt: HostRuntime) -> Result<(), Fail> {
     let shape = Shape::new(2, 4, 64)?;
     let second = Choice::new(shape, Some(1), 1, 100)?;
-    assert!(rt;
-        writes(
-            rt.alloc(),
-            QUEUE,
-            Protocol::Msi,
-            shape,
-            Input::Steps,
-            second,
-            QUEUE_TABLE
-        )?
-    );
+    assert!(rt; writes(rt.alloc(), QUEUE, Input::Steps, second, QUEUE_TABLE)?);
     let shape = Shape::with_words(2, 4, 64, 2)?;
     let all = Choice::new(shape, None, 1, u64::MAX)?;
     assert!(rt;
-        writes(
+        are_tables(
             rt.alloc(),
             LEFT,
             Protocol::Mesi,
@@ -206,28 +188,8 @@ fn several_blocks(rt: HostRuntime) -> Result<(), Fail> {
 fn rows(rt: HostRuntime) -> Result<(), Fail> {
     let shape = Shape::new(2, 4, 64)?;
     let all = Choice::new(shape, None, 1, u64::MAX)?;
-    assert!(rt;
-        writes(
-            rt.alloc(),
-            ROWS,
-            Protocol::Msi,
-            shape,
-            Input::Rows,
-            all,
-            ROWS_TABLE
-        )?
-    );
-    assert!(rt;
-        writes(
-            rt.alloc(),
-            ROWS,
-            Protocol::Msi,
-            shape,
-            Input::SerialRows,
-            all,
-            SERIAL_TABLE
-        )?
-    );
+    assert!(rt; writes(rt.alloc(), ROWS, Input::Rows, all, ROWS_TABLE)?);
+    assert!(rt; writes(rt.alloc(), ROWS, Input::SerialRows, all, SERIAL_TABLE)?);
     Ok(())
 }
 

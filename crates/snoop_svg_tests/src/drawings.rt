@@ -4,16 +4,11 @@ use snoop_engine::{Choice, Input};
 use snoop_svg::{Form, Paper, Theme, simulate_svg};
 use snoop_trace::{Protocol, Shape};
 use std::alloc::Global;
+use std::fmt::Write;
 use std::test::Fail;
 
-/// Core 0 loads.
-const LOAD: &str = "L,0,0\nO,0\nR,0\n";
-
-/// The same, drawn for light ground.
-const LOAD_DRAWN: &str =
-    "<svg xmlns=\"http://www.w3.org/2000/svg\" viewBox=\"0 0 800 314\" width=\"800\" height=\"314\">
-<title>Snoop, MSI, 3 steps drawn</title>
-<style>
+/// The style of each drawing, for light ground.
+const STYLE: &str = "\
 text{font:12px ui-monospace,Menlo,Consolas,\"DejaVu Sans Mono\",\"Liberation Mono\",monospace;fill:#1a1a1a}
 .paper{fill:#fff}.h,.l{stroke:#d0d0d0}.j{stroke:#808080;stroke-dasharray:1 5}
 .w{fill:#f0a050}.c{fill:#fbdcb4}.r{fill:#b5d8f0}.m{fill:#cfe6dc}.bus{fill:#f2f2f2}.b{fill:#d9d2e9}
@@ -23,6 +18,132 @@ text{font:12px ui-monospace,Menlo,Consolas,\"DejaVu Sans Mono\",\"Liberation Mon
 .v{stroke:#a51d14;stroke-width:2;stroke-dasharray:4 4}.x{stroke:#a51d14;stroke-width:2;fill:none}
 .ask{fill:#fff;stroke:#1a1a1a}.edge{fill:#5c2e00}.done{fill:#1a1a1a;stroke:#1a1a1a}.y{fill:transparent}
 a:focus{outline:none}a:focus .y{stroke:#1a1a1a;stroke-width:2}a:target .y{fill:#ffe98a}a:target~a{opacity:.12}
+";
+
+/// What dark ground adds to it.
+const DARK_STYLE: &str = "\
+text{fill:#f0f0f0}.paper,.i,.ask{fill:#15171a}.h,.l{stroke:#3c4046}.j{stroke:#909090}
+.w{fill:#8f4700}.c{fill:#573a15}.r{fill:#1d4f73}.m{fill:#1f4538}.bus{fill:#1d2024}.b{fill:#453f68}
+.k,.t{fill:#dcdcdc}.z{fill:#ffb4ab}.u,.q,.d,.i,.ask{stroke:#f0f0f0}.p,.done{stroke:#f0f0f0;fill:#f0f0f0}
+.edge{fill:#ffcf9e}.g{stroke:#9fd3f5;fill:#9fd3f5}.v,.x{stroke:#ffb4ab}a:focus .y{stroke:#f0f0f0}a:target .y{fill:#5a5110}
+";
+
+/// How a page begins.
+const PAGE: &str = "\
+<!DOCTYPE html>
+<html lang=\"en\">
+<head>
+<meta charset=\"utf-8\">
+<title>Snoop</title>
+<style>
+";
+
+/// What a page adds to the style of its drawings.
+const PAGE_STYLE: &str = "\
+body{margin:0 0 12em;font:12px ui-monospace,Menlo,Consolas,\"DejaVu Sans Mono\",monospace}
+svg{display:block;margin:0 0 24px;break-inside:avoid}
+svg:has(a:target)~svg a{opacity:.12}
+html{scroll-padding:56px 0 11em}
+#names{position:sticky;top:0;z-index:1;margin-bottom:-56px;box-shadow:0 1px #808080}
+pre{position:fixed;left:0;right:0;bottom:0;margin:0;padding:10px 12px;max-height:11em;overflow:auto;background:Canvas;border-top:2px solid;font-size:14px}
+@media print{pre,#names{display:none}body,svg{margin:0}svg{width:auto;height:auto;max-width:100%;max-height:100vh}}
+";
+
+/// What stands in a page between its style and its drawings.
+const BODY: &str = "\
+</style>
+</head>
+<body>
+";
+
+/// How a page ends.
+const SCRIPT: &str = "\
+<pre aria-live=\"polite\">Click a row, or go through the steps with the arrow keys. Esc shows the whole run.</pre>
+<script>
+const rows = [...document.querySelectorAll(\"a[id]\")], notes = document.querySelector(\"pre\");
+const sheet = document.querySelector(\"svg\"), names = sheet.cloneNode();
+names.id = \"names\";
+names.setAttribute(\"height\", 56);
+names.setAttribute(\"viewBox\", `0 0 ${names.getAttribute(\"width\")} 56`);
+names.setAttribute(\"aria-hidden\", true);
+for (const part of sheet.children) {
+  if (part.matches(\".paper\") || part.matches(\"text\") && part.getAttribute(\"y\") < 56) names.append(part.cloneNode(true));
+}
+document.body.prepend(names);
+const at = () => rows.findIndex(row => \"#\" + row.id === location.hash);
+function show() {
+  const row = rows[at()];
+  if (!row) return;
+  notes.textContent = row.querySelector(\"title\").textContent;
+  row.scrollIntoView({block: \"center\"});
+  const marks = [...row.querySelectorAll(\".o,.a,.i,.x,.p,.g,.v\")].map(mark => mark.getBoundingClientRect());
+  if (!marks.length) return;
+  const left = Math.min(...marks.map(mark => mark.left)), right = Math.max(...marks.map(mark => mark.right));
+  const panels = [...names.querySelectorAll(\".t\"), row.querySelectorAll(\"text\")[2]].map(text => text.getBoundingClientRect().left);
+  const start = Math.max(...panels.filter(x => x <= left)), end = Math.min(...panels.filter(x => x > left));
+  const wide = document.documentElement.clientWidth, [from, to] = end - start > wide ? [left - 48, right + 48] : [start, end];
+  scrollBy(from < 0 || to - from > wide ? from : Math.max(0, to - wide), 0);
+}
+addEventListener(\"hashchange\", show);
+addEventListener(\"keydown\", event => {
+  const by = {ArrowDown: 1, ArrowRight: 1, ArrowUp: -1, ArrowLeft: -1}[event.key];
+  if (event.key === \"Escape\") location.hash = \"all\";
+  if (!by || !rows.length) return;
+  event.preventDefault();
+  location.hash = rows[Math.max(0, Math.min(rows.length - 1, at() + by))].id;
+});
+addEventListener(\"load\", show);
+</script>
+</body>
+</html>
+";
+
+/// The first line of a legend under MSI. `^11^` stands for a height, 11 below that of its squares.
+const COLOURS: &str = "\
+<rect class=\"w\" x=\"12\" y=\"^0^\" width=\"14\" height=\"14\"/>
+<rect class=\"edge\" x=\"12\" y=\"^0^\" width=\"4\" height=\"14\"/>
+<text class=\"t\" x=\"32\" y=\"^11^\">may write</text>
+<rect class=\"r\" x=\"116\" y=\"^0^\" width=\"14\" height=\"14\"/>
+<text class=\"t\" x=\"136\" y=\"^11^\">may read</text>
+<rect class=\"b\" x=\"212\" y=\"^0^\" width=\"14\" height=\"14\"/>
+<text class=\"t\" x=\"232\" y=\"^11^\">open transaction</text>
+<rect class=\"m\" x=\"372\" y=\"^0^\" width=\"14\" height=\"14\"/>
+<text class=\"t\" x=\"392\" y=\"^11^\">memory sends, else (value)</text>
+";
+
+/// The second line of each legend.
+const MARKS: &str = "\
+<rect class=\"ask\" x=\"12\" y=\"^0^\" width=\"7\" height=\"7\"/>
+<text class=\"t\" x=\"24\" y=\"^8^\">asked</text>
+<rect class=\"done\" x=\"80\" y=\"^0^\" width=\"7\" height=\"7\"/>
+<text class=\"t\" x=\"92\" y=\"^8^\">performed</text>
+<path class=\"q\" d=\"M184 ^0^L184 ^14^\"/>
+<circle class=\"i\" cx=\"184\" cy=\"^0^\" r=\"4\"/>
+<text class=\"t\" x=\"194\" y=\"^8^\">issued (#2: second in the queue)</text>
+<path class=\"d\" d=\"M470 ^0^L470 ^14^\"/>
+<circle class=\"p\" cx=\"470\" cy=\"^0^\" r=\"4\"/>
+<text class=\"t\" x=\"480\" y=\"^8^\">ordered</text>
+<path class=\"g\" d=\"M556 ^4^H574M580 ^4^l-7 -4v8z\"/>
+<text class=\"t\" x=\"588\" y=\"^8^\">message</text>
+<path class=\"x\" d=\"M660 ^0^l8 8m0 -8l-8 8\"/>
+<text class=\"t\" x=\"674\" y=\"^8^\">refused</text>
+";
+
+/// How each drawing ends.
+const END: &str = "</svg>\n";
+
+/// Core 0 loads.
+const LOAD: &str = "L,0,0\nO,0\nR,0\n";
+
+/// The head of the same, drawn for light ground.
+const LOAD_HEAD: &str = "\
+<svg xmlns=\"http://www.w3.org/2000/svg\" viewBox=\"0 0 800 314\" width=\"800\" height=\"314\">
+<title>Snoop, MSI, 3 steps drawn</title>
+<style>
+";
+
+/// Its rows.
+const LOAD_ROWS: &str = "\
 </style>
 <rect class=\"paper\" x=\"0\" y=\"0\" width=\"800\" height=\"314\"/>
 <text class=\"s\" x=\"12\" y=\"20\">MSI</text>
@@ -97,53 +218,20 @@ core 0: IS_D,Data,fill load,S</title>
 <path class=\"d\" d=\"M216 190L216 209\"/>
 <path class=\"g\" d=\"M252 209H222M216 209l7 -4v8z\"/>
 </a>
-<rect class=\"w\" x=\"12\" y=\"262\" width=\"14\" height=\"14\"/>
-<rect class=\"edge\" x=\"12\" y=\"262\" width=\"4\" height=\"14\"/>
-<text class=\"t\" x=\"32\" y=\"273\">may write</text>
-<rect class=\"r\" x=\"116\" y=\"262\" width=\"14\" height=\"14\"/>
-<text class=\"t\" x=\"136\" y=\"273\">may read</text>
-<rect class=\"b\" x=\"212\" y=\"262\" width=\"14\" height=\"14\"/>
-<text class=\"t\" x=\"232\" y=\"273\">open transaction</text>
-<rect class=\"m\" x=\"372\" y=\"262\" width=\"14\" height=\"14\"/>
-<text class=\"t\" x=\"392\" y=\"273\">memory sends, else (value)</text>
-<rect class=\"ask\" x=\"12\" y=\"291\" width=\"7\" height=\"7\"/>
-<text class=\"t\" x=\"24\" y=\"299\">asked</text>
-<rect class=\"done\" x=\"80\" y=\"291\" width=\"7\" height=\"7\"/>
-<text class=\"t\" x=\"92\" y=\"299\">performed</text>
-<path class=\"q\" d=\"M184 291L184 305\"/>
-<circle class=\"i\" cx=\"184\" cy=\"291\" r=\"4\"/>
-<text class=\"t\" x=\"194\" y=\"299\">issued (#2: second in the queue)</text>
-<path class=\"d\" d=\"M470 291L470 305\"/>
-<circle class=\"p\" cx=\"470\" cy=\"291\" r=\"4\"/>
-<text class=\"t\" x=\"480\" y=\"299\">ordered</text>
-<path class=\"g\" d=\"M556 295H574M580 295l-7 -4v8z\"/>
-<text class=\"t\" x=\"588\" y=\"299\">message</text>
-<path class=\"x\" d=\"M660 291l8 8m0 -8l-8 8\"/>
-<text class=\"t\" x=\"674\" y=\"299\">refused</text>
-</svg>
 ";
 
 /// What is refused, what is done at once, and a writeback.
 const WRITEBACK: &str = "R,0\nS,0,0,7\nL,0,0\nE,0,0\nO,0\nR,0\nL,0,0\nE,0,0\nO,0\nR,0\n";
 
-/// Of the same the steps from the fourth on, of which three have rows that are shown, for dark ground under MESI.
-const WRITEBACK_DRAWN: &str =
-    "<svg xmlns=\"http://www.w3.org/2000/svg\" viewBox=\"0 0 800 530\" width=\"800\" height=\"530\">
+/// The head of the same from the fourth step on, of which three have rows that are shown, for dark ground under MESI.
+const WRITEBACK_HEAD: &str = "\
+<svg xmlns=\"http://www.w3.org/2000/svg\" viewBox=\"0 0 800 530\" width=\"800\" height=\"530\">
 <title>Snoop, MESI, 7 steps drawn</title>
 <style>
-text{font:12px ui-monospace,Menlo,Consolas,\"DejaVu Sans Mono\",\"Liberation Mono\",monospace;fill:#1a1a1a}
-.paper{fill:#fff}.h,.l{stroke:#d0d0d0}.j{stroke:#808080;stroke-dasharray:1 5}
-.w{fill:#f0a050}.c{fill:#fbdcb4}.r{fill:#b5d8f0}.m{fill:#cfe6dc}.bus{fill:#f2f2f2}.b{fill:#d9d2e9}
-.s,.o{font-weight:700}.k,.t{fill:#404040}.z{fill:#a51d14}
-.u{stroke:#1a1a1a}.p{stroke:#1a1a1a;stroke-width:2;fill:#1a1a1a}.g{stroke:#0b4f7d;stroke-width:2;fill:#0b4f7d}
-.q,.d{stroke:#1a1a1a;stroke-width:2}.q{stroke-dasharray:2 4}.i{fill:#fff;stroke:#1a1a1a;stroke-width:2}
-.v{stroke:#a51d14;stroke-width:2;stroke-dasharray:4 4}.x{stroke:#a51d14;stroke-width:2;fill:none}
-.ask{fill:#fff;stroke:#1a1a1a}.edge{fill:#5c2e00}.done{fill:#1a1a1a;stroke:#1a1a1a}.y{fill:transparent}
-a:focus{outline:none}a:focus .y{stroke:#1a1a1a;stroke-width:2}a:target .y{fill:#ffe98a}a:target~a{opacity:.12}
-text{fill:#f0f0f0}.paper,.i,.ask{fill:#15171a}.h,.l{stroke:#3c4046}.j{stroke:#909090}
-.w{fill:#8f4700}.c{fill:#573a15}.r{fill:#1d4f73}.m{fill:#1f4538}.bus{fill:#1d2024}.b{fill:#453f68}
-.k,.t{fill:#dcdcdc}.z{fill:#ffb4ab}.u,.q,.d,.i,.ask{stroke:#f0f0f0}.p,.done{stroke:#f0f0f0;fill:#f0f0f0}
-.edge{fill:#ffcf9e}.g{stroke:#9fd3f5;fill:#9fd3f5}.v,.x{stroke:#ffb4ab}a:focus .y{stroke:#f0f0f0}a:target .y{fill:#5a5110}
+";
+
+/// Its rows, and the first line of a legend under MESI.
+const WRITEBACK_ROWS: &str = "\
 </style>
 <rect class=\"paper\" x=\"0\" y=\"0\" width=\"800\" height=\"530\"/>
 <text class=\"s\" x=\"12\" y=\"20\">MESI</text>
@@ -230,59 +318,13 @@ core 0: IM_D,Data,fill store,M</title>
 <text class=\"t\" x=\"424\" y=\"489\">open transaction</text>
 <rect class=\"m\" x=\"564\" y=\"478\" width=\"14\" height=\"14\"/>
 <text class=\"t\" x=\"584\" y=\"489\">memory sends, else (value)</text>
-<rect class=\"ask\" x=\"12\" y=\"507\" width=\"7\" height=\"7\"/>
-<text class=\"t\" x=\"24\" y=\"515\">asked</text>
-<rect class=\"done\" x=\"80\" y=\"507\" width=\"7\" height=\"7\"/>
-<text class=\"t\" x=\"92\" y=\"515\">performed</text>
-<path class=\"q\" d=\"M184 507L184 521\"/>
-<circle class=\"i\" cx=\"184\" cy=\"507\" r=\"4\"/>
-<text class=\"t\" x=\"194\" y=\"515\">issued (#2: second in the queue)</text>
-<path class=\"d\" d=\"M470 507L470 521\"/>
-<circle class=\"p\" cx=\"470\" cy=\"507\" r=\"4\"/>
-<text class=\"t\" x=\"480\" y=\"515\">ordered</text>
-<path class=\"g\" d=\"M556 511H574M580 511l-7 -4v8z\"/>
-<text class=\"t\" x=\"588\" y=\"515\">message</text>
-<path class=\"x\" d=\"M660 507l8 8m0 -8l-8 8\"/>
-<text class=\"t\" x=\"674\" y=\"515\">refused</text>
-</svg>
 ";
 
 /// The request of core 0 for block 1 stands second in its queue, and has to wait for the bus.
 const BEHIND: &str = "L,0,0\nL,1,64\nL,0,64\nO,1\nO,0\nO,0\nR,64\n";
 
-/// Of the same the steps of block 1, drawn as a page.
-const BEHIND_DRAWN: &str = "<!DOCTYPE html>
-<html lang=\"en\">
-<head>
-<meta charset=\"utf-8\">
-<title>Snoop</title>
-<style>
-:root{color-scheme:light dark}
-body{margin:0 0 12em;font:12px ui-monospace,Menlo,Consolas,\"DejaVu Sans Mono\",monospace}
-svg{display:block;margin:0 0 24px;break-inside:avoid}
-svg:has(a:target)~svg a{opacity:.12}
-html{scroll-padding:56px 0 11em}
-#names{position:sticky;top:0;z-index:1;margin-bottom:-56px;box-shadow:0 1px #808080}
-pre{position:fixed;left:0;right:0;bottom:0;margin:0;padding:10px 12px;max-height:11em;overflow:auto;background:Canvas;border-top:2px solid;font-size:14px}
-@media print{pre,#names{display:none}body,svg{margin:0}svg{width:auto;height:auto;max-width:100%;max-height:100vh}}
-text{font:12px ui-monospace,Menlo,Consolas,\"DejaVu Sans Mono\",\"Liberation Mono\",monospace;fill:#1a1a1a}
-.paper{fill:#fff}.h,.l{stroke:#d0d0d0}.j{stroke:#808080;stroke-dasharray:1 5}
-.w{fill:#f0a050}.c{fill:#fbdcb4}.r{fill:#b5d8f0}.m{fill:#cfe6dc}.bus{fill:#f2f2f2}.b{fill:#d9d2e9}
-.s,.o{font-weight:700}.k,.t{fill:#404040}.z{fill:#a51d14}
-.u{stroke:#1a1a1a}.p{stroke:#1a1a1a;stroke-width:2;fill:#1a1a1a}.g{stroke:#0b4f7d;stroke-width:2;fill:#0b4f7d}
-.q,.d{stroke:#1a1a1a;stroke-width:2}.q{stroke-dasharray:2 4}.i{fill:#fff;stroke:#1a1a1a;stroke-width:2}
-.v{stroke:#a51d14;stroke-width:2;stroke-dasharray:4 4}.x{stroke:#a51d14;stroke-width:2;fill:none}
-.ask{fill:#fff;stroke:#1a1a1a}.edge{fill:#5c2e00}.done{fill:#1a1a1a;stroke:#1a1a1a}.y{fill:transparent}
-a:focus{outline:none}a:focus .y{stroke:#1a1a1a;stroke-width:2}a:target .y{fill:#ffe98a}a:target~a{opacity:.12}
-@media screen and (prefers-color-scheme:dark){
-text{fill:#f0f0f0}.paper,.i,.ask{fill:#15171a}.h,.l{stroke:#3c4046}.j{stroke:#909090}
-.w{fill:#8f4700}.c{fill:#573a15}.r{fill:#1d4f73}.m{fill:#1f4538}.bus{fill:#1d2024}.b{fill:#453f68}
-.k,.t{fill:#dcdcdc}.z{fill:#ffb4ab}.u,.q,.d,.i,.ask{stroke:#f0f0f0}.p,.done{stroke:#f0f0f0;fill:#f0f0f0}
-.edge{fill:#ffcf9e}.g{stroke:#9fd3f5;fill:#9fd3f5}.v,.x{stroke:#ffb4ab}a:focus .y{stroke:#f0f0f0}a:target .y{fill:#5a5110}
-}
-</style>
-</head>
-<body>
+/// Of the same the steps of block 1, drawn in a page.
+const BEHIND_ROWS: &str = "\
 <svg xmlns=\"http://www.w3.org/2000/svg\" viewBox=\"0 0 880 368\" width=\"880\" height=\"368\">
 <title>Snoop, MSI, 4 steps drawn</title>
 <rect class=\"paper\" x=\"0\" y=\"0\" width=\"880\" height=\"368\"/>
@@ -388,395 +430,70 @@ core 1: IS_D,Data,fill load,S</title>
 <path class=\"d\" d=\"M328 244L328 263\"/>
 <path class=\"g\" d=\"M364 263H334M328 263l7 -4v8z\"/>
 </a>
-<rect class=\"w\" x=\"12\" y=\"316\" width=\"14\" height=\"14\"/>
-<rect class=\"edge\" x=\"12\" y=\"316\" width=\"4\" height=\"14\"/>
-<text class=\"t\" x=\"32\" y=\"327\">may write</text>
-<rect class=\"r\" x=\"116\" y=\"316\" width=\"14\" height=\"14\"/>
-<text class=\"t\" x=\"136\" y=\"327\">may read</text>
-<rect class=\"b\" x=\"212\" y=\"316\" width=\"14\" height=\"14\"/>
-<text class=\"t\" x=\"232\" y=\"327\">open transaction</text>
-<rect class=\"m\" x=\"372\" y=\"316\" width=\"14\" height=\"14\"/>
-<text class=\"t\" x=\"392\" y=\"327\">memory sends, else (value)</text>
-<rect class=\"ask\" x=\"12\" y=\"345\" width=\"7\" height=\"7\"/>
-<text class=\"t\" x=\"24\" y=\"353\">asked</text>
-<rect class=\"done\" x=\"80\" y=\"345\" width=\"7\" height=\"7\"/>
-<text class=\"t\" x=\"92\" y=\"353\">performed</text>
-<path class=\"q\" d=\"M184 345L184 359\"/>
-<circle class=\"i\" cx=\"184\" cy=\"345\" r=\"4\"/>
-<text class=\"t\" x=\"194\" y=\"353\">issued (#2: second in the queue)</text>
-<path class=\"d\" d=\"M470 345L470 359\"/>
-<circle class=\"p\" cx=\"470\" cy=\"345\" r=\"4\"/>
-<text class=\"t\" x=\"480\" y=\"353\">ordered</text>
-<path class=\"g\" d=\"M556 349H574M580 349l-7 -4v8z\"/>
-<text class=\"t\" x=\"588\" y=\"353\">message</text>
-<path class=\"x\" d=\"M660 345l8 8m0 -8l-8 8\"/>
-<text class=\"t\" x=\"674\" y=\"353\">refused</text>
-</svg>
-<pre aria-live=\"polite\">Click a row, or go through the steps with the arrow keys. Esc shows the whole run.</pre>
-<script>
-const rows = [...document.querySelectorAll(\"a[id]\")], notes = document.querySelector(\"pre\");
-const sheet = document.querySelector(\"svg\"), names = sheet.cloneNode();
-names.id = \"names\";
-names.setAttribute(\"height\", 56);
-names.setAttribute(\"viewBox\", `0 0 ${names.getAttribute(\"width\")} 56`);
-names.setAttribute(\"aria-hidden\", true);
-for (const part of sheet.children) {
-  if (part.matches(\".paper\") || part.matches(\"text\") && part.getAttribute(\"y\") < 56) names.append(part.cloneNode(true));
-}
-document.body.prepend(names);
-const at = () => rows.findIndex(row => \"#\" + row.id === location.hash);
-function show() {
-  const row = rows[at()];
-  if (!row) return;
-  notes.textContent = row.querySelector(\"title\").textContent;
-  row.scrollIntoView({block: \"center\"});
-  const marks = [...row.querySelectorAll(\".o,.a,.i,.x,.p,.g,.v\")].map(mark => mark.getBoundingClientRect());
-  if (!marks.length) return;
-  const left = Math.min(...marks.map(mark => mark.left)), right = Math.max(...marks.map(mark => mark.right));
-  const panels = [...names.querySelectorAll(\".t\"), row.querySelectorAll(\"text\")[2]].map(text => text.getBoundingClientRect().left);
-  const start = Math.max(...panels.filter(x => x <= left)), end = Math.min(...panels.filter(x => x > left));
-  const wide = document.documentElement.clientWidth, [from, to] = end - start > wide ? [left - 48, right + 48] : [start, end];
-  scrollBy(from < 0 || to - from > wide ? from : Math.max(0, to - wide), 0);
-}
-addEventListener(\"hashchange\", show);
-addEventListener(\"keydown\", event => {
-  const by = {ArrowDown: 1, ArrowRight: 1, ArrowUp: -1, ArrowLeft: -1}[event.key];
-  if (event.key === \"Escape\") location.hash = \"all\";
-  if (!by || !rows.length) return;
-  event.preventDefault();
-  location.hash = rows[Math.max(0, Math.min(rows.length - 1, at() + by))].id;
-});
-addEventListener(\"load\", show);
-</script>
-</body>
-</html>
 ";
-/// 25 Orders of an empty queue, drawn as a page: the second sheet has one row.
-const SHEETS_DRAWN: &str = "<!DOCTYPE html>
-<html lang=\"en\">
-<head>
-<meta charset=\"utf-8\">
-<title>Snoop</title>
-<style>
-:root{color-scheme:light}
-body{margin:0 0 12em;font:12px ui-monospace,Menlo,Consolas,\"DejaVu Sans Mono\",monospace}
-svg{display:block;margin:0 0 24px;break-inside:avoid}
-svg:has(a:target)~svg a{opacity:.12}
-html{scroll-padding:56px 0 11em}
-#names{position:sticky;top:0;z-index:1;margin-bottom:-56px;box-shadow:0 1px #808080}
-pre{position:fixed;left:0;right:0;bottom:0;margin:0;padding:10px 12px;max-height:11em;overflow:auto;background:Canvas;border-top:2px solid;font-size:14px}
-@media print{pre,#names{display:none}body,svg{margin:0}svg{width:auto;height:auto;max-width:100%;max-height:100vh}}
-text{font:12px ui-monospace,Menlo,Consolas,\"DejaVu Sans Mono\",\"Liberation Mono\",monospace;fill:#1a1a1a}
-.paper{fill:#fff}.h,.l{stroke:#d0d0d0}.j{stroke:#808080;stroke-dasharray:1 5}
-.w{fill:#f0a050}.c{fill:#fbdcb4}.r{fill:#b5d8f0}.m{fill:#cfe6dc}.bus{fill:#f2f2f2}.b{fill:#d9d2e9}
-.s,.o{font-weight:700}.k,.t{fill:#404040}.z{fill:#a51d14}
-.u{stroke:#1a1a1a}.p{stroke:#1a1a1a;stroke-width:2;fill:#1a1a1a}.g{stroke:#0b4f7d;stroke-width:2;fill:#0b4f7d}
-.q,.d{stroke:#1a1a1a;stroke-width:2}.q{stroke-dasharray:2 4}.i{fill:#fff;stroke:#1a1a1a;stroke-width:2}
-.v{stroke:#a51d14;stroke-width:2;stroke-dasharray:4 4}.x{stroke:#a51d14;stroke-width:2;fill:none}
-.ask{fill:#fff;stroke:#1a1a1a}.edge{fill:#5c2e00}.done{fill:#1a1a1a;stroke:#1a1a1a}.y{fill:transparent}
-a:focus{outline:none}a:focus .y{stroke:#1a1a1a;stroke-width:2}a:target .y{fill:#ffe98a}a:target~a{opacity:.12}
-</style>
-</head>
-<body>
+
+/// 25 Orders of an empty queue, drawn in a page: the first sheet.
+const FIRST_SHEET: &str = "\
 <svg xmlns=\"http://www.w3.org/2000/svg\" viewBox=\"0 0 800 1448\" width=\"800\" height=\"1448\">
 <title>Snoop, MSI, 24 steps drawn</title>
 <rect class=\"paper\" x=\"0\" y=\"0\" width=\"800\" height=\"1448\"/>
 <text class=\"s\" x=\"12\" y=\"20\">MSI</text>
 <text class=\"t\" x=\"28\" y=\"77\" text-anchor=\"end\">0</text>
 <text class=\"t\" x=\"40\" y=\"77\">reset</text>
-<a id=\"s1\" href=\"#s1\">
-<title>1. O,0: refused NothingWaiting</title>
-<rect class=\"y\" x=\"0\" y=\"82\" width=\"800\" height=\"54\"/>
-<path class=\"h\" d=\"M0 82L800 82\"/>
-<text class=\"t\" x=\"28\" y=\"95\" text-anchor=\"end\">1</text>
-<text class=\"s\" x=\"40\" y=\"95\">O,0</text>
-<text class=\"z\" x=\"128\" y=\"95\">refused NothingWaiting</text>
-</a>
-<a id=\"s2\" href=\"#s2\">
-<title>2. O,0: refused NothingWaiting</title>
-<rect class=\"y\" x=\"0\" y=\"136\" width=\"800\" height=\"54\"/>
-<path class=\"h\" d=\"M0 136L800 136\"/>
-<text class=\"t\" x=\"28\" y=\"149\" text-anchor=\"end\">2</text>
-<text class=\"s\" x=\"40\" y=\"149\">O,0</text>
-<text class=\"z\" x=\"128\" y=\"149\">refused NothingWaiting</text>
-</a>
-<a id=\"s3\" href=\"#s3\">
-<title>3. O,0: refused NothingWaiting</title>
-<rect class=\"y\" x=\"0\" y=\"190\" width=\"800\" height=\"54\"/>
-<path class=\"h\" d=\"M0 190L800 190\"/>
-<text class=\"t\" x=\"28\" y=\"203\" text-anchor=\"end\">3</text>
-<text class=\"s\" x=\"40\" y=\"203\">O,0</text>
-<text class=\"z\" x=\"128\" y=\"203\">refused NothingWaiting</text>
-</a>
-<a id=\"s4\" href=\"#s4\">
-<title>4. O,0: refused NothingWaiting</title>
-<rect class=\"y\" x=\"0\" y=\"244\" width=\"800\" height=\"54\"/>
-<path class=\"h\" d=\"M0 244L800 244\"/>
-<text class=\"t\" x=\"28\" y=\"257\" text-anchor=\"end\">4</text>
-<text class=\"s\" x=\"40\" y=\"257\">O,0</text>
-<text class=\"z\" x=\"128\" y=\"257\">refused NothingWaiting</text>
-</a>
-<a id=\"s5\" href=\"#s5\">
-<title>5. O,0: refused NothingWaiting</title>
-<rect class=\"y\" x=\"0\" y=\"298\" width=\"800\" height=\"54\"/>
-<path class=\"h\" d=\"M0 298L800 298\"/>
-<text class=\"t\" x=\"28\" y=\"311\" text-anchor=\"end\">5</text>
-<text class=\"s\" x=\"40\" y=\"311\">O,0</text>
-<text class=\"z\" x=\"128\" y=\"311\">refused NothingWaiting</text>
-</a>
-<a id=\"s6\" href=\"#s6\">
-<title>6. O,0: refused NothingWaiting</title>
-<rect class=\"y\" x=\"0\" y=\"352\" width=\"800\" height=\"54\"/>
-<path class=\"h\" d=\"M0 352L800 352\"/>
-<text class=\"t\" x=\"28\" y=\"365\" text-anchor=\"end\">6</text>
-<text class=\"s\" x=\"40\" y=\"365\">O,0</text>
-<text class=\"z\" x=\"128\" y=\"365\">refused NothingWaiting</text>
-</a>
-<a id=\"s7\" href=\"#s7\">
-<title>7. O,0: refused NothingWaiting</title>
-<rect class=\"y\" x=\"0\" y=\"406\" width=\"800\" height=\"54\"/>
-<path class=\"h\" d=\"M0 406L800 406\"/>
-<text class=\"t\" x=\"28\" y=\"419\" text-anchor=\"end\">7</text>
-<text class=\"s\" x=\"40\" y=\"419\">O,0</text>
-<text class=\"z\" x=\"128\" y=\"419\">refused NothingWaiting</text>
-</a>
-<a id=\"s8\" href=\"#s8\">
-<title>8. O,0: refused NothingWaiting</title>
-<rect class=\"y\" x=\"0\" y=\"460\" width=\"800\" height=\"54\"/>
-<path class=\"h\" d=\"M0 460L800 460\"/>
-<text class=\"t\" x=\"28\" y=\"473\" text-anchor=\"end\">8</text>
-<text class=\"s\" x=\"40\" y=\"473\">O,0</text>
-<text class=\"z\" x=\"128\" y=\"473\">refused NothingWaiting</text>
-</a>
-<a id=\"s9\" href=\"#s9\">
-<title>9. O,0: refused NothingWaiting</title>
-<rect class=\"y\" x=\"0\" y=\"514\" width=\"800\" height=\"54\"/>
-<path class=\"h\" d=\"M0 514L800 514\"/>
-<text class=\"t\" x=\"28\" y=\"527\" text-anchor=\"end\">9</text>
-<text class=\"s\" x=\"40\" y=\"527\">O,0</text>
-<text class=\"z\" x=\"128\" y=\"527\">refused NothingWaiting</text>
-</a>
-<a id=\"s10\" href=\"#s10\">
-<title>10. O,0: refused NothingWaiting</title>
-<rect class=\"y\" x=\"0\" y=\"568\" width=\"800\" height=\"54\"/>
-<path class=\"h\" d=\"M0 568L800 568\"/>
-<text class=\"t\" x=\"28\" y=\"581\" text-anchor=\"end\">10</text>
-<text class=\"s\" x=\"40\" y=\"581\">O,0</text>
-<text class=\"z\" x=\"128\" y=\"581\">refused NothingWaiting</text>
-</a>
-<a id=\"s11\" href=\"#s11\">
-<title>11. O,0: refused NothingWaiting</title>
-<rect class=\"y\" x=\"0\" y=\"622\" width=\"800\" height=\"54\"/>
-<path class=\"h\" d=\"M0 622L800 622\"/>
-<text class=\"t\" x=\"28\" y=\"635\" text-anchor=\"end\">11</text>
-<text class=\"s\" x=\"40\" y=\"635\">O,0</text>
-<text class=\"z\" x=\"128\" y=\"635\">refused NothingWaiting</text>
-</a>
-<a id=\"s12\" href=\"#s12\">
-<title>12. O,0: refused NothingWaiting</title>
-<rect class=\"y\" x=\"0\" y=\"676\" width=\"800\" height=\"54\"/>
-<path class=\"h\" d=\"M0 676L800 676\"/>
-<text class=\"t\" x=\"28\" y=\"689\" text-anchor=\"end\">12</text>
-<text class=\"s\" x=\"40\" y=\"689\">O,0</text>
-<text class=\"z\" x=\"128\" y=\"689\">refused NothingWaiting</text>
-</a>
-<a id=\"s13\" href=\"#s13\">
-<title>13. O,0: refused NothingWaiting</title>
-<rect class=\"y\" x=\"0\" y=\"730\" width=\"800\" height=\"54\"/>
-<path class=\"h\" d=\"M0 730L800 730\"/>
-<text class=\"t\" x=\"28\" y=\"743\" text-anchor=\"end\">13</text>
-<text class=\"s\" x=\"40\" y=\"743\">O,0</text>
-<text class=\"z\" x=\"128\" y=\"743\">refused NothingWaiting</text>
-</a>
-<a id=\"s14\" href=\"#s14\">
-<title>14. O,0: refused NothingWaiting</title>
-<rect class=\"y\" x=\"0\" y=\"784\" width=\"800\" height=\"54\"/>
-<path class=\"h\" d=\"M0 784L800 784\"/>
-<text class=\"t\" x=\"28\" y=\"797\" text-anchor=\"end\">14</text>
-<text class=\"s\" x=\"40\" y=\"797\">O,0</text>
-<text class=\"z\" x=\"128\" y=\"797\">refused NothingWaiting</text>
-</a>
-<a id=\"s15\" href=\"#s15\">
-<title>15. O,0: refused NothingWaiting</title>
-<rect class=\"y\" x=\"0\" y=\"838\" width=\"800\" height=\"54\"/>
-<path class=\"h\" d=\"M0 838L800 838\"/>
-<text class=\"t\" x=\"28\" y=\"851\" text-anchor=\"end\">15</text>
-<text class=\"s\" x=\"40\" y=\"851\">O,0</text>
-<text class=\"z\" x=\"128\" y=\"851\">refused NothingWaiting</text>
-</a>
-<a id=\"s16\" href=\"#s16\">
-<title>16. O,0: refused NothingWaiting</title>
-<rect class=\"y\" x=\"0\" y=\"892\" width=\"800\" height=\"54\"/>
-<path class=\"h\" d=\"M0 892L800 892\"/>
-<text class=\"t\" x=\"28\" y=\"905\" text-anchor=\"end\">16</text>
-<text class=\"s\" x=\"40\" y=\"905\">O,0</text>
-<text class=\"z\" x=\"128\" y=\"905\">refused NothingWaiting</text>
-</a>
-<a id=\"s17\" href=\"#s17\">
-<title>17. O,0: refused NothingWaiting</title>
-<rect class=\"y\" x=\"0\" y=\"946\" width=\"800\" height=\"54\"/>
-<path class=\"h\" d=\"M0 946L800 946\"/>
-<text class=\"t\" x=\"28\" y=\"959\" text-anchor=\"end\">17</text>
-<text class=\"s\" x=\"40\" y=\"959\">O,0</text>
-<text class=\"z\" x=\"128\" y=\"959\">refused NothingWaiting</text>
-</a>
-<a id=\"s18\" href=\"#s18\">
-<title>18. O,0: refused NothingWaiting</title>
-<rect class=\"y\" x=\"0\" y=\"1000\" width=\"800\" height=\"54\"/>
-<path class=\"h\" d=\"M0 1000L800 1000\"/>
-<text class=\"t\" x=\"28\" y=\"1013\" text-anchor=\"end\">18</text>
-<text class=\"s\" x=\"40\" y=\"1013\">O,0</text>
-<text class=\"z\" x=\"128\" y=\"1013\">refused NothingWaiting</text>
-</a>
-<a id=\"s19\" href=\"#s19\">
-<title>19. O,0: refused NothingWaiting</title>
-<rect class=\"y\" x=\"0\" y=\"1054\" width=\"800\" height=\"54\"/>
-<path class=\"h\" d=\"M0 1054L800 1054\"/>
-<text class=\"t\" x=\"28\" y=\"1067\" text-anchor=\"end\">19</text>
-<text class=\"s\" x=\"40\" y=\"1067\">O,0</text>
-<text class=\"z\" x=\"128\" y=\"1067\">refused NothingWaiting</text>
-</a>
-<a id=\"s20\" href=\"#s20\">
-<title>20. O,0: refused NothingWaiting</title>
-<rect class=\"y\" x=\"0\" y=\"1108\" width=\"800\" height=\"54\"/>
-<path class=\"h\" d=\"M0 1108L800 1108\"/>
-<text class=\"t\" x=\"28\" y=\"1121\" text-anchor=\"end\">20</text>
-<text class=\"s\" x=\"40\" y=\"1121\">O,0</text>
-<text class=\"z\" x=\"128\" y=\"1121\">refused NothingWaiting</text>
-</a>
-<a id=\"s21\" href=\"#s21\">
-<title>21. O,0: refused NothingWaiting</title>
-<rect class=\"y\" x=\"0\" y=\"1162\" width=\"800\" height=\"54\"/>
-<path class=\"h\" d=\"M0 1162L800 1162\"/>
-<text class=\"t\" x=\"28\" y=\"1175\" text-anchor=\"end\">21</text>
-<text class=\"s\" x=\"40\" y=\"1175\">O,0</text>
-<text class=\"z\" x=\"128\" y=\"1175\">refused NothingWaiting</text>
-</a>
-<a id=\"s22\" href=\"#s22\">
-<title>22. O,0: refused NothingWaiting</title>
-<rect class=\"y\" x=\"0\" y=\"1216\" width=\"800\" height=\"54\"/>
-<path class=\"h\" d=\"M0 1216L800 1216\"/>
-<text class=\"t\" x=\"28\" y=\"1229\" text-anchor=\"end\">22</text>
-<text class=\"s\" x=\"40\" y=\"1229\">O,0</text>
-<text class=\"z\" x=\"128\" y=\"1229\">refused NothingWaiting</text>
-</a>
-<a id=\"s23\" href=\"#s23\">
-<title>23. O,0: refused NothingWaiting</title>
-<rect class=\"y\" x=\"0\" y=\"1270\" width=\"800\" height=\"54\"/>
-<path class=\"h\" d=\"M0 1270L800 1270\"/>
-<text class=\"t\" x=\"28\" y=\"1283\" text-anchor=\"end\">23</text>
-<text class=\"s\" x=\"40\" y=\"1283\">O,0</text>
-<text class=\"z\" x=\"128\" y=\"1283\">refused NothingWaiting</text>
-</a>
-<a id=\"s24\" href=\"#s24\">
-<title>24. O,0: refused NothingWaiting</title>
-<rect class=\"y\" x=\"0\" y=\"1324\" width=\"800\" height=\"54\"/>
-<path class=\"h\" d=\"M0 1324L800 1324\"/>
-<text class=\"t\" x=\"28\" y=\"1337\" text-anchor=\"end\">24</text>
-<text class=\"s\" x=\"40\" y=\"1337\">O,0</text>
-<text class=\"z\" x=\"128\" y=\"1337\">refused NothingWaiting</text>
-</a>
-<rect class=\"w\" x=\"12\" y=\"1396\" width=\"14\" height=\"14\"/>
-<rect class=\"edge\" x=\"12\" y=\"1396\" width=\"4\" height=\"14\"/>
-<text class=\"t\" x=\"32\" y=\"1407\">may write</text>
-<rect class=\"r\" x=\"116\" y=\"1396\" width=\"14\" height=\"14\"/>
-<text class=\"t\" x=\"136\" y=\"1407\">may read</text>
-<rect class=\"b\" x=\"212\" y=\"1396\" width=\"14\" height=\"14\"/>
-<text class=\"t\" x=\"232\" y=\"1407\">open transaction</text>
-<rect class=\"m\" x=\"372\" y=\"1396\" width=\"14\" height=\"14\"/>
-<text class=\"t\" x=\"392\" y=\"1407\">memory sends, else (value)</text>
-<rect class=\"ask\" x=\"12\" y=\"1425\" width=\"7\" height=\"7\"/>
-<text class=\"t\" x=\"24\" y=\"1433\">asked</text>
-<rect class=\"done\" x=\"80\" y=\"1425\" width=\"7\" height=\"7\"/>
-<text class=\"t\" x=\"92\" y=\"1433\">performed</text>
-<path class=\"q\" d=\"M184 1425L184 1439\"/>
-<circle class=\"i\" cx=\"184\" cy=\"1425\" r=\"4\"/>
-<text class=\"t\" x=\"194\" y=\"1433\">issued (#2: second in the queue)</text>
-<path class=\"d\" d=\"M470 1425L470 1439\"/>
-<circle class=\"p\" cx=\"470\" cy=\"1425\" r=\"4\"/>
-<text class=\"t\" x=\"480\" y=\"1433\">ordered</text>
-<path class=\"g\" d=\"M556 1429H574M580 1429l-7 -4v8z\"/>
-<text class=\"t\" x=\"588\" y=\"1433\">message</text>
-<path class=\"x\" d=\"M660 1425l8 8m0 -8l-8 8\"/>
-<text class=\"t\" x=\"674\" y=\"1433\">refused</text>
-</svg>
+";
+
+/// The second sheet, which has one row.
+const SECOND_SHEET: &str = "\
 <svg xmlns=\"http://www.w3.org/2000/svg\" viewBox=\"0 0 800 206\" width=\"800\" height=\"206\">
 <title>Snoop, MSI, 1 steps drawn</title>
 <rect class=\"paper\" x=\"0\" y=\"0\" width=\"800\" height=\"206\"/>
 <text class=\"s\" x=\"12\" y=\"20\">MSI</text>
 <text class=\"t\" x=\"28\" y=\"77\" text-anchor=\"end\">24</text>
 <text class=\"t\" x=\"40\" y=\"77\">before</text>
-<a id=\"s25\" href=\"#s25\">
-<title>25. O,0: refused NothingWaiting</title>
-<rect class=\"y\" x=\"0\" y=\"82\" width=\"800\" height=\"54\"/>
-<path class=\"h\" d=\"M0 82L800 82\"/>
-<text class=\"t\" x=\"28\" y=\"95\" text-anchor=\"end\">25</text>
-<text class=\"s\" x=\"40\" y=\"95\">O,0</text>
-<text class=\"z\" x=\"128\" y=\"95\">refused NothingWaiting</text>
-</a>
-<rect class=\"w\" x=\"12\" y=\"154\" width=\"14\" height=\"14\"/>
-<rect class=\"edge\" x=\"12\" y=\"154\" width=\"4\" height=\"14\"/>
-<text class=\"t\" x=\"32\" y=\"165\">may write</text>
-<rect class=\"r\" x=\"116\" y=\"154\" width=\"14\" height=\"14\"/>
-<text class=\"t\" x=\"136\" y=\"165\">may read</text>
-<rect class=\"b\" x=\"212\" y=\"154\" width=\"14\" height=\"14\"/>
-<text class=\"t\" x=\"232\" y=\"165\">open transaction</text>
-<rect class=\"m\" x=\"372\" y=\"154\" width=\"14\" height=\"14\"/>
-<text class=\"t\" x=\"392\" y=\"165\">memory sends, else (value)</text>
-<rect class=\"ask\" x=\"12\" y=\"183\" width=\"7\" height=\"7\"/>
-<text class=\"t\" x=\"24\" y=\"191\">asked</text>
-<rect class=\"done\" x=\"80\" y=\"183\" width=\"7\" height=\"7\"/>
-<text class=\"t\" x=\"92\" y=\"191\">performed</text>
-<path class=\"q\" d=\"M184 183L184 197\"/>
-<circle class=\"i\" cx=\"184\" cy=\"183\" r=\"4\"/>
-<text class=\"t\" x=\"194\" y=\"191\">issued (#2: second in the queue)</text>
-<path class=\"d\" d=\"M470 183L470 197\"/>
-<circle class=\"p\" cx=\"470\" cy=\"183\" r=\"4\"/>
-<text class=\"t\" x=\"480\" y=\"191\">ordered</text>
-<path class=\"g\" d=\"M556 187H574M580 187l-7 -4v8z\"/>
-<text class=\"t\" x=\"588\" y=\"191\">message</text>
-<path class=\"x\" d=\"M660 183l8 8m0 -8l-8 8\"/>
-<text class=\"t\" x=\"674\" y=\"191\">refused</text>
-</svg>
-<pre aria-live=\"polite\">Click a row, or go through the steps with the arrow keys. Esc shows the whole run.</pre>
-<script>
-const rows = [...document.querySelectorAll(\"a[id]\")], notes = document.querySelector(\"pre\");
-const sheet = document.querySelector(\"svg\"), names = sheet.cloneNode();
-names.id = \"names\";
-names.setAttribute(\"height\", 56);
-names.setAttribute(\"viewBox\", `0 0 ${names.getAttribute(\"width\")} 56`);
-names.setAttribute(\"aria-hidden\", true);
-for (const part of sheet.children) {
-  if (part.matches(\".paper\") || part.matches(\"text\") && part.getAttribute(\"y\") < 56) names.append(part.cloneNode(true));
-}
-document.body.prepend(names);
-const at = () => rows.findIndex(row => \"#\" + row.id === location.hash);
-function show() {
-  const row = rows[at()];
-  if (!row) return;
-  notes.textContent = row.querySelector(\"title\").textContent;
-  row.scrollIntoView({block: \"center\"});
-  const marks = [...row.querySelectorAll(\".o,.a,.i,.x,.p,.g,.v\")].map(mark => mark.getBoundingClientRect());
-  if (!marks.length) return;
-  const left = Math.min(...marks.map(mark => mark.left)), right = Math.max(...marks.map(mark => mark.right));
-  const panels = [...names.querySelectorAll(\".t\"), row.querySelectorAll(\"text\")[2]].map(text => text.getBoundingClientRect().left);
-  const start = Math.max(...panels.filter(x => x <= left)), end = Math.min(...panels.filter(x => x > left));
-  const wide = document.documentElement.clientWidth, [from, to] = end - start > wide ? [left - 48, right + 48] : [start, end];
-  scrollBy(from < 0 || to - from > wide ? from : Math.max(0, to - wide), 0);
-}
-addEventListener(\"hashchange\", show);
-addEventListener(\"keydown\", event => {
-  const by = {ArrowDown: 1, ArrowRight: 1, ArrowUp: -1, ArrowLeft: -1}[event.key];
-  if (event.key === \"Escape\") location.hash = \"all\";
-  if (!by || !rows.length) return;
-  event.preventDefault();
-  location.hash = rows[Math.max(0, Math.min(rows.length - 1, at() + by))].id;
-});
-addEventListener(\"load\", show);
-</script>
-</body>
-</html>
 ";
+
+/// Such a row: `^^` stands for its number, `^13^` for a height, 13 below its top.
+const REFUSED: &str = "\
+<a id=\"s^^\" href=\"#s^^\">
+<title>^^. O,0: refused NothingWaiting</title>
+<rect class=\"y\" x=\"0\" y=\"^0^\" width=\"800\" height=\"54\"/>
+<path class=\"h\" d=\"M0 ^0^L800 ^0^\"/>
+<text class=\"t\" x=\"28\" y=\"^13^\" text-anchor=\"end\">^^</text>
+<text class=\"s\" x=\"40\" y=\"^13^\">O,0</text>
+<text class=\"z\" x=\"128\" y=\"^13^\">refused NothingWaiting</text>
+</a>
+";
+
+// Appends the texts.
+fn push_all(out: &mut String, texts: &[&str]) -> Result<(), Fail> {
+    for text in texts {
+        out.push_str(text)?;
+    }
+    Ok(())
+}
+
+// Appends the text with this number and with heights below this one.
+fn push_at(out: &mut String, text: &str, number: u32, height: u32) -> Result<(), Fail> {
+    for (place, piece) in text.split('^').enumerate() {
+        if place % 2 == 0 {
+            out.push_str(piece)?;
+        } else if piece.is_empty() {
+            write!(out, "{number}")?;
+        } else {
+            let below: u32 = piece.parse()?;
+            write!(out, "{}", height.saturating_add(below))?;
+        }
+    }
+    Ok(())
+}
+
+// Appends a legend under MSI whose squares stand at this height, and the end of its drawing.
+fn push_legend(out: &mut String, height: u16) -> Result<(), Fail> {
+    push_at(out, COLOURS, 0, u32::from(height))?;
+    push_at(out, MARKS, 0, u32::from(height) + 29)?;
+    out.push_str(END)?;
+    Ok(())
+}
 
 // Whether the drawing of the text is this one.
 fn is_drawn(
@@ -816,13 +533,16 @@ fn a_first_load(rt: HostRuntime) -> Result<(), Fail> {
         shown: u64::MAX,
     };
     let text = LOAD.as_bytes();
+    let mut drawn = String::new(rt.alloc());
+    push_all(&mut drawn, &[LOAD_HEAD, STYLE, LOAD_ROWS])?;
+    push_legend(&mut drawn, 262)?;
     if !is_drawn(
         rt.alloc(),
         text,
         Protocol::Msi,
         from(None, 1)?,
         paper,
-        LOAD_DRAWN,
+        &drawn,
     )? {
         Err("the load")?
     }
@@ -837,13 +557,20 @@ fn three_rows_of_a_writeback(rt: HostRuntime) -> Result<(), Fail> {
         shown: 3,
     };
     let text = WRITEBACK.as_bytes();
+    let mut drawn = String::new(rt.alloc());
+    push_all(
+        &mut drawn,
+        &[WRITEBACK_HEAD, STYLE, DARK_STYLE, WRITEBACK_ROWS],
+    )?;
+    push_at(&mut drawn, MARKS, 0, 507)?;
+    drawn.push_str(END)?;
     if !is_drawn(
         rt.alloc(),
         text,
         Protocol::Mesi,
         from(None, 4)?,
         paper,
-        WRITEBACK_DRAWN,
+        &drawn,
     )? {
         Err("the writeback")?
     }
@@ -858,13 +585,30 @@ fn a_block_as_a_page(rt: HostRuntime) -> Result<(), Fail> {
         shown: u64::MAX,
     };
     let text = BEHIND.as_bytes();
+    let mut drawn = String::new(rt.alloc());
+    push_all(
+        &mut drawn,
+        &[PAGE, ":root{color-scheme:light dark}\n", PAGE_STYLE, STYLE],
+    )?;
+    push_all(
+        &mut drawn,
+        &[
+            "@media screen and (prefers-color-scheme:dark){\n",
+            DARK_STYLE,
+            "}\n",
+            BODY,
+        ],
+    )?;
+    drawn.push_str(BEHIND_ROWS)?;
+    push_legend(&mut drawn, 316)?;
+    drawn.push_str(SCRIPT)?;
     if !is_drawn(
         rt.alloc(),
         text,
         Protocol::Msi,
         from(Some(1), 3)?,
         paper,
-        BEHIND_DRAWN,
+        &drawn,
     )? {
         Err("the page")?
     }
@@ -882,13 +626,27 @@ fn two_sheets(rt: HostRuntime) -> Result<(), Fail> {
     for _step in 0..25 {
         text.extend_from_slice(b"O,0\n")?;
     }
+    let mut drawn = String::new(rt.alloc());
+    push_all(
+        &mut drawn,
+        &[PAGE, ":root{color-scheme:light}\n", PAGE_STYLE, STYLE, BODY],
+    )?;
+    drawn.push_str(FIRST_SHEET)?;
+    for number in 1..25 {
+        push_at(&mut drawn, REFUSED, number, 28 + 54 * number)?;
+    }
+    push_legend(&mut drawn, 1396)?;
+    drawn.push_str(SECOND_SHEET)?;
+    push_at(&mut drawn, REFUSED, 25, 82)?;
+    push_legend(&mut drawn, 154)?;
+    drawn.push_str(SCRIPT)?;
     if !is_drawn(
         rt.alloc(),
         &text,
         Protocol::Msi,
         from(None, 1)?,
         paper,
-        SHEETS_DRAWN,
+        &drawn,
     )? {
         Err("the sheets")?
     }

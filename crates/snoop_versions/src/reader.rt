@@ -8,28 +8,39 @@ use snoop_history::{Did, Totals};
 use snoop_trace::Shape;
 use std::marker::Model;
 
-/// What makes readers. Threads may share it.
+/// What makes readers of versions of its shape. Threads may share it.
 #[derive(Drop)]
 pub struct Readers {
+    shape: Shape,
     factory: RuledFactory,
+}
+
+impl Model for Readers {
+    ghost use Rattle.snoop_trace.specs.Extent.{Extent};
+
+    ghost Value = { Extent };
+
+    ghost view = { λ r. r.shape };
 }
 
 impl Readers {
     ghost use Rattle.std.specs.Prelude.{◌≡◌, ◌&&◌, IfSome};
     ghost use Rattle.snoop_history.specs.History.{Legal};
 
-    pub(crate) fn over(factory: RuledFactory) -> Readers {
-        Readers { factory }
+    // What makes readers of the versions of this shape.
+    pub(crate) fn over(shape: Shape, factory: RuledFactory) -> Readers
+        ensures { result ≡ shape }
+    {
+        Readers { shape, factory }
     }
 
-    /// A reader of versions of this shape, which has read the current version. `None` where there is no place left, where the
-    /// writer has ended, and where the versions are of another number of cores, blocks or words.
-    pub fn reader(&self, shape: Shape) -> Option<VersionReader>
-        ensures shape { IfSome result (λ reader. (reader.cores ≡ shape.cores) × (reader.blocks ≡ shape.blocks) × (reader.words ≡ shape.words)) }
+    /// A reader, which has read the current version. `None` where there is no place left, and where the writer has ended.
+    pub fn reader(&self) -> Option<VersionReader>
+        ensures shape { IfSome result (λ reader. (reader.cores ≡ self.now.cores) × (reader.blocks ≡ self.now.blocks) × (reader.words ≡ self.now.words)) }
         ensures legal { IfSome result (λ reader. Legal reader.seen) }
     {
         let reader = self.factory.reader().ok()?;
-        let (reader, fits) = enter_shape(reader, shape);
+        let (reader, fits) = enter_shape(reader, self.shape);
         if !fits {
             return None;
         }

@@ -6,7 +6,7 @@ use crate::reader::Readers;
 use crate::rule::RuledWriter;
 use crate::version::Version;
 use core::mem::replace_with;
-use snoop_history::Item;
+use snoop_history::{Board, Item};
 use snoop_trace::{NoMemory, Shape};
 use std::alloc::Global;
 use std::marker::Model;
@@ -37,6 +37,7 @@ impl Model for VersionWriter {
 
 impl VersionWriter {
     ghost use Rattle.std.specs.Prelude.{◌≡◌, ◌<◌, ◌^◌, [], ◌∷◌, ◌++◌, All, IfOk, OnOk, OnErr};
+    ghost use Rattle.snoop_history.specs.Board.{board_of};
     ghost use Rattle.snoop_history.specs.History.{Legal};
     ghost use Rattle.snoop_history.specs.Within.{IsWithin};
 
@@ -53,9 +54,11 @@ impl VersionWriter {
         Ok(VersionWriter { shape, writer })
     }
 
-    /// What makes readers. `NoMemory` where the count of its owners is full.
-    pub fn readers(&self) -> Result<Readers, NoMemory> {
-        Ok(Readers::over(self.writer.factory().another()?))
+    /// What makes readers of these versions. `NoMemory` where the count of its owners is full.
+    pub fn readers(&self) -> Result<Readers, NoMemory>
+        ensures { IfOk result (λ readers. (readers.cores ≡ self.now.cores) × (readers.blocks ≡ self.now.blocks) × (readers.words ≡ self.now.words)) }
+    {
+        Ok(Readers::over(self.shape, self.writer.factory().another()?))
     }
 
     /// Appends the item that `publish` will show. `NoMemory` leaves all as it was.
@@ -79,9 +82,13 @@ impl VersionWriter {
         }
     }
 
-    /// Ends the versions: readers find none from then on. It waits for those that still read.
-    pub fn end<R: Wait>(self, rt: &R) {
+    /// Ends the versions, and hands over the board that was published last: readers find none from then on. It waits for those
+    /// that still read.
+    pub fn end<R: Wait>(self, rt: &R) -> Board
+        ensures { result ≡ board_of self.cores self.blocks self.words self.list }
+    {
         let VersionWriter { shape: _, writer } = self;
-        drop(ManuallyDrop::into_inner(writer).take(rt));
+        let last = Box::into_inner(ManuallyDrop::into_inner(writer).take(rt));
+        last.board
     }
 }

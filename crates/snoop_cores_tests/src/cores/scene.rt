@@ -1,4 +1,7 @@
 //! A small shared machine for the tests: 4 blocks of 64 bytes, and a watch.
+ghost use Rattle.std.specs.Prelude.{◌≡◌, IfOk, IfSome};
+ghost use Rattle.snoop_trace.specs.declared.protocol.Protocol.TheVariants.{Msi};
+ghost use Rattle.snoop_cores.specs.Seats.{AreSeats, AreWatches};
 
 use snoop_cores::{
     Gate, GatherFault, Gathered, RunFault, Seat, SeatFault, Shared, Stop, Turn, ViewFault, Watch,
@@ -20,26 +23,42 @@ pub(super) struct Scene {
 
 impl Scene {
     /// A scene under MSI. Where one was refused, it is asked for again.
-    pub fn new<R: Wait>(rt: &R, alloc: Global, cores: u32) -> Result<Scene, Fail> {
-        let scene = Scene::make(rt, alloc, Protocol::Msi, cores);
-        match scene.or_else(|| Scene::make(rt, alloc, Protocol::Msi, cores)) {
+    pub(super) fn new<R: Wait>(rt: &R, alloc: Global, cores: u32) -> Result<Scene, Fail>
+        ensures shared { IfOk result (λ scene. scene.shared ≡ record { protocol = Msi; shape = record { cores = cores; blocks = 4; block_bytes = 64; words = 1 } }) }
+        ensures seats { IfOk result (λ scene. AreSeats scene.shared.shape scene.seats.items × AreWatches 1 scene.shared.shape scene.watches.items) }
+    {
+        if let Some(scene) = Scene::make(rt, alloc, Protocol::Msi, cores) {
+            return Ok(scene);
+        }
+        match Scene::make(rt, alloc, Protocol::Msi, cores) {
             Some(scene) => Ok(scene),
             None => Err(Fail::from("a shared machine")),
         }
     }
 
     /// `None` where it is refused.
-    pub fn make<R: Wait>(rt: &R, alloc: Global, protocol: Protocol, cores: u32) -> Option<Scene> {
+    pub(super) fn make<R: Wait>(
+        rt: &R,
+        alloc: Global,
+        protocol: Protocol,
+        cores: u32,
+    ) -> Option<Scene>
+        ensures shared { IfSome result (λ scene. scene.shared ≡ record { protocol = protocol; shape = record { cores = cores; blocks = 4; block_bytes = 64; words = 1 } }) }
+        ensures seats { IfSome result (λ scene. AreSeats scene.shared.shape scene.seats.items × AreWatches 1 scene.shared.shape scene.watches.items) }
+    {
         Scene::in_shape(rt, alloc, protocol, Shape::new(cores, 4, 64).ok()?)
     }
 
     /// A scene of another shape. `None` where it is refused.
-    pub fn in_shape<R: Wait>(
+    pub(super) fn in_shape<R: Wait>(
         rt: &R,
         alloc: Global,
         protocol: Protocol,
         shape: Shape,
-    ) -> Option<Scene> {
+    ) -> Option<Scene>
+        ensures shared { IfSome result (λ scene. scene.shared ≡ record { protocol = protocol; shape = shape }) }
+        ensures seats { IfSome result (λ scene. AreSeats shape scene.seats.items × AreWatches 1 shape scene.watches.items) }
+    {
         let (shared, seats, watches) = Shared::new(rt, alloc, protocol, shape, 1).ok()?;
         Some(Scene {
             shared,
@@ -49,7 +68,7 @@ impl Scene {
     }
 
     /// Makes the core's call for the work. The answer is the turn that ends it.
-    pub fn call<R: Wait>(
+    pub(super) fn call<R: Wait>(
         &mut self,
         rt: &R,
         core: u32,
@@ -70,7 +89,7 @@ impl Scene {
     }
 
     /// Makes the call; out of memory, once more.
-    pub fn call_at_last<R: Wait>(
+    pub(super) fn call_at_last<R: Wait>(
         &mut self,
         rt: &R,
         core: u32,
@@ -83,7 +102,7 @@ impl Scene {
     }
 
     /// Lets the seats perform the rows.
-    pub fn run<R: Threads + Wait + Sync, G: Gate + Sync>(
+    pub(super) fn run<R: Threads + Wait + Sync, G: Gate + Sync>(
         &mut self,
         rt: &R,
         alloc: Global,
@@ -94,7 +113,7 @@ impl Scene {
     }
 
     /// Whether the core's seat was answered these operations: of each, whether it is a load, and its value.
-    pub fn was_answered(&self, core: u32, expected: &[(bool, u64)]) -> bool {
+    pub(super) fn was_answered(&self, core: u32, expected: &[(bool, u64)]) -> bool {
         let Some(seat) = self.seats.get(core as usize) else {
             return false;
         };
@@ -106,28 +125,33 @@ impl Scene {
     }
 
     /// The value that the core's seat reads.
-    pub fn seated(&mut self, core: u32, block: u32, word: u32) -> Option<Result<u64, ViewFault>> {
+    pub(super) fn seated(
+        &mut self,
+        core: u32,
+        block: u32,
+        word: u32,
+    ) -> Option<Result<u64, ViewFault>> {
         Some(self.seats.get_mut(core as usize)?.value(block, word))
     }
 
     /// The value that the watch reads.
-    pub fn watched(&mut self, block: u32, word: u32) -> Option<Result<u64, ViewFault>> {
+    pub(super) fn watched(&mut self, block: u32, word: u32) -> Option<Result<u64, ViewFault>> {
         Some(self.watches.get_mut(0)?.value(block, word))
     }
 
     /// The counts that the watch reads.
-    pub fn counted(&mut self) -> Option<[u64; 12]> {
+    pub(super) fn counted(&mut self) -> Option<[u64; 12]> {
         let totals = self.watches.get_mut(0)?.totals().ok()?;
         Some(counts(totals))
     }
 
     /// What gathers; `None` where it is refused.
-    pub fn gathered<R: Wait>(&self, rt: &R, alloc: Global) -> Option<Gathered> {
+    pub(super) fn gathered<R: Wait>(&self, rt: &R, alloc: Global) -> Option<Gathered> {
         gather(rt, alloc, &self.shared, self.seats.as_slice()).ok()
     }
 
     /// What a gathering shows; `None` where it is refused.
-    pub fn shown<R: Wait>(&self, rt: &R, alloc: Global) -> Option<Shown> {
+    pub(super) fn shown<R: Wait>(&self, rt: &R, alloc: Global) -> Option<Shown> {
         let gathered = self.gathered(rt, alloc)?;
         let log = &gathered.log;
         Some(Shown {
@@ -138,11 +162,16 @@ impl Scene {
     }
 
     /// Why nothing gathers; `None` where it does.
-    pub fn refusal<R: Wait>(&self, rt: &R, alloc: Global, seats: &[Seat]) -> Option<GatherFault> {
+    pub(super) fn refusal<R: Wait>(
+        &self,
+        rt: &R,
+        alloc: Global,
+        seats: &[Seat],
+    ) -> Option<GatherFault> {
         gather(rt, alloc, &self.shared, seats).err()
     }
 
-    pub fn end<R: Wait>(self, rt: &R) {
+    pub(super) fn end<R: Wait>(self, rt: &R) {
         let Scene {
             shared,
             seats,
@@ -193,11 +222,16 @@ pub(super) fn counts(totals: Totals) -> [u64; 12] {
     ]
 }
 
-pub(super) fn row(core: u32, op: Op, address: u64) -> Row {
+pub(super) fn row(core: u32, op: Op, address: u64) -> Row
+    ensures { result ≡ record { core = core; op = op; address = address } }
+{
     Row { core, op, address }
 }
 
-pub(super) fn work(op: Op) -> Work {
+/// The operation, on word 0 of block 0.
+pub(super) fn work(op: Op) -> Work
+    ensures { result ≡ record { block = 0; word = 0; op = op } }
+{
     Work {
         block: 0,
         word: 0,

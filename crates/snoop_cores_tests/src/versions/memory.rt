@@ -117,9 +117,10 @@ fn an_item_out_of_memory_is_published_later(rt: HostRuntime) -> Result<(), Fail>
     let shape = Shape::new(2, 4, 64)?;
     let mut log = log_at_last(alloc, shape)?;
     let mut writer = writer_at_last(alloc, shape)?;
-    let mut reader = writer.readers().ok().and_then(|readers| readers
-        .reader(shape)
-        .or_else(|| readers.reader(shape)));
+    let mut reader = writer
+        .readers()
+        .ok()
+        .and_then(|readers| readers.reader().or_else(|| readers.reader()));
     let at_first = reader.as_mut().and_then(readings);
     let added = (
         add_at_last(&rt, &mut log, &mut writer, SENT),

@@ -7,32 +7,19 @@ use std::test::Fail;
 #[test]
 fn no_version_to_read(rt: HostRuntime) -> Result<(), Fail> {
     let shape = Shape::new(2, 4, 64)?;
-    let other_blocks = Shape::new(2, 5, 64)?;
-    let other_cores = Shape::new(3, 4, 64)?;
-    let other_words = Shape::with_words(2, 4, 64, 2)?;
     let writer = VersionWriter::new(rt.alloc(), shape, 1)?;
     let Ok(readers) = writer.readers() else {
         writer.end(&rt);
         return Err(Fail::from(NoMemory));
     };
-    let mismatched = (
-        readers.reader(other_blocks).is_none(),
-        readers.reader(other_cores).is_none(),
-        readers.reader(other_words).is_none(),
-    );
-    let mut reader = readers.reader(shape);
-    let full = readers.reader(shape).is_none();
+    let mut reader = readers.reader();
+    let full = readers.reader().is_none();
     let read = reader.as_mut().map(|reader| reader.value(1, 0));
     writer.end(&rt);
     let ended = reader.as_mut().map(|reader| (reader.value(1, 0), reader.totals(), reader.own(1)));
     assert_eq!(rt;
-        (mismatched, full, read, ended),
-        (
-            (true, true, true),
-            true,
-            Some(Some(Some(0))),
-            Some((None, None, None))
-        )
+        (full, read, ended),
+        (true, Some(Some(Some(0))), Some((None, None, None)))
     );
     Ok(())
 }

@@ -1,4 +1,8 @@
 //! What the tests share.
+ghost use Rattle.std.specs.Prelude.{◌≡◌, IfOk};
+ghost use Rattle.snoop_trace.specs.declared.protocol.Protocol.TheVariants.{Msi};
+ghost use Rattle.snoop_trace.specs.declared.step.Step.TheVariants.{Ask, Order, Respond};
+ghost use Rattle.snoop_model.specs.Pictures.Situation.{reset};
 
 use snoop_history::Did;
 use snoop_machine::{Machine, Refused, Reply};
@@ -172,17 +176,24 @@ const STORE_OF_6: Did = Did {
 };
 
 /// So many cores, four blocks of 64 bytes.
-pub fn machine_of(alloc: Global, protocol: Protocol, cores: u32) -> Result<Machine, Fail> {
+pub fn machine_of(alloc: Global, protocol: Protocol, cores: u32) -> Result<Machine, Fail>
+    ensures { IfOk result (λ machine. machine.situation ≡ reset protocol (record { cores = cores; blocks = 4; block_bytes = 64; words = 1 })) }
+{
     let shape = Shape::new(cores, 4, 64)?;
     Ok(Machine::reset(alloc, protocol, shape)?)
 }
 
 /// Two cores, four blocks of 64 bytes, MSI.
-pub fn two_cores(alloc: Global) -> Result<Machine, Fail> {
+pub fn two_cores(alloc: Global) -> Result<Machine, Fail>
+    ensures { IfOk result (λ machine. machine.situation ≡ reset Msi (record { cores = 2; blocks = 4; block_bytes = 64; words = 1 })) }
+{
     machine_of(alloc, Protocol::Msi, 2)
 }
 
-pub fn ask(core: u32, block: u32, op: Op) -> Step {
+/// The core asks for word 0 of the block.
+pub fn ask(core: u32, block: u32, op: Op) -> Step
+    ensures { result ≡ Ask core block 0 op }
+{
     Step::Ask {
         core,
         block,
@@ -191,10 +202,16 @@ pub fn ask(core: u32, block: u32, op: Op) -> Step {
     }
 }
 
-pub fn order(core: u32) -> Step {
+/// The core's request is ordered.
+pub fn order(core: u32) -> Step
+    ensures { result ≡ Order core }
+{
     Step::Order { core }
 }
 
-pub fn respond(block: u32) -> Step {
+/// The block's open transaction gets its response.
+pub fn respond(block: u32) -> Step
+    ensures { result ≡ Respond block }
+{
     Step::Respond { block }
 }
