@@ -80,9 +80,9 @@ pub fn storm(alloc: Global, count: u64, shape: Shape) -> Result<Vec<Step>, NoMem
 {
     let mut seed = 1;
     let mut steps = Vec::new(alloc);
-    for place in 1..=count {
+    for place in 0..count {
         steps
-            .push(step_of(next(&mut seed), place, shape))
+            .push(step_of(next(&mut seed), place + 1, shape))
             .map_err(|_| NoMemory)?;
     }
     Ok(steps)
@@ -95,8 +95,8 @@ pub fn rows(alloc: Global, count: u64, shape: Shape) -> Result<Vec<Row>, NoMemor
 {
     let mut seed = 1;
     let mut rows = Vec::new(alloc);
-    for place in 1..=count {
-        rows.push(row_of(next(&mut seed), place, shape))
+    for place in 0..count {
+        rows.push(row_of(next(&mut seed), place + 1, shape))
             .map_err(|_| NoMemory)?;
     }
     Ok(rows)
