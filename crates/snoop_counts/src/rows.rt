@@ -71,6 +71,16 @@ impl Rows {
         }
     }
 
+    // Counts the first happening for the subject.
+    fn add_first(&mut self, subject: u32, happening: Happening)
+        ensures { self.new ≡ changed self.old subject (raised_all (tried happening) happening) }
+    {
+        if let Some(mut row) = self.get(subject) {
+            row.add(happening);
+            self.set(subject, row);
+        }
+    }
+
     /// Counts the happening for the subject, by all counts but those of what a core does to others.
     #[inline(always)]
     pub(crate) fn add(&mut self, subject: u32, happening: Happening)
@@ -80,9 +90,7 @@ impl Rows {
             return;
         };
         if place == 0 {
-            let mut row = self.first;
-            row.add(happening);
-            self.set(subject, row);
+            self.add_first(subject, happening);
         } else {
             self.written[(place - 1) as usize].add(happening);
         }

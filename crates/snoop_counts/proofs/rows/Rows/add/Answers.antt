@@ -23,6 +23,6 @@ returns-else-place-eq0 c =
     let next : Counters → Counters = raised_all (tried c.args.happening) c.args.happening in
     let there = in-written places written (vec_capacity t.written) c.self.invariant subject within n at t.first in
     let old : c.index_mut.result.now ≡ value_at t.first written (slice_index_or places subject 0) = get_or_read written n c.index_mut.result.now there c.index_mut.ensures.value t.first ∙ ap (value_at t.first written) (sym at) in
-    seen-set places written (vec_capacity t.written) c.self.invariant subject within n at c.add-else-place-eq0.new.self t.first
-    ∙ ap (λ (row : Counters). slice_set (seen t.first written places) subject row) (c.add-else-place-eq0.ensures ∙ ap next old)
+    seen-set places written (vec_capacity t.written) c.self.invariant subject within n at c.add.new.self t.first
+    ∙ ap (λ (row : Counters). slice_set (seen t.first written places) subject row) (c.add.ensures ∙ ap next old)
     ∙ sym (changed_here t.first written places subject next within) ∙ ap (λ (rows : List Counters). changed rows subject next) c.self.view_is
