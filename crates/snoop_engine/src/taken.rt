@@ -64,7 +64,6 @@ pub fn memory_at(machine: &Machine, block: u32) -> Option<MemState>
     machine.mem_state(block)
 }
 
-#[inline(always)]
 fn add(lines: &mut Vec<Taken>, line: Taken) -> Result<(), NoMemory>
     ensures { OnOk result (lines.new.items ≡ lines.old.items ++ line ∷ []) }
 {
@@ -74,7 +73,6 @@ fn add(lines: &mut Vec<Taken>, line: Taken) -> Result<(), NoMemory>
     }
 }
 
-#[inline(always)]
 fn add_core(
     lines: &mut Vec<Taken>,
     machine: &Machine,
@@ -98,7 +96,6 @@ fn add_core(
     }
 }
 
-#[inline(always)]
 fn add_memory(
     lines: &mut Vec<Taken>,
     machine: &Machine,
@@ -120,7 +117,6 @@ fn add_memory(
     }
 }
 
-#[inline(always)]
 fn add_ask(
     lines: &mut Vec<Taken>,
     machine: &Machine,
@@ -147,7 +143,6 @@ fn add_ask(
     }
 }
 
-#[inline(always)]
 fn add_unless_i(lines: &mut Vec<Taken>, state: CacheState, line: Taken) -> Result<(), NoMemory>
     ensures { OnOk result (lines.new.items ≡ lines.old.items ++ unless_i state line) }
 {
@@ -158,7 +153,6 @@ fn add_unless_i(lines: &mut Vec<Taken>, state: CacheState, line: Taken) -> Resul
 }
 
 // Adds the line of a core in this state, where the core is there, and takes it out of the set where it is in I.
-#[inline(always)]
 fn add_holder_in(
     lines: &mut Vec<Taken>,
     held: Option<CacheState>,
@@ -195,7 +189,6 @@ fn add_holder_in(
 }
 
 // Adds the line of a core of the set, or takes it out of the set where it is in I.
-#[inline(always)]
 fn add_holder(
     lines: &mut Vec<Taken>,
     machine: &Machine,
@@ -251,7 +244,6 @@ fn add_request(
     add_memory(lines, machine, block, event_at_memory(request))
 }
 
-#[inline(always)]
 fn add_arrival(
     lines: &mut Vec<Taken>,
     machine: &Machine,
@@ -393,7 +385,6 @@ fn add_refused(
 }
 
 /// Whether the step is an Order whose block has an open transaction: such a step is refused, and takes no row.
-#[inline(always)]
 fn is_bus_taken(machine: &Machine, step: Step, head: Option<(Request, u32)>) -> bool
     requires { IsHeadFor machine.now.situation step head }
     ensures { result ≡ true → (cause : Cause) × Refuses machine.now.situation step cause }
@@ -446,7 +437,6 @@ pub(crate) fn take_step<C: Course>(
 }
 
 /// The oldest request of the core of an Order, and its block; `None` where none waits, and at another step.
-#[inline(always)]
 pub(crate) fn head_for(machine: &Machine, step: Step) -> Option<(Request, u32)>
     ensures { IsHeadFor machine.now.situation step result }
 {
