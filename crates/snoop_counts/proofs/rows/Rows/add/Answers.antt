@@ -16,8 +16,8 @@ returns-else-place-eq0 c =
     let written = t.written.items in
     let n = c.in-Some.place - 1 in
     let read : slice_index_or places subject 0 ≡ c.in-Some.place =
-        ap (λ (l : List ℕ). slice_index_or l subject 0) (sym c.deref.ensures.value) ∙ sym (c.get.ensures.lookup.4 (omega arith) 0)
-        ∙ ap (λ (o : Option ℕ). unwrap_or o 0) (sym c.copied.ensures ∙ c.in-Some.is) in
+    ap (λ (l : List ℕ). slice_index_or l subject 0) (sym c.deref.ensures.value) ∙ sym (c.get.ensures.lookup.4 (omega arith) 0)
+    ∙ ap (λ (o : Option ℕ). unwrap_or o 0) (sym c.copied.ensures ∙ c.in-Some.is) in
     let at : slice_index_or places subject 0 ≡ suc n = omega (arith, read, c.if-place-eq0.false) in
     let within : subject < length places = is_within places subject n at in
     let next : Counters → Counters = raised_all (tried c.args.happening) c.args.happening in
