@@ -72,6 +72,7 @@ impl Rows {
     }
 
     // Counts the first happening for the subject.
+    #[inline(always)]
     fn add_first(&mut self, subject: u32, happening: Happening)
         ensures { self.new ≡ changed self.old subject (raised_all (tried happening) happening) }
     {

@@ -17,7 +17,7 @@ returns-then-seen-every-ne0 c first frames before has next =
     let get : c.get-every.result ≡ every = c.get-every.ensures.value ∙ ap (λ x. non_zero_u64_get x) has.every in
     let some : 0 < every = omega (arith, get, c.get-every.ensures.nonzero) in
     let so_far : List Happening = seen_last (length frames % every) frames in
-    let watched = c.in_ok-see.ensures (Machine, 1) so_far machine.protocol machine.shape frames before machine has.watched next c.log.ensures.items (rw c.in-Some.is at has.counted) in
+    let watched = c.in_ok-see-in-Some.ensures (Machine, 1) so_far machine.protocol machine.shape frames before machine has.watched next c.log.ensures.items (rw c.in-Some.is at has.counted) in
     let not : number % every ≡ 0 → ⊥ = λ e. c.if-seen-every-ne0.true ((λ i. number % get i) ∙ e) in (
       record {
         every = has.every;
@@ -37,7 +37,7 @@ returns-in_ok-push_steps-in-Some c first frames before has next =
     let get : c.get-every.result ≡ every = c.get-every.ensures.value ∙ ap (λ x. non_zero_u64_get x) has.every in
     let some : 0 < every = omega (arith, get, c.get-every.ensures.nonzero) in
     let so_far : List Happening = seen_last (length frames % every) frames in
-    let watched = c.in_ok-see.ensures (Machine, 1) so_far machine.protocol machine.shape frames before machine has.watched next c.log.ensures.items (rw c.in-Some.is at has.counted) in
+    let watched = c.in_ok-see-in-Some.ensures (Machine, 1) so_far machine.protocol machine.shape frames before machine has.watched next c.log.ensures.items (rw c.in-Some.is at has.counted) in
     let zero : number % every ≡ 0 = sym (λ i. number % get i) ∙ c.if-seen-every-ne0.false in
     let begins : c.first_of.result ≡ number - (every - 1) = c.first_of.ensures ∙ (λ i. number - (get i - 1)) in (
       record {

@@ -26,7 +26,7 @@ returns g c whose all protocol shape frames before after has next log counted =
       record { follows = follows; items = λ here run. c.len-self.ensures ∙ ap (λ (l : List Item). length l) log ∙ sym (ap (λ (s : Situation). length s.log) (led_by_last frames frame (reset protocol shape) here run)) },
       subst (g.T.Counting.has c.count_item.new.tally whose)
           (append_assoc all (map (line c.operation_of-operation.result) seen.lines.now) (map happening.Item (option_to_list c.item-item.result))
-          ∙ (λ i. all ++ map (line (operation i)) (next.lines i) ++ map happening.Item (option_to_list (item i))))
+          ∙ (λ i. all ++ (map (line (operation i)) (next.lines i) ++ map happening.Item (option_to_list (item i)))))
           (c.count_item.ensures whose (all ++ map (line c.operation_of-operation.result) seen.lines.now) (c.count_lines.ensures whose all frames has.follows counted)),
     ))
     (c.follow.ensures frames frame has.follows next.number next.lines operation)
