@@ -1,6 +1,6 @@
-use Rattle.std.proofs.Common.{◌≡◌, ◌<◌, ◌≤◌, ◌+◌, ◌-◌, ◌∙◌, ℕ, List, [], ◌∷◌, ◌++◌, zero, suc, length, slice_index_or, slice_set, sym, ap, subst, arith, vec_capacity}
+use Rattle.std.proofs.Common.{◌≡◌, ◌<◌, ◌-◌, ◌∙◌, suc, length, slice_index_or, slice_set, ap, arith, vec_capacity}
 use Rattle.std.proofs.lemmas.List.{get_or_read, length-map}
-use Rattle.snoop_blocks.specs.Places.{ArePlaces, seen, value_at}
+use Rattle.snoop_blocks.specs.Places.{seen, value_at}
 use Rattle.snoop_blocks.proofs.Places.{ArePlaces-push, seen-push, seen-set, some-room, in-written}
 use Rattle.snoop_counts.proofs.rows.Rows.set.Goals as goal
 use Rattle.snoop_counts.proofs.rows.Rows.set.Goals.{After-index-place}

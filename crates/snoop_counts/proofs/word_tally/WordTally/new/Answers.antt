@@ -16,7 +16,7 @@ returns c =
     let w : words ≡ s.words = c.words.ensures.value in
     let m : many ≡ all = λ i. c.blocks-blocks.ensures.value i * c.words-2.ensures.value i in
     let marked : (counted : Count) (sharers : Sharers) → HasMarked (Words words) counted many [] sharers → HasMarked (Words s.words) counted all [] sharers = λ counted sharers has.
-        subst (λ (n : ℕ). HasMarked (Words n) counted all [] sharers) w (subst (λ (n : ℕ). HasMarked (Words words) counted n [] sharers) m has) in
+    subst (λ (n : ℕ). HasMarked (Words n) counted all [] sharers) w (subst (λ (n : ℕ). HasMarked (Words words) counted n [] sharers) m has) in
     record {
       rows = subst (λ (n : ℕ). HasCounted (Words n) all [] c.in_ok-new.field-0) w (subst (λ (n : ℕ). HasCounted (Words words) n [] c.in_ok-new.field-0) m c.in_ok-new.ensures);
       shared = subst (λ (n : ℕ). HasMarked Blocks count.Operations n [] c.in_ok-new-2.field-0) c.blocks-blocks.ensures.value (c.in_ok-new-2.ensures count.Operations);
