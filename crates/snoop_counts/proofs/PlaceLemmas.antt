@@ -1,10 +1,10 @@
 -- Rows that go on where they stand.
-use Rattle.std.proofs.Common.{◌≡◌, ℕ, ◌<◌, ◌≤◌, suc, List, length, ap, ◌∙◌, inl, inr, arith}
+use Rattle.std.proofs.Common.{◌≡◌, ℕ, ◌<◌, suc, List, length, ap, ◌∙◌, inl, inr, arith}
 use Rattle.std.specs.Prelude.{Option, slice_index_or, slice_set}
 use Rattle.std.specs.Option.{option_map_or}
 use Rattle.std.proofs.lemmas.Bool.{cases_lt}
 use Rattle.std.proofs.lemmas.List.{get_or-map, get_or_past, length-map}
-use Rattle.std.proofs.lemmas.Option.{slice_get-get_or, slice_get_past}
+use Rattle.std.proofs.lemmas.Option.{slice_get-get_or}
 use Rattle.snoop_blocks.specs.Places.{seen, value_at}
 use Rattle.snoop_counts.specs.Tally.{changed}
 use Rattle.snoop_counts.specs.declared.tally.Counters.{Counters}
@@ -26,9 +26,3 @@ module _ (first : Counters) (written : List Counters) (places : List ℕ) (subje
       let there : subject < length rows = let shown = length-map places (value_at first written) in omega arith in
       ap (λ (found : Option Counters). option_map_or (λ row. slice_set rows subject (next row)) found rows) (slice_get-get_or rows subject first there)
       ∙ ap (λ (row : Counters). slice_set rows subject (next row)) (get_or-map (value_at first written) places subject 0 first within)
-
-  -- where there is no such subject, nothing changes
-  pub changed_past : length places ≤ subject → changed rows subject next ≡ rows
-  changed_past past =
-      let none : length rows ≤ subject = let shown = length-map places (value_at first written) in omega arith in
-      ap (λ (found : Option Counters). option_map_or (λ row. slice_set rows subject (next row)) found rows) (slice_get_past rows subject none)
