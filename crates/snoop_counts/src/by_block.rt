@@ -52,11 +52,10 @@ impl View for ByBlock {
         machine: &Machine,
         seen: Seen<'_>,
     ) -> Result<(), NoMemory> {
-        self.watch.see(machine.log(), seen)?;
-        if let Some(tally) = &mut self.tally {
-            tally.add_all(self.watch.happenings());
+        match &mut self.tally {
+            None => Ok(()),
+            Some(tally) => self.watch.see(machine.log(), seen, tally),
         }
-        Ok(())
     }
 
     fn end(&mut self, out: &mut Vec<u8>, machine: &Machine) -> Result<(), NoMemory> {

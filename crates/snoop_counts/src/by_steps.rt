@@ -122,13 +122,12 @@ impl View for BySteps {
         machine: &Machine,
         seen: Seen<'_>,
     ) -> Result<(), NoMemory> {
-        self.watch.see(machine.log(), seen)?;
         self.steps = seen.number;
         let every = self.every.get();
         match &mut self.tally {
             None => Ok(()),
             Some(tally) => {
-                tally.add_all(self.watch.happenings());
+                self.watch.see(machine.log(), seen, tally)?;
                 if seen.number % every != 0 {
                     return Ok(());
                 }

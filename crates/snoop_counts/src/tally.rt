@@ -11,7 +11,8 @@ ghost use Rattle.snoop_counts.specs.declared.count.Subjects.{Subjects};
 
 use crate::count::{Count, Happening, Subjects};
 use crate::counted::{counts, has_some_row, subject_of};
-use snoop_blocks::BlockTable;
+use crate::counting::Counting;
+use crate::rows::Rows;
 use snoop_engine::Taken;
 use snoop_history::Item;
 use snoop_trace::NoMemory;
@@ -33,7 +34,7 @@ impl Counters {
 
     /// Counts one more; the counter stops at the largest `u64`.
     #[inline(always)]
-    fn raise(&mut self, count: Count)
+    pub(crate) fn raise(&mut self, count: Count)
         ensures { self.new ≡ raised_row count self.old }
     {
         let place = count as usize;
@@ -51,6 +52,7 @@ impl Counters {
     }
 
     // Counts an operation.
+    #[inline(always)]
     fn raise_operation(&mut self, happening: Happening)
         ensures { self.new ≡ raised_all of_operations happening self.old }
     {
@@ -62,6 +64,7 @@ impl Counters {
     }
 
     // Counts a request that was ordered.
+    #[inline(always)]
     fn raise_request(&mut self, happening: Happening)
         ensures { self.new ≡ raised_all of_requests happening self.old }
     {
@@ -71,6 +74,7 @@ impl Counters {
     }
 
     // Counts a response, for whom it was sent to.
+    #[inline(always)]
     fn raise_response(&mut self, happening: Happening)
         ensures { self.new ≡ raised_all of_responses happening self.old }
     {
@@ -82,6 +86,7 @@ impl Counters {
     }
 
     // Counts the line of a step that was taken, and that is no miss, for whom it names.
+    #[inline(always)]
     fn raise_row(&mut self, happening: Happening, line: Taken)
         requires { (step : Given) × ((answer : Answer) × (happening ≡ Line step (Ok answer) line None)) }
         ensures { self.new ≡ raised_all of_rows happening self.old }
@@ -99,6 +104,7 @@ impl Counters {
     }
 
     // Counts any line, for whom it names.
+    #[inline(always)]
     fn raise_line(&mut self, happening: Happening)
         ensures { self.new ≡ raised_all of_lines happening self.old }
     {
@@ -121,7 +127,8 @@ impl Counters {
     }
 
     // Counts the happening by all counts but those of what a core does to others.
-    fn add(&mut self, happening: Happening)
+    #[inline(always)]
+    pub(crate) fn add(&mut self, happening: Happening)
         ensures { self.new ≡ raised_all (tried happening) happening self.old }
     {
         match happening {
@@ -155,7 +162,7 @@ impl Counters {
 #[derive(Drop)]
 pub(crate) struct Tally {
     subjects: Subjects,
-    rows: BlockTable<Counters>,
+    rows: Rows,
 }
 
 impl Tally {
@@ -163,7 +170,7 @@ impl Tally {
     pub(crate) fn new(alloc: Global, subjects: Subjects, count: u32) -> Result<Self, NoMemory>
         ensures { IfOk result (HasCounted subjects count []) }
     {
-        match BlockTable::new(alloc, count, Counters::none()) {
+        match Rows::new(alloc, count, Counters::none()) {
             Ok(rows) => Ok(Tally { subjects, rows }),
             Err(_) => Err(NoMemory),
         }
@@ -200,10 +207,7 @@ impl Tally {
     fn raise(&mut self, subject: u32, count: Count)
         ensures { self.new ≡ record self.old { rows = raised self.old.rows subject count } }
     {
-        if let Some(mut row) = self.rows.get(subject) {
-            row.raise(count);
-            self.rows.set(subject, row);
-        }
+        self.rows.raise(subject, count);
     }
 
     // Counts the happening by this count, if it counts it.
@@ -220,19 +224,17 @@ impl Tally {
     }
 
     // Counts the happening for whom it is of, by all counts but those of what a core does to others.
+    #[inline(always)]
     fn add_own(&mut self, happening: Happening)
         ensures { self.new ≡ record self.old { rows = own_raised self.old.subjects happening self.old.rows } }
     {
-        let Some(subject) = subject_of(self.subjects, Count::Lines, happening) else {
-            return;
-        };
-        if let Some(mut row) = self.rows.get(subject) {
-            row.add(happening);
-            self.rows.set(subject, row);
+        if let Some(subject) = subject_of(self.subjects, Count::Lines, happening) {
+            self.rows.add(subject, happening);
         }
     }
 
     /// Counts what has happened.
+    #[inline(always)]
     pub(crate) fn add(&mut self, happening: Happening)
         ensures { (whose : Subjects) (many : ℕ) (seen : List Happening) → HasCounted whose many seen self.old → HasCounted whose many (seen ++ happening ∷ []) self.new }
     {
@@ -240,13 +242,19 @@ impl Tally {
         self.count(Count::Invalidates, happening);
         self.count(Count::Supplied, happening);
     }
+}
 
-    /// Counts all of this.
-    pub(crate) fn add_all(&mut self, happenings: &[Happening])
-        ensures { (whose : Subjects) (many : ℕ) (seen : List Happening) → HasCounted whose many seen self.old → HasCounted whose many (seen ++ happenings.now) self.new }
-    {
-        for happening in happenings {
-            self.add(*happening);
-        }
+impl Counting for Tally {
+    ghost use Rattle.std.specs.Prelude.{ℕ};
+    ghost use Rattle.snoop_counts.specs.Tally.{HasCounted};
+    ghost use Rattle.snoop_counts.specs.declared.count.Subjects.{Subjects};
+
+    ghost Whose = { Subjects × ℕ };
+
+    ghost has = { λ tally whose seen. HasCounted whose.0 whose.1 seen tally };
+
+    #[inline(always)]
+    fn count_one(&mut self, happening: Happening) {
+        self.add(happening);
     }
 }
