@@ -16,7 +16,6 @@ mod counting;
 mod last_steps;
 pub mod laws;
 mod ranking;
-mod rows;
 mod sharers;
 mod tally;
 mod watch;

@@ -12,7 +12,7 @@ ghost use Rattle.snoop_counts.specs.declared.count.Subjects.{Subjects};
 use crate::count::{Count, Happening, Subjects};
 use crate::counted::{counts, has_some_row, subject_of};
 use crate::counting::Counting;
-use crate::rows::Rows;
+use snoop_blocks::BlockTable;
 use snoop_engine::Taken;
 use snoop_history::Item;
 use snoop_trace::NoMemory;
@@ -34,7 +34,7 @@ impl Counters {
 
     /// Counts one more; the counter stops at the largest `u64`.
     #[inline(always)]
-    pub(crate) fn raise(&mut self, count: Count)
+    fn raise(&mut self, count: Count)
         ensures { self.new ≡ raised_row count self.old }
     {
         let place = count as usize;
@@ -128,7 +128,7 @@ impl Counters {
 
     // Counts the happening by all counts but those of what a core does to others.
     #[inline(always)]
-    pub(crate) fn add(&mut self, happening: Happening)
+    fn add(&mut self, happening: Happening)
         ensures { self.new ≡ raised_all (tried happening) happening self.old }
     {
         match happening {
@@ -162,7 +162,7 @@ impl Counters {
 #[derive(Drop)]
 pub(crate) struct Tally {
     subjects: Subjects,
-    rows: Rows,
+    rows: BlockTable<Counters>,
 }
 
 impl Tally {
@@ -170,7 +170,7 @@ impl Tally {
     pub(crate) fn new(alloc: Global, subjects: Subjects, count: u32) -> Result<Self, NoMemory>
         ensures { IfOk result (HasCounted subjects count []) }
     {
-        match Rows::new(alloc, count, Counters::none()) {
+        match BlockTable::new(alloc, count, Counters::none()) {
             Ok(rows) => Ok(Tally { subjects, rows }),
             Err(_) => Err(NoMemory),
         }
@@ -207,7 +207,10 @@ impl Tally {
     fn raise(&mut self, subject: u32, count: Count)
         ensures { self.new ≡ record self.old { rows = raised self.old.rows subject count } }
     {
-        self.rows.raise(subject, count);
+        if let Some(mut row) = self.rows.get(subject) {
+            row.raise(count);
+            self.rows.set(subject, row);
+        }
     }
 
     // Counts the happening by this count, if it counts it.
@@ -228,8 +231,12 @@ impl Tally {
     fn add_own(&mut self, happening: Happening)
         ensures { self.new ≡ record self.old { rows = own_raised self.old.subjects happening self.old.rows } }
     {
-        if let Some(subject) = subject_of(self.subjects, Count::Lines, happening) {
-            self.rows.add(subject, happening);
+        let Some(subject) = subject_of(self.subjects, Count::Lines, happening) else {
+            return;
+        };
+        if let Some(mut row) = self.rows.get(subject) {
+            row.add(happening);
+            self.rows.set(subject, row);
         }
     }
 
