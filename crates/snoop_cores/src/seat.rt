@@ -211,23 +211,19 @@ impl Seat {
         read_totals(&mut self.reader)
     }
 
-    /// Drops this share of the lock, and hands over what the seat was answered. The last one to end waits for the readers that are
-    /// inside, and ends the versions.
-    pub fn end<R: Wait>(self, rt: &R) -> Vec<Did>
-        ensures { result.items ≡ self.answers }
-    {
+    /// Drops this share of the lock. The last one to end waits for the readers that are inside, and ends the versions.
+    pub fn end<R: Wait>(self, rt: &R) {
         let Seat {
             core: _,
             share,
             reader,
-            answers,
+            answers: _,
             pending: _,
             strange: _,
             stop: _,
         } = self;
         drop(reader);
         share.end(rt);
-        answers
     }
 
     // Takes the work up, which is not pending yet or is the pending one.
