@@ -37,7 +37,6 @@ impl BlockTally {
     }
 
     // Counts what has happened.
-    #[inline(always)]
     fn add(&mut self, happening: Happening)
         ensures { (blocks : ℕ) (seen : List Seen) → CountsBlocks blocks seen self.old → CountsBlocks blocks (seen ++ happening ∷ []) self.new }
     {

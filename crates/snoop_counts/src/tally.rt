@@ -52,7 +52,6 @@ impl Counters {
     }
 
     // Counts an operation.
-    #[inline(always)]
     fn raise_operation(&mut self, happening: Happening)
         ensures { self.new ≡ raised_all of_operations happening self.old }
     {
@@ -74,7 +73,6 @@ impl Counters {
     }
 
     // Counts a response, for whom it was sent to.
-    #[inline(always)]
     fn raise_response(&mut self, happening: Happening)
         ensures { self.new ≡ raised_all of_responses happening self.old }
     {
@@ -241,7 +239,6 @@ impl Tally {
     }
 
     /// Counts what has happened.
-    #[inline(always)]
     pub(crate) fn add(&mut self, happening: Happening)
         ensures { (whose : Subjects) (many : ℕ) (seen : List Happening) → HasCounted whose many seen self.old → HasCounted whose many (seen ++ happening ∷ []) self.new }
     {

@@ -47,7 +47,6 @@ impl WordTally {
     }
 
     // Counts what has happened.
-    #[inline(always)]
     fn add(&mut self, happening: Happening)
         ensures { (shape : Extent) (seen : List Seen) → CountsWords shape seen self.old → CountsWords shape (seen ++ happening ∷ []) self.new }
     {
