@@ -5,13 +5,12 @@ use Rattle.std.specs.List.{list_any}
 use Rattle.std.specs.Option.{option_map_or}
 use Rattle.std.proofs.Math.Bool.{and-true, or-false}
 use Rattle.std.proofs.lemmas.Bool.{and_left, and_parts, and_right, cases_eq, eq-eqb, false≢true, ne_eqb}
-use Rattle.std.proofs.lemmas.List.{get_or-map, get_or-replicate, length-replicate, length-set, map_more}
+use Rattle.std.proofs.lemmas.List.{get_or-map, get_or-replicate, length-replicate, length-set, take_more}
 use Rattle.std.proofs.lemmas.List.Elements.{filter-append}
 use Rattle.std.proofs.lemmas.Option.{slice_get-get_or}
 use Rattle.snoop_history.specs.Journal.{counted}
 use Rattle.snoop_history.specs.Totals.{capped}
 use Rattle.snoop_history.specs.declared.items.Item.TheVariants as item
-use Rattle.snoop_engine.specs.declared.taken.Taken.{Taken}
 use Rattle.snoop_engine.specs.declared.taken.Taken.TheVariants.{Core, Memory, Nobody}
 use Rattle.snoop_counts.specs.Counted.{core_counted, counts, is_counted, is_it, own_core, subject_of, times}
 use Rattle.snoop_counts.specs.Tally.{Tallies, changed, counter_in, empty_row, number, own_raised, raised_all, raised_by, raised_if, raised_row, row_at, tried}
@@ -426,9 +425,6 @@ tallies_none whose n = record {
       ap (λ (row : Counters). counter_in row c) (get_or-replicate n s empty_row empty_row lt) ∙ get_or-replicate 31 (number c) 0 0 below;
 }
 
--- one line more, after others
-pub one_line_more : (f : Taken → Happening) (all : List Happening) (lines : List Taken) (at : ℕ) (d : Taken) → at < length lines → (seen : Happening) → seen ≡ f (get_or lines at d)
-    → (all ++ map f (take at lines)) ++ seen ∷ [] ≡ all ++ map f (take (at + 1) lines)
-one_line_more f all lines at d lt seen is =
-    append_assoc all (map f (take at lines)) (seen ∷ [])
-    ∙ ap (λ (l : List Happening). all ++ l) (ap (λ (s : Happening). map f (take at lines) ++ s ∷ []) is ∙ sym (map_more f lines at d lt))
+-- one more of these, after others
+pub one_happening_more : (seen all : List Happening) (i : ℕ) (d : Happening) → i < length all → (seen ++ take i all) ++ get_or all i d ∷ [] ≡ seen ++ take (i + 1) all
+one_happening_more seen all i d lt = append_assoc seen (take i all) (get_or all i d ∷ []) ∙ ap (λ (l : List Happening). seen ++ l) (sym (take_more all i d lt))

@@ -22,8 +22,9 @@ is_shared_by whose counted seen subject core = list_any (is_counted_for_both who
 abbrev pub sharers : Subjects → Count → ℕ → List Happening → ℕ → ℕ
 sharers whose counted cores seen subject = length (filter (is_shared_by whose counted seen subject) (range_with_len 0 cores))
 
--- the sets are of these subjects, of which there are so many, and each has the cores for which this count has counted something of its subject
+-- the sets are of these subjects, of which there are so many, and of this count, and each has the cores for which something of its subject has happened
 pub record HasMarked (whose : Subjects) (counted : Count) (many : ℕ) (seen : List Happening) (sharers : Sharers) : Type 0 where
   pub subjects : sharers.subjects ≡ whose
+  pub count : sharers.count ≡ counted
   pub sets : length sharers.sets ≡ many
   pub marked : (subject core : ℕ) → subject < many → core < 256 → has (set_of sharers.sets subject) core ≡ is_shared_by whose counted seen subject core

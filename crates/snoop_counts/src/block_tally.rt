@@ -8,7 +8,6 @@ ghost use Rattle.snoop_counts.specs.declared.count.Happening.{Happening as Seen}
 ghost use Rattle.snoop_counts.specs.declared.count.Subjects.TheVariants.{Blocks};
 
 use crate::count::{Count, Happening, Subjects};
-use crate::counting::Counting;
 use crate::sharers::Sharers;
 use crate::tally::{Counters, Tally};
 use snoop_trace::NoMemory;
@@ -30,9 +29,9 @@ impl BlockTally {
     {
         Ok(BlockTally {
             tally: Tally::new(alloc, Subjects::Blocks, blocks)?,
-            named: Sharers::new(alloc, Subjects::Blocks, blocks)?,
-            readers: Sharers::new(alloc, Subjects::Blocks, blocks)?,
-            writers: Sharers::new(alloc, Subjects::Blocks, blocks)?,
+            named: Sharers::new(alloc, Subjects::Blocks, Count::Lines, blocks)?,
+            readers: Sharers::new(alloc, Subjects::Blocks, Count::Loads, blocks)?,
+            writers: Sharers::new(alloc, Subjects::Blocks, Count::Stores, blocks)?,
         })
     }
 
@@ -41,9 +40,18 @@ impl BlockTally {
         ensures { (blocks : ℕ) (seen : List Seen) → CountsBlocks blocks seen self.old → CountsBlocks blocks (seen ++ happening ∷ []) self.new }
     {
         self.tally.add(happening);
-        self.named.add(Count::Lines, happening);
-        self.readers.add(Count::Loads, happening);
-        self.writers.add(Count::Stores, happening);
+        self.named.add(happening);
+        self.readers.add(happening);
+        self.writers.add(happening);
+    }
+
+    /// Counts all of this.
+    pub(crate) fn add_all(&mut self, happenings: &[Happening])
+        ensures { (blocks : ℕ) (seen : List Seen) → CountsBlocks blocks seen self.old → CountsBlocks blocks (seen ++ happenings.now) self.new }
+    {
+        for happening in happenings {
+            self.add(*happening);
+        }
     }
 
     /// The counters of a block, if a line names it.
@@ -72,19 +80,5 @@ impl BlockTally {
         ensures { (blocks : ℕ) (seen : List Seen) → CountsBlocks blocks seen self.now → block < blocks → cores ≤ 256 → result ≡ sharers Blocks count.Stores cores seen block }
     {
         self.writers.of(block, cores)
-    }
-}
-
-impl Counting for BlockTally {
-    ghost use Rattle.std.specs.Prelude.{ℕ};
-    ghost use Rattle.snoop_counts.specs.BlockTally.{CountsBlocks};
-
-    ghost Whose = { ℕ };
-
-    ghost has = { λ tally blocks seen. CountsBlocks blocks seen tally };
-
-    #[inline(always)]
-    fn count_one(&mut self, happening: Happening) {
-        self.add(happening);
     }
 }

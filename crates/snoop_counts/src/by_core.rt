@@ -52,10 +52,11 @@ impl View for ByCore {
         machine: &Machine,
         seen: Seen<'_>,
     ) -> Result<(), NoMemory> {
-        match &mut self.tally {
-            None => Ok(()),
-            Some(tally) => self.watch.see(machine.log(), seen, tally),
+        self.watch.see(machine.log(), seen)?;
+        if let Some(tally) = &mut self.tally {
+            tally.add_all(self.watch.happenings());
         }
+        Ok(())
     }
 
     fn end(&mut self, out: &mut Vec<u8>, machine: &Machine) -> Result<(), NoMemory> {

@@ -122,12 +122,13 @@ impl View for BySteps {
         machine: &Machine,
         seen: Seen<'_>,
     ) -> Result<(), NoMemory> {
+        self.watch.see(machine.log(), seen)?;
         self.steps = seen.number;
         let every = self.every.get();
         match &mut self.tally {
             None => Ok(()),
             Some(tally) => {
-                self.watch.see(machine.log(), seen, tally)?;
+                tally.add_all(self.watch.happenings());
                 if seen.number % every != 0 {
                     return Ok(());
                 }

@@ -12,7 +12,6 @@ mod copies;
 mod core_table;
 mod count;
 mod counted;
-mod counting;
 mod last_steps;
 pub mod laws;
 mod ranking;

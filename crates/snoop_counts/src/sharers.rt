@@ -11,36 +11,45 @@ use snoop_blocks::{BlockTable, CoreSet};
 use snoop_trace::NoMemory;
 use std::alloc::Global;
 
-/// For each block, or each word, the cores for which a count has counted something of it.
+/// For each block, or each word, the cores for which this count has counted something of it.
 #[derive(Drop)]
 pub(crate) struct Sharers {
     subjects: Subjects,
+    count: Count,
     sets: BlockTable<CoreSet>,
 }
 
 impl Sharers {
     /// Nothing is counted yet, for so many subjects.
-    pub(crate) fn new(alloc: Global, subjects: Subjects, many: u32) -> Result<Self, NoMemory>
-        ensures { (counted : Counted) → IfOk result (HasMarked subjects counted many []) }
+    pub(crate) fn new(
+        alloc: Global,
+        subjects: Subjects,
+        count: Count,
+        many: u32,
+    ) -> Result<Self, NoMemory>
+        ensures { IfOk result (HasMarked subjects count many []) }
     {
         match BlockTable::new(alloc, many, CoreSet::empty()) {
-            Ok(sets) => Ok(Sharers { subjects, sets }),
+            Ok(sets) => Ok(Sharers {
+                subjects,
+                count,
+                sets,
+            }),
             Err(_) => Err(NoMemory),
         }
     }
 
-    /// Marks the core and the subject of what has happened, if the count counts it: the same count at each call.
-    #[inline(always)]
-    pub(crate) fn add(&mut self, count: Count, happening: Happening)
-        ensures { (whose : Whose) (many : ℕ) (seen : List Seen) → HasMarked whose count many seen self.old → HasMarked whose count many (seen ++ happening ∷ []) self.new }
+    /// Marks the core and the subject of what has happened, if it is counted.
+    pub(crate) fn add(&mut self, happening: Happening)
+        ensures { (whose : Whose) (counted : Counted) (many : ℕ) (seen : List Seen) → HasMarked whose counted many seen self.old → HasMarked whose counted many (seen ++ happening ∷ []) self.new }
     {
-        if !counts(count, happening) {
+        if !counts(self.count, happening) {
             return;
         }
-        let Some(subject) = subject_of(self.subjects, count, happening) else {
+        let Some(subject) = subject_of(self.subjects, self.count, happening) else {
             return;
         };
-        let Some(core) = subject_of(Subjects::Cores, count, happening) else {
+        let Some(core) = subject_of(Subjects::Cores, self.count, happening) else {
             return;
         };
         self.sets.insert(subject, core);

@@ -11,7 +11,6 @@ ghost use Rattle.snoop_counts.specs.declared.count.Subjects.{Subjects};
 
 use crate::count::{Count, Happening, Subjects};
 use crate::counted::{counts, has_some_row, subject_of};
-use crate::counting::Counting;
 use snoop_blocks::BlockTable;
 use snoop_engine::Taken;
 use snoop_history::Item;
@@ -63,7 +62,6 @@ impl Counters {
     }
 
     // Counts a request that was ordered.
-    #[inline(always)]
     fn raise_request(&mut self, happening: Happening)
         ensures { self.new ≡ raised_all of_requests happening self.old }
     {
@@ -84,7 +82,6 @@ impl Counters {
     }
 
     // Counts the line of a step that was taken, and that is no miss, for whom it names.
-    #[inline(always)]
     fn raise_row(&mut self, happening: Happening, line: Taken)
         requires { (step : Given) × ((answer : Answer) × (happening ≡ Line step (Ok answer) line None)) }
         ensures { self.new ≡ raised_all of_rows happening self.old }
@@ -102,7 +99,6 @@ impl Counters {
     }
 
     // Counts any line, for whom it names.
-    #[inline(always)]
     fn raise_line(&mut self, happening: Happening)
         ensures { self.new ≡ raised_all of_lines happening self.old }
     {
@@ -125,7 +121,6 @@ impl Counters {
     }
 
     // Counts the happening by all counts but those of what a core does to others.
-    #[inline(always)]
     fn add(&mut self, happening: Happening)
         ensures { self.new ≡ raised_all (tried happening) happening self.old }
     {
@@ -225,7 +220,6 @@ impl Tally {
     }
 
     // Counts the happening for whom it is of, by all counts but those of what a core does to others.
-    #[inline(always)]
     fn add_own(&mut self, happening: Happening)
         ensures { self.new ≡ record self.old { rows = own_raised self.old.subjects happening self.old.rows } }
     {
@@ -246,19 +240,13 @@ impl Tally {
         self.count(Count::Invalidates, happening);
         self.count(Count::Supplied, happening);
     }
-}
 
-impl Counting for Tally {
-    ghost use Rattle.std.specs.Prelude.{ℕ};
-    ghost use Rattle.snoop_counts.specs.Tally.{HasCounted};
-    ghost use Rattle.snoop_counts.specs.declared.count.Subjects.{Subjects};
-
-    ghost Whose = { Subjects × ℕ };
-
-    ghost has = { λ tally whose seen. HasCounted whose.0 whose.1 seen tally };
-
-    #[inline(always)]
-    fn count_one(&mut self, happening: Happening) {
-        self.add(happening);
+    /// Counts all of this.
+    pub(crate) fn add_all(&mut self, happenings: &[Happening])
+        ensures { (whose : Subjects) (many : ℕ) (seen : List Happening) → HasCounted whose many seen self.old → HasCounted whose many (seen ++ happenings.now) self.new }
+    {
+        for happening in happenings {
+            self.add(*happening);
+        }
     }
 }

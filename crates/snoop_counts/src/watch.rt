@@ -1,4 +1,4 @@
-//! What is counted of each step of a run.
+//! What can be counted of each step of a run.
 ghost use Rattle.std.specs.Prelude.{◌≡◌, ◌++◌, ◌∷◌, [], List, None, OnOk, map, option_to_list};
 ghost use Rattle.std.specs.Option.{option_map_or};
 ghost use Rattle.snoop_trace.specs.Extent.{Extent};
@@ -11,12 +11,10 @@ ghost use Rattle.snoop_counts.specs.Causes.{cause_of};
 ghost use Rattle.snoop_counts.specs.Happenings.{seen_in};
 ghost use Rattle.snoop_counts.specs.LastSteps.{Follows};
 ghost use Rattle.snoop_counts.specs.Views.{HasWatched};
-ghost use Rattle.snoop_counts.specs.declared.count.Happening.{Happening as Happened};
 ghost use Rattle.snoop_counts.specs.declared.count.Happening.TheVariants as happening;
 
 use crate::copies::Copies;
 use crate::count::Happening;
-use crate::counting::Counting;
 use snoop_engine::{Seen, Taken};
 use snoop_history::{Did, Item, Log};
 use snoop_machine::{Refused, Reply};
@@ -33,45 +31,61 @@ fn operation_of(item: Option<Item>) -> Option<Did>
     }
 }
 
-// Counts the lines of a step, with the causes of misses.
-fn count_lines<T: Counting>(
-    tally: &mut T,
+fn push(all: &mut Vec<Happening>, happening: Happening) -> Result<(), NoMemory>
+    ensures { OnOk result (all.new.items ≡ all.old.items ++ happening ∷ []) }
+{
+    match all.push(happening) {
+        Ok(()) => Ok(()),
+        Err(_) => Err(NoMemory),
+    }
+}
+
+// Writes the lines of a step anew, with the causes of misses.
+fn write_lines(
+    all: &mut Vec<Happening>,
     copies: &Copies,
     step: Step,
     outcome: Result<Reply, Refused>,
     lines: &[Taken],
     operation: Option<Did>,
-)
-    ensures { (whose : T.Whose) (all : List Happened) (frames : List Frame) → Follows frames copies.now → T.has tally.old whose all
-        → T.has tally.new whose (all ++ map (λ line. happening.Line step outcome line (cause_of frames operation line)) lines.now) }
+) -> Result<(), NoMemory>
+    ensures { (frames : List Frame) → Follows frames copies.now → OnOk result (all.new.items ≡ map (λ line. happening.Line step outcome line (cause_of frames operation line)) lines.now) }
 {
+    all.clear();
     for line in lines {
         let line = *line;
         let cause = copies.cause_of(operation, line);
-        tally.count_one(Happening::Line {
-            step,
-            outcome,
-            line,
-            cause,
-        });
+        push(
+            all,
+            Happening::Line {
+                step,
+                outcome,
+                line,
+                cause,
+            },
+        )?;
     }
+    Ok(())
 }
 
-// Counts an item, if there is one.
-fn count_item<T: Counting>(tally: &mut T, item: Option<Item>)
-    ensures { (whose : T.Whose) (all : List Happened) → T.has tally.old whose all → T.has tally.new whose (all ++ map happening.Item (option_to_list item)) }
+// Appends an item, if there is one.
+fn push_item(all: &mut Vec<Happening>, item: Option<Item>) -> Result<(), NoMemory>
+    ensures { OnOk result (all.new.items ≡ all.old.items ++ map happening.Item (option_to_list item)) }
 {
-    if let Some(item) = item {
-        tally.count_one(Happening::Item(item));
+    match item {
+        None => Ok(()),
+        Some(item) => push(all, Happening::Item(item)),
     }
 }
 
-/// Follows a run, and counts what happens in it.
+/// Follows a run, and says of its last step what can be counted.
 #[derive(Drop)]
 pub(crate) struct Watch {
     copies: Copies,
     /// How many items of the history were seen.
     items: usize,
+    /// What can be counted of the last step.
+    seen: Vec<Happening>,
 }
 
 impl Watch {
@@ -82,34 +96,36 @@ impl Watch {
         Watch {
             copies: Copies::new(alloc),
             items: 0,
+            seen: Vec::new(alloc),
         }
     }
 
-    /// Sees the next step, after which the history is this, and counts what can be counted of it.
-    pub(crate) fn see<T: Counting>(
-        &mut self,
-        log: &Log,
-        seen: Seen<'_>,
-        tally: &mut T,
-    ) -> Result<(), NoMemory>
-        ensures { (whose : T.Whose) (all : List Happened) (protocol : Protocol) (shape : Extent) (frames : List Frame) (before after : Situation)
+    /// Sees the next step, after which the history is this.
+    pub(crate) fn see(&mut self, log: &Log, seen: Seen<'_>) -> Result<(), NoMemory>
+        ensures { (protocol : Protocol) (shape : Extent) (frames : List Frame) (before after : Situation)
             → HasWatched protocol shape frames self.old → IsNext protocol shape frames before seen.entry after → log.now.items ≡ after.log
-            → T.has tally.old whose all
             → OnOk result (HasWatched protocol shape (frames ++ frame_seen before seen.entry after ∷ []) self.new
-            × T.has tally.new whose (all ++ seen_in frames (frame_seen before seen.entry after))) }
+            × (self.new.seen.items ≡ seen_in frames (frame_seen before seen.entry after))) }
     {
         let item = log.item(self.items);
         let operation = operation_of(item);
         self.items = log.len();
-        count_lines(
-            tally,
+        write_lines(
+            &mut self.seen,
             &self.copies,
             seen.step,
             seen.outcome,
             seen.lines,
             operation,
-        );
-        count_item(tally, item);
+        )?;
+        push_item(&mut self.seen, item)?;
         self.copies.follow(seen.number, seen.lines, operation)
+    }
+
+    /// What can be counted of the step that was seen last.
+    pub(crate) fn happenings(&self) -> &[Happening]
+        ensures { result.now ≡ self.now.seen.items }
+    {
+        &self.seen
     }
 }

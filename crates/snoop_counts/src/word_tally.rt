@@ -12,7 +12,6 @@ ghost use Rattle.snoop_counts.specs.declared.count.Happening.{Happening as Seen}
 ghost use Rattle.snoop_counts.specs.declared.count.Subjects.TheVariants.{Words as OfWords};
 
 use crate::count::{Count, Happening, Subjects};
-use crate::counting::Counting;
 use crate::sharers::Sharers;
 use crate::tally::{Counters, Tally};
 use snoop_trace::{NoMemory, Shape};
@@ -39,10 +38,10 @@ impl WordTally {
         let words = blocks * shape.words();
         Ok(WordTally {
             tally: Tally::new(alloc, whose, words)?,
-            shared: Sharers::new(alloc, Subjects::Blocks, blocks)?,
-            cores: Sharers::new(alloc, whose, words)?,
-            readers: Sharers::new(alloc, whose, words)?,
-            writers: Sharers::new(alloc, whose, words)?,
+            shared: Sharers::new(alloc, Subjects::Blocks, Count::Operations, blocks)?,
+            cores: Sharers::new(alloc, whose, Count::Operations, words)?,
+            readers: Sharers::new(alloc, whose, Count::Loads, words)?,
+            writers: Sharers::new(alloc, whose, Count::Stores, words)?,
         })
     }
 
@@ -51,10 +50,19 @@ impl WordTally {
         ensures { (shape : Extent) (seen : List Seen) → CountsWords shape seen self.old → CountsWords shape (seen ++ happening ∷ []) self.new }
     {
         self.tally.add(happening);
-        self.shared.add(Count::Operations, happening);
-        self.cores.add(Count::Operations, happening);
-        self.readers.add(Count::Loads, happening);
-        self.writers.add(Count::Stores, happening);
+        self.shared.add(happening);
+        self.cores.add(happening);
+        self.readers.add(happening);
+        self.writers.add(happening);
+    }
+
+    /// Counts all of this.
+    pub(crate) fn add_all(&mut self, happenings: &[Happening])
+        ensures { (shape : Extent) (seen : List Seen) → CountsWords shape seen self.old → CountsWords shape (seen ++ happenings.now) self.new }
+    {
+        for happening in happenings {
+            self.add(*happening);
+        }
     }
 
     /// Whether at least two cores performed an operation on the block.
@@ -95,19 +103,5 @@ impl WordTally {
             → result ≡ sharers (OfWords shape.words) count.Stores cores seen place }
     {
         self.writers.of(place, cores)
-    }
-}
-
-impl Counting for WordTally {
-    ghost use Rattle.snoop_trace.specs.Extent.{Extent};
-    ghost use Rattle.snoop_counts.specs.WordTally.{CountsWords};
-
-    ghost Whose = { Extent };
-
-    ghost has = { λ tally shape seen. CountsWords shape seen tally };
-
-    #[inline(always)]
-    fn count_one(&mut self, happening: Happening) {
-        self.add(happening);
     }
 }

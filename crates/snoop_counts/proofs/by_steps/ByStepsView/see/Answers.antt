@@ -17,13 +17,14 @@ returns-then-seen-every-ne0 c first frames before has next =
     let get : c.get-every.result ≡ every = c.get-every.ensures.value ∙ ap (λ x. non_zero_u64_get x) has.every in
     let some : 0 < every = omega (arith, get, c.get-every.ensures.nonzero) in
     let so_far : List Happening = seen_last (length frames % every) frames in
-    let watched = c.in_ok-see-in-Some.ensures (Machine, 1) so_far machine.protocol machine.shape frames before machine has.watched next c.log.ensures.items (rw c.in-Some.is at has.counted) in
+    let watched = c.in_ok-see.ensures machine.protocol machine.shape frames before machine has.watched next c.log.ensures.items in
+    let counted = subst (λ (l : List Happening). HasCounted Machine 1 (so_far ++ l) c.add_all.new.self) (c.happenings.ensures ∙ watched.1) (c.add_all.ensures Machine 1 so_far (rw c.in-Some.is at has.counted)) in
     let not : number % every ≡ 0 → ⊥ = λ e. c.if-seen-every-ne0.true ((λ i. number % get i) ∙ e) in (
       record {
         every = has.every;
         steps = numbered every some frames frame number next.number;
         watched = watched.0;
-        counted = subst (λ (l : List Happening). HasCounted Machine 1 l c.see.new.tally) (goes_on every some frames frame number next.number not) watched.1;
+        counted = subst (λ (l : List Happening). HasCounted Machine 1 l c.add_all.new.self) (goes_on every some frames frame number next.number not) counted;
       },
       sym (append-nil c.args.out.now.items) ∙ ap (λ (t : List ℕ). c.args.out.now.items ++ t) (sym (nothing_yet every some frames frame number next.number not)),
     )
@@ -37,14 +38,15 @@ returns-in_ok-push_steps-in-Some c first frames before has next =
     let get : c.get-every.result ≡ every = c.get-every.ensures.value ∙ ap (λ x. non_zero_u64_get x) has.every in
     let some : 0 < every = omega (arith, get, c.get-every.ensures.nonzero) in
     let so_far : List Happening = seen_last (length frames % every) frames in
-    let watched = c.in_ok-see-in-Some.ensures (Machine, 1) so_far machine.protocol machine.shape frames before machine has.watched next c.log.ensures.items (rw c.in-Some.is at has.counted) in
+    let watched = c.in_ok-see.ensures machine.protocol machine.shape frames before machine has.watched next c.log.ensures.items in
+    let counted = subst (λ (l : List Happening). HasCounted Machine 1 (so_far ++ l) c.add_all.new.self) (c.happenings.ensures ∙ watched.1) (c.add_all.ensures Machine 1 so_far (rw c.in-Some.is at has.counted)) in
     let zero : number % every ≡ 0 = sym (λ i. number % get i) ∙ c.if-seen-every-ne0.false in
     let begins : c.first_of.result ≡ number - (every - 1) = c.first_of.ensures ∙ (λ i. number - (get i - 1)) in (
       record {
         every = has.every;
         steps = numbered every some frames frame number next.number;
         watched = watched.0;
-        counted = subst (λ (l : List Happening). HasCounted Machine 1 l c.restart.new.self) (begins_anew every some frames frame number next.number zero) (c.restart.ensures Machine _ watched.1);
+        counted = subst (λ (l : List Happening). HasCounted Machine 1 l c.restart.new.self) (begins_anew every some frames frame number next.number zero) (c.restart.ensures Machine _ counted);
       },
-      c.in_ok-push_steps-in-Some.ensures _ watched.1 ∙ ap (λ (t : List ℕ). c.args.out.now.items ++ t) (line_now every some frames frame number next.number zero c.first_of.result begins),
+      c.in_ok-push_steps-in-Some.ensures _ counted ∙ ap (λ (t : List ℕ). c.args.out.now.items ++ t) (line_now every some frames frame number next.number zero c.first_of.result begins),
     )

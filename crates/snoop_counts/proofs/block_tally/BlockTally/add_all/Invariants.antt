@@ -1,0 +1,8 @@
+use Rattle.std.proofs.Common.{ℕ, List, ◌++◌, take}
+use Rattle.snoop_counts.specs.BlockTally.{CountsBlocks}
+use Rattle.snoop_counts.specs.declared.count.Happening.{Happening}
+use Rattle.snoop_counts.proofs.block_tally.BlockTally.add_all.Given as goal
+
+-- those so far are counted
+abbrev pub invariant-loop-happening : goal.invariant-loop-happening
+invariant-loop-happening l = (blocks : ℕ) (seen : List Happening) → CountsBlocks blocks seen l.fn.self → CountsBlocks blocks (seen ++ take l.happening-index l.happenings) l.self
