@@ -31,9 +31,7 @@ pub record IsRecorded (r : Recording) : Type 0 where
 pub record Records (r : Inside) : Type 0 where
   pub recorded : IsRecorded (recording r)
   pub ready : r.writer.ready ≡ []
-  pub cores : r.writer.cores ≡ r.machine.situation.shape.cores
-  pub blocks : r.writer.blocks ≡ r.machine.situation.shape.blocks
-  pub words : r.writer.words ≡ r.machine.situation.shape.words
+  pub shape : r.writer.shape ≡ r.machine.situation.shape
 
 -- one step is taken: it is a move, stands last among the steps, and its item is published
 pub record Takes (step : Step) (answer : Reply) (p q : Recording) : Type 0 where

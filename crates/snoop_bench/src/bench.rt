@@ -68,7 +68,7 @@ impl Bench {
 
     /// What makes readers of the published versions. `NoMemory` where the count of its owners is full.
     pub fn readers(&self) -> Result<Readers, NoMemory>
-        ensures { IfOk result (λ readers. (readers.cores ≡ self.now.situation.shape.cores) × (readers.blocks ≡ self.now.situation.shape.blocks) × (readers.words ≡ self.now.situation.shape.words)) }
+        ensures { IfOk result (λ readers. readers ≡ self.now.situation.shape) }
     {
         self.recorder.readers()
     }

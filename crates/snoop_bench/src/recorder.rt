@@ -59,7 +59,7 @@ impl Recorder {
 
     /// What makes readers of the published versions.
     pub(crate) fn readers(&self) -> Result<Readers, NoMemory>
-        ensures { IfOk result (λ readers. (readers.cores ≡ self.now.situation.shape.cores) × (readers.blocks ≡ self.now.situation.shape.blocks) × (readers.words ≡ self.now.situation.shape.words)) }
+        ensures { IfOk result (λ readers. readers ≡ self.now.situation.shape) }
     {
         self.writer.readers()
     }

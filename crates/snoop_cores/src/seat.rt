@@ -6,7 +6,7 @@ ghost use Rattle.snoop_history.specs.declared.items.Did.{Did};
 ghost use Rattle.snoop_history.specs.History.{answers_of, flat};
 ghost use Rattle.snoop_history.specs.Totals.{capped_totals, totals_of};
 ghost use Rattle.snoop_bench.specs.Works.{Does};
-ghost use Rattle.snoop_versions.specs.Readings.{StartsWith};
+ghost use Rattle.snoop_versions.specs.Readings.{IsOfShape, StartsWith};
 ghost use Rattle.snoop_cores.specs.Seats.{IsNew, Sees};
 ghost use Rattle.snoop_cores.specs.Calls.{MayBegin, Completes, Fails, RefusedAtOnce};
 ghost use Rattle.snoop_cores.specs.Rows.{FailsRow, Grows, IsNotLate, Ran, shown};
@@ -43,14 +43,14 @@ pub struct Seat {
 impl Model for Seat {
     ghost use Rattle.std.specs.Prelude.{◌≡◌, ◌<◌};
     ghost use Rattle.snoop_history.specs.History.{answers_of};
-    ghost use Rattle.snoop_versions.specs.Readings.{StartsWith};
+    ghost use Rattle.snoop_versions.specs.Readings.{IsOfShape, StartsWith};
     ghost use Rattle.snoop_cores.specs.Seats.{Seating};
 
     ghost Value = { Seating };
 
     ghost view = { λ s. record { core = s.core; shape = s.share.shape; seen = s.reader.seen; answers = s.answers.items; pending = s.pending; strange = s.strange; stop = s.stop } };
 
-    ghost invariant = { λ s. ((s.reader.cores ≡ s.share.shape.cores) × (s.reader.blocks ≡ s.share.shape.blocks) × (s.reader.words ≡ s.share.shape.words))
+    ghost invariant = { λ s. IsOfShape s.reader s.share.shape
         × (s.core < s.share.shape.cores) × StartsWith (answers_of s.reader.seen s.core) s.answers.items };
 }
 
@@ -58,7 +58,7 @@ impl Seat {
     // A seat that has done nothing.
     pub(crate) fn new(alloc: Global, share: Share, reader: VersionReader, core: u32) -> Seat
         requires core { core < share.shape.cores }
-        requires reader { (reader.cores ≡ share.shape.cores) × (reader.blocks ≡ share.shape.blocks) × (reader.words ≡ share.shape.words) }
+        requires reader { IsOfShape reader share.shape }
         ensures { IsNew core share.shape result }
     {
         Seat {

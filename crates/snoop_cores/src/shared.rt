@@ -1,6 +1,7 @@
 //! The shared machine, its seats and its watches.
 ghost use Rattle.std.specs.Prelude.{◌≡◌, ◌+◌, ◌^◌, ◌<◌, ◌≤◌, [], Err, IfOk, OnOk};
 ghost use Rattle.std.specs.Sync.Mutex.{mutex_guard_value};
+ghost use Rattle.snoop_versions.specs.Readings.{IsOfShape};
 ghost use Rattle.snoop_cores.specs.Seats.{AreSeats, AreWatches};
 ghost use Rattle.snoop_cores.specs.declared.fault.MakeFault.TheVariants.{NoPlace};
 
@@ -86,7 +87,7 @@ impl Shared {
         seats: &mut Vec<Seat>,
         watches: &mut Vec<Watch>,
     ) -> Result<(), MakeFault>
-        requires readers { (readers.now.cores ≡ self.now.shape.cores) × (readers.now.blocks ≡ self.now.shape.blocks) × (readers.now.words ≡ self.now.shape.words) }
+        requires readers { readers.now ≡ self.now.shape }
         requires empty { (seats.old.items ≡ []) × (watches.old.items ≡ []) }
         ensures seats { OnOk result (AreSeats self.now.shape seats.new.items) }
         ensures watches { OnOk result (AreWatches count self.now.shape watches.new.items) }
@@ -103,7 +104,7 @@ impl Shared {
         readers: &Readers,
         seats: &mut Vec<Seat>,
     ) -> Result<(), MakeFault>
-        requires readers { (readers.now.cores ≡ self.now.shape.cores) × (readers.now.blocks ≡ self.now.shape.blocks) × (readers.now.words ≡ self.now.shape.words) }
+        requires readers { readers.now ≡ self.now.shape }
         requires empty { seats.old.items ≡ [] }
         ensures { OnOk result (AreSeats self.now.shape seats.new.items) }
     {
@@ -126,7 +127,7 @@ impl Shared {
         count: u32,
         watches: &mut Vec<Watch>,
     ) -> Result<(), MakeFault>
-        requires readers { (readers.now.cores ≡ self.now.shape.cores) × (readers.now.blocks ≡ self.now.shape.blocks) × (readers.now.words ≡ self.now.shape.words) }
+        requires readers { readers.now ≡ self.now.shape }
         requires empty { watches.old.items ≡ [] }
         ensures { OnOk result (AreWatches count self.now.shape watches.new.items) }
     {
@@ -143,9 +144,9 @@ impl Shared {
 
     // A share of the lock and a reader of versions, for a seat or a watch.
     fn entrance(&self, readers: &Readers) -> Result<(Share, VersionReader), MakeFault>
-        requires { (readers.now.cores ≡ self.now.shape.cores) × (readers.now.blocks ≡ self.now.shape.blocks) × (readers.now.words ≡ self.now.shape.words) }
+        requires { readers.now ≡ self.now.shape }
         ensures share { IfOk result (λ entrance. entrance.0.shape ≡ self.now.shape) }
-        ensures reader { IfOk result (λ entrance. (entrance.1.cores ≡ self.now.shape.cores) × (entrance.1.blocks ≡ self.now.shape.blocks) × (entrance.1.words ≡ self.now.shape.words)) }
+        ensures reader { IfOk result (λ entrance. IsOfShape entrance.1 self.now.shape) }
     {
         let Some(reader) = readers.reader() else {
             return Err(MakeFault::NoPlace);

@@ -1,8 +1,10 @@
 //! Courses of steps, each of which is found when the one before it was taken.
-ghost use Rattle.std.specs.Prelude.{◌≡◌, ◌<◌, ◌∷◌, [], ℕ, List, length, IfOk, IfSome, IfNone, Result};
+ghost use Rattle.std.specs.Prelude.{◌≡◌, ◌<◌, ◌∷◌, [], ℕ, List, length, IfErr, IfOk, IfSome, IfNone, Result};
 ghost use Rattle.snoop_model.specs.declared.replies.Refused.{Refused as Cause};
+ghost use Rattle.snoop_model.specs.declared.replies.Refused.TheVariants.{NoMemory as OutOfMemory};
 ghost use Rattle.snoop_model.specs.declared.replies.Reply.{Reply as Answer};
 ghost use Rattle.snoop_model.specs.Pictures.Situation.{Situation, reset};
+ghost use Rattle.snoop_model.specs.Moves.StepMove.{RefusedFor};
 ghost use Rattle.snoop_model.specs.Runs.Run.{GoesFirst, TheRun};
 ghost use Rattle.snoop_trace.specs.Extent.{Extent};
 ghost use Rattle.snoop_trace.specs.declared.protocol.Protocol.{Protocol};
@@ -45,7 +47,10 @@ pub(crate) trait Course {
         requires { (before : Self) × finds before step self.old }
         ensures goes { IfOk result (λ outcome. GoesFirst (situation self.old) step outcome (situation self.new)) }
         ensures fewer { (before : Self) → finds before step self.old → IfOk result (λ outcome. left self.new < left before) }
-        ensures leads { (before : Self) → finds before step self.old → IfOk result (λ outcome. LeadsOn (leads before) step outcome (leads self.new)) };
+        ensures leads { (before : Self) → finds before step self.old → IfOk result (λ outcome. LeadsOn (leads before) step outcome (leads self.new)) }
+
+        // `NoMemory` never stands for a step that is refused.
+        ensures memory { IfErr result (λ _. RefusedFor (situation self.old) step OutOfMemory) };
 
     /// Wherever some steps from reset have led, the course can go on to its end. This does nothing: a proof calls it for what it
     /// ensures.

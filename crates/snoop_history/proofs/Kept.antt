@@ -22,7 +22,7 @@ use Rattle.snoop_history.proofs.Boards.{inside_all, board_lengths}
 use Rattle.snoop_history.proofs.Touching.{all_places, touched_within}
 
 -- the number of an operation that may come next in a short list
-pub numbers_fit : (items : List Item) (entry : Item) → IsNumbered items entry → length items < 2 ^ 40 → NumberFits entry
+pub numbers_fit : (items : List Item) (entry : Item) → IsNumbered items entry → length items < 2 ^ 48 → NumberFits entry
 numbers_fit items entry numbered few did is = omega (arith, numbered did is, next_number_le items did.core, few)
 
 -- what a `get` found, read by a function of it

@@ -10,7 +10,7 @@ use Rattle.snoop_history.specs.Within.{IsWithin}
 use Rattle.snoop_history.specs.Packed.{unpacked}
 use Rattle.snoop_history.specs.Board.{Tables, board_of}
 
--- a log as callers see it: there is room below its list's capacity and below the most items that a log has
+-- a log as callers see it: it has room up to its list's capacity, and for 2 ^ 48 items at most
 abbrev pub journal : Inside → Journal
 journal l =
     record {
@@ -18,7 +18,7 @@ journal l =
       blocks = l.board.blocks;
       words = l.board.words;
       items = map unpacked l.items.items;
-      room = min (vec_capacity l.items) (2 ^ 40) - vec_len l.items;
+      room = min (vec_capacity l.items) (2 ^ 48) - vec_len l.items;
     }
 
 -- each item lies within the shape, and its operation carries its core's next number

@@ -2,6 +2,8 @@
 -- Source: this project's profile.
 use Rattle.std.specs.Prelude.{◌+◌, ◌*◌, ◌^◌, ◌<◌, Bool, true, false, Some, None, if◌then◌else◌}
 use Rattle.std.specs.Option.{ForSome}
+use Rattle.snoop_rules.specs.declared.names.Request.{Request}
+use Rattle.snoop_rules.specs.declared.names.Request.TheVariants.{GetS, GetM, PutM}
 use Rattle.snoop_rules.specs.declared.names.Payload.{Payload}
 use Rattle.snoop_rules.specs.declared.names.Payload.TheVariants.{Data, DataE, NoData, NoDataE}
 use Rattle.snoop_history.specs.declared.items.Did.{Did}
@@ -32,27 +34,75 @@ is_hit kind.CameLoadHit = true
 is_hit kind.CameStoreHit = true
 is_hit _ = false
 
+-- the request that is answered
+abbrev pub answered : Message → Request
+answered message.GetSDataOfMemory = GetS
+answered message.GetSDataEOfMemory = GetS
+answered message.GetSNoDataOfMemory = GetS
+answered message.GetSNoDataEOfMemory = GetS
+answered message.GetSDataOfCore = GetS
+answered message.GetSDataEOfCore = GetS
+answered message.GetSNoDataOfCore = GetS
+answered message.GetSNoDataEOfCore = GetS
+answered message.GetMDataOfMemory = GetM
+answered message.GetMDataEOfMemory = GetM
+answered message.GetMNoDataOfMemory = GetM
+answered message.GetMNoDataEOfMemory = GetM
+answered message.GetMDataOfCore = GetM
+answered message.GetMDataEOfCore = GetM
+answered message.GetMNoDataOfCore = GetM
+answered message.GetMNoDataEOfCore = GetM
+answered message.PutMDataOfMemory = PutM
+answered message.PutMDataEOfMemory = PutM
+answered message.PutMNoDataOfMemory = PutM
+answered message.PutMNoDataEOfMemory = PutM
+answered message.PutMDataOfCore = PutM
+answered message.PutMDataEOfCore = PutM
+answered message.PutMNoDataOfCore = PutM
+answered message.PutMNoDataEOfCore = PutM
+
 -- what the response carries
 abbrev pub payload_in : Message → Payload
-payload_in message.DataOfMemory = Data
-payload_in message.DataEOfMemory = DataE
-payload_in message.NoDataOfMemory = NoData
-payload_in message.NoDataEOfMemory = NoDataE
-payload_in message.DataOfCore = Data
-payload_in message.DataEOfCore = DataE
-payload_in message.NoDataOfCore = NoData
-payload_in message.NoDataEOfCore = NoDataE
+payload_in message.GetSDataOfMemory = Data
+payload_in message.GetMDataOfMemory = Data
+payload_in message.PutMDataOfMemory = Data
+payload_in message.GetSDataOfCore = Data
+payload_in message.GetMDataOfCore = Data
+payload_in message.PutMDataOfCore = Data
+payload_in message.GetSDataEOfMemory = DataE
+payload_in message.GetMDataEOfMemory = DataE
+payload_in message.PutMDataEOfMemory = DataE
+payload_in message.GetSDataEOfCore = DataE
+payload_in message.GetMDataEOfCore = DataE
+payload_in message.PutMDataEOfCore = DataE
+payload_in message.GetSNoDataOfMemory = NoData
+payload_in message.GetMNoDataOfMemory = NoData
+payload_in message.PutMNoDataOfMemory = NoData
+payload_in message.GetSNoDataOfCore = NoData
+payload_in message.GetMNoDataOfCore = NoData
+payload_in message.PutMNoDataOfCore = NoData
+payload_in message.GetSNoDataEOfMemory = NoDataE
+payload_in message.GetMNoDataEOfMemory = NoDataE
+payload_in message.PutMNoDataEOfMemory = NoDataE
+payload_in message.GetSNoDataEOfCore = NoDataE
+payload_in message.GetMNoDataEOfCore = NoDataE
+payload_in message.PutMNoDataEOfCore = NoDataE
 
 -- a core sent the response
 abbrev pub is_of_core : Message → Bool
-is_of_core message.DataOfMemory = false
-is_of_core message.DataEOfMemory = false
-is_of_core message.NoDataOfMemory = false
-is_of_core message.NoDataEOfMemory = false
-is_of_core message.DataOfCore = true
-is_of_core message.DataEOfCore = true
-is_of_core message.NoDataOfCore = true
-is_of_core message.NoDataEOfCore = true
+is_of_core message.GetSDataOfCore = true
+is_of_core message.GetMDataOfCore = true
+is_of_core message.PutMDataOfCore = true
+is_of_core message.GetSDataEOfCore = true
+is_of_core message.GetMDataEOfCore = true
+is_of_core message.PutMDataEOfCore = true
+is_of_core message.GetSNoDataOfCore = true
+is_of_core message.GetMNoDataOfCore = true
+is_of_core message.PutMNoDataOfCore = true
+is_of_core message.GetSNoDataEOfCore = true
+is_of_core message.GetMNoDataEOfCore = true
+is_of_core message.PutMNoDataEOfCore = true
+is_of_core _ = false
 
 -- the operation of a packed item
 abbrev pub operation_in : Packed → Did
@@ -60,11 +110,11 @@ operation_in p = record { core = p.did_core; number = p.number_low + p.number_hi
 
 -- its request
 abbrev pub request_in : Packed → Sent
-request_in p = record { core = p.core; request = p.request; block = p.block }
+request_in p = record { core = p.core; request = answered p.message; block = p.block }
 
 -- its response
 abbrev pub response_in : Packed → Came
-response_in p = record { core = p.core; request = p.request; block = p.block; from = if is_of_core p.message then Some p.from else None; payload = payload_in p.message }
+response_in p = record { core = p.core; request = answered p.message; block = p.block; from = if is_of_core p.message then Some p.from else None; payload = payload_in p.message }
 
 -- an item of this kind with what a packed item has
 abbrev pub item_of : Kind → Packed → Item
@@ -83,6 +133,6 @@ item_of kind.CameStoreMiss p = item.Came (response_in p) (Some (operation_in p))
 abbrev pub unpacked : Packed → Item
 unpacked p = item_of p.kind p
 
--- the number of the item's operation, if it has one, fits in five bytes
+-- the number of the item's operation, if it has one, fits in six bytes
 abbrev pub NumberFits : Item → Type 0
-NumberFits entry = ForSome (operation_of entry) (λ did. did.number < 2 ^ 40)
+NumberFits entry = ForSome (operation_of entry) (λ did. did.number < 2 ^ 48)

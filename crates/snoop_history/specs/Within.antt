@@ -24,7 +24,7 @@ sender_of (item.Did did) = None
 sender_of (item.Sent sent) = None
 sender_of (item.Came came did) = came.from
 
--- the item's core and block are within the shape, and so are the core that sent its response and the core, block and word of its operation
+-- the item's core and block are within the shape, and so are the core that sent its response, if one did, and the core, block and word of its operation, if it has one
 pub record IsWithin (cores blocks words : ℕ) (entry : Item) : Type 0 where
   pub core : core_of entry < cores
   pub block : block_of entry < blocks

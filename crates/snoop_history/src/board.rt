@@ -14,8 +14,8 @@ use std::marker::Model;
 /// The board of a list of items: values by block and word, counts and last operations by core, and totals,
 /// in tables of a fixed size. Counts stop at the largest `u64`.
 ///
-/// An item outside the shape, by its core, its block or the core, block or word of its operation, is counted by the
-/// totals and changes nothing else.
+/// An item outside the shape, by its core, its block, the core that sent its response, or the core, block or word of
+/// its operation, is counted by the totals and changes nothing else.
 #[derive(Debug, Drop)]
 pub struct Board {
     blocks: u32,

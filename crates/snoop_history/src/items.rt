@@ -101,8 +101,8 @@ impl Item {
         }
     }
 
-    /// Whether the item's core and block lie within the shape, the core that sent its response, and the core, block
-    /// and word of its operation.
+    /// Whether the item's core and block lie within the shape, and so do the core that sent its response, if one did,
+    /// and the core, block and word of its operation, if it has one.
     pub(crate) fn is_within(self, cores: usize, blocks: u32, words: u32) -> bool
         ensures { result ≡ is_within cores blocks words self }
     {

@@ -12,8 +12,9 @@ use snoop_trace::{NoMemory, Shape};
 use std::alloc::Global;
 use std::marker::Model;
 
-/// How many items a log may have, since the number of an operation is kept in five bytes. They would take 26 TB.
-const MOST_ITEMS: usize = 1 << 40;
+/// How many items a log may have, since the number of an operation is kept in six bytes. They would take 6.8 petabytes,
+/// more than a process can address.
+const MOST_ITEMS: usize = 1 << 48;
 
 /// The history of a machine: the items of its steps in order, with their board and the blocks that they mention,
 /// so that none is worked out anew.
@@ -51,7 +52,7 @@ impl Log {
     }
 
     /// Makes room for one more item. `NoMemory` leaves all as it was, and comes only where there was no room. A log
-    /// of 2^40 items has no room for more.
+    /// of 2^48 items, more than a process can hold, has no room for more.
     pub fn reserve(&mut self) -> Result<(), NoMemory>
         ensures ok { OnOk result (0 < self.new.room) }
         ensures same { self.new ≡ record self.old { room = self.new.room } }
@@ -202,9 +203,9 @@ impl Log {
         true
     }
 
-    /// Whether `push` may take the item, room aside: its core and block lie within the shape, and so do the core
-    /// that sent its response and the core, block and word of its operation; and an operation carries its core's
-    /// `count` as its number.
+    /// Whether `push` may take the item, room aside: its core and block lie within the shape, and so do the core that
+    /// sent its response, if one did, and the core, block and word of its operation, if it has one, which carries its
+    /// core's `count` as its number.
     pub fn takes(&self, item: Item) -> bool
         ensures sound { IsTrue result → IsWithin self.now.cores self.now.blocks self.now.words item × IsNumbered self.now.items item }
         ensures whole { IsWithin self.now.cores self.now.blocks self.now.words item → IsNumbered self.now.items item → IsTrue result }
@@ -226,9 +227,9 @@ impl Log {
         }
     }
 
-    /// Puts an item last, in the room that `reserve` made. Its core and block lie within the shape, and so do the
-    /// core that sent its response and the core, block and word of its operation; and an operation carries its
-    /// core's `count` as its number. It takes no memory.
+    /// Puts an item last, in the room that `reserve` made. Its core and block lie within the shape, and so do the core
+    /// that sent its response, if one did, and the core, block and word of its operation, if it has one, which carries
+    /// its core's `count` as its number. It takes no memory.
     #[inline(always)]
     pub fn push(&mut self, item: Item)
         requires room { 0 < self.old.room }

@@ -5,7 +5,7 @@ ghost use Rattle.snoop_history.specs.declared.packed.Packed.{Packed};
 ghost use Rattle.snoop_history.specs.declared.items.Item.TheVariants as item;
 ghost use Rattle.snoop_history.specs.History.{operation_of};
 ghost use Rattle.snoop_history.specs.Within.{IsWithin};
-ghost use Rattle.snoop_history.specs.Packed.{NumberFits, is_hit, is_load, is_of_core, item_of, operation_in, payload_in, request_in, response_in, unpacked};
+ghost use Rattle.snoop_history.specs.Packed.{NumberFits, answered, is_hit, is_load, is_of_core, item_of, operation_in, payload_in, request_in, response_in, unpacked};
 
 use crate::items::{Came, Did, Item, Sent};
 use snoop_rules::{Payload, Request};
@@ -76,33 +76,97 @@ impl Kind {
     }
 }
 
-/// What a response carries, and whether memory or a core sent it.
+/// The request that a response answers, what it carries, and whether memory or a core sent it.
 #[derive(Clone, Copy, Debug)]
 pub(crate) enum Message {
-    DataOfMemory,
-    DataEOfMemory,
-    NoDataOfMemory,
-    NoDataEOfMemory,
-    DataOfCore,
-    DataEOfCore,
-    NoDataOfCore,
-    NoDataEOfCore,
+    GetSDataOfMemory,
+    GetMDataOfMemory,
+    PutMDataOfMemory,
+    GetSDataEOfMemory,
+    GetMDataEOfMemory,
+    PutMDataEOfMemory,
+    GetSNoDataOfMemory,
+    GetMNoDataOfMemory,
+    PutMNoDataOfMemory,
+    GetSNoDataEOfMemory,
+    GetMNoDataEOfMemory,
+    PutMNoDataEOfMemory,
+    GetSDataOfCore,
+    GetMDataOfCore,
+    PutMDataOfCore,
+    GetSDataEOfCore,
+    GetMDataEOfCore,
+    PutMDataEOfCore,
+    GetSNoDataOfCore,
+    GetMNoDataOfCore,
+    PutMNoDataOfCore,
+    GetSNoDataEOfCore,
+    GetMNoDataEOfCore,
+    PutMNoDataEOfCore,
 }
 
 impl Message {
-    fn new(payload: Payload, of_core: bool) -> Self
+    fn new(request: Request, payload: Payload, of_core: bool) -> Self
+        ensures request { answered result ≡ request }
         ensures payload { payload_in result ≡ payload }
         ensures sender { is_of_core result ≡ of_core }
     {
-        match (of_core, payload) {
-            (false, Payload::Data) => Message::DataOfMemory,
-            (false, Payload::DataE) => Message::DataEOfMemory,
-            (false, Payload::NoData) => Message::NoDataOfMemory,
-            (false, Payload::NoDataE) => Message::NoDataEOfMemory,
-            (true, Payload::Data) => Message::DataOfCore,
-            (true, Payload::DataE) => Message::DataEOfCore,
-            (true, Payload::NoData) => Message::NoDataOfCore,
-            (true, Payload::NoDataE) => Message::NoDataEOfCore,
+        match (of_core, payload, request) {
+            (false, Payload::Data, Request::GetS) => Message::GetSDataOfMemory,
+            (false, Payload::Data, Request::GetM) => Message::GetMDataOfMemory,
+            (false, Payload::Data, Request::PutM) => Message::PutMDataOfMemory,
+            (false, Payload::DataE, Request::GetS) => Message::GetSDataEOfMemory,
+            (false, Payload::DataE, Request::GetM) => Message::GetMDataEOfMemory,
+            (false, Payload::DataE, Request::PutM) => Message::PutMDataEOfMemory,
+            (false, Payload::NoData, Request::GetS) => Message::GetSNoDataOfMemory,
+            (false, Payload::NoData, Request::GetM) => Message::GetMNoDataOfMemory,
+            (false, Payload::NoData, Request::PutM) => Message::PutMNoDataOfMemory,
+            (false, Payload::NoDataE, Request::GetS) => Message::GetSNoDataEOfMemory,
+            (false, Payload::NoDataE, Request::GetM) => Message::GetMNoDataEOfMemory,
+            (false, Payload::NoDataE, Request::PutM) => Message::PutMNoDataEOfMemory,
+            (true, Payload::Data, Request::GetS) => Message::GetSDataOfCore,
+            (true, Payload::Data, Request::GetM) => Message::GetMDataOfCore,
+            (true, Payload::Data, Request::PutM) => Message::PutMDataOfCore,
+            (true, Payload::DataE, Request::GetS) => Message::GetSDataEOfCore,
+            (true, Payload::DataE, Request::GetM) => Message::GetMDataEOfCore,
+            (true, Payload::DataE, Request::PutM) => Message::PutMDataEOfCore,
+            (true, Payload::NoData, Request::GetS) => Message::GetSNoDataOfCore,
+            (true, Payload::NoData, Request::GetM) => Message::GetMNoDataOfCore,
+            (true, Payload::NoData, Request::PutM) => Message::PutMNoDataOfCore,
+            (true, Payload::NoDataE, Request::GetS) => Message::GetSNoDataEOfCore,
+            (true, Payload::NoDataE, Request::GetM) => Message::GetMNoDataEOfCore,
+            (true, Payload::NoDataE, Request::PutM) => Message::PutMNoDataEOfCore,
+        }
+    }
+
+    fn request(self) -> Request
+        ensures { result ≡ answered self }
+    {
+        match self {
+            Message::GetSDataOfMemory
+            | Message::GetSDataEOfMemory
+            | Message::GetSNoDataOfMemory
+            | Message::GetSNoDataEOfMemory
+            | Message::GetSDataOfCore
+            | Message::GetSDataEOfCore
+            | Message::GetSNoDataOfCore
+            | Message::GetSNoDataEOfCore => Request::GetS,
+            Message::GetMDataOfMemory
+            | Message::GetMDataEOfMemory
+            | Message::GetMNoDataOfMemory
+            | Message::GetMNoDataEOfMemory
+            | Message::GetMDataOfCore
+            | Message::GetMDataEOfCore
+            | Message::GetMNoDataOfCore
+            | Message::GetMNoDataEOfCore => Request::GetM,
+            Message::PutMDataOfMemory
+            | Message::PutMDataEOfMemory
+            | Message::PutMNoDataOfMemory
+            | Message::PutMNoDataEOfMemory
+            | Message::PutMDataOfCore
+            | Message::PutMDataEOfCore
+            | Message::PutMNoDataOfCore
+            | Message::PutMNoDataEOfCore => Request::PutM,
         }
     }
 
@@ -110,10 +174,30 @@ impl Message {
         ensures { result ≡ payload_in self }
     {
         match self {
-            Message::DataOfMemory | Message::DataOfCore => Payload::Data,
-            Message::DataEOfMemory | Message::DataEOfCore => Payload::DataE,
-            Message::NoDataOfMemory | Message::NoDataOfCore => Payload::NoData,
-            Message::NoDataEOfMemory | Message::NoDataEOfCore => Payload::NoDataE,
+            Message::GetSDataOfMemory
+            | Message::GetMDataOfMemory
+            | Message::PutMDataOfMemory
+            | Message::GetSDataOfCore
+            | Message::GetMDataOfCore
+            | Message::PutMDataOfCore => Payload::Data,
+            Message::GetSDataEOfMemory
+            | Message::GetMDataEOfMemory
+            | Message::PutMDataEOfMemory
+            | Message::GetSDataEOfCore
+            | Message::GetMDataEOfCore
+            | Message::PutMDataEOfCore => Payload::DataE,
+            Message::GetSNoDataOfMemory
+            | Message::GetMNoDataOfMemory
+            | Message::PutMNoDataOfMemory
+            | Message::GetSNoDataOfCore
+            | Message::GetMNoDataOfCore
+            | Message::PutMNoDataOfCore => Payload::NoData,
+            Message::GetSNoDataEOfMemory
+            | Message::GetMNoDataEOfMemory
+            | Message::PutMNoDataEOfMemory
+            | Message::GetSNoDataEOfCore
+            | Message::GetMNoDataEOfCore
+            | Message::PutMNoDataEOfCore => Payload::NoDataE,
         }
     }
 
@@ -122,10 +206,18 @@ impl Message {
     {
         matches!(
             &self,
-            Message::DataOfCore
-                | Message::DataEOfCore
-                | Message::NoDataOfCore
-                | Message::NoDataEOfCore
+            Message::GetSDataOfCore
+                | Message::GetMDataOfCore
+                | Message::PutMDataOfCore
+                | Message::GetSDataEOfCore
+                | Message::GetMDataEOfCore
+                | Message::PutMDataEOfCore
+                | Message::GetSNoDataOfCore
+                | Message::GetMNoDataOfCore
+                | Message::PutMNoDataOfCore
+                | Message::GetSNoDataEOfCore
+                | Message::GetMNoDataEOfCore
+                | Message::PutMNoDataEOfCore
         )
     }
 }
@@ -133,36 +225,35 @@ impl Message {
 /// An item of a machine's shape, in fewer bytes than an `Item`. A field that its kind does not need is arbitrary.
 #[derive(Clone, Copy, Debug)]
 pub(crate) struct Packed {
-    // The operation's value, and its number in five bytes.
+    // The operation's value, and its number in six bytes.
     value: u64,
     number_low: u32,
+    number_high: u16,
     block: u16,
     did_block: u16,
-    number_high: u8,
     core: u8,
     did_core: u8,
     word: u8,
     // The sender, where it is a core.
     from: u8,
     kind: Kind,
-    request: Request,
+    // The request, of a response or alone.
     message: Message,
 }
 
-/// An item of no fields.
+/// What each packed item is made from.
 const EMPTY: Packed = Packed {
     value: 0,
     number_low: 0,
+    number_high: 0,
     block: 0,
     did_block: 0,
-    number_high: 0,
     core: 0,
     did_core: 0,
     word: 0,
     from: 0,
     kind: Kind::Came,
-    request: Request::GetS,
-    message: Message::DataOfMemory,
+    message: Message::GetSDataOfMemory,
 };
 
 /// How many numbers the low four bytes hold.
@@ -191,7 +282,7 @@ impl Packed {
         requires core { did.core < 256 }
         requires block { did.block < 65536 }
         requires word { did.word < 64 }
-        requires number { did.number < 2 ^ 40 }
+        requires number { did.number < 2 ^ 48 }
         requires load { is_load kind ≡ did.load }
         requires hit { is_hit kind ≡ did.hit }
         ensures kind { result.kind ≡ kind }
@@ -200,8 +291,8 @@ impl Packed {
         Packed {
             value: did.value,
             number_low: (did.number % LOW) as u32,
+            number_high: (did.number / LOW) as u16,
             did_block: did.block as u16,
-            number_high: (did.number / LOW) as u8,
             did_core: did.core as u8,
             word: did.word as u8,
             kind,
@@ -218,7 +309,7 @@ impl Packed {
             block: sent.block as u16,
             core: sent.core as u8,
             kind: Kind::Sent,
-            request: sent.request,
+            message: Message::new(sent.request, Payload::Data, false),
             ..EMPTY
         }
     }
@@ -236,8 +327,7 @@ impl Packed {
             from: came.from.unwrap_or(0) as u8,
             block: came.block as u16,
             core: came.core as u8,
-            request: came.request,
-            message: Message::new(came.payload, came.from.is_some()),
+            message: Message::new(came.request, came.payload, came.from.is_some()),
             ..self
         }
     }
@@ -283,7 +373,7 @@ impl Packed {
     {
         Sent {
             core: self.core as u32,
-            request: self.request,
+            request: self.message.request(),
             block: self.block as u32,
         }
     }
@@ -293,7 +383,7 @@ impl Packed {
     {
         Came {
             core: self.core as u32,
-            request: self.request,
+            request: self.message.request(),
             block: self.block as u32,
             from: if self.message.is_of_core() {
                 Some(self.from as u32)

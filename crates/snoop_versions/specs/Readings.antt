@@ -1,14 +1,13 @@
 -- What a writer shows and a reader sees of the published versions.
 -- Source: this project's profile.
 use Rattle.std.specs.Prelude.{◌≡◌, ℕ, List, ◌++◌}
+use Rattle.snoop_trace.specs.Extent.{Extent}
 use Rattle.snoop_history.specs.declared.items.Item.{Item}
 use Rattle.snoop_history.specs.History.{Legal}
 
 -- what the writer shows: the shape, the list whose board is published, and the item that is appended and not published yet
 pub record Publishing : Type 0 where
-  pub cores : ℕ
-  pub blocks : ℕ
-  pub words : ℕ
+  pub shape : Extent
   pub list : List Item
   pub ready : List Item
 
@@ -18,6 +17,10 @@ pub record Viewing : Type 0 where
   pub blocks : ℕ
   pub words : ℕ
   pub seen : List Item
+
+-- the reader reads versions of this shape
+abbrev pub IsOfShape : Viewing → Extent → Type 0
+IsOfShape reader shape = (reader.cores ≡ shape.cores) × (reader.blocks ≡ shape.blocks) × (reader.words ≡ shape.words)
 
 -- the list begins with the other
 abbrev pub StartsWith : {A : Type 0} → List A → List A → Type 0

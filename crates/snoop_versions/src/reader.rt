@@ -26,6 +26,7 @@ impl Model for Readers {
 impl Readers {
     ghost use Rattle.std.specs.Prelude.{◌≡◌, ◌&&◌, IfSome};
     ghost use Rattle.snoop_history.specs.History.{Legal};
+    ghost use Rattle.snoop_versions.specs.Readings.{IsOfShape};
 
     // What makes readers of the versions of this shape.
     pub(crate) fn over(shape: Shape, factory: RuledFactory) -> Readers
@@ -36,7 +37,7 @@ impl Readers {
 
     /// A reader, which has read the current version. `None` where there is no place left, and where the writer has ended.
     pub fn reader(&self) -> Option<VersionReader>
-        ensures shape { IfSome result (λ reader. (reader.cores ≡ self.now.cores) × (reader.blocks ≡ self.now.blocks) × (reader.words ≡ self.now.words)) }
+        ensures shape { IfSome result (λ reader. IsOfShape reader self.now) }
         ensures legal { IfSome result (λ reader. Legal reader.seen) }
     {
         let reader = self.factory.reader().ok()?;

@@ -30,7 +30,7 @@ impl Model for VersionWriter {
     ghost use Rattle.snoop_versions.specs.Knows.{knows};
     ghost use Rattle.snoop_versions.specs.Rule.{IsPublishing};
 
-    ghost view = { λ w. record { cores = w.shape.cores; blocks = w.shape.blocks; words = w.shape.words; list = (knows (manually_drop_value w.writer).desk.place).seen; ready = drop (manually_drop_value w.writer).behind (manually_drop_value w.writer).log.items } };
+    ghost view = { λ w. record { shape = w.shape; list = (knows (manually_drop_value w.writer).desk.place).seen; ready = drop (manually_drop_value w.writer).behind (manually_drop_value w.writer).log.items } };
 
     ghost invariant = { λ w. IsPublishing w.shape.cores w.shape.blocks w.shape.words (knows (manually_drop_value w.writer).desk.place) (manually_drop_value w.writer).desk.shown.value (drop (manually_drop_value w.writer).behind (manually_drop_value w.writer).log.items) };
 }
@@ -44,7 +44,7 @@ impl VersionWriter {
     /// The writer of the version of no items, for this shape, with `readers` reading places. `NoMemory` where a growth was refused.
     pub fn new(alloc: Global, shape: Shape, readers: usize) -> Result<VersionWriter, NoMemory>
         requires { (0 < readers) × (readers < 2 ^ 32) }
-        ensures { IfOk result (λ writer. writer ≡ record { cores = shape.cores; blocks = shape.blocks; words = shape.words; list = []; ready = [] }) }
+        ensures { IfOk result (λ writer. writer ≡ record { shape = shape; list = []; ready = [] }) }
     {
         let first = Version::new(alloc, shape)?;
         let second = Version::new(alloc, shape)?;
@@ -56,7 +56,7 @@ impl VersionWriter {
 
     /// What makes readers of these versions. `NoMemory` where the count of its owners is full.
     pub fn readers(&self) -> Result<Readers, NoMemory>
-        ensures { IfOk result (λ readers. (readers.cores ≡ self.now.cores) × (readers.blocks ≡ self.now.blocks) × (readers.words ≡ self.now.words)) }
+        ensures { IfOk result (λ readers. readers ≡ self.now.shape) }
     {
         Ok(Readers::over(self.shape, self.writer.factory().another()?))
     }
@@ -74,7 +74,7 @@ impl VersionWriter {
     /// ready it does nothing. It takes no memory.
     pub fn publish<R: Wait>(&mut self, rt: &R)
         requires legal { Legal (self.old.list ++ self.old.ready) }
-        requires within { All (IsWithin self.old.cores self.old.blocks self.old.words) (self.old.list ++ self.old.ready) }
+        requires within { All (IsWithin self.old.shape.cores self.old.shape.blocks self.old.shape.words) (self.old.list ++ self.old.ready) }
         ensures { self.new ≡ record self.old { list = self.old.list ++ self.old.ready; ready = [] } }
     {
         if self.writer.has_pending_operations() {
@@ -82,10 +82,10 @@ impl VersionWriter {
         }
     }
 
-    /// Ends the versions, and hands over the board that was published last: readers find none from then on. It waits for those
-    /// that still read.
+    /// Ends the versions, after which readers find none, and hands over the board that was published last. It waits for
+    /// those that still read. An item that is ready and not published is dropped.
     pub fn end<R: Wait>(self, rt: &R) -> Board
-        ensures { result ≡ board_of self.cores self.blocks self.words self.list }
+        ensures { result ≡ board_of self.shape.cores self.shape.blocks self.shape.words self.list }
     {
         let VersionWriter { shape: _, writer } = self;
         let last = Box::into_inner(ManuallyDrop::into_inner(writer).take(rt));

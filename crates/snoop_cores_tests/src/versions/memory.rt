@@ -52,10 +52,10 @@ fn is_current(log: &Log, item: Item) -> bool
 
 // Adds an item to the history, and publishes it.
 fn add<R: Wait>(rt: &R, log: &mut Log, writer: &mut VersionWriter, item: Item) -> bool
-    requires shape { (writer.old.cores ≡ log.old.cores) × (writer.old.blocks ≡ log.old.blocks) × (writer.old.words ≡ log.old.words) }
+    requires shape { (writer.old.shape.cores ≡ log.old.cores) × (writer.old.shape.blocks ≡ log.old.blocks) × (writer.old.shape.words ≡ log.old.words) }
     requires list { (writer.old.list ≡ log.old.items) × (writer.old.ready ≡ []) }
     requires legal { Legal log.old.items }
-    ensures shape { (writer.new.cores ≡ log.new.cores) × (writer.new.blocks ≡ log.new.blocks) × (writer.new.words ≡ log.new.words) }
+    ensures shape { (writer.new.shape.cores ≡ log.new.cores) × (writer.new.shape.blocks ≡ log.new.blocks) × (writer.new.shape.words ≡ log.new.words) }
     ensures list { (writer.new.list ≡ log.new.items) × (writer.new.ready ≡ []) }
     ensures legal { Legal log.new.items }
 {
@@ -76,10 +76,10 @@ fn add<R: Wait>(rt: &R, log: &mut Log, writer: &mut VersionWriter, item: Item) -
 
 // Publishes the item, again where a growth was refused.
 fn add_at_last<R: Wait>(rt: &R, log: &mut Log, writer: &mut VersionWriter, item: Item) -> bool
-    requires shape { (writer.old.cores ≡ log.old.cores) × (writer.old.blocks ≡ log.old.blocks) × (writer.old.words ≡ log.old.words) }
+    requires shape { (writer.old.shape.cores ≡ log.old.cores) × (writer.old.shape.blocks ≡ log.old.blocks) × (writer.old.shape.words ≡ log.old.words) }
     requires list { (writer.old.list ≡ log.old.items) × (writer.old.ready ≡ []) }
     requires legal { Legal log.old.items }
-    ensures shape { (writer.new.cores ≡ log.new.cores) × (writer.new.blocks ≡ log.new.blocks) × (writer.new.words ≡ log.new.words) }
+    ensures shape { (writer.new.shape.cores ≡ log.new.cores) × (writer.new.shape.blocks ≡ log.new.blocks) × (writer.new.shape.words ≡ log.new.words) }
     ensures list { (writer.new.list ≡ log.new.items) × (writer.new.ready ≡ []) }
     ensures legal { Legal log.new.items }
 {
@@ -103,7 +103,7 @@ fn log_at_last(alloc: Global, shape: Shape) -> Result<Log, NoMemory>
 }
 
 fn writer_at_last(alloc: Global, shape: Shape) -> Result<VersionWriter, NoMemory>
-    ensures { IfOk result (λ writer. (writer.cores ≡ shape.cores) × (writer.blocks ≡ shape.blocks) × (writer.words ≡ shape.words) × (writer.list ≡ []) × (writer.ready ≡ [])) }
+    ensures { IfOk result (λ writer. writer ≡ record { shape = shape; list = []; ready = [] }) }
 {
     match VersionWriter::new(alloc, shape, 1) {
         Ok(writer) => Ok(writer),

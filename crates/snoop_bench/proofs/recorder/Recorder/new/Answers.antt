@@ -14,7 +14,5 @@ invariant_of-result c =
         published = search rules;
       };
       ready = search rules;
-      cores = search rules;
-      blocks = search rules;
-      words = search rules;
+      shape = search rules;
     }

@@ -34,9 +34,7 @@ invariant_of-self-2 g c =
         published = list ∙ ap (λ (l : List Item). l ++ option_to_list c.in-Ok-prepared.item) inv.recorded.published ∙ sym log;
       };
       ready = ap (λ (w : Publishing). w.ready) c.publish.ensures;
-      cores = ap (λ (w : Publishing). w.cores) c.publish.ensures ∙ ap (λ (w : Publishing). w.cores) ready ∙ inv.cores ∙ sym (ap (λ (e : Rattle.snoop_trace.specs.Extent.Extent). e.cores) shape);
-      blocks = ap (λ (w : Publishing). w.blocks) c.publish.ensures ∙ ap (λ (w : Publishing). w.blocks) ready ∙ inv.blocks ∙ sym (ap (λ (e : Rattle.snoop_trace.specs.Extent.Extent). e.blocks) shape);
-      words = ap (λ (w : Publishing). w.words) c.publish.ensures ∙ ap (λ (w : Publishing). w.words) ready ∙ inv.words ∙ sym (ap (λ (e : Rattle.snoop_trace.specs.Extent.Extent). e.words) shape);
+      shape = ap (λ (w : Publishing). w.shape) c.publish.ensures ∙ ap (λ (w : Publishing). w.shape) ready ∙ inv.shape ∙ sym shape;
     }
 
 pub returns-clause-takes : goal.returns-clause-takes

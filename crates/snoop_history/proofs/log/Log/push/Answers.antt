@@ -31,5 +31,5 @@ new-requires-clause-number c =
     let Q : Journal → Type 0 = λ j. IsNumbered j.items c.args.item in
     let R : Journal → Type 0 = λ j. 0 < j.room in
     let room = subst R (sym c.self.view_is) c.requires.room in
-    let few : length items < 2 ^ 40 = omega (arith, room, length-map c.self.inside.items.items unpacked, c.self.inside.items.ok.0) in
+    let few : length items < 2 ^ 48 = omega (arith, room, length-map c.self.inside.items.items unpacked, c.self.inside.items.ok.0) in
     numbers_fit items c.args.item (subst Q (sym c.self.view_is) c.requires.numbered) few
