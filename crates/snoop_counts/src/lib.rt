@@ -15,6 +15,7 @@ mod counted;
 mod last_steps;
 pub mod laws;
 mod ranking;
+mod rows;
 mod sharers;
 mod tally;
 mod watch;
