@@ -3,7 +3,6 @@ pub mod RowLemmas
 pub mod ViewLemmas
 pub mod SharerLemmas
 pub mod BlockLemmas
-pub mod PlaceLemmas
 pub mod RankingLemmas
 pub mod CauseLemmas
 pub mod WindowLemmas

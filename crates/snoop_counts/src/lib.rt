@@ -15,7 +15,6 @@ mod counted;
 mod last_steps;
 pub mod laws;
 mod ranking;
-mod rows;
 mod sharers;
 mod tally;
 mod watch;

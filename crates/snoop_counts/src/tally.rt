@@ -11,7 +11,7 @@ ghost use Rattle.snoop_counts.specs.declared.count.Subjects.{Subjects};
 
 use crate::count::{Count, Happening, Subjects};
 use crate::counted::{counts, has_some_row, subject_of};
-use crate::rows::Rows;
+use snoop_blocks::{BlockTable, Change};
 use snoop_engine::Taken;
 use snoop_history::Item;
 use snoop_trace::NoMemory;
@@ -151,11 +151,39 @@ impl Counters {
     }
 }
 
+impl Change<Counters> for Count {
+    ghost use Rattle.snoop_counts.specs.Tally.{raised_row};
+
+    ghost changed = { raised_row };
+
+    #[inline(always)]
+    fn change(self, row: &mut Counters) {
+        row.raise(self);
+    }
+}
+
+/// What has happened, for whom it is of.
+#[derive(Clone, Copy)]
+struct Own<'a> {
+    happening: &'a Happening,
+}
+
+impl Change<Counters> for Own<'_> {
+    ghost use Rattle.snoop_counts.specs.Tally.{raised_all, tried};
+
+    ghost changed = { λ own row. raised_all (tried own.happening.now) own.happening.now row };
+
+    #[inline(always)]
+    fn change(self, row: &mut Counters) {
+        row.add(self.happening);
+    }
+}
+
 /// The counters of each core, or of each block.
 #[derive(Drop)]
 pub(crate) struct Tally {
     subjects: Subjects,
-    rows: Rows,
+    rows: BlockTable<Counters>,
 }
 
 impl Tally {
@@ -163,7 +191,7 @@ impl Tally {
     pub(crate) fn new(alloc: Global, subjects: Subjects, count: u32) -> Result<Self, NoMemory>
         ensures { IfOk result (HasCounted subjects count []) }
     {
-        match Rows::new(alloc, count, Counters::none()) {
+        match BlockTable::new(alloc, count, Counters::none()) {
             Ok(rows) => Ok(Tally { subjects, rows }),
             Err(_) => Err(NoMemory),
         }
@@ -200,7 +228,7 @@ impl Tally {
     fn raise(&mut self, subject: u32, count: Count)
         ensures { self.new ≡ record self.old { rows = raised self.old.rows subject count } }
     {
-        self.rows.raise(subject, count);
+        self.rows.change(subject, count);
     }
 
     // Counts the happening by this count, if it counts it.
@@ -221,7 +249,7 @@ impl Tally {
         ensures { self.new ≡ record self.old { rows = own_raised self.old.subjects happening.now self.old.rows } }
     {
         if let Some(subject) = subject_of(self.subjects, Count::Lines, *happening) {
-            self.rows.add(subject, happening);
+            self.rows.change(subject, Own { happening });
         }
     }
 
