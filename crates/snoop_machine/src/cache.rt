@@ -154,6 +154,17 @@ impl<B: Block> Cache<B> {
         }
     }
 
+    /// The core's state of the block.
+    #[inline(always)]
+    pub(crate) fn state(&self, block: u32) -> CacheState
+        ensures { result ≡ (line_in self.now block).state }
+    {
+        match self.lines.get(&block) {
+            Some(entry) => entry.state(),
+            None => CacheState::I,
+        }
+    }
+
     /// Whether there is room for one more line.
     fn has_room(&self) -> bool
         ensures { IsTrue result ↔ (0 < self.now.spare) }

@@ -120,7 +120,7 @@ impl<B: Block> Parts<B> {
         ensures outside { IfSome result (λ _. (core < self.now.situation.shape.cores) × (block < self.now.situation.shape.blocks)) }
     {
         if core < self.shape.cores() && block < self.shape.blocks() {
-            Some(self.line(core, block).state)
+            Some(self.line_state(core, block))
         } else {
             None
         }
@@ -212,7 +212,7 @@ impl<B: Block> Parts<B> {
             // The queue alone shows it, unless another block's request stands first.
             None => false,
             Some((_, first)) if first == block => true,
-            Some(_) => waits(self.line(core, block).state),
+            Some(_) => waits(self.line_state(core, block)),
         }
     }
 
@@ -249,6 +249,16 @@ impl<B: Block> Parts<B> {
         ensures proper { IsProper result }
     {
         self.lines.get(core, block)
+    }
+
+    /// The state in which the core holds the block.
+    #[inline(always)]
+    fn line_state(&self, core: u32, block: u32) -> CacheState
+        requires core { core < self.now.situation.shape.cores }
+        requires block { block < self.now.situation.shape.blocks }
+        ensures { result ≡ state_of self.now.situation core block }
+    {
+        self.lines.state(core, block)
     }
 
     /// What memory holds of the block.
