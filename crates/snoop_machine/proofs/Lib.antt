@@ -14,6 +14,7 @@ pub mod ProperLines
 pub mod MapRows
 pub mod LineMaps
 pub mod LineParts
+pub mod LineChanges
 pub mod LinesGoing
 pub mod Following
 pub mod Holding

@@ -23,9 +23,8 @@ use Rattle.snoop_history.specs.declared.items.Item.TheVariants as item
 use Rattle.snoop_bus.specs.Traffic.{Open}
 use Rattle.snoop_model.specs.declared.line.Access.{Access}
 use Rattle.snoop_model.specs.Pictures.Lines.{Line}
-use Rattle.snoop_machine.specs.Asked.{Asked}
+use Rattle.snoop_machine.specs.declared.ask.Asked.{Asked}
 use Rattle.snoop_machine.specs.declared.ask.Asked.TheVariants.{Absent, Hit, Issue, Drop}
-use Rattle.snoop_machine.specs.Plan.{Filled}
 use Rattle.snoop_machine.specs.Plan.{Plan}
 use Rattle.snoop_machine.specs.declared.plan.Plan.TheVariants as plan
 use Rattle.snoop_model.specs.declared.replies.Reply.{Reply}
@@ -46,17 +45,17 @@ use Rattle.snoop_machine.specs.Plan.{IsPlan, IsPlanFor, HasRoom, HasRoomToAsk, s
 -- the action of the row that an Ask takes
 abbrev pub act_of : Asked → CacheAction
 act_of Absent = action.None
-act_of (Hit line value) = action.Hit
-act_of (Issue request line) = action.Issue request
-act_of (Drop line) = action.Drop
+act_of (Hit next value) = action.Hit
+act_of (Issue request next) = action.Issue request
+act_of (Drop next) = action.Drop
 
 -- an Ask finds an Evict in I, or its row, which is no stall
 row_found : (p : Protocol) (line : Line) (word : ℕ) (asking : Op) (way : Asked) → TakesAsk p line word asking way
     → ((asking ≡ op.Evict) × (line.state ≡ I) × (way ≡ Absent)) ⊎ ((next : CacheState) × (Cell p line.state (asked asking) (act_of way) next × (act_of way ≢ action.Stall)))
 row_found p line word asking Absent t = inl (t.0, t.1, refl)
-row_found p line word asking (Hit new value) t = inr (t.0, (t.1.0, λ e. cc))
-row_found p line word asking (Issue request new) t = inr (t.0, (t.1.0, λ e. cc))
-row_found p line word asking (Drop new) t = inr (t.0, (t.1.0, λ e. cc))
+row_found p line word asking (Hit next value) t = inr (next, (t.0, λ e. cc))
+row_found p line word asking (Issue request next) t = inr (next, (t, λ e. cc))
+row_found p line word asking (Drop next) t = inr (next, (t, λ e. cc))
 
 -- an Ask that is refused on its line
 pub IsDenied-ask : (s : Situation) (core block word : ℕ) (asking : Op) (cause : Refused) → core < s.shape.cores → block < s.shape.blocks → HasWord s.shape word asking
@@ -129,21 +128,21 @@ module _ (s : Situation) (core block word : ℕ) (asking : Op) (answer : Reply) 
   ask-adds : (way : Asked) → TakesAsk s.protocol (held_by (picture_of s block) core) word asking way → IsAbsent s core block asking answer new added ⊎ Asks s core block word asking answer new added → added ≡ entry_of_ask s.log core block word asking way
   ask-adds Absent t (inl absent) = absent.4
   ask-adds Absent t (inr asks) = absurd (no_row s.protocol (state_of s core block) asking asks.row.action asks.row.next t.0 t.1 asks.is_row)
-  ask-adds (Hit line value) t (inl absent) = absurd (no_row s.protocol (state_of s core block) asking action.Hit t.0 absent.0 absent.1 t.1.0)
-  ask-adds (Hit line value) t (inr asks) =
-      let same = (Cell-one s.protocol (state_of s core block) (asked asking) asks.row.action action.Hit asks.row.next t.0 asks.is_row t.1.0).0 in
+  ask-adds (Hit next value) t (inl absent) = absurd (no_row s.protocol (state_of s core block) asking action.Hit next absent.0 absent.1 t.0)
+  ask-adds (Hit next value) t (inr asks) =
+      let same = (Cell-one s.protocol (state_of s core block) (asked asking) asks.row.action action.Hit asks.row.next next asks.is_row t.0).0 in
       let P : CacheAction → Type 0 = λ a. Takes a asks.row.next s.log core block word asking (held_by (picture_of s block) core) asks.held answer added in
       let h : Takes action.Hit asks.row.next s.log core block word asking (held_by (picture_of s block) core) asks.held answer added = subst P same asks.taken in
-      let its = performs-one word asking h.1.0.before t.1.1.before h.0 value h.1.0.after t.1.1.after (same_Some _ _ (sym h.1.0.kept ∙ t.1.1.kept)) h.1.0.performed t.1.1.performed in
+      let its = performs-one word asking h.1.0.before t.1.before h.0 value h.1.0.after t.1.after (same_Some _ _ (sym h.1.0.kept ∙ t.1.kept)) h.1.0.performed t.1.performed in
       h.1.2 ∙ ap (λ (x : ℕ). let r : Option Item = Some (item.Did (next_did s.log core block word asking x true)) in r) its
-  ask-adds (Issue request line) t (inl absent) = absurd (no_row s.protocol (state_of s core block) asking (action.Issue request) t.0 absent.0 absent.1 t.1.0)
-  ask-adds (Issue request line) t (inr asks) =
-      let same = (Cell-one s.protocol (state_of s core block) (asked asking) asks.row.action (action.Issue request) asks.row.next t.0 asks.is_row t.1.0).0 in
+  ask-adds (Issue request next) t (inl absent) = absurd (no_row s.protocol (state_of s core block) asking (action.Issue request) next absent.0 absent.1 t)
+  ask-adds (Issue request next) t (inr asks) =
+      let same = (Cell-one s.protocol (state_of s core block) (asked asking) asks.row.action (action.Issue request) asks.row.next next asks.is_row t).0 in
       let P : CacheAction → Type 0 = λ a. Takes a asks.row.next s.log core block word asking (held_by (picture_of s block) core) asks.held answer added in
       (subst P same asks.taken).2
-  ask-adds (Drop line) t (inl absent) = absurd (no_row s.protocol (state_of s core block) asking action.Drop t.0 absent.0 absent.1 t.1.0)
-  ask-adds (Drop line) t (inr asks) =
-      let same = (Cell-one s.protocol (state_of s core block) (asked asking) asks.row.action action.Drop asks.row.next t.0 asks.is_row t.1.0).0 in
+  ask-adds (Drop next) t (inl absent) = absurd (no_row s.protocol (state_of s core block) asking action.Drop next absent.0 absent.1 t)
+  ask-adds (Drop next) t (inr asks) =
+      let same = (Cell-one s.protocol (state_of s core block) (asked asking) asks.row.action action.Drop asks.row.next next asks.is_row t).0 in
       let P : CacheAction → Type 0 = λ a. Takes a asks.row.next s.log core block word asking (held_by (picture_of s block) core) asks.held answer added in
       (subst P same asks.taken).2
 
@@ -156,15 +155,15 @@ none_of : (q : Request) (closing : Open) (p : Protocol) (log : List Item) (old n
 none_of q closing p log old new did e arrives = let P : Request → Type 0 = λ x. ArrivesFor x closing p log old new did in (subst P e arrives).1
 
 -- the requestor performs the operation that waits
-fills-adds : (closing : Open) (p : Protocol) (log : List Item) (old new : List Line) (did : Option Did) (filled : Filled)
-    → FillsRequestor closing p log old new did → Fills closing p (held_at old closing.core) filled.line filled.access filled.value
-    → did ≡ Some (next_did log closing.core closing.block filled.access.word filled.access.op filled.value false)
-fills-adds closing p log old new did filled f t =
-    let same : f.asking ≡ filled.access = same_Some _ _ (sym f.fills.waited ∙ t.waited) in
+fills-adds : (closing : Open) (p : Protocol) (log : List Item) (old new : List Line) (did : Option Did) (line : Line) (asking : Access) (value : ℕ)
+    → FillsRequestor closing p log old new did → Fills closing p (held_at old closing.core) line asking value
+    → did ≡ Some (next_did log closing.core closing.block asking.word asking.op value false)
+fills-adds closing p log old new did line asking value f t =
+    let same : f.asking ≡ asking = same_Some _ _ (sym f.fills.waited ∙ t.waited) in
     let P : Access → Type 0 = λ o. Performs o.word o.op closing.value f.value f.fills.after in
-    let its = performs-one filled.access.word filled.access.op closing.value closing.value f.value filled.value f.fills.after t.after refl (subst P same f.fills.performed) t.performed in
+    let its = performs-one asking.word asking.op closing.value closing.value f.value value f.fills.after t.after refl (subst P same f.fills.performed) t.performed in
     f.logged ∙ (ap (λ (o : Access). let r : Option Did = Some (next_did log closing.core closing.block o.word o.op f.value false) in r) same
-    ∙ ap (λ (v : ℕ). let r : Option Did = Some (next_did log closing.core closing.block filled.access.word filled.access.op v false) in r) its)
+    ∙ ap (λ (v : ℕ). let r : Option Did = Some (next_did log closing.core closing.block asking.word asking.op v false) in r) its)
 
 -- a planned step adds the plan's item, whatever move it is
 pub plan-adds : (s : Situation) (x : Plan) → IsPlan s x → (answer : Reply) (new : Situation) (added : Option Item) → FirstMove s (step_of x) answer new added → added ≡ entry_of s.log x
@@ -194,7 +193,7 @@ plan-adds s (plan.Fill block closing memory filled) h answer new added m =
     let Q : Open → Type 0 = λ o. ArrivesFor o.request o s.protocol s.log (picture_of s m.0).caches responds.next.caches m.1.1.did in
     let fills = fills_of closing.request closing s.protocol s.log (picture_of s m.0).caches responds.next.caches m.1.1.did h.2 (subst Q same responds.requestor) in
     let R : ℕ → Type 0 = λ b. FillsRequestor closing s.protocol s.log (picture_of s b).caches responds.next.caches m.1.1.did in
-    let did = fills-adds closing s.protocol s.log (picture_of s block).caches responds.next.caches m.1.1.did filled (subst R on fills) h.3 in
+    let did = fills-adds closing s.protocol s.log (picture_of s block).caches responds.next.caches m.1.1.did _ filled.access filled.value (subst R on fills) h.3 in
     m.1.1.logged ∙ (ap (λ (o : Open). let r : Option Item = Some (item.Came (came_of o) m.1.1.did) in r) same
     ∙ ap (λ (d : Option Did). let r : Option Item = Some (item.Came (came_of closing) d) in r) did)
 
@@ -213,9 +212,9 @@ plan-room before (plan.Ask core block word asking way) h some full =
   where
     clash : (b : Standing) (k n : ℕ) (w : Asked) → room_to (act_of w) b k n ≡ 0 → 0 < room_for_ask b k n w → ⊥
     clash b k n Absent e l = cc
-    clash b k n (Hit line value) e l = absurd (omega arith)
-    clash b k n (Issue request line) e l = absurd (omega arith)
-    clash b k n (Drop line) e l = cc
+    clash b k n (Hit next value) e l = absurd (omega arith)
+    clash b k n (Issue request next) e l = absurd (omega arith)
+    clash b k n (Drop next) e l = cc
 plan-room before (plan.Order core request block message memory) h some full = absurd (omega arith)
 plan-room before (plan.Writeback block closing memory) h some full = absurd (omega arith)
 plan-room before (plan.Fill block closing memory filled) h some full = absurd (omega arith)
@@ -223,9 +222,9 @@ plan-room before (plan.Fill block closing memory filled) h some full = absurd (o
 -- where the plan has no room the step has none
 plan-full : (before : Standing) (x : Plan) → IsPlan before.situation x → room_for before x ≡ 0 → IsFull before (step_of x)
 plan-full before (plan.Ask core block word asking Absent) h none = absurd (omega arith)
-plan-full before (plan.Ask core block word asking (Hit line value)) h none = (action.Hit, (h.1.0, (h.1.1.0, none)))
-plan-full before (plan.Ask core block word asking (Issue request line)) h none = (action.Issue request, (h.1.0, (h.1.1.0, none)))
-plan-full before (plan.Ask core block word asking (Drop line)) h none = absurd (omega arith)
+plan-full before (plan.Ask core block word asking (Hit next value)) h none = (action.Hit, (next, (h.1.0, none)))
+plan-full before (plan.Ask core block word asking (Issue request next)) h none = (action.Issue request, (next, (h.1, none)))
+plan-full before (plan.Ask core block word asking (Drop next)) h none = absurd (omega arith)
 plan-full before (plan.Order core request block message memory) h none = none
 plan-full before (plan.Writeback block closing memory) h none = none
 plan-full before (plan.Fill block closing memory filled) h none = none
@@ -235,9 +234,9 @@ IsFull-plan before taking x h none = subst (IsFull before) h.0 (plan-full before
 
 ask-room : (before : Standing) (core block : ℕ) (way : Asked) → HasRoomToAsk before core block way → 0 < room_for_ask before core block way
 ask-room before core block Absent h = omega arith
-ask-room before core block (Hit line value) h = h
-ask-room before core block (Issue request line) h = rw (h.0) h.1
-ask-room before core block (Drop line) h = omega arith
+ask-room before core block (Hit next value) h = h
+ask-room before core block (Issue request next) h = rw (h.0) h.1
+ask-room before core block (Drop next) h = omega arith
 
 -- where the room for a plan was made there is room for one such step at least
 some-room : (before : Standing) (x : Plan) → HasRoom before x → 0 < room_for before x

@@ -16,7 +16,7 @@ use Rattle.snoop_history.specs.declared.items.Item.TheVariants as item
 use Rattle.snoop_machine.specs.declared.ask.Asked.TheVariants as asked
 use Rattle.snoop_model.specs.Pictures.Lines.{MemLine, Message}
 use Rattle.snoop_machine.specs.declared.plan.Plan as declared
-use Rattle.snoop_machine.specs.declared.respond.Filled as filling
+use Rattle.snoop_machine.specs.declared.respond.Filled.{Filled}
 use Rattle.snoop_machine.specs.declared.plan.Plan.TheVariants.{Ask, Order, Writeback, Fill}
 use Rattle.snoop_model.specs.Moves.Standing.{Standing, has_line}
 use Rattle.snoop_model.specs.Moves.Prepared.{room_to_issue}
@@ -24,13 +24,11 @@ use Rattle.snoop_model.specs.Pictures.Situation.{Situation, picture_of}
 use Rattle.snoop_model.specs.Pictures.Picture.{held_by}
 use Rattle.snoop_model.specs.Pictures.Sound.{IsProper}
 use Rattle.snoop_model.specs.Moves.Move.{Fills, ArrivesAtMemory, IsWithin, TakesMemRow, came_of, next_did}
-use Rattle.snoop_machine.specs.Asked.{Asked, TakesAsk}
+use Rattle.snoop_machine.specs.declared.ask.Asked.{Asked}
+use Rattle.snoop_machine.specs.Cache.{filled_line}
+use Rattle.snoop_machine.specs.Asked.{TakesAsk}
 use Rattle.snoop_model.specs.Pictures.Message.{IsMessage}
 use Rattle.snoop_model.specs.Moves.OrderMove.{IsHead}
-
--- what a response brings to its requestor's line
-abbrev pub Filled : Type 0
-Filled = filling.Filled Data
 
 -- what a step will do
 abbrev pub Plan : Type 0
@@ -65,7 +63,7 @@ IsPlan s (Order core request block message memory) = (core < s.shape.cores) × C
 IsPlan s (Writeback block closing memory) = (block < s.shape.blocks) × IsClosing s block closing memory × (closing.request ≡ PutM)
 IsPlan s (Fill block closing memory filled) =
     (block < s.shape.blocks) × IsClosing s block closing memory × (closing.request ≢ PutM)
-    × Fills closing s.protocol (held_by (picture_of s block) closing.core) filled.line filled.access filled.value
+    × Fills closing s.protocol (held_by (picture_of s block) closing.core) (filled_line filled.next filled.access closing.value) filled.access filled.value
     × IsWord s.shape filled.access.word
 
 -- a plan for this step
@@ -75,16 +73,16 @@ IsPlanFor s taking plan = (step_of plan ≡ taking) × IsPlan s plan
 -- for how many more such Asks of the core for the block there is room; one that adds neither item nor request always has it
 abbrev pub room_for_ask : Standing → ℕ → ℕ → Asked → ℕ
 room_for_ask before core block asked.Absent = 1
-room_for_ask before core block (asked.Hit line value) = before.room
-room_for_ask before core block (asked.Issue request line) = room_to_issue before core block
-room_for_ask before core block (asked.Drop line) = 1
+room_for_ask before core block (asked.Hit next value) = before.room
+room_for_ask before core block (asked.Issue request next) = room_to_issue before core block
+room_for_ask before core block (asked.Drop next) = 1
 
 -- there is room for what such an Ask of the core adds; and where it issues a request, there is the line that will wait for it
 abbrev pub HasRoomToAsk : Standing → ℕ → ℕ → Asked → Type 0
 HasRoomToAsk before core block asked.Absent = ⊤
-HasRoomToAsk before core block (asked.Hit line value) = 0 < before.room
-HasRoomToAsk before core block (asked.Issue request line) = (has_line before core block ≡ true) × (0 < slice_index before.rooms core)
-HasRoomToAsk before core block (asked.Drop line) = ⊤
+HasRoomToAsk before core block (asked.Hit next value) = 0 < before.room
+HasRoomToAsk before core block (asked.Issue request next) = (has_line before core block ≡ true) × (0 < slice_index before.rooms core)
+HasRoomToAsk before core block (asked.Drop next) = ⊤
 
 -- for how many more such steps there is room
 abbrev pub room_for : Standing → Plan → ℕ
@@ -103,9 +101,9 @@ HasRoom before (Fill block closing memory filled) = 0 < before.room
 -- the item that an Ask adds: a hit is performed at once
 abbrev pub entry_of_ask : List Item → ℕ → ℕ → ℕ → Op → Asked → Option Item
 entry_of_ask log core block word asking asked.Absent = None
-entry_of_ask log core block word asking (asked.Hit line value) = Some (item.Did (next_did log core block word asking value true))
-entry_of_ask log core block word asking (asked.Issue request line) = None
-entry_of_ask log core block word asking (asked.Drop line) = None
+entry_of_ask log core block word asking (asked.Hit next value) = Some (item.Did (next_did log core block word asking value true))
+entry_of_ask log core block word asking (asked.Issue request next) = None
+entry_of_ask log core block word asking (asked.Drop next) = None
 
 -- the item that a planned step adds, if any
 abbrev pub entry_of : List Item → Plan → Option Item

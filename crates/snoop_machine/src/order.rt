@@ -1,5 +1,5 @@
 //! What an Order does to the lines of its block, and who sends.
-ghost use Rattle.std.specs.Prelude.{◌≡◌, ◌↔◌, IsTrue, ℕ, ◌<◌, ◌≤◌, [], length, Some, slice_index_or, slice_set, unwrap_or, if◌then◌else◌};
+ghost use Rattle.std.specs.Prelude.{◌≡◌, ◌↔◌, IsTrue, ℕ, ◌<◌, ◌≤◌, [], length, Some, option_copied, slice_index_or, slice_set, unwrap_or, if◌then◌else◌};
 ghost use Rattle.snoop_trace.specs.Words.{zero_words};
 ghost use Rattle.snoop_rules.specs.Waits.{waiting_request};
 ghost use Rattle.snoop_rules.specs.Takers.{seen_by, carries_value};
@@ -8,13 +8,15 @@ ghost use Rattle.snoop_model.specs.Moves.LookUps.{HasRow};
 ghost use Rattle.snoop_model.specs.Moves.SenderTable.{FollowsSenderTable};
 ghost use Rattle.snoop_model.specs.Pictures.Message.{free_picture, IsMessage, memory_message};
 ghost use Rattle.snoop_model.specs.Moves.Move.{TakesRows};
+ghost use Rattle.snoop_machine.specs.Cache.{line_of};
 ghost use Rattle.snoop_machine.specs.Lines.{LinesGo};
 
+use crate::cache::{Entry, state_of, words_of};
 use crate::lines::Lines;
-use snoop_model::{Line, MemLine, Message};
+use snoop_model::{MemLine, Message};
 use snoop_rules::{
-    CacheAction, CacheState, MemAction, MemCell, Payload, Protocol, Request, cache_cell,
-    carries_value, event_at_memory, event_seen, mem_cell,
+    CacheAction, MemAction, MemCell, Payload, Protocol, Request, cache_cell, carries_value,
+    event_at_memory, event_seen, mem_cell,
 };
 use snoop_trace::{Block, Kept};
 
@@ -45,12 +47,12 @@ impl<B: Block> Lines<B> {
 }
 
 /// The words that the line's cache puts into a message.
-fn words_for<B: Block>(line: Line<Kept<B>>, payload: Payload) -> Kept<B>
+fn words_for<B: Block>(found: Option<&Entry<B>>, payload: Payload) -> Kept<B>
     requires { B.count ≤ 64 }
-    ensures { result ≡ (if carries_value payload then unwrap_or line.kept zero_words else zero_words) }
+    ensures { result ≡ (if carries_value payload then unwrap_or (line_of (option_copied found.entry)).kept zero_words else zero_words) }
 {
     if carries_value(payload) {
-        line.kept.unwrap_or(Kept::zero())
+        words_of(found).unwrap_or(Kept::zero())
     } else {
         Kept::zero()
     }
@@ -101,15 +103,18 @@ impl<B: Block> Lines<B> {
         let concerned = self.concerned(block, requestor, request);
         let mut from = 0;
         while let Some(core) = concerned.next(from) {
-            let line = self.get(core, block);
-            let Some(cell) = cache_cell(protocol, line.state, event_seen(core, requestor, request))
-            else {
+            let found = self.get(core, block);
+            let Some(cell) = cache_cell(
+                protocol,
+                state_of(found),
+                event_seen(core, requestor, request),
+            ) else {
                 unreachable!();
             };
             if let CacheAction::Send(payload, _) = cell.action {
                 return Message {
                     payload,
-                    value: words_for(line, payload),
+                    value: words_for(found, payload),
                     from: Some(core),
                 };
             }

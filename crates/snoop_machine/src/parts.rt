@@ -1,5 +1,5 @@
 //! The parts of a machine, which its steps change one after another.
-ghost use Rattle.std.specs.Prelude.{◌≡◌, ◌<◌, ◌≤◌, ◌↔◌, ℕ, length, option_map, is_some, IsTrue, IfOk, IfSome, Some};
+ghost use Rattle.std.specs.Prelude.{◌≡◌, ◌<◌, ◌≤◌, ◌↔◌, ℕ, length, option_map, is_some, IsTrue, IfOk, IfSome, Some, option_copied};
 ghost use Rattle.snoop_trace.specs.Words.{AreZeroFrom, word_at};
 ghost use Rattle.snoop_bus.specs.Queues.{place_in, queue_of};
 ghost use Rattle.snoop_rules.specs.Waits.{waiting_request};
@@ -9,6 +9,7 @@ ghost use Rattle.snoop_model.specs.Pictures.Sound.{IsProper, keeps};
 ghost use Rattle.snoop_model.specs.Moves.Move.{next_did};
 ghost use Rattle.snoop_model.specs.Moves.Standing.{line_count};
 ghost use Rattle.snoop_model.specs.Moves.Holding.{HasHeldLines};
+ghost use Rattle.snoop_machine.specs.Cache.{line_of};
 ghost use Rattle.snoop_machine.specs.PartsView.{no_memory};
 
 mod ask;
@@ -16,11 +17,12 @@ mod order;
 mod respond;
 mod step;
 
+use crate::cache::Entry;
 use crate::lines::Lines;
 use snoop_blocks::BlockTable;
 use snoop_bus::{Bus, Open};
 use snoop_history::{Did, Log};
-use snoop_model::{Access, Line, MemLine};
+use snoop_model::{Access, MemLine};
 use snoop_rules::{CacheState, MemState, Payload, Protocol, Request, waits};
 use snoop_trace::{Block, Kept, NoMemory, Op, Shape};
 use std::alloc::Global;
@@ -240,13 +242,13 @@ impl<B: Block> Parts<B> {
         &self.log
     }
 
-    /// What the core holds of the block.
+    /// What the core holds of the block, if its map has a line for it.
     #[inline(always)]
-    fn line(&self, core: u32, block: u32) -> Line<Kept<B>>
+    fn line(&self, core: u32, block: u32) -> Option<&Entry<B>>
         requires core { core < self.now.situation.shape.cores }
         requires block { block < self.now.situation.shape.blocks }
-        ensures line { result ≡ held_by (picture_of self.now.situation block) core }
-        ensures proper { IsProper result }
+        ensures line { line_of (option_copied result) ≡ held_by (picture_of self.now.situation block) core }
+        ensures proper { IsProper (line_of (option_copied result)) }
     {
         self.lines.get(core, block)
     }
@@ -296,13 +298,13 @@ impl<B: Block> Parts<B> {
 }
 
 /// The value of a word that a line keeps, if it keeps any.
-fn word_kept<B: Block>(line: Line<Kept<B>>, word: u32) -> Option<u64>
+fn word_kept<B: Block>(found: Option<&Entry<B>>, word: u32) -> Option<u64>
     requires { word < B.count }
-    ensures value { result ≡ option_map (λ ws. word_at ws word) line.kept }
-    ensures some { is_some result ≡ is_some line.kept }
+    ensures value { result ≡ option_map (λ ws. word_at ws word) (line_of (option_copied found.entry)).kept }
+    ensures some { is_some result ≡ is_some (line_of (option_copied found.entry)).kept }
 {
-    match line.kept {
-        Some(words) => Some(words.at(word)),
+    match found {
+        Some(entry) => entry.at(word),
         None => None,
     }
 }

@@ -15,7 +15,7 @@ pub enum Plan<K> {
         block: u32,
         word: u32,
         op: Op,
-        asked: Asked<K>,
+        asked: Asked,
     },
     Order {
         core: u32,
@@ -35,7 +35,7 @@ pub enum Plan<K> {
         block: u32,
         closing: Open<K>,
         memory: MemLine<K>,
-        filled: Filled<K>,
+        filled: Filled,
     },
 }
 

@@ -1,61 +1,52 @@
 //! What a response does to one line, and to memory.
-ghost use Rattle.std.specs.Prelude.{◌≡◌, ◌<◌, IfSome, IsSomeAnd, IsTrue};
+ghost use Rattle.std.specs.Prelude.{◌≡◌, ◌<◌, IfSome, IsSomeAnd, IsTrue, option_copied};
 ghost use Rattle.snoop_rules.specs.Takers.{arrival, arrival_at_memory, takes_payload};
 ghost use Rattle.snoop_model.specs.Pictures.Sound.{IsProper};
 ghost use Rattle.snoop_model.specs.Moves.LookUps.{HasRow, HasMemRow};
 ghost use Rattle.snoop_model.specs.Moves.Move.{Fills, ArrivesAtMemory, written};
+ghost use Rattle.snoop_machine.specs.Cache.{line_of, filled_line};
 
+use crate::cache::{Entry, state_of, waiting_of};
 use snoop_bus::Open;
-use snoop_model::{Access, Line, MemLine};
+use snoop_model::{Access, MemLine};
 use snoop_rules::{
-    CacheAction, CacheEvent, MemAction, Payload, Protocol, arrival_at_memory, cache_cell, mem_cell,
-    takes_payload,
+    CacheAction, CacheEvent, CacheState, MemAction, Payload, Protocol, arrival_at_memory,
+    cache_cell, mem_cell, takes_payload,
 };
 use snoop_trace::{Block, Kept, Op};
-use std::alloc::AllocError;
 
-/// The requestor's line after its data has come, and what it performed with it.
-#[derive(Copy)]
-pub struct Filled<K> {
-    pub line: Line<K>,
+/// The next state of the requestor's line once its data has come, and what it performs with it.
+#[derive(Clone, Copy)]
+pub struct Filled {
+    pub next: CacheState,
     pub access: Access,
     pub value: u64,
-}
-
-impl<K: Copy> Clone for Filled<K> {
-    fn clone(&self) -> Result<Self, AllocError> {
-        Ok(*self)
-    }
 }
 
 /// What the response brings to its requestor's line.
 pub(crate) fn fill<B: Block>(
     protocol: Protocol,
-    line: Line<Kept<B>>,
+    found: Option<&Entry<B>>,
     closing: &Open<Kept<B>>,
-) -> Filled<Kept<B>>
-    requires proper { IsProper line }
-    requires word { IfSome line.waiting (λ access. access.word < B.count) }
-    requires possible { IsSomeAnd (arrival closing.now.payload) (HasRow protocol line.state) }
-    ensures { Fills closing.now protocol line result.line result.access result.value }
+) -> Filled
+    requires proper { IsProper (line_of (option_copied found)) }
+    requires word { IfSome (line_of (option_copied found)).waiting (λ access. access.word < B.count) }
+    requires possible { IsSomeAnd (arrival closing.now.payload) (HasRow protocol (line_of (option_copied found)).state) }
+    ensures { Fills closing.now protocol (line_of (option_copied found.entry)) (filled_line result.next result.access closing.now.value) result.access result.value }
 {
     let event = match closing.payload {
         Payload::Data => CacheEvent::Data,
         Payload::DataE => CacheEvent::DataE,
         Payload::NoData | Payload::NoDataE => unreachable!(),
     };
-    let Some(cell) = cache_cell(protocol, line.state, event) else {
+    let Some(cell) = cache_cell(protocol, state_of(found), event) else {
         unreachable!();
     };
-    match (cell.action, line.waiting) {
+    match (cell.action, waiting_of(found)) {
         (CacheAction::FillLoad, Some(Access { word, op: Op::Load })) => Filled {
-            value: closing.value.at(word),
-            line: Line {
-                state: cell.next,
-                kept: Some(closing.value),
-                waiting: None,
-            },
+            next: cell.next,
             access: Access { word, op: Op::Load },
+            value: closing.value.at(word),
         },
         (
             CacheAction::FillStore,
@@ -66,11 +57,7 @@ pub(crate) fn fill<B: Block>(
                 },
             ),
         ) => Filled {
-            line: Line {
-                state: cell.next,
-                kept: Some(closing.value.with(word, value)),
-                waiting: None,
-            },
+            next: cell.next,
             access: Access {
                 word,
                 op: Op::Store(value),

@@ -10,6 +10,7 @@ ghost use Rattle.snoop_model.specs.Pictures.Situation.{picture_of};
 ghost use Rattle.snoop_model.specs.Pictures.Picture.{held_by};
 ghost use Rattle.snoop_model.specs.Moves.Move.{Fills, ArrivesAtMemory, Responds, came_of};
 ghost use Rattle.snoop_model.specs.Moves.StepMove.{IsDenied};
+ghost use Rattle.snoop_machine.specs.Cache.{filled_line};
 ghost use Rattle.snoop_machine.specs.Plan.{IsPlanFor};
 ghost use Rattle.snoop_model.specs.Invariant.Invariant.{Invariant};
 ghost use Rattle.snoop_model.specs.Moves.Refuses.{Refuses};
@@ -46,8 +47,8 @@ impl<B: Block> Parts<B> {
                 memory,
             });
         }
-        let line = self.line(closing.core, block);
-        let filled = fill(self.protocol, line, &closing);
+        let found = self.line(closing.core, block);
+        let filled = fill(self.protocol, found, &closing);
         Ok(Plan::Fill {
             block,
             closing,
@@ -87,7 +88,7 @@ impl<B: Block> Parts<B> {
         &mut self,
         block: u32,
         closing: Open<Kept<B>>,
-        filled: Filled<Kept<B>>,
+        filled: Filled,
         memory: MemLine<Kept<B>>,
     ) -> Did
         requires core { closing.core < self.old.situation.shape.cores }
@@ -97,7 +98,7 @@ impl<B: Block> Parts<B> {
         requires room { 0 < self.old.room }
         requires opened { (picture_of self.old.situation block).transaction ≡ Some closing }
         requires get { closing.request ≢ PutM }
-        requires filled { Fills closing self.old.situation.protocol (held_by (picture_of self.old.situation block) closing.core) filled.line filled.access filled.value }
+        requires filled { Fills closing self.old.situation.protocol (held_by (picture_of self.old.situation block) closing.core) (filled_line filled.next filled.access closing.value) filled.access filled.value }
         requires word { IsWord self.old.situation.shape filled.access.word }
         requires memory { ArrivesAtMemory closing self.old.situation.protocol (picture_of self.old.situation block).memory memory }
         ensures responded { Responds self.old.situation block closing (Some result) self.new.situation }
@@ -111,7 +112,13 @@ impl<B: Block> Parts<B> {
             filled.value,
             false,
         );
-        self.lines.set(closing.core, block, filled.line);
+        self.lines.fill(
+            closing.core,
+            block,
+            filled.next,
+            filled.access,
+            &closing.value,
+        );
         self.memory.set(block, memory);
         let _ = self.bus.finish(block);
         self.log.push(Item::Came(came(closing), Some(did)));

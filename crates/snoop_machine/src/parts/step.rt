@@ -120,12 +120,7 @@ impl<B: Block> Parts<B> {
 
     /// Makes room for what an Ask of the core adds.
     #[inline(always)]
-    fn make_room_to_ask(
-        &mut self,
-        core: u32,
-        block: u32,
-        asked: &Asked<Kept<B>>,
-    ) -> Result<(), NoMemory>
+    fn make_room_to_ask(&mut self, core: u32, block: u32, asked: &Asked) -> Result<(), NoMemory>
         requires { core < self.old.situation.shape.cores }
         ensures ok { OnOk result (HasRoomToAsk self.new core block asked.now) }
         ensures full { OnErr result (room_for_ask self.old core block asked.now ≡ 0) }

@@ -34,22 +34,22 @@ requestor_within g c = waits_within (row_of c.args.self.now.rows c.args.block) c
 within_row : (g : Over) (c : In-Some-next g) → c.in-Some-next.core < length (row_of c.args.self.now.rows c.args.block)
 within_row g c = concerned_within c.args.protocol (row_of c.args.self.now.rows c.args.block) c.args.requestor c.args.request c.concerned-concerned.result c.concerned-concerned.ensures.own c.concerned-concerned.ensures.others (requestor_within g c) c.in-Some-next.core c.in-Some-next.ensures.some.2
 
-pub get-line-requires-clause-core : goal.get-line-requires-clause-core
-get-line-requires-clause-core g c = within_row g (goal.at.get-line-requires-clause-core g c).In-Some-next
+pub get-found-requires-clause-core : goal.get-found-requires-clause-core
+get-found-requires-clause-core g c = within_row g (goal.at.get-found-requires-clause-core g c).In-Some-next
 
 -- the row of the core that is looked at, in the picture
 row : (g : Over) (c : In-Some-cache_cell g) → Cell c.args.protocol (held_at (row_of c.args.self.now.rows c.args.block) c.in-Some-next.core).state (seen_by c.in-Some-next.core c.args.requestor c.args.request) c.in-Some-cache_cell.cell.action c.in-Some-cache_cell.cell.next
 row g c =
-    let P : CacheEvent → Type 0 = λ event. Cell c.args.protocol c.get-line.result.state event c.in-Some-cache_cell.cell.action c.in-Some-cache_cell.cell.next in
+    let P : CacheEvent → Type 0 = λ event. Cell c.args.protocol c.state_of.result event c.in-Some-cache_cell.cell.action c.in-Some-cache_cell.cell.next in
     let Q : CacheState → Type 0 = λ state. Cell c.args.protocol state (seen_by c.in-Some-next.core c.args.requestor c.args.request) c.in-Some-cache_cell.cell.action c.in-Some-cache_cell.cell.next in
-    subst Q (ap (λ (line : Line). line.state) c.get-line.ensures.line) (subst P c.event_seen.ensures c.in-Some-cache_cell.ensures.row)
+    subst Q (c.state_of.ensures ∙ ap (λ (line : Line). line.state) c.get-found.ensures.line) (subst P c.event_seen.ensures c.in-Some-cache_cell.ensures.row)
 
 pub unreachable-requires-in_default-cache_cell : goal.unreachable-requires-in_default-cache_cell
 unreachable-requires-in_default-cache_cell g c =
     let core = c.in-Some-next.core in
-    let P : CacheEvent → Type 0 = λ event. IsImpossible c.args.protocol c.get-line.result.state event in
+    let P : CacheEvent → Type 0 = λ event. IsImpossible c.args.protocol c.state_of.result event in
     let Q : CacheState → Type 0 = λ state. IsImpossible c.args.protocol state (seen_by core c.args.requestor c.args.request) in
-    let none = subst Q (ap (λ (line : Line). line.state) c.get-line.ensures.line) (subst P c.event_seen.ensures c.in_default-cache_cell.ensures.impossible) in
+    let none = subst Q (c.state_of.ensures ∙ ap (λ (line : Line). line.state) c.get-found.ensures.line) (subst P c.event_seen.ensures c.in_default-cache_cell.ensures.impossible) in
     let there = c.requires.rows core (within_row g (goal.at.unreachable-requires-in_default-cache_cell g c).In-Some-next) in
     let clash : ◌≡◌ {A = Option CacheCell} None (Some there.0) = sym none ∙ there.1 in
     cc
@@ -62,7 +62,7 @@ returns-in-Send g c =
     let P : CacheAction → Type 0 = λ act. Cell c.args.protocol (held_at (row_of c.args.self.now.rows c.args.block) core).state (seen_by core c.args.requestor c.args.request) act c.in-Some-cache_cell.cell.next in
     IsMessage-sent c.args.protocol before c.args.requestor c.args.request c.requires.rows c.requires.line (record { payload = c.in-Send.payload; value = c.words_for.result; from = Some core })
     (within_row g (goal.at.returns-in-Send g c).In-Some-next, sends_row _ _ (ap sent_by (subst P c.in-Send.is (row g d))))
-    (c.words_for.ensures ∙ ap (λ (line : Line). if carries_value c.in-Send.payload then unwrap_or line.kept zero_words else zero_words) c.get-line.ensures.line)
+    (c.words_for.ensures ∙ ap (λ (line : Line). if carries_value c.in-Send.payload then unwrap_or line.kept zero_words else zero_words) c.get-found.ensures.line)
 
 pub loop-core-init : goal.loop-core-init
 loop-core-init g c =

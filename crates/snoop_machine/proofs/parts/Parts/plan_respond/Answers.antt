@@ -37,13 +37,13 @@ fill-filled-requires-clause-possible g c =
     let P : Line → Type 0 = λ x. IsSomeAnd (arrival closing.payload) (HasRow c.self.inside.protocol x.state) in
     let Q : Standing → Type 0 = λ x. IsSomeAnd (arrival closing.payload) (HasRow x.situation.protocol line.state) in
     let finds = finds_rows s c.requires.inductive (Respond c.args.block) in
-    subst P (sym c.line-line.ensures.line) (subst Q (sym c.self.view_is)
+    subst P (sym c.line-found.ensures.line) (subst Q (sym c.self.view_is)
     (finds.cache closing.core c.args.block (arrival closing.payload) (closing, (refl, sym c.transaction.ensures.value ∙ c.in-Some.is, refl, get, refl))))
 
 pub fill-filled-requires-clause-word : goal.fill-filled-requires-clause-word
 fill-filled-requires-clause-word g c =
     let held = sym (ap (λ (x : Standing). x.situation.shape.words) c.self.view_is) ∙ c.self.invariant.sized.held in
-    rw c.line-line.ensures.line (waiting_held c.args.self.now.situation _ c.in-Some.closing.core c.args.block held c.requires.inductive)
+    rw c.line-found.ensures.line (waiting_held c.args.self.now.situation _ c.in-Some.closing.core c.args.block held c.requires.inductive)
 
 pub returns-clause-found : goal.returns-clause-found
 returns-clause-found g c =
@@ -62,5 +62,5 @@ returns-clause-found g c =
       sender = sender_within s c.requires.inductive block closing opened;
       arrives = search rules;
     } in
-    let waits = ap (λ (x : Line). x.waiting) (sym c.line-line.ensures.line) ∙ c.fill-filled.ensures.waited in
+    let waits = ap (λ (x : Line). x.waiting) (sym c.line-found.ensures.line) ∙ c.fill-filled.ensures.waited in
     (refl, (c.requires.block, closes, get, search rules, c.requires.inductive.accesses closing.core block c.fill-filled.result.access waits))
