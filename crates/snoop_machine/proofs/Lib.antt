@@ -1,4 +1,5 @@
 pub mod PlacedLines
+pub mod MemoryTables
 pub mod PictureViews
 pub mod LineWrites
 pub mod QueueViews

@@ -3,7 +3,7 @@
 use Rattle.std.specs.Prelude.{◌≡◌, ℕ, ◌+◌, ◌⊎◌, false}
 use Rattle.snoop_machine.specs.declared.ask.Asked.{Asked}
 use Rattle.snoop_machine.specs.declared.ask.Asked.TheVariants as asked
-use Rattle.snoop_machine.specs.Plan.{Plan}
+use Rattle.snoop_machine.specs.declared.plan.Plan.{Plan}
 use Rattle.snoop_machine.specs.declared.plan.Plan.TheVariants.{Ask}
 use Rattle.snoop_rules.specs.declared.names.CacheState.TheVariants.{I}
 use Rattle.snoop_model.specs.Pictures.Situation.{state_of}

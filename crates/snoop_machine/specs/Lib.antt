@@ -1,6 +1,7 @@
 pub mod Cache
 pub mod Asked
 pub mod Plan
+pub mod Memory
 pub mod PartsView
 pub mod AnyParts
 pub mod MachineView

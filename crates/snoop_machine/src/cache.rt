@@ -1,6 +1,6 @@
 //! The lines of one core.
-ghost use Rattle.std.specs.Prelude.{◌≡◌, ◌≢◌, ℕ, ◌+◌, ◌<◌, ◌≤◌, ◌∷◌, ◌++◌, [], length, option_copied, option_map, OnOk, OnErr, IfSome, IfNone, IsTrue, ◌↔◌, IsSome, false, is_some, nat_eq, Option, None, if◌then◌else◌};
-ghost use Rattle.snoop_trace.specs.Words.{Data, word_at};
+ghost use Rattle.std.specs.Prelude.{◌≡◌, ◌≢◌, ℕ, ◌+◌, ◌<◌, ◌≤◌, ◌∷◌, ◌++◌, [], length, option_copied, option_map, unwrap_or, OnOk, OnErr, IfSome, IfNone, IsTrue, ◌↔◌, IsSome, false, is_some, nat_eq, Option, None, if◌then◌else◌};
+ghost use Rattle.snoop_trace.specs.Words.{Data, word_at, zero_words};
 ghost use Rattle.std.specs.Map.{lookup};
 ghost use Rattle.snoop_rules.specs.declared.names.CacheState.TheVariants.{I};
 ghost use Rattle.snoop_model.specs.Pictures.Picture.{nothing_held, kept_on};
@@ -87,11 +87,16 @@ impl<B: Block> Entry<B> {
         }
     }
 
-    /// The words, if they are kept.
-    pub(crate) fn words(&self) -> Option<Kept<B>>
-        ensures { result ≡ self.now.kept }
+    /// The words, or 0 in each where none are kept.
+    pub(crate) fn words(&self) -> Kept<B>
+        requires { B.count ≤ 64 }
+        ensures { result ≡ unwrap_or self.now.kept zero_words }
     {
-        if self.is_kept { Some(self.words) } else { None }
+        if self.is_kept {
+            self.words
+        } else {
+            Kept::zero()
+        }
     }
 
     /// The load or store that waits.
@@ -200,13 +205,14 @@ pub(crate) fn waiting_of<B: Block>(found: Option<&Entry<B>>) -> Option<Access>
     }
 }
 
-/// The words of a line that a map has, if it keeps them.
-pub(crate) fn words_of<B: Block>(found: Option<&Entry<B>>) -> Option<Kept<B>>
-    ensures { result ≡ (line_of (option_copied found.entry)).kept }
+/// The words of a line that a map has, or 0 in each where none are kept.
+pub(crate) fn words_of<B: Block>(found: Option<&Entry<B>>) -> Kept<B>
+    requires { B.count ≤ 64 }
+    ensures { result ≡ unwrap_or (line_of (option_copied found.entry)).kept zero_words }
 {
     match found {
         Some(entry) => entry.words(),
-        None => None,
+        None => Kept::zero(),
     }
 }
 

@@ -10,7 +10,6 @@ ghost use Rattle.snoop_model.specs.Moves.Move.{next_did};
 ghost use Rattle.snoop_model.specs.Moves.Standing.{line_count};
 ghost use Rattle.snoop_model.specs.Moves.Holding.{HasHeldLines};
 ghost use Rattle.snoop_machine.specs.Cache.{line_of};
-ghost use Rattle.snoop_machine.specs.PartsView.{no_memory};
 
 mod ask;
 mod order;
@@ -19,32 +18,21 @@ mod step;
 
 use crate::cache::Entry;
 use crate::lines::Lines;
-use snoop_blocks::BlockTable;
+use crate::memory::Memory;
 use snoop_bus::{Bus, Open};
 use snoop_history::{Did, Log};
-use snoop_model::{Access, MemLine};
+use snoop_model::Access;
 use snoop_rules::{CacheState, MemState, Payload, Protocol, Request, waits};
 use snoop_trace::{Block, Kept, NoMemory, Op, Shape};
 use std::alloc::Global;
 use std::marker::Model;
-
-/// What stands for memory's line of a block that there isn't.
-fn no_memory<B: Block>() -> MemLine<Kept<B>>
-    requires { B.count ≤ 64 }
-    ensures { result ≡ no_memory }
-{
-    MemLine {
-        state: MemState::IorS,
-        value: Kept::zero(),
-    }
-}
 
 /// The caches, memory, the bus that joins them, and the history of what they did.
 pub(crate) struct Parts<B: Block> {
     protocol: Protocol,
     shape: Shape,
     lines: Lines<B>,
-    memory: BlockTable<MemLine<Kept<B>>>,
+    memory: Memory<B>,
     bus: Bus<Kept<B>>,
     log: Log,
 }
@@ -84,11 +72,7 @@ impl<B: Block> Parts<B> {
     {
         prove!(shape.cores() <= 256);
         prove!(shape.words() <= 64);
-        let first = MemLine {
-            state: first_state(protocol),
-            value: Kept::zero(),
-        };
-        let memory = BlockTable::new(alloc, shape.blocks(), first)?;
+        let memory = Memory::new(alloc, shape.blocks(), first_state(protocol))?;
         let lines = Lines::new(alloc, shape)?;
         let bus = Bus::new(alloc, shape)?;
         let log = Log::new(alloc, shape)?;
@@ -147,7 +131,7 @@ impl<B: Block> Parts<B> {
         ensures outside { IfSome result (λ _. block < self.now.situation.shape.blocks) }
     {
         if block < self.shape.blocks() {
-            Some(self.memory_line(block).state)
+            Some(self.memory_state(block))
         } else {
             None
         }
@@ -159,7 +143,7 @@ impl<B: Block> Parts<B> {
         ensures outside { IfSome result (λ _. (block < self.now.situation.shape.blocks) × (word < self.now.situation.shape.words)) }
     {
         if block < self.shape.blocks() && word < self.shape.words() {
-            Some(self.memory_line(block).value.at(word))
+            Some(self.memory_words(block).at(word))
         } else {
             None
         }
@@ -263,12 +247,20 @@ impl<B: Block> Parts<B> {
         self.lines.state(core, block)
     }
 
-    /// What memory holds of the block.
+    /// Memory's state of the block.
     #[inline(always)]
-    fn memory_line(&self, block: u32) -> MemLine<Kept<B>>
-        ensures { result ≡ (picture_of self.now.situation block).memory }
+    fn memory_state(&self, block: u32) -> MemState
+        ensures { result ≡ (picture_of self.now.situation block).memory.state }
     {
-        self.memory.get_or(block, no_memory())
+        self.memory.state(block)
+    }
+
+    /// Memory's words of the block.
+    #[inline(always)]
+    fn memory_words(&self, block: u32) -> Kept<B>
+        ensures { result ≡ (picture_of self.now.situation block).memory.value }
+    {
+        self.memory.words(block)
     }
 
     /// The block's open transaction.

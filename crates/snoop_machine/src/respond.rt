@@ -3,15 +3,15 @@ ghost use Rattle.std.specs.Prelude.{◌≡◌, ◌<◌, IfSome, IsSomeAnd, IsTru
 ghost use Rattle.snoop_rules.specs.Takers.{arrival, arrival_at_memory, takes_payload};
 ghost use Rattle.snoop_model.specs.Pictures.Sound.{IsProper};
 ghost use Rattle.snoop_model.specs.Moves.LookUps.{HasRow, HasMemRow};
-ghost use Rattle.snoop_model.specs.Moves.Move.{Fills, ArrivesAtMemory, written};
+ghost use Rattle.snoop_model.specs.Moves.Move.{Fills, Settles};
 ghost use Rattle.snoop_machine.specs.Cache.{line_of, filled_line};
 
 use crate::cache::{Entry, state_of, waiting_of};
 use snoop_bus::Open;
-use snoop_model::{Access, MemLine};
+use snoop_model::Access;
 use snoop_rules::{
-    CacheAction, CacheEvent, CacheState, MemAction, Payload, Protocol, arrival_at_memory,
-    cache_cell, mem_cell, takes_payload,
+    CacheAction, CacheEvent, CacheState, MemAction, MemCell, MemState, Payload, Protocol, Request,
+    arrival_at_memory, cache_cell, mem_cell, takes_payload,
 };
 use snoop_trace::{Block, Kept, Op};
 
@@ -68,36 +68,27 @@ pub(crate) fn fill<B: Block>(
     }
 }
 
-/// What memory holds once the message of a transaction has come: it takes that of a PutM, and another where it waits for one.
-pub(crate) fn arrive<B: Block>(
+/// The row that memory takes for the message of a transaction: it takes that of a PutM, and another where it waits for one.
+pub(crate) fn settle(
     protocol: Protocol,
-    memory: MemLine<Kept<B>>,
-    closing: &Open<Kept<B>>,
-) -> MemLine<Kept<B>>
-    requires { IsTrue (takes_payload closing.now.request memory.state) → IsSomeAnd (arrival_at_memory closing.now.payload) (HasMemRow protocol memory.state) }
-    ensures { ArrivesAtMemory closing.now protocol memory result }
+    memory: MemState,
+    request: Request,
+    payload: Payload,
+) -> MemCell
+    requires { IsTrue (takes_payload request memory) → IsSomeAnd (arrival_at_memory payload) (HasMemRow protocol memory) }
+    ensures { Settles protocol request payload memory result.action result.next }
 {
-    if !takes_payload(closing.request, memory.state) {
-        return memory;
+    if !takes_payload(request, memory) {
+        return MemCell {
+            action: MemAction::None,
+            next: memory,
+        };
     }
-    let Some(event) = arrival_at_memory(closing.payload) else {
+    let Some(event) = arrival_at_memory(payload) else {
         unreachable!();
     };
-    let Some(cell) = mem_cell(protocol, memory.state, event) else {
+    let Some(cell) = mem_cell(protocol, memory, event) else {
         unreachable!();
     };
-    MemLine {
-        state: cell.next,
-        value: written(cell.action, closing.value, memory.value),
-    }
-}
-
-/// Memory's words after an action, of those that came and those that it held.
-fn written<B: Block>(action: MemAction, came: Kept<B>, held: Kept<B>) -> Kept<B>
-    ensures { result ≡ written action came held }
-{
-    match action {
-        MemAction::Write => came,
-        MemAction::None | MemAction::Send(_) => held,
-    }
+    cell
 }

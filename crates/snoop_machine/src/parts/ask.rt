@@ -29,18 +29,12 @@ use crate::plan::Plan;
 use snoop_history::Item;
 use snoop_model::{Access, Refused, Reply};
 use snoop_rules::{CacheState, Request};
-use snoop_trace::{Block, Kept, Op};
+use snoop_trace::{Block, Op};
 
 impl<B: Block> Parts<B> {
     /// What an Ask will do, of a core and a block that there are.
     #[inline(always)]
-    pub(super) fn plan_ask(
-        &self,
-        core: u32,
-        block: u32,
-        word: u32,
-        op: Op,
-    ) -> Result<Plan<Kept<B>>, Refused>
+    pub(super) fn plan_ask(&self, core: u32, block: u32, word: u32, op: Op) -> Result<Plan, Refused>
         requires core { core < self.now.situation.shape.cores }
         requires block { block < self.now.situation.shape.blocks }
         requires word { HasWord self.now.situation.shape word op }

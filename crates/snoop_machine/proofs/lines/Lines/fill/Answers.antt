@@ -1,16 +1,15 @@
-use Rattle.std.proofs.Common.{◌≡◌, ◌≢◌, ℕ, ◌<◌, false, List, is_some, length, refl, sym, ◌∙◌, ap, subst, arith, inl, inr, ◌⊎◌}
+use Rattle.std.proofs.Common.{◌≡◌, ◌<◌, List, is_some, length, refl, sym, ◌∙◌, ap, subst, arith, inl}
 use Rattle.std.specs.Prelude.{slice_index_or, nat_eq}
 use Rattle.std.specs.Map.{lookup}
 use Rattle.std.proofs.lemmas.List.{get_or_read, get_or_default, length-set}
-use Rattle.snoop_rules.specs.declared.names.CacheState.TheVariants.{I}
 use Rattle.snoop_machine.specs.declared.holders.Holders.{Holders}
 use Rattle.snoop_model.specs.Invariant.Fits.{is_owner}
 use Rattle.snoop_model.specs.Pictures.Lines.{Line}
 use Rattle.snoop_model.specs.Pictures.Sound.{keeps}
 use Rattle.snoop_machine.specs.Holders.{HaveMoved}
 use Rattle.snoop_machine.specs.Cache.{Contents, no_cache, line_in, filled_line}
-use Rattle.snoop_machine.specs.Lines.{no_holders, line_at}
-use Rattle.snoop_machine.proofs.LineMaps.{in_rows, line_seen, held_placed}
+use Rattle.snoop_machine.specs.Lines.{no_holders}
+use Rattle.snoop_machine.proofs.LineMaps.{in_rows, held_placed}
 use Rattle.snoop_machine.proofs.LineChanges.{rows_wrote, many_kept, others_kept, lines_gone, lines_alike, lines_moved}
 use Rattle.snoop_machine.proofs.lines.Lines.fill.Given.{Over}
 use Rattle.snoop_machine.proofs.lines.Lines.fill.Goals as goal
