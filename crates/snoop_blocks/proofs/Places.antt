@@ -1,7 +1,10 @@
 -- The places of a table: at first, and after one write.
 use Rattle.std.proofs.Common.{◌≡◌, ◌≢◌, ◌<◌, ◌≤◌, ◌+◌, ◌^◌, ℕ, zero, suc, List, [], ◌∷◌, ◌++◌, length, replicate, slice_index_or, slice_set, refl, sym, ◌∙◌, ap, subst, inl, inr, arith}
-use Rattle.std.proofs.lemmas.Bool.{cases_eq}
-use Rattle.std.proofs.lemmas.List.{ext_get_or, get_or-map, get_or_push, get_or_append_left, get_or-set_same, get_or-set_other, length-set, length-map, length-replicate, length_push}
+use Rattle.std.specs.Prelude.{Option, slice_get}
+use Rattle.std.specs.Option.{option_map_or}
+use Rattle.std.proofs.lemmas.Bool.{cases_eq, cases_lt}
+use Rattle.std.proofs.lemmas.Option.{slice_get-get_or}
+use Rattle.std.proofs.lemmas.List.{ext_get_or, get_or-map, get_or_past, get_or_push, get_or_append_left, get_or-set_same, get_or-set_other, length-set, length-map, length-replicate, length_push}
 use Rattle.snoop_blocks.specs.Places.{value_at, seen, unwritten, ArePlaces}
 
 unwritten-new : (n : ℕ) → unwritten (replicate n 0) ≡ n
@@ -154,3 +157,20 @@ module _ {X : Type 0} (places : List ℕ) (written : List X) (capacity : ℕ) (a
         as_before : (first : X) (other : ℕ) → other ≢ suc n → value_at first (slice_set written n value) other ≡ value_at first written other
         as_before first zero ne = refl
         as_before first (suc other) ne = get_or-set_other written n other value first (λ (e : other ≡ n). ne (ap suc e))
+
+-- a block that was written is one of them
+pub is_within : (places : List ℕ) (block n : ℕ) → slice_index_or places block 0 ≡ suc n → block < length places
+is_within places block n at = elim (cases_lt block (length places)) [
+  | inl within ↦ within
+  | inr past ↦ let none = get_or_past places block 0 past in absurd (omega arith)
+]
+
+-- the value of a block changes
+pub changed_here : {X : Type 0} (first : X) (written : List X) (places : List ℕ) (block : ℕ) (next : X → X) → block < length places
+    → option_map_or (λ value. slice_set (seen first written places) block (next value)) (slice_get (seen first written places) block) (seen first written places)
+    ≡ slice_set (seen first written places) block (next (value_at first written (slice_index_or places block 0)))
+changed_here {X} first written places block next within =
+    let values = seen first written places in
+    let there : block < length values = let shown = length-map places (value_at first written) in omega arith in
+    ap (λ (found : Option X). option_map_or (λ value. slice_set values block (next value)) found values) (slice_get-get_or values block first there)
+    ∙ ap (λ (value : X). slice_set values block (next value)) (get_or-map (value_at first written) places block 0 first within)

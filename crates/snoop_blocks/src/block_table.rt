@@ -1,5 +1,6 @@
 //! A table by block.
 ghost use Rattle.std.specs.Prelude.{◌≡◌, ◌<◌, length, replicate, IfOk, slice_get, slice_index_or, slice_set};
+ghost use Rattle.std.specs.Option.{option_map_or};
 
 use std::alloc::{AllocError, Global};
 use std::marker::Model;
@@ -26,6 +27,16 @@ impl<T> Model for BlockTable<T> {
     ghost view = { λ t. seen t.first t.written.items t.places.items };
 
     ghost invariant = { λ t. ArePlaces t.places.items t.written.items (vec_capacity t.written) };
+}
+
+/// A change of one value of a table.
+pub trait Change<T> {
+    // What becomes of a value.
+    ghost changed: { Self → T → T };
+
+    /// Changes the value.
+    fn change(self, value: &mut T)
+        ensures { value.new ≡ changed self value.old };
 }
 
 impl<T: Copy> BlockTable<T> {
@@ -79,6 +90,23 @@ impl<T: Copy> BlockTable<T> {
             self.places[block as usize] = self.written.len() as u32;
         } else {
             self.written[(place - 1) as usize] = value;
+        }
+    }
+
+    /// Changes the block's value where it stands; nothing where there is no such block. It takes no memory of the allocator.
+    #[inline(always)]
+    pub fn change<C: Change<T> + Copy>(&mut self, block: u32, change: C)
+        ensures { self.new ≡ option_map_or (λ value. slice_set self.old block (C.changed change value)) (slice_get self.old block) self.old }
+    {
+        let Some(place) = self.places.get(block as usize).copied() else {
+            return;
+        };
+        if place == 0 {
+            let mut value = self.first;
+            change.change(&mut value);
+            self.set(block, value);
+        } else {
+            change.change(&mut self.written[(place - 1) as usize]);
         }
     }
 }

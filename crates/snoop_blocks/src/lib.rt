@@ -5,5 +5,5 @@ mod block_table;
 mod core_set;
 mod core_sets;
 
-pub use block_table::BlockTable;
+pub use block_table::{BlockTable, Change};
 pub use core_set::CoreSet;

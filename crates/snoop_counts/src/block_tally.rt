@@ -36,8 +36,8 @@ impl BlockTally {
     }
 
     // Counts what has happened.
-    fn add(&mut self, happening: Happening)
-        ensures { (blocks : ℕ) (seen : List Seen) → CountsBlocks blocks seen self.old → CountsBlocks blocks (seen ++ happening ∷ []) self.new }
+    fn add(&mut self, happening: &Happening)
+        ensures { (blocks : ℕ) (seen : List Seen) → CountsBlocks blocks seen self.old → CountsBlocks blocks (seen ++ happening.now ∷ []) self.new }
     {
         self.tally.add(happening);
         self.named.add(happening);
@@ -50,7 +50,7 @@ impl BlockTally {
         ensures { (blocks : ℕ) (seen : List Seen) → CountsBlocks blocks seen self.old → CountsBlocks blocks (seen ++ happenings.now) self.new }
     {
         for happening in happenings {
-            self.add(*happening);
+            self.add(happening);
         }
     }
 

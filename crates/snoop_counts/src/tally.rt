@@ -11,7 +11,7 @@ ghost use Rattle.snoop_counts.specs.declared.count.Subjects.{Subjects};
 
 use crate::count::{Count, Happening, Subjects};
 use crate::counted::{counts, has_some_row, subject_of};
-use snoop_blocks::BlockTable;
+use snoop_blocks::{BlockTable, Change};
 use snoop_engine::Taken;
 use snoop_history::Item;
 use snoop_trace::NoMemory;
@@ -33,7 +33,7 @@ impl Counters {
 
     /// Counts one more; the counter stops at the largest `u64`.
     #[inline(always)]
-    fn raise(&mut self, count: Count)
+    pub(crate) fn raise(&mut self, count: Count)
         ensures { self.new ≡ raised_row count self.old }
     {
         let place = count as usize;
@@ -42,17 +42,17 @@ impl Counters {
 
     // Counts the happening by this count, if it counts it.
     #[inline(always)]
-    fn raise_if(&mut self, count: Count, happening: Happening)
-        ensures { self.new ≡ raised_if happening self.old count }
+    fn raise_if(&mut self, count: Count, happening: &Happening)
+        ensures { self.new ≡ raised_if happening.now self.old count }
     {
-        if counts(count, happening) {
+        if counts(count, *happening) {
             self.raise(count);
         }
     }
 
     // Counts an operation.
-    fn raise_operation(&mut self, happening: Happening)
-        ensures { self.new ≡ raised_all of_operations happening self.old }
+    fn raise_operation(&mut self, happening: &Happening)
+        ensures { self.new ≡ raised_all of_operations happening.now self.old }
     {
         self.raise_if(Count::Loads, happening);
         self.raise_if(Count::LoadHits, happening);
@@ -62,8 +62,8 @@ impl Counters {
     }
 
     // Counts a request that was ordered.
-    fn raise_request(&mut self, happening: Happening)
-        ensures { self.new ≡ raised_all of_requests happening self.old }
+    fn raise_request(&mut self, happening: &Happening)
+        ensures { self.new ≡ raised_all of_requests happening.now self.old }
     {
         self.raise_if(Count::GetS, happening);
         self.raise_if(Count::GetM, happening);
@@ -71,8 +71,8 @@ impl Counters {
     }
 
     // Counts a response, for whom it was sent to.
-    fn raise_response(&mut self, happening: Happening)
-        ensures { self.new ≡ raised_all of_responses happening self.old }
+    fn raise_response(&mut self, happening: &Happening)
+        ensures { self.new ≡ raised_all of_responses happening.now self.old }
     {
         self.raise_if(Count::FromMemory, happening);
         self.raise_if(Count::FromCaches, happening);
@@ -82,9 +82,9 @@ impl Counters {
     }
 
     // Counts the line of a step that was taken, and that is no miss, for whom it names.
-    fn raise_row(&mut self, happening: Happening, line: Taken)
-        requires { (step : Given) × ((answer : Answer) × (happening ≡ Line step (Ok answer) line None)) }
-        ensures { self.new ≡ raised_all of_rows happening self.old }
+    fn raise_row(&mut self, happening: &Happening, line: Taken)
+        requires { (step : Given) × ((answer : Answer) × (happening.now ≡ Line step (Ok answer) line None)) }
+        ensures { self.new ≡ raised_all of_rows happening.now self.old }
     {
         self.raise(Count::Lines);
         if has_some_row(line) {
@@ -99,8 +99,8 @@ impl Counters {
     }
 
     // Counts any line, for whom it names.
-    fn raise_line(&mut self, happening: Happening)
-        ensures { self.new ≡ raised_all of_lines happening self.old }
+    fn raise_line(&mut self, happening: &Happening)
+        ensures { self.new ≡ raised_all of_lines happening.now self.old }
     {
         self.raise_if(Count::Lines, happening);
         self.raise_if(Count::Misses, happening);
@@ -121,8 +121,8 @@ impl Counters {
     }
 
     // Counts the happening by all counts but those of what a core does to others.
-    fn add(&mut self, happening: Happening)
-        ensures { self.new ≡ raised_all (tried happening) happening self.old }
+    pub(crate) fn add(&mut self, happening: &Happening)
+        ensures { self.new ≡ raised_all (tried happening.now) happening.now self.old }
     {
         match happening {
             Happening::Item(Item::Did(_)) => self.raise_operation(happening),
@@ -137,7 +137,7 @@ impl Counters {
                 line,
                 cause: None,
                 ..
-            } => self.raise_row(happening, line),
+            } => self.raise_row(happening, *line),
             Happening::Line { .. } => self.raise_line(happening),
         }
     }
@@ -148,6 +148,34 @@ impl Counters {
         ensures { result ≡ counter_in self.now count }
     {
         self.counters[count as usize]
+    }
+}
+
+impl Change<Counters> for Count {
+    ghost use Rattle.snoop_counts.specs.Tally.{raised_row};
+
+    ghost changed = { raised_row };
+
+    #[inline(always)]
+    fn change(self, row: &mut Counters) {
+        row.raise(self);
+    }
+}
+
+/// What has happened, for whom it is of.
+#[derive(Clone, Copy)]
+struct Own<'a> {
+    happening: &'a Happening,
+}
+
+impl Change<Counters> for Own<'_> {
+    ghost use Rattle.snoop_counts.specs.Tally.{raised_all, tried};
+
+    ghost changed = { λ own row. raised_all (tried own.happening.now) own.happening.now row };
+
+    #[inline(always)]
+    fn change(self, row: &mut Counters) {
+        row.add(self.happening);
     }
 }
 
@@ -200,41 +228,34 @@ impl Tally {
     fn raise(&mut self, subject: u32, count: Count)
         ensures { self.new ≡ record self.old { rows = raised self.old.rows subject count } }
     {
-        if let Some(mut row) = self.rows.get(subject) {
-            row.raise(count);
-            self.rows.set(subject, row);
-        }
+        self.rows.change(subject, count);
     }
 
     // Counts the happening by this count, if it counts it.
     #[inline(always)]
-    fn count(&mut self, count: Count, happening: Happening)
-        ensures { self.new ≡ record self.old { rows = raised_by self.old.subjects count happening self.old.rows } }
+    fn count(&mut self, count: Count, happening: &Happening)
+        ensures { self.new ≡ record self.old { rows = raised_by self.old.subjects count happening.now self.old.rows } }
     {
-        if !counts(count, happening) {
+        if !counts(count, *happening) {
             return;
         }
-        if let Some(subject) = subject_of(self.subjects, count, happening) {
+        if let Some(subject) = subject_of(self.subjects, count, *happening) {
             self.raise(subject, count);
         }
     }
 
     // Counts the happening for whom it is of, by all counts but those of what a core does to others.
-    fn add_own(&mut self, happening: Happening)
-        ensures { self.new ≡ record self.old { rows = own_raised self.old.subjects happening self.old.rows } }
+    fn add_own(&mut self, happening: &Happening)
+        ensures { self.new ≡ record self.old { rows = own_raised self.old.subjects happening.now self.old.rows } }
     {
-        let Some(subject) = subject_of(self.subjects, Count::Lines, happening) else {
-            return;
-        };
-        if let Some(mut row) = self.rows.get(subject) {
-            row.add(happening);
-            self.rows.set(subject, row);
+        if let Some(subject) = subject_of(self.subjects, Count::Lines, *happening) {
+            self.rows.change(subject, Own { happening });
         }
     }
 
     /// Counts what has happened.
-    pub(crate) fn add(&mut self, happening: Happening)
-        ensures { (whose : Subjects) (many : ℕ) (seen : List Happening) → HasCounted whose many seen self.old → HasCounted whose many (seen ++ happening ∷ []) self.new }
+    pub(crate) fn add(&mut self, happening: &Happening)
+        ensures { (whose : Subjects) (many : ℕ) (seen : List Happening) → HasCounted whose many seen self.old → HasCounted whose many (seen ++ happening.now ∷ []) self.new }
     {
         self.add_own(happening);
         self.count(Count::Invalidates, happening);
@@ -246,7 +267,7 @@ impl Tally {
         ensures { (whose : Subjects) (many : ℕ) (seen : List Happening) → HasCounted whose many seen self.old → HasCounted whose many (seen ++ happenings.now) self.new }
     {
         for happening in happenings {
-            self.add(*happening);
+            self.add(happening);
         }
     }
 }

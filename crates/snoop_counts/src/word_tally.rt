@@ -46,8 +46,8 @@ impl WordTally {
     }
 
     // Counts what has happened.
-    fn add(&mut self, happening: Happening)
-        ensures { (shape : Extent) (seen : List Seen) → CountsWords shape seen self.old → CountsWords shape (seen ++ happening ∷ []) self.new }
+    fn add(&mut self, happening: &Happening)
+        ensures { (shape : Extent) (seen : List Seen) → CountsWords shape seen self.old → CountsWords shape (seen ++ happening.now ∷ []) self.new }
     {
         self.tally.add(happening);
         self.shared.add(happening);
@@ -61,7 +61,7 @@ impl WordTally {
         ensures { (shape : Extent) (seen : List Seen) → CountsWords shape seen self.old → CountsWords shape (seen ++ happenings.now) self.new }
     {
         for happening in happenings {
-            self.add(*happening);
+            self.add(happening);
         }
     }
 

@@ -15,7 +15,7 @@ use Rattle.snoop_model.specs.Moves.Standing.{Standing, line_count}
 use Rattle.snoop_model.specs.Moves.Holding.{NeedsLine, MovesToI, HoldsOn}
 use Rattle.snoop_model.proofs.Tables.EvictInI.{no_row}
 use Rattle.snoop_machine.specs.declared.ask.Asked.TheVariants.{Absent, Hit, Issue, Drop}
-use Rattle.snoop_machine.specs.Plan.{Plan}
+use Rattle.snoop_machine.specs.declared.plan.Plan.{Plan}
 use Rattle.snoop_machine.specs.declared.plan.Plan.TheVariants as plan
 use Rattle.snoop_machine.specs.Plan.{IsPlan, IsPlanFor, step_of}
 use Rattle.snoop_machine.specs.Following.{LosesLines, AddsLines}
@@ -40,16 +40,16 @@ stays_out before new (step.Respond block) core answer entry m leaves moved = lea
 
 -- the room for a step adds a line where the step needs one
 adds_plan : (old new : Standing) (x : Plan) (core : ℕ) → IsPlan old.situation x → AddsLines x old new core → (line_count new core ≡ line_count old core) ⊎ (NeedsLine old (step_of x) core × (line_count new core ≡ line_count old core + 1))
-adds_plan old new (plan.Ask asker block word asking (Issue request line)) core h (inl same) = inl same
-adds_plan old new (plan.Ask asker block word asking (Issue request line)) core h (inr more) =
+adds_plan old new (plan.Ask asker block word asking (Issue request next)) core h (inl same) = inl same
+adds_plan old new (plan.Ask asker block word asking (Issue request next)) core h (inr more) =
     let s = old.situation in
-    inr ((more.0, h.0, (λ e. no_row s.protocol (state_of s asker block) asking (action.Issue request) h.1.0 e more.1 h.1.1.0), more.1, more.2, h.3), more.3)
+    inr ((more.0, h.0, (λ e. no_row s.protocol (state_of s asker block) asking (action.Issue request) next e more.1 h.1), more.1, more.2, h.3), more.3)
 adds_plan old new (plan.Ask asker block word asking Absent) core h same = inl same
-adds_plan old new (plan.Ask asker block word asking (Hit line value)) core h same = inl same
-adds_plan old new (plan.Ask asker block word asking (Drop line)) core h same = inl same
-adds_plan old new (plan.Order orderer request block message memory) core h same = inl same
-adds_plan old new (plan.Writeback block closing memory) core h same = inl same
-adds_plan old new (plan.Fill block closing memory filled) core h same = inl same
+adds_plan old new (plan.Ask asker block word asking (Hit next value)) core h same = inl same
+adds_plan old new (plan.Ask asker block word asking (Drop next)) core h same = inl same
+adds_plan old new (plan.Order orderer request block from payload memory) core h same = inl same
+adds_plan old new (plan.Writeback block came memory) core h same = inl same
+adds_plan old new (plan.Fill block came memory filled) core h same = inl same
 
 adds_step : (old new : Standing) (taking : Step) (x : Plan) (core : ℕ) → IsPlanFor old.situation taking x → AddsLines x old new core → (line_count new core ≡ line_count old core) ⊎ (NeedsLine old taking core × (line_count new core ≡ line_count old core + 1))
 adds_step old new taking x core h adds =

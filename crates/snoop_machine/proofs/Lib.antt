@@ -1,4 +1,5 @@
 pub mod PlacedLines
+pub mod MemoryTables
 pub mod PictureViews
 pub mod LineWrites
 pub mod QueueViews
@@ -14,6 +15,7 @@ pub mod ProperLines
 pub mod MapRows
 pub mod LineMaps
 pub mod LineParts
+pub mod LineChanges
 pub mod LinesGoing
 pub mod Following
 pub mod Holding

@@ -59,9 +59,9 @@ module _ (caches : List Contents) (holders : List Holders) (now : Held) (view : 
       go false h = absurd (held (h refl))
 
   -- a line that may be written has a place
-  pub writable_placed : (core block : ℕ) (line : Line) → IsWritable now core block line → is_some (lookup (nat_eq block) (slice_index_or caches core no_cache).entries) ≡ true
-  writable_placed core block line (inl held) = held_placed core block held
-  writable_placed core block line (inr new) = among_seen core block ∙ new.0
+  pub writable_placed : (core block : ℕ) (next : CacheState) → IsWritable now core block next → is_some (lookup (nat_eq block) (slice_index_or caches core no_cache).entries) ≡ true
+  writable_placed core block next (inl held) = held_placed core block held
+  writable_placed core block next (inr new) = among_seen core block ∙ new.0
 
 -- how many lines go
 pub is_invalid-I : (s : CacheState) → s ≢ I → is_invalid s ≡ false

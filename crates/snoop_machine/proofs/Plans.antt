@@ -1,7 +1,9 @@
 -- A planned step is refused for no cause, adds the plan's item, and needs the plan's room.
 use Rattle.std.proofs.Common.{◌≡◌, ◌≢◌, ℕ, ◌<◌, List, Option, Some, None, true, false, refl, sym, ◌∙◌, ap, subst, arith, ◌⊎◌, inl, inr}
 use Rattle.std.proofs.lemmas.Option.{same_Some}
-use Rattle.std.specs.Prelude.{IsSome, is_some}
+use Rattle.std.specs.Prelude.{IsSome, IfSome, is_some, option_map}
+use Rattle.snoop_history.specs.declared.items.Came.{Came}
+use Rattle.snoop_machine.specs.Cache.{filled_line}
 use Rattle.snoop_trace.specs.Words.{HasWord, word_at}
 use Rattle.snoop_trace.specs.declared.step.Op.{Op}
 use Rattle.snoop_trace.specs.declared.step.Op.TheVariants as op
@@ -23,10 +25,9 @@ use Rattle.snoop_history.specs.declared.items.Item.TheVariants as item
 use Rattle.snoop_bus.specs.Traffic.{Open}
 use Rattle.snoop_model.specs.declared.line.Access.{Access}
 use Rattle.snoop_model.specs.Pictures.Lines.{Line}
-use Rattle.snoop_machine.specs.Asked.{Asked}
+use Rattle.snoop_machine.specs.declared.ask.Asked.{Asked}
 use Rattle.snoop_machine.specs.declared.ask.Asked.TheVariants.{Absent, Hit, Issue, Drop}
-use Rattle.snoop_machine.specs.Plan.{Filled}
-use Rattle.snoop_machine.specs.Plan.{Plan}
+use Rattle.snoop_machine.specs.declared.plan.Plan.{Plan}
 use Rattle.snoop_machine.specs.declared.plan.Plan.TheVariants as plan
 use Rattle.snoop_model.specs.declared.replies.Reply.{Reply}
 use Rattle.snoop_model.specs.declared.replies.Refused.{Refused}
@@ -46,17 +47,17 @@ use Rattle.snoop_machine.specs.Plan.{IsPlan, IsPlanFor, HasRoom, HasRoomToAsk, s
 -- the action of the row that an Ask takes
 abbrev pub act_of : Asked → CacheAction
 act_of Absent = action.None
-act_of (Hit line value) = action.Hit
-act_of (Issue request line) = action.Issue request
-act_of (Drop line) = action.Drop
+act_of (Hit next value) = action.Hit
+act_of (Issue request next) = action.Issue request
+act_of (Drop next) = action.Drop
 
 -- an Ask finds an Evict in I, or its row, which is no stall
 row_found : (p : Protocol) (line : Line) (word : ℕ) (asking : Op) (way : Asked) → TakesAsk p line word asking way
     → ((asking ≡ op.Evict) × (line.state ≡ I) × (way ≡ Absent)) ⊎ ((next : CacheState) × (Cell p line.state (asked asking) (act_of way) next × (act_of way ≢ action.Stall)))
 row_found p line word asking Absent t = inl (t.0, t.1, refl)
-row_found p line word asking (Hit new value) t = inr (t.0, (t.1.0, λ e. cc))
-row_found p line word asking (Issue request new) t = inr (t.0, (t.1.0, λ e. cc))
-row_found p line word asking (Drop new) t = inr (t.0, (t.1.0, λ e. cc))
+row_found p line word asking (Hit next value) t = inr (next, (t.0, λ e. cc))
+row_found p line word asking (Issue request next) t = inr (next, (t, λ e. cc))
+row_found p line word asking (Drop next) t = inr (next, (t, λ e. cc))
 
 -- an Ask that is refused on its line
 pub IsDenied-ask : (s : Situation) (core block word : ℕ) (asking : Op) (cause : Refused) → core < s.shape.cores → block < s.shape.blocks → HasWord s.shape word asking
@@ -112,11 +113,16 @@ respond-allowed s block closing in_blocks opened (BusTaken b) h = h
 respond-allowed s block closing in_blocks opened NoTransaction h = let clash : ◌≡◌ {A = Option Open} None (Some closing) = sym h.1 ∙ opened in cc
 respond-allowed s block closing in_blocks opened NoMemory h = h
 
+-- a transaction with this response is open
+opened_of : (o : Option Open) (came : Came) → option_map came_of o ≡ Some came → (closing : Open) × ((o ≡ Some closing) × (came_of closing ≡ came))
+opened_of None came e = cc
+opened_of (Some closing) came e = (closing, (refl, same_Some _ _ e))
+
 pub plan-allowed : (s : Situation) (x : Plan) → IsPlan s x → (cause : Refused) → ¬ Refuses s (step_of x) cause
 plan-allowed s (plan.Ask core block word asking way) h = ask-allowed s core block word asking way h.0.0 h.0.1 h.3 h.1
-plan-allowed s (plan.Order core request block message memory) h = order-allowed s core block request h.0 h.1.head h.1.free
-plan-allowed s (plan.Writeback block closing memory) h = respond-allowed s block closing h.0 h.1.opened
-plan-allowed s (plan.Fill block closing memory filled) h = respond-allowed s block closing h.0 h.1.opened
+plan-allowed s (plan.Order core request block from payload memory) h = order-allowed s core block request h.0 h.1.head h.1.free
+plan-allowed s (plan.Writeback block came memory) h = let k = opened_of (picture_of s block).transaction came h.1.opened in respond-allowed s block k.0 h.0 k.1.0
+plan-allowed s (plan.Fill block came memory filled) h = let k = opened_of (picture_of s block).transaction came h.1.opened in respond-allowed s block k.0 h.0 k.1.0
 
 -- an operation on one value loads or stores one value
 performs-one : (word : ℕ) (asking : Op) (a b : List ℕ) (v w : ℕ) (m n : List ℕ) → a ≡ b → Performs word asking a v m → Performs word asking b w n → v ≡ w
@@ -129,21 +135,21 @@ module _ (s : Situation) (core block word : ℕ) (asking : Op) (answer : Reply) 
   ask-adds : (way : Asked) → TakesAsk s.protocol (held_by (picture_of s block) core) word asking way → IsAbsent s core block asking answer new added ⊎ Asks s core block word asking answer new added → added ≡ entry_of_ask s.log core block word asking way
   ask-adds Absent t (inl absent) = absent.4
   ask-adds Absent t (inr asks) = absurd (no_row s.protocol (state_of s core block) asking asks.row.action asks.row.next t.0 t.1 asks.is_row)
-  ask-adds (Hit line value) t (inl absent) = absurd (no_row s.protocol (state_of s core block) asking action.Hit t.0 absent.0 absent.1 t.1.0)
-  ask-adds (Hit line value) t (inr asks) =
-      let same = (Cell-one s.protocol (state_of s core block) (asked asking) asks.row.action action.Hit asks.row.next t.0 asks.is_row t.1.0).0 in
+  ask-adds (Hit next value) t (inl absent) = absurd (no_row s.protocol (state_of s core block) asking action.Hit next absent.0 absent.1 t.0)
+  ask-adds (Hit next value) t (inr asks) =
+      let same = (Cell-one s.protocol (state_of s core block) (asked asking) asks.row.action action.Hit asks.row.next next asks.is_row t.0).0 in
       let P : CacheAction → Type 0 = λ a. Takes a asks.row.next s.log core block word asking (held_by (picture_of s block) core) asks.held answer added in
       let h : Takes action.Hit asks.row.next s.log core block word asking (held_by (picture_of s block) core) asks.held answer added = subst P same asks.taken in
-      let its = performs-one word asking h.1.0.before t.1.1.before h.0 value h.1.0.after t.1.1.after (same_Some _ _ (sym h.1.0.kept ∙ t.1.1.kept)) h.1.0.performed t.1.1.performed in
+      let its = performs-one word asking h.1.0.before t.1.before h.0 value h.1.0.after t.1.after (same_Some _ _ (sym h.1.0.kept ∙ t.1.kept)) h.1.0.performed t.1.performed in
       h.1.2 ∙ ap (λ (x : ℕ). let r : Option Item = Some (item.Did (next_did s.log core block word asking x true)) in r) its
-  ask-adds (Issue request line) t (inl absent) = absurd (no_row s.protocol (state_of s core block) asking (action.Issue request) t.0 absent.0 absent.1 t.1.0)
-  ask-adds (Issue request line) t (inr asks) =
-      let same = (Cell-one s.protocol (state_of s core block) (asked asking) asks.row.action (action.Issue request) asks.row.next t.0 asks.is_row t.1.0).0 in
+  ask-adds (Issue request next) t (inl absent) = absurd (no_row s.protocol (state_of s core block) asking (action.Issue request) next absent.0 absent.1 t)
+  ask-adds (Issue request next) t (inr asks) =
+      let same = (Cell-one s.protocol (state_of s core block) (asked asking) asks.row.action (action.Issue request) asks.row.next next asks.is_row t).0 in
       let P : CacheAction → Type 0 = λ a. Takes a asks.row.next s.log core block word asking (held_by (picture_of s block) core) asks.held answer added in
       (subst P same asks.taken).2
-  ask-adds (Drop line) t (inl absent) = absurd (no_row s.protocol (state_of s core block) asking action.Drop t.0 absent.0 absent.1 t.1.0)
-  ask-adds (Drop line) t (inr asks) =
-      let same = (Cell-one s.protocol (state_of s core block) (asked asking) asks.row.action action.Drop asks.row.next t.0 asks.is_row t.1.0).0 in
+  ask-adds (Drop next) t (inl absent) = absurd (no_row s.protocol (state_of s core block) asking action.Drop next absent.0 absent.1 t)
+  ask-adds (Drop next) t (inr asks) =
+      let same = (Cell-one s.protocol (state_of s core block) (asked asking) asks.row.action action.Drop asks.row.next next asks.is_row t).0 in
       let P : CacheAction → Type 0 = λ a. Takes a asks.row.next s.log core block word asking (held_by (picture_of s block) core) asks.held answer added in
       (subst P same asks.taken).2
 
@@ -156,47 +162,54 @@ none_of : (q : Request) (closing : Open) (p : Protocol) (log : List Item) (old n
 none_of q closing p log old new did e arrives = let P : Request → Type 0 = λ x. ArrivesFor x closing p log old new did in (subst P e arrives).1
 
 -- the requestor performs the operation that waits
-fills-adds : (closing : Open) (p : Protocol) (log : List Item) (old new : List Line) (did : Option Did) (filled : Filled)
-    → FillsRequestor closing p log old new did → Fills closing p (held_at old closing.core) filled.line filled.access filled.value
-    → did ≡ Some (next_did log closing.core closing.block filled.access.word filled.access.op filled.value false)
-fills-adds closing p log old new did filled f t =
-    let same : f.asking ≡ filled.access = same_Some _ _ (sym f.fills.waited ∙ t.waited) in
+fills-adds : (closing : Open) (p : Protocol) (log : List Item) (old new : List Line) (did : Option Did) (line : Line) (asking : Access) (value : ℕ)
+    → FillsRequestor closing p log old new did → Fills closing p (held_at old closing.core) line asking value
+    → did ≡ Some (next_did log closing.core closing.block asking.word asking.op value false)
+fills-adds closing p log old new did line asking value f t =
+    let same : f.asking ≡ asking = same_Some _ _ (sym f.fills.waited ∙ t.waited) in
     let P : Access → Type 0 = λ o. Performs o.word o.op closing.value f.value f.fills.after in
-    let its = performs-one filled.access.word filled.access.op closing.value closing.value f.value filled.value f.fills.after t.after refl (subst P same f.fills.performed) t.performed in
+    let its = performs-one asking.word asking.op closing.value closing.value f.value value f.fills.after t.after refl (subst P same f.fills.performed) t.performed in
     f.logged ∙ (ap (λ (o : Access). let r : Option Did = Some (next_did log closing.core closing.block o.word o.op f.value false) in r) same
-    ∙ ap (λ (v : ℕ). let r : Option Did = Some (next_did log closing.core closing.block filled.access.word filled.access.op v false) in r) its)
+    ∙ ap (λ (v : ℕ). let r : Option Did = Some (next_did log closing.core closing.block asking.word asking.op v false) in r) its)
 
 -- a planned step adds the plan's item, whatever move it is
 pub plan-adds : (s : Situation) (x : Plan) → IsPlan s x → (answer : Reply) (new : Situation) (added : Option Item) → FirstMove s (step_of x) answer new added → added ≡ entry_of s.log x
 plan-adds s (plan.Ask core block word asking way) h answer new added m =
     let P : ℕ → Type 0 = λ x. IsAbsent s core x asking answer new added ⊎ Asks s core x word asking answer new added in
     ask-adds s core block word asking answer new added way h.1 (subst P (sym m.1.1.on_block) m.1.1.moves)
-plan-adds s (plan.Order core request block message memory) h answer new added m =
+plan-adds s (plan.Order core request block from payload memory) h answer new added m =
     let same : m.0 ≡ block = same_Some _ _ (sym m.1.0 ∙ h.1.head.first) in
     let orders = m.1.1.orders in
     let W : ℕ → Type 0 = λ x. Waits s core x m.1.1.request in
     let its : m.1.1.request ≡ request = same_Some _ _ (sym (subst W same orders.ready.0) ∙ h.1.head.waits) in
     m.1.1.logged ∙ (ap (λ (b : ℕ). let r : Option Item = Some (item.Sent (record { core = core; request = m.1.1.request; block = b })) in r) same
     ∙ ap (λ (q : Request). let r : Option Item = Some (item.Sent (record { core = core; request = q; block = block })) in r) its)
-plan-adds s (plan.Writeback block closing memory) h answer new added m =
+plan-adds s (plan.Writeback block came memory) h answer new added m =
+    let k = opened_of (picture_of s block).transaction came h.1.opened in
     let responds = m.1.1.responds in
     let on : m.0 ≡ block = sym m.1.1.on_block in
     let P : ℕ → Type 0 = λ b. (picture_of s b).transaction ≡ Some m.1.1.closing in
-    let same : m.1.1.closing ≡ closing = same_Some _ _ (sym (subst P on responds.opened) ∙ h.1.opened) in
-    let none = none_of m.1.1.closing.request m.1.1.closing s.protocol s.log (picture_of s m.0).caches responds.next.caches m.1.1.did (ap (λ (o : Open). o.request) same ∙ h.2) responds.requestor in
-    m.1.1.logged ∙ (ap (λ (o : Open). let r : Option Item = Some (item.Came (came_of o) m.1.1.did) in r) same
-    ∙ ap (λ (d : Option Did). let r : Option Item = Some (item.Came (came_of closing) d) in r) none)
-plan-adds s (plan.Fill block closing memory filled) h answer new added m =
+    let same : m.1.1.closing ≡ k.0 = same_Some _ _ (sym (subst P on responds.opened) ∙ k.1.0) in
+    let its : came_of m.1.1.closing ≡ came = ap came_of same ∙ k.1.1 in
+    let none = none_of m.1.1.closing.request m.1.1.closing s.protocol s.log (picture_of s m.0).caches responds.next.caches m.1.1.did (ap (λ (x : Came). x.request) its ∙ h.2) responds.requestor in
+    m.1.1.logged ∙ (ap (λ (x : Came). let r : Option Item = Some (item.Came x m.1.1.did) in r) its
+    ∙ ap (λ (d : Option Did). let r : Option Item = Some (item.Came came d) in r) none)
+plan-adds s (plan.Fill block came memory filled) h answer new added m =
+    let k = opened_of (picture_of s block).transaction came h.1.opened in
+    let closing = k.0 in
     let responds = m.1.1.responds in
     let on : m.0 ≡ block = sym m.1.1.on_block in
     let P : ℕ → Type 0 = λ b. (picture_of s b).transaction ≡ Some m.1.1.closing in
-    let same : m.1.1.closing ≡ closing = same_Some _ _ (sym (subst P on responds.opened) ∙ h.1.opened) in
+    let same : m.1.1.closing ≡ closing = same_Some _ _ (sym (subst P on responds.opened) ∙ k.1.0) in
+    let get : closing.request ≢ PutM = λ e. h.2 (sym (ap (λ (x : Came). x.request) k.1.1) ∙ e) in
     let Q : Open → Type 0 = λ o. ArrivesFor o.request o s.protocol s.log (picture_of s m.0).caches responds.next.caches m.1.1.did in
-    let fills = fills_of closing.request closing s.protocol s.log (picture_of s m.0).caches responds.next.caches m.1.1.did h.2 (subst Q same responds.requestor) in
+    let fills = fills_of closing.request closing s.protocol s.log (picture_of s m.0).caches responds.next.caches m.1.1.did get (subst Q same responds.requestor) in
     let R : ℕ → Type 0 = λ b. FillsRequestor closing s.protocol s.log (picture_of s b).caches responds.next.caches m.1.1.did in
-    let did = fills-adds closing s.protocol s.log (picture_of s block).caches responds.next.caches m.1.1.did filled (subst R on fills) h.3 in
+    let F : Option Open → Type 0 = λ o. IfSome o (λ x. Fills x s.protocol (held_by (picture_of s block) x.core) (filled_line filled.next filled.access x.value) filled.access filled.value) in
+    let did = fills-adds closing s.protocol s.log (picture_of s block).caches responds.next.caches m.1.1.did _ filled.access filled.value (subst R on fills) (subst F k.1.0 h.3) in
     m.1.1.logged ∙ (ap (λ (o : Open). let r : Option Item = Some (item.Came (came_of o) m.1.1.did) in r) same
-    ∙ ap (λ (d : Option Did). let r : Option Item = Some (item.Came (came_of closing) d) in r) did)
+    ∙ (ap (λ (d : Option Did). let r : Option Item = Some (item.Came (came_of closing) d) in r) did
+    ∙ ap (λ (x : Came). let r : Option Item = Some (item.Came x (Some (next_did s.log x.core x.block filled.access.word filled.access.op filled.value false))) in r) k.1.1))
 
 -- where the plan has room the step has it
 pub plan-room : (before : Standing) (x : Plan) → IsPlan before.situation x → 0 < room_for before x → ¬ IsFull before (step_of x)
@@ -213,38 +226,38 @@ plan-room before (plan.Ask core block word asking way) h some full =
   where
     clash : (b : Standing) (k n : ℕ) (w : Asked) → room_to (act_of w) b k n ≡ 0 → 0 < room_for_ask b k n w → ⊥
     clash b k n Absent e l = cc
-    clash b k n (Hit line value) e l = absurd (omega arith)
-    clash b k n (Issue request line) e l = absurd (omega arith)
-    clash b k n (Drop line) e l = cc
-plan-room before (plan.Order core request block message memory) h some full = absurd (omega arith)
-plan-room before (plan.Writeback block closing memory) h some full = absurd (omega arith)
-plan-room before (plan.Fill block closing memory filled) h some full = absurd (omega arith)
+    clash b k n (Hit next value) e l = absurd (omega arith)
+    clash b k n (Issue request next) e l = absurd (omega arith)
+    clash b k n (Drop next) e l = cc
+plan-room before (plan.Order core request block from payload memory) h some full = absurd (omega arith)
+plan-room before (plan.Writeback block came memory) h some full = absurd (omega arith)
+plan-room before (plan.Fill block came memory filled) h some full = absurd (omega arith)
 
 -- where the plan has no room the step has none
 plan-full : (before : Standing) (x : Plan) → IsPlan before.situation x → room_for before x ≡ 0 → IsFull before (step_of x)
 plan-full before (plan.Ask core block word asking Absent) h none = absurd (omega arith)
-plan-full before (plan.Ask core block word asking (Hit line value)) h none = (action.Hit, (h.1.0, (h.1.1.0, none)))
-plan-full before (plan.Ask core block word asking (Issue request line)) h none = (action.Issue request, (h.1.0, (h.1.1.0, none)))
-plan-full before (plan.Ask core block word asking (Drop line)) h none = absurd (omega arith)
-plan-full before (plan.Order core request block message memory) h none = none
-plan-full before (plan.Writeback block closing memory) h none = none
-plan-full before (plan.Fill block closing memory filled) h none = none
+plan-full before (plan.Ask core block word asking (Hit next value)) h none = (action.Hit, (next, (h.1.0, none)))
+plan-full before (plan.Ask core block word asking (Issue request next)) h none = (action.Issue request, (next, (h.1, none)))
+plan-full before (plan.Ask core block word asking (Drop next)) h none = absurd (omega arith)
+plan-full before (plan.Order core request block from payload memory) h none = none
+plan-full before (plan.Writeback block came memory) h none = none
+plan-full before (plan.Fill block came memory filled) h none = none
 
 pub IsFull-plan : (before : Standing) (taking : Step) (x : Plan) → IsPlanFor before.situation taking x → room_for before x ≡ 0 → IsFull before taking
 IsFull-plan before taking x h none = subst (IsFull before) h.0 (plan-full before x h.1 none)
 
 ask-room : (before : Standing) (core block : ℕ) (way : Asked) → HasRoomToAsk before core block way → 0 < room_for_ask before core block way
 ask-room before core block Absent h = omega arith
-ask-room before core block (Hit line value) h = h
-ask-room before core block (Issue request line) h = rw (h.0) h.1
-ask-room before core block (Drop line) h = omega arith
+ask-room before core block (Hit next value) h = h
+ask-room before core block (Issue request next) h = rw (h.0) h.1
+ask-room before core block (Drop next) h = omega arith
 
 -- where the room for a plan was made there is room for one such step at least
 some-room : (before : Standing) (x : Plan) → HasRoom before x → 0 < room_for before x
 some-room before (plan.Ask core block word asking way) h = ask-room before core block way h
-some-room before (plan.Order core request block message memory) h = h
-some-room before (plan.Writeback block closing memory) h = h
-some-room before (plan.Fill block closing memory filled) h = h
+some-room before (plan.Order core request block from payload memory) h = h
+some-room before (plan.Writeback block came memory) h = h
+some-room before (plan.Fill block came memory filled) h = h
 
 -- a planned step is refused as out of memory alone
 pub RefusedFor-memory : (s : Situation) (taking : Step) (x : Plan) → IsPlanFor s taking x → RefusedFor s taking NoMemory

@@ -1,5 +1,5 @@
 -- What a response brings to the caches, from what it does to one line.
-use Rattle.std.proofs.Common.{◌≡◌, ◌≢◌, false, List, Some, None, Option, refl, sym, subst}
+use Rattle.std.proofs.Common.{◌≡◌, ◌≢◌, ℕ, false, List, Some, None, Option, refl, sym, subst}
 use Rattle.std.specs.Prelude.{slice_set}
 use Rattle.snoop_trace.specs.declared.protocol.Protocol.{Protocol}
 use Rattle.snoop_rules.specs.declared.names.Request.{Request}
@@ -8,7 +8,7 @@ use Rattle.snoop_history.specs.declared.items.Did.{Did}
 use Rattle.snoop_history.specs.declared.items.Item.{Item}
 use Rattle.snoop_bus.specs.Traffic.{Open}
 use Rattle.snoop_model.specs.Pictures.Lines.{Line}
-use Rattle.snoop_machine.specs.Plan.{Filled}
+use Rattle.snoop_model.specs.declared.line.Access.{Access}
 use Rattle.snoop_model.specs.Pictures.Picture.{held_at}
 use Rattle.snoop_model.specs.Moves.Move.{Fills, FillsRequestor, ArrivesFor, next_did}
 
@@ -22,9 +22,9 @@ arrives_get GetS closing p log old new did get fills = fills
 arrives_get GetM closing p log old new did get fills = fills
 arrives_get PutM closing p log old new did get fills = absurd (get refl)
 
-pub Arrives-get : (closing : Open) (p : Protocol) (log : List Item) (caches : List Line) (filled : Filled) → closing.request ≢ PutM
-    → Fills closing p (held_at caches closing.core) filled.line filled.access filled.value
-    → ArrivesFor closing.request closing p log caches (slice_set caches closing.core filled.line) (Some (next_did log closing.core closing.block filled.access.word filled.access.op filled.value false))
-Arrives-get closing p log caches filled get f =
-    arrives_get closing.request closing p log caches (slice_set caches closing.core filled.line) (Some (next_did log closing.core closing.block filled.access.word filled.access.op filled.value false)) get
-    (record { line = filled.line; asking = filled.access; value = filled.value; fills = f; held = refl; logged = refl })
+pub Arrives-get : (closing : Open) (p : Protocol) (log : List Item) (caches : List Line) (line : Line) (asking : Access) (value : ℕ) → closing.request ≢ PutM
+    → Fills closing p (held_at caches closing.core) line asking value
+    → ArrivesFor closing.request closing p log caches (slice_set caches closing.core line) (Some (next_did log closing.core closing.block asking.word asking.op value false))
+Arrives-get closing p log caches line asking value get f =
+    arrives_get closing.request closing p log caches (slice_set caches closing.core line) (Some (next_did log closing.core closing.block asking.word asking.op value false)) get
+    (record { line = line; asking = asking; value = value; fills = f; held = refl; logged = refl })

@@ -1,9 +1,16 @@
 -- The lines of one core, as its map keeps them.
 -- Source: this project's profile.
-use Rattle.std.specs.Prelude.{ℕ, List, [], unwrap_or, nat_eq, map}
+use Rattle.std.specs.Prelude.{ℕ, ◌<◌, List, [], Option, Some, None, ⊤, unwrap_or, option_map, nat_eq, map, slice_set}
 use Rattle.std.specs.Map.{lookup, keys_of}
 use Rattle.snoop_model.specs.Pictures.Lines.{Line}
-use Rattle.snoop_model.specs.Pictures.Picture.{nothing_held}
+use Rattle.snoop_model.specs.Pictures.Picture.{nothing_held, kept_on}
+use Rattle.snoop_model.specs.declared.line.Access.{Access}
+use Rattle.snoop_trace.specs.Words.{Data}
+use Rattle.snoop_trace.specs.declared.step.Op.{Op}
+use Rattle.snoop_trace.specs.declared.step.Op.TheVariants as op
+use Rattle.snoop_rules.specs.declared.names.CacheState.{CacheState}
+use Rattle.snoop_machine.specs.declared.cache.Change.{Change}
+use Rattle.snoop_machine.specs.declared.cache.Change.TheVariants.{Hit, Wait}
 
 -- the entries of a core's map, by block, and for how many more there is room
 pub record Contents : Type 0 where
@@ -14,9 +21,13 @@ pub record Contents : Type 0 where
 abbrev pub no_cache : Contents
 no_cache = record { entries = []; spare = 0 }
 
+-- the line that a map has, or that of a block of which the cache holds nothing
+abbrev pub line_of : Option Line → Line
+line_of found = unwrap_or found nothing_held
+
 -- the block's line in a map
 abbrev pub line_in : Contents → ℕ → Line
-line_in cache block = unwrap_or (lookup (nat_eq block) cache.entries) nothing_held
+line_in cache block = line_of (lookup (nat_eq block) cache.entries)
 
 -- the blocks that have a line there
 abbrev pub blocks_of : Contents → List ℕ
@@ -25,3 +36,31 @@ blocks_of cache = keys_of cache.entries
 -- what each core holds of a block
 abbrev pub row_in : List Contents → ℕ → List Line
 row_in caches block = map (λ cache. line_in cache block) caches
+
+-- the words after an operation on one of them: a store writes it
+abbrev pub words_after : ℕ → Op → Data → Data
+words_after word (op.Store value) words = slice_set words word value
+words_after word _ words = words
+
+-- what is kept after a change: a hit is performed on it
+abbrev pub kept_after : CacheState → Change → Option Data → Option Data
+kept_after next (Hit access) kept = option_map (words_after access.word access.op) kept
+kept_after next _ kept = kept_on next kept
+
+-- what waits after a change
+abbrev pub waiting_after : Change → Option Access → Option Access
+waiting_after (Wait waiting) before = waiting
+waiting_after _ before = before
+
+-- a line after a change
+abbrev pub changed : CacheState → Change → Line → Line
+changed next change old = record { state = next; kept = kept_after next change old.kept; waiting = waiting_after change old.waiting }
+
+-- a line that was filled with these words, on which an operation was performed
+abbrev pub filled_line : CacheState → Access → Data → Line
+filled_line next access words = record { state = next; kept = Some (words_after access.word access.op words); waiting = None }
+
+-- an operation that is performed is of a word that blocks have
+abbrev pub IsOfWords : ℕ → Change → Type 0
+IsOfWords count (Hit access) = access.word < count
+IsOfWords count _ = ⊤

@@ -1,9 +1,10 @@
+pub mod Cache
 pub mod Asked
 pub mod Plan
+pub mod Memory
 pub mod PartsView
 pub mod AnyParts
 pub mod MachineView
-pub mod Cache
 pub mod Lines
 pub mod Holders
 pub mod Following

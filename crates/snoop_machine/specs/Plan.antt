@@ -1,71 +1,71 @@
 -- What a step will do, found before anything changes: a plan, the room that it needs, and the item that it adds.
 -- Source: this project's profile.
-use Rattle.std.specs.Prelude.{◌≡◌, ◌≢◌, ℕ, ◌<◌, true, false, List, Option, Some, None, slice_index, ⊤}
+use Rattle.std.specs.Prelude.{◌≡◌, ◌≢◌, ℕ, ◌<◌, true, false, List, Option, Some, None, IfSome, option_map, slice_index, ⊤}
 use Rattle.std.specs.Option.{ForSome}
-use Rattle.snoop_trace.specs.Words.{Data, HasWord, IsWord}
+use Rattle.snoop_trace.specs.Words.{HasWord, IsWord}
 use Rattle.snoop_trace.specs.declared.step.Op.{Op}
 use Rattle.snoop_trace.specs.declared.step.Step.{Step}
 use Rattle.snoop_trace.specs.declared.step.Step.TheVariants as step
 use Rattle.snoop_rules.specs.declared.names.MemState.{MemState}
+use Rattle.snoop_rules.specs.declared.names.MemCell.{MemCell}
+use Rattle.snoop_rules.specs.declared.names.Payload.{Payload}
 use Rattle.snoop_rules.specs.declared.names.Request.{Request}
 use Rattle.snoop_rules.specs.declared.names.Request.TheVariants.{PutM}
 use Rattle.snoop_rules.specs.Takers.{at_memory}
-use Rattle.snoop_bus.specs.Traffic.{Open}
+use Rattle.snoop_history.specs.declared.items.Came.{Came}
 use Rattle.snoop_history.specs.declared.items.Item.{Item}
 use Rattle.snoop_history.specs.declared.items.Item.TheVariants as item
 use Rattle.snoop_machine.specs.declared.ask.Asked.TheVariants as asked
-use Rattle.snoop_model.specs.Pictures.Lines.{MemLine, Message}
-use Rattle.snoop_machine.specs.declared.plan.Plan as declared
-use Rattle.snoop_machine.specs.declared.respond.Filled as filling
+use Rattle.snoop_model.specs.Pictures.Lines.{Message}
+use Rattle.snoop_model.specs.Pictures.Sends.{value_sent}
+use Rattle.snoop_machine.specs.declared.plan.Plan.{Plan}
 use Rattle.snoop_machine.specs.declared.plan.Plan.TheVariants.{Ask, Order, Writeback, Fill}
 use Rattle.snoop_model.specs.Moves.Standing.{Standing, has_line}
 use Rattle.snoop_model.specs.Moves.Prepared.{room_to_issue}
 use Rattle.snoop_model.specs.Pictures.Situation.{Situation, picture_of}
-use Rattle.snoop_model.specs.Pictures.Picture.{held_by}
+use Rattle.snoop_model.specs.Pictures.Picture.{Picture, held_by}
 use Rattle.snoop_model.specs.Pictures.Sound.{IsProper}
-use Rattle.snoop_model.specs.Moves.Move.{Fills, ArrivesAtMemory, IsWithin, TakesMemRow, came_of, next_did}
-use Rattle.snoop_machine.specs.Asked.{Asked, TakesAsk}
+use Rattle.snoop_model.specs.Moves.Move.{Fills, Settles, IsWithin, TakesMemRow, came_of, next_did}
+use Rattle.snoop_machine.specs.declared.ask.Asked.{Asked}
+use Rattle.snoop_machine.specs.Cache.{filled_line}
+use Rattle.snoop_machine.specs.Asked.{TakesAsk}
 use Rattle.snoop_model.specs.Pictures.Message.{IsMessage}
 use Rattle.snoop_model.specs.Moves.OrderMove.{IsHead}
-
--- what a response brings to its requestor's line
-abbrev pub Filled : Type 0
-Filled = filling.Filled Data
-
--- what a step will do
-abbrev pub Plan : Type 0
-Plan = declared.Plan Data
 
 -- the step that a plan is for
 abbrev pub step_of : Plan → Step
 step_of (Ask core block word asking way) = step.Ask core block word asking
-step_of (Order core request block message memory) = step.Order core
-step_of (Writeback block closing memory) = step.Respond block
-step_of (Fill block closing memory filled) = step.Respond block
+step_of (Order core request block from payload memory) = step.Order core
+step_of (Writeback block came memory) = step.Respond block
+step_of (Fill block came memory filled) = step.Respond block
 
--- the core's oldest request can be ordered, with this message, and leads memory to this state
-pub record CanBeOrdered (s : Situation) (core : ℕ) (request : Request) (block : ℕ) (message : Message) (memory : MemState) : Type 0 where
+-- the message of this sender, with this payload
+abbrev pub message_sent : Picture → Option ℕ → Payload → Message
+message_sent before from payload = record { payload = payload; value = value_sent before from payload; from = from }
+
+-- the core's oldest request can be ordered, with this sender and payload, and leads memory to this state
+pub record CanBeOrdered (s : Situation) (core : ℕ) (request : Request) (block : ℕ) (from : Option ℕ) (payload : Payload) (memory : MemState) : Type 0 where
   pub head : IsHead s core request block
   pub free : (picture_of s block).transaction ≡ None
   pub memory_row : TakesMemRow s.protocol (at_memory request) (picture_of s block).memory.state memory
-  pub sent : IsMessage s.protocol (picture_of s block) core request message
+  pub sent : IsMessage s.protocol (picture_of s block) core request (message_sent (picture_of s block) from payload)
 
--- the block's transaction is this one, and leaves memory so
-pub record IsClosing (s : Situation) (block : ℕ) (closing : Open) (memory : MemLine) : Type 0 where
-  pub opened : (picture_of s block).transaction ≡ Some closing
-  pub its : closing.block ≡ block
-  pub core : closing.core < s.shape.cores
-  pub sender : ForSome closing.from (λ sender. sender < s.shape.cores)
-  pub arrives : ArrivesAtMemory closing s.protocol (picture_of s block).memory memory
+-- the response to the block's transaction is this one, and memory takes this row for it
+pub record IsClosing (s : Situation) (block : ℕ) (came : Came) (memory : MemCell) : Type 0 where
+  pub opened : option_map came_of (picture_of s block).transaction ≡ Some came
+  pub its : came.block ≡ block
+  pub core : came.core < s.shape.cores
+  pub sender : ForSome came.from (λ sender. sender < s.shape.cores)
+  pub settles : Settles s.protocol came.request came.payload (picture_of s block).memory.state memory.action memory.next
 
 -- the rows were found for what the plan says
 abbrev pub IsPlan : Situation → Plan → Type 0
 IsPlan s (Ask core block word asking way) = IsWithin s core block × TakesAsk s.protocol (held_by (picture_of s block) core) word asking way × IsProper (held_by (picture_of s block) core) × HasWord s.shape word asking
-IsPlan s (Order core request block message memory) = (core < s.shape.cores) × CanBeOrdered s core request block message memory
-IsPlan s (Writeback block closing memory) = (block < s.shape.blocks) × IsClosing s block closing memory × (closing.request ≡ PutM)
-IsPlan s (Fill block closing memory filled) =
-    (block < s.shape.blocks) × IsClosing s block closing memory × (closing.request ≢ PutM)
-    × Fills closing s.protocol (held_by (picture_of s block) closing.core) filled.line filled.access filled.value
+IsPlan s (Order core request block from payload memory) = (core < s.shape.cores) × CanBeOrdered s core request block from payload memory
+IsPlan s (Writeback block came memory) = (block < s.shape.blocks) × IsClosing s block came memory × (came.request ≡ PutM)
+IsPlan s (Fill block came memory filled) =
+    (block < s.shape.blocks) × IsClosing s block came memory × (came.request ≢ PutM)
+    × IfSome (picture_of s block).transaction (λ closing. Fills closing s.protocol (held_by (picture_of s block) closing.core) (filled_line filled.next filled.access closing.value) filled.access filled.value)
     × IsWord s.shape filled.access.word
 
 -- a plan for this step
@@ -75,42 +75,42 @@ IsPlanFor s taking plan = (step_of plan ≡ taking) × IsPlan s plan
 -- for how many more such Asks of the core for the block there is room; one that adds neither item nor request always has it
 abbrev pub room_for_ask : Standing → ℕ → ℕ → Asked → ℕ
 room_for_ask before core block asked.Absent = 1
-room_for_ask before core block (asked.Hit line value) = before.room
-room_for_ask before core block (asked.Issue request line) = room_to_issue before core block
-room_for_ask before core block (asked.Drop line) = 1
+room_for_ask before core block (asked.Hit next value) = before.room
+room_for_ask before core block (asked.Issue request next) = room_to_issue before core block
+room_for_ask before core block (asked.Drop next) = 1
 
 -- there is room for what such an Ask of the core adds; and where it issues a request, there is the line that will wait for it
 abbrev pub HasRoomToAsk : Standing → ℕ → ℕ → Asked → Type 0
 HasRoomToAsk before core block asked.Absent = ⊤
-HasRoomToAsk before core block (asked.Hit line value) = 0 < before.room
-HasRoomToAsk before core block (asked.Issue request line) = (has_line before core block ≡ true) × (0 < slice_index before.rooms core)
-HasRoomToAsk before core block (asked.Drop line) = ⊤
+HasRoomToAsk before core block (asked.Hit next value) = 0 < before.room
+HasRoomToAsk before core block (asked.Issue request next) = (has_line before core block ≡ true) × (0 < slice_index before.rooms core)
+HasRoomToAsk before core block (asked.Drop next) = ⊤
 
 -- for how many more such steps there is room
 abbrev pub room_for : Standing → Plan → ℕ
 room_for before (Ask core block word asking way) = room_for_ask before core block way
-room_for before (Order core request block message memory) = before.room
-room_for before (Writeback block closing memory) = before.room
-room_for before (Fill block closing memory filled) = before.room
+room_for before (Order core request block from payload memory) = before.room
+room_for before (Writeback block came memory) = before.room
+room_for before (Fill block came memory filled) = before.room
 
 -- there is room for what the planned step adds
 abbrev pub HasRoom : Standing → Plan → Type 0
 HasRoom before (Ask core block word asking way) = HasRoomToAsk before core block way
-HasRoom before (Order core request block message memory) = 0 < before.room
-HasRoom before (Writeback block closing memory) = 0 < before.room
-HasRoom before (Fill block closing memory filled) = 0 < before.room
+HasRoom before (Order core request block from payload memory) = 0 < before.room
+HasRoom before (Writeback block came memory) = 0 < before.room
+HasRoom before (Fill block came memory filled) = 0 < before.room
 
 -- the item that an Ask adds: a hit is performed at once
 abbrev pub entry_of_ask : List Item → ℕ → ℕ → ℕ → Op → Asked → Option Item
 entry_of_ask log core block word asking asked.Absent = None
-entry_of_ask log core block word asking (asked.Hit line value) = Some (item.Did (next_did log core block word asking value true))
-entry_of_ask log core block word asking (asked.Issue request line) = None
-entry_of_ask log core block word asking (asked.Drop line) = None
+entry_of_ask log core block word asking (asked.Hit next value) = Some (item.Did (next_did log core block word asking value true))
+entry_of_ask log core block word asking (asked.Issue request next) = None
+entry_of_ask log core block word asking (asked.Drop next) = None
 
 -- the item that a planned step adds, if any
 abbrev pub entry_of : List Item → Plan → Option Item
 entry_of log (Ask core block word asking way) = entry_of_ask log core block word asking way
-entry_of log (Order core request block message memory) = Some (item.Sent (record { core = core; request = request; block = block }))
-entry_of log (Writeback block closing memory) = Some (item.Came (came_of closing) None)
-entry_of log (Fill block closing memory filled) =
-    Some (item.Came (came_of closing) (Some (next_did log closing.core closing.block filled.access.word filled.access.op filled.value false)))
+entry_of log (Order core request block from payload memory) = Some (item.Sent (record { core = core; request = request; block = block }))
+entry_of log (Writeback block came memory) = Some (item.Came came None)
+entry_of log (Fill block came memory filled) =
+    Some (item.Came came (Some (next_did log came.core came.block filled.access.word filled.access.op filled.value false)))

@@ -1,42 +1,45 @@
 //! The lines of one core.
-ghost use Rattle.std.specs.Prelude.{◌≡◌, ◌≢◌, ℕ, ◌+◌, ◌<◌, ◌∷◌, ◌++◌, [], length, OnOk, OnErr, IfSome, IfNone, IsTrue, ◌↔◌, IsSome, false, is_some, nat_eq};
+ghost use Rattle.std.specs.Prelude.{◌≡◌, ◌≢◌, ℕ, ◌+◌, ◌<◌, ◌≤◌, ◌∷◌, ◌++◌, [], length, option_copied, option_map, unwrap_or, OnOk, OnErr, IfSome, IfNone, IsTrue, ◌↔◌, IsSome, false, is_some, nat_eq, Option, None, if◌then◌else◌};
+ghost use Rattle.snoop_trace.specs.Words.{Data, word_at, zero_words};
 ghost use Rattle.std.specs.Map.{lookup};
 ghost use Rattle.snoop_rules.specs.declared.names.CacheState.TheVariants.{I};
-ghost use Rattle.snoop_model.specs.Pictures.Picture.{nothing_held};
-ghost use Rattle.snoop_machine.specs.Cache.{line_in, blocks_of};
+ghost use Rattle.snoop_model.specs.Pictures.Picture.{nothing_held, kept_on};
+ghost use Rattle.snoop_machine.specs.Cache.{line_in, line_of, blocks_of, changed, filled_line, IsOfWords};
+ghost use Rattle.snoop_machine.specs.declared.cache.Change.TheVariants.{Hit};
 ghost use Rattle.snoop_rules.specs.declared.names.CacheState.{CacheState};
 ghost use Rattle.snoop_rules.specs.declared.names.CacheAction.{CacheAction};
 ghost use Rattle.snoop_rules.specs.Cell.{Cell};
 ghost use Rattle.snoop_model.specs.Moves.LookUps.{HasRow};
 ghost use Rattle.snoop_model.specs.Moves.Move.{moves_to};
 
-use crate::ask::kept_in;
 use indexmap::IndexMap;
-use snoop_model::{Access, Line};
+use snoop_model::Access;
 use snoop_rules::{CacheEvent, CacheState, Protocol, cache_cell};
 use snoop_trace::{Block, Kept, NoMemory, Op};
 use std::alloc::Global;
 use std::marker::Model;
-use std::mem::replace;
 
-/// The line of a block of which a cache holds nothing.
-fn nothing<B: Block>() -> Line<Kept<B>>
-    ensures { result ≡ nothing_held }
-{
-    Line {
-        state: CacheState::I,
-        kept: None,
-        waiting: None,
-    }
+/// How a line changes beside its state.
+#[derive(Clone, Copy)]
+pub(crate) enum Change {
+    /// Nothing is performed.
+    Move,
+    /// This is performed on the kept words.
+    Hit(Access),
+    /// From now on this waits.
+    Wait(Option<Access>),
 }
 
-/// A line as a map holds it: whether an operation waits, and its word, lie beside the state, where they take no memory of their own.
+/// A line as a map holds it: whether it keeps words, whether an operation waits, and its word, lie beside the state, where they take no
+/// memory of their own.
 #[derive(Drop)]
-struct Entry<B: Block> {
+pub(crate) struct Entry<B: Block> {
     state: CacheState,
+    is_kept: bool,
     is_waiting: bool,
     word: u32,
-    kept: Option<Kept<B>>,
+    /// The words, if they are kept.
+    words: Kept<B>,
     /// The operation, if one waits.
     op: Op,
 }
@@ -47,53 +50,67 @@ impl<B: Block> Model for Entry<B> {
 
     ghost Value = { Line };
 
-    ghost view = { λ e. record { state = e.state; kept = e.kept; waiting = if e.is_waiting then Some (record { word = e.word; op = e.op }) else None } };
+    ghost view = { λ e. record { state = e.state; kept = if e.is_kept then Some e.words else None; waiting = if e.is_waiting then Some (record { word = e.word; op = e.op }) else None } };
 }
 
 impl<B: Block> Entry<B> {
-    fn new(line: Line<Kept<B>>) -> Entry<B>
-        ensures { result ≡ line }
+    /// The line of a block of which a cache holds nothing.
+    fn nothing() -> Entry<B>
+        requires { B.count ≤ 64 }
+        ensures { result ≡ nothing_held }
     {
-        match line.waiting {
-            Some(Access { word, op }) => Entry {
-                state: line.state,
-                is_waiting: true,
-                word,
-                kept: line.kept,
-                op,
-            },
-            None => Entry {
-                state: line.state,
-                is_waiting: false,
-                word: 0,
-                kept: line.kept,
-                op: Op::Load,
-            },
+        Entry {
+            state: CacheState::I,
+            is_kept: false,
+            is_waiting: false,
+            word: 0,
+            words: Kept::zero(),
+            op: Op::Load,
         }
     }
 
-    #[inline(always)]
-    fn line(&self) -> Line<Kept<B>>
-        ensures { result ≡ self.now }
-    {
-        Line {
-            state: self.state,
-            kept: self.kept,
-            waiting: if self.is_waiting {
-                Some(Access {
-                    word: self.word,
-                    op: self.op,
-                })
-            } else {
-                None
-            },
-        }
-    }
-
-    fn state(&self) -> CacheState
+    pub(crate) fn state(&self) -> CacheState
         ensures { result ≡ self.now.state }
     {
         self.state
+    }
+
+    /// The value of a word, if words are kept.
+    pub(crate) fn at(&self, word: u32) -> Option<u64>
+        requires { word < B.count }
+        ensures { result ≡ option_map (λ words. word_at words word) self.now.kept }
+    {
+        if self.is_kept {
+            Some(self.words.at(word))
+        } else {
+            None
+        }
+    }
+
+    /// The words, or 0 in each where none are kept.
+    pub(crate) fn words(&self) -> Kept<B>
+        requires { B.count ≤ 64 }
+        ensures { result ≡ unwrap_or self.now.kept zero_words }
+    {
+        if self.is_kept {
+            self.words
+        } else {
+            Kept::zero()
+        }
+    }
+
+    /// The load or store that waits.
+    pub(crate) fn waiting(&self) -> Option<Access>
+        ensures { result ≡ self.now.waiting }
+    {
+        if self.is_waiting {
+            Some(Access {
+                word: self.word,
+                op: self.op,
+            })
+        } else {
+            None
+        }
     }
 
     /// The line moves to its next state, with nothing performed.
@@ -101,7 +118,101 @@ impl<B: Block> Entry<B> {
         ensures { self.new ≡ moves_to next self.old }
     {
         self.state = next;
-        self.kept = kept_in(next, self.kept);
+        if !keeps_in(next) {
+            self.is_kept = false;
+        }
+    }
+
+    /// This waits from now on.
+    fn wait(&mut self, waiting: Option<Access>)
+        ensures { self.new ≡ record self.old { waiting = waiting } }
+    {
+        match waiting {
+            Some(access) => {
+                self.is_waiting = true;
+                self.word = access.word;
+                self.op = access.op;
+            }
+            None => self.is_waiting = false,
+        }
+    }
+
+    /// The line moves to its next state by a hit, which is performed on the words that it keeps.
+    fn hit(&mut self, next: CacheState, access: Access)
+        requires { access.word < B.count }
+        ensures { self.new ≡ changed next (Hit access) self.old }
+    {
+        self.state = next;
+        if let Op::Store(value) = access.op {
+            self.words = self.words.with(access.word, value);
+        }
+    }
+
+    /// The line takes these words, on which this is performed, and nothing waits.
+    fn fill(&mut self, next: CacheState, access: Access, words: &Kept<B>)
+        requires { access.word < B.count }
+        ensures { self.new ≡ filled_line next access words.now }
+    {
+        self.state = next;
+        self.is_kept = true;
+        self.is_waiting = false;
+        self.words = match access.op {
+            Op::Store(value) => words.with(access.word, value),
+            Op::Load | Op::Evict => *words,
+        };
+    }
+
+    /// The line moves to its next state, and changes so.
+    fn change(&mut self, next: CacheState, change: Change)
+        requires { IsOfWords B.count change }
+        ensures { self.new ≡ changed next change self.old }
+    {
+        match change {
+            Change::Move => self.move_to(next),
+            Change::Hit(access) => self.hit(next, access),
+            Change::Wait(waiting) => {
+                self.move_to(next);
+                self.wait(waiting);
+            }
+        }
+    }
+}
+
+/// Whether kept words stay when this state comes.
+fn keeps_in(next: CacheState) -> bool
+    ensures { (kept : Option Data) → kept_on next kept ≡ (if result then kept else None) }
+{
+    !matches!(&next, CacheState::I | CacheState::ImAd | CacheState::IiA)
+}
+
+/// The state of a line that a map has, or I where it has none.
+pub(crate) fn state_of<B: Block>(found: Option<&Entry<B>>) -> CacheState
+    ensures { result ≡ (line_of (option_copied found.entry)).state }
+{
+    match found {
+        Some(entry) => entry.state(),
+        None => CacheState::I,
+    }
+}
+
+/// The operation that waits in a line that a map has.
+pub(crate) fn waiting_of<B: Block>(found: Option<&Entry<B>>) -> Option<Access>
+    ensures { result ≡ (line_of (option_copied found.entry)).waiting }
+{
+    match found {
+        Some(entry) => entry.waiting(),
+        None => None,
+    }
+}
+
+/// The words of a line that a map has, or 0 in each where none are kept.
+pub(crate) fn words_of<B: Block>(found: Option<&Entry<B>>) -> Kept<B>
+    requires { B.count ≤ 64 }
+    ensures { result ≡ unwrap_or (line_of (option_copied found.entry)).kept zero_words }
+{
+    match found {
+        Some(entry) => entry.words(),
+        None => Kept::zero(),
     }
 }
 
@@ -143,15 +254,12 @@ impl<B: Block> Cache<B> {
         self.lines.contains_key(&block)
     }
 
-    /// What the core holds of the block.
+    /// The block's line, if there is one.
     #[inline(always)]
-    pub(crate) fn get(&self, block: u32) -> Line<Kept<B>>
-        ensures { result ≡ line_in self.now block }
+    pub(crate) fn get(&self, block: u32) -> Option<&Entry<B>>
+        ensures { line_of (option_copied result) ≡ line_in self.now block }
     {
-        match self.lines.get(&block) {
-            Some(entry) => entry.line(),
-            None => nothing(),
-        }
+        self.lines.get(&block)
     }
 
     /// Whether there is room for one more line.
@@ -178,34 +286,59 @@ impl<B: Block> Cache<B> {
 
     /// Puts in a line in I for the block, which has none.
     pub(crate) fn put_ahead(&mut self, block: u32)
+        requires few { B.count ≤ 64 }
         requires absent { is_some (lookup (nat_eq block) self.old.entries) ≡ false }
         requires room { 0 < self.old.spare }
         ensures same { (b : ℕ) → line_in self.new b ≡ line_in self.old b }
         ensures blocks { blocks_of self.new ≡ blocks_of self.old ++ block ∷ [] }
     {
-        self.lines.insert(block, Entry::new(nothing())).unwrap();
+        self.lines.insert(block, Entry::nothing()).unwrap();
     }
 
-    /// Writes the block's line, and answers the state that it was in. A line in I is taken out.
-    pub(crate) fn set(&mut self, block: u32, line: Line<Kept<B>>) -> CacheState
+    /// Changes the block's line, and answers the state that it was in. A line that moves to I is taken out.
+    pub(crate) fn change(&mut self, block: u32, next: CacheState, change: Change) -> CacheState
         requires place { IsSome (lookup (nat_eq block) self.old.entries) }
-        requires settled { line.state ≡ I → line ≡ nothing_held }
+        requires words { IsOfWords B.count change }
+        requires settled { next ≡ I → changed next change (line_in self.old block) ≡ nothing_held }
         ensures before { result ≡ (line_in self.old block).state }
-        ensures here { line_in self.new block ≡ line }
+        ensures here { line_in self.new block ≡ changed next change (line_in self.old block) }
         ensures others { (b : ℕ) → nat_eq block b ≡ false → line_in self.new b ≡ line_in self.old b }
-        ensures taken { line.state ≡ I → length self.new.entries + 1 ≡ length self.old.entries }
-        ensures stays { ¬ (line.state ≡ I) → length self.new.entries ≡ length self.old.entries }
+        ensures taken { next ≡ I → length self.new.entries + 1 ≡ length self.old.entries }
+        ensures stays { ¬ (next ≡ I) → length self.new.entries ≡ length self.old.entries }
     {
-        if matches!(&line.state, CacheState::I) {
-            match self.lines.swap_remove(&block) {
-                Some(entry) => entry.state(),
-                None => CacheState::I,
-            }
-        } else if let Some(place) = self.lines.get_mut(&block) {
-            replace(place, Entry::new(line)).state()
+        let Some(entry) = self.lines.get_mut(&block) else {
+            return CacheState::I;
+        };
+        let before = entry.state();
+        if matches!(&next, CacheState::I) {
+            let _ = self.lines.swap_remove(&block);
         } else {
-            CacheState::I
+            entry.change(next, change);
         }
+        before
+    }
+
+    /// Fills the block's line with these words, on which this is performed, and answers the state that it was in.
+    pub(crate) fn fill(
+        &mut self,
+        block: u32,
+        next: CacheState,
+        access: Access,
+        words: &Kept<B>,
+    ) -> CacheState
+        requires place { IsSome (lookup (nat_eq block) self.old.entries) }
+        requires word { access.word < B.count }
+        ensures before { result ≡ (line_in self.old block).state }
+        ensures here { line_in self.new block ≡ filled_line next access words.now }
+        ensures others { (b : ℕ) → nat_eq block b ≡ false → line_in self.new b ≡ line_in self.old b }
+        ensures stays { length self.new.entries ≡ length self.old.entries }
+    {
+        let Some(entry) = self.lines.get_mut(&block) else {
+            return CacheState::I;
+        };
+        let before = entry.state();
+        entry.fill(next, access, words);
+        before
     }
 
     /// Takes the row of the block's line for an event, and answers the states before and after, or `None` where the line stays as it is. A

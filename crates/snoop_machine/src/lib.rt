@@ -7,6 +7,7 @@ mod cache;
 mod holders;
 mod lines;
 mod machine;
+mod memory;
 mod order;
 mod parts;
 mod plan;

@@ -1,6 +1,6 @@
 //! What an Order does to the lines of its block, and who sends.
-ghost use Rattle.std.specs.Prelude.{◌≡◌, ◌↔◌, IsTrue, ℕ, ◌<◌, ◌≤◌, [], length, Some, slice_index_or, slice_set, unwrap_or, if◌then◌else◌};
-ghost use Rattle.snoop_trace.specs.Words.{zero_words};
+ghost use Rattle.std.specs.Prelude.{◌≡◌, ◌↔◌, IsTrue, ℕ, ◌<◌, [], length, Some, None, option_map, slice_index_or, slice_set, if◌then◌else◌};
+ghost use Rattle.snoop_trace.specs.Words.{Data, zero_words};
 ghost use Rattle.snoop_rules.specs.Waits.{waiting_request};
 ghost use Rattle.snoop_rules.specs.Takers.{seen_by, carries_value};
 ghost use Rattle.snoop_model.specs.Pictures.Picture.{held_at};
@@ -9,14 +9,16 @@ ghost use Rattle.snoop_model.specs.Moves.SenderTable.{FollowsSenderTable};
 ghost use Rattle.snoop_model.specs.Pictures.Message.{free_picture, IsMessage, memory_message};
 ghost use Rattle.snoop_model.specs.Moves.Move.{TakesRows};
 ghost use Rattle.snoop_machine.specs.Lines.{LinesGo};
+ghost use Rattle.snoop_machine.specs.PartsView.{no_memory};
+ghost use Rattle.snoop_machine.specs.Plan.{message_sent};
 
 use crate::lines::Lines;
-use snoop_model::{Line, MemLine, Message};
+use crate::memory::Memory;
 use snoop_rules::{
-    CacheAction, CacheState, MemAction, MemCell, Payload, Protocol, Request, cache_cell,
-    carries_value, event_at_memory, event_seen, mem_cell,
+    CacheAction, MemAction, MemCell, Payload, Protocol, Request, cache_cell, event_at_memory,
+    event_seen, mem_cell,
 };
-use snoop_trace::{Block, Kept};
+use snoop_trace::Block;
 
 impl<B: Block> Lines<B> {
     /// Each core takes its row for a request on the block. The row of a core that the request does not concern changes nothing, and is not looked up.
@@ -44,73 +46,61 @@ impl<B: Block> Lines<B> {
     }
 }
 
-/// The words that the line's cache puts into a message.
-fn words_for<B: Block>(line: Line<Kept<B>>, payload: Payload) -> Kept<B>
-    requires { B.count ≤ 64 }
-    ensures { result ≡ (if carries_value payload then unwrap_or line.kept zero_words else zero_words) }
-{
-    if carries_value(payload) {
-        line.kept.unwrap_or(Kept::zero())
-    } else {
-        Kept::zero()
-    }
+/// Who sends at an Order, and with what payload.
+#[derive(Clone, Copy)]
+pub(crate) struct Sending {
+    /// The core that sends, or `None` for memory.
+    pub(crate) from: Option<u32>,
+    pub(crate) payload: Payload,
 }
 
-/// Memory's message for the request, if it sends one.
-fn message_of_memory<B: Block>(memory: MemLine<Kept<B>>, cell: MemCell) -> Option<Message<Kept<B>>>
-    requires { B.count ≤ 64 }
-    ensures { result ≡ memory_message cell.action memory.value }
+/// The payload that memory sends, if it sends.
+fn sent_by_memory(cell: MemCell) -> Option<Payload>
+    ensures { (value : Data) → memory_message cell.action value ≡ option_map (λ payload. record { payload = payload; value = if carries_value payload then value else zero_words; from = None }) result }
 {
     match cell.action {
-        MemAction::Send(payload) => Some(Message {
-            payload,
-            value: if carries_value(payload) {
-                memory.value
-            } else {
-                Kept::zero()
-            },
-            from: None,
-        }),
+        MemAction::Send(payload) => Some(payload),
         MemAction::None | MemAction::Write => None,
     }
 }
 
 impl<B: Block> Lines<B> {
-    /// The message of the one controller that sends, for a request on the block.
-    pub(crate) fn message(
+    /// The one controller that sends, for a request on the block.
+    pub(crate) fn sender(
         &self,
         protocol: Protocol,
-        memory: MemLine<Kept<B>>,
+        memory: &Memory<B>,
         requestor: u32,
         request: Request,
         block: u32,
-    ) -> Message<Kept<B>>
-        requires few { B.count ≤ 64 }
+    ) -> Sending
         requires block { block < length self.now.rows }
         requires waits { waiting_request (held_at (slice_index_or self.now.rows block []) requestor).state ≡ Some request }
         requires rows { (k : ℕ) → k < length (slice_index_or self.now.rows block []) → HasRow protocol (held_at (slice_index_or self.now.rows block []) k).state (seen_by k requestor request) }
-        requires line { FollowsSenderTable protocol (free_picture (slice_index_or self.now.rows block []) memory) requestor request }
-        ensures { IsMessage protocol (free_picture (slice_index_or self.now.rows block []) memory) requestor request result }
+        requires line { FollowsSenderTable protocol (free_picture (slice_index_or self.now.rows block []) (slice_index_or memory.now block no_memory)) requestor request }
+        ensures { IsMessage protocol (free_picture (slice_index_or self.now.rows block []) (slice_index_or memory.now block no_memory)) requestor request (message_sent (free_picture (slice_index_or self.now.rows block []) (slice_index_or memory.now block no_memory)) result.from result.payload) }
     {
-        let Some(cell) = mem_cell(protocol, memory.state, event_at_memory(request)) else {
+        let Some(cell) = mem_cell(protocol, memory.state(block), event_at_memory(request)) else {
             unreachable!();
         };
-        if let Some(message) = message_of_memory(memory, cell) {
-            return message;
+        if let Some(payload) = sent_by_memory(cell) {
+            return Sending {
+                from: None,
+                payload,
+            };
         }
         let concerned = self.concerned(block, requestor, request);
         let mut from = 0;
         while let Some(core) = concerned.next(from) {
-            let line = self.get(core, block);
-            let Some(cell) = cache_cell(protocol, line.state, event_seen(core, requestor, request))
+            let state = self.state(core, block);
+            let Some(cell) = cache_cell(protocol, state, event_seen(core, requestor, request))
             else {
                 unreachable!();
             };
             if let CacheAction::Send(payload, _) = cell.action {
-                return Message {
-                    payload,
-                    value: words_for(line, payload),
+                return Sending {
                     from: Some(core),
+                    payload,
                 };
             }
             from = core + 1;

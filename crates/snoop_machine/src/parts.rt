@@ -1,5 +1,5 @@
 //! The parts of a machine, which its steps change one after another.
-ghost use Rattle.std.specs.Prelude.{◌≡◌, ◌<◌, ◌≤◌, ◌↔◌, ℕ, length, option_map, is_some, IsTrue, IfOk, IfSome, Some};
+ghost use Rattle.std.specs.Prelude.{◌≡◌, ◌<◌, ◌≤◌, ◌↔◌, ℕ, length, option_map, is_some, IsTrue, IfOk, IfSome, Some, option_copied};
 ghost use Rattle.snoop_trace.specs.Words.{AreZeroFrom, word_at};
 ghost use Rattle.snoop_bus.specs.Queues.{place_in, queue_of};
 ghost use Rattle.snoop_rules.specs.Waits.{waiting_request};
@@ -9,40 +9,30 @@ ghost use Rattle.snoop_model.specs.Pictures.Sound.{IsProper, keeps};
 ghost use Rattle.snoop_model.specs.Moves.Move.{next_did};
 ghost use Rattle.snoop_model.specs.Moves.Standing.{line_count};
 ghost use Rattle.snoop_model.specs.Moves.Holding.{HasHeldLines};
-ghost use Rattle.snoop_machine.specs.PartsView.{no_memory};
+ghost use Rattle.snoop_machine.specs.Cache.{line_of};
 
 mod ask;
 mod order;
 mod respond;
 mod step;
 
+use crate::cache::Entry;
 use crate::lines::Lines;
-use snoop_blocks::BlockTable;
+use crate::memory::Memory;
 use snoop_bus::{Bus, Open};
 use snoop_history::{Did, Log};
-use snoop_model::{Access, Line, MemLine};
+use snoop_model::Access;
 use snoop_rules::{CacheState, MemState, Payload, Protocol, Request, waits};
 use snoop_trace::{Block, Kept, NoMemory, Op, Shape};
 use std::alloc::Global;
 use std::marker::Model;
-
-/// What stands for memory's line of a block that there isn't.
-fn no_memory<B: Block>() -> MemLine<Kept<B>>
-    requires { B.count ≤ 64 }
-    ensures { result ≡ no_memory }
-{
-    MemLine {
-        state: MemState::IorS,
-        value: Kept::zero(),
-    }
-}
 
 /// The caches, memory, the bus that joins them, and the history of what they did.
 pub(crate) struct Parts<B: Block> {
     protocol: Protocol,
     shape: Shape,
     lines: Lines<B>,
-    memory: BlockTable<MemLine<Kept<B>>>,
+    memory: Memory<B>,
     bus: Bus<Kept<B>>,
     log: Log,
 }
@@ -82,11 +72,7 @@ impl<B: Block> Parts<B> {
     {
         prove!(shape.cores() <= 256);
         prove!(shape.words() <= 64);
-        let first = MemLine {
-            state: first_state(protocol),
-            value: Kept::zero(),
-        };
-        let memory = BlockTable::new(alloc, shape.blocks(), first)?;
+        let memory = Memory::new(alloc, shape.blocks(), first_state(protocol))?;
         let lines = Lines::new(alloc, shape)?;
         let bus = Bus::new(alloc, shape)?;
         let log = Log::new(alloc, shape)?;
@@ -120,7 +106,7 @@ impl<B: Block> Parts<B> {
         ensures outside { IfSome result (λ _. (core < self.now.situation.shape.cores) × (block < self.now.situation.shape.blocks)) }
     {
         if core < self.shape.cores() && block < self.shape.blocks() {
-            Some(self.line(core, block).state)
+            Some(self.line_state(core, block))
         } else {
             None
         }
@@ -145,7 +131,7 @@ impl<B: Block> Parts<B> {
         ensures outside { IfSome result (λ _. block < self.now.situation.shape.blocks) }
     {
         if block < self.shape.blocks() {
-            Some(self.memory_line(block).state)
+            Some(self.memory_state(block))
         } else {
             None
         }
@@ -157,7 +143,7 @@ impl<B: Block> Parts<B> {
         ensures outside { IfSome result (λ _. (block < self.now.situation.shape.blocks) × (word < self.now.situation.shape.words)) }
     {
         if block < self.shape.blocks() && word < self.shape.words() {
-            Some(self.memory_line(block).value.at(word))
+            Some(self.memory_words(block).at(word))
         } else {
             None
         }
@@ -212,7 +198,7 @@ impl<B: Block> Parts<B> {
             // The queue alone shows it, unless another block's request stands first.
             None => false,
             Some((_, first)) if first == block => true,
-            Some(_) => waits(self.line(core, block).state),
+            Some(_) => waits(self.line_state(core, block)),
         }
     }
 
@@ -240,23 +226,41 @@ impl<B: Block> Parts<B> {
         &self.log
     }
 
-    /// What the core holds of the block.
+    /// What the core holds of the block, if its map has a line for it.
     #[inline(always)]
-    fn line(&self, core: u32, block: u32) -> Line<Kept<B>>
+    fn line(&self, core: u32, block: u32) -> Option<&Entry<B>>
         requires core { core < self.now.situation.shape.cores }
         requires block { block < self.now.situation.shape.blocks }
-        ensures line { result ≡ held_by (picture_of self.now.situation block) core }
-        ensures proper { IsProper result }
+        ensures line { line_of (option_copied result) ≡ held_by (picture_of self.now.situation block) core }
+        ensures proper { IsProper (line_of (option_copied result)) }
     {
         self.lines.get(core, block)
     }
 
-    /// What memory holds of the block.
+    /// The state in which the core holds the block.
     #[inline(always)]
-    fn memory_line(&self, block: u32) -> MemLine<Kept<B>>
-        ensures { result ≡ (picture_of self.now.situation block).memory }
+    fn line_state(&self, core: u32, block: u32) -> CacheState
+        requires core { core < self.now.situation.shape.cores }
+        requires block { block < self.now.situation.shape.blocks }
+        ensures { result ≡ state_of self.now.situation core block }
     {
-        self.memory.get_or(block, no_memory())
+        self.lines.state(core, block)
+    }
+
+    /// Memory's state of the block.
+    #[inline(always)]
+    fn memory_state(&self, block: u32) -> MemState
+        ensures { result ≡ (picture_of self.now.situation block).memory.state }
+    {
+        self.memory.state(block)
+    }
+
+    /// Memory's words of the block.
+    #[inline(always)]
+    fn memory_words(&self, block: u32) -> Kept<B>
+        ensures { result ≡ (picture_of self.now.situation block).memory.value }
+    {
+        self.memory.words(block)
     }
 
     /// The block's open transaction.
@@ -286,13 +290,13 @@ impl<B: Block> Parts<B> {
 }
 
 /// The value of a word that a line keeps, if it keeps any.
-fn word_kept<B: Block>(line: Line<Kept<B>>, word: u32) -> Option<u64>
+fn word_kept<B: Block>(found: Option<&Entry<B>>, word: u32) -> Option<u64>
     requires { word < B.count }
-    ensures value { result ≡ option_map (λ ws. word_at ws word) line.kept }
-    ensures some { is_some result ≡ is_some line.kept }
+    ensures value { result ≡ option_map (λ ws. word_at ws word) (line_of (option_copied found.entry)).kept }
+    ensures some { is_some result ≡ is_some (line_of (option_copied found.entry)).kept }
 {
-    match line.kept {
-        Some(words) => Some(words.at(word)),
+    match found {
+        Some(entry) => entry.at(word),
         None => None,
     }
 }

@@ -12,6 +12,8 @@ ghost use Rattle.snoop_model.specs.Pictures.Picture.{held_by, with_line};
 ghost use Rattle.snoop_model.specs.Pictures.Situation.{picture_of, state_of, with_picture};
 ghost use Rattle.snoop_model.specs.Pictures.Sound.{IsProper};
 ghost use Rattle.snoop_model.specs.Moves.Move.{AskMove, is_load, next_did};
+ghost use Rattle.snoop_machine.specs.declared.cache.Change.TheVariants.{Hit, Wait};
+ghost use Rattle.snoop_machine.specs.Cache.{changed, IsOfWords};
 ghost use Rattle.snoop_machine.specs.Asked.{TakesAsk};
 ghost use Rattle.snoop_model.specs.Moves.StepMove.{IsDenied};
 ghost use Rattle.snoop_machine.specs.Plan.{IsPlanFor, HasRoomToAsk, entry_of_ask};
@@ -21,23 +23,18 @@ ghost use Rattle.snoop_model.specs.declared.replies.Refused.{Refused};
 ghost use Rattle.snoop_model.specs.declared.replies.Reply.TheVariants as reply;
 
 use super::Parts;
-use crate::ask::{Asked, ask};
+use crate::ask::{Asked, ask, waiting_for};
+use crate::cache::Change;
 use crate::plan::Plan;
 use snoop_history::Item;
-use snoop_model::{Access, Line, Refused, Reply};
-use snoop_rules::Request;
-use snoop_trace::{Block, Kept, Op};
+use snoop_model::{Access, Refused, Reply};
+use snoop_rules::{CacheState, Request};
+use snoop_trace::{Block, Op};
 
 impl<B: Block> Parts<B> {
     /// What an Ask will do, of a core and a block that there are.
     #[inline(always)]
-    pub(super) fn plan_ask(
-        &self,
-        core: u32,
-        block: u32,
-        word: u32,
-        op: Op,
-    ) -> Result<Plan<Kept<B>>, Refused>
+    pub(super) fn plan_ask(&self, core: u32, block: u32, word: u32, op: Op) -> Result<Plan, Refused>
         requires core { core < self.now.situation.shape.cores }
         requires block { block < self.now.situation.shape.blocks }
         requires word { HasWord self.now.situation.shape word op }
@@ -46,8 +43,8 @@ impl<B: Block> Parts<B> {
         ensures denied { IfErr result (λ cause. IsDenied self.now.situation (Ask core block word op) cause) }
         ensures exactly { (cause : Refused) → Refuses self.now.situation (Ask core block word op) cause → result ≡ Err cause }
     {
-        let line = self.line(core, block);
-        let asked = ask(self.protocol, line, word, op)?;
+        let found = self.line(core, block);
+        let asked = ask(self.protocol, found, word, op)?;
         Ok(Plan::Ask {
             core,
             block,
@@ -65,7 +62,7 @@ impl<B: Block> Parts<B> {
         block: u32,
         word: u32,
         op: Op,
-        asked: Asked<Kept<B>>,
+        asked: Asked,
     ) -> Reply
         requires core { core < self.old.situation.shape.cores }
         requires block { block < self.old.situation.shape.blocks }
@@ -79,69 +76,77 @@ impl<B: Block> Parts<B> {
     {
         match asked {
             Asked::Absent => Reply::Absent,
-            Asked::Hit(after, value) => {
-                self.hit_line(core, block, Access { word, op }, after, value);
+            Asked::Hit(next, value) => {
+                self.hit_line(core, block, next, Access { word, op }, value);
                 hit_reply(op, value)
             }
-            Asked::Issue(request, after) => {
-                self.issue_line(core, block, after, request);
+            Asked::Issue(request, next) => {
+                self.issue_line(core, block, next, waiting_for(word, op), request);
                 Reply::Issued(request)
             }
-            Asked::Drop(after) => {
-                self.put_line(core, block, after);
+            Asked::Drop(next) => {
+                self.move_line(core, block, next, Change::Move);
                 Reply::Gone
             }
         }
     }
 
-    /// Writes the line, and puts the request last in the core's queue.
+    /// This waits in the line, which moves to its next state, and the request stands last in the core's queue.
     #[inline(always)]
-    fn issue_line(&mut self, core: u32, block: u32, line: Line<Kept<B>>, request: Request)
+    fn issue_line(
+        &mut self,
+        core: u32,
+        block: u32,
+        next: CacheState,
+        waiting: Option<Access>,
+        request: Request,
+    )
         requires core { core < self.old.situation.shape.cores }
         requires block { block < self.old.situation.shape.blocks }
         requires room { (has_line self.old core block ≡ true) × (0 < slice_index self.old.rooms core) }
         requires idle { waiting_request (state_of self.old.situation core block) ≡ None }
-        requires waits { waiting_request line.state ≡ Some request }
-        requires proper { IsProper line }
-        ensures written { self.new.situation ≡ record (with_picture self.old.situation block (with_line (picture_of self.old.situation block) core line)) { queues = after_issue self.old.situation.queues core block } }
+        requires waits { waiting_request next ≡ Some request }
+        requires proper { IsProper (changed next (Wait waiting) (held_by (picture_of self.old.situation block) core)) }
+        ensures written { self.new.situation ≡ record (with_picture self.old.situation block (with_line (picture_of self.old.situation block) core (changed next (Wait waiting) (held_by (picture_of self.old.situation block) core)))) { queues = after_issue self.old.situation.queues core block } }
         ensures room { KeepsRoom self.old self.new }
         ensures lines { (k : ℕ) → LosesLines self.old self.new k }
     {
-        self.lines.set(core, block, line);
+        self.lines.change(core, block, next, Change::Wait(waiting));
         self.bus.issue(core, request, block);
     }
 
-    /// Writes the line, which waits as it did.
+    /// The line moves to its next state, and changes so, but it waits as it did.
     #[inline(always)]
-    fn put_line(&mut self, core: u32, block: u32, line: Line<Kept<B>>)
+    fn move_line(&mut self, core: u32, block: u32, next: CacheState, change: Change)
         requires core { core < self.old.situation.shape.cores }
         requires block { block < self.old.situation.shape.blocks }
-        requires same { waiting_request line.state ≡ waiting_request (state_of self.old.situation core block) }
+        requires words { IsOfWords self.old.situation.shape.words change }
+        requires same { waiting_request next ≡ waiting_request (state_of self.old.situation core block) }
         requires held { state_of self.old.situation core block ≢ I }
-        requires proper { IsProper line }
-        ensures written { self.new.situation ≡ with_picture self.old.situation block (with_line (picture_of self.old.situation block) core line) }
+        requires proper { IsProper (changed next change (held_by (picture_of self.old.situation block) core)) }
+        ensures written { self.new.situation ≡ with_picture self.old.situation block (with_line (picture_of self.old.situation block) core (changed next change (held_by (picture_of self.old.situation block) core))) }
         ensures room { KeepsRoom self.old self.new }
         ensures lines { (k : ℕ) → LosesLines self.old self.new k }
     {
-        self.lines.set(core, block, line);
+        self.lines.change(core, block, next, change);
     }
 
-    /// Writes the line after a hit, and logs the operation.
+    /// The line moves to its next state by a hit, which is performed on its words and logged.
     #[inline(always)]
-    fn hit_line(&mut self, core: u32, block: u32, access: Access, line: Line<Kept<B>>, value: u64)
+    fn hit_line(&mut self, core: u32, block: u32, next: CacheState, access: Access, value: u64)
         requires core { core < self.old.situation.shape.cores }
         requires block { block < self.old.situation.shape.blocks }
         requires word { IsWord self.old.situation.shape access.word }
         requires room { 0 < self.old.room }
-        requires same { waiting_request line.state ≡ waiting_request (state_of self.old.situation core block) }
+        requires same { waiting_request next ≡ waiting_request (state_of self.old.situation core block) }
         requires held { state_of self.old.situation core block ≢ I }
-        requires proper { IsProper line }
-        ensures written { self.new.situation ≡ record (with_picture self.old.situation block (with_line (picture_of self.old.situation block) core line)) { log = self.old.situation.log ++ ItemDid (next_did self.old.situation.log core block access.word access.op value true) ∷ [] } }
+        requires proper { IsProper (changed next (Hit access) (held_by (picture_of self.old.situation block) core)) }
+        ensures written { self.new.situation ≡ record (with_picture self.old.situation block (with_line (picture_of self.old.situation block) core (changed next (Hit access) (held_by (picture_of self.old.situation block) core)))) { log = self.old.situation.log ++ ItemDid (next_did self.old.situation.log core block access.word access.op value true) ∷ [] } }
         ensures room { KeepsRoom self.old self.new }
         ensures lines { (k : ℕ) → LosesLines self.old self.new k }
     {
         let did = self.next_did(core, block, access, value, true);
-        self.put_line(core, block, line);
+        self.move_line(core, block, next, Change::Hit(access));
         self.log.push(Item::Did(did));
     }
 }

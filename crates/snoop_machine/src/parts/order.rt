@@ -1,5 +1,5 @@
 //! An Order: found, and made.
-ghost use Rattle.std.specs.Prelude.{◌≡◌, ◌<◌, ℕ, IfOk, IfErr, IfSome, IfNone, None, Err, slice_get};
+ghost use Rattle.std.specs.Prelude.{◌≡◌, ◌<◌, ◌≤◌, ℕ, IfOk, IfErr, IfSome, IfNone, None, Err, slice_get};
 ghost use Rattle.snoop_rules.specs.Takers.{at_memory};
 ghost use Rattle.snoop_bus.specs.Queues.{queue_of};
 ghost use Rattle.snoop_model.specs.declared.replies.Refused.{Refused};
@@ -12,14 +12,18 @@ ghost use Rattle.snoop_model.specs.Pictures.Message.{IsMessage};
 ghost use Rattle.snoop_model.specs.Moves.Move.{Orders, TakesMemRow};
 ghost use Rattle.snoop_model.specs.Moves.OrderMove.{IsHead};
 ghost use Rattle.snoop_model.specs.Moves.StepMove.{IsDenied};
-ghost use Rattle.snoop_machine.specs.Plan.{IsPlanFor};
+ghost use Rattle.snoop_model.specs.Pictures.Sends.{value_sent};
+ghost use Rattle.std.specs.Option.{ForSome};
+ghost use Rattle.snoop_machine.specs.Plan.{IsPlanFor, message_sent};
 ghost use Rattle.snoop_model.specs.Invariant.Invariant.{Invariant};
 
 use super::Parts;
+use crate::cache::words_of;
+use crate::order::Sending;
 use crate::plan::Plan;
 use snoop_history::{Item, Sent};
-use snoop_model::{MemLine, Message, Refused};
-use snoop_rules::{MemState, Request, event_at_memory, mem_cell};
+use snoop_model::Refused;
+use snoop_rules::{MemState, Payload, Request, carries_value, event_at_memory, mem_cell};
 use snoop_trace::{Block, Kept};
 
 impl<B: Block> Parts<B> {
@@ -34,7 +38,7 @@ impl<B: Block> Parts<B> {
 
     /// What an Order will do, of a core that there is.
     #[inline(always)]
-    pub(super) fn plan_order(&self, core: u32) -> Result<Plan<Kept<B>>, Refused>
+    pub(super) fn plan_order(&self, core: u32) -> Result<Plan, Refused>
         requires core { core < self.now.situation.shape.cores }
         requires inductive { Invariant self.now.situation }
         ensures found { IfOk result (λ plan. IsPlanFor self.now.situation (Order core) plan) }
@@ -47,20 +51,50 @@ impl<B: Block> Parts<B> {
         if self.transaction(block).is_some() {
             return Err(Refused::BusTaken(block));
         }
-        let memory = self.memory_line(block);
-        let Some(cell) = mem_cell(self.protocol, memory.state, event_at_memory(request)) else {
+        let Some(cell) = mem_cell(
+            self.protocol,
+            self.memory_state(block),
+            event_at_memory(request),
+        ) else {
             unreachable!();
         };
-        let message = self
+        let Sending { from, payload } = self
             .lines
-            .message(self.protocol, memory, core, request, block);
+            .sender(self.protocol, &self.memory, core, request, block);
         Ok(Plan::Order {
             core,
             request,
             block,
-            message,
+            from,
+            payload,
             memory: cell.next,
         })
+    }
+
+    /// The words of a message with this sender and payload.
+    #[inline(always)]
+    fn words_sent(&self, block: u32, from: Option<u32>, payload: Payload) -> Kept<B>
+        requires few { B.count ≤ 64 }
+        requires block { block < self.now.situation.shape.blocks }
+        requires sender { ForSome from (λ sender. sender < self.now.situation.shape.cores) }
+        ensures { result ≡ value_sent (picture_of self.now.situation block) from payload }
+    {
+        match from {
+            Some(sender) => {
+                if carries_value(payload) {
+                    words_of(self.line(sender, block))
+                } else {
+                    Kept::zero()
+                }
+            }
+            None => {
+                if carries_value(payload) {
+                    self.memory_words(block)
+                } else {
+                    Kept::zero()
+                }
+            }
+        }
     }
 
     /// Each core and memory take their rows for the core's oldest request, and its transaction opens.
@@ -70,7 +104,8 @@ impl<B: Block> Parts<B> {
         core: u32,
         request: Request,
         block: u32,
-        message: Message<Kept<B>>,
+        from: Option<u32>,
+        payload: Payload,
         memory: MemState,
     )
         requires core { core < self.old.situation.shape.cores }
@@ -78,20 +113,16 @@ impl<B: Block> Parts<B> {
         requires room { 0 < self.old.room }
         requires free { (picture_of self.old.situation block).transaction ≡ None }
         requires memory { TakesMemRow self.old.situation.protocol (at_memory request) (picture_of self.old.situation block).memory.state memory }
-        requires message { IsMessage self.old.situation.protocol (picture_of self.old.situation block) core request message }
+        requires message { IsMessage self.old.situation.protocol (picture_of self.old.situation block) core request (message_sent (picture_of self.old.situation block) from payload) }
         ensures ordered { Orders self.old.situation core block request self.new.situation }
         ensures room { KeepsRoom self.old self.new }
         ensures lines { (k : ℕ) → LosesLines self.old self.new k }
     {
-        let before = self.memory_line(block);
-        self.lines.take_rows(self.protocol, core, request, block);
-        let after = MemLine {
-            state: memory,
-            value: before.value,
-        };
-        self.memory.set(block, after);
-        self.bus
-            .start(core, message.payload, message.value, message.from);
+        let protocol = self.protocol;
+        let words = self.words_sent(block, from, payload);
+        self.lines.take_rows(protocol, core, request, block);
+        self.memory.move_to(block, memory);
+        self.bus.start(core, payload, words, from);
         self.log.push(Item::Sent(Sent {
             core,
             request,

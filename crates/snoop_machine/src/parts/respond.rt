@@ -1,5 +1,5 @@
 //! A Respond: found, and made.
-ghost use Rattle.std.specs.Prelude.{◌≡◌, ◌≢◌, ◌<◌, ℕ, IfOk, IfErr, Some, None, Err};
+ghost use Rattle.std.specs.Prelude.{◌≡◌, ◌≢◌, ◌<◌, ℕ, IfOk, IfErr, IfSome, Some, None, Err, false, option_map};
 ghost use Rattle.std.specs.Option.{ForSome};
 ghost use Rattle.snoop_trace.specs.declared.step.Step.TheVariants.{Respond};
 ghost use Rattle.snoop_trace.specs.Words.{IsWord};
@@ -8,26 +8,29 @@ ghost use Rattle.snoop_model.specs.Moves.Standing.{KeepsRoom};
 ghost use Rattle.snoop_machine.specs.Following.{LosesLines};
 ghost use Rattle.snoop_model.specs.Pictures.Situation.{picture_of};
 ghost use Rattle.snoop_model.specs.Pictures.Picture.{held_by};
-ghost use Rattle.snoop_model.specs.Moves.Move.{Fills, ArrivesAtMemory, Responds, came_of};
+ghost use Rattle.snoop_model.specs.Moves.Move.{Fills, Settles, RespondMove, came_of, next_did};
 ghost use Rattle.snoop_model.specs.Moves.StepMove.{IsDenied};
+ghost use Rattle.snoop_machine.specs.Cache.{filled_line};
 ghost use Rattle.snoop_machine.specs.Plan.{IsPlanFor};
 ghost use Rattle.snoop_model.specs.Invariant.Invariant.{Invariant};
 ghost use Rattle.snoop_model.specs.Moves.Refuses.{Refuses};
 ghost use Rattle.snoop_model.specs.declared.replies.Refused.{Refused};
+ghost use Rattle.snoop_model.specs.declared.replies.Reply.TheVariants as reply;
+ghost use Rattle.snoop_history.specs.declared.items.Item.TheVariants.{Came as ItemCame};
 
 use super::Parts;
 use crate::plan::Plan;
-use crate::respond::{Filled, arrive, fill};
+use crate::respond::{Filled, fill, settle};
 use snoop_bus::Open;
 use snoop_history::{Came, Did, Item};
-use snoop_model::{MemLine, Refused};
-use snoop_rules::Request;
+use snoop_model::Refused;
+use snoop_rules::{MemCell, Request};
 use snoop_trace::{Block, Kept};
 
 impl<B: Block> Parts<B> {
     /// What a Respond will do, of a block that there is.
     #[inline(always)]
-    pub(super) fn plan_respond(&self, block: u32) -> Result<Plan<Kept<B>>, Refused>
+    pub(super) fn plan_respond(&self, block: u32) -> Result<Plan, Refused>
         requires block { block < self.now.situation.shape.blocks }
         requires inductive { Invariant self.now.situation }
         ensures found { IfOk result (λ plan. IsPlanFor self.now.situation (Respond block) plan) }
@@ -37,20 +40,25 @@ impl<B: Block> Parts<B> {
         let Some(closing) = self.transaction(block) else {
             return Err(Refused::NoTransaction);
         };
-        let before = self.memory_line(block);
-        let memory = arrive(self.protocol, before, &closing);
+        let memory = settle(
+            self.protocol,
+            self.memory_state(block),
+            closing.request,
+            closing.payload,
+        );
+        let came = came(&closing);
         if matches!(&closing.request, Request::PutM) {
             return Ok(Plan::Writeback {
                 block,
-                closing,
+                came,
                 memory,
             });
         }
-        let line = self.line(closing.core, block);
-        let filled = fill(self.protocol, line, &closing);
+        let found = self.line(closing.core, block);
+        let filled = fill(self.protocol, found, &closing);
         Ok(Plan::Fill {
             block,
-            closing,
+            came,
             memory,
             filled,
         })
@@ -58,27 +66,24 @@ impl<B: Block> Parts<B> {
 
     /// Memory takes the message of a PutM, and its transaction closes.
     #[inline(always)]
-    pub(super) fn finish_put(
-        &mut self,
-        block: u32,
-        closing: Open<Kept<B>>,
-        memory: MemLine<Kept<B>>,
-    )
-        requires core { closing.core < self.old.situation.shape.cores }
-        requires sender { ForSome closing.from (λ sender. sender < self.old.situation.shape.cores) }
+    pub(super) fn finish_put(&mut self, block: u32, came: Came, memory: MemCell)
+        requires core { came.core < self.old.situation.shape.cores }
+        requires sender { ForSome came.from (λ sender. sender < self.old.situation.shape.cores) }
         requires block { block < self.old.situation.shape.blocks }
-        requires its { closing.block ≡ block }
+        requires its { came.block ≡ block }
         requires room { 0 < self.old.room }
-        requires opened { (picture_of self.old.situation block).transaction ≡ Some closing }
-        requires put { closing.request ≡ PutM }
-        requires memory { ArrivesAtMemory closing self.old.situation.protocol (picture_of self.old.situation block).memory memory }
-        ensures responded { Responds self.old.situation block closing None self.new.situation }
+        requires opened { option_map came_of (picture_of self.old.situation block).transaction ≡ Some came }
+        requires put { came.request ≡ PutM }
+        requires settles { Settles self.old.situation.protocol came.request came.payload (picture_of self.old.situation block).memory.state memory.action memory.next }
+        ensures responded { RespondMove block self.old.situation block (reply.Came came.payload came.from None) self.new.situation (Some (ItemCame came None)) }
         ensures room { KeepsRoom self.old self.new }
         ensures lines { (k : ℕ) → LosesLines self.old self.new k }
     {
-        self.memory.set(block, memory);
-        let _ = self.bus.finish(block);
-        self.log.push(Item::Came(came(closing), None));
+        let Some(closing) = self.bus.finish(block) else {
+            unreachable!();
+        };
+        self.memory.settle(block, memory, &closing.value);
+        self.log.push(Item::Came(came, None));
     }
 
     /// The requestor and memory take the message of a GetS or GetM, and its transaction closes.
@@ -86,42 +91,44 @@ impl<B: Block> Parts<B> {
     pub(super) fn finish_get(
         &mut self,
         block: u32,
-        closing: Open<Kept<B>>,
-        filled: Filled<Kept<B>>,
-        memory: MemLine<Kept<B>>,
+        came: Came,
+        filled: Filled,
+        memory: MemCell,
     ) -> Did
-        requires core { closing.core < self.old.situation.shape.cores }
-        requires sender { ForSome closing.from (λ sender. sender < self.old.situation.shape.cores) }
+        requires core { came.core < self.old.situation.shape.cores }
+        requires sender { ForSome came.from (λ sender. sender < self.old.situation.shape.cores) }
         requires block { block < self.old.situation.shape.blocks }
-        requires its { closing.block ≡ block }
+        requires its { came.block ≡ block }
         requires room { 0 < self.old.room }
-        requires opened { (picture_of self.old.situation block).transaction ≡ Some closing }
-        requires get { closing.request ≢ PutM }
-        requires filled { Fills closing self.old.situation.protocol (held_by (picture_of self.old.situation block) closing.core) filled.line filled.access filled.value }
+        requires opened { option_map came_of (picture_of self.old.situation block).transaction ≡ Some came }
+        requires get { came.request ≢ PutM }
+        requires filled { IfSome (picture_of self.old.situation block).transaction (λ closing. Fills closing self.old.situation.protocol (held_by (picture_of self.old.situation block) closing.core) (filled_line filled.next filled.access closing.value) filled.access filled.value) }
         requires word { IsWord self.old.situation.shape filled.access.word }
-        requires memory { ArrivesAtMemory closing self.old.situation.protocol (picture_of self.old.situation block).memory memory }
-        ensures responded { Responds self.old.situation block closing (Some result) self.new.situation }
+        requires settles { Settles self.old.situation.protocol came.request came.payload (picture_of self.old.situation block).memory.state memory.action memory.next }
+        ensures responded { RespondMove block self.old.situation block (reply.Came came.payload came.from (Some result)) self.new.situation (Some (ItemCame came (Some (next_did self.old.situation.log came.core came.block filled.access.word filled.access.op filled.value false)))) }
         ensures room { KeepsRoom self.old self.new }
         ensures lines { (k : ℕ) → LosesLines self.old self.new k }
     {
-        let did = self.next_did(
+        let did = self.next_did(came.core, came.block, filled.access, filled.value, false);
+        let Some(closing) = self.bus.finish(block) else {
+            unreachable!();
+        };
+        self.lines.fill(
             closing.core,
-            closing.block,
+            block,
+            filled.next,
             filled.access,
-            filled.value,
-            false,
+            &closing.value,
         );
-        self.lines.set(closing.core, block, filled.line);
-        self.memory.set(block, memory);
-        let _ = self.bus.finish(block);
-        self.log.push(Item::Came(came(closing), Some(did)));
+        self.memory.settle(block, memory, &closing.value);
+        self.log.push(Item::Came(came, Some(did)));
         did
     }
 }
 
 /// The response, as the history has it.
-pub(super) fn came<B: Block>(closing: Open<Kept<B>>) -> Came
-    ensures { result ≡ came_of closing }
+fn came<B: Block>(closing: &Open<Kept<B>>) -> Came
+    ensures { result ≡ came_of closing.now }
 {
     Came {
         core: closing.core,

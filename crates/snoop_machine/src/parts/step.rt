@@ -16,12 +16,11 @@ ghost use Rattle.snoop_model.specs.Invariant.Invariant.{Invariant};
 ghost use Rattle.snoop_model.specs.declared.replies.Refused.{Refused};
 
 use super::Parts;
-use super::respond::came;
 use crate::ask::Asked;
 use crate::plan::Plan;
 use snoop_history::{Item, Sent};
 use snoop_model::{Access, Refused, Reply};
-use snoop_trace::{Block, Kept, NoMemory, Op, Step};
+use snoop_trace::{Block, NoMemory, Op, Step};
 
 impl<B: Block> Parts<B> {
     /// Takes one step: finds all that it will do, makes the room, and does it. A refused step changes nothing.
@@ -67,7 +66,7 @@ impl<B: Block> Parts<B> {
 
     /// What the step will do, or why it is refused.
     #[inline(always)]
-    fn planned(&self, step: Step) -> Result<Plan<Kept<B>>, Refused>
+    fn planned(&self, step: Step) -> Result<Plan, Refused>
         requires { Invariant self.now.situation }
         ensures found { IfOk result (λ plan. IsPlanFor self.now.situation step plan) }
         ensures denied { IfErr result (λ cause. IsDenied self.now.situation step cause) }
@@ -98,7 +97,7 @@ impl<B: Block> Parts<B> {
 
     /// Makes room for what the plan adds.
     #[inline(always)]
-    fn make_room(&mut self, plan: &Plan<Kept<B>>) -> Result<(), NoMemory>
+    fn make_room(&mut self, plan: &Plan) -> Result<(), NoMemory>
         requires { IsPlan self.old.situation plan.now }
         ensures ok { OnOk result (HasRoom self.new plan.now) }
         ensures full { OnErr result (room_for self.old plan.now ≡ 0) }
@@ -120,12 +119,7 @@ impl<B: Block> Parts<B> {
 
     /// Makes room for what an Ask of the core adds.
     #[inline(always)]
-    fn make_room_to_ask(
-        &mut self,
-        core: u32,
-        block: u32,
-        asked: &Asked<Kept<B>>,
-    ) -> Result<(), NoMemory>
+    fn make_room_to_ask(&mut self, core: u32, block: u32, asked: &Asked) -> Result<(), NoMemory>
         requires { core < self.old.situation.shape.cores }
         ensures ok { OnOk result (HasRoomToAsk self.new core block asked.now) }
         ensures full { OnErr result (room_for_ask self.old core block asked.now ≡ 0) }
@@ -222,7 +216,7 @@ impl<B: Block> Parts<B> {
 
     /// Does what the plan says.
     #[inline(always)]
-    fn perform(&mut self, plan: Plan<Kept<B>>) -> Reply
+    fn perform(&mut self, plan: Plan) -> Reply
         requires found { IsPlan self.old.situation plan }
         requires room { HasRoom self.old plan }
         ensures moved { FirstMove self.old.situation (step_of plan) result self.new.situation (entry_of self.old.situation.log plan) }
@@ -241,36 +235,35 @@ impl<B: Block> Parts<B> {
                 core,
                 request,
                 block,
-                message,
+                from,
+                payload,
                 memory,
             } => {
-                self.start(core, request, block, message, memory);
+                self.start(core, request, block, from, payload, memory);
                 Reply::Ordered(request)
             }
             Plan::Writeback {
                 block,
-                closing,
+                came,
                 memory,
             } => {
-                let (payload, from) = (closing.payload, closing.from);
-                self.finish_put(block, closing, memory);
+                self.finish_put(block, came, memory);
                 Reply::Came {
-                    payload,
-                    from,
+                    payload: came.payload,
+                    from: came.from,
                     did: None,
                 }
             }
             Plan::Fill {
                 block,
-                closing,
+                came,
                 memory,
                 filled,
             } => {
-                let (payload, from) = (closing.payload, closing.from);
-                let did = self.finish_get(block, closing, filled, memory);
+                let did = self.finish_get(block, came, filled, memory);
                 Reply::Came {
-                    payload,
-                    from,
+                    payload: came.payload,
+                    from: came.from,
                     did: Some(did),
                 }
             }
@@ -278,7 +271,7 @@ impl<B: Block> Parts<B> {
     }
 
     /// The item that the planned step adds.
-    fn item(&self, plan: Plan<Kept<B>>) -> Option<Item>
+    fn item(&self, plan: Plan) -> Option<Item>
         requires { IsPlan self.now.situation plan }
         ensures { result ≡ entry_of self.now.situation.log plan }
     {
@@ -301,20 +294,10 @@ impl<B: Block> Parts<B> {
                 request,
                 block,
             })),
-            Plan::Writeback { closing, .. } => Some(Item::Came(came(closing), None)),
-            Plan::Fill {
-                closing,
-                filled,
-                ..
-            } => {
-                let did = self.next_did(
-                    closing.core,
-                    closing.block,
-                    filled.access,
-                    filled.value,
-                    false,
-                );
-                Some(Item::Came(came(closing), Some(did)))
+            Plan::Writeback { came, .. } => Some(Item::Came(came, None)),
+            Plan::Fill { came, filled, .. } => {
+                let did = self.next_did(came.core, came.block, filled.access, filled.value, false);
+                Some(Item::Came(came, Some(did)))
             }
         }
     }

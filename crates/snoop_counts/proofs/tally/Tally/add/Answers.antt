@@ -10,7 +10,7 @@ use Rattle.snoop_counts.proofs.tally.Tally.add.Goals as goal
 pub returns : goal.returns
 returns c whose many seen before =
     let old = c.args.self.now in
-    let it = c.args.happening in
+    let it = c.args.happening.now in
     let by : Count → Tally → Tally = λ count tally. record tally { rows = raised_by tally.subjects count it tally.rows } in
     let is : c.count-2.new.self ≡ record old { rows = all_raised old.subjects it old.rows } = c.count-2.ensures ∙ ap (by Supplied) (c.count.ensures ∙ ap (by Invalidates) c.add_own.ensures) in
     let raises = raises_all old.subjects it old.rows in

@@ -24,6 +24,6 @@ returns-clause-blocks g c =
     let room : 0 < spare m = subst (λ (cache : Contents). 0 < cache.spare) (sym c.self.view_is) c.requires.room in
     let absent : is_some (lookup (nat_eq block) m.entries) ≡ false = subst (λ (cache : Contents). is_some (lookup (nat_eq block) cache.entries) ≡ false) (sym c.self.view_is) c.requires.absent in
     ap (λ (es : List (ℕ × Line)). keys_of es) (on_ok c.insert.result c.insert.ensures.entries (c.insert.ensures.succeeds room))
-    ∙ (ap (λ (es : List (ℕ × Line)). keys_of es) (insert_entry-new nat_eq m block c.new.result (none (lookup (nat_eq block) m.entries) absent))
-    ∙ (map-append (λ (e : ℕ × Line). e.0) m.entries ((block, c.new.result) ∷ [])
+    ∙ (ap (λ (es : List (ℕ × Line)). keys_of es) (insert_entry-new nat_eq m block c.nothing.result (none (lookup (nat_eq block) m.entries) absent))
+    ∙ (map-append (λ (e : ℕ × Line). e.0) m.entries ((block, c.nothing.result) ∷ [])
     ∙ ap (λ (cache : Contents). blocks_of cache ++ block ∷ []) c.self.view_is))

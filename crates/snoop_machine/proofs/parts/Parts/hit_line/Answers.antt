@@ -6,5 +6,5 @@ use Rattle.snoop_machine.proofs.parts.Parts.hit_line.Goals as goal
 pub returns-clause-lines : goal.returns-clause-lines
 returns-clause-lines g c k =
     let P : Standing → Type 0 = λ s. LosesLines c.args.self.now s k in
-    let loses = subst P (sym c.self.view_is) (c.put_line.ensures.lines k) in
+    let loses = subst P (sym c.self.view_is) (c.move_line.ensures.lines k) in
     record { lowered = loses.lowered; same = loses.same }

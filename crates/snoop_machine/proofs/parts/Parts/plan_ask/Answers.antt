@@ -24,7 +24,7 @@ returns-in_err-asked-clause-denied g c =
     let Q : Standing → Type 0 = λ x. RefusesAsk x.situation.protocol (held_by (picture_of s c.args.block) c.args.core) c.args.op c.in_err-asked.field-0.0 in
     let p = err_from_is_err_and c.from_residual.result c.from_residual.ensures.1 in
     rw (p.1, p.2) (IsDenied-ask s c.args.core c.args.block c.args.word c.args.op c.in_err-asked.field-0.0 c.requires.core c.requires.block c.requires.word
-    (subst Q c.self.view_is (subst P c.line-line.ensures.line c.in_err-asked.ensures.refused)))
+    (subst Q c.self.view_is (subst P c.line-found.ensures.line c.in_err-asked.ensures.refused)))
 
 pub returns-clause-exactly : goal.returns-clause-exactly
 returns-clause-exactly g c =
@@ -33,8 +33,8 @@ returns-clause-exactly g c =
     let P : Line → Type 0 = λ line. TakesAsk c.self.inside.protocol line c.args.word c.args.op asked in
     let Q : Standing → Type 0 = λ x. TakesAsk x.situation.protocol (held_by (picture_of s c.args.block) c.args.core) c.args.word c.args.op asked in
     let R : Line → Type 0 = λ line. IsProper line in
-    let takes = subst Q c.self.view_is (subst P c.line-line.ensures.line c.in_ok-asked.ensures.taken) in
-    let proper = subst R c.line-line.ensures.line c.line-line.ensures.proper in
+    let takes = subst Q c.self.view_is (subst P c.line-found.ensures.line c.in_ok-asked.ensures.taken) in
+    let proper = subst R c.line-found.ensures.line c.line-found.ensures.proper in
     λ cause refuses. absurd (plan-allowed s (plan.Ask c.args.core c.args.block c.args.word c.args.op asked) ((c.requires.core, c.requires.block), takes, proper, c.requires.word) cause refuses)
 
 pub ask-requires-clause-possible : goal.ask-requires-clause-possible
@@ -44,7 +44,7 @@ ask-requires-clause-possible g c =
     let P : Line → Type 0 = λ x. (¬ ((c.args.op ≡ Evict) × (x.state ≡ I))) → HasRow c.self.inside.protocol x.state (event_of c.args.op) in
     let Q : Standing → Type 0 = λ x. (¬ ((c.args.op ≡ Evict) × (line.state ≡ I))) → HasRow x.situation.protocol line.state (event_of c.args.op) in
     let finds = finds_rows s c.requires.inductive (Ask c.args.core c.args.block c.args.word c.args.op) in
-    subst P (sym c.line-line.ensures.line) (subst Q (sym c.self.view_is) (λ busy. finds.cache c.args.core c.args.block (Some (event_of c.args.op)) (refl, refl, busy, refl)))
+    subst P (sym c.line-found.ensures.line) (subst Q (sym c.self.view_is) (λ busy. finds.cache c.args.core c.args.block (Some (event_of c.args.op)) (refl, refl, busy, refl)))
 
 pub ask-requires-clause-word : goal.ask-requires-clause-word
 ask-requires-clause-word g c =

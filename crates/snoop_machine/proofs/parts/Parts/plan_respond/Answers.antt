@@ -1,9 +1,14 @@
 use Rattle.std.proofs.Common.{rules, ◌≡◌, ◌≢◌, true, false, Some, refl, sym, ap, ◌∙◌, subst}
-use Rattle.std.specs.Prelude.{IsSomeAnd, IsTrue}
+use Rattle.std.specs.Prelude.{Option, IfSome, IsSomeAnd, IsTrue, option_map}
+use Rattle.snoop_rules.specs.declared.names.MemState.{MemState}
+use Rattle.snoop_bus.specs.Traffic.{Open}
+use Rattle.snoop_history.specs.declared.items.Came.{Came}
+use Rattle.snoop_model.specs.Moves.Move.{Fills, Settles, came_of}
+use Rattle.snoop_machine.specs.Cache.{filled_line}
 use Rattle.snoop_trace.specs.declared.step.Step.TheVariants.{Respond}
 use Rattle.snoop_rules.specs.declared.names.Request.TheVariants.{PutM}
 use Rattle.snoop_rules.specs.Takers.{arrival, arrival_at_memory, takes_payload}
-use Rattle.snoop_model.specs.Pictures.Lines.{Line, MemLine}
+use Rattle.snoop_model.specs.Pictures.Lines.{Line}
 use Rattle.snoop_model.specs.Moves.Standing.{Standing}
 use Rattle.snoop_model.specs.Pictures.Situation.{picture_of}
 use Rattle.snoop_model.specs.Pictures.Picture.{held_by}
@@ -11,18 +16,19 @@ use Rattle.snoop_model.specs.Moves.LookUps.{HasRow, HasMemRow}
 use Rattle.snoop_model.proofs.Invariant.Coherence.{finds_rows, sender_within}
 use Rattle.snoop_machine.specs.Plan.{IsClosing}
 use Rattle.snoop_machine.proofs.WordsHeld.{waiting_held}
+use Rattle.snoop_machine.proofs.parts.Parts.plan_respond.Given.{Over}
 use Rattle.snoop_machine.proofs.parts.Parts.plan_respond.Goals as goal
-use Rattle.snoop_machine.proofs.parts.Parts.plan_respond.Goals.{in-PutM, in_default-matches}
+use Rattle.snoop_machine.proofs.parts.Parts.plan_respond.Goals.{in-PutM, in_default-matches, After-came-came}
 
-pub arrive-memory-requires : goal.arrive-memory-requires
-arrive-memory-requires g c =
+pub settle-memory-requires : goal.settle-memory-requires
+settle-memory-requires g c =
     let s = c.args.self.now.situation in
     let block = c.args.block in
     let closing = c.in-Some.closing in
-    let P : MemLine → Type 0 = λ x. IsTrue (takes_payload closing.request x.state) → IsSomeAnd (arrival_at_memory closing.payload) (HasMemRow c.self.inside.protocol x.state) in
+    let P : MemState → Type 0 = λ x. IsTrue (takes_payload closing.request x) → IsSomeAnd (arrival_at_memory closing.payload) (HasMemRow c.self.inside.protocol x) in
     let Q : Standing → Type 0 = λ x. IsTrue (takes_payload closing.request (picture_of s block).memory.state) → IsSomeAnd (arrival_at_memory closing.payload) (HasMemRow x.situation.protocol (picture_of s block).memory.state) in
     let finds = finds_rows s c.requires.inductive (Respond block) in
-    subst P (sym c.memory_line-before.ensures) (subst Q (sym c.self.view_is)
+    subst P (sym c.memory_state.ensures) (subst Q (sym c.self.view_is)
     (λ takes. finds.memory block (arrival_at_memory closing.payload) (closing, (refl, sym c.transaction.ensures.value ∙ c.in-Some.is, takes, refl))))
 
 pub fill-filled-requires-clause-possible : goal.fill-filled-requires-clause-possible
@@ -37,30 +43,53 @@ fill-filled-requires-clause-possible g c =
     let P : Line → Type 0 = λ x. IsSomeAnd (arrival closing.payload) (HasRow c.self.inside.protocol x.state) in
     let Q : Standing → Type 0 = λ x. IsSomeAnd (arrival closing.payload) (HasRow x.situation.protocol line.state) in
     let finds = finds_rows s c.requires.inductive (Respond c.args.block) in
-    subst P (sym c.line-line.ensures.line) (subst Q (sym c.self.view_is)
+    subst P (sym c.line-found.ensures.line) (subst Q (sym c.self.view_is)
     (finds.cache closing.core c.args.block (arrival closing.payload) (closing, (refl, sym c.transaction.ensures.value ∙ c.in-Some.is, refl, get, refl))))
 
 pub fill-filled-requires-clause-word : goal.fill-filled-requires-clause-word
 fill-filled-requires-clause-word g c =
     let held = sym (ap (λ (x : Standing). x.situation.shape.words) c.self.view_is) ∙ c.self.invariant.sized.held in
-    rw c.line-line.ensures.line (waiting_held c.args.self.now.situation _ c.in-Some.closing.core c.args.block held c.requires.inductive)
+    rw c.line-found.ensures.line (waiting_held c.args.self.now.situation _ c.in-Some.closing.core c.args.block held c.requires.inductive)
+
+-- the transaction is open
+opened : (g : Over) (c : After-came-came g) → (picture_of c.args.self.now.situation c.args.block).transaction ≡ Some c.in-Some.closing
+opened g c = sym c.transaction.ensures.value ∙ c.in-Some.is
+
+closes : (g : Over) (c : After-came-came g) → IsClosing c.args.self.now.situation c.args.block c.came-came.result c.settle-memory.result
+closes g c =
+    let s = c.args.self.now.situation in
+    let closing = c.in-Some.closing in
+    let P : Came → Type 0 = λ came. IsClosing s c.args.block came c.settle-memory.result in
+    let Q : MemState → Type 0 = λ x. Settles c.self.inside.protocol closing.request closing.payload x c.settle-memory.result.action c.settle-memory.result.next in
+    let R : Standing → Type 0 = λ x. Settles x.situation.protocol closing.request closing.payload (picture_of s c.args.block).memory.state c.settle-memory.result.action c.settle-memory.result.next in
+    subst P (sym c.came-came.ensures) (record {
+      opened = ap (λ (o : Option Open). option_map came_of o) (opened g c);
+      its = c.in-Some.ensures.within.0;
+      core = c.in-Some.ensures.within.1;
+      sender = sender_within s c.requires.inductive c.args.block closing (opened g c);
+      settles = subst R c.self.view_is (subst Q c.memory_state.ensures c.settle-memory.ensures);
+    })
+
+pub returns-then-matches-clause-found : goal.returns-then-matches-clause-found
+returns-then-matches-clause-found g c =
+    let d = (goal.at.returns-then-matches-clause-found g c).After-came-came in
+    let put : c.in-Some.closing.request ≡ PutM = search rules in
+    (refl, (c.requires.block, closes g d, ap (λ (x : Came). x.request) c.came-came.ensures ∙ put))
 
 pub returns-clause-found : goal.returns-clause-found
 returns-clause-found g c =
+    let d = (goal.at.returns-clause-found g c).After-came-came in
     let s = c.args.self.now.situation in
     let block = c.args.block in
     let closing = c.in-Some.closing in
-    let opened : (picture_of s block).transaction ≡ Some closing = sym c.transaction.ensures.value ∙ c.in-Some.is in
     let get : closing.request ≢ PutM = elim c.match-matches.branch [
       | in-PutM w ↦ λ e. (let clash : true ≡ false = sym w.matches-is ∙ c.if-matches.false in cc)
       | in_default-matches w ↦ w.in_default-matches.not-PutM
     ] in
-    let closes : IsClosing s block closing c.arrive-memory.result = record {
-      opened = opened;
-      its = c.in-Some.ensures.within.0;
-      core = c.in-Some.ensures.within.1;
-      sender = sender_within s c.requires.inductive block closing opened;
-      arrives = search rules;
-    } in
-    let waits = ap (λ (x : Line). x.waiting) (sym c.line-line.ensures.line) ∙ c.fill-filled.ensures.waited in
-    (refl, (c.requires.block, closes, get, search rules, c.requires.inductive.accesses closing.core block c.fill-filled.result.access waits))
+    let filled = c.fill-filled.result in
+    let P : Line → Type 0 = λ x. Fills closing c.self.inside.protocol x (filled_line filled.next filled.access closing.value) filled.access filled.value in
+    let Q : Standing → Type 0 = λ x. Fills closing x.situation.protocol (held_by (picture_of s block) closing.core) (filled_line filled.next filled.access closing.value) filled.access filled.value in
+    let F : Option Open → Type 0 = λ o. IfSome o (λ x. Fills x s.protocol (held_by (picture_of s block) x.core) (filled_line filled.next filled.access x.value) filled.access filled.value) in
+    let fills = subst Q c.self.view_is (subst P c.line-found.ensures.line c.fill-filled.ensures) in
+    let waits = ap (λ (x : Line). x.waiting) (sym c.line-found.ensures.line) ∙ c.fill-filled.ensures.waited in
+    (refl, (c.requires.block, closes g d, (λ e. get (sym (ap (λ (x : Came). x.request) c.came-came.ensures) ∙ e)), subst F (sym (opened g d)) fills, c.requires.inductive.accesses closing.core block filled.access waits))

@@ -21,7 +21,7 @@ invariant_of-result g c =
       sized = record {
         few = search rules;
         lines = ap (λ (l : List (List ℕ)). length l) c.in_ok-lines.ensures.lines ∙ length-replicate c.args.shape.cores [];
-        memory = ap (λ (l : List MemLine). length l) c.in_ok-memory.ensures ∙ (length-replicate c.blocks-2.result (record { state = c.first_state.result; value = c.zero.result }) ∙ c.blocks-2.ensures.value);
+        memory = ap (λ (l : List MemLine). length l) c.in_ok-memory.ensures ∙ (length-replicate c.blocks-2.result (record { state = c.first_state.result; value = zero_words }) ∙ c.blocks-2.ensures.value);
         cores = ap (λ (j : Journal). j.cores) c.in_ok-log.ensures;
         blocks = ap (λ (j : Journal). j.blocks) c.in_ok-log.ensures;
         words = ap (λ (j : Journal). j.words) c.in_ok-log.ensures;
@@ -35,9 +35,8 @@ pub returns-clause-situation : goal.returns-clause-situation
 returns-clause-situation g c =
     let items : c.in_ok-memory.memory ≡ replicate c.args.shape.blocks (record { state = first_memory c.args.protocol; value = zero_words }) =
     c.in_ok-memory.ensures
-    ∙ (ap (λ (n : ℕ). let l : List MemLine = replicate n (record { state = c.first_state.result; value = c.zero.result }) in l) c.blocks-2.ensures.value
-    ∙ (ap (λ (x : MemState). let l : List MemLine = replicate c.args.shape.blocks (record { state = x; value = c.zero.result }) in l) c.first_state.ensures
-    ∙ ap (λ (ws : List ℕ). let l : List MemLine = replicate c.args.shape.blocks (record { state = first_memory c.args.protocol; value = ws }) in l) c.zero.ensures)) in
+    ∙ (ap (λ (n : ℕ). let l : List MemLine = replicate n (record { state = c.first_state.result; value = zero_words }) in l) c.blocks-2.ensures.value
+    ∙ ap (λ (x : MemState). let l : List MemLine = replicate c.args.shape.blocks (record { state = x; value = zero_words }) in l) c.first_state.ensures) in
     let shape = c.args.shape in
     let blank = ap (λ (l : List (List Line)). pictures_of l c.in_ok-memory.memory c.in_ok-bus.bus.transactions) c.in_ok-lines.ensures.rows
     ∙ (ap (λ (l : List MemLine). pictures_of (replicate shape.blocks (replicate shape.cores nothing_held)) l c.in_ok-bus.bus.transactions) items

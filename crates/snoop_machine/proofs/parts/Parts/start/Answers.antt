@@ -1,5 +1,10 @@
 use Rattle.std.proofs.Common.{◌≡◌, ℕ, List, ◌<◌, ◌≤◌, ◌+◌, ◌++◌, ◌∷◌, [], length, drop, Option, Some, None, ◌∙◌, refl, sym, ap, subst, arith}
-use Rattle.std.specs.Prelude.{◌==◌, not, filter, slice_set, IsSome, IfSome}
+use Rattle.std.specs.Prelude.{◌==◌, not, filter, slice_set, slice_index_or, IsSome, IfSome}
+use Rattle.std.specs.Option.{ForSome}
+use Rattle.snoop_trace.specs.declared.protocol.Protocol.{Protocol}
+use Rattle.snoop_rules.specs.declared.names.Payload.{Payload}
+use Rattle.snoop_model.specs.Pictures.Sends.{Sends, value_sent}
+use Rattle.snoop_machine.specs.Plan.{message_sent}
 use Rattle.std.proofs.lemmas.List.{length-set, length-append, length-drop}
 use Rattle.snoop_rules.specs.declared.names.Request.{Request}
 use Rattle.snoop_rules.specs.Takers.{at_memory, seen_by}
@@ -13,7 +18,7 @@ use Rattle.snoop_model.specs.Pictures.Lines.{MemLine}
 use Rattle.snoop_model.specs.Pictures.Picture.{Picture, held_by}
 use Rattle.snoop_model.specs.Moves.Standing.{Standing}
 use Rattle.snoop_model.specs.Pictures.Situation.{Situation, picture_of, with_picture, Waits, StandsFirst}
-use Rattle.snoop_machine.specs.PartsView.{Fields, fields, standing, pictures_of, queues_of, IsSound}
+use Rattle.snoop_machine.specs.PartsView.{Fields, fields, standing, pictures_of, queues_of, no_memory, IsSound}
 use Rattle.snoop_machine.specs.Lines.{row_of}
 use Rattle.snoop_model.specs.Moves.Move.{Orders, TakesRows}
 use Rattle.snoop_model.specs.Pictures.Message.{IsMessage}
@@ -57,9 +62,9 @@ start-requires-clause-free g c =
     let P : Option (Request × ℕ) → Type 0 = λ o. IfSome o (λ head. transaction_on c.self.inside.bus head.1 ≡ None) in
     subst P (sym (head g d)) free
 
-starts : (g : Over) (c : After-start g) → head_of c.self.inside.bus c.args.core ≡ Some (c.args.request, c.args.block) → Starts c.self.inside.bus c.start.new.self c.args.core c.args.request c.args.block c.args.message.payload c.args.message.value c.args.message.from
+starts : (g : Over) (c : After-start g) → head_of c.self.inside.bus c.args.core ≡ Some (c.args.request, c.args.block) → Starts c.self.inside.bus c.start.new.self c.args.core c.args.request c.args.block c.args.payload c.words_sent-words.result c.args.from
 starts g c h =
-    let P : Option (Request × ℕ) → Type 0 = λ o. IfSome o (λ head. Starts c.self.inside.bus c.start.new.self c.args.core head.0 head.1 c.args.message.payload c.args.message.value c.args.message.from) in
+    let P : Option (Request × ℕ) → Type 0 = λ o. IfSome o (λ head. Starts c.self.inside.bus c.start.new.self c.args.core head.0 head.1 c.args.payload c.words_sent-words.result c.args.from) in
     subst P h c.start.ensures
 
 pub invariant_of-self : goal.invariant_of-self
@@ -72,16 +77,16 @@ invariant_of-self g c =
     let in_blocks = block_in m c.self.invariant c.args.self.now c.self.view_is c.args.block c.requires.head.within in
     let after : Traffic = record {
       queues = slice_set m.bus.queues c.args.core (record { requests = drop 1 (waiting_of m.bus c.args.core).requests; room = s.room });
-      transactions = slice_set m.bus.transactions c.args.block (Some (record { core = c.args.core; request = c.args.request; block = c.args.block; payload = c.args.message.payload; value = c.args.message.value; from = c.args.message.from }));
+      transactions = slice_set m.bus.transactions c.args.block (Some (record { core = c.args.core; request = c.args.request; block = c.args.block; payload = c.args.payload; value = c.words_sent-words.result; from = c.args.from }));
     } in
     let same : c.start.new.self ≡ after = same_traffic c.start.new.self after s.queues s.transactions in
     let R : Traffic → Type 0 = λ bus. IsSound m.shape c.take_rows.new.self.rows bus in
     record {
       sound = subst R (sym same)
-          (IsSound-order m.shape m.lines.rows c.take_rows.new.self.rows m.bus m.protocol c.args.core c.args.block c.args.request c.args.message.payload c.args.message.value c.args.message.from
+          (IsSound-order m.shape m.lines.rows c.take_rows.new.self.rows m.bus m.protocol c.args.core c.args.block c.args.request c.args.payload c.words_sent-words.result c.args.from
           c.self.invariant.sound in_cores in_blocks h c.take_rows.ensures.others c.take_rows.ensures.taken s.room);
       sized = sized_on m _ c.self.invariant.sized refl c.take_rows.ensures.many
-          (ap (λ (l : List MemLine). length l) c.set.ensures ∙ length-set m.memory c.args.block (record { state = c.args.memory; value = c.memory_line-before.result.value })) (logged_on m.log c.push.new.self _ _ c.push.ensures);
+          (ap (λ (l : List MemLine). length l) c.move_to.ensures ∙ length-set m.memory c.args.block (record { state = c.args.memory; value = (slice_index_or m.memory c.args.block no_memory).value })) (logged_on m.log c.push.new.self _ _ c.push.ensures);
     }
 
 pub returns-clause-ordered : goal.returns-clause-ordered
@@ -93,39 +98,39 @@ returns-clause-ordered g c =
     let core = c.args.core in
     let block = c.args.block in
     let request = c.args.request in
-    let message = c.args.message in
     let old : Situation = (standing m).situation in
     let is : old ≡ c.args.self.now.situation = ap (λ (x : Standing). x.situation) c.self.view_is in
-    let new : Situation = record { protocol = m.protocol; shape = m.shape; pictures = pictures_of c.take_rows.new.self.rows c.set.new.self c.start.new.self.transactions; queues = queues_of c.start.new.self.queues; log = c.push.new.self.items } in
+    let new : Situation = record { protocol = m.protocol; shape = m.shape; pictures = pictures_of c.take_rows.new.self.rows c.move_to.new.self c.start.new.self.transactions; queues = queues_of c.start.new.self.queues; log = c.push.new.self.items } in
     let G : Situation → Type 0 = λ x. Orders x core block request new in
     let W : Situation → Type 0 = λ x. Waits x core block request in
     let F : Situation → Type 0 = λ x. (picture_of x block).transaction ≡ None in
-    let M : Situation → Type 0 = λ x. IsMessage x.protocol (picture_of x block) core request message in
+    let M : Situation → Type 0 = λ x. IsMessage x.protocol (picture_of x block) core request (message_sent (picture_of x block) c.args.from c.args.payload) in
     let N : Situation → Type 0 = λ x. TakesMemRow x.protocol (at_memory request) (picture_of x block).memory.state c.args.memory in
     let R : Picture → Type 0 = λ x. TakesRows m.protocol core request x.caches (row_of c.take_rows.new.self.rows block) in
-    let sent : IsMessage m.protocol (picture_of old block) core request message = subst M (sym is) c.requires.message in
-    let held : c.memory_line-before.result ≡ (picture_of old block).memory = c.memory_line-before.ensures ∙ ap (λ (x : Situation). (picture_of x block).memory) (sym is) in
+    let sent : IsMessage m.protocol (picture_of old block) core request (message_sent (picture_of old block) c.args.from c.args.payload) = subst M (sym is) c.requires.message in
+    let held : (slice_index_or m.memory block no_memory).value ≡ (picture_of old block).memory.value = sym (ap (λ (x : Picture). x.memory.value) (seen m c.self.invariant (standing m) refl block)) in
+    let words : c.words_sent-words.result ≡ value_sent (picture_of old block) c.args.from c.args.payload = c.words_sent-words.ensures ∙ ap (λ (x : Situation). value_sent (picture_of x block) c.args.from c.args.payload) (sym is) in
     let next : Picture = record {
       caches = row_of c.take_rows.new.self.rows block;
-      memory = record { state = c.args.memory; value = c.memory_line-before.result.value };
-      transaction = Some (record { core = core; request = request; block = block; payload = message.payload; value = message.value; from = message.from });
+      memory = record { state = c.args.memory; value = (slice_index_or m.memory c.args.block no_memory).value };
+      transaction = Some (record { core = core; request = request; block = block; payload = c.args.payload; value = c.words_sent-words.result; from = c.args.from });
     } in
     subst G is (record {
       ready = (subst W (sym is) c.requires.head.waits, subst F (sym is) c.requires.free);
-      from = message.from;
-      payload = message.payload;
+      from = c.args.from;
+      payload = c.args.payload;
       sent = sent.only;
       next = next;
       taken = subst R (sym (seen m c.self.invariant (standing m) refl block)) c.take_rows.ensures.taken;
       memory = subst N (sym is) c.requires.memory;
-      value = ap (λ (x : MemLine). x.value) held;
-      opened = ap (λ (x : List ℕ). let o : Option Open = Some (record { core = core; request = request; block = block; payload = message.payload; value = x; from = message.from }) in o) sent.value;
+      value = held;
+      opened = ap (λ (x : List ℕ). let o : Option Open = Some (record { core = core; request = request; block = block; payload = c.args.payload; value = x; from = c.args.from }) in o) words;
       after = same_situation new
           (record (with_picture old block next) {
             queues = after_order old.queues core block;
             log = m.log.items ++ item.Sent (record { core = core; request = request; block = block }) ∷ [];
           })
-          refl refl (picture-written m block next c.take_rows.new.self.rows c.set.new.self c.start.new.self.transactions c.take_rows.ensures.others c.set.ensures s.transactions)
+          refl refl (picture-written m block next c.take_rows.new.self.rows c.move_to.new.self c.start.new.self.transactions c.take_rows.ensures.others c.move_to.ensures s.transactions)
           (ap queues_of s.queues ∙ (queues_of-set m.bus.queues core (record { requests = drop 1 (waiting_of m.bus core).requests; room = s.room })
           ∙ ap (λ l. slice_set (queues_of m.bus.queues) core l)
           (blocks_of-rest (waiting_of m.bus core).requests request block h (c.self.invariant.sound.once core) ∙ ap (filter (λ x. not (x == block))) (sym (queue_of-queues_of m.bus.queues core)))))
@@ -151,7 +156,7 @@ returns-clause-room g c =
     subst Q (sym s.queues) (held_in-set m.bus.queues core queue in_queues (omega arith))) in
     let new : Fields = record m {
       lines = c.take_rows.new.self;
-      memory = c.set.new.self;
+      memory = c.move_to.new.self;
       bus = c.start.new.self;
       log = c.push.new.self;
     } in
@@ -167,8 +172,23 @@ returns-clause-lines g c =
     let s = starts g (goal.at.returns-clause-lines g c).After-start (head g (goal.at.returns-clause-lines g c).After-take_rows) in
     let next : Picture = record {
       caches = row_of c.take_rows.new.self.rows c.args.block;
-      memory = record { state = c.args.memory; value = c.memory_line-before.result.value };
-      transaction = Some (record { core = c.args.core; request = c.args.request; block = c.args.block; payload = c.args.message.payload; value = c.args.message.value; from = c.args.message.from });
+      memory = record { state = c.args.memory; value = (slice_index_or m.memory c.args.block no_memory).value };
+      transaction = Some (record { core = c.args.core; request = c.args.request; block = c.args.block; payload = c.args.payload; value = c.words_sent-words.result; from = c.args.from });
     } in
     follows-rows m c.self.invariant c.args.self.now c.self.view_is _ c.args.block next c.take_rows.new.self c.requires.head.within
-    (picture-written m c.args.block next c.take_rows.new.self.rows c.set.new.self c.start.new.self.transactions c.take_rows.ensures.others c.set.ensures s.transactions) refl refl c.take_rows.ensures.lines
+    (picture-written m c.args.block next c.take_rows.new.self.rows c.move_to.new.self c.start.new.self.transactions c.take_rows.ensures.others c.move_to.ensures s.transactions) refl refl c.take_rows.ensures.lines
+
+-- a core that sends is one of the picture
+sender_in : (p : Protocol) (before : Picture) (core : ℕ) (request : Request) (from : Option ℕ) (payload : Payload) → Sends p before core request from payload → ForSome from (λ sender. sender < length before.caches)
+sender_in p before core request from payload sends = λ sender is. (subst (λ (o : Option ℕ). Sends p before core request o payload) is sends).0
+
+pub words_sent-words-requires-clause-sender : goal.words_sent-words-requires-clause-sender
+words_sent-words-requires-clause-sender g c =
+    let m = (fields c.self.inside.protocol c.self.inside.shape c.self.inside.lines c.self.inside.memory c.self.inside.bus c.self.inside.log) in
+    let s = c.args.self.now.situation in
+    let wide : length (picture_of s c.args.block).caches ≡ s.shape.cores =
+    ap (λ (x : Picture). length x.caches) (seen m c.self.invariant c.args.self.now c.self.view_is c.args.block)
+    ∙ (c.self.invariant.sound.row c.args.block (block_in m c.self.invariant c.args.self.now c.self.view_is c.args.block c.requires.head.within)
+    ∙ ap (λ (x : Standing). x.situation.shape.cores) c.self.view_is) in
+    let P : ℕ → Type 0 = λ n. ForSome c.args.from (λ sender. sender < n) in
+    subst P wide (sender_in s.protocol (picture_of s c.args.block) c.args.core c.args.request c.args.from c.args.payload c.requires.message.only.sends)

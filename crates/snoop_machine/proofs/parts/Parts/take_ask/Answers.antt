@@ -1,12 +1,15 @@
-use Rattle.std.proofs.Common.{◌∙◌, sym, ap, subst}
+use Rattle.std.proofs.Common.{sym, subst}
 use Rattle.snoop_rules.specs.Takers.{asked}
-use Rattle.snoop_rules.specs.Waits.{waiting_request}
-use Rattle.snoop_machine.specs.Asked.{Asked}
+use Rattle.snoop_machine.specs.declared.ask.Asked.{Asked}
+use Rattle.snoop_model.specs.declared.line.Access.{Access}
+use Rattle.std.specs.Prelude.{Option}
 use Rattle.snoop_model.specs.Pictures.Lines.{Line}
 use Rattle.snoop_model.specs.Pictures.Sound.{IsProper}
 use Rattle.snoop_model.specs.Pictures.Picture.{held_by}
 use Rattle.snoop_model.specs.Pictures.Situation.{picture_of}
 use Rattle.snoop_machine.specs.Asked.{TakesAsk}
+use Rattle.snoop_machine.specs.Cache.{changed}
+use Rattle.snoop_machine.specs.declared.cache.Change.TheVariants.{Wait}
 use Rattle.snoop_model.proofs.Tables.Rows.{issue-waits, drop-waits, IsProper-issue, IsProper-hit, IsProper-drop}
 use Rattle.snoop_machine.proofs.parts.Parts.take_ask.Goals as goal
 
@@ -17,38 +20,33 @@ hit_line-requires-clause-proper g c =
     let P : Asked → Type 0 = λ way. TakesAsk s.protocol line c.args.word c.args.op way in
     let t = subst P c.in-Hit.is c.requires.found in
     let Q : Line → Type 0 = λ x. IsProper x in
-    subst Q (sym t.1.1.held) (IsProper-hit s.protocol line (asked c.args.op) t.0 t.1.1.after c.requires.proper t.1.0)
+    subst Q (sym t.1.held) (IsProper-hit s.protocol line (asked c.args.op) c.in-Hit.next t.1.after c.requires.proper t.0)
 
 pub issue_line-requires-clause-waits : goal.issue_line-requires-clause-waits
 issue_line-requires-clause-waits g c =
     let s = c.args.self.now.situation in
     let line = held_by (picture_of s c.args.block) c.args.core in
     let P : Asked → Type 0 = λ way. TakesAsk s.protocol line c.args.word c.args.op way in
-    let t = subst P c.in-Issue.is c.requires.found in
-    ap (λ (x : Line). waiting_request x.state) t.1.1 ∙ (issue-waits s.protocol line.state (asked c.args.op) c.in-Issue.request t.0 t.1.0).1
+    (issue-waits s.protocol line.state (asked c.args.op) c.in-Issue.request c.in-Issue.next (subst P c.in-Issue.is c.requires.found)).1
 
 pub issue_line-requires-clause-proper : goal.issue_line-requires-clause-proper
 issue_line-requires-clause-proper g c =
     let s = c.args.self.now.situation in
     let line = held_by (picture_of s c.args.block) c.args.core in
     let P : Asked → Type 0 = λ way. TakesAsk s.protocol line c.args.word c.args.op way in
-    let t = subst P c.in-Issue.is c.requires.found in
-    let Q : Line → Type 0 = λ x. IsProper x in
-    subst Q (sym t.1.1) (IsProper-issue s.protocol line c.args.word c.args.op c.in-Issue.request t.0 c.requires.proper t.1.0)
+    let Q : Option Access → Type 0 = λ waiting. IsProper (changed c.in-Issue.next (Wait waiting) line) in
+    subst Q (sym c.waiting_for.ensures) (IsProper-issue s.protocol line c.args.word c.args.op c.in-Issue.request c.in-Issue.next c.requires.proper (subst P c.in-Issue.is c.requires.found))
 
-pub put_line-requires-clause-proper : goal.put_line-requires-clause-proper
-put_line-requires-clause-proper g c =
+pub move_line-requires-clause-proper : goal.move_line-requires-clause-proper
+move_line-requires-clause-proper g c =
     let s = c.args.self.now.situation in
     let line = held_by (picture_of s c.args.block) c.args.core in
     let P : Asked → Type 0 = λ way. TakesAsk s.protocol line c.args.word c.args.op way in
-    let t = subst P c.in-Drop.is c.requires.found in
-    let Q : Line → Type 0 = λ x. IsProper x in
-    subst Q (sym t.1.1) (IsProper-drop s.protocol line (asked c.args.op) t.0 c.requires.proper t.1.0)
+    IsProper-drop s.protocol line (asked c.args.op) c.in-Drop.next c.requires.proper (subst P c.in-Drop.is c.requires.found)
 
-pub put_line-requires-clause-same : goal.put_line-requires-clause-same
-put_line-requires-clause-same g c =
+pub move_line-requires-clause-same : goal.move_line-requires-clause-same
+move_line-requires-clause-same g c =
     let s = c.args.self.now.situation in
     let line = held_by (picture_of s c.args.block) c.args.core in
     let P : Asked → Type 0 = λ way. TakesAsk s.protocol line c.args.word c.args.op way in
-    let t = subst P c.in-Drop.is c.requires.found in
-    ap (λ (x : Line). waiting_request x.state) t.1.1 ∙ drop-waits s.protocol line.state (asked c.args.op) t.0 t.1.0
+    drop-waits s.protocol line.state (asked c.args.op) c.in-Drop.next (subst P c.in-Drop.is c.requires.found)

@@ -1,32 +1,45 @@
-use Rattle.std.proofs.Common.{◌≡◌, ◌<◌, length, arith, sym, ap, ◌∙◌, subst, Option, Some, None}
-use Rattle.std.specs.Prelude.{unwrap_or, if◌then◌else◌}
+use Rattle.std.proofs.Common.{◌≡◌, ◌<◌, length, arith, refl, sym, ap, ◌∙◌, subst, Option, Some, None}
+use Rattle.std.specs.Prelude.{slice_index_or, option_map, if◌then◌else◌}
 use Rattle.snoop_trace.specs.Words.{zero_words}
 use Rattle.snoop_rules.specs.declared.names.CacheState.{CacheState}
 use Rattle.snoop_rules.specs.declared.names.CacheEvent.{CacheEvent}
 use Rattle.snoop_rules.specs.declared.names.CacheAction.{CacheAction}
 use Rattle.snoop_rules.specs.declared.names.MemEvent.{MemEvent}
+use Rattle.snoop_rules.specs.declared.names.MemState.{MemState}
+use Rattle.snoop_rules.specs.declared.names.Payload.{Payload}
 use Rattle.snoop_rules.specs.declared.names.CacheCell.{CacheCell}
 use Rattle.snoop_rules.specs.Cell.{Cell}
 use Rattle.snoop_rules.specs.MemoryCell.{MemoryCell}
 use Rattle.snoop_rules.specs.Possible.{IsImpossible}
-use Rattle.snoop_rules.specs.Takers.{seen_by, carries_value}
-use Rattle.snoop_model.specs.Pictures.Lines.{Line}
+use Rattle.snoop_rules.specs.Takers.{seen_by, at_memory, carries_value}
+use Rattle.snoop_model.specs.Pictures.Lines.{Message}
 use Rattle.snoop_model.specs.Pictures.Picture.{held_at}
 use Rattle.snoop_model.specs.Pictures.Message.{free_picture}
 use Rattle.snoop_model.proofs.Tables.SentBy.{sent_by, sends_row}
 use Rattle.snoop_model.proofs.Lines.TheSender.{Silent-none, Silent-more, Silent-past, Silent-all, IsMessage-sent, IsMessage-memory}
 use Rattle.snoop_machine.proofs.ConcernedCores.{concerned_within, waits_within, Cell-passed}
-use Rattle.snoop_machine.proofs.lines.Lines.message.Given.{Over}
-use Rattle.snoop_machine.proofs.lines.Lines.message.Goals as goal
-use Rattle.snoop_machine.proofs.lines.Lines.message.Goals.{In-Some-cache_cell, In-Some-next}
+use Rattle.snoop_machine.proofs.lines.Lines.sender.Given.{Over}
+use Rattle.snoop_machine.proofs.lines.Lines.sender.Goals as goal
+use Rattle.snoop_machine.proofs.lines.Lines.sender.Goals.{In-Some, In-Some-cache_cell, In-Some-next}
 use Rattle.snoop_machine.specs.Lines.{row_of}
+use Rattle.snoop_machine.specs.Plan.{message_sent}
+use Rattle.snoop_machine.specs.PartsView.{no_memory}
 
-pub returns-in-Some-message_of_memory : goal.returns-in-Some-message_of_memory
-returns-in-Some-message_of_memory g c =
-    let before = free_picture (row_of c.args.self.now.rows c.args.block) c.args.memory in
-    let P : MemEvent → Type 0 = λ event. MemoryCell c.args.protocol c.args.memory.state event c.in-Some.cell.action c.in-Some.cell.next in
-    IsMessage-memory c.args.protocol before c.args.requestor c.args.request c.requires.rows c.requires.line c.in-Some-message_of_memory.message c.in-Some.cell.action c.in-Some.cell.next
-    (subst P c.event_at_memory.ensures c.in-Some.ensures.row) (sym c.message_of_memory.ensures ∙ c.in-Some-message_of_memory.is)
+-- memory's row
+memory_row : (g : Over) (c : In-Some g) → MemoryCell c.args.protocol (slice_index_or c.args.memory.now c.args.block no_memory).state (at_memory c.args.request) c.in-Some.cell.action c.in-Some.cell.next
+memory_row g c =
+    let P : MemEvent → Type 0 = λ event. MemoryCell c.args.protocol c.state.result event c.in-Some.cell.action c.in-Some.cell.next in
+    let Q : MemState → Type 0 = λ state. MemoryCell c.args.protocol state (at_memory c.args.request) c.in-Some.cell.action c.in-Some.cell.next in
+    subst Q c.state.ensures (subst P c.event_at_memory.ensures c.in-Some.ensures.row)
+
+pub returns-in-Some-sent_by_memory : goal.returns-in-Some-sent_by_memory
+returns-in-Some-sent_by_memory g c =
+    let d = (goal.at.returns-in-Some-sent_by_memory g c).In-Some in
+    let held = slice_index_or c.args.memory.now c.args.block no_memory in
+    let before = free_picture (row_of c.args.self.now.rows c.args.block) held in
+    let sent : Payload → Message = λ payload. record { payload = payload; value = if carries_value payload then held.value else zero_words; from = None } in
+    IsMessage-memory c.args.protocol before c.args.requestor c.args.request c.requires.rows c.requires.line (sent c.in-Some-sent_by_memory.payload) c.in-Some.cell.action c.in-Some.cell.next
+    (memory_row g d) (c.sent_by_memory.ensures held.value ∙ ap (λ (o : Option Payload). option_map sent o) c.in-Some-sent_by_memory.is)
 
 requestor_within : (g : Over) (c : In-Some-next g) → c.args.requestor < length (row_of c.args.self.now.rows c.args.block)
 requestor_within g c = waits_within (row_of c.args.self.now.rows c.args.block) c.args.requestor c.args.request c.requires.waits
@@ -34,22 +47,22 @@ requestor_within g c = waits_within (row_of c.args.self.now.rows c.args.block) c
 within_row : (g : Over) (c : In-Some-next g) → c.in-Some-next.core < length (row_of c.args.self.now.rows c.args.block)
 within_row g c = concerned_within c.args.protocol (row_of c.args.self.now.rows c.args.block) c.args.requestor c.args.request c.concerned-concerned.result c.concerned-concerned.ensures.own c.concerned-concerned.ensures.others (requestor_within g c) c.in-Some-next.core c.in-Some-next.ensures.some.2
 
-pub get-line-requires-clause-core : goal.get-line-requires-clause-core
-get-line-requires-clause-core g c = within_row g (goal.at.get-line-requires-clause-core g c).In-Some-next
+pub state-state-requires-clause-core : goal.state-state-requires-clause-core
+state-state-requires-clause-core g c = within_row g (goal.at.state-state-requires-clause-core g c).In-Some-next
 
 -- the row of the core that is looked at, in the picture
 row : (g : Over) (c : In-Some-cache_cell g) → Cell c.args.protocol (held_at (row_of c.args.self.now.rows c.args.block) c.in-Some-next.core).state (seen_by c.in-Some-next.core c.args.requestor c.args.request) c.in-Some-cache_cell.cell.action c.in-Some-cache_cell.cell.next
 row g c =
-    let P : CacheEvent → Type 0 = λ event. Cell c.args.protocol c.get-line.result.state event c.in-Some-cache_cell.cell.action c.in-Some-cache_cell.cell.next in
+    let P : CacheEvent → Type 0 = λ event. Cell c.args.protocol c.state-state.result event c.in-Some-cache_cell.cell.action c.in-Some-cache_cell.cell.next in
     let Q : CacheState → Type 0 = λ state. Cell c.args.protocol state (seen_by c.in-Some-next.core c.args.requestor c.args.request) c.in-Some-cache_cell.cell.action c.in-Some-cache_cell.cell.next in
-    subst Q (ap (λ (line : Line). line.state) c.get-line.ensures.line) (subst P c.event_seen.ensures c.in-Some-cache_cell.ensures.row)
+    subst Q (c.state-state.ensures) (subst P c.event_seen.ensures c.in-Some-cache_cell.ensures.row)
 
 pub unreachable-requires-in_default-cache_cell : goal.unreachable-requires-in_default-cache_cell
 unreachable-requires-in_default-cache_cell g c =
     let core = c.in-Some-next.core in
-    let P : CacheEvent → Type 0 = λ event. IsImpossible c.args.protocol c.get-line.result.state event in
+    let P : CacheEvent → Type 0 = λ event. IsImpossible c.args.protocol c.state-state.result event in
     let Q : CacheState → Type 0 = λ state. IsImpossible c.args.protocol state (seen_by core c.args.requestor c.args.request) in
-    let none = subst Q (ap (λ (line : Line). line.state) c.get-line.ensures.line) (subst P c.event_seen.ensures c.in_default-cache_cell.ensures.impossible) in
+    let none = subst Q (c.state-state.ensures) (subst P c.event_seen.ensures c.in_default-cache_cell.ensures.impossible) in
     let there = c.requires.rows core (within_row g (goal.at.unreachable-requires-in_default-cache_cell g c).In-Some-next) in
     let clash : ◌≡◌ {A = Option CacheCell} None (Some there.0) = sym none ∙ there.1 in
     cc
@@ -57,26 +70,27 @@ unreachable-requires-in_default-cache_cell g c =
 pub returns-in-Send : goal.returns-in-Send
 returns-in-Send g c =
     let d = (goal.at.returns-in-Send g c).In-Some-cache_cell in
-    let before = free_picture (row_of c.args.self.now.rows c.args.block) c.args.memory in
+    let before = free_picture (row_of c.args.self.now.rows c.args.block) (slice_index_or c.args.memory.now c.args.block no_memory) in
     let core = c.in-Some-next.core in
     let P : CacheAction → Type 0 = λ act. Cell c.args.protocol (held_at (row_of c.args.self.now.rows c.args.block) core).state (seen_by core c.args.requestor c.args.request) act c.in-Some-cache_cell.cell.next in
-    IsMessage-sent c.args.protocol before c.args.requestor c.args.request c.requires.rows c.requires.line (record { payload = c.in-Send.payload; value = c.words_for.result; from = Some core })
-    (within_row g (goal.at.returns-in-Send g c).In-Some-next, sends_row _ _ (ap sent_by (subst P c.in-Send.is (row g d))))
-    (c.words_for.ensures ∙ ap (λ (line : Line). if carries_value c.in-Send.payload then unwrap_or line.kept zero_words else zero_words) c.get-line.ensures.line)
+    IsMessage-sent c.args.protocol before c.args.requestor c.args.request c.requires.rows c.requires.line (message_sent before (Some core) c.in-Send.payload)
+    (within_row g (goal.at.returns-in-Send g c).In-Some-next, sends_row _ _ (ap sent_by (subst P c.in-Send.is (row g d)))) refl
 
 pub loop-core-init : goal.loop-core-init
 loop-core-init g c =
-    let before = free_picture (row_of c.args.self.now.rows c.args.block) c.args.memory in
-    let P : MemEvent → Type 0 = λ event. MemoryCell c.args.protocol c.args.memory.state event c.in-Some.cell.action c.in-Some.cell.next in (
+    let d = (goal.at.loop-core-init g c).In-Some in
+    let held = slice_index_or c.args.memory.now c.args.block no_memory in
+    let before = free_picture (row_of c.args.self.now.rows c.args.block) held in
+    let sent : Payload → Message = λ payload. record { payload = payload; value = if carries_value payload then held.value else zero_words; from = None } in (
       Silent-none c.args.protocol before c.args.requestor c.args.request c.in-Some.cell.action c.in-Some.cell.next
-          (subst P c.event_at_memory.ensures c.in-Some.ensures.row) (sym c.message_of_memory.ensures ∙ c.in_default-message_of_memory.is),
+          (memory_row g d) (c.sent_by_memory.ensures held.value ∙ ap (λ (o : Option Payload). option_map sent o) c.in_default-sent_by_memory.is),
       omega arith,
     )
 
 pub loop-core-preserved : goal.loop-core-preserved
 loop-core-preserved g c =
     let d = (goal.at.loop-core-preserved g c).In-Some-cache_cell in
-    let before = free_picture (row_of c.args.self.now.rows c.args.block) c.args.memory in
+    let before = free_picture (row_of c.args.self.now.rows c.args.block) (slice_index_or c.args.memory.now c.args.block no_memory) in
     let core = c.in-Some-next.core in
     let within : core < length (row_of c.args.self.now.rows c.args.block) = within_row g (goal.at.loop-core-preserved g c).In-Some-next in
     let silent = Silent-past c.args.protocol before c.args.requestor c.args.request c.loop-core.from core c.in-Some-next.ensures.some.0
@@ -90,7 +104,7 @@ loop-core-preserved g c =
 
 pub unreachable-requires-2 : goal.unreachable-requires-2
 unreachable-requires-2 g c =
-    let before = free_picture (row_of c.args.self.now.rows c.args.block) c.args.memory in
+    let before = free_picture (row_of c.args.self.now.rows c.args.block) (slice_index_or c.args.memory.now c.args.block no_memory) in
     let silent = Silent-past c.args.protocol before c.args.requestor c.args.request c.loop-core.from (length (row_of c.args.self.now.rows c.args.block)) c.loop-core.invariant.1
     (λ k above below. Cell-passed c.args.protocol (row_of c.args.self.now.rows c.args.block) c.args.requestor c.args.request c.concerned-concerned.result c.concerned-concerned.ensures.own c.concerned-concerned.ensures.others c.requires.rows k below
     (c.in_default-next.ensures.none k above))
