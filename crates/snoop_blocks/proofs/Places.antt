@@ -5,7 +5,7 @@ use Rattle.std.specs.Option.{option_map_or}
 use Rattle.std.proofs.lemmas.Bool.{cases_eq, cases_lt}
 use Rattle.std.proofs.lemmas.Option.{slice_get-get_or}
 use Rattle.std.proofs.lemmas.List.{ext_get_or, get_or-map, get_or_past, get_or_push, get_or_append_left, get_or-set_same, get_or-set_other, length-set, length-map, length-replicate, length_push}
-use Rattle.snoop_blocks.specs.Places.{value_at, seen, unwritten, ArePlaces}
+use Rattle.snoop_blocks.specs.Places.{value_at, seen, changed_at, unwritten, ArePlaces}
 
 unwritten-new : (n : ℕ) → unwritten (replicate n 0) ≡ n
 unwritten-new zero = refl
@@ -167,7 +167,7 @@ is_within places block n at = elim (cases_lt block (length places)) [
 
 -- the value of a block changes
 pub changed_here : {X : Type 0} (first : X) (written : List X) (places : List ℕ) (block : ℕ) (next : X → X) → block < length places
-    → option_map_or (λ value. slice_set (seen first written places) block (next value)) (slice_get (seen first written places) block) (seen first written places)
+    → changed_at (seen first written places) block next
     ≡ slice_set (seen first written places) block (next (value_at first written (slice_index_or places block 0)))
 changed_here {X} first written places block next within =
     let values = seen first written places in

@@ -1,6 +1,7 @@
 -- Where the values of a table stand that were written.
 -- Source: this project's profile.
-use Rattle.std.specs.Prelude.{◌≡◌, ◌≢◌, ◌<◌, ◌≤◌, ◌+◌, ◌^◌, ℕ, zero, suc, List, [], ◌∷◌, length, map, slice_index_or}
+use Rattle.std.specs.Prelude.{◌≡◌, ◌≢◌, ◌<◌, ◌≤◌, ◌+◌, ◌^◌, ℕ, zero, suc, List, [], ◌∷◌, length, map, slice_get, slice_index_or, slice_set}
+use Rattle.std.specs.Option.{option_map_or}
 
 -- the value at a place: the first value where nothing was written
 abbrev pub value_at : {X : Type 0} → X → List X → ℕ → X
@@ -10,6 +11,10 @@ value_at first written (suc place) = slice_index_or written place first
 -- the values of all blocks
 abbrev pub seen : {X : Type 0} → X → List X → List ℕ → List X
 seen first written places = map (value_at first written) places
+
+-- the values with that of the block changed so, if there is such a block
+abbrev pub changed_at : {X : Type 0} → List X → ℕ → (X → X) → List X
+changed_at values block change = option_map_or (λ value. slice_set values block (change value)) (slice_get values block) values
 
 -- how many blocks were never written
 abbrev pub unwritten : List ℕ → ℕ

@@ -1,6 +1,6 @@
 //! A table by block.
 ghost use Rattle.std.specs.Prelude.{◌≡◌, ◌<◌, length, replicate, IfOk, slice_get, slice_index_or, slice_set};
-ghost use Rattle.std.specs.Option.{option_map_or};
+ghost use Rattle.snoop_blocks.specs.Places.{changed_at};
 
 use std::alloc::{AllocError, Global};
 use std::marker::Model;
@@ -96,7 +96,7 @@ impl<T: Copy> BlockTable<T> {
     /// Changes the block's value where it stands; nothing where there is no such block. It takes no memory of the allocator.
     #[inline(always)]
     pub fn change<C: Change<T> + Copy>(&mut self, block: u32, change: C)
-        ensures { self.new ≡ option_map_or (λ value. slice_set self.old block (C.changed change value)) (slice_get self.old block) self.old }
+        ensures { self.new ≡ changed_at self.old block (C.changed change) }
     {
         let Some(place) = self.places.get(block as usize).copied() else {
             return;

@@ -13,7 +13,8 @@ use Rattle.snoop_history.specs.Totals.{capped}
 use Rattle.snoop_history.specs.declared.items.Item.TheVariants as item
 use Rattle.snoop_engine.specs.declared.taken.Taken.TheVariants.{Core, Memory, Nobody}
 use Rattle.snoop_counts.specs.Counted.{core_counted, counts, is_counted, is_it, own_core, subject_of, times}
-use Rattle.snoop_counts.specs.Tally.{Tallies, changed, counter_in, empty_row, number, own_raised, raised_all, raised_by, raised_if, raised_row, row_at, tried}
+use Rattle.snoop_blocks.specs.Places.{changed_at}
+use Rattle.snoop_counts.specs.Tally.{Tallies, counter_in, empty_row, number, own_raised, raised_all, raised_by, raised_if, raised_row, row_at, tried}
 use Rattle.snoop_counts.specs.declared.count.Count.{Count}
 use Rattle.snoop_counts.specs.declared.count.Count.TheVariants as count
 use Rattle.snoop_counts.specs.declared.count.Happening.{Happening}
@@ -196,20 +197,20 @@ module _ (rows : List Counters) (subject : ℕ) (next : Counters → Counters) w
   other_if s ne None = refl
   other_if s ne (Some row) = get_or-set_other rows subject s (next row) empty_row ne
 
-  other_changed : (s : ℕ) → s ≢ subject → row_at (changed rows subject next) s ≡ row_at rows s
+  other_changed : (s : ℕ) → s ≢ subject → row_at (changed_at rows subject next) s ≡ row_at rows s
   other_changed s ne = other_if s ne (slice_get rows subject)
 
-  here_changed : (s : ℕ) → subject ≡ s → s < length rows → row_at (changed rows subject next) s ≡ next (row_at rows s)
+  here_changed : (s : ℕ) → subject ≡ s → s < length rows → row_at (changed_at rows subject next) s ≡ next (row_at rows s)
   here_changed s e there =
       let there' : subject < length rows = omega arith in
-      ap (λ (k : ℕ). row_at (changed rows subject next) k) (sym e)
+      ap (λ (k : ℕ). row_at (changed_at rows subject next) k) (sym e)
       ∙ ap (λ (found : Option Counters). row_at (option_map_or (λ row. set rows subject (next row)) found rows) subject) (slice_get-get_or rows subject empty_row there')
       ∙ get_or-set_same rows subject (next (row_at rows subject)) empty_row there'
       ∙ ap (λ (k : ℕ). next (row_at rows k)) e
 
 -- the rows, where the row of the subject that was found goes on
 abbrev going : List Counters → Option ℕ → (Counters → Counters) → List Counters
-going rows found next = option_map_or (λ subject. changed rows subject next) found rows
+going rows found next = option_map_or (λ subject. changed_at rows subject next) found rows
 
 module _ (rows : List Counters) (next : Counters → Counters) (b : Count → Bool) (keeps : (row : Counters) → length (next row).counters ≡ length row.counters)
     (step : (row : Counters) → length row.counters ≡ 31 → (c : Count) → counter_in (next row) c ≡ counted (counter_in row c) (b c)) where

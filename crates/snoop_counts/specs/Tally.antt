@@ -1,8 +1,9 @@
 -- Counters, a row of them for each core or block, and what they have counted.
 -- Source: this project's profile.
-use Rattle.std.specs.Prelude.{◌≡◌, ◌<◌, ℕ, ◌+◌, true, false, List, [], ◌∷◌, ◌++◌, length, Option, Some, None, Ok, Err, replicate, set, slice_get, slice_index, slice_index_or, slice_set, if◌then◌else◌}
+use Rattle.std.specs.Prelude.{◌≡◌, ◌<◌, ℕ, ◌+◌, true, false, List, [], ◌∷◌, ◌++◌, length, Option, Some, None, Ok, Err, replicate, set, slice_index, slice_index_or, if◌then◌else◌}
 use Rattle.std.specs.List.{fold}
 use Rattle.std.specs.Option.{option_map_or}
+use Rattle.snoop_blocks.specs.Places.{changed_at}
 use Rattle.snoop_history.specs.Totals.{capped}
 use Rattle.snoop_history.specs.declared.items.Item.TheVariants as item
 use Rattle.snoop_counts.specs.Counted.{counted_of, counts, is_named, subject_of}
@@ -68,13 +69,9 @@ raised_if seen row counted = if counts counted seen then raised_row counted row 
 abbrev pub raised_all : List Count → Happening → Counters → Counters
 raised_all list seen row = fold (raised_if seen) row list
 
--- the rows where that of the subject goes on, if it has one
-abbrev pub changed : List Counters → ℕ → (Counters → Counters) → List Counters
-changed rows subject next = option_map_or (λ row. slice_set rows subject (next row)) (slice_get rows subject) rows
-
 -- the rows with one more of a count of the subject, if it has a row
 abbrev pub raised : List Counters → ℕ → Count → List Counters
-raised rows subject counted = changed rows subject (raised_row counted)
+raised rows subject counted = changed_at rows subject (raised_row counted)
 
 -- the rows after something has happened, by this count alone
 abbrev pub raised_by : Subjects → Count → Happening → List Counters → List Counters
@@ -114,7 +111,7 @@ tried (happening.Line step (Err refused) line why) = of_lines
 
 -- the rows after something has happened, by these counts
 abbrev pub own_raised : Subjects → Happening → List Counters → List Counters
-own_raised whose seen rows = option_map_or (λ subject. changed rows subject (raised_all (tried seen) seen)) (subject_of whose count.Lines seen) rows
+own_raised whose seen rows = option_map_or (λ subject. changed_at rows subject (raised_all (tried seen) seen)) (subject_of whose count.Lines seen) rows
 
 -- the row of a subject
 abbrev pub row_at : List Counters → ℕ → Counters

@@ -277,17 +277,17 @@ fn counts_cause(count: Count, cause: Option<Cause>) -> bool
 
 /// Whether it is counted.
 #[inline(always)]
-pub(crate) fn counts(count: Count, happening: Happening) -> bool
-    ensures { result ≡ counts count happening }
+pub(crate) fn counts(count: Count, happening: &Happening) -> bool
+    ensures { result ≡ counts count happening.now }
 {
     match happening {
-        Happening::Item(item) => counts_item(count, item),
+        Happening::Item(item) => counts_item(count, *item),
         Happening::Line {
             step: _,
             outcome,
             line,
             cause,
-        } => counts_line(count, outcome, line) || counts_cause(count, cause),
+        } => counts_line(count, *outcome, *line) || counts_cause(count, *cause),
     }
 }
 
@@ -316,23 +316,23 @@ fn block_named(line: Taken) -> Option<u32>
 
 // The core that an item is of, or that a line names.
 #[inline(always)]
-fn own_core(happening: Happening) -> Option<u32>
-    ensures { result ≡ own_core happening }
+fn own_core(happening: &Happening) -> Option<u32>
+    ensures { result ≡ own_core happening.now }
 {
     match happening {
         Happening::Item(item) => Some(item.core()),
-        Happening::Line { line, .. } => core_named(line),
+        Happening::Line { line, .. } => core_named(*line),
     }
 }
 
 // The block that an item is of, or that a line names.
 #[inline(always)]
-fn own_block(happening: Happening) -> Option<u32>
-    ensures { result ≡ own_block happening }
+fn own_block(happening: &Happening) -> Option<u32>
+    ensures { result ≡ own_block happening.now }
 {
     match happening {
         Happening::Item(item) => Some(item.block()),
-        Happening::Line { line, .. } => block_named(line),
+        Happening::Line { line, .. } => block_named(*line),
     }
 }
 
@@ -350,8 +350,8 @@ fn named_place(place: u64) -> Option<u32>
 
 // The place of the word of the operation that an item performs.
 #[inline(always)]
-fn own_word(words: u32, happening: Happening) -> Option<u32>
-    ensures { result ≡ own_word words happening }
+fn own_word(words: u32, happening: &Happening) -> Option<u32>
+    ensures { result ≡ own_word words happening.now }
 {
     match happening {
         Happening::Item(item) => match item.did() {
@@ -364,22 +364,22 @@ fn own_word(words: u32, happening: Happening) -> Option<u32>
 
 // The core whose Order the line is of.
 #[inline(always)]
-fn requestor_of(happening: Happening) -> Option<u32>
-    ensures { result ≡ requestor_of happening }
+fn requestor_of(happening: &Happening) -> Option<u32>
+    ensures { result ≡ requestor_of happening.now }
 {
     match happening {
         Happening::Line {
             step: Step::Order { core },
             ..
-        } => Some(core),
+        } => Some(*core),
         _ => None,
     }
 }
 
 // The core that sent the response.
 #[inline(always)]
-fn sender_of(happening: Happening) -> Option<u32>
-    ensures { result ≡ sender_of happening }
+fn sender_of(happening: &Happening) -> Option<u32>
+    ensures { result ≡ sender_of happening.now }
 {
     match happening {
         Happening::Item(Item::Came(came, _)) => came.from,
@@ -389,8 +389,8 @@ fn sender_of(happening: Happening) -> Option<u32>
 
 // The core for which it is counted.
 #[inline(always)]
-fn core_counted(count: Count, happening: Happening) -> Option<u32>
-    ensures { result ≡ core_counted count happening }
+fn core_counted(count: Count, happening: &Happening) -> Option<u32>
+    ensures { result ≡ core_counted count happening.now }
 {
     match count {
         Count::Invalidates => requestor_of(happening),
@@ -401,8 +401,12 @@ fn core_counted(count: Count, happening: Happening) -> Option<u32>
 
 /// For whom it is counted, if for anybody.
 #[inline(always)]
-pub(crate) fn subject_of(subjects: Subjects, count: Count, happening: Happening) -> Option<u32>
-    ensures { result ≡ subject_of subjects count happening }
+pub(crate) fn subject_of(
+    subjects: Subjects,
+    count: Count,
+    happening: &Happening,
+) -> Option<u32>
+    ensures { result ≡ subject_of subjects count happening.now }
 {
     match subjects {
         Subjects::Cores => core_counted(count, happening),

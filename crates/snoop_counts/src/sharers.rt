@@ -43,13 +43,13 @@ impl Sharers {
     pub(crate) fn add(&mut self, happening: &Happening)
         ensures { (whose : Whose) (counted : Counted) (many : ℕ) (seen : List Seen) → HasMarked whose counted many seen self.old → HasMarked whose counted many (seen ++ happening.now ∷ []) self.new }
     {
-        if !counts(self.count, *happening) {
+        if !counts(self.count, happening) {
             return;
         }
-        let Some(subject) = subject_of(self.subjects, self.count, *happening) else {
+        let Some(subject) = subject_of(self.subjects, self.count, happening) else {
             return;
         };
-        let Some(core) = subject_of(Subjects::Cores, self.count, *happening) else {
+        let Some(core) = subject_of(Subjects::Cores, self.count, happening) else {
             return;
         };
         self.sets.insert(subject, core);

@@ -31,9 +31,9 @@ impl Counters {
         Counters { counters: [0; 31] }
     }
 
-    /// Counts one more; the counter stops at the largest `u64`.
+    // Counts one more; the counter stops at the largest `u64`.
     #[inline(always)]
-    pub(crate) fn raise(&mut self, count: Count)
+    fn raise(&mut self, count: Count)
         ensures { self.new ≡ raised_row count self.old }
     {
         let place = count as usize;
@@ -45,7 +45,7 @@ impl Counters {
     fn raise_if(&mut self, count: Count, happening: &Happening)
         ensures { self.new ≡ raised_if happening.now self.old count }
     {
-        if counts(count, *happening) {
+        if counts(count, happening) {
             self.raise(count);
         }
     }
@@ -121,7 +121,7 @@ impl Counters {
     }
 
     // Counts the happening by all counts but those of what a core does to others.
-    pub(crate) fn add(&mut self, happening: &Happening)
+    fn add(&mut self, happening: &Happening)
         ensures { self.new ≡ raised_all (tried happening.now) happening.now self.old }
     {
         match happening {
@@ -162,7 +162,7 @@ impl Change<Counters> for Count {
     }
 }
 
-/// What has happened, for whom it is of.
+/// Counts what has happened, in the row of whom it is of.
 #[derive(Clone, Copy)]
 struct Own<'a> {
     happening: &'a Happening,
@@ -223,24 +223,16 @@ impl Tally {
         }
     }
 
-    // Counts one more for the subject.
-    #[inline(always)]
-    fn raise(&mut self, subject: u32, count: Count)
-        ensures { self.new ≡ record self.old { rows = raised self.old.rows subject count } }
-    {
-        self.rows.change(subject, count);
-    }
-
     // Counts the happening by this count, if it counts it.
     #[inline(always)]
     fn count(&mut self, count: Count, happening: &Happening)
         ensures { self.new ≡ record self.old { rows = raised_by self.old.subjects count happening.now self.old.rows } }
     {
-        if !counts(count, *happening) {
+        if !counts(count, happening) {
             return;
         }
-        if let Some(subject) = subject_of(self.subjects, count, *happening) {
-            self.raise(subject, count);
+        if let Some(subject) = subject_of(self.subjects, count, happening) {
+            self.rows.change(subject, count);
         }
     }
 
@@ -248,7 +240,7 @@ impl Tally {
     fn add_own(&mut self, happening: &Happening)
         ensures { self.new ≡ record self.old { rows = own_raised self.old.subjects happening.now self.old.rows } }
     {
-        if let Some(subject) = subject_of(self.subjects, Count::Lines, *happening) {
+        if let Some(subject) = subject_of(self.subjects, Count::Lines, happening) {
             self.rows.change(subject, Own { happening });
         }
     }
@@ -258,8 +250,10 @@ impl Tally {
         ensures { (whose : Subjects) (many : ℕ) (seen : List Happening) → HasCounted whose many seen self.old → HasCounted whose many (seen ++ happening.now ∷ []) self.new }
     {
         self.add_own(happening);
-        self.count(Count::Invalidates, happening);
-        self.count(Count::Supplied, happening);
+        match happening {
+            Happening::Line { .. } => self.count(Count::Invalidates, happening),
+            Happening::Item(_) => self.count(Count::Supplied, happening),
+        }
     }
 
     /// Counts all of this.

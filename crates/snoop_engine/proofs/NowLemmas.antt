@@ -11,7 +11,7 @@ use Rattle.snoop_bus.specs.Queues.{queue_of}
 use Rattle.snoop_model.specs.Pictures.InQueue.{IsInQueue}
 use Rattle.snoop_model.specs.Pictures.Picture.{held_by}
 use Rattle.snoop_model.specs.Pictures.Situation.{Situation, picture_of, state_of}
-use Rattle.snoop_model.specs.Pictures.Sound.{IsProper, keeps}
+use Rattle.snoop_model.specs.Pictures.Sound.{keeps}
 use Rattle.snoop_model.proofs.Lists.Facts.{one_if}
 use Rattle.snoop_engine.specs.States.{kept_at, kept_text, number_field, place_text, value_text}
 use Rattle.snoop_engine.specs.Taken.{state_at}
@@ -28,9 +28,9 @@ no_texts : (f : ℕ → List ℕ) → ((k : ℕ) → f k ≡ []) → (ks : List 
 no_texts f none [] = refl
 no_texts f none (k ∷ ks) = ap (λ (t : List ℕ). t ++ flat_map f ks) (none k) ∙ no_texts f none ks
 
-pub none_kept : (s : Situation) (core block : ℕ) (state : CacheState) → Some state ≡ state_at s core block → IsProper (held_by (picture_of s block) core) → keeps state ≡ false → kept_text s core block ≡ []
-none_kept s core block state at proper unread =
-    let hidden : is_some (held_by (picture_of s block) core).kept ≡ false = proper.kept ∙ (ap keeps (sym (state_is s core block state at)) ∙ unread) in
+pub none_kept : (s : Situation) (core block : ℕ) (state : CacheState) → Some state ≡ state_at s core block → is_some (held_by (picture_of s block) core).kept ≡ keeps (state_of s core block) → keeps state ≡ false → kept_text s core block ≡ []
+none_kept s core block state at kept unread =
+    let hidden : is_some (held_by (picture_of s block) core).kept ≡ false = kept ∙ (ap keeps (sym (state_is s core block state at)) ∙ unread) in
     no_texts (λ word. value_text word (kept_at s core block word)) (λ word. ap (value_text word) (nothing_at word hidden)) (range_with_len 0 s.shape.words)
   where
     of_kept : (kept : Option (List ℕ)) (within : Bool) (word : ℕ) → is_some kept ≡ false → cond {A = Option ℕ} within (option_map (λ ws. word_at ws word) kept) None ≡ None

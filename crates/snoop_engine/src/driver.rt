@@ -1,7 +1,5 @@
 //! The driver of rows: whose turn it is, and which step the turn takes.
-ghost use Rattle.std.specs.Prelude.{◌≡◌, ◌≢◌, ℕ, ◌<◌, ◌+◌, [], All, Contains, Option, Some, None, IfErr, IfOk, IfSome, IfNone, length, slice_get};
-ghost use Rattle.snoop_model.specs.declared.replies.Refused.TheVariants.{NoMemory as OutOfMemory};
-ghost use Rattle.snoop_model.specs.Moves.StepMove.{RefusedFor};
+ghost use Rattle.std.specs.Prelude.{◌≡◌, ◌≢◌, ℕ, ◌<◌, ◌+◌, [], All, Contains, Option, Some, None, IfOk, IfSome, IfNone, length, slice_get};
 ghost use Rattle.snoop_history.specs.declared.items.Item.{Item};
 ghost use Rattle.snoop_model.specs.Moves.Move.{FirstMove};
 ghost use Rattle.snoop_model.specs.Pictures.Situation.{reset};
@@ -158,7 +156,6 @@ impl Driver {
         requires under_way { IsUnderWay (under_way self.old.lanes) step }
         requires enabled { IsEnabled self.old.situation step }
         ensures taken { IfOk result (λ reply. (entry : Option Item) × FirstMove self.old.situation step reply self.new.situation entry) }
-        ensures memory { IfErr result (λ _. RefusedFor self.old.situation step OutOfMemory) }
         ensures lanes { self.new.lanes ≡ self.old.lanes }
     {
         match self.machine.step(step) {

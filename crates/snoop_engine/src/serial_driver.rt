@@ -1,7 +1,5 @@
 //! The driver of rows that are served one after another.
-ghost use Rattle.std.specs.Prelude.{◌≡◌, [], All, IfErr, IfOk, IfNone, IfSome, Option, false};
-ghost use Rattle.snoop_model.specs.declared.replies.Refused.TheVariants.{NoMemory as OutOfMemory};
-ghost use Rattle.snoop_model.specs.Moves.StepMove.{RefusedFor};
+ghost use Rattle.std.specs.Prelude.{◌≡◌, [], All, IfOk, IfNone, IfSome, Option, false};
 ghost use Rattle.snoop_history.specs.declared.items.Item.{Item};
 ghost use Rattle.snoop_model.specs.Moves.Move.{FirstMove};
 ghost use Rattle.snoop_model.specs.Pictures.Situation.{reset};
@@ -118,7 +116,6 @@ impl<'a> SerialDriver<'a> {
         requires under_way { IsUnderWay (under_way self.old.situation.shape self.old.row) step }
         requires enabled { IsEnabled self.old.situation step }
         ensures taken { IfOk result (λ reply. (entry : Option Item) × FirstMove self.old.situation step reply self.new.situation entry) }
-        ensures memory { IfErr result (λ _. RefusedFor self.old.situation step OutOfMemory) }
         ensures left { self.new.left ≡ self.old.left }
     {
         match self.machine.step(step) {

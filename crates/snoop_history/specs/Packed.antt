@@ -34,32 +34,32 @@ is_hit kind.CameLoadHit = true
 is_hit kind.CameStoreHit = true
 is_hit _ = false
 
--- the request that is answered
-abbrev pub answered : Message → Request
-answered message.GetSDataOfMemory = GetS
-answered message.GetSDataEOfMemory = GetS
-answered message.GetSNoDataOfMemory = GetS
-answered message.GetSNoDataEOfMemory = GetS
-answered message.GetSDataOfCore = GetS
-answered message.GetSDataEOfCore = GetS
-answered message.GetSNoDataOfCore = GetS
-answered message.GetSNoDataEOfCore = GetS
-answered message.GetMDataOfMemory = GetM
-answered message.GetMDataEOfMemory = GetM
-answered message.GetMNoDataOfMemory = GetM
-answered message.GetMNoDataEOfMemory = GetM
-answered message.GetMDataOfCore = GetM
-answered message.GetMDataEOfCore = GetM
-answered message.GetMNoDataOfCore = GetM
-answered message.GetMNoDataEOfCore = GetM
-answered message.PutMDataOfMemory = PutM
-answered message.PutMDataEOfMemory = PutM
-answered message.PutMNoDataOfMemory = PutM
-answered message.PutMNoDataEOfMemory = PutM
-answered message.PutMDataOfCore = PutM
-answered message.PutMDataEOfCore = PutM
-answered message.PutMNoDataOfCore = PutM
-answered message.PutMNoDataEOfCore = PutM
+-- the request
+abbrev pub request_of : Message → Request
+request_of message.GetSDataOfMemory = GetS
+request_of message.GetSDataEOfMemory = GetS
+request_of message.GetSNoDataOfMemory = GetS
+request_of message.GetSNoDataEOfMemory = GetS
+request_of message.GetSDataOfCore = GetS
+request_of message.GetSDataEOfCore = GetS
+request_of message.GetSNoDataOfCore = GetS
+request_of message.GetSNoDataEOfCore = GetS
+request_of message.GetMDataOfMemory = GetM
+request_of message.GetMDataEOfMemory = GetM
+request_of message.GetMNoDataOfMemory = GetM
+request_of message.GetMNoDataEOfMemory = GetM
+request_of message.GetMDataOfCore = GetM
+request_of message.GetMDataEOfCore = GetM
+request_of message.GetMNoDataOfCore = GetM
+request_of message.GetMNoDataEOfCore = GetM
+request_of message.PutMDataOfMemory = PutM
+request_of message.PutMDataEOfMemory = PutM
+request_of message.PutMNoDataOfMemory = PutM
+request_of message.PutMNoDataEOfMemory = PutM
+request_of message.PutMDataOfCore = PutM
+request_of message.PutMDataEOfCore = PutM
+request_of message.PutMNoDataOfCore = PutM
+request_of message.PutMNoDataEOfCore = PutM
 
 -- what the response carries
 abbrev pub payload_in : Message → Payload
@@ -110,11 +110,11 @@ operation_in p = record { core = p.did_core; number = p.number_low + p.number_hi
 
 -- its request
 abbrev pub request_in : Packed → Sent
-request_in p = record { core = p.core; request = answered p.message; block = p.block }
+request_in p = record { core = p.core; request = request_of p.message; block = p.block }
 
 -- its response
 abbrev pub response_in : Packed → Came
-response_in p = record { core = p.core; request = answered p.message; block = p.block; from = if is_of_core p.message then Some p.from else None; payload = payload_in p.message }
+response_in p = record { core = p.core; request = request_of p.message; block = p.block; from = if is_of_core p.message then Some p.from else None; payload = payload_in p.message }
 
 -- an item of this kind with what a packed item has
 abbrev pub item_of : Kind → Packed → Item

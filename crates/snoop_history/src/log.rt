@@ -12,8 +12,7 @@ use snoop_trace::{NoMemory, Shape};
 use std::alloc::Global;
 use std::marker::Model;
 
-/// How many items a log may have, since the number of an operation is kept in six bytes. They would take 6.8 petabytes,
-/// more than a process can address.
+/// How many items a log may have, since the number of an operation is kept in six bytes. They would take 6.8 petabytes.
 const MOST_ITEMS: usize = 1 << 48;
 
 /// The history of a machine: the items of its steps in order, with their board and the blocks that they mention,
@@ -52,7 +51,7 @@ impl Log {
     }
 
     /// Makes room for one more item. `NoMemory` leaves all as it was, and comes only where there was no room. A log
-    /// of 2^48 items, more than a process can hold, has no room for more.
+    /// of 2^48 items (6.8 petabytes) has no room for more.
     pub fn reserve(&mut self) -> Result<(), NoMemory>
         ensures ok { OnOk result (0 < self.new.room) }
         ensures same { self.new ≡ record self.old { room = self.new.room } }

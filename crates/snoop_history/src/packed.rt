@@ -5,7 +5,7 @@ ghost use Rattle.snoop_history.specs.declared.packed.Packed.{Packed};
 ghost use Rattle.snoop_history.specs.declared.items.Item.TheVariants as item;
 ghost use Rattle.snoop_history.specs.History.{operation_of};
 ghost use Rattle.snoop_history.specs.Within.{IsWithin};
-ghost use Rattle.snoop_history.specs.Packed.{NumberFits, answered, is_hit, is_load, is_of_core, item_of, operation_in, payload_in, request_in, response_in, unpacked};
+ghost use Rattle.snoop_history.specs.Packed.{NumberFits, request_of, is_hit, is_load, is_of_core, item_of, operation_in, payload_in, request_in, response_in, unpacked};
 
 use crate::items::{Came, Did, Item, Sent};
 use snoop_rules::{Payload, Request};
@@ -76,7 +76,7 @@ impl Kind {
     }
 }
 
-/// The request that a response answers, what it carries, and whether memory or a core sent it.
+/// A request, and of a response what it carries and whether memory or a core sent it.
 #[derive(Clone, Copy, Debug)]
 pub(crate) enum Message {
     GetSDataOfMemory,
@@ -107,7 +107,7 @@ pub(crate) enum Message {
 
 impl Message {
     fn new(request: Request, payload: Payload, of_core: bool) -> Self
-        ensures request { answered result ≡ request }
+        ensures request { request_of result ≡ request }
         ensures payload { payload_in result ≡ payload }
         ensures sender { is_of_core result ≡ of_core }
     {
@@ -140,7 +140,7 @@ impl Message {
     }
 
     fn request(self) -> Request
-        ensures { result ≡ answered self }
+        ensures { result ≡ request_of self }
     {
         match self {
             Message::GetSDataOfMemory

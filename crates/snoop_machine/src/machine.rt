@@ -95,14 +95,15 @@ impl Machine {
         ensures full { result ≡ Err OutOfMemory → IsFull self.old step }
         ensures room { KeepsRoom self.old self.new }
         ensures lines { (core : ℕ) → HoldsOn self.old self.new step core }
-        ensures stays { (self.new.situation.protocol ≡ self.old.situation.protocol) × (self.new.situation.shape ≡ self.old.situation.shape) }
-        ensures replied { IfOk result (λ reply. IsReplyTo step reply) }
-        ensures hit { IfOk result (λ reply. (value : ℕ) → reply ≡ Hit value → IsLoadHit step value self.old.situation.log self.new.situation.log) }
 
         // What `prepare` reported comes true.
         ensures prepared { (entry : Option Item) → IsPrepared self.old step entry → IsOk result × (self.new.situation.log ≡ self.old.situation.log ++ option_to_list entry) }
 
-        // After every step, taken or refused, the machine is coherent, and a load or store stands once in its history or waits.
+        // The rest follows from the above, for the proofs of callers. After every step, taken or refused, the machine is coherent, and
+        // a load or store stands once in its history or waits.
+        ensures stays { (self.new.situation.protocol ≡ self.old.situation.protocol) × (self.new.situation.shape ≡ self.old.situation.shape) }
+        ensures replied { IfOk result (λ reply. IsReplyTo step reply) }
+        ensures hit { IfOk result (λ reply. (value : ℕ) → reply ≡ Hit value → IsLoadHit step value self.old.situation.log self.new.situation.log) }
         ensures safe { IsSafe self.new.situation }
         ensures once { IfOk result (λ reply. OnceMore self.old.situation (step ∷ []) (Ok reply ∷ []) self.new.situation) }
     {

@@ -18,7 +18,7 @@ pub record Viewing : Type 0 where
   pub words : ℕ
   pub seen : List Item
 
--- the reader reads versions of this shape
+-- the reader reads versions of as many cores, blocks and words as this shape has
 abbrev pub IsOfShape : Viewing → Extent → Type 0
 IsOfShape reader shape = (reader.cores ≡ shape.cores) × (reader.blocks ≡ shape.blocks) × (reader.words ≡ shape.words)
 

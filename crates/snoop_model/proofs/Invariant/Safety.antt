@@ -67,7 +67,12 @@ is_coherent s g on_lines queued = record {
 }
 
 pub is_safe : (s : Situation) → MachineKeeps s → IsSafe s
-is_safe s keeps = record { coherent = is_coherent s keeps.inductive keeps.on_lines keeps.queued; finds_rows = finds_rows s keeps.inductive; proper = all_proper s keeps.inductive; well_kept = keeps.well_kept }
+is_safe s keeps = record {
+  coherent = is_coherent s keeps.inductive keeps.on_lines keeps.queued;
+  finds_rows = finds_rows s keeps.inductive;
+  kept = λ core block. (all_proper s keeps.inductive core block).kept;
+  well_kept = keeps.well_kept;
+}
 
 pub reset_keeps : (protocol : Protocol) (shape : Extent) → MachineKeeps (reset protocol shape)
 reset_keeps protocol shape = record {

@@ -2,10 +2,10 @@
 -- Source: this project's profile.
 use Rattle.snoop_model.specs.Coherent.{IsCoherent}
 use Rattle.snoop_trace.specs.declared.step.Step.{Step}
-use Rattle.std.specs.Prelude.{ℕ}
+use Rattle.std.specs.Prelude.{◌≡◌, ℕ, is_some}
 use Rattle.snoop_model.specs.Pictures.Picture.{held_by}
-use Rattle.snoop_model.specs.Pictures.Situation.{Situation, picture_of}
-use Rattle.snoop_model.specs.Pictures.Sound.{IsProper}
+use Rattle.snoop_model.specs.Pictures.Situation.{Situation, picture_of, state_of}
+use Rattle.snoop_model.specs.Pictures.Sound.{keeps}
 use Rattle.snoop_model.specs.Moves.LookUps.{FindsRows}
 use Rattle.snoop_model.specs.Invariant.WellKept.{IsWellKept}
 use Rattle.snoop_model.specs.Runs.Run.{EveryRun}
@@ -14,9 +14,9 @@ use Rattle.snoop_model.specs.Runs.Run.{EveryRun}
 abbrev pub RowsAreFound : Type 0
 RowsAreFound = EveryRun (λ protocol shape steps outcomes s. (step : Step) → FindsRows s step)
 
--- the machine is coherent, no step meets an impossible cell, and lines, queues, open transactions and waiting operations are as the states of the lines say
+-- the machine is coherent, no step meets an impossible cell, a line keeps words exactly in the states that may be read, and queues and open transactions are as the states of the lines say
 pub record IsSafe (s : Situation) : Type 0 where
   pub coherent : IsCoherent s
   pub finds_rows : (step : Step) → FindsRows s step
-  pub proper : (core block : ℕ) → IsProper (held_by (picture_of s block) core)
+  pub kept : (core block : ℕ) → is_some (held_by (picture_of s block) core).kept ≡ keeps (state_of s core block)
   pub well_kept : IsWellKept s
