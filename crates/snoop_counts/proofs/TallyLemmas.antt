@@ -1,6 +1,6 @@
 -- Rows of counters, and how they go up.
-use Rattle.std.proofs.Common.{◌≡◌, ℕ, ◌+◌, ◌<◌, Bool, true, false, cond, List, [], ◌∷◌, ◌++◌, filter, length, length-append, get_or, get_or-set_other, get_or-set_same, set, map, take, refl, sym, ap, append_assoc, ◌∙◌, inl, inr, arith}
-use Rattle.std.specs.Prelude.{◌≢◌, ◌||◌, ◌&&◌, ◌==◌, not, Option, Some, None, Ok, Err, replicate, slice_get, if◌then◌else◌}
+use Rattle.std.proofs.Common.{◌≡◌, ℕ, ◌+◌, ◌<◌, Bool, true, false, cond, List, [], ◌∷◌, ◌++◌, filter, length, length-append, get_or, get_or-set_other, get_or-set_same, set, map, take, refl, sym, ap, append_assoc, subst, ◌∙◌, inl, inr, arith}
+use Rattle.std.specs.Prelude.{◌≢◌, ◌||◌, ◌&&◌, ◌==◌, not, Option, Some, None, Result, Ok, Err, replicate, slice_get, if◌then◌else◌}
 use Rattle.std.specs.List.{list_any}
 use Rattle.std.specs.Option.{option_map_or}
 use Rattle.std.proofs.Math.Bool.{and-true, or-false}
@@ -10,11 +10,17 @@ use Rattle.std.proofs.lemmas.List.Elements.{filter-append}
 use Rattle.std.proofs.lemmas.Option.{slice_get-get_or}
 use Rattle.snoop_history.specs.Journal.{counted}
 use Rattle.snoop_history.specs.Totals.{capped}
+use Rattle.snoop_history.specs.declared.items.Item.{Item}
 use Rattle.snoop_history.specs.declared.items.Item.TheVariants as item
+use Rattle.snoop_trace.specs.declared.step.Step.{Step}
+use Rattle.snoop_model.specs.declared.replies.Reply.{Reply}
+use Rattle.snoop_model.specs.declared.replies.Refused.{Refused}
+use Rattle.snoop_engine.specs.declared.taken.Taken.{Taken}
 use Rattle.snoop_engine.specs.declared.taken.Taken.TheVariants.{Core, Memory, Nobody}
-use Rattle.snoop_counts.specs.Counted.{core_counted, counts, is_counted, is_it, own_core, subject_of, times}
+use Rattle.snoop_counts.specs.Counted.{core_counted, counts, counts_cause, counts_refusal, counts_row, has_row, is_counted, is_it, is_refused, own_core, subject_of, times}
 use Rattle.snoop_blocks.specs.Places.{changed_at}
-use Rattle.snoop_counts.specs.Tally.{Tallies, counter_in, empty_row, number, own_raised, raised_all, raised_by, raised_if, raised_row, row_at, tried}
+use Rattle.snoop_counts.specs.Tally.{HasCounted, Tallies, counter_in, empty_row, number, own_raised, raised, raised_all, raised_by, raised_if, raised_row, row_at, tried}
+use Rattle.snoop_counts.specs.declared.count.Cause.{Cause}
 use Rattle.snoop_counts.specs.declared.count.Count.{Count}
 use Rattle.snoop_counts.specs.declared.count.Count.TheVariants as count
 use Rattle.snoop_counts.specs.declared.count.Happening.{Happening}
@@ -22,6 +28,7 @@ use Rattle.snoop_counts.specs.declared.count.Happening.TheVariants as happening
 use Rattle.snoop_counts.specs.declared.count.Subjects.{Subjects}
 use Rattle.snoop_counts.specs.declared.count.Subjects.TheVariants as subjects
 use Rattle.snoop_counts.specs.declared.tally.Counters.{Counters}
+use Rattle.snoop_counts.specs.declared.tally.Tally.{Tally}
 
 -- all counts, by their places
 abbrev all_counts : List Count
@@ -318,6 +325,46 @@ named seen = count.Supplied ∷ count.Invalidates ∷ tried seen
 abbrev pub all_raised : Subjects → Happening → List Counters → List Counters
 all_raised whose seen rows = raised_by whose count.Supplied seen (raised_by whose count.Invalidates seen (own_raised whose seen rows))
 
+-- no line is counted as supplied
+unsupplied : (step : Step) (outcome : Result Reply Refused) (line : Taken) (why : Option Cause) → counts count.Supplied (happening.Line step outcome line why) ≡ false
+unsupplied step outcome line why =
+    ap (λ (b : Bool). b || is_refused (counts_refusal count.Supplied) outcome || option_map_or (counts_cause count.Supplied) why false) (no_row line)
+    ∙ (ap (λ (b : Bool). b || option_map_or (counts_cause count.Supplied) why false) (no_refusal outcome) ∙ no_cause why)
+  where
+    no_row : (taken : Taken) → has_row (counts_row count.Supplied) taken ≡ false
+    no_row (Core core block (Some event) before) = refl
+    no_row (Core core block None before) = refl
+    no_row (Memory block event before) = refl
+    no_row (Nobody core block) = refl
+
+    no_refusal : (answered : Result Reply Refused) → is_refused (counts_refusal count.Supplied) answered ≡ false
+    no_refusal (Ok answer) = refl
+    no_refusal (Err cause) = refl
+
+    no_cause : (cause : Option Cause) → option_map_or (counts_cause count.Supplied) cause false ≡ false
+    no_cause None = refl
+    no_cause (Some cause) = refl
+
+-- a count that does not count it changes no row
+uncounted : (whose : Subjects) (counted : Count) (seen : Happening) (rows : List Counters) → counts counted seen ≡ false → raised_by whose counted seen rows ≡ rows
+uncounted whose counted seen rows none =
+    ap (λ (b : Bool). cond b (option_map_or (λ subject. raised rows subject counted) (subject_of whose counted seen) rows) rows) none
+
+-- of what a core does to others a line is counted as an invalidation alone
+pub raised_of_line : (whose : Subjects) (step : Step) (outcome : Result Reply Refused) (line : Taken) (why : Option Cause) (rows : List Counters) →
+    let seen : Happening = happening.Line step outcome line why in
+    all_raised whose seen rows ≡ raised_by whose count.Invalidates seen (own_raised whose seen rows)
+raised_of_line whose step outcome line why rows =
+    let seen : Happening = happening.Line step outcome line why in
+    uncounted whose count.Supplied seen (raised_by whose count.Invalidates seen (own_raised whose seen rows)) (unsupplied step outcome line why)
+
+-- and an item as supplied alone
+pub raised_of_item : (whose : Subjects) (entry : Item) (rows : List Counters)
+    → all_raised whose (happening.Item entry) rows ≡ raised_by whose count.Supplied (happening.Item entry) (own_raised whose (happening.Item entry) rows)
+raised_of_item whose entry rows =
+    let seen : Happening = happening.Item entry in
+    ap (raised_by whose count.Supplied seen) (uncounted whose count.Invalidates seen (own_raised whose seen rows) refl)
+
 -- no count is tried twice
 apart_named : (seen : Happening) → are_apart (named seen) ≡ true
 apart_named (happening.Item (item.Did did)) = refl
@@ -376,7 +423,7 @@ is_other : (a : Count) (list : List Count) (c : Count) → not (is_one_of list a
 is_other a list c apart is = sym (and-true (number a == number c)) ∙ ap (λ (k : Bool). (number a == number c) && k) (sym is) ∙ not_both a list c apart
 
 -- after all that are tried, all counts have counted what has happened
-pub raises_all : (whose : Subjects) (seen : Happening) (rows : List Counters) → Raises whose seen (named seen) rows (all_raised whose seen rows)
+raises_all : (whose : Subjects) (seen : Happening) (rows : List Counters) → Raises whose seen (named seen) rows (all_raised whose seen rows)
 raises_all whose seen rows =
     let list : List Count = tried seen in
     let first : List Counters = own_raised whose seen rows in
@@ -404,7 +451,7 @@ counted_capped n true = omega arith
 counted_capped n false = omega arith
 
 -- all counts have counted what has happened
-pub tallies_more : (whose : Subjects) (all : List Happening) (seen : Happening) (old new : List Counters) → Raises whose seen (named seen) old new → Tallies whose old all → Tallies whose new (all ++ seen ∷ [])
+tallies_more : (whose : Subjects) (all : List Happening) (seen : Happening) (old new : List Counters) → Raises whose seen (named seen) old new → Tallies whose old all → Tallies whose new (all ++ seen ∷ [])
 tallies_more whose all seen old new far before = record {
   long = λ s there. far.long s (omega (arith, far.many)) ∙ before.long s (omega (arith, far.many));
   counted = λ s c there.
@@ -429,3 +476,15 @@ tallies_none whose n = record {
 -- one more of these, after others
 pub one_happening_more : (seen all : List Happening) (i : ℕ) (d : Happening) → i < length all → (seen ++ take i all) ++ get_or all i d ∷ [] ≡ seen ++ take (i + 1) all
 one_happening_more seen all i d lt = append_assoc seen (take i all) (get_or all i d ∷ []) ∙ ap (λ (l : List Happening). seen ++ l) (sym (take_more all i d lt))
+
+-- a tally that has counted has counted what happens next too, once all counts are tried
+pub counted_more : (whose : Subjects) (many : ℕ) (seen : List Happening) (it : Happening) (old : Tally) → HasCounted whose many seen old
+    → HasCounted whose many (seen ++ it ∷ []) (record old { rows = all_raised old.subjects it old.rows })
+counted_more whose many seen it old before =
+    let raises = raises_all old.subjects it old.rows in
+    record {
+      subjects = before.subjects;
+      rows = raises.many ∙ before.rows;
+      counted = subst (λ (w : Subjects). Tallies w (all_raised old.subjects it old.rows) (seen ++ it ∷ [])) before.subjects
+          (tallies_more old.subjects seen it old.rows (all_raised old.subjects it old.rows) raises (subst (λ (w : Subjects). Tallies w old.rows seen) (sym before.subjects) before.counted));
+    }

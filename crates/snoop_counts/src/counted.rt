@@ -401,11 +401,7 @@ fn core_counted(count: Count, happening: &Happening) -> Option<u32>
 
 /// For whom it is counted, if for anybody.
 #[inline(always)]
-pub(crate) fn subject_of(
-    subjects: Subjects,
-    count: Count,
-    happening: &Happening,
-) -> Option<u32>
+pub(crate) fn subject_of(subjects: Subjects, count: Count, happening: &Happening) -> Option<u32>
     ensures { result ≡ subject_of subjects count happening.now }
 {
     match subjects {

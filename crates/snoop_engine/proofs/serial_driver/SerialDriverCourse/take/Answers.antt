@@ -7,9 +7,6 @@ take_step-requires-clause-under_way c = c.requires.1.under_way
 pub take_step-requires-clause-enabled : goal.take_step-requires-clause-enabled
 take_step-requires-clause-enabled c = c.requires.1.enabled
 
-pub returns-clause-memory : goal.returns-clause-memory
-returns-clause-memory c = c.requires.1.enabled
-
 pub returns-clause-fewer : goal.returns-clause-fewer
 returns-clause-fewer c before finds =
     fewer_in_order before c.take_step.new.self c.args.step c.in_ok-reply.reply
