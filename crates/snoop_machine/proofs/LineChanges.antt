@@ -10,7 +10,7 @@ use Rattle.snoop_model.specs.Pictures.Sound.{IsProper, keeps}
 use Rattle.snoop_machine.specs.Holders.{HaveMoved}
 use Rattle.snoop_machine.specs.Cache.{Contents, no_cache, line_in, blocks_of}
 use Rattle.snoop_machine.specs.Lines.{Held, AreLines, no_holders, held, rows_of, gone, line_at}
-use Rattle.snoop_machine.proofs.MapRows.{rows-set, blocks-at, length-blocks_of}
+use Rattle.snoop_machine.proofs.MapRows.{rows-set, blocks-at, blocks-same, count-same, length-blocks_of}
 use Rattle.snoop_machine.proofs.LineMaps.{blocks_seen, line_seen, maps-long, gone-none, gone-one, is_I}
 use Rattle.snoop_machine.proofs.LineParts.{AreLines-set, AreLines-kept}
 
@@ -36,8 +36,12 @@ module _ (caches : List Contents) (holders : List Holders) (now : Held) (view : 
   pub others_kept : (k : ℕ) → k ≢ core → slice_index_or (map blocks_of (slice_set caches core new)) k [] ≡ slice_index_or now.lines k []
   others_kept k ne = blocks-at (slice_set caches core new) k ∙ (ap blocks_of (get_or-set_other caches core k new no_cache ne) ∙ blocks_seen caches holders now view k)
 
+  -- the same blocks have lines
+  pub lines_stay : blocks_of new ≡ blocks_of old → map blocks_of (slice_set caches core new) ≡ now.lines
+  lines_stay same = blocks-same caches core new (same ∙ ap blocks_of read) ∙ ap (λ (h : Held). h.lines) view
+
   -- one line fewer where it moves to I
-  pub lines_gone : ((line_at now.rows core block).state ≢ I) ⊎ (line.state ≢ I) → (line.state ≡ I → length new.entries + 1 ≡ length old.entries) → (line.state ≢ I → length new.entries ≡ length old.entries)
+  pub lines_gone : ((line_at now.rows core block).state ≢ I) ⊎ (line.state ≢ I) → (line.state ≡ I → length new.entries + 1 ≡ length old.entries) → (line.state ≢ I → blocks_of new ≡ blocks_of old)
       → length (slice_index_or (map blocks_of (slice_set caches core new)) core []) + gone (line_at now.rows core block).state line.state ≡ length (slice_index_or now.lines core [])
   lines_gone place taken stays =
       let state = (line_at now.rows core block).state in
@@ -53,7 +57,7 @@ module _ (caches : List Contents) (holders : List Holders) (now : Held) (view : 
             omega arith
         | inr ne ↦
             let none = gone-none state line.state ne in
-            let same = stays ne in
+            let same = count-same new old (stays ne) in
             omega arith
       ]
 

@@ -304,7 +304,7 @@ impl<B: Block> Cache<B> {
         ensures here { line_in self.new block ≡ changed next change (line_in self.old block) }
         ensures others { (b : ℕ) → nat_eq block b ≡ false → line_in self.new b ≡ line_in self.old b }
         ensures taken { next ≡ I → length self.new.entries + 1 ≡ length self.old.entries }
-        ensures stays { ¬ (next ≡ I) → length self.new.entries ≡ length self.old.entries }
+        ensures stays { ¬ (next ≡ I) → blocks_of self.new ≡ blocks_of self.old }
     {
         let Some(entry) = self.lines.get_mut(&block) else {
             return CacheState::I;
@@ -331,7 +331,7 @@ impl<B: Block> Cache<B> {
         ensures before { result ≡ (line_in self.old block).state }
         ensures here { line_in self.new block ≡ filled_line next access words.now }
         ensures others { (b : ℕ) → nat_eq block b ≡ false → line_in self.new b ≡ line_in self.old b }
-        ensures stays { length self.new.entries ≡ length self.old.entries }
+        ensures blocks { blocks_of self.new ≡ blocks_of self.old }
     {
         let Some(entry) = self.lines.get_mut(&block) else {
             return CacheState::I;
@@ -354,14 +354,14 @@ impl<B: Block> Cache<B> {
         requires absent { (action : CacheAction) → (next : CacheState) → Cell protocol I event action next → next ≡ I }
         ensures still { IfNone result ((action : CacheAction) × (next : CacheState) × (Cell protocol (line_in self.old block).state event action next × (next ≡ (line_in self.old block).state))) }
         ensures same { IfNone result (line_in self.new block ≡ line_in self.old block) }
-        ensures many { IfNone result (length self.new.entries ≡ length self.old.entries) }
+        ensures blocks { IfNone result (blocks_of self.new ≡ blocks_of self.old) }
         ensures before { IfSome result (λ states. states.0 ≡ (line_in self.old block).state) }
         ensures differs { IfSome result (λ states. states.1 ≢ states.0) }
         ensures row { IfSome result (λ states. (action : CacheAction) × Cell protocol (line_in self.old block).state event action states.1) }
         ensures here { IfSome result (λ states. states.1 ≢ I → line_in self.new block ≡ moves_to states.1 (line_in self.old block)) }
         ensures gone { IfSome result (λ states. states.1 ≡ I → line_in self.new block ≡ nothing_held) }
         ensures taken { IfSome result (λ states. states.1 ≡ I → length self.new.entries + 1 ≡ length self.old.entries) }
-        ensures stays { IfSome result (λ states. states.1 ≢ I → length self.new.entries ≡ length self.old.entries) }
+        ensures stays { IfSome result (λ states. states.1 ≢ I → blocks_of self.new ≡ blocks_of self.old) }
         ensures others { (b : ℕ) → nat_eq block b ≡ false → line_in self.new b ≡ line_in self.old b }
     {
         let entry = self.lines.get_mut(&block)?;

@@ -1,4 +1,4 @@
-use Rattle.std.proofs.Common.{◌≡◌, ◌<◌, List, is_some, length, refl, sym, ◌∙◌, ap, subst, arith, inl}
+use Rattle.std.proofs.Common.{◌≡◌, ◌<◌, List, is_some, length, refl, sym, ◌∙◌, ap, subst, arith}
 use Rattle.std.specs.Prelude.{slice_index_or, nat_eq}
 use Rattle.std.specs.Map.{lookup}
 use Rattle.std.proofs.lemmas.List.{get_or_read, get_or_default, length-set}
@@ -10,7 +10,7 @@ use Rattle.snoop_machine.specs.Holders.{HaveMoved}
 use Rattle.snoop_machine.specs.Cache.{Contents, no_cache, line_in, filled_line}
 use Rattle.snoop_machine.specs.Lines.{no_holders}
 use Rattle.snoop_machine.proofs.LineMaps.{in_rows, held_placed}
-use Rattle.snoop_machine.proofs.LineChanges.{rows_wrote, many_kept, others_kept, lines_gone, lines_alike, lines_moved}
+use Rattle.snoop_machine.proofs.LineChanges.{rows_wrote, lines_stay, lines_alike, lines_moved}
 use Rattle.snoop_machine.proofs.lines.Lines.fill.Given.{Over}
 use Rattle.snoop_machine.proofs.lines.Lines.fill.Goals as goal
 use Rattle.snoop_machine.proofs.lines.Lines.fill.Goals.{After-index_mut-cache, After-fill-before}
@@ -71,24 +71,11 @@ returns-then-are_alike-clause-rows g c =
     rows_wrote c.self.inside.caches.items c.self.inside.holders c.args.self.now c.self.view_is c.self.invariant c.args.core c.args.block (within g d).0 (within g d).1
     c.index_mut-cache.result.now c.fill-before.new.self (read g d) (line g d) (here g (goal.at.returns-then-are_alike-clause-rows g c).After-fill-before) c.fill-before.ensures.others c.self.inside.holders refl
 
-pub returns-then-are_alike-clause-many : goal.returns-then-are_alike-clause-many
-returns-then-are_alike-clause-many g c =
-    let d = (goal.at.returns-then-are_alike-clause-many g c).After-index_mut-cache in
-    many_kept c.self.inside.caches.items c.self.inside.holders c.args.self.now c.self.view_is c.self.invariant c.args.core c.args.block (within g d).0 (within g d).1
-    c.index_mut-cache.result.now c.fill-before.new.self (read g d) (line g d) (here g (goal.at.returns-then-are_alike-clause-many g c).After-fill-before) c.fill-before.ensures.others
-
 pub returns-then-are_alike-clause-lines : goal.returns-then-are_alike-clause-lines
 returns-then-are_alike-clause-lines g c =
     let d = (goal.at.returns-then-are_alike-clause-lines g c).After-index_mut-cache in
-    lines_gone c.self.inside.caches.items c.self.inside.holders c.args.self.now c.self.view_is c.self.invariant c.args.core c.args.block (within g d).0 (within g d).1
-    c.index_mut-cache.result.now c.fill-before.new.self (read g d) (line g d) (here g (goal.at.returns-then-are_alike-clause-lines g c).After-fill-before) c.fill-before.ensures.others
-    (inl c.requires.held) (λ e. absurd (c.requires.lands e)) (λ ne. c.fill-before.ensures.stays)
-
-pub returns-then-are_alike-clause-others : goal.returns-then-are_alike-clause-others
-returns-then-are_alike-clause-others g c =
-    let d = (goal.at.returns-then-are_alike-clause-others g c).After-index_mut-cache in
-    others_kept c.self.inside.caches.items c.self.inside.holders c.args.self.now c.self.view_is c.self.invariant c.args.core c.args.block (within g d).0 (within g d).1
-    c.index_mut-cache.result.now c.fill-before.new.self (read g d) (line g d) (here g (goal.at.returns-then-are_alike-clause-others g c).After-fill-before) c.fill-before.ensures.others
+    lines_stay c.self.inside.caches.items c.self.inside.holders c.args.self.now c.self.view_is c.self.invariant c.args.core c.args.block (within g d).0 (within g d).1
+    c.index_mut-cache.result.now c.fill-before.new.self (read g d) (line g d) (here g (goal.at.returns-then-are_alike-clause-lines g c).After-fill-before) c.fill-before.ensures.others c.fill-before.ensures.blocks
 
 pub returns-clause-rows : goal.returns-clause-rows
 returns-clause-rows g c =
@@ -97,21 +84,8 @@ returns-clause-rows g c =
     c.index_mut-cache.result.now c.fill-before.new.self (read g d) (line g d) (here g (goal.at.returns-clause-rows g c).After-fill-before) c.fill-before.ensures.others c.set.new.self
     (ap (λ (l : List Holders). length l) c.set.ensures ∙ length-set c.self.inside.holders c.args.block c.move_to.new.self)
 
-pub returns-clause-many : goal.returns-clause-many
-returns-clause-many g c =
-    let d = (goal.at.returns-clause-many g c).After-index_mut-cache in
-    many_kept c.self.inside.caches.items c.self.inside.holders c.args.self.now c.self.view_is c.self.invariant c.args.core c.args.block (within g d).0 (within g d).1
-    c.index_mut-cache.result.now c.fill-before.new.self (read g d) (line g d) (here g (goal.at.returns-clause-many g c).After-fill-before) c.fill-before.ensures.others
-
 pub returns-clause-lines : goal.returns-clause-lines
 returns-clause-lines g c =
     let d = (goal.at.returns-clause-lines g c).After-index_mut-cache in
-    lines_gone c.self.inside.caches.items c.self.inside.holders c.args.self.now c.self.view_is c.self.invariant c.args.core c.args.block (within g d).0 (within g d).1
-    c.index_mut-cache.result.now c.fill-before.new.self (read g d) (line g d) (here g (goal.at.returns-clause-lines g c).After-fill-before) c.fill-before.ensures.others
-    (inl c.requires.held) (λ e. absurd (c.requires.lands e)) (λ ne. c.fill-before.ensures.stays)
-
-pub returns-clause-others : goal.returns-clause-others
-returns-clause-others g c =
-    let d = (goal.at.returns-clause-others g c).After-index_mut-cache in
-    others_kept c.self.inside.caches.items c.self.inside.holders c.args.self.now c.self.view_is c.self.invariant c.args.core c.args.block (within g d).0 (within g d).1
-    c.index_mut-cache.result.now c.fill-before.new.self (read g d) (line g d) (here g (goal.at.returns-clause-others g c).After-fill-before) c.fill-before.ensures.others
+    lines_stay c.self.inside.caches.items c.self.inside.holders c.args.self.now c.self.view_is c.self.invariant c.args.core c.args.block (within g d).0 (within g d).1
+    c.index_mut-cache.result.now c.fill-before.new.self (read g d) (line g d) (here g (goal.at.returns-clause-lines g c).After-fill-before) c.fill-before.ensures.others c.fill-before.ensures.blocks

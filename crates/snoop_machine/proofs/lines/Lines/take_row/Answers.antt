@@ -15,7 +15,7 @@ use Rattle.snoop_machine.specs.Holders.{HaveMoved}
 use Rattle.snoop_machine.specs.Cache.{Contents, no_cache, line_in, blocks_of}
 use Rattle.snoop_machine.specs.Lines.{Held, no_holders, held, rows_of, gone, line_at, TookRow}
 use Rattle.snoop_machine.proofs.ProperLines.{settled, moves_to_same}
-use Rattle.snoop_machine.proofs.MapRows.{rows-set, blocks-at, length-blocks_of}
+use Rattle.snoop_machine.proofs.MapRows.{rows-set, blocks-at, count-same, length-blocks_of}
 use Rattle.snoop_machine.proofs.LineMaps.{in_rows, maps-long, line_seen, blocks_seen, gone-none, gone-one, gone-same, is_I}
 use Rattle.snoop_machine.proofs.LineParts.{AreLines-set, AreLines-kept}
 use Rattle.snoop_machine.proofs.lines.Lines.take_row.Given.{Over}
@@ -82,7 +82,7 @@ stayed g c =
     let cell : Cell c.args.protocol held_line.state c.args.event still.0 held_line.state = subst (λ (next : CacheState). Cell c.args.protocol held_line.state c.args.event still.0 next) still.2.1 still.2.0 in
     let same : line_in c.take_row.new.self c.args.block ≡ moves_to held_line.state held_line = c.in_default.ensures.same ∙ sym (moves_to_same held_line proper) in
     let none = gone-same old.state in
-    let many = c.in_default.ensures.many in (
+    let many = count-same c.take_row.new.self c.index_mut-cache.result.now c.in_default.ensures.blocks in (
       still.0,
       record {
         row = subst (λ (x : Line). Cell c.args.protocol x.state c.args.event still.0 x.state) (was g d) cell;
@@ -116,7 +116,7 @@ moved g c =
           }
       | inr ne ↦
           let none = gone-none old.state next ne in
-          let stays = c.in-Some.ensures.stays ne in
+          let stays = count-same c.take_row.new.self c.index_mut-cache.result.now (c.in-Some.ensures.stays ne) in
           record {
             row = row_taken g c;
             here = c.in-Some.ensures.here ne ∙ ap (λ (x : Line). moves_to next x) (was g d);

@@ -1,7 +1,8 @@
-use Rattle.std.proofs.Common.{◌≡◌, ◌++◌, ◌∷◌, [], List, length, Some, None, Bool, true, false, ◌∙◌, refl, sym, ap, subst, Option, arith}
+use Rattle.std.proofs.Common.{◌≡◌, ℕ, ◌++◌, ◌∷◌, [], List, length, Some, None, Bool, true, false, ◌∙◌, refl, sym, ap, subst, Option, arith}
 use Rattle.std.specs.Prelude.{◌≢◌, ◌<◌, slice_set, slice_index_or, option_map, IfSome}
 use Rattle.std.proofs.lemmas.Option.{same_Some}
 use Rattle.snoop_bus.specs.Traffic.{Open}
+use Rattle.snoop_rules.specs.declared.names.CacheState.TheVariants.{I}
 use Rattle.snoop_rules.specs.declared.names.Request.TheVariants.{PutM}
 use Rattle.snoop_history.specs.declared.items.Item.{Item}
 use Rattle.snoop_model.specs.declared.replies.Reply.TheVariants as reply
@@ -29,6 +30,7 @@ use Rattle.snoop_machine.proofs.QueueViews.{IsSound-close}
 use Rattle.snoop_model.proofs.Tables.Rows.{fill-waits, IsProper-fill}
 use Rattle.snoop_machine.proofs.Responses.{Arrives-get}
 use Rattle.snoop_machine.proofs.Following.{follows-set}
+use Rattle.snoop_machine.proofs.LineMaps.{gone-none}
 use Rattle.snoop_machine.proofs.parts.Parts.finish_get.Given.{Over}
 use Rattle.snoop_machine.proofs.parts.Parts.finish_get.Goals as goal
 use Rattle.snoop_machine.proofs.parts.Parts.finish_get.Goals.{In-Some}
@@ -104,7 +106,7 @@ invariant_of-self g c =
     let R : Traffic → Type 0 = λ bus. IsSound m.shape (placed m.lines.rows core block line) bus in
     record {
       sound = subst S (sym c.fill.ensures.rows) (subst R (sym c.finish.ensures.after) (IsSound-close m.shape (placed m.lines.rows core block line) m.bus block in_blocks placed_sound));
-      sized = sized_on m _ c.self.invariant.sized refl c.fill.ensures.many (ap (λ (l : List MemLine). length l) c.settle.ensures ∙ length-set m.memory c.args.block (memory_now g d)) (logged_on m.log c.push.new.self _ _ c.push.ensures);
+      sized = sized_on m _ c.self.invariant.sized refl (ap length c.fill.ensures.lines) (ap (λ (l : List MemLine). length l) c.settle.ensures ∙ length-set m.memory c.args.block (memory_now g d)) (logged_on m.log c.push.new.self _ _ c.push.ensures);
     }
 
 pub returns-clause-responded : goal.returns-clause-responded
@@ -165,28 +167,31 @@ fill-requires-clause-held g c =
     λ e. (let clash : ◌≡◌ {A = Option Request} (Some (request_for c.args.filled.access.op)) None =
     sym (ap (λ (o : Option Access). option_map (λ access. request_for access.op) o) its.waited) ∙ (held.waiting ∙ ap missed_request e) in cc)
 
+-- the line is not in I after it, since it keeps words
+lands : (g : Over) (c : In-Some g) → c.args.filled.next ≢ I
+lands g c =
+    let its = fills_here g c in
+    let proper = IsProper-fill c.self.inside.protocol (line_at c.self.inside.lines.rows c.in-Some.closing.core c.args.block).state its.event its.row.action its.row.next c.args.filled.access.op its.after its.fill its.is_row in
+    let next : c.args.filled.next ≡ its.row.next = ap (λ (x : Line). x.state) its.held in
+    λ e. (let clash : ◌≡◌ {A = Bool} true false = proper.kept ∙ ap keeps (sym next ∙ e) in cc)
+
 pub returns-clause-lines : goal.returns-clause-lines
 returns-clause-lines g c =
     let d = (goal.at.returns-clause-lines g c).In-Some in
     let m = (fields c.self.inside.protocol c.self.inside.shape c.self.inside.lines c.self.inside.memory c.self.inside.bus c.self.inside.log) in
     let next : Picture = record { caches = slice_set (row_of m.lines.rows c.args.block) c.in-Some.closing.core (filled_line c.args.filled.next c.args.filled.access c.in-Some.closing.value); memory = memory_now g d; transaction = None } in
+    let none = gone-none (line_at m.lines.rows c.in-Some.closing.core c.args.block).state c.args.filled.next (lands g d) in
+    let same = ap (λ (lines : List (List ℕ)). length (slice_index_or lines c.in-Some.closing.core [])) c.fill.ensures.lines in
     follows-set m c.self.invariant c.args.self.now c.self.view_is _ c.args.block next c.fill.new.self c.requires.block
     (picture-written m c.args.block next c.fill.new.self.rows c.settle.new.self c.finish.new.self.transactions c.fill.ensures.rows c.settle.ensures (ap (λ (b : Traffic). b.transactions) c.finish.ensures.after)) refl
     c.in-Some.closing.core (filled_line c.args.filled.next c.args.filled.access c.in-Some.closing.value) (in_core g d) refl
-    c.fill.ensures.rows c.fill.ensures.lines c.fill.ensures.others
+    c.fill.ensures.rows (omega arith) (λ k ne. ap (λ (lines : List (List ℕ)). slice_index_or lines k []) c.fill.ensures.lines)
 
 pub fill-requires-clause-word : goal.fill-requires-clause-word
 fill-requires-clause-word g c =
     let held = sym (ap (λ (x : Standing). x.situation.shape.words) c.self.view_is) ∙ c.self.invariant.sized.held in
     let word = c.requires.word.0 in
     omega arith
-
-pub fill-requires-clause-lands : goal.fill-requires-clause-lands
-fill-requires-clause-lands g c =
-    let its = fills_here g (goal.at.fill-requires-clause-lands g c).In-Some in
-    let proper = IsProper-fill c.self.inside.protocol (line_at c.self.inside.lines.rows c.in-Some.closing.core c.args.block).state its.event its.row.action its.row.next c.args.filled.access.op its.after its.fill its.is_row in
-    let next : c.args.filled.next ≡ its.row.next = ap (λ (x : Line). x.state) its.held in
-    λ e. (let clash : ◌≡◌ {A = Bool} true false = proper.kept ∙ ap keeps (sym next ∙ e) in cc)
 
 pub fill-requires-clause-core : goal.fill-requires-clause-core
 fill-requires-clause-core g c =
