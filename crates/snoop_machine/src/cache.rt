@@ -257,7 +257,7 @@ impl<B: Block> Cache<B> {
     /// The block's line, if there is one.
     #[inline(always)]
     pub(crate) fn get(&self, block: u32) -> Option<&Entry<B>>
-        ensures { line_of (option_copied result) ≡ line_in self.now block }
+        ensures { option_copied result ≡ lookup (nat_eq block) self.now.entries }
     {
         self.lines.get(&block)
     }
