@@ -13,7 +13,7 @@ use Rattle.snoop_model.specs.Pictures.Lines.{Line}
 use Rattle.snoop_model.specs.Pictures.Picture.{held_at}
 use Rattle.snoop_model.specs.Pictures.Sound.{IsProper}
 use Rattle.snoop_machine.specs.declared.holders.Holders.{Holders}
-use Rattle.snoop_machine.specs.Holders.{AreHolders}
+use Rattle.snoop_machine.specs.Holders.{AreHolders, no_holders}
 use Rattle.snoop_machine.specs.Cache.{Contents, no_cache, line_in, blocks_of, row_in}
 
 -- what each core holds of the block
@@ -42,10 +42,6 @@ held caches holders =
       lines = map blocks_of caches;
       spares = map (λ cache. cache.spare) caches;
     }
-
--- what stands for the holders of a block that there isn't
-abbrev pub no_holders : Holders
-no_holders = record { owners = []; readers = [] }
 
 -- there are 256 cores at most, each line is proper, and the holders of each block are those of its lines
 pub record AreLines (caches : List Contents) (holders : List Holders) : Type 0 where
