@@ -54,8 +54,8 @@ abbrev pub is_among : List ℕ → ℕ → Bool
 is_among blocks block = list_any (nat_eq block) blocks
 
 -- the line may move to this state: the core holds the block, or its map has a line for it, which leaves I
-abbrev pub IsWritable : Held → ℕ → ℕ → CacheState → Type 0
-IsWritable l core block next = ((line_at l.rows core block).state ≢ I) ⊎ ((is_among (slice_index_or l.lines core []) block ≡ true) × (next ≢ I))
+abbrev pub MayMoveTo : Held → ℕ → ℕ → CacheState → Type 0
+MayMoveTo l core block next = ((line_at l.rows core block).state ≢ I) ⊎ ((is_among (slice_index_or l.lines core []) block ≡ true) × (next ≢ I))
 
 -- whether this is I
 abbrev pub is_invalid : CacheState → Bool

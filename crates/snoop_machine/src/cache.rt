@@ -5,7 +5,7 @@ ghost use Rattle.std.specs.Map.{lookup};
 ghost use Rattle.snoop_rules.specs.declared.names.CacheState.TheVariants.{I};
 ghost use Rattle.snoop_model.specs.Pictures.Picture.{nothing_held, kept_on};
 ghost use Rattle.snoop_machine.specs.Cache.{line_in, line_of, blocks_of, changed, filled_line, IsOfWords};
-ghost use Rattle.snoop_machine.specs.declared.cache.Change.TheVariants.{Hit};
+ghost use Rattle.snoop_machine.specs.declared.cache.LineChange.TheVariants.{Hit};
 ghost use Rattle.snoop_rules.specs.declared.names.CacheState.{CacheState};
 ghost use Rattle.snoop_rules.specs.declared.names.CacheAction.{CacheAction};
 ghost use Rattle.snoop_rules.specs.Cell.{Cell};
@@ -21,7 +21,7 @@ use std::marker::Model;
 
 /// How a line changes beside its state.
 #[derive(Clone, Copy)]
-pub(crate) enum Change {
+pub(crate) enum LineChange {
     /// Nothing is performed.
     Move,
     /// This is performed on the kept words.
@@ -118,7 +118,7 @@ impl<B: Block> Entry<B> {
         ensures { self.new ≡ moves_to next self.old }
     {
         self.state = next;
-        if !keeps_in(next) {
+        if gives_up(next) {
             self.is_kept = false;
         }
     }
@@ -163,14 +163,14 @@ impl<B: Block> Entry<B> {
     }
 
     /// The line moves to its next state, and changes so.
-    fn change(&mut self, next: CacheState, change: Change)
+    fn change(&mut self, next: CacheState, change: LineChange)
         requires { IsOfWords B.count change }
         ensures { self.new ≡ changed next change self.old }
     {
         match change {
-            Change::Move => self.move_to(next),
-            Change::Hit(access) => self.hit(next, access),
-            Change::Wait(waiting) => {
+            LineChange::Move => self.move_to(next),
+            LineChange::Hit(access) => self.hit(next, access),
+            LineChange::Wait(waiting) => {
                 self.move_to(next);
                 self.wait(waiting);
             }
@@ -178,11 +178,11 @@ impl<B: Block> Entry<B> {
     }
 }
 
-/// Whether kept words stay when this state comes.
-fn keeps_in(next: CacheState) -> bool
-    ensures { (kept : Option Data) → kept_on next kept ≡ (if result then kept else None) }
+/// Whether kept words are given up when this state comes.
+fn gives_up(next: CacheState) -> bool
+    ensures { (kept : Option Data) → kept_on next kept ≡ (if result then None else kept) }
 {
-    !matches!(&next, CacheState::I | CacheState::ImAd | CacheState::IiA)
+    matches!(&next, CacheState::I | CacheState::ImAd | CacheState::IiA)
 }
 
 /// The state of a line that a map has, or I where it has none.
@@ -296,7 +296,7 @@ impl<B: Block> Cache<B> {
     }
 
     /// Changes the block's line, and answers the state that it was in. A line that moves to I is taken out.
-    pub(crate) fn change(&mut self, block: u32, next: CacheState, change: Change) -> CacheState
+    pub(crate) fn change(&mut self, block: u32, next: CacheState, change: LineChange) -> CacheState
         requires place { IsSome (lookup (nat_eq block) self.old.entries) }
         requires words { IsOfWords B.count change }
         requires settled { next ≡ I → changed next change (line_in self.old block) ≡ nothing_held }

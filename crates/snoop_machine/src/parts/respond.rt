@@ -82,7 +82,7 @@ impl<B: Block> Parts<B> {
         let Some(closing) = self.bus.finish(block) else {
             unreachable!();
         };
-        self.memory.settle(block, memory, &closing.value);
+        self.memory.take_row(block, memory, &closing.value);
         self.log.push(Item::Came(came, None));
     }
 
@@ -120,7 +120,7 @@ impl<B: Block> Parts<B> {
             filled.access,
             &closing.value,
         );
-        self.memory.settle(block, memory, &closing.value);
+        self.memory.take_row(block, memory, &closing.value);
         self.log.push(Item::Came(came, Some(did)));
         did
     }

@@ -8,7 +8,7 @@ use Rattle.snoop_model.specs.Pictures.Picture.{nothing_held}
 use Rattle.snoop_machine.specs.Cache.{Contents, no_cache, line_in, changed}
 use Rattle.snoop_machine.specs.Lines.{line_at}
 use Rattle.snoop_machine.proofs.ProperLines.{settled}
-use Rattle.snoop_machine.proofs.LineMaps.{in_rows, line_seen, writable_placed}
+use Rattle.snoop_machine.proofs.LineMaps.{in_rows, line_seen, mover_placed}
 use Rattle.snoop_machine.proofs.LineChanges.{HasWritten, lines_after, rows_wrote, many_kept, others_kept, lines_gone}
 use Rattle.snoop_machine.proofs.lines.Lines.change.Given.{Over}
 use Rattle.snoop_machine.proofs.lines.Lines.change.Goals as goal
@@ -38,7 +38,7 @@ index_mut-cache-requires g c =
 pub change-before-requires-clause-place : goal.change-before-requires-clause-place
 change-before-requires-clause-place g c =
     let d = (goal.at.change-before-requires-clause-place g c).After-index_mut-cache in
-    ap (λ (cache : Contents). is_some (lookup (nat_eq c.args.block) cache.entries)) (read g d) ∙ writable_placed c.self.inside.caches.items c.self.inside.holders c.args.self.now c.self.view_is c.args.core c.args.block c.args.next c.requires.place
+    ap (λ (cache : Contents). is_some (lookup (nat_eq c.args.block) cache.entries)) (read g d) ∙ mover_placed c.self.inside.caches.items c.self.inside.holders c.args.self.now c.self.view_is c.args.core c.args.block c.args.next c.requires.place
 
 pub change-before-requires-clause-settled : goal.change-before-requires-clause-settled
 change-before-requires-clause-settled g c =
