@@ -50,7 +50,7 @@ pub record CanBeOrdered (s : Situation) (core : ℕ) (request : Request) (block 
   pub memory_row : TakesMemRow s.protocol (at_memory request) (picture_of s block).memory.state memory
   pub sent : IsMessage s.protocol (picture_of s block) core request (message_sent (picture_of s block) from payload)
 
--- the response to the block's transaction is this one, and memory takes this row for it
+-- the response to the block's transaction is this one, and this is what memory does with it, and its state then
 pub record IsClosing (s : Situation) (block : ℕ) (came : Came) (memory : MemCell) : Type 0 where
   pub opened : option_map came_of (picture_of s block).transaction ≡ Some came
   pub its : came.block ≡ block

@@ -1,4 +1,4 @@
-//! What a step will do, as it was found: decisions, and no words.
+//! What a step will do, as it was found: decisions, and the one value that a hit or a fill performs.
 use crate::ask::Asked;
 use crate::respond::Filled;
 use snoop_history::Came;
