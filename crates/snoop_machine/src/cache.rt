@@ -307,7 +307,7 @@ impl<B: Block> Cache<B> {
         ensures stays { ¬ (next ≡ I) → blocks_of self.new ≡ blocks_of self.old }
     {
         let Some(entry) = self.lines.get_mut(&block) else {
-            return CacheState::I;
+            unreachable!();
         };
         let before = entry.state();
         if matches!(&next, CacheState::I) {
@@ -334,7 +334,7 @@ impl<B: Block> Cache<B> {
         ensures blocks { blocks_of self.new ≡ blocks_of self.old }
     {
         let Some(entry) = self.lines.get_mut(&block) else {
-            return CacheState::I;
+            unreachable!();
         };
         let before = entry.state();
         entry.fill(next, access, words);

@@ -79,21 +79,12 @@ impl<B: Block> Parts<B> {
         requires sender { ForSome from (λ sender. sender < self.now.situation.shape.cores) }
         ensures { result ≡ value_sent (picture_of self.now.situation block) from payload }
     {
+        if !carries_value(payload) {
+            return Kept::zero();
+        }
         match from {
-            Some(sender) => {
-                if carries_value(payload) {
-                    words_of(self.line(sender, block))
-                } else {
-                    Kept::zero()
-                }
-            }
-            None => {
-                if carries_value(payload) {
-                    self.memory_words(block)
-                } else {
-                    Kept::zero()
-                }
-            }
+            Some(sender) => words_of(self.line(sender, block)),
+            None => self.memory_words(block),
         }
     }
 
@@ -118,9 +109,8 @@ impl<B: Block> Parts<B> {
         ensures room { KeepsRoom self.old self.new }
         ensures lines { (k : ℕ) → LosesLines self.old self.new k }
     {
-        let protocol = self.protocol;
         let words = self.words_sent(block, from, payload);
-        self.lines.take_rows(protocol, core, request, block);
+        self.lines.take_rows(self.protocol, core, request, block);
         self.memory.move_to(block, memory);
         self.bus.start(core, payload, words, from);
         self.log.push(Item::Sent(Sent {
