@@ -16,20 +16,18 @@ use Rattle.snoop_history.specs.declared.items.Came.{Came}
 use Rattle.snoop_history.specs.declared.items.Item.{Item}
 use Rattle.snoop_history.specs.declared.items.Item.TheVariants as item
 use Rattle.snoop_machine.specs.declared.ask.Asked.TheVariants as asked
-use Rattle.snoop_model.specs.Pictures.Lines.{Message}
-use Rattle.snoop_model.specs.Pictures.Sends.{value_sent}
 use Rattle.snoop_machine.specs.declared.plan.Plan.{Plan}
 use Rattle.snoop_machine.specs.declared.plan.Plan.TheVariants.{Ask, Order, Writeback, Fill}
 use Rattle.snoop_model.specs.Moves.Standing.{Standing, has_line}
 use Rattle.snoop_model.specs.Moves.Prepared.{room_to_issue}
 use Rattle.snoop_model.specs.Pictures.Situation.{Situation, picture_of}
-use Rattle.snoop_model.specs.Pictures.Picture.{Picture, held_by}
+use Rattle.snoop_model.specs.Pictures.Picture.{held_by}
 use Rattle.snoop_model.specs.Pictures.Sound.{IsProper}
 use Rattle.snoop_model.specs.Moves.Move.{Fills, Settles, IsWithin, TakesMemRow, came_of, next_did}
 use Rattle.snoop_machine.specs.declared.ask.Asked.{Asked}
 use Rattle.snoop_machine.specs.Cache.{filled_line}
 use Rattle.snoop_machine.specs.Asked.{TakesAsk}
-use Rattle.snoop_model.specs.Pictures.Message.{IsMessage}
+use Rattle.snoop_machine.specs.Sender.{IsSender}
 use Rattle.snoop_model.specs.Moves.OrderMove.{IsHead}
 
 -- the step that a plan is for
@@ -39,16 +37,12 @@ step_of (Order core request block from payload memory) = step.Order core
 step_of (Writeback block came memory) = step.Respond block
 step_of (Fill block came memory filled) = step.Respond block
 
--- the message of this sender, with this payload
-abbrev pub message_sent : Picture → Option ℕ → Payload → Message
-message_sent before from payload = record { payload = payload; value = value_sent before from payload; from = from }
-
 -- the core's oldest request can be ordered, with this sender and payload, and leads memory to this state
 pub record CanBeOrdered (s : Situation) (core : ℕ) (request : Request) (block : ℕ) (from : Option ℕ) (payload : Payload) (memory : MemState) : Type 0 where
   pub head : IsHead s core request block
   pub free : (picture_of s block).transaction ≡ None
   pub memory_row : TakesMemRow s.protocol (at_memory request) (picture_of s block).memory.state memory
-  pub sent : IsMessage s.protocol (picture_of s block) core request (message_sent (picture_of s block) from payload)
+  pub sent : IsSender s.protocol (picture_of s block) core request from payload
 
 -- the response to the block's transaction is this one, and this is what memory does with it, and its state then
 pub record IsClosing (s : Situation) (block : ℕ) (came : Came) (memory : MemCell) : Type 0 where
