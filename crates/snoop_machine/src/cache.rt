@@ -354,7 +354,7 @@ impl<B: Block> Cache<B> {
         requires absent { (action : CacheAction) → (next : CacheState) → Cell protocol I event action next → next ≡ I }
         ensures still { IfNone result ((action : CacheAction) × (next : CacheState) × (Cell protocol (line_in self.old block).state event action next × (next ≡ (line_in self.old block).state))) }
         ensures same { IfNone result (line_in self.new block ≡ line_in self.old block) }
-        ensures blocks { IfNone result (blocks_of self.new ≡ blocks_of self.old) }
+        ensures places { IfNone result (blocks_of self.new ≡ blocks_of self.old) }
         ensures before { IfSome result (λ states. states.0 ≡ (line_in self.old block).state) }
         ensures differs { IfSome result (λ states. states.1 ≢ states.0) }
         ensures row { IfSome result (λ states. (action : CacheAction) × Cell protocol (line_in self.old block).state event action states.1) }

@@ -26,13 +26,11 @@ pub enum Plan {
     },
     /// Memory takes the message of a PutM.
     Writeback {
-        block: u32,
         came: Came,
         memory: MemCell,
     },
     /// The requestor takes the data that it waits for, and so does memory where it waits too.
     Fill {
-        block: u32,
         came: Came,
         memory: MemCell,
         filled: Filled,

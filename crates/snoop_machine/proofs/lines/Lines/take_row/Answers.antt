@@ -141,7 +141,7 @@ returns-in_default g c =
     let still = c.in_default.ensures.still in
     let cell : Cell c.args.protocol held_line.state c.args.event still.0 held_line.state = subst (λ (next : CacheState). Cell c.args.protocol held_line.state c.args.event still.0 next) still.2.1 still.2.0 in
     let none = gone-same old.state in
-    let same = ap (λ (lines : List (List ℕ)). length (slice_index_or lines c.args.core [])) (lines_stay wrote c.args.self.now c.self.view_is c.in_default.ensures.blocks) in
+    let same = ap (λ (lines : List (List ℕ)). length (slice_index_or lines c.args.core [])) (lines_stay wrote c.args.self.now c.self.view_is c.in_default.ensures.places) in
     took g at.After-take_row still.0 old.state c.self.inside.holders wrote (subst (λ (x : Line). Cell c.args.protocol x.state c.args.event still.0 x.state) (was g at.After-index_mut-cache) cell) (omega arith)
 
 -- where it moves
