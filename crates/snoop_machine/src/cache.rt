@@ -302,8 +302,9 @@ impl<B: Block> Cache<B> {
         requires settled { next ≡ I → changed next change (line_in self.old block) ≡ nothing_held }
         ensures before { result ≡ (line_in self.old block).state }
         ensures here { line_in self.new block ≡ changed next change (line_in self.old block) }
-        ensures others { (b : ℕ) → nat_eq block b ≡ false → line_in self.new b ≡ line_in self.old b }
-        ensures taken { next ≡ I → length self.new.entries + 1 ≡ length self.old.entries }
+        ensures others { (b : ℕ) → nat_eq block b ≡ false → lookup (nat_eq b) self.new.entries ≡ lookup (nat_eq b) self.old.entries }
+        ensures taken { next ≡ I → lookup (nat_eq block) self.new.entries ≡ None }
+        ensures fewer { next ≡ I → length self.new.entries + 1 ≡ length self.old.entries }
         ensures stays { ¬ (next ≡ I) → blocks_of self.new ≡ blocks_of self.old }
     {
         let Some(entry) = self.lines.get_mut(&block) else {
@@ -330,7 +331,7 @@ impl<B: Block> Cache<B> {
         requires word { access.word < B.count }
         ensures before { result ≡ (line_in self.old block).state }
         ensures here { line_in self.new block ≡ filled_line next access words.now }
-        ensures others { (b : ℕ) → nat_eq block b ≡ false → line_in self.new b ≡ line_in self.old b }
+        ensures others { (b : ℕ) → nat_eq block b ≡ false → lookup (nat_eq b) self.new.entries ≡ lookup (nat_eq b) self.old.entries }
         ensures blocks { blocks_of self.new ≡ blocks_of self.old }
     {
         let Some(entry) = self.lines.get_mut(&block) else {
@@ -359,10 +360,10 @@ impl<B: Block> Cache<B> {
         ensures differs { IfSome result (λ states. states.1 ≢ states.0) }
         ensures row { IfSome result (λ states. (action : CacheAction) × Cell protocol (line_in self.old block).state event action states.1) }
         ensures here { IfSome result (λ states. states.1 ≢ I → line_in self.new block ≡ moves_to states.1 (line_in self.old block)) }
-        ensures gone { IfSome result (λ states. states.1 ≡ I → line_in self.new block ≡ nothing_held) }
-        ensures taken { IfSome result (λ states. states.1 ≡ I → length self.new.entries + 1 ≡ length self.old.entries) }
+        ensures taken { IfSome result (λ states. states.1 ≡ I → lookup (nat_eq block) self.new.entries ≡ None) }
+        ensures fewer { IfSome result (λ states. states.1 ≡ I → length self.new.entries + 1 ≡ length self.old.entries) }
         ensures stays { IfSome result (λ states. states.1 ≢ I → blocks_of self.new ≡ blocks_of self.old) }
-        ensures others { (b : ℕ) → nat_eq block b ≡ false → line_in self.new b ≡ line_in self.old b }
+        ensures others { (b : ℕ) → nat_eq block b ≡ false → lookup (nat_eq b) self.new.entries ≡ lookup (nat_eq b) self.old.entries }
     {
         let entry = self.lines.get_mut(&block)?;
         let before = entry.state();

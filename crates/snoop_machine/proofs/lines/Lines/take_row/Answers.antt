@@ -1,4 +1,4 @@
-use Rattle.std.proofs.Common.{◌≡◌, ◌≢◌, ℕ, ◌+◌, ◌<◌, [], List, length, refl, sym, ◌∙◌, ap, subst, arith, inl, inr, ◌⊎◌}
+use Rattle.std.proofs.Common.{◌≡◌, ◌≢◌, ℕ, ◌+◌, ◌<◌, [], List, length, sym, ◌∙◌, ap, subst, arith, inl, inr, ◌⊎◌}
 use Rattle.std.specs.Prelude.{slice_index_or, slice_set, map}
 use Rattle.std.proofs.lemmas.List.{get_or_read}
 use Rattle.snoop_rules.specs.declared.names.CacheAction.{CacheAction}
@@ -10,7 +10,7 @@ use Rattle.snoop_model.specs.Moves.LookUps.{HasRow}
 use Rattle.snoop_model.specs.Moves.Move.{moves_to}
 use Rattle.snoop_model.specs.Pictures.Lines.{Line}
 use Rattle.snoop_model.specs.Pictures.Sound.{IsProper}
-use Rattle.snoop_machine.specs.Cache.{Contents, no_cache, line_in, blocks_of}
+use Rattle.snoop_machine.specs.Cache.{Contents, no_cache, line_of, line_in, blocks_of}
 use Rattle.snoop_machine.specs.Lines.{held, gone, line_at, TookRow}
 use Rattle.snoop_machine.proofs.ProperLines.{settled, moves_to_same}
 use Rattle.snoop_machine.proofs.LineMaps.{in_rows, line_seen, gone-same, is_I}
@@ -37,16 +37,18 @@ abbrev Wrote : (g : Over) (c : After-take_row g) → CacheState → List Holders
 Wrote g c next after =
     HasWritten c.self.inside.caches.items c.self.inside.holders c.args.core c.args.block (moves_to next (line_at c.args.self.now.rows c.args.core c.args.block)) c.index_mut-cache.result.now c.take_row.new.self after
 
--- the row that was taken, and the lines that go by it
+-- the row that was taken, and the lines that stay and that go by it
 took : (g : Over) (c : After-take_row g) (action : CacheAction) (next : CacheState) (after : List Holders) → Wrote g c next after
     → Cell c.args.protocol (line_at c.args.self.now.rows c.args.core c.args.block).state c.args.event action next
+    → (next ≢ I → blocks_of c.take_row.new.self ≡ blocks_of c.index_mut-cache.result.now)
     → length (slice_index_or (map blocks_of (slice_set c.self.inside.caches.items c.args.core c.take_row.new.self)) c.args.core []) + gone (line_at c.args.self.now.rows c.args.core c.args.block).state next ≡ length (slice_index_or c.args.self.now.lines c.args.core [])
     → TookRow c.args.protocol c.args.event c.args.core c.args.block c.args.self.now (held (slice_set c.self.inside.caches.items c.args.core c.take_row.new.self) after)
-took g c action next after wrote row lines = record {
+took g c action next after wrote row stays lines = record {
   action = action;
   next = next;
   row = row;
   rows = rows_wrote wrote c.args.self.now c.self.view_is;
+  stays = λ ne. lines_stay wrote c.args.self.now c.self.view_is (stays ne);
   many = many_kept wrote c.args.self.now c.self.view_is;
   lines = lines;
   others = others_kept wrote c.args.self.now c.self.view_is;
@@ -66,7 +68,7 @@ stayed g c =
       read = read g d;
       proper = subst (λ (x : Line). IsProper x) (sym (moves_to_same held_line proper) ∙ ap (λ (x : Line). moves_to x.state x) (was g d)) proper;
       here = subst (λ (x : Line). line_in c.take_row.new.self c.args.block ≡ moves_to x.state x) (was g d) same;
-      others = c.take_row.ensures.others;
+      others = λ b ne. ap line_of (c.take_row.ensures.others b ne);
       before = old.state;
       was = sym (ap (λ (x : Line). x.state) (was g d));
       followed = followed-still c.args.core c.args.block old.state c.self.inside.holders;
@@ -91,10 +93,10 @@ moved g c =
       read = read g d;
       proper = proper_after g at.In-Some;
       here = elim (is_I next) [
-        | inl e ↦ c.in-Some.ensures.gone e ∙ sym (settled (moves_to next old) (proper_after g at.In-Some) e)
+        | inl e ↦ ap line_of (c.in-Some.ensures.taken e) ∙ sym (settled (moves_to next old) (proper_after g at.In-Some) e)
         | inr ne ↦ c.in-Some.ensures.here ne ∙ ap (λ (x : Line). moves_to next x) (was g d)
       ];
-      others = c.take_row.ensures.others;
+      others = λ b ne. ap line_of (c.take_row.ensures.others b ne);
       before = c.in-Some.before;
       was = c.in-Some.ensures.before;
       followed = c.follow.ensures;
@@ -142,7 +144,7 @@ returns-in_default g c =
     let cell : Cell c.args.protocol held_line.state c.args.event still.0 held_line.state = subst (λ (next : CacheState). Cell c.args.protocol held_line.state c.args.event still.0 next) still.2.1 still.2.0 in
     let none = gone-same old.state in
     let same = ap (λ (lines : List (List ℕ)). length (slice_index_or lines c.args.core [])) (lines_stay wrote c.args.self.now c.self.view_is c.in_default.ensures.places) in
-    took g at.After-take_row still.0 old.state c.self.inside.holders wrote (subst (λ (x : Line). Cell c.args.protocol x.state c.args.event still.0 x.state) (was g at.After-index_mut-cache) cell) (omega arith)
+    took g at.After-take_row still.0 old.state c.self.inside.holders wrote (subst (λ (x : Line). Cell c.args.protocol x.state c.args.event still.0 x.state) (was g at.After-index_mut-cache) cell) (λ ne. c.in_default.ensures.places) (omega arith)
 
 -- where it moves
 pub invariant_of-self-2 : goal.invariant_of-self-2
@@ -152,5 +154,5 @@ pub returns : goal.returns
 returns g c =
     let at = goal.at.returns g c in
     let wrote = moved g at.After-follow in
-    took g at.After-take_row c.in-Some.ensures.row.0 c.in-Some.after c.follow.new.holders wrote (row_taken g at.In-Some)
-    (lines_gone wrote c.args.self.now c.self.view_is (place g at.In-Some) c.in-Some.ensures.taken c.in-Some.ensures.stays)
+    took g at.After-take_row c.in-Some.ensures.row.0 c.in-Some.after c.follow.new.holders wrote (row_taken g at.In-Some) c.in-Some.ensures.stays
+    (lines_gone wrote c.args.self.now c.self.view_is (place g at.In-Some) c.in-Some.ensures.fewer c.in-Some.ensures.stays)
