@@ -48,8 +48,8 @@ adds_plan old new (plan.Ask asker block word asking Absent) core h same = inl sa
 adds_plan old new (plan.Ask asker block word asking (Hit next value)) core h same = inl same
 adds_plan old new (plan.Ask asker block word asking (Drop next)) core h same = inl same
 adds_plan old new (plan.Order orderer request block from payload memory) core h same = inl same
-adds_plan old new (plan.Writeback block came memory) core h same = inl same
-adds_plan old new (plan.Fill block came memory filled) core h same = inl same
+adds_plan old new (plan.Writeback came memory) core h same = inl same
+adds_plan old new (plan.Fill came memory filled) core h same = inl same
 
 adds_step : (old new : Standing) (taking : Step) (x : Plan) (core : ℕ) → IsPlanFor old.situation taking x → AddsLines x old new core → (line_count new core ≡ line_count old core) ⊎ (NeedsLine old taking core × (line_count new core ≡ line_count old core + 1))
 adds_step old new taking x core h adds =

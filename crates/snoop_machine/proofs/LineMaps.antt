@@ -8,7 +8,7 @@ use Rattle.snoop_rules.specs.declared.names.CacheState.TheVariants.{I, IsAd, IsD
 use Rattle.snoop_model.specs.Pictures.Lines.{Line}
 use Rattle.snoop_machine.specs.declared.holders.Holders.{Holders}
 use Rattle.snoop_machine.specs.Cache.{Contents, no_cache, line_in, blocks_of, row_in}
-use Rattle.snoop_machine.specs.Lines.{Held, held, IsWritable, is_among, is_invalid, gone, row_of, line_at}
+use Rattle.snoop_machine.specs.Lines.{Held, held, MayMoveTo, is_among, is_invalid, gone, row_of, line_at}
 use Rattle.snoop_machine.proofs.MapRows.{within-rows, line-rows, line-none, row-rows, blocks-at, spare-at, among-lookup, found-lookup}
 
 module _ (caches : List Contents) (holders : List Holders) (now : Held) (view : held caches holders ≡ now) where
@@ -59,9 +59,9 @@ module _ (caches : List Contents) (holders : List Holders) (now : Held) (view : 
       go false h = absurd (held (h refl))
 
   -- a line that may be written has a place
-  pub writable_placed : (core block : ℕ) (next : CacheState) → IsWritable now core block next → is_some (lookup (nat_eq block) (slice_index_or caches core no_cache).entries) ≡ true
-  writable_placed core block next (inl held) = held_placed core block held
-  writable_placed core block next (inr new) = among_seen core block ∙ new.0
+  pub mover_placed : (core block : ℕ) (next : CacheState) → MayMoveTo now core block next → is_some (lookup (nat_eq block) (slice_index_or caches core no_cache).entries) ≡ true
+  mover_placed core block next (inl held) = held_placed core block held
+  mover_placed core block next (inr new) = among_seen core block ∙ new.0
 
 -- how many lines go
 pub is_invalid-I : (s : CacheState) → s ≢ I → is_invalid s ≡ false

@@ -3,13 +3,15 @@ use Rattle.std.proofs.Common.{◌≡◌, ℕ, ◌<◌, false, List, length, refl
 use Rattle.std.specs.Prelude.{slice_index_or, slice_set, nat_eq}
 use Rattle.std.proofs.lemmas.Bool.{cases_eq, ne_eqb}
 use Rattle.std.proofs.lemmas.List.{length-set, set-get_or, get_or-set_same, get_or-set_other}
+use Rattle.snoop_rules.specs.declared.names.CacheState.{CacheState}
 use Rattle.snoop_model.specs.Pictures.Lines.{Line}
+use Rattle.snoop_model.specs.Pictures.Picture.{held_at}
 use Rattle.snoop_model.specs.Pictures.Sound.{IsProper, keeps}
 use Rattle.snoop_model.specs.Invariant.Fits.{is_owner}
 use Rattle.snoop_machine.specs.declared.holders.Holders.{Holders}
-use Rattle.snoop_machine.specs.Holders.{AreHolders, HaveMoved}
+use Rattle.snoop_machine.specs.Holders.{AreHolders, HaveMoved, HaveFollowed, no_holders}
 use Rattle.snoop_machine.specs.Cache.{Contents, no_cache, line_in, row_in}
-use Rattle.snoop_machine.specs.Lines.{AreLines, no_holders}
+use Rattle.snoop_machine.specs.Lines.{AreLines}
 use Rattle.snoop_machine.proofs.MapRows.{line-row, row-same, row-set, length-row, AreHolders-moved}
 
 module _ (caches : List Contents) (holders : List Holders) (lines : AreLines caches holders) (core : ℕ) (new : Contents) (within : core < length caches) where
@@ -62,20 +64,22 @@ module _ (caches : List Contents) (holders : List Holders) (lines : AreLines cac
         ];
       }
 
-  -- the new map has another line of one block, in a state that stands in the same sets
-  pub AreLines-kept : (block : ℕ) (line : Line) → block < length holders → IsProper line → line_in new block ≡ line
+  -- the new map has another line of one block, and the holders have followed
+  pub AreLines-followed : (block : ℕ) (line : Line) (before : CacheState) (after : List Holders) → block < length holders → IsProper line → line_in new block ≡ line
       → ((b : ℕ) → nat_eq block b ≡ false → line_in new b ≡ line_in (slice_index_or caches core no_cache) b)
-      → is_owner (line_in (slice_index_or caches core no_cache) block).state ≡ is_owner line.state
-      → keeps (line_in (slice_index_or caches core no_cache) block).state ≡ keeps line.state
-      → AreLines (slice_set caches core new) holders
-  AreLines-kept block line in_blocks proper wrote others owner reader =
+      → before ≡ (line_in (slice_index_or caches core no_cache) block).state
+      → HaveFollowed core block before line.state holders after
+      → AreLines (slice_set caches core new) after
+  AreLines-followed block line before after in_blocks proper wrote others was followed =
       let sets = lines.indexed block in_blocks in
-      let was = line-row caches core block in
-      subst (λ (l : List Holders). AreLines (slice_set caches core new) l) (set-get_or holders block no_holders)
-      (AreLines-set block line (slice_index_or holders block no_holders) in_blocks proper wrote others
-      (record {
-        owner = sets.owners core ∙ (ap (λ (x : Line). is_owner x.state) was ∙ owner);
-        reader = sets.readers core ∙ (ap (λ (x : Line). keeps x.state) was ∙ reader);
-        other_owners = λ k ne. refl;
-        other_readers = λ k ne. refl;
-      }))
+      let stood : (held_at (row_in caches block) core).state ≡ before = ap (λ (x : Line). x.state) (line-row caches core block) ∙ sym was in
+      subst (λ (l : List Holders). AreLines (slice_set caches core new) l) (sym followed.set)
+      (AreLines-set block line followed.moved in_blocks proper wrote others (followed.follows (sets.owners core ∙ ap is_owner stood, sets.readers core ∙ ap keeps stood)))
+
+-- the holders follow a core that stays
+pub followed-still : (core block : ℕ) (state : CacheState) (holders : List Holders) → HaveFollowed core block state state holders holders
+followed-still core block state holders = record {
+  moved = slice_index_or holders block no_holders;
+  set = sym (set-get_or holders block no_holders);
+  follows = λ stands. record { owner = stands.0; reader = stands.1; other_owners = λ k ne. refl; other_readers = λ k ne. refl };
+}

@@ -156,6 +156,10 @@ spare-at (cache ∷ caches) (suc core) = spare-at caches core
 pub length-blocks_of : (cache : Contents) → length (blocks_of cache) ≡ length cache.entries
 length-blocks_of cache = length-map cache.entries (λ (e : ℕ × Line). e.0)
 
+-- as many lines as blocks that have one
+pub count-same : (new old : Contents) → blocks_of new ≡ blocks_of old → length new.entries ≡ length old.entries
+count-same new old same = sym (length-blocks_of new) ∙ (ap (λ (blocks : List ℕ). length blocks) same ∙ length-blocks_of old)
+
 -- a block is among those with a line where the look-up finds one
 pub among-lookup : (entries : List (ℕ × Line)) (block : ℕ) → is_among (keys_of entries) block ≡ is_some (lookup (nat_eq block) entries)
 among-lookup [] block = refl
@@ -177,10 +181,10 @@ found-lookup entries block none = go (lookup (nat_eq block) entries) none
 pub line-same : (new old : Contents) → new.entries ≡ old.entries → (block : ℕ) → line_in new block ≡ line_in old block
 line-same new old same block = ap (λ (entries : List (ℕ × Line)). unwrap_or (lookup (nat_eq block) entries) nothing_held) same
 
-pub blocks-same : (caches : List Contents) (core : ℕ) (new : Contents) → new.entries ≡ (slice_index_or caches core no_cache).entries → map blocks_of (slice_set caches core new) ≡ map blocks_of caches
+pub blocks-same : (caches : List Contents) (core : ℕ) (new : Contents) → blocks_of new ≡ blocks_of (slice_index_or caches core no_cache) → map blocks_of (slice_set caches core new) ≡ map blocks_of caches
 blocks-same caches core new same =
     map-set blocks_of caches core new
-    ∙ (ap (λ (blocks : List ℕ). slice_set (map blocks_of caches) core blocks) (ap (λ (entries : List (ℕ × Line)). keys_of entries) same ∙ sym (blocks-at caches core))
+    ∙ (ap (λ (blocks : List ℕ). slice_set (map blocks_of caches) core blocks) (same ∙ sym (blocks-at caches core))
     ∙ set-get_or (map blocks_of caches) core [])
 
 pub blocks-empty : (caches : List Contents) → ((core : ℕ) → (slice_index_or caches core no_cache).entries ≡ []) → map blocks_of caches ≡ replicate (length caches) []

@@ -121,8 +121,8 @@ opened_of (Some closing) came e = (closing, (refl, same_Some _ _ e))
 pub plan-allowed : (s : Situation) (x : Plan) → IsPlan s x → (cause : Refused) → ¬ Refuses s (step_of x) cause
 plan-allowed s (plan.Ask core block word asking way) h = ask-allowed s core block word asking way h.0.0 h.0.1 h.3 h.1
 plan-allowed s (plan.Order core request block from payload memory) h = order-allowed s core block request h.0 h.1.head h.1.free
-plan-allowed s (plan.Writeback block came memory) h = let k = opened_of (picture_of s block).transaction came h.1.opened in respond-allowed s block k.0 h.0 k.1.0
-plan-allowed s (plan.Fill block came memory filled) h = let k = opened_of (picture_of s block).transaction came h.1.opened in respond-allowed s block k.0 h.0 k.1.0
+plan-allowed s (plan.Writeback came memory) h = let k = opened_of (picture_of s came.block).transaction came h.1.opened in respond-allowed s came.block k.0 h.0 k.1.0
+plan-allowed s (plan.Fill came memory filled) h = let k = opened_of (picture_of s came.block).transaction came h.1.opened in respond-allowed s came.block k.0 h.0 k.1.0
 
 -- an operation on one value loads or stores one value
 performs-one : (word : ℕ) (asking : Op) (a b : List ℕ) (v w : ℕ) (m n : List ℕ) → a ≡ b → Performs word asking a v m → Performs word asking b w n → v ≡ w
@@ -184,29 +184,29 @@ plan-adds s (plan.Order core request block from payload memory) h answer new add
     let its : m.1.1.request ≡ request = same_Some _ _ (sym (subst W same orders.ready.0) ∙ h.1.head.waits) in
     m.1.1.logged ∙ (ap (λ (b : ℕ). let r : Option Item = Some (item.Sent (record { core = core; request = m.1.1.request; block = b })) in r) same
     ∙ ap (λ (q : Request). let r : Option Item = Some (item.Sent (record { core = core; request = q; block = block })) in r) its)
-plan-adds s (plan.Writeback block came memory) h answer new added m =
-    let k = opened_of (picture_of s block).transaction came h.1.opened in
+plan-adds s (plan.Writeback came memory) h answer new added m =
+    let k = opened_of (picture_of s came.block).transaction came h.1.opened in
     let responds = m.1.1.responds in
-    let on : m.0 ≡ block = sym m.1.1.on_block in
+    let on : m.0 ≡ came.block = sym m.1.1.on_block in
     let P : ℕ → Type 0 = λ b. (picture_of s b).transaction ≡ Some m.1.1.closing in
     let same : m.1.1.closing ≡ k.0 = same_Some _ _ (sym (subst P on responds.opened) ∙ k.1.0) in
     let its : came_of m.1.1.closing ≡ came = ap came_of same ∙ k.1.1 in
     let none = none_of m.1.1.closing.request m.1.1.closing s.protocol s.log (picture_of s m.0).caches responds.next.caches m.1.1.did (ap (λ (x : Came). x.request) its ∙ h.2) responds.requestor in
     m.1.1.logged ∙ (ap (λ (x : Came). let r : Option Item = Some (item.Came x m.1.1.did) in r) its
     ∙ ap (λ (d : Option Did). let r : Option Item = Some (item.Came came d) in r) none)
-plan-adds s (plan.Fill block came memory filled) h answer new added m =
-    let k = opened_of (picture_of s block).transaction came h.1.opened in
+plan-adds s (plan.Fill came memory filled) h answer new added m =
+    let k = opened_of (picture_of s came.block).transaction came h.1.opened in
     let closing = k.0 in
     let responds = m.1.1.responds in
-    let on : m.0 ≡ block = sym m.1.1.on_block in
+    let on : m.0 ≡ came.block = sym m.1.1.on_block in
     let P : ℕ → Type 0 = λ b. (picture_of s b).transaction ≡ Some m.1.1.closing in
     let same : m.1.1.closing ≡ closing = same_Some _ _ (sym (subst P on responds.opened) ∙ k.1.0) in
     let get : closing.request ≢ PutM = λ e. h.2 (sym (ap (λ (x : Came). x.request) k.1.1) ∙ e) in
     let Q : Open → Type 0 = λ o. ArrivesFor o.request o s.protocol s.log (picture_of s m.0).caches responds.next.caches m.1.1.did in
     let fills = fills_of closing.request closing s.protocol s.log (picture_of s m.0).caches responds.next.caches m.1.1.did get (subst Q same responds.requestor) in
     let R : ℕ → Type 0 = λ b. FillsRequestor closing s.protocol s.log (picture_of s b).caches responds.next.caches m.1.1.did in
-    let F : Option Open → Type 0 = λ o. IfSome o (λ x. Fills x s.protocol (held_by (picture_of s block) x.core) (filled_line filled.next filled.access x.value) filled.access filled.value) in
-    let did = fills-adds closing s.protocol s.log (picture_of s block).caches responds.next.caches m.1.1.did _ filled.access filled.value (subst R on fills) (subst F k.1.0 h.3) in
+    let F : Option Open → Type 0 = λ o. IfSome o (λ x. Fills x s.protocol (held_by (picture_of s came.block) x.core) (filled_line filled.next filled.access x.value) filled.access filled.value) in
+    let did = fills-adds closing s.protocol s.log (picture_of s came.block).caches responds.next.caches m.1.1.did _ filled.access filled.value (subst R on fills) (subst F k.1.0 h.3) in
     m.1.1.logged ∙ (ap (λ (o : Open). let r : Option Item = Some (item.Came (came_of o) m.1.1.did) in r) same
     ∙ (ap (λ (d : Option Did). let r : Option Item = Some (item.Came (came_of closing) d) in r) did
     ∙ ap (λ (x : Came). let r : Option Item = Some (item.Came x (Some (next_did s.log x.core x.block filled.access.word filled.access.op filled.value false))) in r) k.1.1))
@@ -230,8 +230,8 @@ plan-room before (plan.Ask core block word asking way) h some full =
     clash b k n (Issue request next) e l = absurd (omega arith)
     clash b k n (Drop next) e l = cc
 plan-room before (plan.Order core request block from payload memory) h some full = absurd (omega arith)
-plan-room before (plan.Writeback block came memory) h some full = absurd (omega arith)
-plan-room before (plan.Fill block came memory filled) h some full = absurd (omega arith)
+plan-room before (plan.Writeback came memory) h some full = absurd (omega arith)
+plan-room before (plan.Fill came memory filled) h some full = absurd (omega arith)
 
 -- where the plan has no room the step has none
 plan-full : (before : Standing) (x : Plan) → IsPlan before.situation x → room_for before x ≡ 0 → IsFull before (step_of x)
@@ -240,8 +240,8 @@ plan-full before (plan.Ask core block word asking (Hit next value)) h none = (ac
 plan-full before (plan.Ask core block word asking (Issue request next)) h none = (action.Issue request, (next, (h.1, none)))
 plan-full before (plan.Ask core block word asking (Drop next)) h none = absurd (omega arith)
 plan-full before (plan.Order core request block from payload memory) h none = none
-plan-full before (plan.Writeback block came memory) h none = none
-plan-full before (plan.Fill block came memory filled) h none = none
+plan-full before (plan.Writeback came memory) h none = none
+plan-full before (plan.Fill came memory filled) h none = none
 
 pub IsFull-plan : (before : Standing) (taking : Step) (x : Plan) → IsPlanFor before.situation taking x → room_for before x ≡ 0 → IsFull before taking
 IsFull-plan before taking x h none = subst (IsFull before) h.0 (plan-full before x h.1 none)
@@ -256,8 +256,8 @@ ask-room before core block (Drop next) h = omega arith
 some-room : (before : Standing) (x : Plan) → HasRoom before x → 0 < room_for before x
 some-room before (plan.Ask core block word asking way) h = ask-room before core block way h
 some-room before (plan.Order core request block from payload memory) h = h
-some-room before (plan.Writeback block came memory) h = h
-some-room before (plan.Fill block came memory filled) h = h
+some-room before (plan.Writeback came memory) h = h
+some-room before (plan.Fill came memory filled) h = h
 
 -- a planned step is refused as out of memory alone
 pub RefusedFor-memory : (s : Situation) (taking : Step) (x : Plan) → IsPlanFor s taking x → RefusedFor s taking NoMemory

@@ -11,7 +11,7 @@ use Rattle.snoop_rules.specs.Cell.{Cell}
 use Rattle.snoop_rules.specs.Takers.{asked}
 use Rattle.snoop_model.specs.Pictures.Lines.{Line}
 use Rattle.snoop_machine.specs.Cache.{changed}
-use Rattle.snoop_machine.specs.declared.cache.Change.TheVariants as change
+use Rattle.snoop_machine.specs.declared.cache.LineChange.TheVariants as change
 use Rattle.snoop_machine.specs.declared.ask.Asked.{Asked}
 use Rattle.snoop_machine.specs.declared.ask.Asked.TheVariants.{Absent, Hit, Issue, Drop}
 use Rattle.snoop_model.specs.declared.replies.Refused.{Refused}

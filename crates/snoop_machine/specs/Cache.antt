@@ -9,8 +9,8 @@ use Rattle.snoop_trace.specs.Words.{Data}
 use Rattle.snoop_trace.specs.declared.step.Op.{Op}
 use Rattle.snoop_trace.specs.declared.step.Op.TheVariants as op
 use Rattle.snoop_rules.specs.declared.names.CacheState.{CacheState}
-use Rattle.snoop_machine.specs.declared.cache.Change.{Change}
-use Rattle.snoop_machine.specs.declared.cache.Change.TheVariants.{Hit, Wait}
+use Rattle.snoop_machine.specs.declared.cache.LineChange.{LineChange}
+use Rattle.snoop_machine.specs.declared.cache.LineChange.TheVariants.{Hit, Wait}
 
 -- the entries of a core's map, by block, and for how many more there is room
 pub record Contents : Type 0 where
@@ -43,17 +43,17 @@ words_after word (op.Store value) words = slice_set words word value
 words_after word _ words = words
 
 -- what is kept after a change: a hit is performed on it
-abbrev pub kept_after : CacheState → Change → Option Data → Option Data
+abbrev pub kept_after : CacheState → LineChange → Option Data → Option Data
 kept_after next (Hit access) kept = option_map (words_after access.word access.op) kept
 kept_after next _ kept = kept_on next kept
 
 -- what waits after a change
-abbrev pub waiting_after : Change → Option Access → Option Access
+abbrev pub waiting_after : LineChange → Option Access → Option Access
 waiting_after (Wait waiting) before = waiting
 waiting_after _ before = before
 
 -- a line after a change
-abbrev pub changed : CacheState → Change → Line → Line
+abbrev pub changed : CacheState → LineChange → Line → Line
 changed next change old = record { state = next; kept = kept_after next change old.kept; waiting = waiting_after change old.waiting }
 
 -- a line that was filled with these words, on which an operation was performed
@@ -61,6 +61,6 @@ abbrev pub filled_line : CacheState → Access → Data → Line
 filled_line next access words = record { state = next; kept = Some (words_after access.word access.op words); waiting = None }
 
 -- an operation that is performed is of a word that blocks have
-abbrev pub IsOfWords : ℕ → Change → Type 0
+abbrev pub IsOfWords : ℕ → LineChange → Type 0
 IsOfWords count (Hit access) = access.word < count
 IsOfWords count _ = ⊤

@@ -1,6 +1,6 @@
 -- The cores of a block that another's request concerns.
 -- Source: "A Primer on Memory Consistency and Cache Coherence", 2nd edition, chapter 7; that an Order looks at no other cores is this project's profile.
-use Rattle.std.specs.Prelude.{◌≡◌, ◌≢◌, ℕ, Bool, false, List}
+use Rattle.std.specs.Prelude.{◌≡◌, ◌≢◌, ℕ, Bool, false, List, [], slice_index_or, slice_set}
 use Rattle.snoop_rules.specs.declared.names.CacheState.{CacheState}
 use Rattle.snoop_rules.specs.declared.names.Request.{Request}
 use Rattle.snoop_rules.specs.declared.names.Request.TheVariants.{GetS, GetM, PutM}
@@ -32,3 +32,17 @@ pub record HaveMoved (core : ℕ) (state : CacheState) (old new : Holders) : Typ
   pub reader : has new.readers core ≡ keeps state
   pub other_owners : (k : ℕ) → k ≢ core → has new.owners k ≡ has old.owners k
   pub other_readers : (k : ℕ) → k ≢ core → has new.readers k ≡ has old.readers k
+
+-- what stands for the holders of a block that there isn't
+abbrev pub no_holders : Holders
+no_holders = record { owners = []; readers = [] }
+
+-- the core stands in the sets as one in this state does
+abbrev pub StandsAs : ℕ → CacheState → Holders → Type 0
+StandsAs core state holders = (has holders.owners core ≡ is_owner state) × (has holders.readers core ≡ keeps state)
+
+-- the holders of one block, where the core stood as in the first state, have it as in the second, and nothing else has changed
+pub record HaveFollowed (core block : ℕ) (before after : CacheState) (old new : List Holders) : Type 0 where
+  pub moved : Holders
+  pub set : new ≡ slice_set old block moved
+  pub follows : StandsAs core before (slice_index_or old block no_holders) → HaveMoved core after (slice_index_or old block no_holders) moved

@@ -1,5 +1,6 @@
 pub mod Cache
 pub mod Asked
+pub mod Sender
 pub mod Plan
 pub mod Memory
 pub mod PartsView

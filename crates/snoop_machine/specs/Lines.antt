@@ -13,7 +13,7 @@ use Rattle.snoop_model.specs.Pictures.Lines.{Line}
 use Rattle.snoop_model.specs.Pictures.Picture.{held_at}
 use Rattle.snoop_model.specs.Pictures.Sound.{IsProper}
 use Rattle.snoop_machine.specs.declared.holders.Holders.{Holders}
-use Rattle.snoop_machine.specs.Holders.{AreHolders}
+use Rattle.snoop_machine.specs.Holders.{AreHolders, no_holders}
 use Rattle.snoop_machine.specs.Cache.{Contents, no_cache, line_in, blocks_of, row_in}
 
 -- what each core holds of the block
@@ -43,10 +43,6 @@ held caches holders =
       spares = map (λ cache. cache.spare) caches;
     }
 
--- what stands for the holders of a block that there isn't
-abbrev pub no_holders : Holders
-no_holders = record { owners = []; readers = [] }
-
 -- there are 256 cores at most, each line is proper, and the holders of each block are those of its lines
 pub record AreLines (caches : List Contents) (holders : List Holders) : Type 0 where
   pub few : length caches < 257
@@ -58,8 +54,8 @@ abbrev pub is_among : List ℕ → ℕ → Bool
 is_among blocks block = list_any (nat_eq block) blocks
 
 -- the line may move to this state: the core holds the block, or its map has a line for it, which leaves I
-abbrev pub IsWritable : Held → ℕ → ℕ → CacheState → Type 0
-IsWritable l core block next = ((line_at l.rows core block).state ≢ I) ⊎ ((is_among (slice_index_or l.lines core []) block ≡ true) × (next ≢ I))
+abbrev pub MayMoveTo : Held → ℕ → ℕ → CacheState → Type 0
+MayMoveTo l core block next = ((line_at l.rows core block).state ≢ I) ⊎ ((is_among (slice_index_or l.lines core []) block ≡ true) × (next ≢ I))
 
 -- whether this is I
 abbrev pub is_invalid : CacheState → Bool
@@ -81,6 +77,7 @@ pub record TookRow (protocol : Protocol) (event : CacheEvent) (core block : ℕ)
   pub next : CacheState
   pub row : Cell protocol (line_at old.rows core block).state event action next
   pub rows : new.rows ≡ slice_set old.rows block (slice_set (row_of old.rows block) core (moves_to next (line_at old.rows core block)))
+  pub stays : next ≢ I → new.lines ≡ old.lines
   pub many : length new.lines ≡ length old.lines
   pub lines : length (slice_index_or new.lines core []) + gone (line_at old.rows core block).state next ≡ length (slice_index_or old.lines core [])
   pub others : (k : ℕ) → k ≢ core → slice_index_or new.lines k [] ≡ slice_index_or old.lines k []

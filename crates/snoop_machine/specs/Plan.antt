@@ -16,56 +16,49 @@ use Rattle.snoop_history.specs.declared.items.Came.{Came}
 use Rattle.snoop_history.specs.declared.items.Item.{Item}
 use Rattle.snoop_history.specs.declared.items.Item.TheVariants as item
 use Rattle.snoop_machine.specs.declared.ask.Asked.TheVariants as asked
-use Rattle.snoop_model.specs.Pictures.Lines.{Message}
-use Rattle.snoop_model.specs.Pictures.Sends.{value_sent}
 use Rattle.snoop_machine.specs.declared.plan.Plan.{Plan}
 use Rattle.snoop_machine.specs.declared.plan.Plan.TheVariants.{Ask, Order, Writeback, Fill}
 use Rattle.snoop_model.specs.Moves.Standing.{Standing, has_line}
 use Rattle.snoop_model.specs.Moves.Prepared.{room_to_issue}
 use Rattle.snoop_model.specs.Pictures.Situation.{Situation, picture_of}
-use Rattle.snoop_model.specs.Pictures.Picture.{Picture, held_by}
+use Rattle.snoop_model.specs.Pictures.Picture.{held_by}
 use Rattle.snoop_model.specs.Pictures.Sound.{IsProper}
 use Rattle.snoop_model.specs.Moves.Move.{Fills, Settles, IsWithin, TakesMemRow, came_of, next_did}
 use Rattle.snoop_machine.specs.declared.ask.Asked.{Asked}
 use Rattle.snoop_machine.specs.Cache.{filled_line}
 use Rattle.snoop_machine.specs.Asked.{TakesAsk}
-use Rattle.snoop_model.specs.Pictures.Message.{IsMessage}
+use Rattle.snoop_machine.specs.Sender.{IsSender}
 use Rattle.snoop_model.specs.Moves.OrderMove.{IsHead}
 
 -- the step that a plan is for
 abbrev pub step_of : Plan → Step
 step_of (Ask core block word asking way) = step.Ask core block word asking
 step_of (Order core request block from payload memory) = step.Order core
-step_of (Writeback block came memory) = step.Respond block
-step_of (Fill block came memory filled) = step.Respond block
-
--- the message of this sender, with this payload
-abbrev pub message_sent : Picture → Option ℕ → Payload → Message
-message_sent before from payload = record { payload = payload; value = value_sent before from payload; from = from }
+step_of (Writeback came memory) = step.Respond came.block
+step_of (Fill came memory filled) = step.Respond came.block
 
 -- the core's oldest request can be ordered, with this sender and payload, and leads memory to this state
 pub record CanBeOrdered (s : Situation) (core : ℕ) (request : Request) (block : ℕ) (from : Option ℕ) (payload : Payload) (memory : MemState) : Type 0 where
   pub head : IsHead s core request block
   pub free : (picture_of s block).transaction ≡ None
   pub memory_row : TakesMemRow s.protocol (at_memory request) (picture_of s block).memory.state memory
-  pub sent : IsMessage s.protocol (picture_of s block) core request (message_sent (picture_of s block) from payload)
+  pub sent : IsSender s.protocol (picture_of s block) core request from payload
 
--- the response to the block's transaction is this one, and memory takes this row for it
-pub record IsClosing (s : Situation) (block : ℕ) (came : Came) (memory : MemCell) : Type 0 where
-  pub opened : option_map came_of (picture_of s block).transaction ≡ Some came
-  pub its : came.block ≡ block
+-- the response to its block's transaction is this one, and this is what memory does with it, and its state then
+pub record IsClosing (s : Situation) (came : Came) (memory : MemCell) : Type 0 where
+  pub opened : option_map came_of (picture_of s came.block).transaction ≡ Some came
   pub core : came.core < s.shape.cores
   pub sender : ForSome came.from (λ sender. sender < s.shape.cores)
-  pub settles : Settles s.protocol came.request came.payload (picture_of s block).memory.state memory.action memory.next
+  pub settles : Settles s.protocol came.request came.payload (picture_of s came.block).memory.state memory.action memory.next
 
 -- the rows were found for what the plan says
 abbrev pub IsPlan : Situation → Plan → Type 0
 IsPlan s (Ask core block word asking way) = IsWithin s core block × TakesAsk s.protocol (held_by (picture_of s block) core) word asking way × IsProper (held_by (picture_of s block) core) × HasWord s.shape word asking
 IsPlan s (Order core request block from payload memory) = (core < s.shape.cores) × CanBeOrdered s core request block from payload memory
-IsPlan s (Writeback block came memory) = (block < s.shape.blocks) × IsClosing s block came memory × (came.request ≡ PutM)
-IsPlan s (Fill block came memory filled) =
-    (block < s.shape.blocks) × IsClosing s block came memory × (came.request ≢ PutM)
-    × IfSome (picture_of s block).transaction (λ closing. Fills closing s.protocol (held_by (picture_of s block) closing.core) (filled_line filled.next filled.access closing.value) filled.access filled.value)
+IsPlan s (Writeback came memory) = (came.block < s.shape.blocks) × IsClosing s came memory × (came.request ≡ PutM)
+IsPlan s (Fill came memory filled) =
+    (came.block < s.shape.blocks) × IsClosing s came memory × (came.request ≢ PutM)
+    × IfSome (picture_of s came.block).transaction (λ closing. Fills closing s.protocol (held_by (picture_of s came.block) closing.core) (filled_line filled.next filled.access closing.value) filled.access filled.value)
     × IsWord s.shape filled.access.word
 
 -- a plan for this step
@@ -90,15 +83,15 @@ HasRoomToAsk before core block (asked.Drop next) = ⊤
 abbrev pub room_for : Standing → Plan → ℕ
 room_for before (Ask core block word asking way) = room_for_ask before core block way
 room_for before (Order core request block from payload memory) = before.room
-room_for before (Writeback block came memory) = before.room
-room_for before (Fill block came memory filled) = before.room
+room_for before (Writeback came memory) = before.room
+room_for before (Fill came memory filled) = before.room
 
 -- there is room for what the planned step adds
 abbrev pub HasRoom : Standing → Plan → Type 0
 HasRoom before (Ask core block word asking way) = HasRoomToAsk before core block way
 HasRoom before (Order core request block from payload memory) = 0 < before.room
-HasRoom before (Writeback block came memory) = 0 < before.room
-HasRoom before (Fill block came memory filled) = 0 < before.room
+HasRoom before (Writeback came memory) = 0 < before.room
+HasRoom before (Fill came memory filled) = 0 < before.room
 
 -- the item that an Ask adds: a hit is performed at once
 abbrev pub entry_of_ask : List Item → ℕ → ℕ → ℕ → Op → Asked → Option Item
@@ -111,6 +104,6 @@ entry_of_ask log core block word asking (asked.Drop next) = None
 abbrev pub entry_of : List Item → Plan → Option Item
 entry_of log (Ask core block word asking way) = entry_of_ask log core block word asking way
 entry_of log (Order core request block from payload memory) = Some (item.Sent (record { core = core; request = request; block = block }))
-entry_of log (Writeback block came memory) = Some (item.Came came None)
-entry_of log (Fill block came memory filled) =
+entry_of log (Writeback came memory) = Some (item.Came came None)
+entry_of log (Fill came memory filled) =
     Some (item.Came came (Some (next_did log came.core came.block filled.access.word filled.access.op filled.value false)))

@@ -5,7 +5,7 @@ ghost use Rattle.std.specs.Map.{lookup};
 ghost use Rattle.snoop_rules.specs.declared.names.CacheState.TheVariants.{I};
 ghost use Rattle.snoop_model.specs.Pictures.Picture.{nothing_held, kept_on};
 ghost use Rattle.snoop_machine.specs.Cache.{line_in, line_of, blocks_of, changed, filled_line, IsOfWords};
-ghost use Rattle.snoop_machine.specs.declared.cache.Change.TheVariants.{Hit};
+ghost use Rattle.snoop_machine.specs.declared.cache.LineChange.TheVariants.{Hit};
 ghost use Rattle.snoop_rules.specs.declared.names.CacheState.{CacheState};
 ghost use Rattle.snoop_rules.specs.declared.names.CacheAction.{CacheAction};
 ghost use Rattle.snoop_rules.specs.Cell.{Cell};
@@ -21,7 +21,7 @@ use std::marker::Model;
 
 /// How a line changes beside its state.
 #[derive(Clone, Copy)]
-pub(crate) enum Change {
+pub(crate) enum LineChange {
     /// Nothing is performed.
     Move,
     /// This is performed on the kept words.
@@ -118,7 +118,7 @@ impl<B: Block> Entry<B> {
         ensures { self.new ≡ moves_to next self.old }
     {
         self.state = next;
-        if !keeps_in(next) {
+        if gives_up(next) {
             self.is_kept = false;
         }
     }
@@ -163,14 +163,14 @@ impl<B: Block> Entry<B> {
     }
 
     /// The line moves to its next state, and changes so.
-    fn change(&mut self, next: CacheState, change: Change)
+    fn change(&mut self, next: CacheState, change: LineChange)
         requires { IsOfWords B.count change }
         ensures { self.new ≡ changed next change self.old }
     {
         match change {
-            Change::Move => self.move_to(next),
-            Change::Hit(access) => self.hit(next, access),
-            Change::Wait(waiting) => {
+            LineChange::Move => self.move_to(next),
+            LineChange::Hit(access) => self.hit(next, access),
+            LineChange::Wait(waiting) => {
                 self.move_to(next);
                 self.wait(waiting);
             }
@@ -178,11 +178,11 @@ impl<B: Block> Entry<B> {
     }
 }
 
-/// Whether kept words stay when this state comes.
-fn keeps_in(next: CacheState) -> bool
-    ensures { (kept : Option Data) → kept_on next kept ≡ (if result then kept else None) }
+/// Whether kept words are given up when this state comes.
+fn gives_up(next: CacheState) -> bool
+    ensures { (kept : Option Data) → kept_on next kept ≡ (if result then None else kept) }
 {
-    !matches!(&next, CacheState::I | CacheState::ImAd | CacheState::IiA)
+    matches!(&next, CacheState::I | CacheState::ImAd | CacheState::IiA)
 }
 
 /// The state of a line that a map has, or I where it has none.
@@ -257,7 +257,7 @@ impl<B: Block> Cache<B> {
     /// The block's line, if there is one.
     #[inline(always)]
     pub(crate) fn get(&self, block: u32) -> Option<&Entry<B>>
-        ensures { line_of (option_copied result) ≡ line_in self.now block }
+        ensures { option_copied result ≡ lookup (nat_eq block) self.now.entries }
     {
         self.lines.get(&block)
     }
@@ -296,18 +296,19 @@ impl<B: Block> Cache<B> {
     }
 
     /// Changes the block's line, and answers the state that it was in. A line that moves to I is taken out.
-    pub(crate) fn change(&mut self, block: u32, next: CacheState, change: Change) -> CacheState
+    pub(crate) fn change(&mut self, block: u32, next: CacheState, change: LineChange) -> CacheState
         requires place { IsSome (lookup (nat_eq block) self.old.entries) }
         requires words { IsOfWords B.count change }
         requires settled { next ≡ I → changed next change (line_in self.old block) ≡ nothing_held }
         ensures before { result ≡ (line_in self.old block).state }
         ensures here { line_in self.new block ≡ changed next change (line_in self.old block) }
-        ensures others { (b : ℕ) → nat_eq block b ≡ false → line_in self.new b ≡ line_in self.old b }
-        ensures taken { next ≡ I → length self.new.entries + 1 ≡ length self.old.entries }
-        ensures stays { ¬ (next ≡ I) → length self.new.entries ≡ length self.old.entries }
+        ensures others { (b : ℕ) → nat_eq block b ≡ false → lookup (nat_eq b) self.new.entries ≡ lookup (nat_eq b) self.old.entries }
+        ensures taken { next ≡ I → lookup (nat_eq block) self.new.entries ≡ None }
+        ensures fewer { next ≡ I → length self.new.entries + 1 ≡ length self.old.entries }
+        ensures stays { ¬ (next ≡ I) → blocks_of self.new ≡ blocks_of self.old }
     {
         let Some(entry) = self.lines.get_mut(&block) else {
-            return CacheState::I;
+            unreachable!();
         };
         let before = entry.state();
         if matches!(&next, CacheState::I) {
@@ -330,11 +331,11 @@ impl<B: Block> Cache<B> {
         requires word { access.word < B.count }
         ensures before { result ≡ (line_in self.old block).state }
         ensures here { line_in self.new block ≡ filled_line next access words.now }
-        ensures others { (b : ℕ) → nat_eq block b ≡ false → line_in self.new b ≡ line_in self.old b }
-        ensures stays { length self.new.entries ≡ length self.old.entries }
+        ensures others { (b : ℕ) → nat_eq block b ≡ false → lookup (nat_eq b) self.new.entries ≡ lookup (nat_eq b) self.old.entries }
+        ensures blocks { blocks_of self.new ≡ blocks_of self.old }
     {
         let Some(entry) = self.lines.get_mut(&block) else {
-            return CacheState::I;
+            unreachable!();
         };
         let before = entry.state();
         entry.fill(next, access, words);
@@ -354,15 +355,15 @@ impl<B: Block> Cache<B> {
         requires absent { (action : CacheAction) → (next : CacheState) → Cell protocol I event action next → next ≡ I }
         ensures still { IfNone result ((action : CacheAction) × (next : CacheState) × (Cell protocol (line_in self.old block).state event action next × (next ≡ (line_in self.old block).state))) }
         ensures same { IfNone result (line_in self.new block ≡ line_in self.old block) }
-        ensures many { IfNone result (length self.new.entries ≡ length self.old.entries) }
+        ensures places { IfNone result (blocks_of self.new ≡ blocks_of self.old) }
         ensures before { IfSome result (λ states. states.0 ≡ (line_in self.old block).state) }
         ensures differs { IfSome result (λ states. states.1 ≢ states.0) }
         ensures row { IfSome result (λ states. (action : CacheAction) × Cell protocol (line_in self.old block).state event action states.1) }
         ensures here { IfSome result (λ states. states.1 ≢ I → line_in self.new block ≡ moves_to states.1 (line_in self.old block)) }
-        ensures gone { IfSome result (λ states. states.1 ≡ I → line_in self.new block ≡ nothing_held) }
-        ensures taken { IfSome result (λ states. states.1 ≡ I → length self.new.entries + 1 ≡ length self.old.entries) }
-        ensures stays { IfSome result (λ states. states.1 ≢ I → length self.new.entries ≡ length self.old.entries) }
-        ensures others { (b : ℕ) → nat_eq block b ≡ false → line_in self.new b ≡ line_in self.old b }
+        ensures taken { IfSome result (λ states. states.1 ≡ I → lookup (nat_eq block) self.new.entries ≡ None) }
+        ensures fewer { IfSome result (λ states. states.1 ≡ I → length self.new.entries + 1 ≡ length self.old.entries) }
+        ensures stays { IfSome result (λ states. states.1 ≢ I → blocks_of self.new ≡ blocks_of self.old) }
+        ensures others { (b : ℕ) → nat_eq block b ≡ false → lookup (nat_eq b) self.new.entries ≡ lookup (nat_eq b) self.old.entries }
     {
         let entry = self.lines.get_mut(&block)?;
         let before = entry.state();

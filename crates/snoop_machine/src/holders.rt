@@ -1,11 +1,11 @@
 //! The cores of a block that another's request concerns.
-ghost use Rattle.std.specs.Prelude.{◌≡◌, ◌≢◌, ◌↔◌, ℕ, ◌<◌, true, false, IsTrue};
+ghost use Rattle.std.specs.Prelude.{◌≡◌, ◌≢◌, ◌↔◌, ℕ, ◌<◌, true, false, length, IsTrue};
 ghost use Rattle.snoop_model.specs.Pictures.Sound.{keeps};
 ghost use Rattle.snoop_model.specs.Invariant.Fits.{is_owner};
 ghost use Rattle.snoop_blocks.specs.CoreSet.{has};
-ghost use Rattle.snoop_machine.specs.Holders.{is_concerned, HaveMoved};
+ghost use Rattle.snoop_machine.specs.Holders.{is_concerned, HaveFollowed, HaveMoved};
 
-use snoop_blocks::CoreSet;
+use snoop_blocks::{BlockTable, CoreSet};
 use snoop_rules::{CacheState, Request};
 
 /// The cores that keep a block's value, by what another's request asks of them.
@@ -30,7 +30,7 @@ impl Holders {
     }
 
     /// The core moves to this state.
-    pub(crate) fn move_to(&mut self, core: u32, state: CacheState)
+    fn move_to(&mut self, core: u32, state: CacheState)
         requires { core < 256 }
         ensures { HaveMoved core state self.old self.new }
     {
@@ -54,8 +54,29 @@ impl Holders {
     }
 }
 
+/// The block's holders follow a core from one state of the block to another. Nothing is written where both stand in the same sets.
+#[inline(always)]
+pub(crate) fn follow(
+    holders: &mut BlockTable<Holders>,
+    core: u32,
+    block: u32,
+    before: CacheState,
+    after: CacheState,
+)
+    requires core { core < 256 }
+    requires block { block < length holders.old }
+    ensures { HaveFollowed core block before after holders.old holders.new }
+{
+    if are_alike(before, after) {
+        return;
+    }
+    let mut moved = holders.get_or(block, Holders::empty());
+    moved.move_to(core, after);
+    holders.set(block, moved);
+}
+
 /// Whether cores in these states stand in the same sets.
-pub(crate) fn are_alike(one: CacheState, other: CacheState) -> bool
+fn are_alike(one: CacheState, other: CacheState) -> bool
     ensures { IsTrue result ↔ ((is_owner one ≡ is_owner other) × (keeps one ≡ keeps other)) }
 {
     is_owner(one) == is_owner(other) && keeps(one) == keeps(other)

@@ -1,16 +1,17 @@
 //! What an Order does to the lines of its block, and who sends.
-ghost use Rattle.std.specs.Prelude.{◌≡◌, ◌↔◌, IsTrue, ℕ, ◌<◌, [], length, Some, None, option_map, slice_index_or, slice_set, if◌then◌else◌};
-ghost use Rattle.snoop_trace.specs.Words.{Data, zero_words};
+ghost use Rattle.std.specs.Prelude.{◌≡◌, ◌≢◌, ℕ, ◌<◌, [], length, Some, IfSome, IfNone, slice_index_or, slice_set};
 ghost use Rattle.snoop_rules.specs.Waits.{waiting_request};
-ghost use Rattle.snoop_rules.specs.Takers.{seen_by, carries_value};
+ghost use Rattle.snoop_rules.specs.declared.names.MemAction.TheVariants.{Send};
+ghost use Rattle.snoop_rules.specs.declared.names.Payload.{Payload};
+ghost use Rattle.snoop_rules.specs.Takers.{seen_by};
 ghost use Rattle.snoop_model.specs.Pictures.Picture.{held_at};
 ghost use Rattle.snoop_model.specs.Moves.LookUps.{HasRow};
 ghost use Rattle.snoop_model.specs.Moves.SenderTable.{FollowsSenderTable};
-ghost use Rattle.snoop_model.specs.Pictures.Message.{free_picture, IsMessage, memory_message};
+ghost use Rattle.snoop_model.specs.Pictures.Message.{free_picture};
 ghost use Rattle.snoop_model.specs.Moves.Move.{TakesRows};
 ghost use Rattle.snoop_machine.specs.Lines.{LinesGo};
 ghost use Rattle.snoop_machine.specs.PartsView.{no_memory};
-ghost use Rattle.snoop_machine.specs.Plan.{message_sent};
+ghost use Rattle.snoop_machine.specs.Sender.{IsSender};
 
 use crate::lines::Lines;
 use crate::memory::Memory;
@@ -56,7 +57,8 @@ pub(crate) struct Sending {
 
 /// The payload that memory sends, if it sends.
 fn sent_by_memory(cell: MemCell) -> Option<Payload>
-    ensures { (value : Data) → memory_message cell.action value ≡ option_map (λ payload. record { payload = payload; value = if carries_value payload then value else zero_words; from = None }) result }
+    ensures some { IfSome result (λ payload. cell.action ≡ Send payload) }
+    ensures none { IfNone result ((payload : Payload) → cell.action ≢ Send payload) }
 {
     match cell.action {
         MemAction::Send(payload) => Some(payload),
@@ -78,7 +80,7 @@ impl<B: Block> Lines<B> {
         requires waits { waiting_request (held_at (slice_index_or self.now.rows block []) requestor).state ≡ Some request }
         requires rows { (k : ℕ) → k < length (slice_index_or self.now.rows block []) → HasRow protocol (held_at (slice_index_or self.now.rows block []) k).state (seen_by k requestor request) }
         requires line { FollowsSenderTable protocol (free_picture (slice_index_or self.now.rows block []) (slice_index_or memory.now block no_memory)) requestor request }
-        ensures { IsMessage protocol (free_picture (slice_index_or self.now.rows block []) (slice_index_or memory.now block no_memory)) requestor request (message_sent (free_picture (slice_index_or self.now.rows block []) (slice_index_or memory.now block no_memory)) result.from result.payload) }
+        ensures { IsSender protocol (free_picture (slice_index_or self.now.rows block []) (slice_index_or memory.now block no_memory)) requestor request result.from result.payload }
     {
         let Some(cell) = mem_cell(protocol, memory.state(block), event_at_memory(request)) else {
             unreachable!();

@@ -1,4 +1,4 @@
-//! What a step will do, as it was found: decisions, and no words.
+//! What a step will do, as it was found: decisions, and the one value that a hit or a fill performs.
 use crate::ask::Asked;
 use crate::respond::Filled;
 use snoop_history::Came;
@@ -26,13 +26,11 @@ pub enum Plan {
     },
     /// Memory takes the message of a PutM.
     Writeback {
-        block: u32,
         came: Came,
         memory: MemCell,
     },
     /// The requestor takes the data that it waits for, and so does memory where it waits too.
     Fill {
-        block: u32,
         came: Came,
         memory: MemCell,
         filled: Filled,

@@ -68,7 +68,7 @@ pub(crate) fn fill<B: Block>(
     }
 }
 
-/// The row that memory takes for the message of a transaction: it takes that of a PutM, and another where it waits for one.
+/// What memory does with the message of a transaction: its row for it at a PutM and where it waits for one, else nothing, and it stays.
 pub(crate) fn settle(
     protocol: Protocol,
     memory: MemState,

@@ -12,7 +12,7 @@ ghost use Rattle.snoop_model.specs.Pictures.Picture.{held_by, with_line};
 ghost use Rattle.snoop_model.specs.Pictures.Situation.{picture_of, state_of, with_picture};
 ghost use Rattle.snoop_model.specs.Pictures.Sound.{IsProper};
 ghost use Rattle.snoop_model.specs.Moves.Move.{AskMove, is_load, next_did};
-ghost use Rattle.snoop_machine.specs.declared.cache.Change.TheVariants.{Hit, Wait};
+ghost use Rattle.snoop_machine.specs.declared.cache.LineChange.TheVariants.{Hit, Wait};
 ghost use Rattle.snoop_machine.specs.Cache.{changed, IsOfWords};
 ghost use Rattle.snoop_machine.specs.Asked.{TakesAsk};
 ghost use Rattle.snoop_model.specs.Moves.StepMove.{IsDenied};
@@ -24,7 +24,7 @@ ghost use Rattle.snoop_model.specs.declared.replies.Reply.TheVariants as reply;
 
 use super::Parts;
 use crate::ask::{Asked, ask, waiting_for};
-use crate::cache::Change;
+use crate::cache::LineChange;
 use crate::plan::Plan;
 use snoop_history::Item;
 use snoop_model::{Access, Refused, Reply};
@@ -85,7 +85,7 @@ impl<B: Block> Parts<B> {
                 Reply::Issued(request)
             }
             Asked::Drop(next) => {
-                self.move_line(core, block, next, Change::Move);
+                self.move_line(core, block, next, LineChange::Move);
                 Reply::Gone
             }
         }
@@ -111,13 +111,14 @@ impl<B: Block> Parts<B> {
         ensures room { KeepsRoom self.old self.new }
         ensures lines { (k : ℕ) → LosesLines self.old self.new k }
     {
-        self.lines.change(core, block, next, Change::Wait(waiting));
+        self.lines
+            .change(core, block, next, LineChange::Wait(waiting));
         self.bus.issue(core, request, block);
     }
 
     /// The line moves to its next state, and changes so, but it waits as it did.
     #[inline(always)]
-    fn move_line(&mut self, core: u32, block: u32, next: CacheState, change: Change)
+    fn move_line(&mut self, core: u32, block: u32, next: CacheState, change: LineChange)
         requires core { core < self.old.situation.shape.cores }
         requires block { block < self.old.situation.shape.blocks }
         requires words { IsOfWords self.old.situation.shape.words change }
@@ -146,7 +147,7 @@ impl<B: Block> Parts<B> {
         ensures lines { (k : ℕ) → LosesLines self.old self.new k }
     {
         let did = self.next_did(core, block, access, value, true);
-        self.move_line(core, block, next, Change::Hit(access));
+        self.move_line(core, block, next, LineChange::Hit(access));
         self.log.push(Item::Did(did));
     }
 }

@@ -8,13 +8,13 @@ ghost use Rattle.snoop_model.specs.Moves.Standing.{KeepsRoom};
 ghost use Rattle.snoop_machine.specs.Following.{LosesLines};
 ghost use Rattle.snoop_model.specs.Pictures.Situation.{picture_of};
 ghost use Rattle.snoop_model.specs.Moves.Refuses.{Refuses, WaitsOnNone};
-ghost use Rattle.snoop_model.specs.Pictures.Message.{IsMessage};
 ghost use Rattle.snoop_model.specs.Moves.Move.{Orders, TakesMemRow};
 ghost use Rattle.snoop_model.specs.Moves.OrderMove.{IsHead};
 ghost use Rattle.snoop_model.specs.Moves.StepMove.{IsDenied};
 ghost use Rattle.snoop_model.specs.Pictures.Sends.{value_sent};
 ghost use Rattle.std.specs.Option.{ForSome};
-ghost use Rattle.snoop_machine.specs.Plan.{IsPlanFor, message_sent};
+ghost use Rattle.snoop_machine.specs.Plan.{IsPlanFor};
+ghost use Rattle.snoop_machine.specs.Sender.{IsSender};
 ghost use Rattle.snoop_model.specs.Invariant.Invariant.{Invariant};
 
 use super::Parts;
@@ -79,21 +79,12 @@ impl<B: Block> Parts<B> {
         requires sender { ForSome from (λ sender. sender < self.now.situation.shape.cores) }
         ensures { result ≡ value_sent (picture_of self.now.situation block) from payload }
     {
+        if !carries_value(payload) {
+            return Kept::zero();
+        }
         match from {
-            Some(sender) => {
-                if carries_value(payload) {
-                    words_of(self.line(sender, block))
-                } else {
-                    Kept::zero()
-                }
-            }
-            None => {
-                if carries_value(payload) {
-                    self.memory_words(block)
-                } else {
-                    Kept::zero()
-                }
-            }
+            Some(sender) => words_of(self.line(sender, block)),
+            None => self.memory_words(block),
         }
     }
 
@@ -113,14 +104,13 @@ impl<B: Block> Parts<B> {
         requires room { 0 < self.old.room }
         requires free { (picture_of self.old.situation block).transaction ≡ None }
         requires memory { TakesMemRow self.old.situation.protocol (at_memory request) (picture_of self.old.situation block).memory.state memory }
-        requires message { IsMessage self.old.situation.protocol (picture_of self.old.situation block) core request (message_sent (picture_of self.old.situation block) from payload) }
+        requires sender { IsSender self.old.situation.protocol (picture_of self.old.situation block) core request from payload }
         ensures ordered { Orders self.old.situation core block request self.new.situation }
         ensures room { KeepsRoom self.old self.new }
         ensures lines { (k : ℕ) → LosesLines self.old self.new k }
     {
-        let protocol = self.protocol;
         let words = self.words_sent(block, from, payload);
-        self.lines.take_rows(protocol, core, request, block);
+        self.lines.take_rows(self.protocol, core, request, block);
         self.memory.move_to(block, memory);
         self.bus.start(core, payload, words, from);
         self.log.push(Item::Sent(Sent {

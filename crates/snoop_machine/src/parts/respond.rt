@@ -48,16 +48,11 @@ impl<B: Block> Parts<B> {
         );
         let came = came(&closing);
         if matches!(&closing.request, Request::PutM) {
-            return Ok(Plan::Writeback {
-                block,
-                came,
-                memory,
-            });
+            return Ok(Plan::Writeback { came, memory });
         }
         let found = self.line(closing.core, block);
         let filled = fill(self.protocol, found, &closing);
         Ok(Plan::Fill {
-            block,
             came,
             memory,
             filled,
@@ -66,61 +61,53 @@ impl<B: Block> Parts<B> {
 
     /// Memory takes the message of a PutM, and its transaction closes.
     #[inline(always)]
-    pub(super) fn finish_put(&mut self, block: u32, came: Came, memory: MemCell)
+    pub(super) fn finish_put(&mut self, came: Came, memory: MemCell)
         requires core { came.core < self.old.situation.shape.cores }
         requires sender { ForSome came.from (λ sender. sender < self.old.situation.shape.cores) }
-        requires block { block < self.old.situation.shape.blocks }
-        requires its { came.block ≡ block }
+        requires block { came.block < self.old.situation.shape.blocks }
         requires room { 0 < self.old.room }
-        requires opened { option_map came_of (picture_of self.old.situation block).transaction ≡ Some came }
+        requires opened { option_map came_of (picture_of self.old.situation came.block).transaction ≡ Some came }
         requires put { came.request ≡ PutM }
-        requires settles { Settles self.old.situation.protocol came.request came.payload (picture_of self.old.situation block).memory.state memory.action memory.next }
-        ensures responded { RespondMove block self.old.situation block (reply.Came came.payload came.from None) self.new.situation (Some (ItemCame came None)) }
+        requires settles { Settles self.old.situation.protocol came.request came.payload (picture_of self.old.situation came.block).memory.state memory.action memory.next }
+        ensures responded { RespondMove came.block self.old.situation came.block (reply.Came came.payload came.from None) self.new.situation (Some (ItemCame came None)) }
         ensures room { KeepsRoom self.old self.new }
         ensures lines { (k : ℕ) → LosesLines self.old self.new k }
     {
-        let Some(closing) = self.bus.finish(block) else {
+        let Some(closing) = self.bus.finish(came.block) else {
             unreachable!();
         };
-        self.memory.settle(block, memory, &closing.value);
+        self.memory.take_row(came.block, memory, &closing.value);
         self.log.push(Item::Came(came, None));
     }
 
     /// The requestor and memory take the message of a GetS or GetM, and its transaction closes.
     #[inline(always)]
-    pub(super) fn finish_get(
-        &mut self,
-        block: u32,
-        came: Came,
-        filled: Filled,
-        memory: MemCell,
-    ) -> Did
+    pub(super) fn finish_get(&mut self, came: Came, filled: Filled, memory: MemCell) -> Did
         requires core { came.core < self.old.situation.shape.cores }
         requires sender { ForSome came.from (λ sender. sender < self.old.situation.shape.cores) }
-        requires block { block < self.old.situation.shape.blocks }
-        requires its { came.block ≡ block }
+        requires block { came.block < self.old.situation.shape.blocks }
         requires room { 0 < self.old.room }
-        requires opened { option_map came_of (picture_of self.old.situation block).transaction ≡ Some came }
+        requires opened { option_map came_of (picture_of self.old.situation came.block).transaction ≡ Some came }
         requires get { came.request ≢ PutM }
-        requires filled { IfSome (picture_of self.old.situation block).transaction (λ closing. Fills closing self.old.situation.protocol (held_by (picture_of self.old.situation block) closing.core) (filled_line filled.next filled.access closing.value) filled.access filled.value) }
+        requires filled { IfSome (picture_of self.old.situation came.block).transaction (λ closing. Fills closing self.old.situation.protocol (held_by (picture_of self.old.situation came.block) closing.core) (filled_line filled.next filled.access closing.value) filled.access filled.value) }
         requires word { IsWord self.old.situation.shape filled.access.word }
-        requires settles { Settles self.old.situation.protocol came.request came.payload (picture_of self.old.situation block).memory.state memory.action memory.next }
-        ensures responded { RespondMove block self.old.situation block (reply.Came came.payload came.from (Some result)) self.new.situation (Some (ItemCame came (Some (next_did self.old.situation.log came.core came.block filled.access.word filled.access.op filled.value false)))) }
+        requires settles { Settles self.old.situation.protocol came.request came.payload (picture_of self.old.situation came.block).memory.state memory.action memory.next }
+        ensures responded { RespondMove came.block self.old.situation came.block (reply.Came came.payload came.from (Some result)) self.new.situation (Some (ItemCame came (Some (next_did self.old.situation.log came.core came.block filled.access.word filled.access.op filled.value false)))) }
         ensures room { KeepsRoom self.old self.new }
         ensures lines { (k : ℕ) → LosesLines self.old self.new k }
     {
         let did = self.next_did(came.core, came.block, filled.access, filled.value, false);
-        let Some(closing) = self.bus.finish(block) else {
+        let Some(closing) = self.bus.finish(came.block) else {
             unreachable!();
         };
         self.lines.fill(
             closing.core,
-            block,
+            came.block,
             filled.next,
             filled.access,
             &closing.value,
         );
-        self.memory.settle(block, memory, &closing.value);
+        self.memory.take_row(came.block, memory, &closing.value);
         self.log.push(Item::Came(came, Some(did)));
         did
     }

@@ -242,12 +242,8 @@ impl<B: Block> Parts<B> {
                 self.start(core, request, block, from, payload, memory);
                 Reply::Ordered(request)
             }
-            Plan::Writeback {
-                block,
-                came,
-                memory,
-            } => {
-                self.finish_put(block, came, memory);
+            Plan::Writeback { came, memory } => {
+                self.finish_put(came, memory);
                 Reply::Came {
                     payload: came.payload,
                     from: came.from,
@@ -255,12 +251,11 @@ impl<B: Block> Parts<B> {
                 }
             }
             Plan::Fill {
-                block,
                 came,
                 memory,
                 filled,
             } => {
-                let did = self.finish_get(block, came, filled, memory);
+                let did = self.finish_get(came, filled, memory);
                 Reply::Came {
                     payload: came.payload,
                     from: came.from,

@@ -1,22 +1,18 @@
-use Rattle.std.proofs.Common.{◌≡◌, ◌≢◌, ◌<◌, List, is_some, length, refl, sym, ◌∙◌, ap, subst, arith, inl, inr, ◌⊎◌}
+use Rattle.std.proofs.Common.{◌≡◌, ◌≢◌, ◌<◌, is_some, length, sym, ◌∙◌, ap, subst, arith, inl, inr, ◌⊎◌}
 use Rattle.std.specs.Prelude.{slice_index_or, nat_eq}
 use Rattle.std.specs.Map.{lookup}
-use Rattle.std.proofs.lemmas.List.{get_or_read, get_or_default, length-set}
+use Rattle.std.proofs.lemmas.List.{get_or_read}
 use Rattle.snoop_rules.specs.declared.names.CacheState.TheVariants.{I}
-use Rattle.snoop_machine.specs.declared.holders.Holders.{Holders}
-use Rattle.snoop_model.specs.Invariant.Fits.{is_owner}
 use Rattle.snoop_model.specs.Pictures.Lines.{Line}
 use Rattle.snoop_model.specs.Pictures.Picture.{nothing_held}
-use Rattle.snoop_model.specs.Pictures.Sound.{keeps}
-use Rattle.snoop_machine.specs.Holders.{HaveMoved}
-use Rattle.snoop_machine.specs.Cache.{Contents, no_cache, line_in, changed}
-use Rattle.snoop_machine.specs.Lines.{no_holders, line_at}
+use Rattle.snoop_machine.specs.Cache.{Contents, no_cache, line_of, line_in, changed}
+use Rattle.snoop_machine.specs.Lines.{line_at}
 use Rattle.snoop_machine.proofs.ProperLines.{settled}
-use Rattle.snoop_machine.proofs.LineMaps.{in_rows, line_seen, writable_placed}
-use Rattle.snoop_machine.proofs.LineChanges.{rows_wrote, many_kept, others_kept, lines_gone, lines_alike, lines_moved}
+use Rattle.snoop_machine.proofs.LineMaps.{in_rows, line_seen, mover_placed}
+use Rattle.snoop_machine.proofs.LineChanges.{HasWritten, lines_after, rows_wrote, many_kept, others_kept, lines_stay, lines_gone}
 use Rattle.snoop_machine.proofs.lines.Lines.change.Given.{Over}
 use Rattle.snoop_machine.proofs.lines.Lines.change.Goals as goal
-use Rattle.snoop_machine.proofs.lines.Lines.change.Goals.{After-index_mut-cache, After-change-before}
+use Rattle.snoop_machine.proofs.lines.Lines.change.Goals.{After-index_mut-cache, After-follow}
 
 within : (g : Over) (c : After-index_mut-cache g) → (c.args.block < length c.self.inside.holders) × (c.args.core < length c.self.inside.caches.items)
 within g c = in_rows c.self.inside.caches.items c.self.inside.holders c.args.self.now c.self.view_is c.args.core c.args.block c.requires.block c.requires.core
@@ -34,9 +30,6 @@ was g c =
 abbrev line : (g : Over) (c : After-index_mut-cache g) → Line
 line g c = changed c.args.next c.args.change (line_at c.args.self.now.rows c.args.core c.args.block)
 
-here : (g : Over) (c : After-change-before g) → line_in c.change-before.new.self c.args.block ≡ line g (goal.at.After-change-before g c).After-index_mut-cache
-here g c = c.change-before.ensures.here ∙ ap (λ (x : Line). changed c.args.next c.args.change x) (was g (goal.at.After-change-before g c).After-index_mut-cache)
-
 pub index_mut-cache-requires : goal.index_mut-cache-requires
 index_mut-cache-requires g c =
     let h = (in_rows c.self.inside.caches.items c.self.inside.holders c.args.self.now c.self.view_is c.args.core c.args.block c.requires.block c.requires.core).1 in
@@ -45,90 +38,58 @@ index_mut-cache-requires g c =
 pub change-before-requires-clause-place : goal.change-before-requires-clause-place
 change-before-requires-clause-place g c =
     let d = (goal.at.change-before-requires-clause-place g c).After-index_mut-cache in
-    ap (λ (cache : Contents). is_some (lookup (nat_eq c.args.block) cache.entries)) (read g d) ∙ writable_placed c.self.inside.caches.items c.self.inside.holders c.args.self.now c.self.view_is c.args.core c.args.block c.args.next c.requires.place
+    ap (λ (cache : Contents). is_some (lookup (nat_eq c.args.block) cache.entries)) (read g d) ∙ mover_placed c.self.inside.caches.items c.self.inside.holders c.args.self.now c.self.view_is c.args.core c.args.block c.args.next c.requires.place
 
 pub change-before-requires-clause-settled : goal.change-before-requires-clause-settled
 change-before-requires-clause-settled g c =
     let d = (goal.at.change-before-requires-clause-settled g c).After-index_mut-cache in
     λ e. subst (λ (x : Line). changed c.args.next c.args.change x ≡ nothing_held) (sym (was g d)) (settled (line g d) c.requires.proper e)
 
-pub set-requires : goal.set-requires
-set-requires g c = (within g (goal.at.set-requires g c).After-index_mut-cache).0
+pub follow-requires-clause-block : goal.follow-requires-clause-block
+follow-requires-clause-block g c = (within g (goal.at.follow-requires-clause-block g c).After-index_mut-cache).0
 
-pub move_to-requires : goal.move_to-requires
-move_to-requires g c =
-    let d = (goal.at.move_to-requires g c).After-index_mut-cache in
-    let h = (within g d).1 in
+pub follow-requires-clause-core : goal.follow-requires-clause-core
+follow-requires-clause-core g c =
+    let h = (within g (goal.at.follow-requires-clause-core g c).After-index_mut-cache).1 in
     let few = c.self.invariant.few in
     omega (arith, h, few)
 
 place : (g : Over) (c : After-index_mut-cache g) → ((line_at c.args.self.now.rows c.args.core c.args.block).state ≢ I) ⊎ (c.args.next ≢ I)
 place g c = elim c.requires.place [ inl held ↦ inl held | inr new ↦ inr new.1 ]
 
+-- the map has the changed line, and the holders have followed
+wrote : (g : Over) (c : After-follow g)
+    → HasWritten c.self.inside.caches.items c.self.inside.holders c.args.core c.args.block (line g (goal.at.After-follow g c).After-index_mut-cache) c.index_mut-cache.result.now c.change-before.new.self c.follow.new.holders
+wrote g c =
+    let d = (goal.at.After-follow g c).After-index_mut-cache in
+    record {
+      in_blocks = (within g d).0;
+      in_cores = (within g d).1;
+      read = read g d;
+      proper = c.requires.proper;
+      here = c.change-before.ensures.here ∙ ap (λ (x : Line). changed c.args.next c.args.change x) (was g d);
+      others = λ b ne. ap line_of (c.change-before.ensures.others b ne);
+      before = c.change-before.result;
+      was = c.change-before.ensures.before;
+      followed = c.follow.ensures;
+    }
+
 pub invariant_of-self : goal.invariant_of-self
-invariant_of-self g c =
-    let d = (goal.at.invariant_of-self g c).After-index_mut-cache in
-    let alike = c.are_alike.ensures.0 c.if-are_alike.true in
-    lines_alike c.self.inside.caches.items c.self.inside.holders c.args.self.now c.self.view_is c.self.invariant c.args.core c.args.block (within g d).0 (within g d).1
-    c.index_mut-cache.result.now c.change-before.new.self (read g d) (line g d) (here g (goal.at.invariant_of-self g c).After-change-before) c.change-before.ensures.others c.requires.proper
-    (sym (ap is_owner c.change-before.ensures.before) ∙ alike.0) (sym (ap keeps c.change-before.ensures.before) ∙ alike.1)
-
-pub invariant_of-self-2 : goal.invariant_of-self-2
-invariant_of-self-2 g c =
-    let d = (goal.at.invariant_of-self-2 g c).After-index_mut-cache in
-    let holders = c.self.inside.holders in
-    let is : c.get_or-holders.result ≡ slice_index_or holders c.args.block no_holders = c.get_or-holders.ensures ∙ get_or_default holders c.args.block c.empty.result no_holders (within g d).0 in
-    rw c.set.ensures (lines_moved c.self.inside.caches.items holders c.args.self.now c.self.view_is c.self.invariant c.args.core c.args.block (within g d).0 (within g d).1
-    c.index_mut-cache.result.now c.change-before.new.self (read g d) (line g d) (here g (goal.at.invariant_of-self-2 g c).After-change-before) c.change-before.ensures.others c.requires.proper c.move_to.new.self
-    (subst (λ (h : Holders). HaveMoved c.args.core c.args.next h c.move_to.new.self) is c.move_to.ensures))
-
-pub returns-then-are_alike-clause-rows : goal.returns-then-are_alike-clause-rows
-returns-then-are_alike-clause-rows g c =
-    let d = (goal.at.returns-then-are_alike-clause-rows g c).After-index_mut-cache in
-    rows_wrote c.self.inside.caches.items c.self.inside.holders c.args.self.now c.self.view_is c.self.invariant c.args.core c.args.block (within g d).0 (within g d).1
-    c.index_mut-cache.result.now c.change-before.new.self (read g d) (line g d) (here g (goal.at.returns-then-are_alike-clause-rows g c).After-change-before) c.change-before.ensures.others c.self.inside.holders refl
-
-pub returns-then-are_alike-clause-many : goal.returns-then-are_alike-clause-many
-returns-then-are_alike-clause-many g c =
-    let d = (goal.at.returns-then-are_alike-clause-many g c).After-index_mut-cache in
-    many_kept c.self.inside.caches.items c.self.inside.holders c.args.self.now c.self.view_is c.self.invariant c.args.core c.args.block (within g d).0 (within g d).1
-    c.index_mut-cache.result.now c.change-before.new.self (read g d) (line g d) (here g (goal.at.returns-then-are_alike-clause-many g c).After-change-before) c.change-before.ensures.others
-
-pub returns-then-are_alike-clause-lines : goal.returns-then-are_alike-clause-lines
-returns-then-are_alike-clause-lines g c =
-    let d = (goal.at.returns-then-are_alike-clause-lines g c).After-index_mut-cache in
-    lines_gone c.self.inside.caches.items c.self.inside.holders c.args.self.now c.self.view_is c.self.invariant c.args.core c.args.block (within g d).0 (within g d).1
-    c.index_mut-cache.result.now c.change-before.new.self (read g d) (line g d) (here g (goal.at.returns-then-are_alike-clause-lines g c).After-change-before) c.change-before.ensures.others
-    (place g d) c.change-before.ensures.taken c.change-before.ensures.stays
-
-pub returns-then-are_alike-clause-others : goal.returns-then-are_alike-clause-others
-returns-then-are_alike-clause-others g c =
-    let d = (goal.at.returns-then-are_alike-clause-others g c).After-index_mut-cache in
-    others_kept c.self.inside.caches.items c.self.inside.holders c.args.self.now c.self.view_is c.self.invariant c.args.core c.args.block (within g d).0 (within g d).1
-    c.index_mut-cache.result.now c.change-before.new.self (read g d) (line g d) (here g (goal.at.returns-then-are_alike-clause-others g c).After-change-before) c.change-before.ensures.others
+invariant_of-self g c = lines_after (wrote g (goal.at.invariant_of-self g c).After-follow) c.args.self.now c.self.view_is c.self.invariant
 
 pub returns-clause-rows : goal.returns-clause-rows
-returns-clause-rows g c =
-    let d = (goal.at.returns-clause-rows g c).After-index_mut-cache in
-    rows_wrote c.self.inside.caches.items c.self.inside.holders c.args.self.now c.self.view_is c.self.invariant c.args.core c.args.block (within g d).0 (within g d).1
-    c.index_mut-cache.result.now c.change-before.new.self (read g d) (line g d) (here g (goal.at.returns-clause-rows g c).After-change-before) c.change-before.ensures.others c.set.new.self
-    (ap (λ (l : List Holders). length l) c.set.ensures ∙ length-set c.self.inside.holders c.args.block c.move_to.new.self)
+returns-clause-rows g c = rows_wrote (wrote g (goal.at.returns-clause-rows g c).After-follow) c.args.self.now c.self.view_is
+
+pub returns-clause-stays : goal.returns-clause-stays
+returns-clause-stays g c = λ ne. lines_stay (wrote g (goal.at.returns-clause-stays g c).After-follow) c.args.self.now c.self.view_is (c.change-before.ensures.stays ne)
 
 pub returns-clause-many : goal.returns-clause-many
-returns-clause-many g c =
-    let d = (goal.at.returns-clause-many g c).After-index_mut-cache in
-    many_kept c.self.inside.caches.items c.self.inside.holders c.args.self.now c.self.view_is c.self.invariant c.args.core c.args.block (within g d).0 (within g d).1
-    c.index_mut-cache.result.now c.change-before.new.self (read g d) (line g d) (here g (goal.at.returns-clause-many g c).After-change-before) c.change-before.ensures.others
+returns-clause-many g c = many_kept (wrote g (goal.at.returns-clause-many g c).After-follow) c.args.self.now c.self.view_is
 
 pub returns-clause-lines : goal.returns-clause-lines
 returns-clause-lines g c =
-    let d = (goal.at.returns-clause-lines g c).After-index_mut-cache in
-    lines_gone c.self.inside.caches.items c.self.inside.holders c.args.self.now c.self.view_is c.self.invariant c.args.core c.args.block (within g d).0 (within g d).1
-    c.index_mut-cache.result.now c.change-before.new.self (read g d) (line g d) (here g (goal.at.returns-clause-lines g c).After-change-before) c.change-before.ensures.others
-    (place g d) c.change-before.ensures.taken c.change-before.ensures.stays
+    let at = goal.at.returns-clause-lines g c in
+    lines_gone (wrote g at.After-follow) c.args.self.now c.self.view_is (place g at.After-index_mut-cache) c.change-before.ensures.fewer c.change-before.ensures.stays
 
 pub returns-clause-others : goal.returns-clause-others
-returns-clause-others g c =
-    let d = (goal.at.returns-clause-others g c).After-index_mut-cache in
-    others_kept c.self.inside.caches.items c.self.inside.holders c.args.self.now c.self.view_is c.self.invariant c.args.core c.args.block (within g d).0 (within g d).1
-    c.index_mut-cache.result.now c.change-before.new.self (read g d) (line g d) (here g (goal.at.returns-clause-others g c).After-change-before) c.change-before.ensures.others
+returns-clause-others g c = others_kept (wrote g (goal.at.returns-clause-others g c).After-follow) c.args.self.now c.self.view_is

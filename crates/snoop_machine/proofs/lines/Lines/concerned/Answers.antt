@@ -7,9 +7,8 @@ use Rattle.snoop_model.specs.Pictures.Sound.{IsProper}
 use Rattle.snoop_machine.specs.declared.holders.Holders.{Holders}
 use Rattle.snoop_model.specs.Invariant.Fits.{is_owner}
 use Rattle.snoop_blocks.specs.CoreSet.{has}
-use Rattle.snoop_machine.specs.Holders.{AreHolders, is_concerned}
+use Rattle.snoop_machine.specs.Holders.{AreHolders, is_concerned, no_holders}
 use Rattle.snoop_machine.specs.Cache.{row_in}
-use Rattle.snoop_machine.specs.Lines.{no_holders}
 use Rattle.snoop_machine.proofs.LineMaps.{in_rows, row_seen, line_seen}
 use Rattle.snoop_machine.proofs.lines.Lines.concerned.Given.{Over}
 use Rattle.snoop_machine.proofs.lines.Lines.concerned.Goals as goal

@@ -13,7 +13,7 @@ within : (g : Over) (c : After-get g) → (c.args.block < length c.self.inside.h
 within g c = in_rows c.self.inside.caches.items c.self.inside.holders c.args.self.now c.self.view_is c.args.core c.args.block c.requires.block c.requires.core
 
 read : (g : Over) (c : After-get g) → line_of (option_copied c.get.result) ≡ line_in (slice_index_or c.self.inside.caches.items c.args.core no_cache) c.args.block
-read g c = c.get.ensures ∙ ap (λ (cache : Contents). line_in cache c.args.block) (get_or_read c.self.inside.caches.items c.args.core c.index-cache.result.now (within g c).1 c.index-cache.ensures no_cache)
+read g c = ap line_of c.get.ensures ∙ ap (λ (cache : Contents). line_in cache c.args.block) (get_or_read c.self.inside.caches.items c.args.core c.index-cache.result.now (within g c).1 c.index-cache.ensures no_cache)
 
 pub index-cache-requires : goal.index-cache-requires
 index-cache-requires g c =

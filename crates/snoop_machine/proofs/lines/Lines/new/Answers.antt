@@ -10,8 +10,8 @@ use Rattle.snoop_model.specs.Invariant.Fits.{is_owner}
 use Rattle.snoop_model.proofs.Lists.Facts.{replicated}
 use Rattle.snoop_model.proofs.Invariant.Runs.{nothing_proper}
 use Rattle.snoop_machine.specs.declared.holders.Holders.{Holders}
-use Rattle.snoop_machine.specs.Holders.{AreHolders}
-use Rattle.snoop_machine.specs.Lines.{rows_of, no_holders}
+use Rattle.snoop_machine.specs.Holders.{AreHolders, no_holders}
+use Rattle.snoop_machine.specs.Lines.{rows_of}
 use Rattle.snoop_machine.proofs.MapRows.{empty-push, line-empty, row-empty, rows-empty, blocks-empty}
 use Rattle.snoop_machine.proofs.lines.Lines.new.Given.{Over}
 use Rattle.snoop_machine.proofs.lines.Lines.new.Goals as goal

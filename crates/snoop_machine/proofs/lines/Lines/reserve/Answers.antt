@@ -1,5 +1,6 @@
 use Rattle.std.proofs.Common.{◌≡◌, ℕ, ◌<◌, List, length, sym, ◌∙◌, ap, subst}
 use Rattle.std.specs.Prelude.{slice_index_or, slice_set, map, OnOk}
+use Rattle.std.specs.Map.{keys_of}
 use Rattle.std.proofs.lemmas.List.{get_or_read, get_or-set_same, map-set}
 use Rattle.snoop_machine.specs.Cache.{Contents, no_cache}
 use Rattle.snoop_machine.specs.Lines.{Held}
@@ -34,7 +35,7 @@ returns-clause-rows g c =
 pub returns-clause-lines : goal.returns-clause-lines
 returns-clause-lines g c =
     let d = (goal.at.returns-clause-lines g c).After-reserve in
-    blocks-same c.self.inside.caches.items c.args.core c.reserve.new.self (same g d) ∙ ap (λ (h : Held). h.lines) c.self.view_is
+    blocks-same c.self.inside.caches.items c.args.core c.reserve.new.self (λ i. keys_of (same g d i)) ∙ ap (λ (h : Held). h.lines) c.self.view_is
 
 -- the room that callers see of each map after it
 abbrev spares : (g : Over) (c : After-reserve g) → List ℕ

@@ -1,9 +1,11 @@
-use Rattle.std.proofs.Common.{◌≡◌, ◌<◌, length, arith, refl, sym, ap, ◌∙◌, subst, Option, Some, None}
-use Rattle.std.specs.Prelude.{slice_index_or, option_map, if◌then◌else◌}
-use Rattle.snoop_trace.specs.Words.{zero_words}
+use Rattle.std.proofs.Common.{◌≡◌, ◌≢◌, ℕ, ◌<◌, length, arith, refl, sym, ap, ◌∙◌, subst, Option, Some, None}
+use Rattle.std.specs.Prelude.{slice_index_or}
+use Rattle.snoop_trace.specs.Words.{Data}
 use Rattle.snoop_rules.specs.declared.names.CacheState.{CacheState}
 use Rattle.snoop_rules.specs.declared.names.CacheEvent.{CacheEvent}
 use Rattle.snoop_rules.specs.declared.names.CacheAction.{CacheAction}
+use Rattle.snoop_rules.specs.declared.names.MemAction.{MemAction}
+use Rattle.snoop_rules.specs.declared.names.MemAction.TheVariants as mem_action
 use Rattle.snoop_rules.specs.declared.names.MemEvent.{MemEvent}
 use Rattle.snoop_rules.specs.declared.names.MemState.{MemState}
 use Rattle.snoop_rules.specs.declared.names.Payload.{Payload}
@@ -11,18 +13,18 @@ use Rattle.snoop_rules.specs.declared.names.CacheCell.{CacheCell}
 use Rattle.snoop_rules.specs.Cell.{Cell}
 use Rattle.snoop_rules.specs.MemoryCell.{MemoryCell}
 use Rattle.snoop_rules.specs.Possible.{IsImpossible}
-use Rattle.snoop_rules.specs.Takers.{seen_by, at_memory, carries_value}
-use Rattle.snoop_model.specs.Pictures.Lines.{Message}
+use Rattle.snoop_rules.specs.Takers.{seen_by, at_memory}
 use Rattle.snoop_model.specs.Pictures.Picture.{held_at}
-use Rattle.snoop_model.specs.Pictures.Message.{free_picture}
+use Rattle.snoop_model.specs.Pictures.Message.{free_picture, memory_message}
+use Rattle.snoop_model.specs.Pictures.Sends.{Sends}
 use Rattle.snoop_model.proofs.Tables.SentBy.{sent_by, sends_row}
-use Rattle.snoop_model.proofs.Lines.TheSender.{Silent-none, Silent-more, Silent-past, Silent-all, IsMessage-sent, IsMessage-memory}
+use Rattle.snoop_model.proofs.Lines.TheSender.{Silent-none, Silent-more, Silent-past, Silent-all}
 use Rattle.snoop_machine.proofs.ConcernedCores.{concerned_within, waits_within, Cell-passed}
 use Rattle.snoop_machine.proofs.lines.Lines.sender.Given.{Over}
 use Rattle.snoop_machine.proofs.lines.Lines.sender.Goals as goal
 use Rattle.snoop_machine.proofs.lines.Lines.sender.Goals.{In-Some, In-Some-cache_cell, In-Some-next}
 use Rattle.snoop_machine.specs.Lines.{row_of}
-use Rattle.snoop_machine.specs.Plan.{message_sent}
+use Rattle.snoop_machine.specs.Sender.{IsSender}
 use Rattle.snoop_machine.specs.PartsView.{no_memory}
 
 -- memory's row
@@ -32,14 +34,27 @@ memory_row g c =
     let Q : MemState → Type 0 = λ state. MemoryCell c.args.protocol state (at_memory c.args.request) c.in-Some.cell.action c.in-Some.cell.next in
     subst Q c.state.ensures (subst P c.event_at_memory.ensures c.in-Some.ensures.row)
 
+-- who sends is the only one that does
+sends : (g : Over) (c : In-Some g) (from : Option ℕ) (payload : Payload)
+    → Sends c.args.protocol (free_picture (row_of c.args.self.now.rows c.args.block) (slice_index_or c.args.memory.now c.args.block no_memory)) c.args.requestor c.args.request from payload
+    → IsSender c.args.protocol (free_picture (row_of c.args.self.now.rows c.args.block) (slice_index_or c.args.memory.now c.args.block no_memory)) c.args.requestor c.args.request from payload
+sends g c from payload sent = record {
+  rows = c.requires.rows;
+  only = record { sends = sent; alone = λ other message h. c.requires.line.sent.alone other message h ∙ sym (c.requires.line.sent.alone from payload sent) };
+}
+
+-- memory sends no message by an action that isn't to send one
+no_message : (act : MemAction) (value : Data) → ((payload : Payload) → act ≢ mem_action.Send payload) → memory_message act value ≡ None
+no_message (mem_action.Send payload) value none = absurd (none payload refl)
+no_message mem_action.None value none = refl
+no_message mem_action.Write value none = refl
+
 pub returns-in-Some-sent_by_memory : goal.returns-in-Some-sent_by_memory
 returns-in-Some-sent_by_memory g c =
     let d = (goal.at.returns-in-Some-sent_by_memory g c).In-Some in
     let held = slice_index_or c.args.memory.now c.args.block no_memory in
-    let before = free_picture (row_of c.args.self.now.rows c.args.block) held in
-    let sent : Payload → Message = λ payload. record { payload = payload; value = if carries_value payload then held.value else zero_words; from = None } in
-    IsMessage-memory c.args.protocol before c.args.requestor c.args.request c.requires.rows c.requires.line (sent c.in-Some-sent_by_memory.payload) c.in-Some.cell.action c.in-Some.cell.next
-    (memory_row g d) (c.sent_by_memory.ensures held.value ∙ ap (λ (o : Option Payload). option_map sent o) c.in-Some-sent_by_memory.is)
+    let P : MemAction → Type 0 = λ act. MemoryCell c.args.protocol held.state (at_memory c.args.request) act c.in-Some.cell.next in
+    sends g d None c.in-Some-sent_by_memory.payload (c.in-Some.cell.next, subst P c.in-Some-sent_by_memory.ensures.some (memory_row g d))
 
 requestor_within : (g : Over) (c : In-Some-next g) → c.args.requestor < length (row_of c.args.self.now.rows c.args.block)
 requestor_within g c = waits_within (row_of c.args.self.now.rows c.args.block) c.args.requestor c.args.request c.requires.waits
@@ -73,17 +88,15 @@ returns-in-Send g c =
     let before = free_picture (row_of c.args.self.now.rows c.args.block) (slice_index_or c.args.memory.now c.args.block no_memory) in
     let core = c.in-Some-next.core in
     let P : CacheAction → Type 0 = λ act. Cell c.args.protocol (held_at (row_of c.args.self.now.rows c.args.block) core).state (seen_by core c.args.requestor c.args.request) act c.in-Some-cache_cell.cell.next in
-    IsMessage-sent c.args.protocol before c.args.requestor c.args.request c.requires.rows c.requires.line (message_sent before (Some core) c.in-Send.payload)
-    (within_row g (goal.at.returns-in-Send g c).In-Some-next, sends_row _ _ (ap sent_by (subst P c.in-Send.is (row g d)))) refl
+    sends g (goal.at.returns-in-Send g c).In-Some (Some core) c.in-Send.payload (within_row g (goal.at.returns-in-Send g c).In-Some-next, sends_row _ _ (ap sent_by (subst P c.in-Send.is (row g d))))
 
 pub loop-core-init : goal.loop-core-init
 loop-core-init g c =
     let d = (goal.at.loop-core-init g c).In-Some in
     let held = slice_index_or c.args.memory.now c.args.block no_memory in
-    let before = free_picture (row_of c.args.self.now.rows c.args.block) held in
-    let sent : Payload → Message = λ payload. record { payload = payload; value = if carries_value payload then held.value else zero_words; from = None } in (
+    let before = free_picture (row_of c.args.self.now.rows c.args.block) held in (
       Silent-none c.args.protocol before c.args.requestor c.args.request c.in-Some.cell.action c.in-Some.cell.next
-          (memory_row g d) (c.sent_by_memory.ensures held.value ∙ ap (λ (o : Option Payload). option_map sent o) c.in_default-sent_by_memory.is),
+          (memory_row g d) (no_message c.in-Some.cell.action held.value c.in_default-sent_by_memory.ensures.none),
       omega arith,
     )
 

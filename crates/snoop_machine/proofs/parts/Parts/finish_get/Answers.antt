@@ -1,7 +1,8 @@
-use Rattle.std.proofs.Common.{◌≡◌, ◌++◌, ◌∷◌, [], List, length, Some, None, Bool, true, false, ◌∙◌, refl, sym, ap, subst, Option, arith}
+use Rattle.std.proofs.Common.{◌≡◌, ℕ, ◌++◌, ◌∷◌, [], List, length, Some, None, Bool, true, false, ◌∙◌, refl, sym, ap, subst, Option, arith}
 use Rattle.std.specs.Prelude.{◌≢◌, ◌<◌, slice_set, slice_index_or, option_map, IfSome}
 use Rattle.std.proofs.lemmas.Option.{same_Some}
 use Rattle.snoop_bus.specs.Traffic.{Open}
+use Rattle.snoop_rules.specs.declared.names.CacheState.TheVariants.{I}
 use Rattle.snoop_rules.specs.declared.names.Request.TheVariants.{PutM}
 use Rattle.snoop_history.specs.declared.items.Item.{Item}
 use Rattle.snoop_model.specs.declared.replies.Reply.TheVariants as reply
@@ -29,16 +30,17 @@ use Rattle.snoop_machine.proofs.QueueViews.{IsSound-close}
 use Rattle.snoop_model.proofs.Tables.Rows.{fill-waits, IsProper-fill}
 use Rattle.snoop_machine.proofs.Responses.{Arrives-get}
 use Rattle.snoop_machine.proofs.Following.{follows-set}
+use Rattle.snoop_machine.proofs.LineMaps.{gone-none}
 use Rattle.snoop_machine.proofs.parts.Parts.finish_get.Given.{Over}
 use Rattle.snoop_machine.proofs.parts.Parts.finish_get.Goals as goal
 use Rattle.snoop_machine.proofs.parts.Parts.finish_get.Goals.{In-Some}
 use Rattle.snoop_machine.proofs.PictureViews.{seen, picture-written, same_situation, core_in, block_in, sized_on, logged_on}
 
 -- the transaction that was open
-opened : (g : Over) (c : In-Some g) → (picture_of c.args.self.now.situation c.args.block).transaction ≡ Some c.in-Some.closing
+opened : (g : Over) (c : In-Some g) → (picture_of c.args.self.now.situation c.args.came.block).transaction ≡ Some c.in-Some.closing
 opened g c =
     let m = (fields c.self.inside.protocol c.self.inside.shape c.self.inside.lines c.self.inside.memory c.self.inside.bus c.self.inside.log) in
-    ap (λ (x : Picture). x.transaction) (seen m c.self.invariant c.args.self.now c.self.view_is c.args.block) ∙ (sym c.finish.ensures.closed ∙ c.in-Some.is)
+    ap (λ (x : Picture). x.transaction) (seen m c.self.invariant c.args.self.now c.self.view_is c.args.came.block) ∙ (sym c.finish.ensures.closed ∙ c.in-Some.is)
 
 -- its response is the one that was found
 header : (g : Over) (c : In-Some g) → came_of c.in-Some.closing ≡ c.args.came
@@ -46,24 +48,24 @@ header g c = same_Some _ _ (sym (ap (λ (o : Option Open). option_map came_of o)
 
 -- what memory holds now
 abbrev memory_now : (g : Over) (c : In-Some g) → MemLine
-memory_now g c = record { state = c.args.memory.next; value = written c.args.memory.action c.in-Some.closing.value (slice_index_or c.self.inside.memory c.args.block no_memory).value }
+memory_now g c = record { state = c.args.memory.next; value = written c.args.memory.action c.in-Some.closing.value (slice_index_or c.self.inside.memory c.args.came.block no_memory).value }
 
-arrives : (g : Over) (c : In-Some g) → ArrivesAtMemory c.in-Some.closing c.args.self.now.situation.protocol (picture_of c.args.self.now.situation c.args.block).memory (memory_now g c)
+arrives : (g : Over) (c : In-Some g) → ArrivesAtMemory c.in-Some.closing c.args.self.now.situation.protocol (picture_of c.args.self.now.situation c.args.came.block).memory (memory_now g c)
 arrives g c =
     let m = (fields c.self.inside.protocol c.self.inside.shape c.self.inside.lines c.self.inside.memory c.self.inside.bus c.self.inside.log) in
     let s = c.args.self.now.situation in
-    let P : Came → Type 0 = λ came. Settles s.protocol came.request came.payload (picture_of s c.args.block).memory.state c.args.memory.action c.args.memory.next in
+    let P : Came → Type 0 = λ came. Settles s.protocol came.request came.payload (picture_of s c.args.came.block).memory.state c.args.memory.action c.args.memory.next in
     record {
       act = c.args.memory.action;
       settled = subst P (sym (header g c)) c.requires.settles;
-      value = ap (λ (x : Picture). written c.args.memory.action c.in-Some.closing.value x.memory.value) (sym (seen m c.self.invariant c.args.self.now c.self.view_is c.args.block));
+      value = ap (λ (x : Picture). written c.args.memory.action c.in-Some.closing.value x.memory.value) (sym (seen m c.self.invariant c.args.self.now c.self.view_is c.args.came.block));
     }
 
 pub unreachable-requires : goal.unreachable-requires
 unreachable-requires g c =
     let m = (fields c.self.inside.protocol c.self.inside.shape c.self.inside.lines c.self.inside.memory c.self.inside.bus c.self.inside.log) in
-    let none : (picture_of c.args.self.now.situation c.args.block).transaction ≡ None =
-    ap (λ (x : Picture). x.transaction) (seen m c.self.invariant c.args.self.now c.self.view_is c.args.block) ∙ (sym c.finish.ensures.closed ∙ c.in_default.is) in
+    let none : (picture_of c.args.self.now.situation c.args.came.block).transaction ≡ None =
+    ap (λ (x : Picture). x.transaction) (seen m c.self.invariant c.args.self.now c.self.view_is c.args.came.block) ∙ (sym c.finish.ensures.closed ∙ c.in_default.is) in
     let clash : ◌≡◌ {A = Option Came} None (Some c.args.came) = sym (ap (λ (o : Option Open). option_map came_of o) none) ∙ c.requires.opened in
     cc
 
@@ -75,20 +77,20 @@ in_core : (g : Over) (c : In-Some g) → c.in-Some.closing.core < c.args.self.no
 in_core g c = subst (λ (x : Came). x.core < c.args.self.now.situation.shape.cores) (sym (header g c)) c.requires.core
 
 -- the fill, on the line that the caches hold
-fills_here : (g : Over) (c : In-Some g) → Fills c.in-Some.closing c.self.inside.protocol (line_at c.self.inside.lines.rows c.in-Some.closing.core c.args.block) (line_now g c) c.args.filled.access c.args.filled.value
+fills_here : (g : Over) (c : In-Some g) → Fills c.in-Some.closing c.self.inside.protocol (line_at c.self.inside.lines.rows c.in-Some.closing.core c.args.came.block) (line_now g c) c.args.filled.access c.args.filled.value
 fills_here g c =
     let m = (fields c.self.inside.protocol c.self.inside.shape c.self.inside.lines c.self.inside.memory c.self.inside.bus c.self.inside.log) in
     let s = c.args.self.now.situation in
-    let F : Option Open → Type 0 = λ o. IfSome o (λ x. Fills x s.protocol (held_by (picture_of s c.args.block) x.core) (filled_line c.args.filled.next c.args.filled.access x.value) c.args.filled.access c.args.filled.value) in
-    let T : Standing → Type 0 = λ x. Fills c.in-Some.closing x.situation.protocol (held_by (picture_of s c.args.block) c.in-Some.closing.core) (line_now g c) c.args.filled.access c.args.filled.value in
+    let F : Option Open → Type 0 = λ o. IfSome o (λ x. Fills x s.protocol (held_by (picture_of s c.args.came.block) x.core) (filled_line c.args.filled.next c.args.filled.access x.value) c.args.filled.access c.args.filled.value) in
+    let T : Standing → Type 0 = λ x. Fills c.in-Some.closing x.situation.protocol (held_by (picture_of s c.args.came.block) c.in-Some.closing.core) (line_now g c) c.args.filled.access c.args.filled.value in
     let U : Picture → Type 0 = λ x. Fills c.in-Some.closing m.protocol (held_by x c.in-Some.closing.core) (line_now g c) c.args.filled.access c.args.filled.value in
-    subst U (seen m c.self.invariant c.args.self.now c.self.view_is c.args.block) (subst T (sym c.self.view_is) (subst F (opened g c) c.requires.filled))
+    subst U (seen m c.self.invariant c.args.self.now c.self.view_is c.args.came.block) (subst T (sym c.self.view_is) (subst F (opened g c) c.requires.filled))
 
 pub invariant_of-self : goal.invariant_of-self
 invariant_of-self g c =
     let d = (goal.at.invariant_of-self g c).In-Some in
     let m = (fields c.self.inside.protocol c.self.inside.shape c.self.inside.lines c.self.inside.memory c.self.inside.bus c.self.inside.log) in
-    let block = c.args.block in
+    let block = c.args.came.block in
     let core = c.in-Some.closing.core in
     let filled = c.args.filled in
     let line = filled_line filled.next filled.access c.in-Some.closing.value in
@@ -104,14 +106,14 @@ invariant_of-self g c =
     let R : Traffic → Type 0 = λ bus. IsSound m.shape (placed m.lines.rows core block line) bus in
     record {
       sound = subst S (sym c.fill.ensures.rows) (subst R (sym c.finish.ensures.after) (IsSound-close m.shape (placed m.lines.rows core block line) m.bus block in_blocks placed_sound));
-      sized = sized_on m _ c.self.invariant.sized refl c.fill.ensures.many (ap (λ (l : List MemLine). length l) c.settle.ensures ∙ length-set m.memory c.args.block (memory_now g d)) (logged_on m.log c.push.new.self _ _ c.push.ensures);
+      sized = sized_on m _ c.self.invariant.sized refl (ap length c.fill.ensures.lines) (ap (λ (l : List MemLine). length l) c.take_row.ensures ∙ length-set m.memory c.args.came.block (memory_now g d)) (logged_on m.log c.push.new.self _ _ c.push.ensures);
     }
 
 pub returns-clause-responded : goal.returns-clause-responded
 returns-clause-responded g c =
     let m = (fields c.self.inside.protocol c.self.inside.shape c.self.inside.lines c.self.inside.memory c.self.inside.bus c.self.inside.log) in
     let d = (goal.at.returns-clause-responded g c).In-Some in
-    let block = c.args.block in
+    let block = c.args.came.block in
     let closing = c.in-Some.closing in
     let core = closing.core in
     let filled = c.args.filled in
@@ -122,7 +124,7 @@ returns-clause-responded g c =
     let did = c.next_did-did.result in
     let old : Situation = (standing m).situation in
     let is : old ≡ c.args.self.now.situation = ap (λ (x : Standing). x.situation) c.self.view_is in
-    let new : Situation = record { protocol = m.protocol; shape = m.shape; pictures = pictures_of c.fill.new.self.rows c.settle.new.self c.finish.new.self.transactions; queues = queues_of c.finish.new.self.queues; log = c.push.new.self.items } in
+    let new : Situation = record { protocol = m.protocol; shape = m.shape; pictures = pictures_of c.fill.new.self.rows c.take_row.new.self c.finish.new.self.transactions; queues = queues_of c.finish.new.self.queues; log = c.push.new.self.items } in
     let G : Situation → Type 0 = λ x. Responds x block closing (Some did) new in
     let F : Situation → Type 0 = λ x. (picture_of x block).transaction ≡ Some closing in
     let N : Situation → Type 0 = λ x. ArrivesAtMemory closing x.protocol (picture_of x block).memory (memory_now g d) in
@@ -145,7 +147,7 @@ returns-clause-responded g c =
         closed = refl;
         after = same_situation new (record (with_picture old block next) { log = m.log.items ++ item.Came (came_of closing) (Some did) ∷ [] })
             refl refl
-            (picture-written m block next c.fill.new.self.rows c.settle.new.self c.finish.new.self.transactions c.fill.ensures.rows c.settle.ensures (ap (λ (b : Traffic). b.transactions) c.finish.ensures.after))
+            (picture-written m block next c.fill.new.self.rows c.take_row.new.self c.finish.new.self.transactions c.fill.ensures.rows c.take_row.ensures (ap (λ (b : Traffic). b.transactions) c.finish.ensures.after))
             (ap (λ (b : Traffic). queues_of b.queues) c.finish.ensures.after)
             (ap (λ (j : Journal). j.items) c.push.ensures ∙ ap (λ (x : Came). m.log.items ++ item.Came x (Some did) ∷ []) (sym (header g d)));
       });
@@ -155,25 +157,35 @@ pub fill-requires-clause-proper : goal.fill-requires-clause-proper
 fill-requires-clause-proper g c =
     let I : Line → Type 0 = λ x. IsProper x in
     let its = fills_here g (goal.at.fill-requires-clause-proper g c).In-Some in
-    subst I (sym its.held) (IsProper-fill c.self.inside.protocol (line_at c.self.inside.lines.rows c.in-Some.closing.core c.args.block).state its.event its.row.action its.row.next c.args.filled.access.op its.after its.fill its.is_row)
+    subst I (sym its.held) (IsProper-fill c.self.inside.protocol (line_at c.self.inside.lines.rows c.in-Some.closing.core c.args.came.block).state its.event its.row.action its.row.next c.args.filled.access.op its.after its.fill its.is_row)
 
 -- an operation waits in the line, so it is not in I
 pub fill-requires-clause-held : goal.fill-requires-clause-held
 fill-requires-clause-held g c =
     let its = fills_here g (goal.at.fill-requires-clause-held g c).In-Some in
-    let held = c.self.invariant.sound.proper c.in-Some.closing.core c.args.block in
+    let held = c.self.invariant.sound.proper c.in-Some.closing.core c.args.came.block in
     λ e. (let clash : ◌≡◌ {A = Option Request} (Some (request_for c.args.filled.access.op)) None =
     sym (ap (λ (o : Option Access). option_map (λ access. request_for access.op) o) its.waited) ∙ (held.waiting ∙ ap missed_request e) in cc)
+
+-- the line is not in I after it, since it keeps words
+lands : (g : Over) (c : In-Some g) → c.args.filled.next ≢ I
+lands g c =
+    let its = fills_here g c in
+    let proper = IsProper-fill c.self.inside.protocol (line_at c.self.inside.lines.rows c.in-Some.closing.core c.args.came.block).state its.event its.row.action its.row.next c.args.filled.access.op its.after its.fill its.is_row in
+    let next : c.args.filled.next ≡ its.row.next = ap (λ (x : Line). x.state) its.held in
+    λ e. (let clash : ◌≡◌ {A = Bool} true false = proper.kept ∙ ap keeps (sym next ∙ e) in cc)
 
 pub returns-clause-lines : goal.returns-clause-lines
 returns-clause-lines g c =
     let d = (goal.at.returns-clause-lines g c).In-Some in
     let m = (fields c.self.inside.protocol c.self.inside.shape c.self.inside.lines c.self.inside.memory c.self.inside.bus c.self.inside.log) in
-    let next : Picture = record { caches = slice_set (row_of m.lines.rows c.args.block) c.in-Some.closing.core (filled_line c.args.filled.next c.args.filled.access c.in-Some.closing.value); memory = memory_now g d; transaction = None } in
-    follows-set m c.self.invariant c.args.self.now c.self.view_is _ c.args.block next c.fill.new.self c.requires.block
-    (picture-written m c.args.block next c.fill.new.self.rows c.settle.new.self c.finish.new.self.transactions c.fill.ensures.rows c.settle.ensures (ap (λ (b : Traffic). b.transactions) c.finish.ensures.after)) refl
+    let next : Picture = record { caches = slice_set (row_of m.lines.rows c.args.came.block) c.in-Some.closing.core (filled_line c.args.filled.next c.args.filled.access c.in-Some.closing.value); memory = memory_now g d; transaction = None } in
+    let none = gone-none (line_at m.lines.rows c.in-Some.closing.core c.args.came.block).state c.args.filled.next (lands g d) in
+    let same = ap (λ (lines : List (List ℕ)). length (slice_index_or lines c.in-Some.closing.core [])) c.fill.ensures.lines in
+    follows-set m c.self.invariant c.args.self.now c.self.view_is _ c.args.came.block next c.fill.new.self c.requires.block
+    (picture-written m c.args.came.block next c.fill.new.self.rows c.take_row.new.self c.finish.new.self.transactions c.fill.ensures.rows c.take_row.ensures (ap (λ (b : Traffic). b.transactions) c.finish.ensures.after)) refl
     c.in-Some.closing.core (filled_line c.args.filled.next c.args.filled.access c.in-Some.closing.value) (in_core g d) refl
-    c.fill.ensures.rows c.fill.ensures.lines c.fill.ensures.others
+    c.fill.ensures.rows (omega arith) (λ k ne. ap (λ (lines : List (List ℕ)). slice_index_or lines k []) c.fill.ensures.lines)
 
 pub fill-requires-clause-word : goal.fill-requires-clause-word
 fill-requires-clause-word g c =
@@ -181,17 +193,10 @@ fill-requires-clause-word g c =
     let word = c.requires.word.0 in
     omega arith
 
-pub fill-requires-clause-lands : goal.fill-requires-clause-lands
-fill-requires-clause-lands g c =
-    let its = fills_here g (goal.at.fill-requires-clause-lands g c).In-Some in
-    let proper = IsProper-fill c.self.inside.protocol (line_at c.self.inside.lines.rows c.in-Some.closing.core c.args.block).state its.event its.row.action its.row.next c.args.filled.access.op its.after its.fill its.is_row in
-    let next : c.args.filled.next ≡ its.row.next = ap (λ (x : Line). x.state) its.held in
-    λ e. (let clash : ◌≡◌ {A = Bool} true false = proper.kept ∙ ap keeps (sym next ∙ e) in cc)
-
 pub fill-requires-clause-core : goal.fill-requires-clause-core
 fill-requires-clause-core g c =
     let m = (fields c.self.inside.protocol c.self.inside.shape c.self.inside.lines c.self.inside.memory c.self.inside.bus c.self.inside.log) in
     let d = (goal.at.fill-requires-clause-core g c).In-Some in
     let in_cores = core_in m c.self.invariant c.args.self.now c.self.view_is c.in-Some.closing.core (in_core g d) in
-    let in_blocks = block_in m c.self.invariant c.args.self.now c.self.view_is c.args.block c.requires.block in
-    rw (c.self.invariant.sound.row c.args.block in_blocks) in_cores
+    let in_blocks = block_in m c.self.invariant c.args.self.now c.self.view_is c.args.came.block c.requires.block in
+    rw (c.self.invariant.sound.row c.args.came.block in_blocks) in_cores

@@ -26,10 +26,10 @@ use Rattle.snoop_machine.proofs.Following.{follows-rows}
 use Rattle.snoop_machine.proofs.LinesGoing.{LinesGo-none}
 
 -- the transaction that was open
-opened : (g : Over) (c : In-Some g) → (picture_of c.args.self.now.situation c.args.block).transaction ≡ Some c.in-Some.closing
+opened : (g : Over) (c : In-Some g) → (picture_of c.args.self.now.situation c.args.came.block).transaction ≡ Some c.in-Some.closing
 opened g c =
     let m = (fields c.self.inside.protocol c.self.inside.shape c.self.inside.lines c.self.inside.memory c.self.inside.bus c.self.inside.log) in
-    ap (λ (x : Picture). x.transaction) (seen m c.self.invariant c.args.self.now c.self.view_is c.args.block) ∙ (sym c.finish.ensures.closed ∙ c.in-Some.is)
+    ap (λ (x : Picture). x.transaction) (seen m c.self.invariant c.args.self.now c.self.view_is c.args.came.block) ∙ (sym c.finish.ensures.closed ∙ c.in-Some.is)
 
 -- its response is the one that was found
 header : (g : Over) (c : In-Some g) → came_of c.in-Some.closing ≡ c.args.came
@@ -37,24 +37,24 @@ header g c = same_Some _ _ (sym (ap (λ (o : Option Open). option_map came_of o)
 
 -- what memory holds now
 abbrev memory_now : (g : Over) (c : In-Some g) → MemLine
-memory_now g c = record { state = c.args.memory.next; value = written c.args.memory.action c.in-Some.closing.value (slice_index_or c.self.inside.memory c.args.block no_memory).value }
+memory_now g c = record { state = c.args.memory.next; value = written c.args.memory.action c.in-Some.closing.value (slice_index_or c.self.inside.memory c.args.came.block no_memory).value }
 
-arrives : (g : Over) (c : In-Some g) → ArrivesAtMemory c.in-Some.closing c.args.self.now.situation.protocol (picture_of c.args.self.now.situation c.args.block).memory (memory_now g c)
+arrives : (g : Over) (c : In-Some g) → ArrivesAtMemory c.in-Some.closing c.args.self.now.situation.protocol (picture_of c.args.self.now.situation c.args.came.block).memory (memory_now g c)
 arrives g c =
     let m = (fields c.self.inside.protocol c.self.inside.shape c.self.inside.lines c.self.inside.memory c.self.inside.bus c.self.inside.log) in
     let s = c.args.self.now.situation in
-    let P : Came → Type 0 = λ came. Settles s.protocol came.request came.payload (picture_of s c.args.block).memory.state c.args.memory.action c.args.memory.next in
+    let P : Came → Type 0 = λ came. Settles s.protocol came.request came.payload (picture_of s c.args.came.block).memory.state c.args.memory.action c.args.memory.next in
     record {
       act = c.args.memory.action;
       settled = subst P (sym (header g c)) c.requires.settles;
-      value = ap (λ (x : Picture). written c.args.memory.action c.in-Some.closing.value x.memory.value) (sym (seen m c.self.invariant c.args.self.now c.self.view_is c.args.block));
+      value = ap (λ (x : Picture). written c.args.memory.action c.in-Some.closing.value x.memory.value) (sym (seen m c.self.invariant c.args.self.now c.self.view_is c.args.came.block));
     }
 
 pub unreachable-requires : goal.unreachable-requires
 unreachable-requires g c =
     let m = (fields c.self.inside.protocol c.self.inside.shape c.self.inside.lines c.self.inside.memory c.self.inside.bus c.self.inside.log) in
-    let none : (picture_of c.args.self.now.situation c.args.block).transaction ≡ None =
-    ap (λ (x : Picture). x.transaction) (seen m c.self.invariant c.args.self.now c.self.view_is c.args.block) ∙ (sym c.finish.ensures.closed ∙ c.in_default.is) in
+    let none : (picture_of c.args.self.now.situation c.args.came.block).transaction ≡ None =
+    ap (λ (x : Picture). x.transaction) (seen m c.self.invariant c.args.self.now c.self.view_is c.args.came.block) ∙ (sym c.finish.ensures.closed ∙ c.in_default.is) in
     let clash : ◌≡◌ {A = Option Came} None (Some c.args.came) = sym (ap (λ (o : Option Open). option_map came_of o) none) ∙ c.requires.opened in
     cc
 
@@ -63,19 +63,19 @@ invariant_of-self g c =
     let m = (fields c.self.inside.protocol c.self.inside.shape c.self.inside.lines c.self.inside.memory c.self.inside.bus c.self.inside.log) in
     let R : Traffic → Type 0 = λ bus. IsSound m.shape m.lines.rows bus in
     record {
-      sound = subst R (sym c.finish.ensures.after) (IsSound-close m.shape m.lines.rows m.bus c.args.block (block_in m c.self.invariant c.args.self.now c.self.view_is c.args.block c.requires.block) c.self.invariant.sound);
-      sized = sized_on m _ c.self.invariant.sized refl refl (ap (λ (l : List MemLine). length l) c.settle.ensures ∙ length-set m.memory c.args.block (memory_now g (goal.at.invariant_of-self g c).In-Some)) (logged_on m.log c.push.new.self _ _ c.push.ensures);
+      sound = subst R (sym c.finish.ensures.after) (IsSound-close m.shape m.lines.rows m.bus c.args.came.block (block_in m c.self.invariant c.args.self.now c.self.view_is c.args.came.block c.requires.block) c.self.invariant.sound);
+      sized = sized_on m _ c.self.invariant.sized refl refl (ap (λ (l : List MemLine). length l) c.take_row.ensures ∙ length-set m.memory c.args.came.block (memory_now g (goal.at.invariant_of-self g c).In-Some)) (logged_on m.log c.push.new.self _ _ c.push.ensures);
     }
 
 pub returns-clause-responded : goal.returns-clause-responded
 returns-clause-responded g c =
     let m = (fields c.self.inside.protocol c.self.inside.shape c.self.inside.lines c.self.inside.memory c.self.inside.bus c.self.inside.log) in
     let d = (goal.at.returns-clause-responded g c).In-Some in
-    let block = c.args.block in
+    let block = c.args.came.block in
     let closing = c.in-Some.closing in
     let old : Situation = (standing m).situation in
     let is : old ≡ c.args.self.now.situation = ap (λ (x : Standing). x.situation) c.self.view_is in
-    let new : Situation = record { protocol = m.protocol; shape = m.shape; pictures = pictures_of m.lines.rows c.settle.new.self c.finish.new.self.transactions; queues = queues_of c.finish.new.self.queues; log = c.push.new.self.items } in
+    let new : Situation = record { protocol = m.protocol; shape = m.shape; pictures = pictures_of m.lines.rows c.take_row.new.self c.finish.new.self.transactions; queues = queues_of c.finish.new.self.queues; log = c.push.new.self.items } in
     let G : Situation → Type 0 = λ x. Responds x block closing None new in
     let F : Situation → Type 0 = λ x. (picture_of x block).transaction ≡ Some closing in
     let N : Situation → Type 0 = λ x. ArrivesAtMemory closing x.protocol (picture_of x block).memory (memory_now g d) in
@@ -97,7 +97,7 @@ returns-clause-responded g c =
         closed = refl;
         after = same_situation new (record (with_picture old block next) { log = m.log.items ++ item.Came (came_of closing) None ∷ [] })
             refl refl
-            (picture-written m block next m.lines.rows c.settle.new.self c.finish.new.self.transactions (sym (set-get_or m.lines.rows block [])) c.settle.ensures (ap (λ (b : Traffic). b.transactions) c.finish.ensures.after))
+            (picture-written m block next m.lines.rows c.take_row.new.self c.finish.new.self.transactions (sym (set-get_or m.lines.rows block [])) c.take_row.ensures (ap (λ (b : Traffic). b.transactions) c.finish.ensures.after))
             (ap (λ (b : Traffic). queues_of b.queues) c.finish.ensures.after)
             (ap (λ (j : Journal). j.items) c.push.ensures ∙ ap (λ (x : Came). m.log.items ++ item.Came x None ∷ []) (sym (header g d)));
       });
@@ -106,7 +106,7 @@ returns-clause-responded g c =
 pub returns-clause-lines : goal.returns-clause-lines
 returns-clause-lines g c =
     let m = (fields c.self.inside.protocol c.self.inside.shape c.self.inside.lines c.self.inside.memory c.self.inside.bus c.self.inside.log) in
-    let next : Picture = record { caches = row_of m.lines.rows c.args.block; memory = memory_now g (goal.at.returns-clause-lines g c).In-Some; transaction = None } in
-    follows-rows m c.self.invariant c.args.self.now c.self.view_is _ c.args.block next m.lines c.requires.block
-    (picture-written m c.args.block next m.lines.rows c.settle.new.self c.finish.new.self.transactions (sym (set-get_or m.lines.rows c.args.block [])) c.settle.ensures (ap (λ (b : Traffic). b.transactions) c.finish.ensures.after)) refl
-    refl (LinesGo-none c.args.block m.lines)
+    let next : Picture = record { caches = row_of m.lines.rows c.args.came.block; memory = memory_now g (goal.at.returns-clause-lines g c).In-Some; transaction = None } in
+    follows-rows m c.self.invariant c.args.self.now c.self.view_is _ c.args.came.block next m.lines c.requires.block
+    (picture-written m c.args.came.block next m.lines.rows c.take_row.new.self c.finish.new.self.transactions (sym (set-get_or m.lines.rows c.args.came.block [])) c.take_row.ensures (ap (λ (b : Traffic). b.transactions) c.finish.ensures.after)) refl
+    refl (LinesGo-none c.args.came.block m.lines)

@@ -14,7 +14,7 @@ use Rattle.snoop_machine.proofs.LineWrites.{IsSound-issue}
 use Rattle.snoop_model.specs.Pictures.Sound.{IsProper}
 use Rattle.snoop_machine.specs.Cache.{changed}
 use Rattle.snoop_machine.specs.Lines.{line_at}
-use Rattle.snoop_machine.specs.declared.cache.Change.TheVariants.{Wait}
+use Rattle.snoop_machine.specs.declared.cache.LineChange.TheVariants.{Wait}
 use Rattle.snoop_machine.proofs.PlacedLines.{placed}
 use Rattle.snoop_machine.proofs.QueueViews.{queues_of-issue, same_traffic}
 use Rattle.snoop_machine.proofs.Following.{follows-set}

@@ -14,13 +14,14 @@ use Rattle.snoop_model.specs.Moves.Standing.{Standing}
 use Rattle.snoop_model.specs.Pictures.Situation.{picture_of}
 use Rattle.snoop_model.specs.Moves.LookUps.{HasRow}
 use Rattle.snoop_model.specs.Moves.SenderTable.{FollowsSenderTable}
-use Rattle.snoop_model.specs.Pictures.Message.{free_picture, IsMessage}
+use Rattle.snoop_model.specs.Pictures.Message.{free_picture}
 use Rattle.snoop_model.specs.Moves.Move.{TakesMemRow}
 use Rattle.snoop_model.proofs.Invariant.Coherence.{orders_follow_sender_table, finds_rows}
 use Rattle.snoop_model.proofs.OneBlock.OfBlocks.{same_picture}
 use Rattle.snoop_machine.specs.declared.plan.Plan.TheVariants as plan
 use Rattle.snoop_machine.proofs.Plans.{plan-allowed}
-use Rattle.snoop_machine.specs.Plan.{IsPlan, message_sent}
+use Rattle.snoop_machine.specs.Plan.{IsPlan}
+use Rattle.snoop_machine.specs.Sender.{IsSender}
 use Rattle.snoop_machine.specs.PartsView.{fields, no_memory}
 use Rattle.snoop_machine.specs.Lines.{row_of}
 use Rattle.snoop_machine.proofs.parts.Parts.plan_order.Given.{Over}
@@ -78,7 +79,7 @@ sender-from-requires-clause-line g c =
 plan_is : (g : Over) (c : After-sender-from g) → IsPlan c.args.self.now.situation (plan.Order c.args.core c.in-Some.request c.in-Some.block c.sender-from.result.from c.sender-from.result.payload c.in-Some-mem_cell.cell.next)
 plan_is g c =
     let d = (goal.at.After-sender-from g c).In-Some-mem_cell in
-    let Q : Picture → Type 0 = λ p. IsMessage c.self.inside.protocol p c.args.core c.in-Some.request (message_sent p c.sender-from.result.from c.sender-from.result.payload) in
+    let Q : Picture → Type 0 = λ p. IsSender c.self.inside.protocol p c.args.core c.in-Some.request c.sender-from.result.from c.sender-from.result.payload in
     let sent = subst Q (picture g d) c.sender-from.ensures in
     (c.requires.core, record { head = c.in-Some.ensures.some; free = free_here g d; memory_row = memory_row g d; sent = rw (← protocol g d) sent })
 

@@ -1,4 +1,4 @@
-use Rattle.std.proofs.Common.{rules, ◌≡◌, ◌≢◌, true, false, Some, refl, sym, ap, ◌∙◌, subst}
+use Rattle.std.proofs.Common.{rules, arith, ℕ, ◌≡◌, ◌≢◌, ◌<◌, true, false, Some, refl, sym, ap, ◌∙◌, subst}
 use Rattle.std.specs.Prelude.{Option, IfSome, IsSomeAnd, IsTrue, option_map}
 use Rattle.snoop_rules.specs.declared.names.MemState.{MemState}
 use Rattle.snoop_bus.specs.Traffic.{Open}
@@ -55,26 +55,33 @@ fill-filled-requires-clause-word g c =
 opened : (g : Over) (c : After-came-came g) → (picture_of c.args.self.now.situation c.args.block).transaction ≡ Some c.in-Some.closing
 opened g c = sym c.transaction.ensures.value ∙ c.in-Some.is
 
-closes : (g : Over) (c : After-came-came g) → IsClosing c.args.self.now.situation c.args.block c.came-came.result c.settle-memory.result
+-- the response is to this block's
+its : (g : Over) (c : After-came-came g) → c.came-came.result.block ≡ c.args.block
+its g c = ap (λ (x : Came). x.block) c.came-came.ensures ∙ c.in-Some.ensures.within.0
+
+closes : (g : Over) (c : After-came-came g) → IsClosing c.args.self.now.situation c.came-came.result c.settle-memory.result
 closes g c =
     let s = c.args.self.now.situation in
     let closing = c.in-Some.closing in
-    let P : Came → Type 0 = λ came. IsClosing s c.args.block came c.settle-memory.result in
+    let P : Came → Type 0 = λ came. IsClosing s came c.settle-memory.result in
     let Q : MemState → Type 0 = λ x. Settles c.self.inside.protocol closing.request closing.payload x c.settle-memory.result.action c.settle-memory.result.next in
     let R : Standing → Type 0 = λ x. Settles x.situation.protocol closing.request closing.payload (picture_of s c.args.block).memory.state c.settle-memory.result.action c.settle-memory.result.next in
+    let here : closing.block ≡ c.args.block = c.in-Some.ensures.within.0 in
+    let S : ℕ → Type 0 = λ b. Settles s.protocol closing.request closing.payload (picture_of s b).memory.state c.settle-memory.result.action c.settle-memory.result.next in
     subst P (sym c.came-came.ensures) (record {
-      opened = ap (λ (o : Option Open). option_map came_of o) (opened g c);
-      its = c.in-Some.ensures.within.0;
+      opened = subst (λ (b : ℕ). option_map came_of (picture_of s b).transaction ≡ Some (came_of closing)) (sym here) (ap (λ (o : Option Open). option_map came_of o) (opened g c));
       core = c.in-Some.ensures.within.1;
       sender = sender_within s c.requires.inductive c.args.block closing (opened g c);
-      settles = subst R c.self.view_is (subst Q c.memory_state.ensures c.settle-memory.ensures);
+      settles = subst S (sym here) (subst R c.self.view_is (subst Q c.memory_state.ensures c.settle-memory.ensures));
     })
 
 pub returns-then-matches-clause-found : goal.returns-then-matches-clause-found
 returns-then-matches-clause-found g c =
     let d = (goal.at.returns-then-matches-clause-found g c).After-came-came in
     let put : c.in-Some.closing.request ≡ PutM = search rules in
-    (refl, (c.requires.block, closes g d, ap (λ (x : Came). x.request) c.came-came.ensures ∙ put))
+    let here = its g d in
+    let inside = c.requires.block in
+    (ap Respond (its g d), (omega arith, closes g d, ap (λ (x : Came). x.request) c.came-came.ensures ∙ put))
 
 pub returns-clause-found : goal.returns-clause-found
 returns-clause-found g c =
@@ -92,4 +99,7 @@ returns-clause-found g c =
     let F : Option Open → Type 0 = λ o. IfSome o (λ x. Fills x s.protocol (held_by (picture_of s block) x.core) (filled_line filled.next filled.access x.value) filled.access filled.value) in
     let fills = subst Q c.self.view_is (subst P c.line-found.ensures.line c.fill-filled.ensures) in
     let waits = ap (λ (x : Line). x.waiting) (sym c.line-found.ensures.line) ∙ c.fill-filled.ensures.waited in
-    (refl, (c.requires.block, closes g d, (λ e. get (sym (ap (λ (x : Came). x.request) c.came-came.ensures) ∙ e)), subst F (sym (opened g d)) fills, c.requires.inductive.accesses closing.core block filled.access waits))
+    let T : ℕ → Type 0 = λ b. IfSome (picture_of s b).transaction (λ x. Fills x s.protocol (held_by (picture_of s b) x.core) (filled_line filled.next filled.access x.value) filled.access filled.value) in
+    let here = its g d in
+    let inside = c.requires.block in
+    (ap Respond (its g d), (omega arith, closes g d, (λ e. get (sym (ap (λ (x : Came). x.request) c.came-came.ensures) ∙ e)), subst T (sym (its g d)) (subst F (sym (opened g d)) fills), c.requires.inductive.accesses closing.core block filled.access waits))

@@ -9,7 +9,7 @@ use Rattle.snoop_model.specs.Pictures.Picture.{held_by}
 use Rattle.snoop_model.specs.Pictures.Situation.{picture_of}
 use Rattle.snoop_machine.specs.Asked.{TakesAsk}
 use Rattle.snoop_machine.specs.Cache.{changed}
-use Rattle.snoop_machine.specs.declared.cache.Change.TheVariants.{Wait}
+use Rattle.snoop_machine.specs.declared.cache.LineChange.TheVariants.{Wait}
 use Rattle.snoop_model.proofs.Tables.Rows.{issue-waits, drop-waits, IsProper-issue, IsProper-hit, IsProper-drop}
 use Rattle.snoop_machine.proofs.parts.Parts.take_ask.Goals as goal
 
