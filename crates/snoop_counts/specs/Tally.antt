@@ -1,4 +1,4 @@
--- Counters, a row of them for each core or block, and what they have counted.
+-- Counters, a row of them for each core, block or word, or one for the machine, and what they have counted.
 -- Source: this project's profile.
 use Rattle.std.specs.Prelude.{◌≡◌, ◌<◌, ℕ, ◌+◌, true, false, List, [], ◌∷◌, ◌++◌, length, Option, Some, None, Ok, Err, replicate, set, slice_index, slice_index_or, if◌then◌else◌}
 use Rattle.std.specs.List.{fold}

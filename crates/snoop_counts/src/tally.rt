@@ -1,4 +1,4 @@
-//! Counters, a row of them for each core or block.
+//! Counters, a row of them for each core, block or word, or one for the machine.
 ghost use Rattle.std.specs.Prelude.{◌≡◌, ◌<◌, ◌++◌, ◌∷◌, [], ℕ, List, IfOk, IsSomeAnd, None, Ok};
 ghost use Rattle.snoop_model.specs.declared.replies.Reply.{Reply as Answer};
 ghost use Rattle.snoop_trace.specs.declared.step.Step.{Step as Given};
@@ -162,7 +162,7 @@ impl Change<Counters> for Count {
     }
 }
 
-/// Counts what has happened, in the row of whom it is of.
+/// Counts what has happened, in the row of its own subject.
 #[derive(Clone, Copy)]
 struct Own<'a> {
     happening: &'a Happening,
@@ -179,7 +179,7 @@ impl Change<Counters> for Own<'_> {
     }
 }
 
-/// The counters of each core, or of each block.
+/// The counters of each core, block or word, or those of the machine.
 #[derive(Drop)]
 pub(crate) struct Tally {
     subjects: Subjects,

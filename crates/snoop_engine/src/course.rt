@@ -49,7 +49,7 @@ pub(crate) trait Course {
         ensures fewer { (before : Self) → finds before step self.old → IfOk result (λ outcome. left self.new < left before) }
         ensures leads { (before : Self) → finds before step self.old → IfOk result (λ outcome. LeadsOn (leads before) step outcome (leads self.new)) }
 
-        // Of what this itself answers: `NoMemory` never stands for a step that is refused.
+        // The outer fault, `NoMemory`, never stands for a step that is refused.
         ensures memory { IfErr result (λ _. RefusedFor (situation self.old) step OutOfMemory) };
 
     /// Wherever some steps from reset have led, the course can go on to its end. This does nothing: a proof calls it for what it

@@ -1,6 +1,7 @@
 -- One map was given another line of one block, and the holders have followed.
-use Rattle.std.proofs.Common.{◌≡◌, ◌≢◌, ℕ, ◌+◌, ◌<◌, false, List, [], length, sym, ◌∙◌, ap, arith, inl, inr, ◌⊎◌}
-use Rattle.std.specs.Prelude.{slice_index_or, slice_set, nat_eq, map}
+use Rattle.std.proofs.Common.{◌≡◌, ◌≢◌, ℕ, ◌+◌, ◌<◌, Bool, false, Option, None, List, [], length, sym, ◌∙◌, ap, arith, inl, inr, ◌⊎◌}
+use Rattle.std.specs.Prelude.{slice_index_or, slice_set, nat_eq, map, is_some}
+use Rattle.std.specs.Map.{lookup}
 use Rattle.std.proofs.lemmas.List.{length-map, length-set, get_or-set_same, get_or-set_other}
 use Rattle.snoop_rules.specs.declared.names.CacheState.{CacheState}
 use Rattle.snoop_rules.specs.declared.names.CacheState.TheVariants.{I}
@@ -8,9 +9,9 @@ use Rattle.snoop_machine.specs.declared.holders.Holders.{Holders}
 use Rattle.snoop_model.specs.Pictures.Lines.{Line}
 use Rattle.snoop_model.specs.Pictures.Sound.{IsProper}
 use Rattle.snoop_machine.specs.Holders.{HaveFollowed}
-use Rattle.snoop_machine.specs.Cache.{Contents, no_cache, line_in, blocks_of}
-use Rattle.snoop_machine.specs.Lines.{Held, AreLines, held, rows_of, gone, line_at}
-use Rattle.snoop_machine.proofs.MapRows.{rows-set, blocks-at, blocks-same, count-same, length-blocks_of}
+use Rattle.snoop_machine.specs.Cache.{Contents, no_cache, line_of, line_in, blocks_of}
+use Rattle.snoop_machine.specs.Lines.{Held, AreLines, held, rows_of, gone, line_at, is_among}
+use Rattle.snoop_machine.proofs.MapRows.{rows-set, blocks-at, blocks-same, count-same, length-blocks_of, among-lookup}
 use Rattle.snoop_machine.proofs.LineMaps.{blocks_seen, maps-long, gone-none, gone-one, is_I}
 use Rattle.snoop_machine.proofs.LineParts.{AreLines-followed}
 
@@ -21,7 +22,7 @@ pub record HasWritten (caches : List Contents) (holders : List Holders) (core bl
   pub read : old ≡ slice_index_or caches core no_cache
   pub proper : IsProper line
   pub here : line_in new block ≡ line
-  pub others : (b : ℕ) → nat_eq block b ≡ false → line_in new b ≡ line_in old b
+  pub others : (b : ℕ) → nat_eq block b ≡ false → lookup (nat_eq b) new.entries ≡ lookup (nat_eq b) old.entries
   pub before : CacheState
   pub was : before ≡ (line_in old block).state
   pub followed : HaveFollowed core block before line.state holders after
@@ -29,7 +30,7 @@ pub record HasWritten (caches : List Contents) (holders : List Holders) (core bl
 module _ {caches : List Contents} {holders : List Holders} {core block : ℕ} {line : Line} {old new : Contents} {after : List Holders} (wrote : HasWritten caches holders core block line old new after)
     (now : Held) (view : held caches holders ≡ now) where
   elsewhere : (b : ℕ) → nat_eq block b ≡ false → line_in new b ≡ line_in (slice_index_or caches core no_cache) b
-  elsewhere b ne = wrote.others b ne ∙ ap (λ (cache : Contents). line_in cache b) wrote.read
+  elsewhere b ne = ap line_of (wrote.others b ne) ∙ ap (λ (cache : Contents). line_in cache b) wrote.read
 
   long : length after ≡ length holders
   long = ap (λ (l : List Holders). length l) wrote.followed.set ∙ length-set holders block wrote.followed.moved
@@ -55,13 +56,29 @@ module _ {caches : List Contents} {holders : List Holders} {core block : ℕ} {l
   pub lines_stay : blocks_of new ≡ blocks_of old → map blocks_of (slice_set caches core new) ≡ now.lines
   lines_stay same = blocks-same caches core new (same ∙ ap blocks_of wrote.read) ∙ ap (λ (h : Held). h.lines) view
 
+  -- the blocks that the core's map has lines for now
+  blocks_now : slice_index_or (map blocks_of (slice_set caches core new)) core [] ≡ blocks_of new
+  blocks_now = blocks-at (slice_set caches core new) core ∙ ap blocks_of (get_or-set_same caches core new no_cache wrote.in_cores)
+
+  -- the block has no line where none is found
+  pub line_gone : lookup (nat_eq block) new.entries ≡ None → is_among (slice_index_or (map blocks_of (slice_set caches core new)) core []) block ≡ false
+  line_gone none = ap (λ (blocks : List ℕ). is_among blocks block) blocks_now ∙ (among-lookup new.entries block ∙ ap (λ (o : Option Line). is_some o) none)
+
+  -- another block has a line where it had one
+  pub lines_elsewhere : (b : ℕ) → nat_eq block b ≡ false → is_among (slice_index_or (map blocks_of (slice_set caches core new)) core []) b ≡ is_among (slice_index_or now.lines core []) b
+  lines_elsewhere b ne =
+      let A : List ℕ → Bool = λ blocks. is_among blocks b in
+      ap A blocks_now
+      ∙ (among-lookup new.entries b ∙ (ap (λ (o : Option Line). is_some o) (wrote.others b ne)
+      ∙ (sym (among-lookup old.entries b) ∙ (ap (λ (cache : Contents). A (blocks_of cache)) wrote.read ∙ ap A (blocks_seen caches holders now view core)))))
+
   -- one line fewer where it moves to I
   pub lines_gone : ((line_at now.rows core block).state ≢ I) ⊎ (line.state ≢ I) → (line.state ≡ I → length new.entries + 1 ≡ length old.entries) → (line.state ≢ I → blocks_of new ≡ blocks_of old)
       → length (slice_index_or (map blocks_of (slice_set caches core new)) core []) + gone (line_at now.rows core block).state line.state ≡ length (slice_index_or now.lines core [])
   lines_gone place taken stays =
       let state = (line_at now.rows core block).state in
       let counted : length (slice_index_or (map blocks_of (slice_set caches core new)) core []) ≡ length new.entries =
-      ap (λ (blocks : List ℕ). length blocks) (blocks-at (slice_set caches core new) core ∙ ap blocks_of (get_or-set_same caches core new no_cache wrote.in_cores)) ∙ length-blocks_of new in
+      ap (λ (blocks : List ℕ). length blocks) blocks_now ∙ length-blocks_of new in
       let had : length (slice_index_or now.lines core []) ≡ length old.entries =
       ap (λ (blocks : List ℕ). length blocks) (sym (blocks_seen caches holders now view core)) ∙ (length-blocks_of (slice_index_or caches core no_cache) ∙ ap (λ (cache : Contents). length cache.entries) (sym wrote.read)) in
       elim (is_I line.state) [

@@ -1,7 +1,14 @@
 -- What is so of a proper line.
-use Rattle.std.proofs.Common.{◌≡◌, Option, None, Some, false, refl, sym, ◌∙◌, ap}
+use Rattle.std.proofs.Common.{◌≡◌, ℕ, Option, None, Some, false, refl, sym, ◌∙◌, ap}
 use Rattle.std.specs.Prelude.{is_some, option_map}
 use Rattle.snoop_trace.specs.declared.words.Words.{Words}
+use Rattle.snoop_trace.specs.declared.protocol.Protocol.{Protocol}
+use Rattle.snoop_trace.specs.declared.protocol.Protocol.TheVariants.{Msi, Mesi}
+use Rattle.snoop_trace.specs.declared.step.Op.TheVariants as op
+use Rattle.snoop_rules.specs.Cell.{Cell, cell_of}
+use Rattle.snoop_rules.specs.declared.names.CacheCell.{CacheCell}
+use Rattle.snoop_rules.specs.declared.names.CacheAction.TheVariants as action
+use Rattle.snoop_rules.specs.declared.names.CacheEvent.TheVariants as event
 use Rattle.snoop_rules.specs.declared.names.CacheState.{CacheState}
 use Rattle.snoop_rules.specs.declared.names.CacheState.TheVariants as state
 use Rattle.snoop_model.specs.declared.line.Access.{Access}
@@ -9,6 +16,8 @@ use Rattle.snoop_model.specs.Pictures.Lines.{Line}
 use Rattle.snoop_model.specs.Pictures.Picture.{kept_on, nothing_held}
 use Rattle.snoop_model.specs.Pictures.Sound.{IsProper, keeps, request_for, missed_request}
 use Rattle.snoop_model.specs.Moves.Move.{moves_to}
+use Rattle.snoop_machine.specs.Cache.{changed, kept_after, words_after}
+use Rattle.snoop_machine.specs.declared.cache.LineChange.TheVariants.{Hit}
 
 nothing_kept : (kept : Option Words) → is_some kept ≡ false → kept ≡ None
 nothing_kept None e = refl
@@ -43,3 +52,37 @@ moves_to_same line proper = let kept : kept_on line.state line.kept ≡ line.kep
     go state.M kept e = refl
     go state.EiA kept e = refl
     go state.MiA kept e = refl
+
+-- the next state of a row that is a hit, or this one
+abbrev next_at_hit : Option CacheCell → CacheState → CacheState
+next_at_hit (Some cell) state = elim cell.action [ action.Hit ↦ cell.next | _ ↦ state ]
+next_at_hit None state = state
+
+-- a load that hits leaves the state
+pub load_stays : (p : Protocol) (s n : CacheState) → Cell p s event.Load action.Hit n → n ≡ s
+load_stays p s n row = sym (ap (λ (o : Option CacheCell). next_at_hit o s) row) ∙ go p s
+  where
+    go : (p : Protocol) (s : CacheState) → next_at_hit (cell_of p s event.Load) s ≡ s
+    go _ state.I = refl
+    go _ state.IsAd = refl
+    go _ state.IsD = refl
+    go _ state.ImAd = refl
+    go _ state.ImD = refl
+    go _ state.S = refl
+    go _ state.SmAd = refl
+    go _ state.SmD = refl
+    go _ state.M = refl
+    go _ state.MiA = refl
+    go _ state.IiA = refl
+    go Msi state.E = refl
+    go Mesi state.E = refl
+    go Msi state.EiA = refl
+    go Mesi state.EiA = refl
+
+-- and the line
+pub loaded_same : (word : ℕ) (line : Line) → changed line.state (Hit (record { word = word; op = op.Load })) line ≡ line
+loaded_same word line = let kept : kept_after line.state (Hit (record { word = word; op = op.Load })) line.kept ≡ line.kept = go line.kept in rw kept refl
+  where
+    go : (kept : Option Words) → option_map (words_after word op.Load) kept ≡ kept
+    go None = refl
+    go (Some words) = refl

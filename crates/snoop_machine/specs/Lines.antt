@@ -78,6 +78,8 @@ pub record TookRow (protocol : Protocol) (event : CacheEvent) (core block : ℕ)
   pub row : Cell protocol (line_at old.rows core block).state event action next
   pub rows : new.rows ≡ slice_set old.rows block (slice_set (row_of old.rows block) core (moves_to next (line_at old.rows core block)))
   pub stays : next ≢ I → new.lines ≡ old.lines
+  pub taken : (line_at old.rows core block).state ≢ I → next ≡ I → is_among (slice_index_or new.lines core []) block ≡ false
+  pub elsewhere : (b : ℕ) → nat_eq block b ≡ false → is_among (slice_index_or new.lines core []) b ≡ is_among (slice_index_or old.lines core []) b
   pub many : length new.lines ≡ length old.lines
   pub lines : length (slice_index_or new.lines core []) + gone (line_at old.rows core block).state next ≡ length (slice_index_or old.lines core [])
   pub others : (k : ℕ) → k ≢ core → slice_index_or new.lines k [] ≡ slice_index_or old.lines k []

@@ -44,7 +44,7 @@ pub record CanBeOrdered (s : Situation) (core : ℕ) (request : Request) (block 
   pub memory_row : TakesMemRow s.protocol (at_memory request) (picture_of s block).memory.state memory
   pub sent : IsSender s.protocol (picture_of s block) core request from payload
 
--- the response to its block's transaction is this one, and this is what memory does with it, and its state then
+-- the block's open transaction brings this response, and memory does this with it and moves to this state
 pub record IsClosing (s : Situation) (came : Came) (memory : MemCell) : Type 0 where
   pub opened : option_map came_of (picture_of s came.block).transaction ≡ Some came
   pub core : came.core < s.shape.cores
@@ -82,16 +82,12 @@ HasRoomToAsk before core block (asked.Drop next) = ⊤
 -- for how many more such steps there is room
 abbrev pub room_for : Standing → Plan → ℕ
 room_for before (Ask core block word asking way) = room_for_ask before core block way
-room_for before (Order core request block from payload memory) = before.room
-room_for before (Writeback came memory) = before.room
-room_for before (Fill came memory filled) = before.room
+room_for before _ = before.room
 
 -- there is room for what the planned step adds
 abbrev pub HasRoom : Standing → Plan → Type 0
 HasRoom before (Ask core block word asking way) = HasRoomToAsk before core block way
-HasRoom before (Order core request block from payload memory) = 0 < before.room
-HasRoom before (Writeback came memory) = 0 < before.room
-HasRoom before (Fill came memory filled) = 0 < before.room
+HasRoom before _ = 0 < before.room
 
 -- the item that an Ask adds: a hit is performed at once
 abbrev pub entry_of_ask : List Item → ℕ → ℕ → ℕ → Op → Asked → Option Item

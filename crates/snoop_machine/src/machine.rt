@@ -99,8 +99,8 @@ impl Machine {
         // What `prepare` reported comes true.
         ensures prepared { (entry : Option Item) → IsPrepared self.old step entry → IsOk result × (self.new.situation.log ≡ self.old.situation.log ++ option_to_list entry) }
 
-        // The rest follows from the above, for the proofs of callers. After every step, taken or refused, the machine is coherent, and
-        // a load or store stands once in its history or waits.
+        // For the proofs of callers: this follows from the above and from what every machine keeps (`coherent`). After every step, taken
+        // or refused, the machine is coherent, and a load or store stands once in its history or waits.
         ensures stays { (self.new.situation.protocol ≡ self.old.situation.protocol) × (self.new.situation.shape ≡ self.old.situation.shape) }
         ensures replied { IfOk result (λ reply. IsReplyTo step reply) }
         ensures hit { IfOk result (λ reply. (value : ℕ) → reply ≡ Hit value → IsLoadHit step value self.old.situation.log self.new.situation.log) }

@@ -3,12 +3,12 @@ ghost use Rattle.std.specs.Prelude.{◌≡◌, ◌≢◌, ℕ, ◌<◌, [], leng
 ghost use Rattle.snoop_rules.specs.Waits.{waiting_request};
 ghost use Rattle.snoop_rules.specs.declared.names.MemAction.TheVariants.{Send};
 ghost use Rattle.snoop_rules.specs.declared.names.Payload.{Payload};
-ghost use Rattle.snoop_rules.specs.Takers.{seen_by};
+ghost use Rattle.snoop_rules.specs.Takers.{at_memory, seen_by};
 ghost use Rattle.snoop_model.specs.Pictures.Picture.{held_at};
 ghost use Rattle.snoop_model.specs.Moves.LookUps.{HasRow};
 ghost use Rattle.snoop_model.specs.Moves.SenderTable.{FollowsSenderTable};
 ghost use Rattle.snoop_model.specs.Pictures.Message.{free_picture};
-ghost use Rattle.snoop_model.specs.Moves.Move.{TakesRows};
+ghost use Rattle.snoop_model.specs.Moves.Move.{TakesMemRow, TakesRows};
 ghost use Rattle.snoop_machine.specs.Lines.{LinesGo};
 ghost use Rattle.snoop_machine.specs.PartsView.{no_memory};
 ghost use Rattle.snoop_machine.specs.Sender.{IsSender};
@@ -16,8 +16,8 @@ ghost use Rattle.snoop_machine.specs.Sender.{IsSender};
 use crate::lines::Lines;
 use crate::memory::Memory;
 use snoop_rules::{
-    CacheAction, MemAction, MemCell, Payload, Protocol, Request, cache_cell, event_at_memory,
-    event_seen, mem_cell,
+    CacheAction, MemAction, MemCell, MemState, Payload, Protocol, Request, cache_cell,
+    event_at_memory, event_seen, mem_cell,
 };
 use snoop_trace::Block;
 
@@ -47,12 +47,13 @@ impl<B: Block> Lines<B> {
     }
 }
 
-/// Who sends at an Order, and with what payload.
+/// Who sends at an Order, with what payload, and memory's next state.
 #[derive(Clone, Copy)]
 pub(crate) struct Sending {
     /// The core that sends, or `None` for memory.
     pub(crate) from: Option<u32>,
     pub(crate) payload: Payload,
+    pub(crate) memory: MemState,
 }
 
 /// The payload that memory sends, if it sends.
@@ -67,7 +68,7 @@ fn sent_by_memory(cell: MemCell) -> Option<Payload>
 }
 
 impl<B: Block> Lines<B> {
-    /// The one controller that sends, for a request on the block.
+    /// The one controller that sends for a request on the block, and memory's next state.
     pub(crate) fn sender(
         &self,
         protocol: Protocol,
@@ -80,15 +81,17 @@ impl<B: Block> Lines<B> {
         requires waits { waiting_request (held_at (slice_index_or self.now.rows block []) requestor).state ≡ Some request }
         requires rows { (k : ℕ) → k < length (slice_index_or self.now.rows block []) → HasRow protocol (held_at (slice_index_or self.now.rows block []) k).state (seen_by k requestor request) }
         requires line { FollowsSenderTable protocol (free_picture (slice_index_or self.now.rows block []) (slice_index_or memory.now block no_memory)) requestor request }
-        ensures { IsSender protocol (free_picture (slice_index_or self.now.rows block []) (slice_index_or memory.now block no_memory)) requestor request result.from result.payload }
+        ensures sender { IsSender protocol (free_picture (slice_index_or self.now.rows block []) (slice_index_or memory.now block no_memory)) requestor request result.from result.payload }
+        ensures memory { TakesMemRow protocol (at_memory request) (slice_index_or memory.now block no_memory).state result.memory }
     {
-        let Some(cell) = mem_cell(protocol, memory.state(block), event_at_memory(request)) else {
+        let Some(row) = mem_cell(protocol, memory.state(block), event_at_memory(request)) else {
             unreachable!();
         };
-        if let Some(payload) = sent_by_memory(cell) {
+        if let Some(payload) = sent_by_memory(row) {
             return Sending {
                 from: None,
                 payload,
+                memory: row.next,
             };
         }
         let concerned = self.concerned(block, requestor, request);
@@ -103,6 +106,7 @@ impl<B: Block> Lines<B> {
                 return Sending {
                     from: Some(core),
                     payload,
+                    memory: row.next,
                 };
             }
             from = core + 1;

@@ -1,4 +1,4 @@
-//! What a step will do, as it was found: decisions, and the one value that a hit or a fill performs.
+//! What a step will do, as it was found: decisions, and the one value that a hit or a fill loads or stores.
 use crate::ask::Asked;
 use crate::respond::Filled;
 use snoop_history::Came;
@@ -7,7 +7,7 @@ use snoop_trace::Op;
 
 /// What a step will do, found before anything changes.
 #[derive(Clone, Copy)]
-pub enum Plan {
+pub(crate) enum Plan {
     Ask {
         core: u32,
         block: u32,

@@ -17,10 +17,10 @@ use snoop_trace::{Block, Kept, Op};
 
 /// The next state of the requestor's line once its data has come, and what it performs with it.
 #[derive(Clone, Copy)]
-pub struct Filled {
-    pub next: CacheState,
-    pub access: Access,
-    pub value: u64,
+pub(crate) struct Filled {
+    pub(crate) next: CacheState,
+    pub(crate) access: Access,
+    pub(crate) value: u64,
 }
 
 /// What the response brings to its requestor's line.

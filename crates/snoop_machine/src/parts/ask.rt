@@ -1,6 +1,7 @@
 //! An Ask: found, and made.
 ghost use Rattle.std.specs.Prelude.{◌≡◌, ◌≢◌, ◌<◌, ℕ, [], ◌∷◌, ◌++◌, slice_index, IfOk, IfErr, None, Some, true, Err, if◌then◌else◌};
 ghost use Rattle.snoop_trace.specs.declared.step.Step.TheVariants.{Ask};
+ghost use Rattle.snoop_trace.specs.declared.step.Op.TheVariants.{Load};
 ghost use Rattle.snoop_trace.specs.Words.{HasWord, IsWord};
 ghost use Rattle.snoop_rules.specs.Waits.{waiting_request};
 ghost use Rattle.snoop_bus.specs.Queues.{after_issue};
@@ -132,7 +133,7 @@ impl<B: Block> Parts<B> {
         self.lines.change(core, block, next, change);
     }
 
-    /// The line moves to its next state by a hit, which is performed on its words and logged.
+    /// The line moves to its next state by a hit, which is performed on its words and logged. A load leaves the line as it is.
     #[inline(always)]
     fn hit_line(&mut self, core: u32, block: u32, next: CacheState, access: Access, value: u64)
         requires core { core < self.old.situation.shape.cores }
@@ -141,13 +142,16 @@ impl<B: Block> Parts<B> {
         requires room { 0 < self.old.room }
         requires same { waiting_request next ≡ waiting_request (state_of self.old.situation core block) }
         requires held { state_of self.old.situation core block ≢ I }
+        requires still { access.op ≡ Load → next ≡ state_of self.old.situation core block }
         requires proper { IsProper (changed next (Hit access) (held_by (picture_of self.old.situation block) core)) }
         ensures written { self.new.situation ≡ record (with_picture self.old.situation block (with_line (picture_of self.old.situation block) core (changed next (Hit access) (held_by (picture_of self.old.situation block) core)))) { log = self.old.situation.log ++ ItemDid (next_did self.old.situation.log core block access.word access.op value true) ∷ [] } }
         ensures room { KeepsRoom self.old self.new }
         ensures lines { (k : ℕ) → LosesLines self.old self.new k }
     {
         let did = self.next_did(core, block, access, value, true);
-        self.move_line(core, block, next, LineChange::Hit(access));
+        if !matches!(&access.op, Op::Load) {
+            self.move_line(core, block, next, LineChange::Hit(access));
+        }
         self.log.push(Item::Did(did));
     }
 }

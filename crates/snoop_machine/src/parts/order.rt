@@ -23,7 +23,7 @@ use crate::order::Sending;
 use crate::plan::Plan;
 use snoop_history::{Item, Sent};
 use snoop_model::Refused;
-use snoop_rules::{MemState, Payload, Request, carries_value, event_at_memory, mem_cell};
+use snoop_rules::{MemState, Payload, Request, carries_value};
 use snoop_trace::{Block, Kept};
 
 impl<B: Block> Parts<B> {
@@ -51,14 +51,11 @@ impl<B: Block> Parts<B> {
         if self.transaction(block).is_some() {
             return Err(Refused::BusTaken(block));
         }
-        let Some(cell) = mem_cell(
-            self.protocol,
-            self.memory_state(block),
-            event_at_memory(request),
-        ) else {
-            unreachable!();
-        };
-        let Sending { from, payload } = self
+        let Sending {
+            from,
+            payload,
+            memory,
+        } = self
             .lines
             .sender(self.protocol, &self.memory, core, request, block);
         Ok(Plan::Order {
@@ -67,7 +64,7 @@ impl<B: Block> Parts<B> {
             block,
             from,
             payload,
-            memory: cell.next,
+            memory,
         })
     }
 

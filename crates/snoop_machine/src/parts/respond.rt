@@ -76,7 +76,7 @@ impl<B: Block> Parts<B> {
         let Some(closing) = self.bus.finish(came.block) else {
             unreachable!();
         };
-        self.memory.take_row(came.block, memory, &closing.value);
+        self.memory.settle(came.block, memory, &closing.value);
         self.log.push(Item::Came(came, None));
     }
 
@@ -107,7 +107,7 @@ impl<B: Block> Parts<B> {
             filled.access,
             &closing.value,
         );
-        self.memory.take_row(came.block, memory, &closing.value);
+        self.memory.settle(came.block, memory, &closing.value);
         self.log.push(Item::Came(came, Some(did)));
         did
     }

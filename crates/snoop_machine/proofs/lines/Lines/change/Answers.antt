@@ -5,11 +5,11 @@ use Rattle.std.proofs.lemmas.List.{get_or_read}
 use Rattle.snoop_rules.specs.declared.names.CacheState.TheVariants.{I}
 use Rattle.snoop_model.specs.Pictures.Lines.{Line}
 use Rattle.snoop_model.specs.Pictures.Picture.{nothing_held}
-use Rattle.snoop_machine.specs.Cache.{Contents, no_cache, line_of, line_in, changed}
+use Rattle.snoop_machine.specs.Cache.{Contents, no_cache, line_in, changed}
 use Rattle.snoop_machine.specs.Lines.{line_at}
 use Rattle.snoop_machine.proofs.ProperLines.{settled}
 use Rattle.snoop_machine.proofs.LineMaps.{in_rows, line_seen, mover_placed}
-use Rattle.snoop_machine.proofs.LineChanges.{HasWritten, lines_after, rows_wrote, many_kept, others_kept, lines_stay, lines_gone}
+use Rattle.snoop_machine.proofs.LineChanges.{HasWritten, lines_after, rows_wrote, many_kept, others_kept, lines_stay, line_gone, lines_elsewhere, lines_gone}
 use Rattle.snoop_machine.proofs.lines.Lines.change.Given.{Over}
 use Rattle.snoop_machine.proofs.lines.Lines.change.Goals as goal
 use Rattle.snoop_machine.proofs.lines.Lines.change.Goals.{After-index_mut-cache, After-follow}
@@ -68,7 +68,7 @@ wrote g c =
       read = read g d;
       proper = c.requires.proper;
       here = c.change-before.ensures.here ∙ ap (λ (x : Line). changed c.args.next c.args.change x) (was g d);
-      others = λ b ne. ap line_of (c.change-before.ensures.others b ne);
+      others = c.change-before.ensures.others;
       before = c.change-before.result;
       was = c.change-before.ensures.before;
       followed = c.follow.ensures;
@@ -82,6 +82,12 @@ returns-clause-rows g c = rows_wrote (wrote g (goal.at.returns-clause-rows g c).
 
 pub returns-clause-stays : goal.returns-clause-stays
 returns-clause-stays g c = λ ne. lines_stay (wrote g (goal.at.returns-clause-stays g c).After-follow) c.args.self.now c.self.view_is (c.change-before.ensures.stays ne)
+
+pub returns-clause-taken : goal.returns-clause-taken
+returns-clause-taken g c = λ e. line_gone (wrote g (goal.at.returns-clause-taken g c).After-follow) c.args.self.now c.self.view_is (c.change-before.ensures.taken e)
+
+pub returns-clause-elsewhere : goal.returns-clause-elsewhere
+returns-clause-elsewhere g c = lines_elsewhere (wrote g (goal.at.returns-clause-elsewhere g c).After-follow) c.args.self.now c.self.view_is
 
 pub returns-clause-many : goal.returns-clause-many
 returns-clause-many g c = many_kept (wrote g (goal.at.returns-clause-many g c).After-follow) c.args.self.now c.self.view_is

@@ -2,7 +2,7 @@ use Rattle.std.proofs.Common.{◌≡◌, ◌<◌, is_some, length, ◌∙◌, ap
 use Rattle.std.specs.Prelude.{slice_index_or, nat_eq}
 use Rattle.std.specs.Map.{lookup}
 use Rattle.std.proofs.lemmas.List.{get_or_read}
-use Rattle.snoop_machine.specs.Cache.{Contents, no_cache, line_of, filled_line}
+use Rattle.snoop_machine.specs.Cache.{Contents, no_cache, filled_line}
 use Rattle.snoop_machine.proofs.LineMaps.{in_rows, held_placed}
 use Rattle.snoop_machine.proofs.LineChanges.{HasWritten, lines_after, rows_wrote, lines_stay}
 use Rattle.snoop_machine.proofs.lines.Lines.fill.Given.{Over}
@@ -45,7 +45,7 @@ wrote g c =
       read = read g d;
       proper = c.requires.proper;
       here = c.fill-before.ensures.here;
-      others = λ b ne. ap line_of (c.fill-before.ensures.others b ne);
+      others = c.fill-before.ensures.others;
       before = c.fill-before.result;
       was = c.fill-before.ensures.before;
       followed = c.follow.ensures;

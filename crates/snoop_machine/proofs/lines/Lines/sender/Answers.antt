@@ -28,10 +28,10 @@ use Rattle.snoop_machine.specs.Sender.{IsSender}
 use Rattle.snoop_machine.specs.PartsView.{no_memory}
 
 -- memory's row
-memory_row : (g : Over) (c : In-Some g) → MemoryCell c.args.protocol (slice_index_or c.args.memory.now c.args.block no_memory).state (at_memory c.args.request) c.in-Some.cell.action c.in-Some.cell.next
+memory_row : (g : Over) (c : In-Some g) → MemoryCell c.args.protocol (slice_index_or c.args.memory.now c.args.block no_memory).state (at_memory c.args.request) c.in-Some.row.action c.in-Some.row.next
 memory_row g c =
-    let P : MemEvent → Type 0 = λ event. MemoryCell c.args.protocol c.state.result event c.in-Some.cell.action c.in-Some.cell.next in
-    let Q : MemState → Type 0 = λ state. MemoryCell c.args.protocol state (at_memory c.args.request) c.in-Some.cell.action c.in-Some.cell.next in
+    let P : MemEvent → Type 0 = λ event. MemoryCell c.args.protocol c.state.result event c.in-Some.row.action c.in-Some.row.next in
+    let Q : MemState → Type 0 = λ state. MemoryCell c.args.protocol state (at_memory c.args.request) c.in-Some.row.action c.in-Some.row.next in
     subst Q c.state.ensures (subst P c.event_at_memory.ensures c.in-Some.ensures.row)
 
 -- who sends is the only one that does
@@ -49,12 +49,12 @@ no_message (mem_action.Send payload) value none = absurd (none payload refl)
 no_message mem_action.None value none = refl
 no_message mem_action.Write value none = refl
 
-pub returns-in-Some-sent_by_memory : goal.returns-in-Some-sent_by_memory
-returns-in-Some-sent_by_memory g c =
-    let d = (goal.at.returns-in-Some-sent_by_memory g c).In-Some in
+pub returns-in-Some-sent_by_memory-clause-sender : goal.returns-in-Some-sent_by_memory-clause-sender
+returns-in-Some-sent_by_memory-clause-sender g c =
+    let d = (goal.at.returns-in-Some-sent_by_memory-clause-sender g c).In-Some in
     let held = slice_index_or c.args.memory.now c.args.block no_memory in
-    let P : MemAction → Type 0 = λ act. MemoryCell c.args.protocol held.state (at_memory c.args.request) act c.in-Some.cell.next in
-    sends g d None c.in-Some-sent_by_memory.payload (c.in-Some.cell.next, subst P c.in-Some-sent_by_memory.ensures.some (memory_row g d))
+    let P : MemAction → Type 0 = λ act. MemoryCell c.args.protocol held.state (at_memory c.args.request) act c.in-Some.row.next in
+    sends g d None c.in-Some-sent_by_memory.payload (c.in-Some.row.next, subst P c.in-Some-sent_by_memory.ensures.some (memory_row g d))
 
 requestor_within : (g : Over) (c : In-Some-next g) → c.args.requestor < length (row_of c.args.self.now.rows c.args.block)
 requestor_within g c = waits_within (row_of c.args.self.now.rows c.args.block) c.args.requestor c.args.request c.requires.waits
@@ -82,21 +82,21 @@ unreachable-requires-in_default-cache_cell g c =
     let clash : ◌≡◌ {A = Option CacheCell} None (Some there.0) = sym none ∙ there.1 in
     cc
 
-pub returns-in-Send : goal.returns-in-Send
-returns-in-Send g c =
-    let d = (goal.at.returns-in-Send g c).In-Some-cache_cell in
+pub returns-in-Send-clause-sender : goal.returns-in-Send-clause-sender
+returns-in-Send-clause-sender g c =
+    let d = (goal.at.returns-in-Send-clause-sender g c).In-Some-cache_cell in
     let before = free_picture (row_of c.args.self.now.rows c.args.block) (slice_index_or c.args.memory.now c.args.block no_memory) in
     let core = c.in-Some-next.core in
     let P : CacheAction → Type 0 = λ act. Cell c.args.protocol (held_at (row_of c.args.self.now.rows c.args.block) core).state (seen_by core c.args.requestor c.args.request) act c.in-Some-cache_cell.cell.next in
-    sends g (goal.at.returns-in-Send g c).In-Some (Some core) c.in-Send.payload (within_row g (goal.at.returns-in-Send g c).In-Some-next, sends_row _ _ (ap sent_by (subst P c.in-Send.is (row g d))))
+    sends g (goal.at.returns-in-Send-clause-sender g c).In-Some (Some core) c.in-Send.payload (within_row g (goal.at.returns-in-Send-clause-sender g c).In-Some-next, sends_row _ _ (ap sent_by (subst P c.in-Send.is (row g d))))
 
 pub loop-core-init : goal.loop-core-init
 loop-core-init g c =
     let d = (goal.at.loop-core-init g c).In-Some in
     let held = slice_index_or c.args.memory.now c.args.block no_memory in
     let before = free_picture (row_of c.args.self.now.rows c.args.block) held in (
-      Silent-none c.args.protocol before c.args.requestor c.args.request c.in-Some.cell.action c.in-Some.cell.next
-          (memory_row g d) (no_message c.in-Some.cell.action held.value c.in_default-sent_by_memory.ensures.none),
+      Silent-none c.args.protocol before c.args.requestor c.args.request c.in-Some.row.action c.in-Some.row.next
+          (memory_row g d) (no_message c.in-Some.row.action held.value c.in_default-sent_by_memory.ensures.none),
       omega arith,
     )
 

@@ -1,5 +1,6 @@
-use Rattle.std.proofs.Common.{◌≡◌, ◌≢◌, ℕ, ◌+◌, ◌<◌, [], List, length, sym, ◌∙◌, ap, subst, arith, inl, inr, ◌⊎◌}
-use Rattle.std.specs.Prelude.{slice_index_or, slice_set, map}
+use Rattle.std.proofs.Common.{◌≡◌, ◌≢◌, ℕ, ◌+◌, ◌<◌, None, [], List, length, sym, ◌∙◌, ap, subst, arith, inl, inr, ◌⊎◌}
+use Rattle.std.specs.Prelude.{slice_index_or, slice_set, map, nat_eq}
+use Rattle.std.specs.Map.{lookup}
 use Rattle.std.proofs.lemmas.List.{get_or_read}
 use Rattle.snoop_rules.specs.declared.names.CacheAction.{CacheAction}
 use Rattle.snoop_rules.specs.declared.names.CacheState.{CacheState}
@@ -15,7 +16,7 @@ use Rattle.snoop_machine.specs.Lines.{held, gone, line_at, TookRow}
 use Rattle.snoop_machine.proofs.ProperLines.{settled, moves_to_same}
 use Rattle.snoop_machine.proofs.LineMaps.{in_rows, line_seen, gone-same, is_I}
 use Rattle.snoop_machine.proofs.LineParts.{followed-still}
-use Rattle.snoop_machine.proofs.LineChanges.{HasWritten, lines_after, rows_wrote, many_kept, others_kept, lines_stay, lines_gone}
+use Rattle.snoop_machine.proofs.LineChanges.{HasWritten, lines_after, rows_wrote, many_kept, others_kept, lines_stay, line_gone, lines_elsewhere, lines_gone}
 use Rattle.snoop_machine.proofs.lines.Lines.take_row.Given.{Over}
 use Rattle.snoop_machine.proofs.lines.Lines.take_row.Goals as goal
 use Rattle.snoop_machine.proofs.lines.Lines.take_row.Goals.{After-index_mut-cache, After-take_row, In-Some, In_default, After-follow}
@@ -41,14 +42,17 @@ Wrote g c next after =
 took : (g : Over) (c : After-take_row g) (action : CacheAction) (next : CacheState) (after : List Holders) → Wrote g c next after
     → Cell c.args.protocol (line_at c.args.self.now.rows c.args.core c.args.block).state c.args.event action next
     → (next ≢ I → blocks_of c.take_row.new.self ≡ blocks_of c.index_mut-cache.result.now)
+    → ((line_at c.args.self.now.rows c.args.core c.args.block).state ≢ I → next ≡ I → lookup (nat_eq c.args.block) c.take_row.new.self.entries ≡ None)
     → length (slice_index_or (map blocks_of (slice_set c.self.inside.caches.items c.args.core c.take_row.new.self)) c.args.core []) + gone (line_at c.args.self.now.rows c.args.core c.args.block).state next ≡ length (slice_index_or c.args.self.now.lines c.args.core [])
     → TookRow c.args.protocol c.args.event c.args.core c.args.block c.args.self.now (held (slice_set c.self.inside.caches.items c.args.core c.take_row.new.self) after)
-took g c action next after wrote row stays lines = record {
+took g c action next after wrote row stays taken lines = record {
   action = action;
   next = next;
   row = row;
   rows = rows_wrote wrote c.args.self.now c.self.view_is;
   stays = λ ne. lines_stay wrote c.args.self.now c.self.view_is (stays ne);
+  taken = λ left e. line_gone wrote c.args.self.now c.self.view_is (taken left e);
+  elsewhere = lines_elsewhere wrote c.args.self.now c.self.view_is;
   many = many_kept wrote c.args.self.now c.self.view_is;
   lines = lines;
   others = others_kept wrote c.args.self.now c.self.view_is;
@@ -68,7 +72,7 @@ stayed g c =
       read = read g d;
       proper = subst (λ (x : Line). IsProper x) (sym (moves_to_same held_line proper) ∙ ap (λ (x : Line). moves_to x.state x) (was g d)) proper;
       here = subst (λ (x : Line). line_in c.take_row.new.self c.args.block ≡ moves_to x.state x) (was g d) same;
-      others = λ b ne. ap line_of (c.take_row.ensures.others b ne);
+      others = c.take_row.ensures.others;
       before = old.state;
       was = sym (ap (λ (x : Line). x.state) (was g d));
       followed = followed-still c.args.core c.args.block old.state c.self.inside.holders;
@@ -96,7 +100,7 @@ moved g c =
         | inl e ↦ ap line_of (c.in-Some.ensures.taken e) ∙ sym (settled (moves_to next old) (proper_after g at.In-Some) e)
         | inr ne ↦ c.in-Some.ensures.here ne ∙ ap (λ (x : Line). moves_to next x) (was g d)
       ];
-      others = λ b ne. ap line_of (c.take_row.ensures.others b ne);
+      others = c.take_row.ensures.others;
       before = c.in-Some.before;
       was = c.in-Some.ensures.before;
       followed = c.follow.ensures;
@@ -144,7 +148,7 @@ returns-in_default g c =
     let cell : Cell c.args.protocol held_line.state c.args.event still.0 held_line.state = subst (λ (next : CacheState). Cell c.args.protocol held_line.state c.args.event still.0 next) still.2.1 still.2.0 in
     let none = gone-same old.state in
     let same = ap (λ (lines : List (List ℕ)). length (slice_index_or lines c.args.core [])) (lines_stay wrote c.args.self.now c.self.view_is c.in_default.ensures.places) in
-    took g at.After-take_row still.0 old.state c.self.inside.holders wrote (subst (λ (x : Line). Cell c.args.protocol x.state c.args.event still.0 x.state) (was g at.After-index_mut-cache) cell) (λ ne. c.in_default.ensures.places) (omega arith)
+    took g at.After-take_row still.0 old.state c.self.inside.holders wrote (subst (λ (x : Line). Cell c.args.protocol x.state c.args.event still.0 x.state) (was g at.After-index_mut-cache) cell) (λ ne. c.in_default.ensures.places) (λ left e. absurd (left e)) (omega arith)
 
 -- where it moves
 pub invariant_of-self-2 : goal.invariant_of-self-2
@@ -154,5 +158,5 @@ pub returns : goal.returns
 returns g c =
     let at = goal.at.returns g c in
     let wrote = moved g at.After-follow in
-    took g at.After-take_row c.in-Some.ensures.row.0 c.in-Some.after c.follow.new.holders wrote (row_taken g at.In-Some) c.in-Some.ensures.stays
+    took g at.After-take_row c.in-Some.ensures.row.0 c.in-Some.after c.follow.new.holders wrote (row_taken g at.In-Some) c.in-Some.ensures.stays (λ left e. c.in-Some.ensures.taken e)
     (lines_gone wrote c.args.self.now c.self.view_is (place g at.In-Some) c.in-Some.ensures.fewer c.in-Some.ensures.stays)

@@ -106,7 +106,7 @@ invariant_of-self g c =
     let R : Traffic → Type 0 = λ bus. IsSound m.shape (placed m.lines.rows core block line) bus in
     record {
       sound = subst S (sym c.fill.ensures.rows) (subst R (sym c.finish.ensures.after) (IsSound-close m.shape (placed m.lines.rows core block line) m.bus block in_blocks placed_sound));
-      sized = sized_on m _ c.self.invariant.sized refl (ap length c.fill.ensures.lines) (ap (λ (l : List MemLine). length l) c.take_row.ensures ∙ length-set m.memory c.args.came.block (memory_now g d)) (logged_on m.log c.push.new.self _ _ c.push.ensures);
+      sized = sized_on m _ c.self.invariant.sized refl (ap length c.fill.ensures.lines) (ap (λ (l : List MemLine). length l) c.settle.ensures ∙ length-set m.memory c.args.came.block (memory_now g d)) (logged_on m.log c.push.new.self _ _ c.push.ensures);
     }
 
 pub returns-clause-responded : goal.returns-clause-responded
@@ -124,7 +124,7 @@ returns-clause-responded g c =
     let did = c.next_did-did.result in
     let old : Situation = (standing m).situation in
     let is : old ≡ c.args.self.now.situation = ap (λ (x : Standing). x.situation) c.self.view_is in
-    let new : Situation = record { protocol = m.protocol; shape = m.shape; pictures = pictures_of c.fill.new.self.rows c.take_row.new.self c.finish.new.self.transactions; queues = queues_of c.finish.new.self.queues; log = c.push.new.self.items } in
+    let new : Situation = record { protocol = m.protocol; shape = m.shape; pictures = pictures_of c.fill.new.self.rows c.settle.new.self c.finish.new.self.transactions; queues = queues_of c.finish.new.self.queues; log = c.push.new.self.items } in
     let G : Situation → Type 0 = λ x. Responds x block closing (Some did) new in
     let F : Situation → Type 0 = λ x. (picture_of x block).transaction ≡ Some closing in
     let N : Situation → Type 0 = λ x. ArrivesAtMemory closing x.protocol (picture_of x block).memory (memory_now g d) in
@@ -147,7 +147,7 @@ returns-clause-responded g c =
         closed = refl;
         after = same_situation new (record (with_picture old block next) { log = m.log.items ++ item.Came (came_of closing) (Some did) ∷ [] })
             refl refl
-            (picture-written m block next c.fill.new.self.rows c.take_row.new.self c.finish.new.self.transactions c.fill.ensures.rows c.take_row.ensures (ap (λ (b : Traffic). b.transactions) c.finish.ensures.after))
+            (picture-written m block next c.fill.new.self.rows c.settle.new.self c.finish.new.self.transactions c.fill.ensures.rows c.settle.ensures (ap (λ (b : Traffic). b.transactions) c.finish.ensures.after))
             (ap (λ (b : Traffic). queues_of b.queues) c.finish.ensures.after)
             (ap (λ (j : Journal). j.items) c.push.ensures ∙ ap (λ (x : Came). m.log.items ++ item.Came x (Some did) ∷ []) (sym (header g d)));
       });
@@ -183,7 +183,7 @@ returns-clause-lines g c =
     let none = gone-none (line_at m.lines.rows c.in-Some.closing.core c.args.came.block).state c.args.filled.next (lands g d) in
     let same = ap (λ (lines : List (List ℕ)). length (slice_index_or lines c.in-Some.closing.core [])) c.fill.ensures.lines in
     follows-set m c.self.invariant c.args.self.now c.self.view_is _ c.args.came.block next c.fill.new.self c.requires.block
-    (picture-written m c.args.came.block next c.fill.new.self.rows c.take_row.new.self c.finish.new.self.transactions c.fill.ensures.rows c.take_row.ensures (ap (λ (b : Traffic). b.transactions) c.finish.ensures.after)) refl
+    (picture-written m c.args.came.block next c.fill.new.self.rows c.settle.new.self c.finish.new.self.transactions c.fill.ensures.rows c.settle.ensures (ap (λ (b : Traffic). b.transactions) c.finish.ensures.after)) refl
     c.in-Some.closing.core (filled_line c.args.filled.next c.args.filled.access c.in-Some.closing.value) (in_core g d) refl
     c.fill.ensures.rows (omega arith) (λ k ne. ap (λ (lines : List (List ℕ)). slice_index_or lines k []) c.fill.ensures.lines)
 

@@ -64,7 +64,7 @@ invariant_of-self g c =
     let R : Traffic → Type 0 = λ bus. IsSound m.shape m.lines.rows bus in
     record {
       sound = subst R (sym c.finish.ensures.after) (IsSound-close m.shape m.lines.rows m.bus c.args.came.block (block_in m c.self.invariant c.args.self.now c.self.view_is c.args.came.block c.requires.block) c.self.invariant.sound);
-      sized = sized_on m _ c.self.invariant.sized refl refl (ap (λ (l : List MemLine). length l) c.take_row.ensures ∙ length-set m.memory c.args.came.block (memory_now g (goal.at.invariant_of-self g c).In-Some)) (logged_on m.log c.push.new.self _ _ c.push.ensures);
+      sized = sized_on m _ c.self.invariant.sized refl refl (ap (λ (l : List MemLine). length l) c.settle.ensures ∙ length-set m.memory c.args.came.block (memory_now g (goal.at.invariant_of-self g c).In-Some)) (logged_on m.log c.push.new.self _ _ c.push.ensures);
     }
 
 pub returns-clause-responded : goal.returns-clause-responded
@@ -75,7 +75,7 @@ returns-clause-responded g c =
     let closing = c.in-Some.closing in
     let old : Situation = (standing m).situation in
     let is : old ≡ c.args.self.now.situation = ap (λ (x : Standing). x.situation) c.self.view_is in
-    let new : Situation = record { protocol = m.protocol; shape = m.shape; pictures = pictures_of m.lines.rows c.take_row.new.self c.finish.new.self.transactions; queues = queues_of c.finish.new.self.queues; log = c.push.new.self.items } in
+    let new : Situation = record { protocol = m.protocol; shape = m.shape; pictures = pictures_of m.lines.rows c.settle.new.self c.finish.new.self.transactions; queues = queues_of c.finish.new.self.queues; log = c.push.new.self.items } in
     let G : Situation → Type 0 = λ x. Responds x block closing None new in
     let F : Situation → Type 0 = λ x. (picture_of x block).transaction ≡ Some closing in
     let N : Situation → Type 0 = λ x. ArrivesAtMemory closing x.protocol (picture_of x block).memory (memory_now g d) in
@@ -97,7 +97,7 @@ returns-clause-responded g c =
         closed = refl;
         after = same_situation new (record (with_picture old block next) { log = m.log.items ++ item.Came (came_of closing) None ∷ [] })
             refl refl
-            (picture-written m block next m.lines.rows c.take_row.new.self c.finish.new.self.transactions (sym (set-get_or m.lines.rows block [])) c.take_row.ensures (ap (λ (b : Traffic). b.transactions) c.finish.ensures.after))
+            (picture-written m block next m.lines.rows c.settle.new.self c.finish.new.self.transactions (sym (set-get_or m.lines.rows block [])) c.settle.ensures (ap (λ (b : Traffic). b.transactions) c.finish.ensures.after))
             (ap (λ (b : Traffic). queues_of b.queues) c.finish.ensures.after)
             (ap (λ (j : Journal). j.items) c.push.ensures ∙ ap (λ (x : Came). m.log.items ++ item.Came x None ∷ []) (sym (header g d)));
       });
@@ -108,5 +108,5 @@ returns-clause-lines g c =
     let m = (fields c.self.inside.protocol c.self.inside.shape c.self.inside.lines c.self.inside.memory c.self.inside.bus c.self.inside.log) in
     let next : Picture = record { caches = row_of m.lines.rows c.args.came.block; memory = memory_now g (goal.at.returns-clause-lines g c).In-Some; transaction = None } in
     follows-rows m c.self.invariant c.args.self.now c.self.view_is _ c.args.came.block next m.lines c.requires.block
-    (picture-written m c.args.came.block next m.lines.rows c.take_row.new.self c.finish.new.self.transactions (sym (set-get_or m.lines.rows c.args.came.block [])) c.take_row.ensures (ap (λ (b : Traffic). b.transactions) c.finish.ensures.after)) refl
+    (picture-written m c.args.came.block next m.lines.rows c.settle.new.self c.finish.new.self.transactions (sym (set-get_or m.lines.rows c.args.came.block [])) c.settle.ensures (ap (λ (b : Traffic). b.transactions) c.finish.ensures.after)) refl
     refl (LinesGo-none c.args.came.block m.lines)
