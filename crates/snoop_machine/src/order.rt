@@ -9,7 +9,7 @@ ghost use Rattle.snoop_model.specs.Moves.LookUps.{HasRow};
 ghost use Rattle.snoop_model.specs.Moves.SenderTable.{FollowsSenderTable};
 ghost use Rattle.snoop_model.specs.Pictures.Message.{free_picture};
 ghost use Rattle.snoop_model.specs.Moves.Move.{TakesMemRow, TakesRows};
-ghost use Rattle.snoop_machine.specs.Lines.{LinesGo};
+ghost use Rattle.snoop_machine.specs.Lines.{LinesGo, KeepsSpares};
 ghost use Rattle.snoop_machine.specs.PartsView.{no_memory};
 ghost use Rattle.snoop_machine.specs.Sender.{IsSender};
 
@@ -37,6 +37,7 @@ impl<B: Block> Lines<B> {
         ensures others { self.new.rows ≡ slice_set self.old.rows block (slice_index_or self.new.rows block []) }
         ensures many { length self.new.lines ≡ length self.old.lines }
         ensures lines { LinesGo block self.old self.new }
+        ensures room { KeepsSpares self.old self.new }
     {
         let concerned = self.concerned(block, requestor, request);
         let mut from = 0;

@@ -9,7 +9,7 @@ use Rattle.snoop_machine.specs.Cache.{Contents, no_cache, line_in, changed}
 use Rattle.snoop_machine.specs.Lines.{line_at}
 use Rattle.snoop_machine.proofs.ProperLines.{settled}
 use Rattle.snoop_machine.proofs.LineMaps.{in_rows, line_seen, mover_placed}
-use Rattle.snoop_machine.proofs.LineChanges.{HasWritten, lines_after, rows_wrote, many_kept, others_kept, lines_stay, line_gone, lines_elsewhere, lines_gone}
+use Rattle.snoop_machine.proofs.LineChanges.{HasWritten, lines_after, rows_wrote, room_kept, many_kept, others_kept, lines_stay, line_gone, lines_elsewhere, lines_gone}
 use Rattle.snoop_machine.proofs.lines.Lines.change.Given.{Over}
 use Rattle.snoop_machine.proofs.lines.Lines.change.Goals as goal
 use Rattle.snoop_machine.proofs.lines.Lines.change.Goals.{After-index_mut-cache, After-follow}
@@ -72,6 +72,7 @@ wrote g c =
       before = c.change-before.result;
       was = c.change-before.ensures.before;
       followed = c.follow.ensures;
+      room = c.change-before.ensures.room;
     }
 
 pub invariant_of-self : goal.invariant_of-self
@@ -99,3 +100,6 @@ returns-clause-lines g c =
 
 pub returns-clause-others : goal.returns-clause-others
 returns-clause-others g c = others_kept (wrote g (goal.at.returns-clause-others g c).After-follow) c.args.self.now c.self.view_is
+
+pub returns-clause-room : goal.returns-clause-room
+returns-clause-room g c = room_kept (wrote g (goal.at.returns-clause-room g c).After-follow) c.args.self.now c.self.view_is

@@ -4,7 +4,7 @@ use Rattle.std.specs.Map.{lookup}
 use Rattle.std.proofs.lemmas.List.{get_or_read}
 use Rattle.snoop_machine.specs.Cache.{Contents, no_cache, filled_line}
 use Rattle.snoop_machine.proofs.LineMaps.{in_rows, held_placed}
-use Rattle.snoop_machine.proofs.LineChanges.{HasWritten, lines_after, rows_wrote, lines_stay}
+use Rattle.snoop_machine.proofs.LineChanges.{HasWritten, lines_after, rows_wrote, room_kept, lines_stay}
 use Rattle.snoop_machine.proofs.lines.Lines.fill.Given.{Over}
 use Rattle.snoop_machine.proofs.lines.Lines.fill.Goals as goal
 use Rattle.snoop_machine.proofs.lines.Lines.fill.Goals.{After-index_mut-cache, After-follow}
@@ -49,6 +49,7 @@ wrote g c =
       before = c.fill-before.result;
       was = c.fill-before.ensures.before;
       followed = c.follow.ensures;
+      room = c.fill-before.ensures.room;
     }
 
 pub invariant_of-self : goal.invariant_of-self
@@ -59,3 +60,6 @@ returns-clause-rows g c = rows_wrote (wrote g (goal.at.returns-clause-rows g c).
 
 pub returns-clause-lines : goal.returns-clause-lines
 returns-clause-lines g c = lines_stay (wrote g (goal.at.returns-clause-lines g c).After-follow) c.args.self.now c.self.view_is c.fill-before.ensures.blocks
+
+pub returns-clause-room : goal.returns-clause-room
+returns-clause-room g c = room_kept (wrote g (goal.at.returns-clause-room g c).After-follow) c.args.self.now c.self.view_is

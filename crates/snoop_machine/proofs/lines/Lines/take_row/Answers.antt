@@ -16,7 +16,7 @@ use Rattle.snoop_machine.specs.Lines.{held, gone, line_at, TookRow}
 use Rattle.snoop_machine.proofs.ProperLines.{settled, moves_to_same}
 use Rattle.snoop_machine.proofs.LineMaps.{in_rows, line_seen, gone-same, is_I}
 use Rattle.snoop_machine.proofs.LineParts.{followed-still}
-use Rattle.snoop_machine.proofs.LineChanges.{HasWritten, lines_after, rows_wrote, many_kept, others_kept, lines_stay, line_gone, lines_elsewhere, lines_gone}
+use Rattle.snoop_machine.proofs.LineChanges.{HasWritten, lines_after, rows_wrote, room_kept, many_kept, others_kept, lines_stay, line_gone, lines_elsewhere, lines_gone}
 use Rattle.snoop_machine.proofs.lines.Lines.take_row.Given.{Over}
 use Rattle.snoop_machine.proofs.lines.Lines.take_row.Goals as goal
 use Rattle.snoop_machine.proofs.lines.Lines.take_row.Goals.{After-index_mut-cache, After-take_row, In-Some, In_default, After-follow}
@@ -56,6 +56,7 @@ took g c action next after wrote row stays taken lines = record {
   many = many_kept wrote c.args.self.now c.self.view_is;
   lines = lines;
   others = others_kept wrote c.args.self.now c.self.view_is;
+  room = room_kept wrote c.args.self.now c.self.view_is;
 }
 
 -- a line that stays is as after its row
@@ -76,6 +77,7 @@ stayed g c =
       before = old.state;
       was = sym (ap (λ (x : Line). x.state) (was g d));
       followed = followed-still c.args.core c.args.block old.state c.self.inside.holders;
+      room = c.take_row.ensures.room;
     }
 
 -- a line that moves has taken its row
@@ -104,6 +106,7 @@ moved g c =
       before = c.in-Some.before;
       was = c.in-Some.ensures.before;
       followed = c.follow.ensures;
+      room = c.take_row.ensures.room;
     }
 
 -- a line that moves leaves its state, or does not come to I

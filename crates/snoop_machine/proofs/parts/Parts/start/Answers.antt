@@ -163,7 +163,7 @@ returns-clause-room g c =
     let items : length m.log.items + m.log.room ≤ length new.log.items + new.log.room =
     (let J : Journal → Type 0 = λ j. length m.log.items + m.log.room ≤ length j.items + j.room in
     subst J (sym pushed) (omega arith)) in
-    keeps_room m new c.args.self.now c.self.view_is items kept
+    keeps_room m new c.args.self.now c.self.view_is items kept c.take_rows.ensures.room
 
 pub returns-clause-lines : goal.returns-clause-lines
 returns-clause-lines g c =
