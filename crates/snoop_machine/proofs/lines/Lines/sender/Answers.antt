@@ -1,11 +1,9 @@
-use Rattle.std.proofs.Common.{◌≡◌, ◌≢◌, ℕ, ◌<◌, length, arith, refl, sym, ap, ◌∙◌, subst, Option, Some, None}
+use Rattle.std.proofs.Common.{◌≡◌, ℕ, ◌<◌, length, arith, sym, ap, ◌∙◌, subst, Option, Some, None}
 use Rattle.std.specs.Prelude.{slice_index_or}
-use Rattle.snoop_trace.specs.Words.{Data}
 use Rattle.snoop_rules.specs.declared.names.CacheState.{CacheState}
 use Rattle.snoop_rules.specs.declared.names.CacheEvent.{CacheEvent}
 use Rattle.snoop_rules.specs.declared.names.CacheAction.{CacheAction}
 use Rattle.snoop_rules.specs.declared.names.MemAction.{MemAction}
-use Rattle.snoop_rules.specs.declared.names.MemAction.TheVariants as mem_action
 use Rattle.snoop_rules.specs.declared.names.MemEvent.{MemEvent}
 use Rattle.snoop_rules.specs.declared.names.MemState.{MemState}
 use Rattle.snoop_rules.specs.declared.names.Payload.{Payload}
@@ -14,8 +12,7 @@ use Rattle.snoop_rules.specs.Cell.{Cell}
 use Rattle.snoop_rules.specs.MemoryCell.{MemoryCell}
 use Rattle.snoop_rules.specs.Possible.{IsImpossible}
 use Rattle.snoop_rules.specs.Takers.{seen_by, at_memory}
-use Rattle.snoop_model.specs.Pictures.Picture.{held_at}
-use Rattle.snoop_model.specs.Pictures.Message.{free_picture, memory_message}
+use Rattle.snoop_model.specs.Pictures.Picture.{free_picture, held_at}
 use Rattle.snoop_model.specs.Pictures.Sends.{Sends}
 use Rattle.snoop_model.proofs.Tables.SentBy.{sent_by, sends_row}
 use Rattle.snoop_model.proofs.Lines.TheSender.{Silent-none, Silent-more, Silent-past, Silent-all}
@@ -42,12 +39,6 @@ sends g c from payload sent = record {
   rows = c.requires.rows;
   only = record { sends = sent; alone = λ other message h. c.requires.line.sent.alone other message h ∙ sym (c.requires.line.sent.alone from payload sent) };
 }
-
--- memory sends no message by an action that isn't to send one
-no_message : (act : MemAction) (value : Data) → ((payload : Payload) → act ≢ mem_action.Send payload) → memory_message act value ≡ None
-no_message (mem_action.Send payload) value none = absurd (none payload refl)
-no_message mem_action.None value none = refl
-no_message mem_action.Write value none = refl
 
 pub returns-in-Some-sent_by_memory-clause-sender : goal.returns-in-Some-sent_by_memory-clause-sender
 returns-in-Some-sent_by_memory-clause-sender g c =
@@ -96,7 +87,7 @@ loop-core-init g c =
     let held = slice_index_or c.args.memory.now c.args.block no_memory in
     let before = free_picture (row_of c.args.self.now.rows c.args.block) held in (
       Silent-none c.args.protocol before c.args.requestor c.args.request c.in-Some.row.action c.in-Some.row.next
-          (memory_row g d) (no_message c.in-Some.row.action held.value c.in_default-sent_by_memory.ensures.none),
+          (memory_row g d) c.in_default-sent_by_memory.ensures.none,
       omega arith,
     )
 
