@@ -13,7 +13,7 @@ use Rattle.snoop_rules.specs.MemoryCell.{MemoryCell}
 use Rattle.snoop_rules.specs.Possible.{IsImpossible}
 use Rattle.snoop_rules.specs.Takers.{seen_by, at_memory}
 use Rattle.snoop_model.specs.Pictures.Picture.{free_picture, held_at}
-use Rattle.snoop_model.specs.Pictures.Sends.{Sends}
+use Rattle.snoop_model.specs.Pictures.Sends.{Sends, IsOnlySender}
 use Rattle.snoop_model.proofs.Tables.SentBy.{sent_by, sends_row}
 use Rattle.snoop_model.proofs.Lines.TheSender.{Silent-none, Silent-more, Silent-past, Silent-all}
 use Rattle.snoop_machine.proofs.ConcernedCores.{concerned_within, waits_within, Cell-passed}
@@ -21,7 +21,6 @@ use Rattle.snoop_machine.proofs.lines.Lines.sender.Given.{Over}
 use Rattle.snoop_machine.proofs.lines.Lines.sender.Goals as goal
 use Rattle.snoop_machine.proofs.lines.Lines.sender.Goals.{In-Some, In-Some-cache_cell, In-Some-next}
 use Rattle.snoop_machine.specs.Lines.{row_of}
-use Rattle.snoop_machine.specs.Sender.{IsSender}
 use Rattle.snoop_machine.specs.PartsView.{no_memory}
 
 -- memory's row
@@ -34,11 +33,8 @@ memory_row g c =
 -- who sends is the only one that does
 sends : (g : Over) (c : In-Some g) (from : Option ℕ) (payload : Payload)
     → Sends c.args.protocol (free_picture (row_of c.args.self.now.rows c.args.block) (slice_index_or c.args.memory.now c.args.block no_memory)) c.args.requestor c.args.request from payload
-    → IsSender c.args.protocol (free_picture (row_of c.args.self.now.rows c.args.block) (slice_index_or c.args.memory.now c.args.block no_memory)) c.args.requestor c.args.request from payload
-sends g c from payload sent = record {
-  rows = c.requires.rows;
-  only = record { sends = sent; alone = λ other message h. c.requires.line.sent.alone other message h ∙ sym (c.requires.line.sent.alone from payload sent) };
-}
+    → IsOnlySender c.args.protocol (free_picture (row_of c.args.self.now.rows c.args.block) (slice_index_or c.args.memory.now c.args.block no_memory)) c.args.requestor c.args.request from payload
+sends g c from payload sent = record { sends = sent; alone = λ other message h. c.requires.line.sent.alone other message h ∙ sym (c.requires.line.sent.alone from payload sent) }
 
 pub returns-in-Some-sent_by_memory-clause-sender : goal.returns-in-Some-sent_by_memory-clause-sender
 returns-in-Some-sent_by_memory-clause-sender g c =

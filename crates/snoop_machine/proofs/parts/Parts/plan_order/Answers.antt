@@ -6,7 +6,7 @@ use Rattle.snoop_rules.specs.Waits.{waiting_request}
 use Rattle.snoop_bus.specs.Traffic.{Open}
 use Rattle.snoop_model.specs.Pictures.Picture.{Picture, free_picture, held_by}
 use Rattle.snoop_model.specs.Moves.Standing.{Standing}
-use Rattle.snoop_model.specs.Pictures.Situation.{picture_of}
+use Rattle.snoop_model.specs.Pictures.Situation.{picture_of, state_of}
 use Rattle.snoop_model.specs.Moves.LookUps.{HasRow}
 use Rattle.snoop_model.specs.Moves.SenderTable.{FollowsSenderTable}
 use Rattle.snoop_model.specs.Moves.Move.{TakesMemRow}
@@ -15,7 +15,7 @@ use Rattle.snoop_model.proofs.OneBlock.OfBlocks.{same_picture}
 use Rattle.snoop_machine.specs.declared.plan.Plan.TheVariants as plan
 use Rattle.snoop_machine.proofs.Plans.{plan-allowed}
 use Rattle.snoop_machine.specs.Plan.{IsPlan}
-use Rattle.snoop_machine.specs.Sender.{IsSender}
+use Rattle.snoop_model.specs.Pictures.Sends.{IsOnlySender}
 use Rattle.snoop_machine.specs.PartsView.{Fields, fields, standing, no_memory, IsWhole}
 use Rattle.snoop_machine.specs.Lines.{row_of}
 use Rattle.snoop_machine.proofs.parts.Parts.plan_order.Given.{Over}
@@ -67,11 +67,14 @@ plan_is g c =
     let m = (fields c.self.inside.protocol c.self.inside.shape c.self.inside.lines c.self.inside.memory c.self.inside.bus c.self.inside.log) in
     let free = none_from_is_some _ (ap is_some (sym c.transaction.ensures.value) ∙ (sym c.is_some.ensures ∙ c.if-is_some.false)) in
     let protocol = ap (λ (s : Standing). s.situation.protocol) c.self.view_is in
-    let Q : Picture → Type 0 = λ p. IsSender c.self.inside.protocol p c.args.core c.in-Some.request c.sender-from.result.from c.sender-from.result.payload in
+    let s = c.args.self.now.situation in
+    let Q : Picture → Type 0 = λ p. IsOnlySender c.self.inside.protocol p c.args.core c.in-Some.request c.sender-from.result.from c.sender-from.result.payload in
     let R : Picture → Type 0 = λ p. TakesMemRow c.self.inside.protocol (at_memory c.in-Some.request) p.memory.state c.sender-from.result.memory in
+    let rows : (k : ℕ) → k < length (picture_of s c.in-Some.block).caches → HasRow s.protocol (state_of s k c.in-Some.block) (seen_by k c.args.core c.in-Some.request) = λ k inside.
+    (finds_rows s c.requires.inductive (Order c.args.core)).cache k c.in-Some.block (Some (seen_by k c.args.core c.in-Some.request)) (c.in-Some.request, ((c.in-Some.ensures.some.waits, free), refl)) in
     let sent = subst Q (picture m c.self.invariant c.args.self.now c.self.view_is c.in-Some.block free) c.sender-from.ensures.sender in
     let row = subst R (picture m c.self.invariant c.args.self.now c.self.view_is c.in-Some.block free) c.sender-from.ensures.memory in
-    (c.requires.core, record { head = c.in-Some.ensures.some; free = free; memory_row = rw (← protocol) row; sent = rw (← protocol) sent })
+    (c.requires.core, record { head = c.in-Some.ensures.some; free = free; memory_row = rw (← protocol) row; rows = rows; sender = rw (← protocol) sent })
 
 pub returns-clause-found : goal.returns-clause-found
 returns-clause-found g c = (refl, plan_is g (goal.at.returns-clause-found g c).After-sender-from)
