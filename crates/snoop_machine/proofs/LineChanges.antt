@@ -4,7 +4,6 @@ use Rattle.std.specs.Prelude.{slice_index_or, slice_set, nat_eq, map, is_some}
 use Rattle.std.specs.Map.{lookup}
 use Rattle.std.proofs.lemmas.Bool.{cases_eq}
 use Rattle.std.proofs.lemmas.List.{length-map, length-set, get_or-set_same, get_or-set_other}
-use Rattle.snoop_rules.specs.declared.names.CacheState.{CacheState}
 use Rattle.snoop_rules.specs.declared.names.CacheState.TheVariants.{I}
 use Rattle.snoop_machine.specs.declared.holders.Holders.{Holders}
 use Rattle.snoop_model.specs.Pictures.Lines.{Line}
@@ -42,9 +41,7 @@ pub record HasWritten (caches : List Contents) (holders : List Holders) (core bl
   pub proper : IsProper line
   pub here : line_in new block ≡ line
   pub others : (b : ℕ) → nat_eq block b ≡ false → lookup (nat_eq b) new.entries ≡ lookup (nat_eq b) old.entries
-  pub before : CacheState
-  pub was : before ≡ (line_in old block).state
-  pub followed : HaveFollowed core block before line.state holders after
+  pub followed : HaveFollowed core block line.state holders after
   pub room : KeepsSpare old new
 
 module _ {caches : List Contents} {holders : List Holders} {core block : ℕ} {line : Line} {old new : Contents} {after : List Holders} (wrote : HasWritten caches holders core block line old new after)
@@ -57,8 +54,7 @@ module _ {caches : List Contents} {holders : List Holders} {core block : ℕ} {l
 
   pub lines_after : AreLines caches holders → AreLines (slice_set caches core new) after
   lines_after lines =
-      AreLines-followed caches holders lines core new wrote.in_cores block line wrote.before after wrote.in_blocks wrote.proper wrote.here elsewhere
-      (wrote.was ∙ ap (λ (cache : Contents). (line_in cache block).state) wrote.read) wrote.followed
+      AreLines-followed caches holders lines core new wrote.in_cores block line after wrote.in_blocks wrote.proper wrote.here elsewhere wrote.followed
 
   pub rows_wrote : rows_of (length after) (slice_set caches core new) ≡ slice_set now.rows block (slice_set (slice_index_or now.rows block []) core line)
   rows_wrote =
