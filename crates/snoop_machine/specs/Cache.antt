@@ -4,7 +4,7 @@ use Rattle.std.specs.Prelude.{ℕ, ◌+◌, ◌-◌, ◌<◌, ◌≤◌, List, [
 use Rattle.std.specs.Map.{lookup, keys_of}
 use Rattle.snoop_model.specs.Pictures.Lines.{Line}
 use Rattle.snoop_model.specs.Pictures.Picture.{nothing_held, kept_on}
-use Rattle.snoop_model.specs.declared.line.Access.{Access}
+use Rattle.snoop_model.specs.declared.access.Access.{Access}
 use Rattle.snoop_trace.specs.Words.{Data}
 use Rattle.snoop_trace.specs.declared.step.Op.{Op}
 use Rattle.snoop_trace.specs.declared.step.Op.TheVariants as op

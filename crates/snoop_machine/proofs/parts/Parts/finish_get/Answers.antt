@@ -23,7 +23,7 @@ use Rattle.snoop_machine.specs.PartsView.{Fields, fields, standing, pictures_of,
 use Rattle.snoop_machine.specs.Cache.{filled_line}
 use Rattle.snoop_machine.specs.Lines.{row_of, line_at}
 use Rattle.snoop_model.specs.Moves.Move.{Fills, ArrivesFor, ArrivesAtMemory, Responds, Settles, came_of, next_did, written}
-use Rattle.snoop_model.specs.declared.line.Access.{Access}
+use Rattle.snoop_model.specs.declared.access.Access.{Access}
 use Rattle.snoop_machine.proofs.PlacedLines.{placed}
 use Rattle.snoop_machine.proofs.LineWrites.{IsSound-line}
 use Rattle.snoop_machine.proofs.QueueViews.{IsSound-close}
