@@ -1,8 +1,9 @@
 use Rattle.std.proofs.Common.{◌≡◌, ◌<◌, Option, Some, None, refl, sym, ap, subst, ◌∙◌, false}
-use Rattle.std.specs.Prelude.{ℕ, length, is_some, slice_index_or}
+use Rattle.std.specs.Prelude.{ℕ, length, is_some, option_copied, slice_index_or}
 use Rattle.snoop_trace.specs.declared.step.Step.TheVariants.{Order}
 use Rattle.snoop_rules.specs.Takers.{at_memory, seen_by}
 use Rattle.snoop_rules.specs.Waits.{waiting_request}
+use Rattle.std.specs.Borrow.{Bor}
 use Rattle.snoop_bus.specs.Traffic.{Open}
 use Rattle.snoop_model.specs.Pictures.Picture.{Picture, free_picture, held_by}
 use Rattle.snoop_model.specs.Moves.Standing.{Standing}
@@ -22,6 +23,10 @@ use Rattle.snoop_machine.proofs.parts.Parts.plan_order.Given.{Over}
 use Rattle.snoop_machine.proofs.parts.Parts.plan_order.Goals as goal
 use Rattle.snoop_machine.proofs.parts.Parts.plan_order.Goals.{After-sender-from}
 use Rattle.snoop_machine.proofs.PictureViews.{seen, picture_in, state_seen}
+
+some_copied : (o : Option (Bor Open)) → is_some (option_copied o) ≡ is_some o
+some_copied None = refl
+some_copied (Some x) = refl
 
 none_from_is_some : (o : Option Open) → is_some o ≡ false → o ≡ None
 none_from_is_some None h = refl
@@ -44,7 +49,7 @@ sender-from-requires-clause-waits g c =
 pub sender-from-requires-clause-rows : goal.sender-from-requires-clause-rows
 sender-from-requires-clause-rows g c =
     let m = (fields c.self.inside.protocol c.self.inside.shape c.self.inside.lines c.self.inside.memory c.self.inside.bus c.self.inside.log) in
-    let free = none_from_is_some _ (ap is_some (sym c.transaction.ensures.value) ∙ (sym c.is_some.ensures ∙ c.if-is_some.false)) in
+    let free = none_from_is_some _ (ap is_some (sym c.transaction.ensures.value) ∙ (some_copied c.transaction.result ∙ (sym c.is_some.ensures ∙ c.if-is_some.false))) in
     let protocol = ap (λ (s : Standing). s.situation.protocol) c.self.view_is in
     let s = c.args.self.now.situation in
     let request = c.in-Some.request in
@@ -55,7 +60,7 @@ sender-from-requires-clause-rows g c =
 pub sender-from-requires-clause-line : goal.sender-from-requires-clause-line
 sender-from-requires-clause-line g c =
     let m = (fields c.self.inside.protocol c.self.inside.shape c.self.inside.lines c.self.inside.memory c.self.inside.bus c.self.inside.log) in
-    let free = none_from_is_some _ (ap is_some (sym c.transaction.ensures.value) ∙ (sym c.is_some.ensures ∙ c.if-is_some.false)) in
+    let free = none_from_is_some _ (ap is_some (sym c.transaction.ensures.value) ∙ (some_copied c.transaction.result ∙ (sym c.is_some.ensures ∙ c.if-is_some.false))) in
     let protocol = ap (λ (s : Standing). s.situation.protocol) c.self.view_is in
     let Q : Picture → Type 0 = λ p. FollowsSenderTable c.self.inside.protocol p c.args.core c.in-Some.request in
     subst Q (sym (picture m c.self.invariant c.args.self.now c.self.view_is c.in-Some.block free))
@@ -65,7 +70,7 @@ sender-from-requires-clause-line g c =
 plan_is : (g : Over) (c : After-sender-from g) → IsPlan c.args.self.now.situation (plan.Order c.args.core c.in-Some.request c.in-Some.block c.sender-from.result.from c.sender-from.result.payload c.sender-from.result.memory)
 plan_is g c =
     let m = (fields c.self.inside.protocol c.self.inside.shape c.self.inside.lines c.self.inside.memory c.self.inside.bus c.self.inside.log) in
-    let free = none_from_is_some _ (ap is_some (sym c.transaction.ensures.value) ∙ (sym c.is_some.ensures ∙ c.if-is_some.false)) in
+    let free = none_from_is_some _ (ap is_some (sym c.transaction.ensures.value) ∙ (some_copied c.transaction.result ∙ (sym c.is_some.ensures ∙ c.if-is_some.false))) in
     let protocol = ap (λ (s : Standing). s.situation.protocol) c.self.view_is in
     let s = c.args.self.now.situation in
     let Q : Picture → Type 0 = λ p. IsOnlySender c.self.inside.protocol p c.args.core c.in-Some.request c.sender-from.result.from c.sender-from.result.payload in
