@@ -1,5 +1,5 @@
 //! The bus of a machine.
-ghost use Rattle.std.specs.Prelude.{◌≡◌, ◌+◌, ◌-◌, ◌<◌, ◌≤◌, ◌↔◌, [], ◌∷◌, ◌++◌, length, replicate, All, IsTrue, IsNone, IsSome, IfOk, OnOk, OnErr, IfSome, None, option_map, position, slice_set, ◌==◌};
+ghost use Rattle.std.specs.Prelude.{◌≡◌, ◌+◌, ◌-◌, ◌<◌, ◌≤◌, ◌↔◌, [], ◌∷◌, ◌++◌, length, replicate, All, IsTrue, IsNone, IsSome, IfOk, OnOk, OnErr, IfSome, None, option_copied, option_map, position, slice_set, ◌==◌};
 ghost use Rattle.snoop_bus.specs.Traffic.{Waiting, waiting_of, head_of, transaction_on, Starts};
 
 use crate::queues::Queue;
@@ -103,10 +103,10 @@ impl<K: Copy> Bus<K> {
     }
 
     /// The transaction that is open on the block.
-    pub fn open(&self, block: u32) -> Option<Open<K>>
-        ensures { result ≡ transaction_on self.now block }
+    pub fn open(&self, block: u32) -> Option<&Open<K>>
+        ensures { option_copied result ≡ transaction_on self.now block }
     {
-        self.transactions.get_or(block, None)
+        self.transactions.get_ref(block)?.as_ref()
     }
 
     /// Orders the core's oldest request: it leaves the queue, and its transaction opens with the
@@ -136,7 +136,7 @@ impl<K: Copy> Bus<K> {
         ensures after { self.new ≡ record self.old { transactions = slice_set self.old.transactions block None } }
         ensures unchanged { IsNone result → self.new ≡ self.old }
     {
-        let closed = self.open(block);
+        let closed = self.open(block).copied();
         if closed.is_some() {
             self.transactions.set(block, None);
         }
