@@ -3,7 +3,7 @@
 mod append;
 pub(crate) mod entries;
 mod sink;
-pub(crate) mod source;
+mod source;
 pub(crate) mod step_text;
 
 pub use crate::text::{gather_asked, gather_steps};
