@@ -1,7 +1,7 @@
 -- What a turn answers is the outcome of the work.
 use Rattle.std.proofs.Common.{◌≡◌, ◌≢◌, ℕ, ◌<◌, ◌==◌, inl, inr, Bool, true, false, true≢false, List, [], ◌∷◌, ◌++◌, map, Option, Some, None, Ok, nat_lt, refl, sym, ap, ◌∙◌, subst, arith}
 use Rattle.std.specs.Prelude.{slice_set, is_some, ◌&&◌, if◌then◌else◌}
-use Rattle.std.proofs.lemmas.Bool.{eq-eqb, and_parts}
+use Rattle.std.proofs.lemmas.Bool.{eq-eqb, eqb-true, and_parts}
 use Rattle.std.proofs.lemmas.Bool.Decides.{nat_tests}
 use Rattle.snoop_trace.specs.declared.step.Op.{Op}
 use Rattle.snoop_trace.specs.declared.step.Op.TheVariants as op
@@ -35,14 +35,11 @@ use Rattle.snoop_bench.specs.Outcomes.{works_asked, turn_asked, turn_over}
 use Rattle.snoop_bench.specs.Keeps.{AreUnderWay}
 use Rattle.snoop_bench.proofs.Turning.{Stepped, ended_keeps, asks_its}
 
-number_is : (v w : ℕ) → (v == w) ≡ true → v ≡ w
-number_is v w e = grind (arith, nat_tests)
-
 is_op : (asking : Op) (did : Did) (load : Bool) → did.load ≡ load → same_op asking (if load then op.Load else op.Store did.value) ≡ true → IsOp asking did
 is_op op.Load did true e h = e
 is_op op.Load did false e h = absurd (true≢false (sym h))
 is_op (op.Store v) did true e h = absurd (true≢false (sym h))
-is_op (op.Store v) did false e h = (e, sym (number_is v did.value h))
+is_op (op.Store v) did false e h = (e, sym (eqb-true v did.value h))
 is_op op.Evict did true e h = absurd (true≢false (sym h))
 is_op op.Evict did false e h = absurd (true≢false (sym h))
 
@@ -51,7 +48,7 @@ pub does : (did : Did) (work : Work) → did_it work.block (access_of work) did 
 does did work e =
     let parts = and_parts (did.block == work.block) (same_access (access_of work) (did_access did)) e in
     let rest = and_parts (work.word == did.word) (same_op work.op (did_access did).op) parts.1 in
-    (number_is did.block work.block parts.0, sym (number_is work.word did.word rest.0), is_op work.op did did.load refl rest.1)
+    (eqb-true did.block work.block parts.0, sym (eqb-true work.word did.word rest.0), is_op work.op did did.load refl rest.1)
 
 pub ends_with : (s : Situation) (core : ℕ) (work : Work) → IsLast s core work.block (access_of work) → (did : Did) × EndsWith s core work did
 ends_with s core work last = (last.0, record { last = last.1; does = does last.0 work last.2 })

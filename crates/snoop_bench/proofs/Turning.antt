@@ -1,15 +1,14 @@
 -- Turns keep works under way, and do what their case says.
 use Rattle.std.proofs.Common.{◌≡◌, ◌≢◌, ◌⊎◌, ℕ, ◌<◌, ◌≤◌, ◌==◌, inl, inr, Bool, true, false, true≢false, List, [], ◌∷◌, length, replicate, Option, Some, None, Ok, refl, sym, ap, ◌∙◌, subst, arith}
 use Rattle.std.specs.Prelude.{slice_set, slice_get, is_some, option_map, option_and_then, ◌&&◌, if◌then◌else◌}
-use Rattle.std.proofs.lemmas.Bool.{eq-eqb, ne_eqb, and_parts, cases_eq, cases_lt}
-use Rattle.std.proofs.lemmas.Bool.Decides.{nat_tests}
+use Rattle.std.proofs.lemmas.Bool.{eq-eqb, eqb-true, ne_eqb, and_parts, cases_eq, cases_lt}
 use Rattle.std.proofs.lemmas.List.{length-set, length-replicate, get_or-replicate}
 use Rattle.std.proofs.lemmas.Option.{slice_get-get_or, slice_get_past}
 use Rattle.std.specs.Option.{option_map_or}
 use Rattle.snoop_trace.specs.Words.{HasWord}
 use Rattle.snoop_trace.specs.Extent.{Extent}
 use Rattle.snoop_trace.specs.declared.protocol.Protocol.{Protocol}
-use Rattle.snoop_model.specs.declared.line.Access.{Access}
+use Rattle.snoop_model.specs.declared.access.Access.{Access}
 use Rattle.snoop_model.specs.Pictures.Lines.{Line}
 use Rattle.snoop_model.specs.Pictures.Picture.{held_by}
 use Rattle.snoop_model.proofs.Invariant.Runs.{reset_line}
@@ -102,24 +101,18 @@ over_keeps rule s works core work u kept its closed = record {
 -- an operation that is asked is that of the work
 same_op-is : (wanted asking : Op) → same_op wanted asking ≡ true → wanted ≡ asking
 same_op-is op.Load op.Load e = refl
-same_op-is (op.Store v) (op.Store w) e = ap (λ (n : ℕ). op.Store n) (number v w e)
-  where
-    number : (v w : ℕ) → (v == w) ≡ true → v ≡ w
-    number v w e = grind (arith, nat_tests)
+same_op-is (op.Store v) (op.Store w) e = ap (λ (n : ℕ). op.Store n) (eqb-true v w e)
 same_op-is wanted asking e = absurd (true≢false (sym e))
-
-number_is : (v w : ℕ) → (v == w) ≡ true → v ≡ w
-number_is v w e = grind (arith, nat_tests)
 
 pub asked_work : (core c block : ℕ) (wanted : Access) (work : Work) → asks c block wanted (Ask core work.block work.word work.op) ≡ true → (core ≡ c) × (work ≡ record { block = block; word = wanted.word; op = wanted.op })
 asked_work core c block wanted work e =
     let first = and_parts (core == c) (work.block == block && same_access wanted (access_of work)) e in
     let rest = and_parts (work.block == block) (same_access wanted (access_of work)) first.1 in
     let last = and_parts (wanted.word == work.word) (same_op wanted.op work.op) rest.1 in
-    let b : work.block ≡ block = number_is work.block block rest.0 in
-    let w : wanted.word ≡ work.word = number_is wanted.word work.word last.0 in
+    let b : work.block ≡ block = eqb-true work.block block rest.0 in
+    let w : wanted.word ≡ work.word = eqb-true wanted.word work.word last.0 in
     let o : wanted.op ≡ work.op = same_op-is wanted.op work.op last.1 in
-    (number_is core c first.0, λ i. record { block = b i; word = (sym w) i; op = (sym o) i })
+    (eqb-true core c first.0, λ i. record { block = b i; word = (sym w) i; op = (sym o) i })
 
 same_op_self : (wanted : Op) → wanted ≢ op.Evict → same_op wanted wanted ≡ true
 same_op_self op.Load isnt = refl

@@ -3,7 +3,7 @@
 use Rattle.std.specs.Prelude.{◌≡◌, ◌≢◌, ℕ, List, length, Option, Some}
 use Rattle.snoop_trace.specs.declared.step.Op.{Op}
 use Rattle.snoop_trace.specs.declared.step.Op.TheVariants as op
-use Rattle.snoop_model.specs.declared.line.Access.{Access}
+use Rattle.snoop_model.specs.declared.access.Access.{Access}
 use Rattle.snoop_model.specs.Pictures.Situation.{Situation}
 use Rattle.snoop_model.specs.Runs.Once.{waits_for}
 use Rattle.snoop_model.specs.Turns.Serving.{IsServing}

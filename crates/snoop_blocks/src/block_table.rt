@@ -1,5 +1,5 @@
 //! A table by block.
-ghost use Rattle.std.specs.Prelude.{◌≡◌, ◌<◌, length, replicate, IfOk, slice_get, slice_index_or, slice_set};
+ghost use Rattle.std.specs.Prelude.{◌≡◌, ◌<◌, length, replicate, IfOk, option_copied, slice_get, slice_index_or, slice_set};
 ghost use Rattle.snoop_blocks.specs.Places.{changed_at};
 
 use std::alloc::{AllocError, Global};
@@ -62,6 +62,18 @@ impl<T: Copy> BlockTable<T> {
             Some(self.first)
         } else {
             Some(self.written[(place - 1) as usize])
+        }
+    }
+
+    /// The block's value where it stands, or `None` where there is no such block.
+    pub fn get_ref(&self, block: u32) -> Option<&T>
+        ensures { option_copied result ≡ slice_get self.now block }
+    {
+        let place = *self.places.get(block as usize)?;
+        if place == 0 {
+            Some(&self.first)
+        } else {
+            Some(&self.written[(place - 1) as usize])
         }
     }
 

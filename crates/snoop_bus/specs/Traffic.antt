@@ -5,7 +5,7 @@ use Rattle.std.specs.Prelude.{◌≡◌, ℕ, ◌+◌, ◌<◌, List, [], drop, 
 use Rattle.snoop_trace.specs.Words.{Data}
 use Rattle.snoop_rules.specs.declared.names.Request.{Request}
 use Rattle.snoop_rules.specs.declared.names.Payload.{Payload}
-use Rattle.snoop_bus.specs.declared.transactions.Open as declared
+use Rattle.snoop_bus.specs.declared.bus.Open as declared
 
 -- one core's requests with their blocks, in order of issue, and for how many more there is room
 pub record Waiting : Type 0 where

@@ -1,14 +1,110 @@
-//! The bus of a machine.
-ghost use Rattle.std.specs.Prelude.{◌≡◌, ◌+◌, ◌-◌, ◌<◌, ◌≤◌, ◌↔◌, [], ◌∷◌, ◌++◌, length, replicate, All, IsTrue, IsNone, IsSome, IfOk, OnOk, OnErr, IfSome, None, option_map, position, slice_set, ◌==◌};
+//! The bus of a machine: the queue of each core, and the open transaction of each block.
+ghost use Rattle.std.specs.Prelude.{◌≡◌, ◌+◌, ◌-◌, ◌<◌, ◌≤◌, ◌↔◌, [], ◌∷◌, ◌++◌, drop, length, replicate, All, IsTrue, IsNone, IsSome, IfOk, OnOk, OnErr, IfSome, None, option_copied, option_map, position, slice_get, slice_set, ◌==◌};
 ghost use Rattle.snoop_bus.specs.Traffic.{Waiting, waiting_of, head_of, transaction_on, Starts};
 
-use crate::queues::Queue;
-use crate::transactions::Open;
 use snoop_blocks::BlockTable;
 use snoop_rules::{Payload, Request};
 use snoop_trace::{NoMemory, Shape, Words};
-use std::alloc::Global;
+use std::alloc::{AllocError, Global};
+use std::collections::VecDeque;
 use std::marker::Model;
+
+// The requests of one core that wait, in order of issue.
+#[derive(Debug, Drop)]
+struct Queue {
+    requests: VecDeque<(Request, u32)>,
+}
+
+impl Model for Queue {
+    ghost use Rattle.std.specs.Prelude.{◌-◌};
+    ghost use Rattle.std.specs.VecDeque.{deque_len, deque_capacity};
+    ghost use Rattle.snoop_bus.specs.Traffic.{Waiting};
+
+    ghost Value = { Waiting };
+
+    ghost view = { λ q. record { requests = q.requests.items; room = deque_capacity q.requests - deque_len q.requests } };
+}
+
+impl Queue {
+    fn new(alloc: Global) -> Self
+        ensures { result.requests ≡ [] }
+    {
+        Queue {
+            requests: VecDeque::new(alloc),
+        }
+    }
+
+    fn reserve(&mut self) -> Result<(), AllocError>
+        ensures ok { OnOk result (0 < self.new.room) }
+        ensures full { OnErr result (self.old.room ≡ 0) }
+        ensures refused { OnErr result (self.new ≡ self.old) }
+        ensures requests { self.new.requests ≡ self.old.requests }
+        ensures room { self.old.room ≤ self.new.room }
+    {
+        // The room alone decides: a refused growth may have left some.
+        let grown = self.requests.reserve(1);
+        if self.has_room() { Ok(()) } else { grown }
+    }
+
+    fn has_room(&self) -> bool
+        ensures { IsTrue result ↔ (0 < self.now.room) }
+    {
+        self.requests.len() < self.requests.capacity()
+    }
+
+    fn push(&mut self, request: Request, block: u32)
+        requires { 0 < self.old.room }
+        ensures requests { self.new.requests ≡ self.old.requests ++ (request, block) ∷ [] }
+        ensures room { self.new.room + 1 ≡ self.old.room }
+    {
+        self.requests.push_back_reserved((request, block));
+    }
+
+    fn head(&self) -> Option<(Request, u32)>
+        ensures { result ≡ slice_get self.now.requests 0 }
+    {
+        self.requests.front().copied()
+    }
+
+    // How many requests are older than the one for the block, if that one waits.
+    fn older(&self, block: u32) -> Option<usize>
+        ensures value { result ≡ position (λ request. request.1 == block) self.now.requests }
+        ensures few { IfSome result (λ older. older < usize.MAX) }
+    {
+        self.requests
+            .iter()
+            .position(|(_, waiting)| *waiting == block)
+    }
+
+    fn place(&self, block: u32) -> Option<usize>
+        ensures { result ≡ option_map (λ older. older + 1) (position (λ request. request.1 == block) self.now.requests) }
+    {
+        let older = self.older(block)?;
+        Some(older + 1)
+    }
+
+    fn pop(&mut self) -> Option<(Request, u32)>
+        ensures first { result ≡ slice_get self.old.requests 0 }
+        ensures rest { self.new.requests ≡ drop 1 self.old.requests }
+        ensures room { IsSome result → self.new.room ≡ self.old.room + 1 }
+    {
+        self.requests.pop_front()
+    }
+}
+
+/// An open transaction: the requestor, its request, and the message that lies in it.
+#[derive(Clone, Copy, Debug, PartialEq, Eq)]
+pub struct Open<K = Words> {
+    /// The requestor.
+    pub core: u32,
+    pub request: Request,
+    pub block: u32,
+    pub payload: Payload,
+    /// The block's words, where the payload carries data, else 0.
+    pub value: K,
+    /// The core that sent the message, or `None` for memory.
+    pub from: Option<u32>,
+}
 
 /// The requests that wait, by core in order of issue, and the open transactions, by block. `K` is what a message carries of a block.
 ///
@@ -103,10 +199,10 @@ impl<K: Copy> Bus<K> {
     }
 
     /// The transaction that is open on the block.
-    pub fn open(&self, block: u32) -> Option<Open<K>>
-        ensures { result ≡ transaction_on self.now block }
+    pub fn open(&self, block: u32) -> Option<&Open<K>>
+        ensures { option_copied result ≡ transaction_on self.now block }
     {
-        self.transactions.get_or(block, None)
+        self.transactions.get_ref(block)?.as_ref()
     }
 
     /// Orders the core's oldest request: it leaves the queue, and its transaction opens with the
@@ -136,7 +232,7 @@ impl<K: Copy> Bus<K> {
         ensures after { self.new ≡ record self.old { transactions = slice_set self.old.transactions block None } }
         ensures unchanged { IsNone result → self.new ≡ self.old }
     {
-        let closed = self.open(block);
+        let closed = self.open(block).copied();
         if closed.is_some() {
             self.transactions.set(block, None);
         }

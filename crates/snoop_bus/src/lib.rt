@@ -2,8 +2,5 @@
 #![tactic(auto)]
 
 mod bus;
-mod queues;
-mod transactions;
 
-pub use bus::Bus;
-pub use transactions::Open;
+pub use bus::{Bus, Open};

@@ -1,8 +1,7 @@
 -- One pass over a log beside the answers of seats in order of core.
 use Rattle.std.proofs.Common.{◌≡◌, ◌⊎◌, ℕ, ◌+◌, ◌<◌, ◌≤◌, ◌==◌, List, [], ◌∷◌, length, take, Option, Some, None, Bool, true, false, get_or, refl, sym, ap, ◌∙◌, subst, arith, inl, inr}
 use Rattle.std.specs.Prelude.{slice_get, slice_index_or, IsSome}
-use Rattle.std.proofs.lemmas.Bool.{cases_order}
-use Rattle.std.proofs.lemmas.Bool.Decides.{nat_tests}
+use Rattle.std.proofs.lemmas.Bool.{cases_order, eqb-true}
 use Rattle.std.proofs.lemmas.Option.{get_or_from_slice_get, slice_get_past}
 use Rattle.snoop_trace.specs.Grammar.{block_at}
 use Rattle.snoop_trace.specs.declared.step.Row.{Row}
@@ -37,9 +36,6 @@ own_other entry core did e other = rw e (rw other refl)
 own_none : (entry : Item) (core : ℕ) → operation_of entry ≡ None → [] ≡ answers_of (entry ∷ []) core
 own_none entry core e = rw e refl
 
-same_core : (a b : ℕ) → (a == b) ≡ true → a ≡ b
-same_core a b e = grind (arith, nat_tests)
-
 -- and so with the next item, whose operation stands among the answers at its number where it is the core's
 pub first_on : (items : List Item) (i : ℕ) (entry : Item) (core : ℕ) (answers : List Did) → slice_get items i ≡ Some entry → IsNumbered (take i items) entry
     → ((did : Did) → operation_of entry ≡ Some did → did.core ≡ core → slice_get answers did.number ≡ Some did) → AreFirst (take i items) core answers → AreFirst (take (i + 1) items) core answers
@@ -61,7 +57,7 @@ first_on items i entry core answers there numbered stands first =
 
     taken : (did : Did) → operation_of entry ≡ Some did → (did.core == core) ≡ true → AreFirst (take (i + 1) items) core answers
     taken did e mine =
-        let same : did.core ≡ core = same_core did.core core mine in
+        let same : did.core ≡ core = eqb-true did.core core mine in
         let number : did.number ≡ next_number (take i items) did.core = numbered did e in
         let is : did.number ≡ next_number (take i items) core = number ∙ ap (λ (k : ℕ). next_number (take i items) k) same in
         let here : slice_get answers (next_number (take i items) core) ≡ Some did = subst (λ (k : ℕ). slice_get answers k ≡ Some did) is (stands did e same) in

@@ -1,5 +1,5 @@
 -- A log beside the answers of seats, and seats beside cores.
-use Rattle.std.proofs.Common.{◌≡◌, ◌≢◌, ◌⊎◌, ℕ, ◌+◌, ◌<◌, ◌≤◌, List, [], ◌∷◌, ◌++◌, length, take, drop, Option, Some, None, Bool, true, false, get_or, refl, sym, ap, ◌∙◌, subst, arith, length-append, append-nil, ⊎_elim, true≢false, inl, inr}
+use Rattle.std.proofs.Common.{◌≡◌, ◌≢◌, ◌⊎◌, ℕ, ◌+◌, ◌<◌, ◌≤◌, List, [], ◌∷◌, ◌++◌, length, take, drop, Option, Some, None, false, get_or, refl, sym, ap, ◌∙◌, subst, arith, length-append, append-nil, ⊎_elim, true≢false, inl, inr}
 use Rattle.std.specs.Prelude.{slice_get, slice_index_or, is_some}
 use Rattle.std.proofs.lemmas.Grind.{common_steps}
 use Rattle.std.proofs.lemmas.Bool.{cases_order}
@@ -134,7 +134,3 @@ not_odd cores seats core all (inr x) = strange (slice_index_or seats x.0.place n
   where
     strange : (n : ℕ) → n ≡ core → n < cores → ⊥
     strange n e lt = let h = x.0.outside in omega (arith, h, e, lt)
-
-pub found_true : (b : Bool) → (b ≡ false → ⊥) → b ≡ true
-found_true true h = refl
-found_true false h = absurd (h refl)

@@ -4,6 +4,7 @@ use Rattle.std.specs.Prelude.{fold, length, nat_lt, position, unwrap_or, Option,
 use Rattle.std.specs.List.{range_with_len}
 use Rattle.std.proofs.lemmas.List.{map-append}
 use Rattle.std.proofs.lemmas.List.Elements.{All-append, All-cons, All-drop, All-head, All-map, All-nil, All-tail, All-take, filter-append}
+use Rattle.snoop_engine.proofs.RangeLemmas.{more_from_zero}
 use Rattle.snoop_counts.specs.ByBlock.{blocks_named, blocks_shown, placed, ranked, with_requests}
 use Rattle.snoop_counts.specs.Counted.{is_named}
 use Rattle.snoop_counts.specs.declared.count.Happening.{Happening}
@@ -13,18 +14,6 @@ use Rattle.snoop_counts.specs.declared.ranking.Ranked.{Ranked}
 -- two texts, one after the other
 pub grown : (old mid new a b : List ℕ) → mid ≡ old ++ a → new ≡ mid ++ b → new ≡ old ++ (a ++ b)
 grown old mid new a b p q = q ∙ ap (λ (t : List ℕ). t ++ b) p ∙ append_assoc old a b
-
-range_more : (a n : ℕ) → range_with_len a (suc n) ≡ range_with_len a n ++ (a + n) ∷ []
-range_more a zero = let same : a + 0 ≡ a = omega arith in rw same refl
-range_more a (suc n) =
-    let next : a + 1 + n ≡ a + suc n = omega arith in
-    ap (λ (l : List ℕ). a ∷ l) (range_more (a + 1) n ∙ ap (λ (k : ℕ). range_with_len (a + 1) n ++ k ∷ []) next)
-
-more_from_zero : (n : ℕ) → range_with_len 0 (n + 1) ≡ range_with_len 0 n ++ n ∷ []
-more_from_zero n =
-    let up : n + 1 ≡ suc n = omega arith in
-    let at : 0 + n ≡ n = omega arith in
-    ap (range_with_len 0) up ∙ range_more 0 n ∙ ap (λ (k : ℕ). range_with_len 0 n ++ k ∷ []) at
 
 one_if : (w : ℕ → Ranked) (n : ℕ) (b : Bool) → map w (cond b (n ∷ []) []) ≡ (if b then w n ∷ [] else [])
 one_if w n true = refl

@@ -1,7 +1,6 @@
 pub mod TallyLemmas
 pub mod RowLemmas
 pub mod ViewLemmas
-pub mod SharerLemmas
 pub mod BlockLemmas
 pub mod RankingLemmas
 pub mod CauseLemmas

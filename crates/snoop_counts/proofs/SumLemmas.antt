@@ -4,7 +4,7 @@ use Rattle.std.specs.Prelude.{◌||◌, ◌&&◌, ◌==◌, IsSomeAnd, Option, S
 use Rattle.std.specs.List.{range_with_len, sum_by}
 use Rattle.std.specs.Option.{ForSome, option_map_or}
 use Rattle.std.proofs.Math.Nat.{mul-le-mul_right, suc-mul}
-use Rattle.std.proofs.lemmas.Bool.{cases_eq, cases_lt, eq-eqb, false≢true, lt-ltb, ne_eqb}
+use Rattle.std.proofs.lemmas.Bool.{and_parts, cases_eq, cases_lt, eq-eqb, false≢true, lt-ltb, ne_eqb}
 use Rattle.std.proofs.lemmas.List.{get_or-replicate, get_or_past, length-replicate}
 use Rattle.std.proofs.lemmas.List.Elements.{All-append, All-cons, All-head, All-map, All-nil, All-tail}
 use Rattle.std.proofs.lemmas.List.Sums.{sum_by-cons}
@@ -349,10 +349,6 @@ invalidation_is s e is =
     let at : (not (is_invalidation s e) || (is_other_get_m e && is_held s)) ≡ true = all_events-at (λ e. not (is_invalidation s e) || (is_other_get_m e && is_held s)) (all_states-at (λ s. all_events (λ e. not (is_invalidation s e) || (is_other_get_m e && is_held s))) invalidation_test s) e in
     rw is at at
 
-both_true : (a b : Bool) → (a && b) ≡ true → (a ≡ true) × (b ≡ true)
-both_true true b h = (refl, h)
-both_true false b h = absurd (false≢true h)
-
 no_ask : (asking : Op) → is_other_get_m (asked asking) ≡ false
 no_ask op.Load = refl
 no_ask (op.Store v) = refl
@@ -394,7 +390,7 @@ requestor_there frame shaped (Respond on) core block event looks other = absurd 
 cores_there : (frame : Frame) → IsShaped frame.before → (step : Step) → frame.step ≡ step → (core block : ℕ) (event : CacheEvent) (before : CacheState) → TakesCoreRow frame core block event before → is_invalidation before event ≡ true
     → (core < frame.before.shape.cores) × IsSomeAnd (requestor_in step) (λ k. k < frame.before.shape.cores)
 cores_there frame shaped step is core block event before row invalid =
-    let both = both_true _ _ (invalidation_is before event invalid) in
+    let both = and_parts _ _ (invalidation_is before event invalid) in
     let held : state_of frame.before core block ≡ I → ⊥ = λ idle. false≢true (sym (ap is_held (row.held ∙ idle)) ∙ both.1) in
     (core_in frame.before shaped core block held, requestor_there frame shaped step core block event (subst (λ (s : Step). ConsultsCache frame.before s core block (Some event)) is row.looks) both.0)
 

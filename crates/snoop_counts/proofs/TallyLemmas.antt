@@ -4,7 +4,7 @@ use Rattle.std.specs.Prelude.{◌≢◌, ◌||◌, ◌&&◌, ◌==◌, not, Opti
 use Rattle.std.specs.List.{list_any}
 use Rattle.std.specs.Option.{option_map_or}
 use Rattle.std.proofs.Math.Bool.{and-true, or-false}
-use Rattle.std.proofs.lemmas.Bool.{and_left, and_parts, and_right, cases_eq, eq-eqb, false≢true, ne_eqb}
+use Rattle.std.proofs.lemmas.Bool.{and_left, and_parts, and_right, cases_eq, eq-eqb, false≢true, ne_eqb, not-true}
 use Rattle.std.proofs.lemmas.List.{get_or-map, get_or-replicate, length-replicate, length-set, take_more}
 use Rattle.std.proofs.lemmas.List.Elements.{filter-append}
 use Rattle.std.proofs.lemmas.Option.{slice_get-get_or}
@@ -126,14 +126,10 @@ abbrev are_apart : List Count → Bool
 are_apart [] = true
 are_apart (a ∷ list) = not (is_one_of list a) && are_apart list
 
-not_true : (b : Bool) → not b ≡ true → b ≡ false
-not_true true h = sym h
-not_true false h = refl
-
 not_both : (a : Count) (list : List Count) (c : Count) → not (is_one_of list a) ≡ true → ((number a == number c) && is_one_of list c) ≡ false
 not_both a list c apart = elim (cases_eq (number a) (number c)) [
   | inl e ↦
-      let none : is_one_of list c ≡ false = ap (λ (k : ℕ). list_any (λ x. number x == k) list) (sym e) ∙ not_true (is_one_of list a) apart in
+      let none : is_one_of list c ≡ false = ap (λ (k : ℕ). list_any (λ x. number x == k) list) (sym e) ∙ not-true (is_one_of list a) apart in
       and_right (number a == number c) (is_one_of list c) none
   | inr ne ↦ and_left (number a == number c) (is_one_of list c) (ne_eqb (number a) (number c) ne)
 ]

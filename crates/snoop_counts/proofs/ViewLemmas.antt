@@ -1,18 +1,8 @@
--- Views that write nothing before the end.
-use Rattle.std.proofs.Common.{◌≡◌, ℕ, List, [], ◌∷◌, ◌++◌, refl, sym, ap, append_assoc, append-nil, ◌∙◌}
-use Rattle.snoop_model.specs.Pictures.Situation.{Situation}
+-- What can be counted of frames, when one frame more is seen.
+use Rattle.std.proofs.Common.{◌≡◌, List, [], ◌∷◌, ◌++◌, sym, ap, append_assoc, append-nil, ◌∙◌}
 use Rattle.snoop_engine.specs.Frames.{Frame}
-use Rattle.snoop_engine.specs.Views.{shown, view_text}
 use Rattle.snoop_counts.specs.Happenings.{happenings, seen_after, seen_in}
 use Rattle.snoop_counts.specs.declared.count.Happening.{Happening}
-
-nothing_shown : (before frames : List Frame) → shown (λ (fs : List Frame) (f : Frame). []) before frames ≡ []
-nothing_shown before [] = refl
-nothing_shown before (f ∷ fs) = nothing_shown (before ++ f ∷ []) fs
-
--- all that such a view writes is its ending
-pub quiet_view : (ending : List Frame → Situation → List ℕ) (frames : List Frame) (final : Situation) → view_text [] (λ (fs : List Frame) (f : Frame). []) ending frames final ≡ ending frames final
-quiet_view ending frames final = ap (λ (t : List ℕ). t ++ ending frames final) (nothing_shown [] frames)
 
 pub seen_on : (earlier frames : List Frame) (frame : Frame) → seen_after earlier (frames ++ frame ∷ []) ≡ seen_after earlier frames ++ seen_in (earlier ++ frames) frame
 seen_on earlier [] frame = append-nil (seen_in earlier frame) ∙ ap (λ (l : List Frame). seen_in l frame) (sym (append-nil earlier))

@@ -1,7 +1,6 @@
 -- What a view writes that is a drawing.
-use Rattle.std.proofs.Common.{◌≡◌, ℕ, ◌+◌, List, [], ◌∷◌, ◌++◌, Option, length, refl, sym, ap, subst, ◌∙◌, arith}
+use Rattle.std.proofs.Common.{◌≡◌, ℕ, ◌+◌, List, [], ◌++◌, Option, length, sym, ap, subst, ◌∙◌}
 use Rattle.std.specs.Io.KnownBytes.{Appends}
-use Rattle.std.proofs.lemmas.List.{length_push}
 use Rattle.snoop_trace.specs.Extent.{Extent}
 use Rattle.snoop_trace.specs.Output.{AppendsFront}
 use Rattle.snoop_trace.specs.declared.protocol.Protocol.{Protocol}
@@ -11,22 +10,15 @@ use Rattle.snoop_engine.specs.Chosen.{Chosen}
 use Rattle.snoop_engine.specs.Frames.{Frame, steps_of}
 use Rattle.snoop_engine.specs.SimulatedView.{BeginsToShow, ShowsRun}
 use Rattle.snoop_engine.specs.Views.{shown, view_text}
+use Rattle.snoop_engine.proofs.ViewLemmas.{shown_numbered}
 use Rattle.snoop_draw.specs.declared.marks.Charset.{Charset}
-use Rattle.snoop_draw.specs.Drawings.{Sheet, beginning_text, rows_at, rows_from, sheet_for}
+use Rattle.snoop_draw.specs.Drawings.{Sheet, beginning_text, rows_at, sheet_for}
 use Rattle.snoop_draw.specs.Headings.{legend_text}
 use Rattle.snoop_draw.specs.Panels.{Panel, panels_for}
 use Rattle.snoop_draw.specs.Simulated.{IsDrawable, drawing}
 use Rattle.snoop_draw.specs.Size.{IsSmall}
 use Rattle.snoop_draw.specs.Widths.{widths_for}
 use Rattle.snoop_draw.specs.declared.widths.Widths.{Widths}
-
--- what is shown of frames, the first of which comes after these
-shown_rows : (sheet : Sheet) (shape : Extent) (before frames : List Frame) → shown (λ seen frame. rows_at sheet shape (1 + length seen) frame) before frames ≡ rows_from sheet shape (1 + length before) frames
-shown_rows sheet shape before [] = refl
-shown_rows sheet shape before (frame ∷ frames) =
-    let rest = shown_rows sheet shape (before ++ frame ∷ []) frames in
-    let next : 1 + length (before ++ frame ∷ []) ≡ 1 + length before + 1 = omega (arith, length_push before frame) in
-    ap (λ (t : List ℕ). rows_at sheet shape (1 + length before) frame ++ t) (rest ∙ ap (λ (n : ℕ). rows_from sheet shape n frames) next)
 
 -- what the view of a sheet writes
 abbrev pub sheet_text : Protocol → Extent → Sheet → List Frame → Situation → List ℕ
@@ -38,7 +30,7 @@ whole_text : (protocol : Protocol) (shape : Extent) (charset : Charset) (choice 
     → sheet_text protocol shape (sheet_for shape charset choice (steps_of frames)) frames final ≡ drawing protocol shape charset choice frames final
 whole_text protocol shape charset choice frames final =
     let sheet : Sheet = sheet_for shape charset choice (steps_of frames) in
-    ap (λ (t : List ℕ). beginning_text sheet protocol shape ++ t ++ legend_text charset) (shown_rows sheet shape [] frames)
+    ap (λ (t : List ℕ). beginning_text sheet protocol shape ++ t ++ legend_text charset) (shown_numbered (rows_at sheet shape) [] frames)
 
 -- the same, where the steps are those of the frames
 text_of_steps : (protocol : Protocol) (shape : Extent) (charset : Charset) (choice : Chosen) (steps : List Step) (frames : List Frame) (final : Situation)

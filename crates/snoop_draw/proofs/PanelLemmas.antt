@@ -2,7 +2,7 @@
 use Rattle.std.proofs.Common.{◌≡◌, ℕ, zero, suc, ◌+◌, ◌*◌, ◌<◌, ◌≤◌, Bool, true, false, cond, List, [], ◌∷◌, ◌++◌, length, get_or, set, refl, sym, ap, ◌∙◌, arith, inl, inr}
 use Rattle.std.specs.Prelude.{◌&&◌, ◌||◌, ◌==◌, filter}
 use Rattle.std.specs.List.{flat_map, range_with_len}
-use Rattle.std.proofs.lemmas.Bool.{cases_eq, eq-eqb, ne_eqb}
+use Rattle.std.proofs.lemmas.Bool.{and_left, and_right, cases_eq, eq-eqb, ne_eqb, or_right}
 use Rattle.std.proofs.lemmas.List.{get_or-set_other, get_or-set_same, length-set}
 use Rattle.std.proofs.lemmas.List.Folds.{list_any-append}
 use Rattle.std.proofs.lemmas.Nat.{mul-add-lt, same_from_place}
@@ -29,20 +29,9 @@ pub picked_columns : (shape : Extent) (steps : List Step) (table : List Bool) (b
 picked_columns shape steps table block is inside =
     picked_from (asks steps block) (λ core. get_or table (block * shape.cores + core) false) 0 shape.cores (λ core low high. is.entries block core inside (omega arith))
 
-and_none : (x y : Bool) → x ≡ false → (x && y) ≡ false
-and_none x y e = ap (λ (b : Bool). b && y) e
-
-and_second : (x y : Bool) → y ≡ false → (x && y) ≡ false
-and_second true y e = e
-and_second false y e = refl
-
 or_nothing : (x y : Bool) → y ≡ false → (x || y) ≡ x
 or_nothing true y e = refl
 or_nothing false y e = e
-
-or_all : (x y : Bool) → y ≡ true → (x || y) ≡ true
-or_all true y e = refl
-or_all false y e = e
 
 asked_last : (steps : List Step) (step : Step) (block core : ℕ) → asks (steps ++ step ∷ []) block core ≡ (asks steps block core || (is_ask_for block core step || false))
 asked_last steps step block core = list_any-append (is_ask_for block core) steps (step ∷ [])
@@ -59,16 +48,16 @@ entry shape steps table block core word op hc is inside b c low high = elim (cas
     | inl also ↦
         let at : block * shape.cores + core ≡ b * shape.cores + c = ap (λ (k : ℕ). k * shape.cores + core) same ∙ ap (λ (k : ℕ). b * shape.cores + k) also in
         let asked : (is_ask_for b c (Ask core block word op) || false) ≡ true = ap (λ (x : Bool). (x && (core == c)) || false) (eq-eqb block b same) ∙ ap (λ (x : Bool). x || false) (eq-eqb core c also) in
-        same_place table _ _ at inside ∙ sym (asked_last steps (Ask core block word op) b c ∙ or_all (asks steps b c) _ asked)
+        same_place table _ _ at inside ∙ sym (asked_last steps (Ask core block word op) b c ∙ or_right (asks steps b c) _ asked)
     | inr other ↦
         let apart : b * shape.cores + c ≡ block * shape.cores + core → ⊥ = λ e. other (sym (same_from_place b c block core shape.cores high hc e).1) in
-        let not_asked : (is_ask_for b c (Ask core block word op) || false) ≡ false = ap (λ (x : Bool). x || false) (and_second (block == b) (core == c) (ne_eqb core c other)) in
+        let not_asked : (is_ask_for b c (Ask core block word op) || false) ≡ false = ap (λ (x : Bool). x || false) (and_right (block == b) (core == c) (ne_eqb core c other)) in
         get_or-set_other table (block * shape.cores + core) (b * shape.cores + c) true false apart ∙ is.entries b c low high
         ∙ sym (asked_last steps (Ask core block word op) b c ∙ or_nothing (asks steps b c) _ not_asked)
   ]
   | inr other ↦
       let apart : b * shape.cores + c ≡ block * shape.cores + core → ⊥ = λ e. other (sym (same_from_place b c block core shape.cores high hc e).0) in
-      let not_asked : (is_ask_for b c (Ask core block word op) || false) ≡ false = ap (λ (x : Bool). x || false) (and_none (block == b) (core == c) (ne_eqb block b other)) in
+      let not_asked : (is_ask_for b c (Ask core block word op) || false) ≡ false = ap (λ (x : Bool). x || false) (and_left (block == b) (core == c) (ne_eqb block b other)) in
       get_or-set_other table (block * shape.cores + core) (b * shape.cores + c) true false apart ∙ is.entries b c low high
       ∙ sym (asked_last steps (Ask core block word op) b c ∙ or_nothing (asks steps b c) _ not_asked)
 ]

@@ -1,6 +1,6 @@
 -- The drawing of a run.
 -- Source: this project's profile.
-use Rattle.std.specs.Prelude.{ℕ, ◌+◌, ◌==◌, List, [], ◌∷◌, ◌++◌, codes, Option, Result, if◌then◌else◌}
+use Rattle.std.specs.Prelude.{ℕ, ◌+◌, ◌==◌, List, [], ◌++◌, codes, Option, Result, if◌then◌else◌}
 use Rattle.std.specs.Fmt.{decimal}
 use Rattle.std.specs.List.{flat_map}
 use Rattle.snoop_trace.specs.Extent.{Extent}
@@ -12,6 +12,7 @@ use Rattle.snoop_model.specs.declared.replies.Refused.{Refused}
 use Rattle.snoop_engine.specs.Chosen.{Chosen, is_shown}
 use Rattle.snoop_engine.specs.Frames.{Frame, steps_of}
 use Rattle.snoop_engine.specs.Line.{line_text}
+use Rattle.snoop_engine.specs.Numbered.{numbered_from}
 use Rattle.snoop_engine.specs.Taken.{lines_of}
 use Rattle.snoop_engine.specs.Views.{block_of}
 use Rattle.snoop_engine.specs.declared.taken.Taken.{Taken}
@@ -67,8 +68,7 @@ rows_at sheet shape number frame =
 
 -- what is drawn at steps, the first of which has this number
 abbrev pub rows_from : Sheet → Extent → ℕ → List Frame → List ℕ
-rows_from sheet shape number [] = []
-rows_from sheet shape number (frame ∷ frames) = rows_at sheet shape number frame ++ rows_from sheet shape (number + 1) frames
+rows_from sheet shape number frames = flat_map (λ n. rows_at sheet shape n.number n.frame) (numbered_from number frames)
 
 -- what is drawn before any step: the heading, and the first row if the first step is drawn
 abbrev pub beginning_text : Sheet → Protocol → Extent → List ℕ

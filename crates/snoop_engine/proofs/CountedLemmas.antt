@@ -1,5 +1,5 @@
 -- The counts of frames, as a view writes them.
-use Rattle.std.proofs.Common.{◌≡◌, ℕ, List, [], ◌∷◌, ◌++◌, refl, ap}
+use Rattle.std.proofs.Common.{◌≡◌, ℕ, List, [], ◌∷◌, ◌++◌}
 use Rattle.std.proofs.lemmas.List.{flat_map_more}
 use Rattle.snoop_trace.specs.declared.protocol.Protocol.{Protocol}
 use Rattle.snoop_model.specs.Pictures.Situation.{Situation}
@@ -7,7 +7,8 @@ use Rattle.snoop_engine.specs.Counts.{all_lines, counts_text, frames_counts_text
 use Rattle.snoop_engine.specs.Frames.{Frame}
 use Rattle.snoop_engine.specs.Taken.{lines_of}
 use Rattle.snoop_engine.specs.Tallies.{Tallies, counts_in, memory_counts_in}
-use Rattle.snoop_engine.specs.Views.{shown, view_text}
+use Rattle.snoop_engine.specs.Views.{view_text}
+use Rattle.snoop_engine.proofs.ViewLemmas.{quiet_view}
 
 -- the lines of one frame more
 pub all_lines_more : (frames : List Frame) (frame : Frame) → all_lines frames ++ lines_of frame.before frame.step frame.outcome ≡ all_lines (frames ++ frame ∷ [])
@@ -18,10 +19,6 @@ pub text_of_frames : (protocol : Protocol) (frames : List Frame) (counters : Lis
     → counts_text protocol (counts_in counters) (memory_counts_in counters) ≡ frames_counts_text protocol frames
 text_of_frames protocol frames counters counted = λ i. counts_text protocol (λ state event. counted.cores state event i) (λ state event. counted.memory state event i)
 
-nothing_shown : (before frames : List Frame) → shown (λ (fs : List Frame) (f : Frame). []) before frames ≡ []
-nothing_shown before [] = refl
-nothing_shown before (f ∷ fs) = nothing_shown (before ++ f ∷ []) fs
-
 pub counts_view : (protocol : Protocol) (frames : List Frame) (final : Situation)
     → view_text [] (λ (fs : List Frame) (f : Frame). []) (λ (fs : List Frame) (s : Situation). frames_counts_text protocol fs) frames final ≡ frames_counts_text protocol frames
-counts_view protocol frames final = ap (λ (t : List ℕ). t ++ frames_counts_text protocol frames) (nothing_shown [] frames)
+counts_view protocol frames final = quiet_view (λ (fs : List Frame) (s : Situation). frames_counts_text protocol fs) frames final

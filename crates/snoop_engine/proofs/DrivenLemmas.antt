@@ -11,7 +11,7 @@ use Rattle.snoop_trace.specs.Output.{AppendsFront, Gathers, Spills}
 use Rattle.snoop_trace.specs.declared.step.Row.{Row}
 use Rattle.snoop_trace.specs.declared.step.Step.{Step}
 use Rattle.snoop_trace.proofs.GathersLemmas.{gathers_cut, gathers_done, gathers_more, gathers_none, gathers_spilled}
-use Rattle.snoop_trace.proofs.OutputLemmas.{appends_more, appends_none}
+use Rattle.snoop_trace.proofs.OutputLemmas.{appends_more, appends_none, front_after}
 use Rattle.snoop_trace.specs.declared.protocol.Protocol.{Protocol}
 use Rattle.snoop_history.specs.declared.items.Item.{Item}
 use Rattle.snoop_history.specs.Report.{report_of}
@@ -27,7 +27,6 @@ use Rattle.snoop_engine.specs.Driven.{WritesDriven, WritesDrivenFront}
 use Rattle.snoop_engine.specs.SimulatedRun.{BeginsRun, ReadsRows, ReportsRun, SimulatesRun}
 use Rattle.snoop_engine.proofs.Journeys.{end_serves, way_begins, way_ends, way_on}
 use Rattle.snoop_engine.proofs.TakenLemmas.{line_texts_more, report_words}
-use Rattle.snoop_engine.proofs.SimulatedLemmas.{front_after}
 
 -- the driver took steps, and their lines were written or stand in the chunk
 pub record Driving (shape : Extent) (start here : Progress) (old new : Option (List ℕ)) (chunk : List ℕ) : Type 0 where

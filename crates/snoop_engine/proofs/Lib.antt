@@ -21,6 +21,7 @@ pub mod TrueLines
 pub mod TallyLemmas
 pub mod CountedLemmas
 pub mod ShownLemmas
+pub mod ViewLemmas
 pub mod CourseLemmas
 pub mod InOrderLemmas
 pub mod NowLemmas

@@ -1,21 +1,14 @@
--- A list that grows piece by piece, over the numbers from 0.
-use Rattle.std.proofs.Common.{◌≡◌, ℕ, zero, suc, ◌+◌, ◌<◌, ◌≤◌, List, [], ◌∷◌, ◌++◌, append-nil, refl, sym, ap, ◌∙◌, inl, inr, arith}
+-- Ranges: a list that grows piece by piece, over the numbers from 0; which numbers of a range are kept.
+use Rattle.std.proofs.Common.{◌≡◌, ℕ, zero, suc, ◌+◌, ◌<◌, ◌≤◌, Bool, cond, List, [], ◌∷◌, ◌++◌, append-nil, filter, refl, sym, ap, ◌∙◌, inl, inr, arith}
 use Rattle.std.specs.List.{flat_map, range_with_len}
 use Rattle.std.proofs.lemmas.Bool.{cases_lt}
-use Rattle.std.proofs.lemmas.List.{flat_map_more}
+use Rattle.std.proofs.lemmas.List.{flat_map_more, map-id}
+use Rattle.std.proofs.lemmas.List.FromFn.{map-range_with_len_more}
 
 -- one number more
-range_more : (a n : ℕ) → range_with_len a (suc n) ≡ range_with_len a n ++ (a + n) ∷ []
-range_more a zero = let same : a + 0 ≡ a = omega arith in rw same refl
-range_more a (suc n) =
-    let next : a + 1 + n ≡ a + suc n = omega arith in
-    ap (λ (l : List ℕ). a ∷ l) (range_more (a + 1) n ∙ ap (λ (k : ℕ). range_with_len (a + 1) n ++ k ∷ []) next)
-
-more_from_zero : (n : ℕ) → range_with_len 0 (n + 1) ≡ range_with_len 0 n ++ n ∷ []
+pub more_from_zero : (n : ℕ) → range_with_len 0 (n + 1) ≡ range_with_len 0 n ++ n ∷ []
 more_from_zero n =
-    let up : n + 1 ≡ suc n = omega arith in
-    let at : 0 + n ≡ n = omega arith in
-    ap (range_with_len 0) up ∙ range_more 0 n ∙ ap (λ (k : ℕ). range_with_len 0 n ++ k ∷ []) at
+    sym (map-id (range_with_len 0 (n + 1))) ∙ map-range_with_len_more (λ (k : ℕ). k) 0 n n (omega arith) ∙ ap (λ (l : List ℕ). l ++ n ∷ []) (map-id (range_with_len 0 n))
 
 -- the piece of the next number comes after the pieces so far
 pub range_piece : {A : Type 0} (f : ℕ → List A) (i : ℕ) (before now next : List A) → now ≡ before ++ flat_map f (range_with_len 0 i) → next ≡ now ++ f i → next ≡ before ++ flat_map f (range_with_len 0 (i + 1))
@@ -44,3 +37,11 @@ range_same {A} f a b from_a from_b = elim (cases_lt a b) [
   | inl below ↦ sym (range_stops f a b (omega arith) (λ k low high. from_a k low))
   | inr up ↦ range_stops f b a up (λ k low high. from_b k low)
 ]
+
+-- tests that agree on a range keep the same of it
+pub filter_range : (p q : ℕ → Bool) (from n : ℕ) → ((k : ℕ) → from ≤ k → k < from + n → p k ≡ q k) → filter p (range_with_len from n) ≡ filter q (range_with_len from n)
+filter_range p q from zero same = refl
+filter_range p q from (suc n) same =
+    let rest = filter_range p q (from + 1) n (λ k up below. same k (omega arith) (omega arith)) in
+    ap (λ (b : Bool). cond b (from ∷ filter p (range_with_len (from + 1) n)) (filter p (range_with_len (from + 1) n))) (same from (omega arith) (omega arith))
+    ∙ ap (λ (l : List ℕ). cond (q from) (from ∷ l) l) rest

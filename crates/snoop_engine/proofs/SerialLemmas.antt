@@ -13,7 +13,7 @@ use Rattle.snoop_trace.specs.declared.step.Step.TheVariants.{Ask, Order, Respond
 use Rattle.snoop_trace.specs.declared.step.Work.{Work}
 use Rattle.snoop_trace.specs.declared.protocol.Protocol.{Protocol}
 use Rattle.snoop_trace.proofs.GathersLemmas.{gathers_cut, gathers_done, gathers_more, gathers_none, gathers_spilled, gathers_stop}
-use Rattle.snoop_trace.proofs.OutputLemmas.{appends_more, appends_none}
+use Rattle.snoop_trace.proofs.OutputLemmas.{appends_more, appends_none, front_after}
 use Rattle.snoop_history.specs.declared.items.Item.{Item}
 use Rattle.snoop_history.specs.Report.{report_of}
 use Rattle.snoop_model.specs.declared.replies.Reply.{Reply}
@@ -29,7 +29,7 @@ use Rattle.snoop_engine.specs.Served.{ask_of, asks_of}
 use Rattle.snoop_engine.specs.SimulatedSerial.{BeginsSerial, ReportsSerial}
 use Rattle.snoop_engine.specs.Todo.{work_of, works_of}
 use Rattle.snoop_engine.proofs.Journeys.{owed_reset}
-use Rattle.snoop_engine.proofs.SimulatedLemmas.{front_after, line_texts_on, runs_on}
+use Rattle.snoop_engine.proofs.SimulatedLemmas.{line_texts_on, runs_on}
 use Rattle.snoop_engine.proofs.TakenLemmas.{report_words}
 
 -- a core's Asks are among the Asks of all cores

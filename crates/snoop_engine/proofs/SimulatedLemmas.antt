@@ -5,7 +5,7 @@ use Rattle.std.specs.Io.KnownBytes.{Appends}
 use Rattle.snoop_trace.specs.Extent.{Extent}
 use Rattle.snoop_trace.specs.Output.{AppendsFront}
 use Rattle.snoop_trace.specs.declared.step.Step.{Step}
-use Rattle.snoop_trace.proofs.OutputLemmas.{appends_more, appends_none}
+use Rattle.snoop_trace.proofs.OutputLemmas.{appends_more, appends_none, front_after, front_cut}
 use Rattle.snoop_trace.specs.declared.protocol.Protocol.{Protocol}
 use Rattle.snoop_history.specs.declared.items.Item.{Item}
 use Rattle.snoop_history.specs.Report.{report_of}
@@ -21,26 +21,6 @@ use Rattle.snoop_engine.specs.Fault.{written}
 use Rattle.snoop_engine.specs.declared.fault.SimFault.{SimFault}
 use Rattle.snoop_trace.specs.declared.fault.WriteFault.{WriteFault}
 use Rattle.snoop_trace.specs.declared.fault.WriteFault.TheVariants as write
-
--- a beginning of a text is one of a longer text
-front_of_longer : (a b : Option (List ℕ)) (text more : List ℕ) → AppendsFront a b text → AppendsFront a b (text ++ more)
-front_of_longer a b text more cut =
-    record {
-      front = cut.front;
-      rest = cut.rest ++ more;
-      whole = ap (λ (t : List ℕ). t ++ more) cut.whole ∙ append_assoc cut.front cut.rest more;
-      appends = cut.appends;
-    }
-
--- one text whole, and then a beginning of another
-pub front_after : (a b c : Option (List ℕ)) (text more : List ℕ) → Appends a b text → AppendsFront b c more → AppendsFront a c (text ++ more)
-front_after a b c text more p cut =
-    record {
-      front = text ++ cut.front;
-      rest = cut.rest;
-      whole = ap (λ (t : List ℕ). text ++ t) cut.whole ∙ sym (append_assoc text cut.front cut.rest);
-      appends = appends_more a b c text cut.front p cut.appends;
-    }
 
 -- all was written
 pub reports : (protocol : Protocol) (shape : Extent) (steps : List Step) (from to : Situation) (words : ℕ) (items : List Item) (a b c : Option (List ℕ))
@@ -103,7 +83,7 @@ begins_lines go_on protocol shape steps from a b start far =
       outcomes = far.outcomes ++ more;
       final = final;
       run = subst (λ (l : List Step). TheRun protocol shape l (far.outcomes ++ more) final) (sym far.whole) (runs_on far.first far.rest far.outcomes more (reset protocol shape) far.to final run further.1.1);
-      output = subst (λ (t : List ℕ). AppendsFront a b t) (sym text) (front_of_longer a b lines (later ++ report_of shape.words final.log) far.lines);
+      output = subst (λ (t : List ℕ). AppendsFront a b t) (sym text) (front_cut a b lines (later ++ report_of shape.words final.log) far.lines);
     }
 
 -- nothing was written

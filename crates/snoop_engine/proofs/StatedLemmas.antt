@@ -1,30 +1,23 @@
 -- The states of frames, as a view writes them.
-use Rattle.std.proofs.Common.{◌≡◌, ℕ, ◌+◌, Bool, true, false, cond, List, [], ◌∷◌, ◌++◌, length, length-append, refl, sym, ap, ◌∙◌, append-nil, arith}
+use Rattle.std.proofs.Common.{◌≡◌, ℕ, ◌+◌, Bool, true, false, cond, List, [], ◌++◌, length, sym, ap, ◌∙◌, append-nil}
 use Rattle.std.specs.Prelude.{Option}
 use Rattle.std.specs.List.{flat_map}
 use Rattle.snoop_trace.specs.Extent.{Extent}
 use Rattle.snoop_model.specs.Pictures.Situation.{Situation}
 use Rattle.snoop_engine.specs.Frames.{Frame}
 use Rattle.snoop_engine.specs.Chosen.{Chosen, is_shown}
-use Rattle.snoop_engine.specs.States.{frame_text, header_text, shown_text, shown_texts, states_text, step_fields, taken_text}
+use Rattle.snoop_engine.specs.States.{frame_text, header_text, shown_text, states_text, step_fields, taken_text}
 use Rattle.snoop_engine.specs.Taken.{lines_of}
 use Rattle.snoop_engine.specs.Views.{IsNext, block_of, frame_seen, shown, view_text}
 use Rattle.snoop_engine.specs.declared.seen.Seen.{Seen}
+use Rattle.snoop_engine.proofs.ViewLemmas.{shown_numbered}
 use Rattle.snoop_engine.specs.declared.taken.Taken.{Taken}
-
-frames_numbered : (shape : Extent) (choice : Chosen) (before frames : List Frame)
-    → shown (λ (fs : List Frame) (f : Frame). shown_text shape choice (1 + length fs) f) before frames ≡ shown_texts shape choice (1 + length before) frames
-frames_numbered shape choice before [] = refl
-frames_numbered shape choice before (f ∷ fs) =
-    let more : length (before ++ f ∷ []) ≡ length before + 1 = length-append before (f ∷ []) in
-    let up : 1 + length (before ++ f ∷ []) ≡ 1 + length before + 1 = omega arith in
-    ap (λ (t : List ℕ). shown_text shape choice (1 + length before) f ++ t) (frames_numbered shape choice (before ++ f ∷ []) fs ∙ ap (λ (n : ℕ). shown_texts shape choice n fs) up)
 
 pub states_view : (shape : Extent) (choice : Chosen) (frames : List Frame) (final : Situation)
     → view_text header_text (λ (fs : List Frame) (f : Frame). shown_text shape choice (1 + length fs) f) (λ (fs : List Frame) (s : Situation). []) frames final ≡ states_text shape choice frames
 states_view shape choice frames final =
     append-nil (header_text ++ shown (λ (fs : List Frame) (f : Frame). shown_text shape choice (1 + length fs) f) [] frames)
-    ∙ ap (λ (t : List ℕ). header_text ++ t) (frames_numbered shape choice [] frames)
+    ∙ ap (λ (t : List ℕ). header_text ++ t) (shown_numbered (shown_text shape choice) [] frames)
 
 -- what is written of a step that is seen
 module _ (choice : Chosen) (frames : List Frame) (before : Situation) (seen : Seen) (after : Situation) (next : IsNext after.protocol after.shape frames before seen after) where

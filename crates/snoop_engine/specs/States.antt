@@ -1,6 +1,6 @@
 -- The states of a run as a text of fields: for each step that is shown a line for each controller that takes a row of its table.
 -- Source: the fields and their form are this project's profile.
-use Rattle.std.specs.Prelude.{ℕ, ◌+◌, ◌==◌, ◌&&◌, List, [], ◌∷◌, ◌++◌, codes, Option, Some, None, Result, Ok, option_map, nat_lt, if◌then◌else◌}
+use Rattle.std.specs.Prelude.{ℕ, ◌+◌, ◌==◌, ◌&&◌, List, [], ◌++◌, codes, Option, Some, None, Result, Ok, option_map, nat_lt, if◌then◌else◌}
 use Rattle.std.specs.Fmt.{decimal}
 use Rattle.std.specs.List.{flat_map, range_with_len}
 use Rattle.std.specs.Option.{option_map_or}
@@ -25,6 +25,7 @@ use Rattle.snoop_model.specs.Pictures.Situation.{Situation, picture_of}
 use Rattle.snoop_engine.specs.Chosen.{Chosen, is_shown}
 use Rattle.snoop_engine.specs.Line.{outcome_text}
 use Rattle.snoop_engine.specs.Frames.{Frame}
+use Rattle.snoop_engine.specs.Numbered.{numbered_from}
 use Rattle.snoop_engine.specs.Taken.{lines_of, memory_at, state_at}
 use Rattle.snoop_engine.specs.Views.{block_of}
 use Rattle.snoop_engine.specs.declared.taken.Taken.{Taken}
@@ -118,8 +119,7 @@ shown_text shape choice number frame = if is_shown choice (block_of frame.before
 
 -- the lines of those steps that are shown, where the first step has this number
 abbrev pub shown_texts : Extent → Chosen → ℕ → List Frame → List ℕ
-shown_texts shape choice number [] = []
-shown_texts shape choice number (frame ∷ frames) = shown_text shape choice number frame ++ shown_texts shape choice (number + 1) frames
+shown_texts shape choice number frames = flat_map (λ n. shown_text shape choice n.number n.frame) (numbered_from number frames)
 
 -- the names of the fields
 abbrev pub header_text : List ℕ

@@ -67,7 +67,7 @@ impl Entries<Asked> for AskQueue {
 
     fn append(&mut self, asked: Asked) -> Result<(), NoMemory> {
         let work = asked.work;
-        self.steps.push(Step::Ask {
+        self.steps.append(Step::Ask {
             core: asked.core,
             block: work.block,
             word: work.word,

@@ -19,7 +19,6 @@ mod gather;
 mod input;
 mod lane;
 mod line;
-mod literals;
 mod packed;
 mod run;
 mod script;

@@ -1,15 +1,16 @@
 //! The line of a step: its text and the machine's reply or refusal.
+//!
+//! A reply is one literal with its state or request, so that it is appended in one piece.
 ghost use Rattle.std.specs.Prelude.{◌≡◌, ◌++◌, codes, OnOk};
 ghost use Rattle.std.specs.Fmt.{decimal};
-ghost use Rattle.snoop_rules.specs.Names.{payload_name};
+ghost use Rattle.snoop_rules.specs.Names.{payload_name, request_name, state_name};
 ghost use Rattle.snoop_model.specs.declared.replies.Reply.TheVariants.{Came};
 ghost use Rattle.snoop_model.specs.Texts.{performed_text, refusal_text, reply_text, sender_text};
 ghost use Rattle.snoop_engine.specs.Line.{line_text, outcome_text};
 
-use crate::literals;
 use snoop_history::Did;
 use snoop_machine::{Refused, Reply};
-use snoop_rules::Payload;
+use snoop_rules::{CacheState, Payload, Request};
 use snoop_trace::streams::{push_byte, push_decimal, push_step, push_text};
 use snoop_trace::{NoMemory, Shape, Step};
 
@@ -21,12 +22,35 @@ pub fn push_numbered(out: &mut Vec<u8>, text: &str, number: u64) -> Result<(), N
     push_decimal(out, number)
 }
 
+fn from_memory(payload: Payload) -> &'static str
+    ensures { result.now ≡ payload_name payload ++ codes " from memory" }
+{
+    match payload {
+        Payload::Data => "Data from memory",
+        Payload::DataE => "DataE from memory",
+        Payload::NoData => "NoData from memory",
+        Payload::NoDataE => "NoDataE from memory",
+    }
+}
+
+// The core's number follows.
+fn from_core(payload: Payload) -> &'static str
+    ensures { result.now ≡ payload_name payload ++ codes " from core " }
+{
+    match payload {
+        Payload::Data => "Data from core ",
+        Payload::DataE => "DataE from core ",
+        Payload::NoData => "NoData from core ",
+        Payload::NoDataE => "NoDataE from core ",
+    }
+}
+
 fn push_response(out: &mut Vec<u8>, payload: Payload, from: Option<u32>) -> Result<(), NoMemory>
     ensures ok { OnOk result (out.new.items ≡ out.old.items ++ (payload_name payload ++ sender_text from)) }
 {
     match from {
-        None => push_text(out, literals::from_memory(payload)),
-        Some(core) => push_numbered(out, literals::from_core(payload), core as u64),
+        None => push_text(out, from_memory(payload)),
+        Some(core) => push_numbered(out, from_core(payload), core as u64),
     }
 }
 
@@ -52,6 +76,26 @@ fn push_came(
     push_performed(out, did)
 }
 
+fn issued(request: Request) -> &'static str
+    ensures { result.now ≡ codes "issued " ++ request_name request }
+{
+    match request {
+        Request::GetS => "issued GetS",
+        Request::GetM => "issued GetM",
+        Request::PutM => "issued PutM",
+    }
+}
+
+fn ordered(request: Request) -> &'static str
+    ensures { result.now ≡ codes "ordered " ++ request_name request }
+{
+    match request {
+        Request::GetS => "ordered GetS",
+        Request::GetM => "ordered GetM",
+        Request::PutM => "ordered PutM",
+    }
+}
+
 #[inline(always)]
 fn push_reply(out: &mut Vec<u8>, reply: Reply) -> Result<(), NoMemory>
     ensures ok { OnOk result (out.new.items ≡ out.old.items ++ reply_text reply) }
@@ -59,11 +103,31 @@ fn push_reply(out: &mut Vec<u8>, reply: Reply) -> Result<(), NoMemory>
     match reply {
         Reply::Hit(value) => push_numbered(out, "hit ", value),
         Reply::StoreHit => push_text(out, "store hit"),
-        Reply::Issued(request) => push_text(out, literals::issued(request)),
+        Reply::Issued(request) => push_text(out, issued(request)),
         Reply::Gone => push_text(out, "gone"),
         Reply::Absent => push_text(out, "absent"),
-        Reply::Ordered(request) => push_text(out, literals::ordered(request)),
+        Reply::Ordered(request) => push_text(out, ordered(request)),
         Reply::Came { payload, from, did } => push_came(out, payload, from, did),
+    }
+}
+
+fn stalled(state: CacheState) -> &'static str
+    ensures { result.now ≡ codes "refused Stalled " ++ state_name state }
+{
+    match state {
+        CacheState::I => "refused Stalled I",
+        CacheState::IsAd => "refused Stalled IS_AD",
+        CacheState::IsD => "refused Stalled IS_D",
+        CacheState::ImAd => "refused Stalled IM_AD",
+        CacheState::ImD => "refused Stalled IM_D",
+        CacheState::S => "refused Stalled S",
+        CacheState::SmAd => "refused Stalled SM_AD",
+        CacheState::SmD => "refused Stalled SM_D",
+        CacheState::E => "refused Stalled E",
+        CacheState::M => "refused Stalled M",
+        CacheState::EiA => "refused Stalled EI_A",
+        CacheState::MiA => "refused Stalled MI_A",
+        CacheState::IiA => "refused Stalled II_A",
     }
 }
 
@@ -74,7 +138,7 @@ fn push_refusal(out: &mut Vec<u8>, cause: Refused) -> Result<(), NoMemory>
     match cause {
         Refused::NoCore => push_text(out, "refused NoCore"),
         Refused::NoBlock => push_text(out, "refused NoBlock"),
-        Refused::Stalled(state) => push_text(out, literals::stalled(state)),
+        Refused::Stalled(state) => push_text(out, stalled(state)),
         Refused::NothingWaiting => push_text(out, "refused NothingWaiting"),
         Refused::BusTaken(block) => push_numbered(out, "refused BusTaken ", block as u64),
         Refused::NoTransaction => push_text(out, "refused NoTransaction"),

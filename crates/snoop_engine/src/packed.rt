@@ -151,20 +151,6 @@ impl StepQueue {
         self.heads.len()
     }
 
-    /// Puts a step last. Where there is no memory for it, nothing is changed.
-    #[inline(always)]
-    pub(crate) fn push(&mut self, step: Step) -> Result<(), NoMemory>
-        requires { IsStepWithin largest step }
-        ensures items { OnOk result (self.new ≡ self.old ++ step ∷ []) }
-        ensures bounded { OnOk result (length self.new < 2 ^ 63) }
-        ensures err { OnErr result (self.new ≡ self.old) }
-    {
-        self.heads.reserve(1)?;
-        append_data(&mut self.words, &mut self.values, step)?;
-        self.heads.push_back_reserved(Head::new(step));
-        Ok(())
-    }
-
     /// Takes the first step away.
     pub(crate) fn next(&mut self) -> Option<Step>
         ensures first { self.old ≡ option_to_list result ++ self.new }
@@ -222,8 +208,17 @@ impl Entries<Step> for StepQueue {
 
     ghost fits = { IsStepWithin largest };
 
+    /// Where there is no memory for the step, nothing is changed.
     #[inline(always)]
-    fn append(&mut self, step: Step) -> Result<(), NoMemory> {
-        self.push(step)
+    fn append(&mut self, step: Step) -> Result<(), NoMemory>
+        requires { IsStepWithin largest step }
+        ensures items { OnOk result (self.new ≡ self.old ++ step ∷ []) }
+        ensures bounded { OnOk result (length self.new < 2 ^ 63) }
+        ensures err { OnErr result (self.new ≡ self.old) }
+    {
+        self.heads.reserve(1)?;
+        append_data(&mut self.words, &mut self.values, step)?;
+        self.heads.push_back_reserved(Head::new(step));
+        Ok(())
     }
 }

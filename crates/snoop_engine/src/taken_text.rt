@@ -21,8 +21,8 @@ use snoop_rules::{
 use snoop_trace::streams::{push_byte, push_decimal, push_step, push_text};
 use snoop_trace::{NoMemory, Shape, Step};
 
-// The value of a word that the core keeps, where all of them are there.
-fn kept_at(machine: &Machine, core: u32, block: u32, word: u32) -> Option<u64>
+/// The value of a word that the core keeps, where all of them are there.
+pub(crate) fn kept_at(machine: &Machine, core: u32, block: u32, word: u32) -> Option<u64>
     ensures { result ≡ kept_at machine.now.situation core block word }
 {
     machine.kept(core, block, word)
@@ -58,7 +58,12 @@ fn push_kept(out: &mut Vec<u8>, machine: &Machine, core: u32, block: u32) -> Res
     Ok(())
 }
 
-fn push_memory_values(out: &mut Vec<u8>, machine: &Machine, block: u32) -> Result<(), NoMemory>
+/// Appends the values that memory has.
+pub(crate) fn push_memory_values(
+    out: &mut Vec<u8>,
+    machine: &Machine,
+    block: u32,
+) -> Result<(), NoMemory>
     ensures { OnOk result (out.new.items ≡ out.old.items ++ memory_text machine.now.situation block) }
 {
     for word in 0..machine.shape().words() {

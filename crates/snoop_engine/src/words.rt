@@ -2,15 +2,16 @@
 //! memory its state and its values.
 ghost use Rattle.std.specs.Prelude.{◌≡◌, ◌≤◌, ◌++◌, OnOk};
 ghost use Rattle.snoop_rules.specs.Names.{memory_state_name};
-ghost use Rattle.snoop_engine.specs.States.{kept_at, memory_text, memory_value_at, value_text};
+ghost use Rattle.snoop_engine.specs.States.{memory_text};
 ghost use Rattle.snoop_engine.specs.Words.{answers, capitals, carried_words, core_words, data_words, kept_words, memory_state_words, memory_words, message_words, place_words, spaced, state_words};
 
 use crate::line::push_numbered;
 use crate::taken::{memory_at, state_at};
+use crate::taken_text::{kept_at, push_memory_values};
 use snoop_bus::Open;
 use snoop_machine::Machine;
 use snoop_rules::{CacheState, MemState, Payload, Protocol, carries_value};
-use snoop_trace::streams::{push_decimal, push_text};
+use snoop_trace::streams::push_text;
 use snoop_trace::{NoMemory, Words};
 use std::io::Write;
 
@@ -22,20 +23,6 @@ pub fn capitals(protocol: Protocol) -> &'static str
         Protocol::Msi => "MSI",
         Protocol::Mesi => "MESI",
     }
-}
-
-// The value of a word that the core keeps, where all of them are there.
-fn kept_at(machine: &Machine, core: u32, block: u32, word: u32) -> Option<u64>
-    ensures { result ≡ kept_at machine.now.situation core block word }
-{
-    machine.kept(core, block, word)
-}
-
-// Memory's value of a word, where it is there.
-fn memory_value_at(machine: &Machine, block: u32, word: u32) -> Option<u64>
-    ensures { result ≡ memory_value_at machine.now.situation block word }
-{
-    machine.mem_value(block, word)
 }
 
 // Appends a value, a blank before it.
@@ -129,26 +116,6 @@ pub fn push_message_words(out: &mut Vec<u8>, count: u32, opened: &Open) -> Resul
     push_text(out, ": ")?;
     push_text(out, opened.payload.name())?;
     push_carried(out, count, opened.payload, opened.value)
-}
-
-// Appends one value among others, a blank before it unless it is the first.
-fn push_value(out: &mut Vec<u8>, word: u32, value: Option<u64>) -> Result<(), NoMemory>
-    ensures { OnOk result (out.new.items ≡ out.old.items ++ value_text word value) }
-{
-    match value {
-        None => Ok(()),
-        Some(value) if word == 0 => push_decimal(out, value),
-        Some(value) => push_numbered(out, " ", value),
-    }
-}
-
-fn push_memory_values(out: &mut Vec<u8>, machine: &Machine, block: u32) -> Result<(), NoMemory>
-    ensures { OnOk result (out.new.items ≡ out.old.items ++ memory_text machine.now.situation block) }
-{
-    for word in 0..machine.shape().words() {
-        push_value(out, word, memory_value_at(machine, block, word))?;
-    }
-    Ok(())
 }
 
 /// Whether memory in this state would send its values to a core that asks.

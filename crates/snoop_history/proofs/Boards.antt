@@ -5,7 +5,7 @@ use Rattle.std.specs.List.{range_with_len}
 use Rattle.std.specs.Option.{option_map_or, ForSome}
 use Rattle.std.proofs.Math.Nat.{div-add-mod, mul_comm}
 use Rattle.std.proofs.lemmas.Nat.{div-mul-add, mod-mul-add, mul-le}
-use Rattle.std.proofs.lemmas.Bool.{cases_eq, cases_lt, eq-eqb, ne_eqb, ltb-true, lt-ltb, le-ltb}
+use Rattle.std.proofs.lemmas.Bool.{and_parts, cases_eq, cases_lt, eq-eqb, ne_eqb, ltb-true, lt-ltb, le-ltb}
 use Rattle.std.proofs.lemmas.Bool.Decides.{nat_tests}
 use Rattle.std.proofs.lemmas.List.{map-append, length-append, append-nil}
 use Rattle.std.proofs.lemmas.List.FromFn.{length-map-range_with_len, get_or-map-range_with_len}
@@ -207,14 +207,10 @@ noted-board cores blocks words dids old new (Some did) within =
     same_tables (with_totals (board_with cores blocks words dids old) (Some did) new) (board_with cores blocks words (dids ++ did ∷ []) new)
     refl refl (values-after dids did blocks words lies.1 lies.2 did.load refl) (counts-after dids did cores lies.0) (lasts-after dids did cores lies.0) refl
 
-pub both : (a b : Bool) → (a && b) ≡ true → (a ≡ true) × (b ≡ true)
-both true b e = (refl, e)
-both false b e = cc
-
 lies-within : (cores blocks words : ℕ) (did : Did) → (nat_lt did.core cores && nat_lt did.block blocks && nat_lt did.word words) ≡ true → (did.core < cores) × (did.block < blocks) × (did.word < words)
 lies-within cores blocks words did e =
-    let p = both (nat_lt did.core cores && nat_lt did.block blocks) (nat_lt did.word words) e in
-    let q = both (nat_lt did.core cores) (nat_lt did.block blocks) p.0 in
+    let p = and_parts (nat_lt did.core cores && nat_lt did.block blocks) (nat_lt did.word words) e in
+    let q = and_parts (nat_lt did.core cores) (nat_lt did.block blocks) p.0 in
     (ltb-true did.core cores q.0, ltb-true did.block blocks q.1, ltb-true did.word words p.1)
 
 operation-lies : (cores blocks words : ℕ) (op : Option Did) (rest here : Bool) → (here ≡ (rest && option_map_or (λ d. nat_lt d.core cores && nat_lt d.block blocks && nat_lt d.word words) op true)) → (did : Did) → (if here then op else None) ≡ Some did
@@ -224,14 +220,14 @@ operation-lies cores blocks words None rest true e did is = cc
 operation-lies cores blocks words (Some d) rest true e did is =
     let p : d ≡ did = cc in
     let P : Did → Type 0 = λ x. (x.core < cores) × (x.block < blocks) × (x.word < words) in
-    subst P p (lies-within cores blocks words d (both rest (nat_lt d.core cores && nat_lt d.block blocks && nat_lt d.word words) (sym e)).1)
+    subst P p (lies-within cores blocks words d (and_parts rest (nat_lt d.core cores && nat_lt d.block blocks && nat_lt d.word words) (sym e)).1)
 
 -- an item that passes the test lies within the shape
 pub passes-within : (cores blocks words : ℕ) (entry : Item) → is_within cores blocks words entry ≡ true → IsWithin cores blocks words entry
 passes-within cores blocks words entry e =
-    let p = both (nat_lt (core_of entry) cores && nat_lt (block_of entry) blocks && option_map_or (λ core. nat_lt core cores) (sender_of entry) true) (option_map_or (λ did. nat_lt did.core cores && nat_lt did.block blocks && nat_lt did.word words) (operation_of entry) true) e in
-    let r = both (nat_lt (core_of entry) cores && nat_lt (block_of entry) blocks) (option_map_or (λ core. nat_lt core cores) (sender_of entry) true) p.0 in
-    let q = both (nat_lt (core_of entry) cores) (nat_lt (block_of entry) blocks) r.0 in
+    let p = and_parts (nat_lt (core_of entry) cores && nat_lt (block_of entry) blocks && option_map_or (λ core. nat_lt core cores) (sender_of entry) true) (option_map_or (λ did. nat_lt did.core cores && nat_lt did.block blocks && nat_lt did.word words) (operation_of entry) true) e in
+    let r = and_parts (nat_lt (core_of entry) cores && nat_lt (block_of entry) blocks) (option_map_or (λ core. nat_lt core cores) (sender_of entry) true) p.0 in
+    let q = and_parts (nat_lt (core_of entry) cores) (nat_lt (block_of entry) blocks) r.0 in
     record {
       core = ltb-true (core_of entry) cores q.0;
       block = ltb-true (block_of entry) blocks q.1;

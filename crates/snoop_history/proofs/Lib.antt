@@ -4,4 +4,3 @@ pub mod Boards
 pub mod Touching
 pub mod Marks
 pub mod Kept
-pub mod Outcomes

@@ -1,14 +1,15 @@
 -- The blocks that a list mentions, with one item more.
-use Rattle.std.proofs.Common.{◌≡◌, ℕ, Bool, true, false, not, zero, arith, codes, ◌&&◌, List, [], ◌∷◌, ◌++◌, refl, sym, ◌∙◌, ap, map, filter, take, length, ◌<◌, ◌+◌, get_or, eqb, inl, inr, append-nil, append_assoc}
+use Rattle.std.proofs.Common.{◌≡◌, ℕ, Bool, true, false, not, arith, codes, ◌&&◌, List, [], ◌∷◌, ◌++◌, refl, sym, ◌∙◌, ap, map, filter, ◌<◌, ◌+◌, eqb, inl, inr, append-nil, append_assoc}
 use Rattle.std.specs.Prelude.{Option, Some, None, option_to_list, slice_get, suc, nat_lt, ◌==◌, nat_eq, All, if◌then◌else◌}
 use Rattle.std.specs.List.{list_any, flat_map, range_with_len}
 use Rattle.std.specs.Option.{ForSome}
 use Rattle.std.proofs.lemmas.Grind.{flat_map-append}
 use Rattle.snoop_history.specs.History.{flat, operation_of}
-use Rattle.snoop_history.specs.Report.{values_text, block_text, blocks_text, totals_text, report_of}
+use Rattle.snoop_history.specs.Report.{values_text, blocks_text, totals_text, report_of}
 use Rattle.std.proofs.lemmas.Bool.{cases_eq, eq-eqb, ne_eqb, eqb-true, lt-ltb}
 use Rattle.std.specs.Fmt.{decimal}
-use Rattle.std.proofs.lemmas.List.{take_more, map-append}
+use Rattle.std.proofs.lemmas.List.{flat_map_more}
+use Rattle.std.proofs.lemmas.List.FromFn.{map-range_with_len_more}
 use Rattle.std.proofs.lemmas.List.Elements.{filter-append, All-filter, All-nil, All-cons, All-head, All-tail, All-append}
 use Rattle.std.proofs.lemmas.Map.Views.{any-filter_same}
 use Rattle.indexmap.specs.IndexSet.{insert_key}
@@ -108,37 +109,14 @@ pub touched_within : (cores blocks words : ℕ) (items : List Item) → All (IsW
 touched_within cores blocks words items all =
     each_once-all (λ block. block < blocks) (flat_map mentioned items) (mentioned_within cores blocks words items all)
 
--- a step of the loop over the blocks
-pub blocks_step : (words : ℕ) (items : List Item) (blocks : List ℕ) (i : ℕ) (old before after : List ℕ) → i < length blocks → before ≡ old ++ blocks_text words items (take i blocks) →
-    after ≡ before ++ block_text (get_or blocks i 0) (map (flat items (get_or blocks i 0)) (range_with_len 0 words)) → after ≡ old ++ blocks_text words items (take (i + 1) blocks)
-blocks_step words items blocks i old before after within so_far put =
-    let block = get_or blocks i 0 in
-    let line : ℕ → List ℕ = λ b. block_text b (map (flat items b) (range_with_len 0 words)) in
-    let more : flat_map line (take (i + 1) blocks) ≡ flat_map line (take i blocks) ++ (line block ++ []) = ap (flat_map line) (take_more blocks i 0 within) ∙ flat_map-append line (take i blocks) (block ∷ []) in
-    put ∙ (ap (λ (l : List ℕ). l ++ line block) so_far
-    ∙ (append_assoc old (flat_map line (take i blocks)) (line block) ∙ ap (λ (l : List ℕ). old ++ l) (ap (λ (l : List ℕ). flat_map line (take i blocks) ++ l) (sym (append-nil (line block))) ∙ sym more)))
-
--- one number more of a range
-range-more : (a n : ℕ) → range_with_len a (suc n) ≡ range_with_len a n ++ (a + n) ∷ []
-range-more a zero = let same : a + 0 ≡ a = omega arith in rw same refl
-range-more a (suc n) =
-    let next : a + 1 + n ≡ a + suc n = omega arith in
-    ap (λ (l : List ℕ). a ∷ l) (range-more (a + 1) n ∙ ap (λ (k : ℕ). range_with_len (a + 1) n ++ k ∷ []) next)
-
 -- a step of the loop over the words
 pub values_step : (items : List Item) (block word : ℕ) (old before after : List ℕ) (value : ℕ) → before ≡ old ++ values_text (map (flat items block) (range_with_len 0 word)) →
     value ≡ flat items block word → after ≡ before ++ (codes " " ++ decimal value) → after ≡ old ++ values_text (map (flat items block) (range_with_len 0 (word + 1)))
 values_step items block word old before after value so_far is put =
     let f = flat items block in
     let one : ℕ → List ℕ = λ v. codes " " ++ decimal v in
-    let zero_more : 0 + word ≡ word = omega arith in
-    let next : word + 1 ≡ suc word = omega arith in
-    let more : values_text (map f (range_with_len 0 (word + 1))) ≡ values_text (map f (range_with_len 0 word)) ++ (one (f word) ++ []) =
-    ap (λ (l : List ℕ). values_text (map f l)) (ap (range_with_len 0) next ∙ range-more 0 word ∙ ap (λ (k : ℕ). range_with_len 0 word ++ k ∷ []) zero_more)
-    ∙ (ap values_text (map-append f (range_with_len 0 word) (word ∷ [])) ∙ flat_map-append one (map f (range_with_len 0 word)) (f word ∷ [])) in
     put ∙ (ap (λ (l : List ℕ). l ++ one value) so_far ∙ (ap (λ (v : ℕ). (old ++ values_text (map f (range_with_len 0 word))) ++ one v) is
-    ∙ (append_assoc old (values_text (map f (range_with_len 0 word))) (one (f word))
-    ∙ ap (λ (l : List ℕ). old ++ l) (ap (λ (l : List ℕ). values_text (map f (range_with_len 0 word)) ++ l) (sym (append-nil (one (f word)))) ∙ sym more))))
+    ∙ (flat_map_more one old (map f (range_with_len 0 word)) (f word) ∙ ap (λ (l : List ℕ). old ++ values_text l) (sym (map-range_with_len_more f 0 word word (omega arith))))))
 
 -- what holds of the element at each place holds of all
 pub all_places : (P : Item → Type 0) (items : List Item) → ((k : ℕ) (entry : Item) → slice_get items k ≡ Some entry → P entry) → All P items

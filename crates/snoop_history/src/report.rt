@@ -6,88 +6,76 @@ ghost use Rattle.std.specs.List.{range_with_len};
 ghost use Rattle.snoop_trace.specs.Output.{AppendsFront, BlamesWriter};
 ghost use Rattle.snoop_history.specs.History.{flat};
 ghost use Rattle.snoop_history.specs.Totals.{touched};
-ghost use Rattle.snoop_history.specs.Report.{values_text, loads_text, stores_text, requests_text, sources_text, writebacks_text, totals_text, block_text, blocks_text, report_of};
+ghost use Rattle.snoop_history.specs.Report.{values_text, totals_text, block_text, blocks_text, report_of};
 
 use crate::items::Totals;
 use crate::log::Log;
-use snoop_trace::streams::{Sink, push_byte, write_whole};
+use snoop_trace::streams::{Sink, push_byte, push_decimal, push_text, write_whole};
 use snoop_trace::{NoMemory, WriteFault};
 use std::alloc::Global;
-use std::io::Write;
 
-// Appends the line of loads.
-fn push_loads(out: &mut Vec<u8>, totals: Totals) -> Result<(), NoMemory>
-    ensures { OnOk result (out.new.items ≡ out.old.items ++ loads_text totals) }
+// Appends a name and a count.
+fn push_count(out: &mut Vec<u8>, name: &str, count: u64) -> Result<(), NoMemory>
+    ensures { OnOk result (out.new.items ≡ out.old.items ++ (name.now ++ decimal count)) }
 {
-    writeln!(out, "loads {} hits {}", totals.loads, totals.load_hits).map_err(|_| NoMemory)
+    push_text(out, name)?;
+    push_decimal(out, count)
 }
 
-// Appends the line of stores.
-fn push_stores(out: &mut Vec<u8>, totals: Totals) -> Result<(), NoMemory>
-    ensures { OnOk result (out.new.items ≡ out.old.items ++ stores_text totals) }
+// Appends a line of two names, each with its count.
+fn push_two(
+    out: &mut Vec<u8>,
+    first: &str,
+    one: u64,
+    second: &str,
+    two: u64,
+) -> Result<(), NoMemory>
+    ensures { OnOk result (out.new.items ≡ out.old.items ++ (first.now ++ decimal one ++ second.now ++ decimal two ++ codes "\n")) }
 {
-    writeln!(out, "stores {} hits {}", totals.stores, totals.store_hits).map_err(|_| NoMemory)
+    push_count(out, first, one)?;
+    push_count(out, second, two)?;
+    push_byte(out, b'\n')
 }
 
-// Appends the line of ordered requests.
-fn push_requests(out: &mut Vec<u8>, totals: Totals) -> Result<(), NoMemory>
-    ensures { OnOk result (out.new.items ≡ out.old.items ++ requests_text totals) }
+// Appends a line of three names, each with its count.
+fn push_three(
+    out: &mut Vec<u8>,
+    first: &str,
+    one: u64,
+    second: &str,
+    two: u64,
+    third: &str,
+    three: u64,
+) -> Result<(), NoMemory>
+    ensures { OnOk result (out.new.items ≡ out.old.items ++ (first.now ++ decimal one ++ second.now ++ decimal two ++ third.now ++ decimal three ++ codes "\n")) }
 {
-    writeln!(
-        out,
-        "GetS {} GetM {} PutM {}",
-        totals.get_s, totals.get_m, totals.put_m
-    )
-    .map_err(|_| NoMemory)
-}
-
-// Appends the line of where data came from.
-fn push_sources(out: &mut Vec<u8>, totals: Totals) -> Result<(), NoMemory>
-    ensures { OnOk result (out.new.items ≡ out.old.items ++ sources_text totals) }
-{
-    writeln!(
-        out,
-        "from memory {} from caches {}",
-        totals.from_memory, totals.from_caches
-    )
-    .map_err(|_| NoMemory)
-}
-
-// Appends the line of writebacks.
-fn push_writebacks(out: &mut Vec<u8>, totals: Totals) -> Result<(), NoMemory>
-    ensures { OnOk result (out.new.items ≡ out.old.items ++ writebacks_text totals) }
-{
-    writeln!(
-        out,
-        "writebacks {} clean {} stale {}",
-        totals.writebacks, totals.clean, totals.stale
-    )
-    .map_err(|_| NoMemory)
+    push_count(out, first, one)?;
+    push_two(out, second, two, third, three)
 }
 
 // Appends the five lines of totals.
-fn push_totals(out: &mut Vec<u8>, totals: Totals) -> Result<(), NoMemory>
-    ensures { OnOk result (out.new.items ≡ out.old.items ++ totals_text totals) }
+fn push_totals(out: &mut Vec<u8>, t: Totals) -> Result<(), NoMemory>
+    ensures { OnOk result (out.new.items ≡ out.old.items ++ totals_text t) }
 {
-    push_loads(out, totals)?;
-    push_stores(out, totals)?;
-    push_requests(out, totals)?;
-    push_sources(out, totals)?;
-    push_writebacks(out, totals)
-}
-
-// Appends how the line of a block begins.
-fn push_head(out: &mut Vec<u8>, block: u32) -> Result<(), NoMemory>
-    ensures { OnOk result (out.new.items ≡ out.old.items ++ (codes "block " ++ decimal block ++ codes " value")) }
-{
-    write!(out, "block {block} value").map_err(|_| NoMemory)
-}
-
-// Appends a value, a space before it.
-fn push_value(out: &mut Vec<u8>, value: u64) -> Result<(), NoMemory>
-    ensures { OnOk result (out.new.items ≡ out.old.items ++ (codes " " ++ decimal value)) }
-{
-    write!(out, " {value}").map_err(|_| NoMemory)
+    push_two(out, "loads ", t.loads, " hits ", t.load_hits)?;
+    push_two(out, "stores ", t.stores, " hits ", t.store_hits)?;
+    push_three(out, "GetS ", t.get_s, " GetM ", t.get_m, " PutM ", t.put_m)?;
+    push_two(
+        out,
+        "from memory ",
+        t.from_memory,
+        " from caches ",
+        t.from_caches,
+    )?;
+    push_three(
+        out,
+        "writebacks ",
+        t.writebacks,
+        " clean ",
+        t.clean,
+        " stale ",
+        t.stale,
+    )
 }
 
 // Appends the values of a block's words.
@@ -96,7 +84,7 @@ fn push_values(out: &mut Vec<u8>, log: &Log, block: u32) -> Result<(), NoMemory>
     ensures { OnOk result (out.new.items ≡ out.old.items ++ values_text (map (flat log.now.items block) (range_with_len 0 log.now.words))) }
 {
     for word in 0..log.words() {
-        push_value(out, log.flat(block, word).unwrap())?;
+        push_count(out, " ", log.flat(block, word).unwrap())?;
     }
     Ok(())
 }
@@ -106,7 +94,8 @@ fn push_block(out: &mut Vec<u8>, log: &Log, block: u32) -> Result<(), NoMemory>
     requires { block < log.now.blocks }
     ensures { OnOk result (out.new.items ≡ out.old.items ++ block_text block (map (flat log.now.items block) (range_with_len 0 log.now.words))) }
 {
-    push_head(out, block)?;
+    push_count(out, "block ", block as u64)?;
+    push_text(out, " value")?;
     push_values(out, log, block)?;
     push_byte(out, b'\n')
 }

@@ -1,8 +1,8 @@
 -- The fewest cores and blocks with which a text is taken that has no other faults.
 use Rattle.std.proofs.Common.{◌≡◌, ℕ, ◌+◌, ◌<◌, ◌≤◌, ◌==◌, ◌++◌, List, [], ◌∷◌, Option, Some, None, true, false, refl, sym, ◌∙◌, arith, inl, inr}
-use Rattle.std.specs.Prelude.{◌&&◌, ◌||◌, not, Bool, fold, max, nat_lt, option_map, option_to_list, ⊤}
+use Rattle.std.specs.Prelude.{◌&&◌, not, Bool, fold, max, nat_lt, option_map, option_to_list, ⊤}
 use Rattle.std.specs.List.{list_any}
-use Rattle.std.proofs.lemmas.Bool.{false≢true}
+use Rattle.std.proofs.lemmas.Bool.{false≢true, or_parts}
 use Rattle.std.proofs.lemmas.Bool.Decides.{nat_tests}
 use Rattle.std.proofs.lemmas.List.Folds.{list_any-append}
 use Rattle.snoop_trace.specs.Extent.{Extent}
@@ -66,15 +66,11 @@ fits_cons n row None [] P Q p q = (p, q)
 fits_cons n row None (f ∷ rest) P Q p q = λ all. q all.1
 fits_cons n row (Some f) rest P Q p q = λ all. p all.0
 
-or_falses : (a b : Bool) → (a || b) ≡ false → (a ≡ false) × (b ≡ false)
-or_falses true b e = absurd (false≢true (sym e))
-or_falses false b e = (refl, e)
-
 -- none is beyond the limits: not the first, and none after it
 none_beyond : (n : ℕ) (row : Fields) (o : Option TextFault) (rest : List Finding) → list_any is_beyond (option_to_list (found_at n row o) ++ rest) ≡ false
     → (list_any is_beyond (option_to_list (found_at n row o)) ≡ false) × (list_any is_beyond rest ≡ false)
 none_beyond n row o rest e =
-    or_falses (list_any is_beyond (option_to_list (found_at n row o))) (list_any is_beyond rest) (sym (list_any-append is_beyond (option_to_list (found_at n row o)) rest) ∙ e)
+    or_parts (list_any is_beyond (option_to_list (found_at n row o))) (list_any is_beyond rest) (sym (list_any-append is_beyond (option_to_list (found_at n row o)) rest) ∙ e)
 
 contradicts : (n : ℕ) (row : Fields) (o : Option TextFault) (fault : TextFault) → o ≡ Some fault → is_limit fault ≡ false
     → list_any is_beyond (option_to_list (found_at n row o)) ≡ false → ⊥

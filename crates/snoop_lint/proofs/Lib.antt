@@ -1,4 +1,4 @@
-pub mod PieceLemmas
+pub mod MarkLemmas
 pub mod FindingLemmas
 pub mod TallyLemmas
 pub mod LookedLemmas

@@ -1,7 +1,9 @@
 -- How many lines each core's map has after a step, or after the room for it was made.
-use Rattle.std.proofs.Common.{◌≡◌, ◌≢◌, ℕ, ◌+◌, sym, ◌∙◌, ap, subst, arith, inl, inr, ◌⊎◌, refl, Option}
+use Rattle.std.proofs.Common.{◌≡◌, ◌≢◌, ℕ, ◌+◌, ◌<◌, length, sym, ◌∙◌, ap, subst, arith, inl, inr, ◌⊎◌, refl, Option}
 use Rattle.std.proofs.lemmas.Bool.{cases_eq}
 use Rattle.std.proofs.lemmas.List.{get_or-set_other}
+use Rattle.std.specs.Prelude.{slice_index}
+use Rattle.snoop_bus.specs.Queues.{queue_of}
 use Rattle.snoop_trace.specs.declared.step.Step.{Step}
 use Rattle.snoop_trace.specs.declared.step.Step.TheVariants as step
 use Rattle.snoop_rules.specs.declared.names.CacheState.TheVariants.{I}
@@ -11,7 +13,7 @@ use Rattle.snoop_model.specs.declared.replies.Reply.{Reply}
 use Rattle.snoop_model.specs.Pictures.Picture.{Picture, held_by, with_line}
 use Rattle.snoop_model.specs.Pictures.Situation.{Situation, picture_of, state_of, nothing_there}
 use Rattle.snoop_model.specs.Moves.Move.{FirstMove}
-use Rattle.snoop_model.specs.Moves.Standing.{Standing, line_count}
+use Rattle.snoop_model.specs.Moves.Standing.{Standing, KeepsRoom, line_count}
 use Rattle.snoop_model.specs.Moves.Holding.{NeedsLine, MovesToI, HoldsOn}
 use Rattle.snoop_model.proofs.Tables.EvictInI.{no_row}
 use Rattle.snoop_machine.specs.declared.ask.Asked.TheVariants.{Absent, Hit, Issue, Drop}
@@ -93,4 +95,27 @@ HoldsOn-taken old middle new taking x core answer entry h unchanged adds loses m
       same = λ stays still.
           let same = still_in still in
           elim all [ inl none ↦ omega arith | inr more ↦ absurd (stays more.0) ];
+    }
+
+-- and of the room as much is there as before, but for what was put in
+pub KeepsRoom-taken : (old middle new : Standing) (taking : Step) (x : Plan) (answer : Reply) (entry : Option Item) → IsPlanFor old.situation taking x → middle.situation ≡ old.situation → ((core : ℕ) → AddsLines x old middle core)
+    → ((core : ℕ) → LosesLines middle new core) → FirstMove old.situation taking answer new.situation entry → KeepsRoom old middle → KeepsRoom middle new → KeepsRoom old new
+KeepsRoom-taken old middle new taking x answer entry h unchanged adds loses move made taken =
+    record {
+      items = (let first = made.items in let then = taken.items in omega arith);
+      requests = λ core. (let first = made.requests core in let then = taken.requests core in omega arith);
+      lines = λ core had has.
+          let waits = ap (λ (s : Situation). length (queue_of s.queues core)) unchanged in
+          let capacity = made.requests core in
+          let some : 0 < slice_index middle.rooms core = omega arith in
+          let first = made.lines core had some in
+          let then = taken.lines core some has in
+          elim (adds_step old middle taking x core h (adds core)) [
+            | inl none ↦ omega arith
+            | inr more ↦
+                let one = more.1 in
+                let still = stays_out old new.situation taking core answer entry move more.0 in
+                let same = (loses core).same (λ moved. still (moved.0, (subst (λ (s : Situation). state_of s core moved.0 ≢ I) unchanged moved.1.0, moved.1.1))) in
+                omega arith
+          ];
     }

@@ -1,19 +1,37 @@
 -- One map was given another line of one block, and the holders have followed.
-use Rattle.std.proofs.Common.{◌≡◌, ◌≢◌, ℕ, ◌+◌, ◌<◌, Bool, false, Option, None, List, [], length, sym, ◌∙◌, ap, arith, inl, inr, ◌⊎◌}
+use Rattle.std.proofs.Common.{◌≡◌, ◌≢◌, ℕ, ◌+◌, ◌<◌, Bool, false, Option, None, List, [], length, sym, ◌∙◌, ap, subst, arith, inl, inr, ◌⊎◌}
 use Rattle.std.specs.Prelude.{slice_index_or, slice_set, nat_eq, map, is_some}
 use Rattle.std.specs.Map.{lookup}
+use Rattle.std.proofs.lemmas.Bool.{cases_eq}
 use Rattle.std.proofs.lemmas.List.{length-map, length-set, get_or-set_same, get_or-set_other}
-use Rattle.snoop_rules.specs.declared.names.CacheState.{CacheState}
 use Rattle.snoop_rules.specs.declared.names.CacheState.TheVariants.{I}
 use Rattle.snoop_machine.specs.declared.holders.Holders.{Holders}
 use Rattle.snoop_model.specs.Pictures.Lines.{Line}
 use Rattle.snoop_model.specs.Pictures.Sound.{IsProper}
 use Rattle.snoop_machine.specs.Holders.{HaveFollowed}
-use Rattle.snoop_machine.specs.Cache.{Contents, no_cache, line_of, line_in, blocks_of}
-use Rattle.snoop_machine.specs.Lines.{Held, AreLines, held, rows_of, gone, line_at, is_among}
-use Rattle.snoop_machine.proofs.MapRows.{rows-set, blocks-at, blocks-same, count-same, length-blocks_of, among-lookup}
-use Rattle.snoop_machine.proofs.LineMaps.{blocks_seen, maps-long, gone-none, gone-one, is_I}
+use Rattle.snoop_machine.specs.Cache.{Contents, no_cache, line_of, line_in, blocks_of, KeepsSpare}
+use Rattle.snoop_machine.specs.Lines.{Held, AreLines, KeepsSpares, held, rows_of, gone, line_at, is_among}
+use Rattle.snoop_machine.proofs.MapRows.{rows-set, blocks-at, spare-at, blocks-same, count-same, length-blocks_of, among-lookup}
+use Rattle.snoop_machine.proofs.LineMaps.{blocks_seen, spare_seen, maps-long, gone-none, gone-one, is_I}
 use Rattle.snoop_machine.proofs.LineParts.{AreLines-followed}
+
+-- one map that keeps its room for lines leaves that of all cores
+pub spares_kept : (caches : List Contents) (holders : List Holders) (now : Held) (view : held caches holders ≡ now) (core : ℕ) (new : Contents) (after : List Holders) → core < length caches
+    → KeepsSpare (slice_index_or caches core no_cache) new → KeepsSpares now (held (slice_set caches core new) after)
+spares_kept caches holders now view core new after within kept k =
+    let maps = slice_set caches core new in
+    let room = spare-at maps k in
+    let had_room = spare_seen caches holders now view k in
+    let lines = ap (λ (blocks : List ℕ). length blocks) (blocks-at maps k) ∙ length-blocks_of (slice_index_or maps k no_cache) in
+    let had_lines = sym (length-blocks_of (slice_index_or caches k no_cache)) ∙ ap (λ (blocks : List ℕ). length blocks) (blocks_seen caches holders now view k) in
+    let K : ℕ → Type 0 = λ j. KeepsSpare (slice_index_or caches j no_cache) (slice_index_or maps j no_cache) in
+    let L : Contents → Type 0 = λ cache. KeepsSpare (slice_index_or caches core no_cache) cache in
+    let M : Contents → Type 0 = λ cache. KeepsSpare (slice_index_or caches k no_cache) cache in
+    let each : K k = elim (cases_eq k core) [
+      | inl e ↦ subst K (sym e) (subst L (sym (get_or-set_same caches core new no_cache within)) kept)
+      | inr ne ↦ (let same : KeepsSpare (slice_index_or caches k no_cache) (slice_index_or caches k no_cache) = omega arith in subst M (sym (get_or-set_other caches core k new no_cache ne)) same)
+    ] in
+    omega (arith, each, room, had_room, lines, had_lines)
 
 -- the core's map `old` was given this line of the block, and is `new` now
 pub record HasWritten (caches : List Contents) (holders : List Holders) (core block : ℕ) (line : Line) (old new : Contents) (after : List Holders) : Type 0 where
@@ -23,9 +41,8 @@ pub record HasWritten (caches : List Contents) (holders : List Holders) (core bl
   pub proper : IsProper line
   pub here : line_in new block ≡ line
   pub others : (b : ℕ) → nat_eq block b ≡ false → lookup (nat_eq b) new.entries ≡ lookup (nat_eq b) old.entries
-  pub before : CacheState
-  pub was : before ≡ (line_in old block).state
-  pub followed : HaveFollowed core block before line.state holders after
+  pub followed : HaveFollowed core block line.state holders after
+  pub room : KeepsSpare old new
 
 module _ {caches : List Contents} {holders : List Holders} {core block : ℕ} {line : Line} {old new : Contents} {after : List Holders} (wrote : HasWritten caches holders core block line old new after)
     (now : Held) (view : held caches holders ≡ now) where
@@ -37,8 +54,7 @@ module _ {caches : List Contents} {holders : List Holders} {core block : ℕ} {l
 
   pub lines_after : AreLines caches holders → AreLines (slice_set caches core new) after
   lines_after lines =
-      AreLines-followed caches holders lines core new wrote.in_cores block line wrote.before after wrote.in_blocks wrote.proper wrote.here elsewhere
-      (wrote.was ∙ ap (λ (cache : Contents). (line_in cache block).state) wrote.read) wrote.followed
+      AreLines-followed caches holders lines core new wrote.in_cores block line after wrote.in_blocks wrote.proper wrote.here elsewhere wrote.followed
 
   pub rows_wrote : rows_of (length after) (slice_set caches core new) ≡ slice_set now.rows block (slice_set (slice_index_or now.rows block []) core line)
   rows_wrote =
@@ -51,6 +67,10 @@ module _ {caches : List Contents} {holders : List Holders} {core block : ℕ} {l
 
   pub others_kept : (k : ℕ) → k ≢ core → slice_index_or (map blocks_of (slice_set caches core new)) k [] ≡ slice_index_or now.lines k []
   others_kept k ne = blocks-at (slice_set caches core new) k ∙ (ap blocks_of (get_or-set_other caches core k new no_cache ne) ∙ blocks_seen caches holders now view k)
+
+  -- the room for lines is kept
+  pub room_kept : KeepsSpares now (held (slice_set caches core new) after)
+  room_kept = spares_kept caches holders now view core new after wrote.in_cores (subst (λ (cache : Contents). KeepsSpare cache new) wrote.read wrote.room)
 
   -- the same blocks have lines
   pub lines_stay : blocks_of new ≡ blocks_of old → map blocks_of (slice_set caches core new) ≡ now.lines

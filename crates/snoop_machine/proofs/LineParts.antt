@@ -9,7 +9,7 @@ use Rattle.snoop_model.specs.Pictures.Picture.{held_at}
 use Rattle.snoop_model.specs.Pictures.Sound.{IsProper, keeps}
 use Rattle.snoop_model.specs.Invariant.Fits.{is_owner}
 use Rattle.snoop_machine.specs.declared.holders.Holders.{Holders}
-use Rattle.snoop_machine.specs.Holders.{AreHolders, HaveMoved, HaveFollowed, no_holders}
+use Rattle.snoop_machine.specs.Holders.{AreHolders, HaveMoved, HaveFollowed, StandsAs, no_holders}
 use Rattle.snoop_machine.specs.Cache.{Contents, no_cache, line_in, row_in}
 use Rattle.snoop_machine.specs.Lines.{AreLines}
 use Rattle.snoop_machine.proofs.MapRows.{line-row, row-same, row-set, length-row, AreHolders-moved}
@@ -65,21 +65,25 @@ module _ (caches : List Contents) (holders : List Holders) (lines : AreLines cac
       }
 
   -- the new map has another line of one block, and the holders have followed
-  pub AreLines-followed : (block : ℕ) (line : Line) (before : CacheState) (after : List Holders) → block < length holders → IsProper line → line_in new block ≡ line
+  pub AreLines-followed : (block : ℕ) (line : Line) (after : List Holders) → block < length holders → IsProper line → line_in new block ≡ line
       → ((b : ℕ) → nat_eq block b ≡ false → line_in new b ≡ line_in (slice_index_or caches core no_cache) b)
-      → before ≡ (line_in (slice_index_or caches core no_cache) block).state
-      → HaveFollowed core block before line.state holders after
+      → HaveFollowed core block line.state holders after
       → AreLines (slice_set caches core new) after
-  AreLines-followed block line before after in_blocks proper wrote others was followed =
-      let sets = lines.indexed block in_blocks in
-      let stood : (held_at (row_in caches block) core).state ≡ before = ap (λ (x : Line). x.state) (line-row caches core block) ∙ sym was in
-      subst (λ (l : List Holders). AreLines (slice_set caches core new) l) (sym followed.set)
-      (AreLines-set block line followed.moved in_blocks proper wrote others (followed.follows (sets.owners core ∙ ap is_owner stood, sets.readers core ∙ ap keeps stood)))
+  AreLines-followed block line after in_blocks proper wrote others followed =
+      subst (λ (l : List Holders). AreLines (slice_set caches core new) l) (sym followed.set) (AreLines-set block line followed.moved in_blocks proper wrote others followed.follows)
+
+-- the holders of a block have each core as its line says
+pub stands : (caches : List Contents) (holders : List Holders) → AreLines caches holders → (core block : ℕ) → block < length holders → (old : Contents) → old ≡ slice_index_or caches core no_cache
+    → (before : CacheState) → before ≡ (line_in old block).state → StandsAs core before (slice_index_or holders block no_holders)
+stands caches holders lines core block in_blocks old read before was =
+    let sets = lines.indexed block in_blocks in
+    let stood : (held_at (row_in caches block) core).state ≡ before = ap (λ (x : Line). x.state) (line-row caches core block) ∙ sym (was ∙ ap (λ (cache : Contents). (line_in cache block).state) read) in
+    (sets.owners core ∙ ap is_owner stood, sets.readers core ∙ ap keeps stood)
 
 -- the holders follow a core that stays
-pub followed-still : (core block : ℕ) (state : CacheState) (holders : List Holders) → HaveFollowed core block state state holders holders
-followed-still core block state holders = record {
+pub followed-still : (core block : ℕ) (state : CacheState) (holders : List Holders) → StandsAs core state (slice_index_or holders block no_holders) → HaveFollowed core block state holders holders
+followed-still core block state holders stands = record {
   moved = slice_index_or holders block no_holders;
   set = sym (set-get_or holders block no_holders);
-  follows = λ stands. record { owner = stands.0; reader = stands.1; other_owners = λ k ne. refl; other_readers = λ k ne. refl };
+  follows = record { owner = stands.0; reader = stands.1; other_owners = λ k ne. refl; other_readers = λ k ne. refl };
 }

@@ -1,16 +1,30 @@
 -- Lines that go where cores move to I.
-use Rattle.std.proofs.Common.{◌≡◌, ◌≢◌, ℕ, ◌+◌, ◌<◌, List, [], length, sym, ◌∙◌, ap, subst, arith, inl, inr}
+use Rattle.std.proofs.Common.{◌≡◌, ◌≢◌, ℕ, ◌+◌, ◌<◌, ◌≤◌, List, [], length, sym, ◌∙◌, ap, subst, arith, inl, inr}
 use Rattle.std.specs.Prelude.{slice_index_or, slice_set}
 use Rattle.std.proofs.lemmas.Bool.{cases_eq}
 use Rattle.std.proofs.lemmas.List.{get_or-set_same, get_or-set_other}
 use Rattle.snoop_model.specs.Pictures.Lines.{Line}
 use Rattle.snoop_model.specs.Pictures.Picture.{held_at, nothing_held}
-use Rattle.snoop_machine.specs.Lines.{Held, LinesGo, gone, row_of, line_at}
+use Rattle.snoop_machine.specs.Lines.{Held, KeepsSpares, LinesGo, gone, row_of, line_at}
 use Rattle.snoop_machine.proofs.LineMaps.{gone-same}
 
 -- no line has gone yet
 pub LinesGo-none : (block : ℕ) (held : Held) → LinesGo block held held
 LinesGo-none block held core = let none = gone-same (line_at held.rows core block).state in omega arith
+
+-- lines have gone, and of one core more may go: the room for lines is kept
+pub KeepsSpares-more : (block core : ℕ) (first old new : Held) → LinesGo block first old → KeepsSpares first old → length (slice_index_or new.lines core []) ≤ length (slice_index_or old.lines core [])
+    → ((k : ℕ) → k ≢ core → slice_index_or new.lines k [] ≡ slice_index_or old.lines k []) → KeepsSpares old new → KeepsSpares first new
+KeepsSpares-more block core first old new went kept fewer others keeps k =
+    let had = went k in
+    let before = kept k in
+    let after = keeps k in
+    let P : ℕ → Type 0 = λ j. length (slice_index_or new.lines j []) ≤ length (slice_index_or old.lines j []) in
+    let no_more : P k = elim (cases_eq k core) [
+      | inl e ↦ subst P (sym e) fewer
+      | inr ne ↦ (let same = ap (λ (blocks : List ℕ). length blocks) (others k ne) in omega arith)
+    ] in
+    omega arith
 
 -- a core that has not moved yet moves
 module _ (block : ℕ) (first old new : Held) (core : ℕ) (line : Line) (in_blocks : block < length old.rows) (in_row : core < length (row_of old.rows block))

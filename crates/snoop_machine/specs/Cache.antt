@@ -1,10 +1,10 @@
 -- The lines of one core, as its map keeps them.
 -- Source: this project's profile.
-use Rattle.std.specs.Prelude.{ℕ, ◌<◌, List, [], Option, Some, None, ⊤, unwrap_or, option_map, nat_eq, map, slice_set}
+use Rattle.std.specs.Prelude.{ℕ, ◌+◌, ◌-◌, ◌<◌, ◌≤◌, List, [], Option, Some, None, ⊤, length, unwrap_or, option_map, nat_eq, map, slice_set}
 use Rattle.std.specs.Map.{lookup, keys_of}
 use Rattle.snoop_model.specs.Pictures.Lines.{Line}
 use Rattle.snoop_model.specs.Pictures.Picture.{nothing_held, kept_on}
-use Rattle.snoop_model.specs.declared.line.Access.{Access}
+use Rattle.snoop_model.specs.declared.access.Access.{Access}
 use Rattle.snoop_trace.specs.Words.{Data}
 use Rattle.snoop_trace.specs.declared.step.Op.{Op}
 use Rattle.snoop_trace.specs.declared.step.Op.TheVariants as op
@@ -20,6 +20,10 @@ pub record Contents : Type 0 where
 -- what stands for the map of a core that there isn't
 abbrev pub no_cache : Contents
 no_cache = record { entries = []; spare = 0 }
+
+-- of the room for lines no more goes than lines were put in
+abbrev pub KeepsSpare : Contents → Contents → Type 0
+KeepsSpare old new = old.spare ≤ new.spare + (length new.entries - length old.entries)
 
 -- the line that a map has, or that of a block of which the cache holds nothing
 abbrev pub line_of : Option Line → Line

@@ -41,8 +41,8 @@ no_holders = record { owners = []; readers = [] }
 abbrev pub StandsAs : ℕ → CacheState → Holders → Type 0
 StandsAs core state holders = (has holders.owners core ≡ is_owner state) × (has holders.readers core ≡ keeps state)
 
--- the holders of one block, where the core stood as in the first state, have it as in the second, and nothing else has changed
-pub record HaveFollowed (core block : ℕ) (before after : CacheState) (old new : List Holders) : Type 0 where
+-- the holders of one block have the core as one in this state, and nothing else has changed
+pub record HaveFollowed (core block : ℕ) (after : CacheState) (old new : List Holders) : Type 0 where
   pub moved : Holders
   pub set : new ≡ slice_set old block moved
-  pub follows : StandsAs core before (slice_index_or old block no_holders) → HaveMoved core after (slice_index_or old block no_holders) moved
+  pub follows : HaveMoved core after (slice_index_or old block no_holders) moved

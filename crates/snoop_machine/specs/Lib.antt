@@ -1,6 +1,5 @@
 pub mod Cache
 pub mod Asked
-pub mod Sender
 pub mod Plan
 pub mod Memory
 pub mod PartsView

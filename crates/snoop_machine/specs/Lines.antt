@@ -1,6 +1,6 @@
 -- The lines of all caches.
 -- Source: this project's profile.
-use Rattle.std.specs.Prelude.{◌≡◌, ◌≢◌, ℕ, ◌+◌, ◌<◌, Bool, true, false, List, [], length, map, nat_eq, slice_index_or, slice_set, ◌⊎◌, if◌then◌else◌}
+use Rattle.std.specs.Prelude.{◌≡◌, ◌≢◌, ℕ, ◌+◌, ◌-◌, ◌<◌, ◌≤◌, Bool, true, false, List, [], length, map, nat_eq, slice_index_or, slice_set, ◌⊎◌, if◌then◌else◌}
 use Rattle.std.specs.List.{range_with_len, list_any}
 use Rattle.snoop_rules.specs.declared.names.CacheState.{CacheState}
 use Rattle.snoop_rules.specs.declared.names.CacheState.TheVariants.{I}
@@ -43,6 +43,10 @@ held caches holders =
       spares = map (λ cache. cache.spare) caches;
     }
 
+-- of the room for each core's lines no more goes than lines were put in
+abbrev pub KeepsSpares : Held → Held → Type 0
+KeepsSpares old new = (core : ℕ) → slice_index_or old.spares core 0 ≤ slice_index_or new.spares core 0 + (length (slice_index_or new.lines core []) - length (slice_index_or old.lines core []))
+
 -- there are 256 cores at most, each line is proper, and the holders of each block are those of its lines
 pub record AreLines (caches : List Contents) (holders : List Holders) : Type 0 where
   pub few : length caches < 257
@@ -83,3 +87,4 @@ pub record TookRow (protocol : Protocol) (event : CacheEvent) (core block : ℕ)
   pub many : length new.lines ≡ length old.lines
   pub lines : length (slice_index_or new.lines core []) + gone (line_at old.rows core block).state next ≡ length (slice_index_or old.lines core [])
   pub others : (k : ℕ) → k ≢ core → slice_index_or new.lines k [] ≡ slice_index_or old.lines k []
+  pub room : KeepsSpares old new

@@ -1,6 +1,6 @@
 -- What is seen of a machine's parts, and what holds between them.
 -- Source: this project's profile.
-use Rattle.std.specs.Prelude.{◌≡◌, ◌≢◌, ◌<◌, ◌≤◌, ℕ, min, length, List, [], ◌∷◌, map, Contains, Option, Some, slice_index_or}
+use Rattle.std.specs.Prelude.{◌≡◌, ◌≢◌, ◌<◌, ◌≤◌, ℕ, zero, suc, length, List, [], ◌∷◌, map, Contains, Option, Some, slice_index_or}
 use Rattle.snoop_trace.specs.Extent.{Extent}
 use Rattle.snoop_trace.specs.declared.protocol.Protocol.{Protocol}
 use Rattle.snoop_rules.specs.declared.names.Request.{Request}
@@ -41,10 +41,15 @@ pictures_of (row ∷ rows) (memory ∷ memories) (transaction ∷ transactions) 
     record { caches = row; memory = memory; transaction = transaction } ∷ pictures_of rows memories transactions
 pictures_of _ _ _ = []
 
--- for how many more requests that need a line there is room: the queue needs a place for each, and the map too
-abbrev pub places_of : List Waiting → List ℕ → List ℕ
-places_of (queue ∷ queues) (spare ∷ spares) = min queue.room spare ∷ places_of queues spares
-places_of _ _ = []
+-- for how many more lines a map has room, as callers see it: none where its core's queue has no room, since there a request that is refused may have let the map grow
+abbrev pub shown_spare : ℕ → ℕ → ℕ
+shown_spare zero spare = 0
+shown_spare (suc room) spare = spare
+
+-- that of each core
+abbrev pub shown_spares : List Waiting → List ℕ → List ℕ
+shown_spares (queue ∷ queues) (spare ∷ spares) = shown_spare queue.room spare ∷ shown_spares queues spares
+shown_spares _ _ = []
 
 -- the view of the parts
 abbrev pub standing : Fields → Standing
@@ -58,7 +63,7 @@ standing m =
         log = m.log.items;
       };
       rooms = map (λ queue. queue.room) m.bus.queues;
-      places = places_of m.bus.queues m.lines.spares;
+      spares = shown_spares m.bus.queues m.lines.spares;
       room = m.log.room;
       lines = m.lines.lines;
     }

@@ -1,6 +1,6 @@
 -- What a step will do, found before anything changes: a plan, the room that it needs, and the item that it adds.
 -- Source: this project's profile.
-use Rattle.std.specs.Prelude.{◌≡◌, ◌≢◌, ℕ, ◌<◌, true, false, List, Option, Some, None, IfSome, option_map, slice_index, ⊤}
+use Rattle.std.specs.Prelude.{◌≡◌, ◌≢◌, ℕ, ◌<◌, true, false, List, length, Option, Some, None, IfSome, option_map, slice_index, ⊤}
 use Rattle.std.specs.Option.{ForSome}
 use Rattle.snoop_trace.specs.Words.{HasWord, IsWord}
 use Rattle.snoop_trace.specs.declared.step.Op.{Op}
@@ -11,7 +11,7 @@ use Rattle.snoop_rules.specs.declared.names.MemCell.{MemCell}
 use Rattle.snoop_rules.specs.declared.names.Payload.{Payload}
 use Rattle.snoop_rules.specs.declared.names.Request.{Request}
 use Rattle.snoop_rules.specs.declared.names.Request.TheVariants.{PutM}
-use Rattle.snoop_rules.specs.Takers.{at_memory}
+use Rattle.snoop_rules.specs.Takers.{at_memory, seen_by}
 use Rattle.snoop_history.specs.declared.items.Came.{Came}
 use Rattle.snoop_history.specs.declared.items.Item.{Item}
 use Rattle.snoop_history.specs.declared.items.Item.TheVariants as item
@@ -20,14 +20,15 @@ use Rattle.snoop_machine.specs.declared.plan.Plan.{Plan}
 use Rattle.snoop_machine.specs.declared.plan.Plan.TheVariants.{Ask, Order, Writeback, Fill}
 use Rattle.snoop_model.specs.Moves.Standing.{Standing, has_line}
 use Rattle.snoop_model.specs.Moves.Prepared.{room_to_issue}
-use Rattle.snoop_model.specs.Pictures.Situation.{Situation, picture_of}
+use Rattle.snoop_model.specs.Pictures.Situation.{Situation, picture_of, state_of}
 use Rattle.snoop_model.specs.Pictures.Picture.{held_by}
+use Rattle.snoop_model.specs.Pictures.Sends.{IsOnlySender}
 use Rattle.snoop_model.specs.Pictures.Sound.{IsProper}
+use Rattle.snoop_model.specs.Moves.LookUps.{HasRow}
 use Rattle.snoop_model.specs.Moves.Move.{Fills, Settles, IsWithin, TakesMemRow, came_of, next_did}
 use Rattle.snoop_machine.specs.declared.ask.Asked.{Asked}
 use Rattle.snoop_machine.specs.Cache.{filled_line}
 use Rattle.snoop_machine.specs.Asked.{TakesAsk}
-use Rattle.snoop_machine.specs.Sender.{IsSender}
 use Rattle.snoop_model.specs.Moves.OrderMove.{IsHead}
 
 -- the step that a plan is for
@@ -37,12 +38,13 @@ step_of (Order core request block from payload memory) = step.Order core
 step_of (Writeback came memory) = step.Respond came.block
 step_of (Fill came memory filled) = step.Respond came.block
 
--- the core's oldest request can be ordered, with this sender and payload, and leads memory to this state
+-- the core's oldest request can be ordered: each core has a row for it, it has this sender and payload, and leads memory to this state
 pub record CanBeOrdered (s : Situation) (core : ℕ) (request : Request) (block : ℕ) (from : Option ℕ) (payload : Payload) (memory : MemState) : Type 0 where
   pub head : IsHead s core request block
   pub free : (picture_of s block).transaction ≡ None
   pub memory_row : TakesMemRow s.protocol (at_memory request) (picture_of s block).memory.state memory
-  pub sent : IsSender s.protocol (picture_of s block) core request from payload
+  pub rows : (k : ℕ) → k < length (picture_of s block).caches → HasRow s.protocol (state_of s k block) (seen_by k core request)
+  pub sender : IsOnlySender s.protocol (picture_of s block) core request from payload
 
 -- the block's open transaction brings this response, and memory does this with it and moves to this state
 pub record IsClosing (s : Situation) (came : Came) (memory : MemCell) : Type 0 where

@@ -1,9 +1,9 @@
 //! The cores of a block that another's request concerns.
-ghost use Rattle.std.specs.Prelude.{◌≡◌, ◌≢◌, ◌↔◌, ℕ, ◌<◌, true, false, length, IsTrue};
+ghost use Rattle.std.specs.Prelude.{◌≡◌, ◌≢◌, ◌↔◌, ℕ, ◌<◌, true, false, length, slice_index_or, IsTrue};
 ghost use Rattle.snoop_model.specs.Pictures.Sound.{keeps};
 ghost use Rattle.snoop_model.specs.Invariant.Fits.{is_owner};
 ghost use Rattle.snoop_blocks.specs.CoreSet.{has};
-ghost use Rattle.snoop_machine.specs.Holders.{is_concerned, HaveFollowed, HaveMoved};
+ghost use Rattle.snoop_machine.specs.Holders.{is_concerned, no_holders, HaveFollowed, HaveMoved, StandsAs};
 
 use snoop_blocks::{BlockTable, CoreSet};
 use snoop_rules::{CacheState, Request};
@@ -65,7 +65,8 @@ pub(crate) fn follow(
 )
     requires core { core < 256 }
     requires block { block < length holders.old }
-    ensures { HaveFollowed core block before after holders.old holders.new }
+    requires stands { StandsAs core before (slice_index_or holders.old block no_holders) }
+    ensures { HaveFollowed core block after holders.old holders.new }
 {
     if are_alike(before, after) {
         return;

@@ -4,14 +4,13 @@ ghost use Rattle.snoop_rules.specs.Waits.{waiting_request};
 ghost use Rattle.snoop_rules.specs.declared.names.MemAction.TheVariants.{Send};
 ghost use Rattle.snoop_rules.specs.declared.names.Payload.{Payload};
 ghost use Rattle.snoop_rules.specs.Takers.{at_memory, seen_by};
-ghost use Rattle.snoop_model.specs.Pictures.Picture.{held_at};
+ghost use Rattle.snoop_model.specs.Pictures.Picture.{free_picture, held_at};
+ghost use Rattle.snoop_model.specs.Pictures.Sends.{IsOnlySender};
 ghost use Rattle.snoop_model.specs.Moves.LookUps.{HasRow};
 ghost use Rattle.snoop_model.specs.Moves.SenderTable.{FollowsSenderTable};
-ghost use Rattle.snoop_model.specs.Pictures.Message.{free_picture};
 ghost use Rattle.snoop_model.specs.Moves.Move.{TakesMemRow, TakesRows};
-ghost use Rattle.snoop_machine.specs.Lines.{LinesGo};
+ghost use Rattle.snoop_machine.specs.Lines.{LinesGo, KeepsSpares};
 ghost use Rattle.snoop_machine.specs.PartsView.{no_memory};
-ghost use Rattle.snoop_machine.specs.Sender.{IsSender};
 
 use crate::lines::Lines;
 use crate::memory::Memory;
@@ -37,6 +36,7 @@ impl<B: Block> Lines<B> {
         ensures others { self.new.rows ≡ slice_set self.old.rows block (slice_index_or self.new.rows block []) }
         ensures many { length self.new.lines ≡ length self.old.lines }
         ensures lines { LinesGo block self.old self.new }
+        ensures room { KeepsSpares self.old self.new }
     {
         let concerned = self.concerned(block, requestor, request);
         let mut from = 0;
@@ -81,7 +81,7 @@ impl<B: Block> Lines<B> {
         requires waits { waiting_request (held_at (slice_index_or self.now.rows block []) requestor).state ≡ Some request }
         requires rows { (k : ℕ) → k < length (slice_index_or self.now.rows block []) → HasRow protocol (held_at (slice_index_or self.now.rows block []) k).state (seen_by k requestor request) }
         requires line { FollowsSenderTable protocol (free_picture (slice_index_or self.now.rows block []) (slice_index_or memory.now block no_memory)) requestor request }
-        ensures sender { IsSender protocol (free_picture (slice_index_or self.now.rows block []) (slice_index_or memory.now block no_memory)) requestor request result.from result.payload }
+        ensures sender { IsOnlySender protocol (free_picture (slice_index_or self.now.rows block []) (slice_index_or memory.now block no_memory)) requestor request result.from result.payload }
         ensures memory { TakesMemRow protocol (at_memory request) (slice_index_or memory.now block no_memory).state result.memory }
     {
         let Some(row) = mem_cell(protocol, memory.state(block), event_at_memory(request)) else {

@@ -265,9 +265,9 @@ impl<B: Block> Parts<B> {
 
     /// The block's open transaction.
     #[inline(always)]
-    fn transaction(&self, block: u32) -> Option<Open<Kept<B>>>
-        ensures value { result ≡ (picture_of self.now.situation block).transaction }
-        ensures within { IfSome result (λ opened. (opened.block ≡ block) × (opened.core < self.now.situation.shape.cores)) }
+    fn transaction(&self, block: u32) -> Option<&Open<Kept<B>>>
+        ensures value { option_copied result ≡ (picture_of self.now.situation block).transaction }
+        ensures within { IfSome (option_copied result) (λ opened. (opened.block ≡ block) × (opened.core < self.now.situation.shape.cores)) }
     {
         self.bus.open(block)
     }

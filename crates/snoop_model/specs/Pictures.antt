@@ -2,7 +2,6 @@
 pub mod Lines
 pub mod Picture
 pub mod Situation
-pub mod Message
 pub mod Sends
 pub mod OneWriter
 pub mod Sound

@@ -2,16 +2,12 @@
 //! the machine is `snoop_machine`.
 #![tactic(auto)]
 
+mod access;
 mod display;
 pub mod laws;
-mod line;
-mod memory;
-mod message;
 mod replies;
 mod turn_rule;
 
-pub use line::{Access, Line};
-pub use memory::MemLine;
-pub use message::Message;
+pub use access::Access;
 pub use replies::{Refused, Reply};
 pub use turn_rule::turns_are_served;

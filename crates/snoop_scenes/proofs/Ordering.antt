@@ -1,9 +1,8 @@
 -- An Order played.
-use Rattle.std.proofs.Common.{◌≡◌, ◌==◌, ℕ, zero, suc, ◌<◌, ◌≤◌, length, Option, Some, None, true, refl, ap, sym, ◌∙◌, arith}
-use Rattle.std.proofs.lemmas.Bool.Decides.{nat_tests}
+use Rattle.std.proofs.Common.{◌≡◌, ◌==◌, ℕ, zero, suc, ◌<◌, ◌≤◌, length, Option, Some, None, refl, ap, sym, ◌∙◌, arith}
 use Rattle.std.specs.Prelude.{is_some}
 use Rattle.std.proofs.Math.Dec.{ltb}
-use Rattle.std.proofs.lemmas.Bool.{ltb-true}
+use Rattle.std.proofs.lemmas.Bool.{eqb-true, ltb-true}
 use Rattle.snoop_trace.specs.declared.step.Step.TheVariants.{Order}
 use Rattle.snoop_trace.specs.declared.protocol.Protocol.{Protocol}
 use Rattle.snoop_rules.specs.declared.names.CacheCell.{CacheCell}
@@ -24,12 +23,9 @@ use Rattle.snoop_model.proofs.Steps.Orders.{OneMessage, Ordered, by_rows, opens}
 use Rattle.snoop_scenes.proofs.Deciding.{by_test, by_found, if_true, if_some, all_found}
 
 -- the controllers are one
-pub same_number : (j k : ℕ) → (j == k) ≡ true → j ≡ k
-same_number j k e = grind (arith, nat_tests)
-
 abbrev pub same : (one other : Option ℕ) → Option (one ≡ other)
 same None None = Some refl
-same (Some j) (Some k) = by_test (j == k) (λ e. Some (ap Some (same_number j k e))) (λ apart. None)
+same (Some j) (Some k) = by_test (j == k) (λ e. Some (ap Some (eqb-true j k e))) (λ apart. None)
 same _ _ = None
 
 -- An Order seen by all caches and memory, each with its row.

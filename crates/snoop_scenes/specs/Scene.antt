@@ -22,8 +22,7 @@ use Rattle.snoop_model.specs.Pictures.Lines.{Line, MemLine}
 use Rattle.snoop_model.specs.declared.replies.Reply.{Reply}
 use Rattle.snoop_model.specs.declared.replies.Reply.TheVariants as reply
 use Rattle.snoop_model.specs.declared.replies.Refused.{Refused}
-use Rattle.snoop_model.specs.Pictures.Picture.{Picture, held_by}
-use Rattle.snoop_model.specs.Pictures.Message.{free_picture}
+use Rattle.snoop_model.specs.Pictures.Picture.{Picture, free_picture, held_by}
 use Rattle.snoop_model.specs.Pictures.Situation.{Situation, reset}
 use Rattle.snoop_model.specs.Runs.Run.{GoesFirst, TheRun}
 

@@ -6,12 +6,9 @@ use Rattle.std.specs.Result.{IsErrAnd}
 use Rattle.std.proofs.lemmas.Bool.Decides.{nat_tests}
 use Rattle.std.proofs.lemmas.List.Elements.{All-filter, All-from_get_or, All-get_or}
 use Rattle.std.proofs.lemmas.Option.{get_or_from_slice_get, slice_get_within}
-use Rattle.snoop_trace.specs.Words.{HasWord}
 use Rattle.snoop_trace.specs.Extent.{Extent, IsWithinLimits}
-use Rattle.snoop_trace.specs.Grammar.{block_at, word_asked, IsRowWithin}
-use Rattle.snoop_trace.proofs.WordPlaces.{asked_within}
-use Rattle.snoop_trace.specs.declared.step.Op.{Op}
-use Rattle.snoop_trace.specs.declared.step.Op.TheVariants as op
+use Rattle.snoop_trace.specs.Grammar.{block_at, IsRowWithin}
+use Rattle.snoop_trace.proofs.WordPlaces.{word_there}
 use Rattle.snoop_trace.specs.Output.{AppendsFront, IsWithin, text_of}
 use Rattle.snoop_trace.specs.Text.{steps_of}
 use Rattle.snoop_trace.specs.declared.fault.WriteFault.{WriteFault}
@@ -114,15 +111,9 @@ idle_after : (rows : List Row) (s t : Seating) → s.pending ≡ None → Leaves
 idle_after [] s t new leaves = ap (λ (x : Seating). x.pending) leaves ∙ new
 idle_after (row ∷ rows) s t new leaves = leaves.pending
 
--- the word that an operation at an address is of is there
-word_here : (shape : Extent) (address : ℕ) (asking : Op) → IsWithinLimits shape → HasWord shape (word_asked shape address asking) asking
-word_here shape address op.Load limits = let few = asked_within shape address op.Load limits in let most = limits.words.1 in (few, omega (arith, few, most))
-word_here shape address (op.Store value) limits = let few = asked_within shape address (op.Store value) limits in let most = limits.words.1 in (few, omega (arith, few, most))
-word_here shape address op.Evict limits = tt
-
 -- what a row within the shape, of a seat with nothing pending, is refused for
 why_refused : (block : ℕ) (fault : SeatFault) (row : Row) (s t : Seating) → IsWithinLimits s.shape → block < s.shape.blocks → s.pending ≡ None → FailsOn (Some block) fault row s t → IsOfThreads (threads.Seat fault)
-why_refused block seat.NoBlock row s t limits lt idle fails = absurd (fails.0 (lt, word_here s.shape row.address row.op limits))
+why_refused block seat.NoBlock row s t limits lt idle fails = absurd (fails.0 (lt, word_there s.shape row.address row.op limits))
 why_refused block seat.NoMemory row s t limits lt idle fails = tt
 why_refused block (seat.Busy other) row s t limits lt idle fails = absurd (let e : None ≡ Some other = sym idle ∙ fails.1 in cc)
 why_refused block (seat.Stranger did) row s t limits lt idle fails = tt

@@ -2,7 +2,7 @@
 use Rattle.std.proofs.Common.{◌≡◌, ℕ, zero, suc, ◌+◌, ◌<◌, ◌≤◌, Bool, false, cond, Option, Some, None, List, [], ◌∷◌, ◌++◌, map, length, refl, sym, ap, subst, ◌∙◌, arith}
 use Rattle.std.specs.Prelude.{slice_get}
 use Rattle.std.specs.Io.KnownBytes.{Appends}
-use Rattle.std.specs.List.{filter, flat_map, range_with_len}
+use Rattle.std.specs.List.{flat_map, range_with_len}
 use Rattle.std.specs.Option.{option_map_or}
 use Rattle.std.proofs.lemmas.Option.{get_or_from_slice_get}
 use Rattle.snoop_trace.specs.Extent.{Extent}
@@ -12,7 +12,9 @@ use Rattle.snoop_trace.specs.declared.step.Step.{Step}
 use Rattle.snoop_model.specs.Pictures.Situation.{Situation}
 use Rattle.snoop_engine.specs.Frames.{AreFrames, Frame, steps_of}
 use Rattle.snoop_engine.specs.SimulatedView.{BeginsToShow, ShowsRun}
-use Rattle.snoop_engine.specs.Views.{shown, view_text}
+use Rattle.snoop_engine.specs.Views.{view_text}
+use Rattle.snoop_engine.proofs.RangeLemmas.{filter_range}
+use Rattle.snoop_engine.proofs.ViewLemmas.{quiet_view}
 use Rattle.snoop_states.specs.declared.asked.Marks.{Marks}
 use Rattle.snoop_states.specs.declared.column.Column.{Column}
 use Rattle.snoop_states.specs.declared.column.Column.TheVariants.{Bus, Core, Memory}
@@ -27,23 +29,12 @@ use Rattle.snoop_states.specs.Views.{IsFor, columns_in}
 use Rattle.snoop_states.specs.Whole.{block_table, states_table_text, tables_text}
 use Rattle.snoop_states.specs.Widths.{widths_of}
 
--- a view that writes nothing before its end
-nothing_shown : (before frames : List Frame) → shown (λ fs f. []) before frames ≡ []
-nothing_shown before [] = refl
-nothing_shown before (f ∷ fs) = nothing_shown (before ++ f ∷ []) fs
-
 -- what is the same of each number of a range
 flat_same : (f g : ℕ → List ℕ) (a n : ℕ) → ((k : ℕ) → a ≤ k → k < a + n → f k ≡ g k) → flat_map f (range_with_len a n) ≡ flat_map g (range_with_len a n)
 flat_same f g a zero h = refl
 flat_same f g a (suc n) h =
     ap (λ (t : List ℕ). t ++ flat_map f (range_with_len (a + 1) n)) (h a (omega arith) (omega arith))
     ∙ ap (λ (t : List ℕ). g a ++ t) (flat_same f g (a + 1) n (λ k low high. h k (omega arith) (omega arith)))
-
-filter_same : (p q : ℕ → Bool) (a n : ℕ) → ((k : ℕ) → a ≤ k → k < a + n → p k ≡ q k) → filter p (range_with_len a n) ≡ filter q (range_with_len a n)
-filter_same p q a zero h = refl
-filter_same p q a (suc n) h =
-    ap (λ (b : Bool). cond b (a ∷ filter p (range_with_len (a + 1) n)) (filter p (range_with_len (a + 1) n))) (h a (omega arith) (omega arith))
-    ∙ ap (λ (l : List ℕ). cond (q a) (a ∷ l) l) (filter_same p q (a + 1) n (λ k low high. h k (omega arith) (omega arith)))
 
 is_there : {X : Type 0} (xs : List X) (i : ℕ) → i < length xs → slice_get xs i ≡ None → ⊥
 is_there [] i h e = absurd (omega arith)
@@ -62,7 +53,7 @@ marks_tell shape test asked are block core low inside = of_option (slice_get ask
       ap (λ (marks : Marks). mark_of marks core) (sym (get_or_from_slice_get asked block m m e)) ∙ (are.each block low m).each core inside
 
 same_columns : (shape : Extent) (p q : ℕ → Bool) → ((core : ℕ) → core < shape.cores → p core ≡ q core) → columns_for shape p ≡ columns_for shape q
-same_columns shape p q h = ap (λ (cores : List ℕ). map Core cores ++ Bus ∷ Memory ∷ []) (filter_same p q 0 shape.cores (λ k low high. h k (omega arith)))
+same_columns shape p q h = ap (λ (cores : List ℕ). map Core cores ++ Bus ∷ Memory ∷ []) (filter_range p q 0 shape.cores (λ k low high. h k (omega arith)))
 
 module _ (protocol : Protocol) (shape : Extent) (choice : Chosen) (steps : List Step) (view : Tables) (for_steps : IsFor shape choice steps view) where
   -- the text of the view is that of the steps
@@ -74,7 +65,7 @@ module _ (protocol : Protocol) (shape : Extent) (choice : Chosen) (steps : List 
       let columns : (block : ℕ) → block < shape.blocks → columns_in shape view block ≡ of block =
       λ block low. same_columns shape (mark_at view.asked.items block) (is_asker steps block) (λ core inside. marks_tell shape (is_asker steps) view.asked.items for_steps.asked block core low inside)
       ∙ ap (λ (all : List Step). columns_of shape all block) (sym are.whole) in
-      ap (λ (t : List ℕ). t ++ tables_text view.widths view.choice protocol shape (columns_in shape view) frames final) (nothing_shown [] frames)
+      quiet_view (λ fs s. tables_text view.widths view.choice protocol shape (columns_in shape view) fs s) frames final
       ∙ ap (λ (w : Widths). tables_text w view.choice protocol shape (columns_in shape view) frames final) widths
       ∙ ap (λ (c : Chosen). tables_text (widths_of shape (steps_of frames)) c protocol shape (columns_in shape view) frames final) for_steps.choice
       ∙ ap (λ (t : List ℕ). t ++ end_text final)
@@ -115,5 +106,5 @@ begins_ending protocol shape text steps a b h = record {
   run = h.run;
   taken = h.taken;
   rows = h.rows;
-  output = subst (λ (t : List ℕ). AppendsFront a b t) (ap (λ (t : List ℕ). t ++ text h.frames h.final) (nothing_shown [] h.frames)) h.output;
+  output = subst (λ (t : List ℕ). AppendsFront a b t) (quiet_view text h.frames h.final) h.output;
 }

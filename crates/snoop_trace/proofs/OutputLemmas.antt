@@ -3,7 +3,7 @@ use Rattle.std.proofs.Common.{◌≡◌, ℕ, ◌+◌, List, [], ◌∷◌, ◌+
 use Rattle.std.specs.Prelude.{◌-◌, zero, suc}
 use Rattle.std.specs.Io.KnownBytes.{Appends, Keeps}
 use Rattle.std.proofs.lemmas.List.{append-nil, length-drop, take-append-drop, take_all}
-use Rattle.std.specs.Prelude.{codes, Result, Ok, Err, OnOk, OnErr}
+use Rattle.std.specs.Prelude.{codes, Result, Ok, Err, OnErr}
 use Rattle.snoop_trace.specs.Extent.{Extent}
 use Rattle.snoop_trace.specs.Heading.{heading_for, heading_text}
 use Rattle.snoop_trace.specs.Output.{AppendsFront, steps_text, text_of}
@@ -51,10 +51,6 @@ pub on_err : {T E : Type 0} (r : Result T E) (P : Type 0) → P → OnErr r P
 on_err (Ok x) P p = tt
 on_err (Err e) P p = p
 
-pub on_err_at : {T E : Type 0} (r : Result T E) (P Q : Type 0) → (P → Q) → OnErr r P → OnErr r Q
-on_err_at (Ok x) P Q f p = tt
-on_err_at (Err e) P Q f p = f p
-
 -- a beginning of a text is one of a longer text
 pub front_cut : (a b : Option (List ℕ)) (x y : List ℕ) → AppendsFront a b x → AppendsFront a b (x ++ y)
 front_cut a b x y f = record { front = f.front; rest = f.rest ++ y; whole = ap (λ (t : List ℕ). t ++ y) f.whole ∙ append_assoc f.front f.rest y; appends = f.appends }
@@ -63,10 +59,6 @@ front_cut a b x y f = record { front = f.front; rest = f.rest ++ y; whole = ap (
 pub front_after : (a b c : Option (List ℕ)) (x y : List ℕ) → Appends a b x → AppendsFront b c y → AppendsFront a c (x ++ y)
 front_after a b c x y p f =
     record { front = x ++ f.front; rest = f.rest; whole = ap (λ (t : List ℕ). x ++ t) f.whole ∙ sym (append_assoc x f.front f.rest); appends = appends_more a b c x f.front p f.appends }
-
-pub on_ok_at : {T E : Type 0} (r : Result T E) (P Q : Type 0) → (P → Q) → OnOk r P → OnOk r Q
-on_ok_at (Ok x) P Q f p = f p
-on_ok_at (Err e) P Q f p = tt
 
 -- a text of version 2: the line of its heading, and then those of its steps
 pub text_parts : (protocol : Protocol) (shape : Extent) (steps : List Step)

@@ -7,10 +7,9 @@ ghost use Rattle.snoop_trace.specs.Grammar.{letter_of, number};
 use crate::fault::TextFault;
 use crate::heading::Heading;
 use crate::protocol::Protocol;
-use crate::record::Entry;
+use crate::record::{Entry, letter_of, number};
 use crate::shape::Shape;
 use crate::step::{Row, Step};
-use crate::{fields, number};
 use csv::ByteRecord;
 
 /// Why record n of a text of steps for the protocol and the shape is refused, where no record before it is; None where it is taken.
@@ -41,12 +40,12 @@ pub fn row_fault(shape: Shape, n: u64, fields: &ByteRecord) -> Option<TextFault>
 pub fn kind_of(fields: &ByteRecord) -> Option<u8>
     ensures { result ≡ letter_of (fields_of fields.now) }
 {
-    fields::letter_of(fields)
+    letter_of(fields)
 }
 
 /// The number that a field says: decimal digits, or `0x` and hexadecimal digits, of a value up to 2^64 - 1; None where it says none.
 pub fn number_of(field: &[u8]) -> Option<u64>
     ensures { result ≡ number field.now }
 {
-    number::number(field)
+    number(field)
 }

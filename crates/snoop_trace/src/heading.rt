@@ -1,12 +1,11 @@
 //! The first record of a text of steps, where it says what the steps are for.
-ghost use Rattle.std.specs.Prelude.{◌≡◌};
+ghost use Rattle.std.specs.Prelude.{◌≡◌, option_map};
 ghost use Rattle.csv.specs.Records.{fields_of};
 ghost use Rattle.snoop_trace.specs.Heading as spec;
 
 use crate::fault::TextFault;
-use crate::fields::{five_of, letter_of, version_of};
 use crate::protocol::Protocol;
-use crate::record::number_in;
+use crate::record::{letter_of, number_in};
 use crate::shape::Shape;
 use csv::ByteRecord;
 
@@ -108,4 +107,29 @@ fn protocol_named(name: &[u8]) -> Option<Protocol>
     } else {
         None
     }
+}
+
+// The field after the kind, where there is one.
+#[tactic(auto, using(crate::proofs::FieldLemmas::version_at))]
+fn version_of(fields: &ByteRecord) -> Option<&[u8]>
+    ensures { option_map (λ f. f.now) result ≡ spec.version_of (fields_of fields.now) }
+{
+    fields.get(1)
+}
+
+// The five fields after the kind and the one that follows it, where there are five.
+#[tactic(auto, using(crate::proofs::FieldLemmas::five_at, crate::proofs::FieldLemmas::field_there))]
+fn five_of(fields: &ByteRecord) -> Option<(&[u8], &[u8], &[u8], &[u8], &[u8])>
+    ensures { option_map (λ f. (f.0.now, f.1.now, f.2.now, f.3.now, f.4.now)) result ≡ spec.five_of (fields_of fields.now) }
+{
+    if fields.len() != 7 {
+        return None;
+    }
+    Some((
+        fields.get(2)?,
+        fields.get(3)?,
+        fields.get(4)?,
+        fields.get(5)?,
+        fields.get(6)?,
+    ))
 }

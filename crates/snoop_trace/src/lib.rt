@@ -3,9 +3,7 @@
 
 mod fault;
 mod faults;
-mod fields;
 mod heading;
-mod number;
 mod output;
 mod protocol;
 mod record;

@@ -1,5 +1,5 @@
 //! From a record to a step or a row.
-ghost use Rattle.std.specs.Prelude.{◌≡◌, ℕ, List, Result, IfErr};
+ghost use Rattle.std.specs.Prelude.{◌≡◌, ◌≤◌, ℕ, List, Result, IfErr, length, option_map};
 ghost use Rattle.csv.specs.Records.{fields_of};
 ghost use Rattle.snoop_trace.specs.Asked.{asked_in};
 ghost use Rattle.snoop_trace.specs.Extent.{Extent};
@@ -7,8 +7,6 @@ ghost use Rattle.snoop_trace.specs.Grammar as spec;
 ghost use Rattle.snoop_trace.specs.Grammar.{NamesRecord};
 
 use crate::fault::TextFault;
-use crate::fields::{letter_of, one_of, three_of, two_of};
-use crate::number::number;
 use crate::shape::Shape;
 use crate::step::{Asked, Op, Row, Step, Work};
 use csv::ByteRecord;
@@ -174,4 +172,96 @@ fn respond(shape: Shape, n: u64, fields: &ByteRecord) -> Result<Step, TextFault>
     let address = number_in(n, address)?;
     let block = block_in(shape, n, address)?;
     Ok(Step::Respond { block })
+}
+
+/// The kind, where it is one letter.
+#[tactic(auto, using(crate::proofs::FieldLemmas::no_letter, crate::proofs::FieldLemmas::the_letter, crate::proofs::FieldLemmas::other_letter))]
+pub(crate) fn letter_of(fields: &ByteRecord) -> Option<u8>
+    ensures { result ≡ spec.letter_of (fields_of fields.now) }
+{
+    match fields.get(0)? {
+        [letter] => Some(*letter),
+        _ => None,
+    }
+}
+
+// The field after the kind, where there is one alone.
+#[tactic(auto, using(crate::proofs::FieldLemmas::one_at))]
+fn one_of(fields: &ByteRecord) -> Option<&[u8]>
+    ensures { option_map (λ f. f.now) result ≡ spec.one_of (fields_of fields.now) }
+{
+    if fields.len() == 2 {
+        fields.get(1)
+    } else {
+        None
+    }
+}
+
+// The fields after the kind, where there are two.
+#[tactic(auto, using(crate::proofs::FieldLemmas::two_at, crate::proofs::FieldLemmas::field_there))]
+fn two_of(fields: &ByteRecord) -> Option<(&[u8], &[u8])>
+    ensures { option_map (λ f. (f.0.now, f.1.now)) result ≡ spec.two_of (fields_of fields.now) }
+{
+    if fields.len() != 3 {
+        return None;
+    }
+    Some((fields.get(1)?, fields.get(2)?))
+}
+
+// The fields after the kind, where there are three.
+#[tactic(auto, using(crate::proofs::FieldLemmas::three_at, crate::proofs::FieldLemmas::field_there))]
+fn three_of(fields: &ByteRecord) -> Option<(&[u8], &[u8], &[u8])>
+    ensures { option_map (λ f. (f.0.now, f.1.now, f.2.now)) result ≡ spec.three_of (fields_of fields.now) }
+{
+    if fields.len() != 4 {
+        return None;
+    }
+    Some((fields.get(1)?, fields.get(2)?, fields.get(3)?))
+}
+
+// One or more digits of the base, of a value up to 2^64 - 1.
+fn numeral(base: u32, digits: &[u8]) -> Option<u64>
+    requires low { 2 ≤ base }
+    requires high { base ≤ 16 }
+    ensures { result ≡ spec.numeral base digits.now }
+{
+    if digits.is_empty() {
+        return None;
+    }
+    let mut value: u64 = 0;
+    for byte in digits {
+        let digit = (*byte as char).to_digit(base)?;
+        value = value.checked_mul(base as u64)?.checked_add(digit as u64)?;
+    }
+    Some(value)
+}
+
+// The same of so few decimal digits that their value is below 2^64.
+fn decimal(digits: &[u8]) -> Option<u64>
+    requires { length digits.now ≤ 19 }
+    ensures { result ≡ spec.numeral 10 digits.now }
+{
+    if digits.is_empty() {
+        return None;
+    }
+    let mut value: u64 = 0;
+    for byte in digits {
+        let digit = (*byte as char).to_digit(10)?;
+        value = value * 10 + digit as u64;
+    }
+    Some(value)
+}
+
+/// The value of a field that is a number.
+#[inline(always)]
+pub(crate) fn number(field: &[u8]) -> Option<u64>
+    ensures { result ≡ spec.number field.now }
+{
+    if field.starts_with(b"0x") {
+        numeral(16, &field[2..])
+    } else if field.len() <= 19 {
+        decimal(field)
+    } else {
+        numeral(10, field)
+    }
 }

@@ -1,10 +1,9 @@
 //! Readers and writers that know whether they can fail, what entries are gathered in, and the pieces that texts are made of.
 
 mod append;
-pub(crate) mod back;
 pub(crate) mod entries;
 mod sink;
-pub(crate) mod source;
+mod source;
 pub(crate) mod step_text;
 
 pub use crate::text::{gather_asked, gather_steps};

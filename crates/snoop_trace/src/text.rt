@@ -1,5 +1,5 @@
 //! Reading a text of steps or of rows.
-ghost use Rattle.std.specs.Prelude.{◌≡◌, ◌<◌, ◌≢◌, ◌+◌, [], true, List, All, IfSome, IfOk, IfErr, IsSome, Err};
+ghost use Rattle.std.specs.Prelude.{◌≡◌, ◌<◌, ◌≢◌, ◌+◌, [], true, false, Bool, List, All, Option, Some, None, IfSome, IfOk, IfErr, IsSome, Err};
 ghost use Rattle.csv.specs.Reading.{ReadRecord, default_config, reader_state, records, source_of};
 ghost use Rattle.csv.specs.Records.{fields_of};
 ghost use Rattle.csv.specs.declared.parser.State.TheVariants as st;
@@ -17,12 +17,12 @@ use crate::shape::Shape;
 use crate::step::{Asked, Row, Step};
 use crate::streams::Source;
 use crate::streams::entries::Entries;
-use crate::streams::source::{Begun, Watched};
 use core::mem::replace_with;
 use csv::{ByteRecord, Reader, ReaderBuilder};
 use std::alloc::Global;
-use std::io::Read;
-use std::marker::Brand;
+use std::io;
+use std::io::{ErrorKind, Read};
+use std::marker::{Brand, PhantomData};
 
 // Whether there is one more record, and its fields. A failed read is answered as out of memory
 // here: `read_known` tells the two apart.
@@ -118,6 +118,64 @@ fn take_text<E: Entry, C: Entries<E>, R: Read>(
         entries.append(E::from_record(shape, 1, fields)?)?;
     }
     take_entries(text, fields, shape, 1, entries)
+}
+
+// What is known of a reader as a call begins, for the proof alone: a call at `Brand` picks it.
+trait Begun {
+    // Whether a read had failed, where that is known.
+    ghost before: { Option Bool };
+}
+
+impl Begun for Brand {
+    ghost before = { None };
+}
+
+// A reader, and whether a read of it has failed since a call has it; then it is read no more.
+struct Watched<R: Source, K: Begun> {
+    inner: R,
+    failed: bool,
+    begun: PhantomData<K>,
+    ghost noted: { K.before ≡ Some false → R.failed inner ≡ Some failed },
+    ghost told: { failed ≡ true → R.never_fails ≡ false },
+}
+
+impl<R: Source, K: Begun> Watched<R, K> {
+    fn new(inner: R) -> Watched<R, K>
+        requires { R.failed inner ≡ K.before }
+        ensures { result.inner ≡ inner }
+    {
+        Watched {
+            inner,
+            failed: false,
+            begun: PhantomData,
+        }
+    }
+
+    // The reader, and whether a read of it has failed since.
+    fn into_parts(self) -> (R, bool)
+        ensures blamed { BlamesReader K.before (R.failed result.0) (result.1 ≡ true) }
+        ensures never_blamed { result.1 ≡ true → R.never_fails ≡ false }
+    {
+        let Watched {
+            inner,
+            failed,
+            begun: _,
+        } = self;
+        (inner, failed)
+    }
+}
+
+impl<R: Source, K: Begun> Read for Watched<R, K> {
+    ghost remaining = { λ r. R.remaining r.inner };
+
+    fn read(&mut self, buf: &mut [u8]) -> io::Result<usize> {
+        if self.failed {
+            return Err(io::Error::from(ErrorKind::Other));
+        }
+        let read = self.inner.pull(buf);
+        self.failed = read.is_err();
+        read
+    }
 }
 
 // The entries that a text gives, after none, or its first fault; and the reader back.

@@ -1,20 +1,20 @@
 //! An Order: found, and made.
-ghost use Rattle.std.specs.Prelude.{◌≡◌, ◌<◌, ◌≤◌, ℕ, IfOk, IfErr, IfSome, IfNone, None, Err, slice_get};
-ghost use Rattle.snoop_rules.specs.Takers.{at_memory};
+ghost use Rattle.std.specs.Prelude.{◌≡◌, ◌<◌, ◌≤◌, ℕ, IfOk, IfErr, IfSome, IfNone, None, Err, length, slice_get};
+ghost use Rattle.snoop_rules.specs.Takers.{at_memory, seen_by};
 ghost use Rattle.snoop_bus.specs.Queues.{queue_of};
 ghost use Rattle.snoop_model.specs.declared.replies.Refused.{Refused};
 ghost use Rattle.snoop_trace.specs.declared.step.Step.TheVariants.{Order};
 ghost use Rattle.snoop_model.specs.Moves.Standing.{KeepsRoom};
 ghost use Rattle.snoop_machine.specs.Following.{LosesLines};
-ghost use Rattle.snoop_model.specs.Pictures.Situation.{picture_of};
+ghost use Rattle.snoop_model.specs.Pictures.Situation.{picture_of, state_of};
 ghost use Rattle.snoop_model.specs.Moves.Refuses.{Refuses, WaitsOnNone};
+ghost use Rattle.snoop_model.specs.Moves.LookUps.{HasRow};
 ghost use Rattle.snoop_model.specs.Moves.Move.{Orders, TakesMemRow};
 ghost use Rattle.snoop_model.specs.Moves.OrderMove.{IsHead};
 ghost use Rattle.snoop_model.specs.Moves.StepMove.{IsDenied};
-ghost use Rattle.snoop_model.specs.Pictures.Sends.{value_sent};
+ghost use Rattle.snoop_model.specs.Pictures.Sends.{IsOnlySender, value_sent};
 ghost use Rattle.std.specs.Option.{ForSome};
 ghost use Rattle.snoop_machine.specs.Plan.{IsPlanFor};
-ghost use Rattle.snoop_machine.specs.Sender.{IsSender};
 ghost use Rattle.snoop_model.specs.Invariant.Invariant.{Invariant};
 
 use super::Parts;
@@ -101,7 +101,8 @@ impl<B: Block> Parts<B> {
         requires room { 0 < self.old.room }
         requires free { (picture_of self.old.situation block).transaction ≡ None }
         requires memory { TakesMemRow self.old.situation.protocol (at_memory request) (picture_of self.old.situation block).memory.state memory }
-        requires sender { IsSender self.old.situation.protocol (picture_of self.old.situation block) core request from payload }
+        requires rows { (k : ℕ) → k < length (picture_of self.old.situation block).caches → HasRow self.old.situation.protocol (state_of self.old.situation k block) (seen_by k core request) }
+        requires sender { IsOnlySender self.old.situation.protocol (picture_of self.old.situation block) core request from payload }
         ensures ordered { Orders self.old.situation core block request self.new.situation }
         ensures room { KeepsRoom self.old self.new }
         ensures lines { (k : ℕ) → LosesLines self.old self.new k }

@@ -46,12 +46,12 @@ impl<B: Block> Parts<B> {
             closing.request,
             closing.payload,
         );
-        let came = came(&closing);
+        let came = came(closing);
         if matches!(&closing.request, Request::PutM) {
             return Ok(Plan::Writeback { came, memory });
         }
         let found = self.line(closing.core, block);
-        let filled = fill(self.protocol, found, &closing);
+        let filled = fill(self.protocol, found, closing);
         Ok(Plan::Fill {
             came,
             memory,

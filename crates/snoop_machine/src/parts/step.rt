@@ -8,7 +8,7 @@ ghost use Rattle.snoop_rules.specs.declared.names.CacheState.TheVariants.{I};
 ghost use Rattle.snoop_model.specs.Pictures.Situation.{state_of};
 ghost use Rattle.snoop_model.specs.Moves.Standing.{KeepsRoom, line_count, has_line};
 ghost use Rattle.snoop_model.specs.Moves.Holding.{HoldsOn};
-ghost use Rattle.snoop_model.specs.Moves.Prepared.{IsFull, IsPrepared, room_to_issue};
+ghost use Rattle.snoop_model.specs.Moves.Prepared.{IsFull, IsPrepared, places, room_to_issue};
 ghost use Rattle.snoop_machine.specs.Following.{LosesLines, AddsLine, AddsLinesToAsk, AddsLines};
 ghost use Rattle.snoop_machine.specs.Plan.{IsPlan, IsPlanFor, HasRoom, HasRoomToAsk, step_of, room_for, room_for_ask, entry_of};
 ghost use Rattle.snoop_model.specs.Moves.Refuses.{Refuses};
@@ -167,7 +167,7 @@ impl<B: Block> Parts<B> {
         requires core { core < self.old.situation.shape.cores }
         requires absent { has_line self.old core block ≡ false }
         ensures ok { OnOk result ((has_line self.new core block ≡ true) × (0 < slice_index self.new.rooms core)) }
-        ensures full { OnErr result (slice_index self.old.places core ≡ 0) }
+        ensures full { OnErr result (places self.old core ≡ 0) }
         ensures refused { OnErr result (self.new ≡ self.old) }
         ensures room { KeepsRoom self.old self.new }
         ensures more { OnOk result (line_count self.new core ≡ line_count self.old core + 1) }

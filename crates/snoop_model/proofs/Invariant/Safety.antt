@@ -70,7 +70,7 @@ pub is_safe : (s : Situation) → MachineKeeps s → IsSafe s
 is_safe s keeps = record {
   coherent = is_coherent s keeps.inductive keeps.on_lines keeps.queued;
   finds_rows = finds_rows s keeps.inductive;
-  kept = λ core block. (all_proper s keeps.inductive core block).kept;
+  kept_where_readable = λ core block. (all_proper s keeps.inductive core block).kept;
   well_kept = keeps.well_kept;
 }
 

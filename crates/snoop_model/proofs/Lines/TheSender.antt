@@ -1,8 +1,7 @@
 -- The loop that looks for the one sender.
-use Rattle.std.proofs.Common.{◌≡◌, ℕ, zero, suc, ◌-◌, ◌+◌, ◌<◌, ◌≤◌, length, Option, Some, None, refl, sym, ◌∙◌, ap, subst, arith, inl, inr, ◌⊎◌}
-use Rattle.std.specs.Prelude.{⊤}
+use Rattle.std.proofs.Common.{◌≡◌, ℕ, zero, suc, ◌-◌, ◌+◌, ◌<◌, ◌≤◌, length, Option, Some, None, sym, ◌∙◌, ap, subst, arith, inl, inr, ◌⊎◌}
+use Rattle.std.specs.Prelude.{⊤, ◌≢◌}
 use Rattle.std.proofs.lemmas.Bool.{cases_eq}
-use Rattle.std.proofs.lemmas.Option.{same_Some}
 use Rattle.snoop_trace.specs.declared.protocol.Protocol.{Protocol}
 use Rattle.snoop_rules.specs.declared.names.Request.{Request}
 use Rattle.snoop_rules.specs.declared.names.Payload.{Payload}
@@ -16,13 +15,10 @@ use Rattle.snoop_rules.specs.declared.names.MemState.{MemState}
 use Rattle.snoop_rules.specs.Cell.{Cell, cell_of}
 use Rattle.snoop_rules.specs.MemoryCell.{MemoryCell}
 use Rattle.snoop_rules.specs.Takers.{seen_by, at_memory}
-use Rattle.snoop_model.specs.Pictures.Lines.{Message}
 use Rattle.snoop_model.specs.Pictures.Picture.{Picture, held_by}
-use Rattle.snoop_model.specs.Pictures.Sends.{Sends, value_sent}
-use Rattle.snoop_model.specs.Moves.LookUps.{HasRow}
+use Rattle.snoop_model.specs.Pictures.Sends.{Sends}
 use Rattle.snoop_model.specs.Moves.SenderTable.{FollowsSenderTable}
-use Rattle.snoop_model.specs.Pictures.Message.{IsMessage, memory_message}
-use Rattle.snoop_model.proofs.Tables.SentBy.{sent_by, sent_by_memory, sending}
+use Rattle.snoop_model.proofs.Tables.SentBy.{sent_by, sent_by_memory, sending, sending_memory}
 
 -- memory, or a core below n
 abbrev pub IsBelow : ℕ → Option ℕ → Type 0
@@ -55,17 +51,11 @@ module _ (p : Protocol) (before : Picture) (core : ℕ) (request : Request) (n :
 
 module _ (p : Protocol) (before : Picture) (core : ℕ) (request : Request) where
   -- memory does not send
-  pub Silent-none : (act : MemAction) (next : MemState) → MemoryCell p before.memory.state (at_memory request) act next → memory_message act before.memory.value ≡ None → SilentBelow p before core request 0
-  Silent-none (mem_action.Send payload) next row none = cc
-  Silent-none mem_action.None next row none = silent
+  pub Silent-none : (act : MemAction) (next : MemState) → MemoryCell p before.memory.state (at_memory request) act next → ((payload : Payload) → act ≢ mem_action.Send payload) → SilentBelow p before core request 0
+  Silent-none act next row none = silent
     where
       silent : (other : Option ℕ) (payload : Payload) → IsBelow 0 other → ¬ Sends p before core request other payload
-      silent None payload below sends = let e : ◌≡◌ {A = Option Payload} None (Some payload) = sym (ap sent_by_memory row) ∙ ap sent_by_memory sends.1 in cc
-      silent (Some k) payload below sends = absurd (omega arith)
-  Silent-none mem_action.Write next row none = silent
-    where
-      silent : (other : Option ℕ) (payload : Payload) → IsBelow 0 other → ¬ Sends p before core request other payload
-      silent None payload below sends = let e : ◌≡◌ {A = Option Payload} None (Some payload) = sym (ap sent_by_memory row) ∙ ap sent_by_memory sends.1 in cc
+      silent None payload below sends = none payload (sending_memory act payload (sym (ap sent_by_memory row) ∙ ap sent_by_memory sends.1))
       silent (Some k) payload below sends = absurd (omega arith)
 
   sends_below : (other : Option ℕ) (payload : Payload) → Sends p before core request other payload → IsBelow (length before.caches) other
@@ -75,22 +65,6 @@ module _ (p : Protocol) (before : Picture) (core : ℕ) (request : Request) wher
   -- not all can be silent
   pub Silent-all : SilentBelow p before core request (length before.caches) → ¬ FollowsSenderTable p before core request
   Silent-all silent line = silent line.from line.payload (sends_below line.from line.payload line.sent.sends) line.sent.sends
-
-  -- each core has a row for the request, and one controller sends
-  module _ (rows : (k : ℕ) → k < length before.caches → HasRow p (held_by before k).state (seen_by k core request)) (line : FollowsSenderTable p before core request) where
-    -- whoever sends is the only sender
-    pub IsMessage-sent : (m : Message) → Sends p before core request m.from m.payload → m.value ≡ value_sent before m.from m.payload → IsMessage p before core request m
-    IsMessage-sent m sends worth = record {
-      rows = rows;
-      only = record { sends = sends; alone = λ other payload h. line.sent.alone other payload h ∙ sym (line.sent.alone m.from m.payload sends) };
-      value = worth;
-    }
-
-    pub IsMessage-memory : (m : Message) (act : MemAction) (next : MemState) → MemoryCell p before.memory.state (at_memory request) act next → memory_message act before.memory.value ≡ Some m → IsMessage p before core request m
-    IsMessage-memory m (mem_action.Send payload) next row is =
-        let same = same_Some _ _ is in
-        subst (IsMessage p before core request) same (IsMessage-sent _ (next, row) refl)
-    IsMessage-memory m _ next row is = cc
 
 -- cores that have nothing to do are passed over
 module _ (p : Protocol) (before : Picture) (core : ℕ) (request : Request) where

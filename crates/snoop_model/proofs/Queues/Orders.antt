@@ -9,7 +9,7 @@ use Rattle.snoop_rules.specs.Takers.{seen_by}
 use Rattle.snoop_rules.specs.Waits.{waiting_request}
 use Rattle.snoop_bus.specs.Queues.{queue_of, after_order}
 use Rattle.snoop_bus.specs.Traffic.{Open}
-use Rattle.snoop_model.specs.declared.line.Access.{Access}
+use Rattle.snoop_model.specs.declared.access.Access.{Access}
 use Rattle.snoop_model.specs.Pictures.Lines.{Line}
 use Rattle.snoop_model.specs.Pictures.Picture.{held_by, nothing_held, Picture, held_at}
 use Rattle.snoop_model.specs.Pictures.Situation.{Situation, picture_of, state_of}

@@ -33,7 +33,7 @@ use Rattle.snoop_history.specs.History.{flat_words}
 use Rattle.snoop_history.specs.Totals.{is_put_m}
 use Rattle.snoop_bus.specs.Traffic.{Open}
 use Rattle.snoop_bus.specs.Queues.{queue_of}
-use Rattle.snoop_model.specs.declared.line.Access.{Access}
+use Rattle.snoop_model.specs.declared.access.Access.{Access}
 use Rattle.snoop_model.specs.Pictures.Lines.{Line}
 use Rattle.snoop_model.specs.declared.replies.Reply.{Reply}
 use Rattle.snoop_model.specs.declared.replies.Refused.{Refused}

@@ -1,7 +1,7 @@
 -- What every run keeps between the states of the lines, the queues and the open transactions.
 -- Source: the states are those of "A Primer on Memory Consistency and Cache Coherence", 2nd edition, chapter 7.
 use Rattle.std.specs.Prelude.{◌≡◌, ℕ, ◌<◌, length, Contains, Option, Some, None, IsSome}
-use Rattle.snoop_model.specs.declared.line.Access.{Access}
+use Rattle.snoop_model.specs.declared.access.Access.{Access}
 use Rattle.snoop_rules.specs.declared.names.CacheState.{CacheState}
 use Rattle.snoop_rules.specs.declared.names.CacheState.TheVariants.{IsD, ImD, SmD}
 use Rattle.snoop_rules.specs.declared.names.Request.{Request}

@@ -36,7 +36,7 @@ use Rattle.snoop_model.specs.declared.replies.Reply.TheVariants as reply
 use Rattle.snoop_model.specs.Pictures.Picture.{Picture, held_at, held_by, with_line, kept_on}
 use Rattle.snoop_model.specs.Pictures.Situation.{Situation, picture_of, with_picture, state_of, CanOrder, StandsFirst}
 use Rattle.snoop_model.specs.Pictures.Lines.{Line, MemLine}
-use Rattle.snoop_model.specs.declared.line.Access.{Access}
+use Rattle.snoop_model.specs.declared.access.Access.{Access}
 use Rattle.snoop_model.specs.Pictures.Sends.{IsOnlySender, value_sent}
 
 -- an operation on one word of a block: the value that it loads or stores, and the block's words after it; a store keeps the other words

@@ -1,18 +1,18 @@
--- What a cache and memory hold of a block, and what a message carries.
+-- What a cache and memory hold of a block.
 -- Source: this project's profile.
+use Rattle.std.specs.Prelude.{Option}
 use Rattle.snoop_trace.specs.Words.{Data}
-use Rattle.snoop_model.specs.declared.line.Line as line
-use Rattle.snoop_model.specs.declared.memory.MemLine as memory
-use Rattle.snoop_model.specs.declared.message.Message as message
+use Rattle.snoop_rules.specs.declared.names.CacheState.{CacheState}
+use Rattle.snoop_rules.specs.declared.names.MemState.{MemState}
+use Rattle.snoop_model.specs.declared.access.Access.{Access}
 
--- what a cache holds of a block
-abbrev pub Line : Type 0
-Line = line.Line Data
+-- what a cache holds of a block: its state; the words that loads read, where the state may read; and the load or store that waits
+pub record Line : Type 0 where
+  pub state : CacheState
+  pub kept : Option Data
+  pub waiting : Option Access
 
 -- what memory holds of a block
-abbrev pub MemLine : Type 0
-MemLine = memory.MemLine Data
-
--- the message of an Order
-abbrev pub Message : Type 0
-Message = message.Message Data
+pub record MemLine : Type 0 where
+  pub state : MemState
+  pub value : Data

@@ -18,6 +18,10 @@ pub record Picture : Type 0 where
   pub memory : MemLine
   pub transaction : Option Open
 
+-- a block on which no transaction is open
+abbrev pub free_picture : List Line → MemLine → Picture
+free_picture row memory = record { caches = row; memory = memory; transaction = None }
+
 -- a core that holds nothing of the block
 abbrev pub nothing_held : Line
 nothing_held = record { state = I; kept = None; waiting = None }

@@ -36,7 +36,7 @@ missed_request SmAd = Some GetM
 missed_request SmD = Some GetM
 missed_request _ = None
 
--- a line keeps words exactly in the states that may be read, and an operation waits in it exactly in those in which one has missed, a load or a store as the state says; so a line in I holds nothing
+-- a line keeps words exactly in the states that may read, and an operation waits in it exactly in those in which one has missed, a load or a store as the state says; so a line in I holds nothing
 pub record IsProper (line : Line) : Type 0 where
   pub kept : is_some line.kept ≡ keeps line.state
   pub waiting : option_map (λ access. request_for access.op) line.waiting ≡ missed_request line.state

@@ -8,7 +8,7 @@ use Rattle.snoop_trace.specs.declared.step.Step.{Step}
 use Rattle.snoop_trace.specs.declared.step.Step.TheVariants.{Ask}
 use Rattle.snoop_history.specs.declared.items.Did.{Did}
 use Rattle.snoop_history.specs.History.{answers_of}
-use Rattle.snoop_model.specs.declared.line.Access.{Access}
+use Rattle.snoop_model.specs.declared.access.Access.{Access}
 use Rattle.snoop_model.specs.declared.replies.Reply.{Reply}
 use Rattle.snoop_model.specs.declared.replies.Refused.{Refused}
 use Rattle.snoop_model.specs.Pictures.Picture.{held_by}

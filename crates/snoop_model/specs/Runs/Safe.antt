@@ -14,9 +14,9 @@ use Rattle.snoop_model.specs.Runs.Run.{EveryRun}
 abbrev pub RowsAreFound : Type 0
 RowsAreFound = EveryRun (λ protocol shape steps outcomes s. (step : Step) → FindsRows s step)
 
--- the machine is coherent, no step meets an impossible cell, a line keeps words exactly in the states that may be read, and queues and open transactions are as the states of the lines say
+-- the machine is coherent, no step meets an impossible cell, a line keeps words exactly in the states that may read, and queues and open transactions are as the states of the lines say
 pub record IsSafe (s : Situation) : Type 0 where
   pub coherent : IsCoherent s
   pub finds_rows : (step : Step) → FindsRows s step
-  pub kept : (core block : ℕ) → is_some (held_by (picture_of s block) core).kept ≡ keeps (state_of s core block)
+  pub kept_where_readable : (core block : ℕ) → is_some (held_by (picture_of s block) core).kept ≡ keeps (state_of s core block)
   pub well_kept : IsWellKept s

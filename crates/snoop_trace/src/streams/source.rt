@@ -4,14 +4,13 @@
 //! known that no read had failed: exactly where one fails. `never_blamed`, for a reader whose
 //! contract rules failure out: never. `std::io::Read` has no words for either, so `Source` adds
 //! them.
-ghost use Rattle.std.specs.Prelude.{◌≡◌, Bool, true, false, Option, Some, None, IsOk, IsErr};
+ghost use Rattle.std.specs.Prelude.{◌≡◌, Bool, true, false, Option, Some, IsOk, IsErr};
 ghost use Rattle.std.specs.Io.{ReadsAtMost};
 ghost use Rattle.std.specs.Io.KnownBytes.{ReadConsumes};
 ghost use Rattle.snoop_trace.specs.Text.{BlamesReader};
 
 use std::io;
-use std::io::{ErrorKind, Read};
-use std::marker::{Brand, PhantomData};
+use std::io::Read;
 
 /// A reader, whether its contract rules failure out, and whether a read of it has failed.
 ///
@@ -110,63 +109,5 @@ impl<R: Read> Source for AnyReader<R> {
         ensures stays { self.old.failed ≡ true → self.new.failed ≡ true }
     {
         self.read_noting(buf)
-    }
-}
-
-/// What is known of a reader as a call begins, for the proof alone: a call at `Brand` picks it.
-pub(crate) trait Begun {
-    // Whether a read had failed, where that is known.
-    ghost before: { Option Bool };
-}
-
-impl Begun for Brand {
-    ghost before = { None };
-}
-
-/// A reader, and whether a read of it has failed since a call has it; then it is read no more.
-pub(crate) struct Watched<R: Source, K: Begun> {
-    inner: R,
-    failed: bool,
-    begun: PhantomData<K>,
-    ghost noted: { K.before ≡ Some false → R.failed inner ≡ Some failed },
-    ghost told: { failed ≡ true → R.never_fails ≡ false },
-}
-
-impl<R: Source, K: Begun> Watched<R, K> {
-    pub(crate) fn new(inner: R) -> Watched<R, K>
-        requires { R.failed inner ≡ K.before }
-        ensures { result.inner ≡ inner }
-    {
-        Watched {
-            inner,
-            failed: false,
-            begun: PhantomData,
-        }
-    }
-
-    /// The reader, and whether a read of it has failed since.
-    pub(crate) fn into_parts(self) -> (R, bool)
-        ensures blamed { BlamesReader K.before (R.failed result.0) (result.1 ≡ true) }
-        ensures never_blamed { result.1 ≡ true → R.never_fails ≡ false }
-    {
-        let Watched {
-            inner,
-            failed,
-            begun: _,
-        } = self;
-        (inner, failed)
-    }
-}
-
-impl<R: Source, K: Begun> Read for Watched<R, K> {
-    ghost remaining = { λ r. R.remaining r.inner };
-
-    fn read(&mut self, buf: &mut [u8]) -> io::Result<usize> {
-        if self.failed {
-            return Err(io::Error::from(ErrorKind::Other));
-        }
-        let read = self.inner.pull(buf);
-        self.failed = read.is_err();
-        read
     }
 }

@@ -1,5 +1,5 @@
 //! The text of one step.
-ghost use Rattle.std.specs.Prelude.{◌≡◌, ◌≤◌, ◌+◌, ◌++◌, ◌∷◌, [], OnOk, codes, length};
+ghost use Rattle.std.specs.Prelude.{◌≡◌, ◌≤◌, ◌<◌, ◌+◌, ◌++◌, ◌∷◌, [], OnOk, codes, length};
 ghost use Rattle.std.specs.Fmt.{decimal};
 ghost use Rattle.snoop_trace.specs.Output.{step_text, word_address};
 ghost use Rattle.snoop_trace.specs.declared.step.Step.TheVariants.{Ask};
@@ -8,7 +8,8 @@ use crate::fault::NoMemory;
 use crate::shape::Shape;
 use crate::step::{Op, Step};
 use crate::streams::append::{push_byte, push_decimal};
-use crate::streams::back::Back;
+use itoa::write_digits;
+use std::marker::Model;
 
 // The first address of a word of a block.
 pub(crate) fn word_address(shape: Shape, block: u32, word: u32) -> u64
@@ -23,6 +24,69 @@ pub(crate) fn push_field(out: &mut Vec<u8>, number: u64) -> Result<(), NoMemory>
 {
     push_byte(out, b',')?;
     push_decimal(out, number)
+}
+
+// The most bytes of a `Back`.
+const ROOM: usize = 64;
+
+// A text of at most 64 bytes, which is written from its end.
+#[derive(Drop)]
+struct Back {
+    bytes: [u8; ROOM],
+    start: usize,
+}
+
+impl Model for Back {
+    ghost use Rattle.std.specs.Prelude.{ℕ, ◌≤◌, List, drop};
+
+    ghost Value = { List ℕ };
+
+    ghost view = { λ b. drop b.start b.bytes };
+
+    ghost invariant = { λ b. b.start ≤ 64 };
+}
+
+impl Back {
+    // No text.
+    fn new() -> Self
+        ensures { result ≡ [] }
+    {
+        Back {
+            bytes: [0; ROOM],
+            start: ROOM,
+        }
+    }
+
+    // Puts a byte before the text.
+    #[inline(always)]
+    fn put(&mut self, byte: u8)
+        requires { length self.old < 64 }
+        ensures { self.new ≡ byte ∷ self.old }
+    {
+        self.start -= 1;
+        self.bytes[self.start] = byte;
+    }
+
+    // Puts a number before the text, in decimal digits.
+    #[inline(always)]
+    fn put_decimal(&mut self, number: u64)
+        requires { length self.old + length (decimal number) ≤ 64 }
+        ensures { self.new ≡ decimal number ++ self.old }
+    {
+        if number < 10 {
+            self.put(b'0' + number as u8);
+        } else {
+            self.start = write_digits(number, &mut self.bytes, self.start);
+        }
+    }
+
+    // The text.
+    #[inline(always)]
+    fn text(&self) -> &[u8]
+        ensures { result.now ≡ self.now }
+    {
+        &self.bytes[self.start..]
+    }
 }
 
 // Puts a comma and a number before a text.

@@ -1,6 +1,7 @@
 use Rattle.std.proofs.Common.{arith}
-use Rattle.snoop_cores.proofs.Joining.{no_seat, found_true}
+use Rattle.std.proofs.lemmas.Bool.{true_from_ne_false}
+use Rattle.snoop_cores.proofs.Joining.{no_seat}
 use Rattle.snoop_cores.proofs.rows.is_served.Goals as goal
 
 pub returns-clause-whole : goal.returns-clause-whole
-returns-clause-whole c = λ s. let t = c.loop-seat-test.false in found_true c.loop-seat.found (λ none. c.loop-seat.invariant.2 none s.has.0 no_seat (omega (arith, t, s.has.1)) (s.has.2 no_seat))
+returns-clause-whole c = λ s. let t = c.loop-seat-test.false in true_from_ne_false c.loop-seat.found (λ none. c.loop-seat.invariant.2 none s.has.0 no_seat (omega (arith, t, s.has.1)) (s.has.2 no_seat))

@@ -1,4 +1,5 @@
 use Rattle.std.proofs.Common.{◌≡◌, ◌∙◌, sym, refl, true, false, Bool, ◌&&◌, Some, None, ap, arith}
+use Rattle.std.proofs.lemmas.Bool.{and_parts}
 use Rattle.std.proofs.lemmas.Bool.Decides.{nat_tests}
 use Rattle.std.proofs.lemmas.Grind.{common_steps}
 use Rattle.snoop_history.specs.declared.items.Did.{Did}
@@ -6,7 +7,6 @@ use Rattle.snoop_history.specs.declared.items.Came.{Came}
 use Rattle.snoop_history.specs.declared.items.Item.{Item}
 use Rattle.snoop_history.specs.declared.items.Item.TheVariants as item
 use Rattle.snoop_history.specs.contracts.items.ItemPartialEq.TheImpl.{eq-value}
-use Rattle.snoop_history.proofs.Boards.{both}
 use Rattle.snoop_history.proofs.log.is_same.Goals as goal
 
 and-true : (a : Bool) → a ≡ true → (a && true) ≡ true
@@ -32,7 +32,7 @@ same (item.Came a None) (item.Came b None) e = rw (same-came a b e) refl
 same (item.Came a None) (item.Came b (Some d)) e = grind (arith, common_steps, nat_tests)
 same (item.Came a (Some c)) (item.Came b None) e = grind (arith, common_steps, nat_tests)
 same (item.Came a (Some c)) (item.Came b (Some d)) e =
-    let parts = both _ _ e in
+    let parts = and_parts _ _ e in
     rw (same-came a b (and-true _ parts.0), same-did c d parts.1) refl
 
 pub returns-clause-sound : goal.returns-clause-sound

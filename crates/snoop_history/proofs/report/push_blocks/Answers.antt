@@ -1,8 +1,12 @@
-use Rattle.snoop_history.proofs.Touching.{blocks_step}
+use Rattle.std.proofs.Common.{map}
+use Rattle.std.specs.List.{range_with_len}
+use Rattle.snoop_rules.proofs.TextLemmas.{piece_more}
+use Rattle.snoop_history.specs.History.{flat}
+use Rattle.snoop_history.specs.Report.{block_text}
 use Rattle.snoop_history.proofs.report.push_blocks.Goals as goal
 
 pub loop-block-preserved : goal.loop-block-preserved
 loop-block-preserved c =
     let log = c.args.log.now in
-    let i = c.loop-block.block-index in
-    blocks_step log.words log.items c.args.blocks.now i c.args.out.now.items c.loop-block.out.items c.push_block.new.out.items c.loop-block-test.true c.loop-block.invariant c.in_ok-push_block.ensures
+    piece_more (λ block. block_text block (map (flat log.items block) (range_with_len 0 log.words))) c.args.blocks.now c.loop-block.block-index 0 c.args.out.now.items c.loop-block.out.items c.push_block.new.out.items
+    c.loop-block-test.true c.loop-block.invariant c.in_ok-push_block.ensures

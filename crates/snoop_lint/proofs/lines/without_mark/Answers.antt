@@ -1,7 +1,7 @@
 use Rattle.std.proofs.Common.{drop, length, ◌∙◌, arith}
 use Rattle.std.specs.Prelude.{◌-◌}
 use Rattle.std.proofs.lemmas.List.{length-drop, take_all}
-use Rattle.snoop_lint.proofs.PieceLemmas.{marked, unmarked}
+use Rattle.snoop_lint.proofs.MarkLemmas.{marked, unmarked}
 use Rattle.snoop_lint.proofs.lines.without_mark.Goals as goal
 use Rattle.snoop_lint.proofs.lines.without_mark.Goals.{else-text-ge3-via-then-text-ge3+then-text+then-text-2+else-text-3, else-text-ge3-via-then-text-ge3+then-text+else-text-2, else-text-ge3-via-then-text-ge3+else-text, else-text-ge3-via-else-text-ge3}
 

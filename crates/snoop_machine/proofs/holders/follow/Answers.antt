@@ -11,7 +11,7 @@ returns-then-are_alike c =
     record {
       moved = slice_index_or c.args.holders.now c.args.block no_holders;
       set = sym (set-get_or c.args.holders.now c.args.block no_holders);
-      follows = λ stood. record { owner = stood.0 ∙ alike.0; reader = stood.1 ∙ alike.1; other_owners = λ k ne. refl; other_readers = λ k ne. refl };
+      follows = record { owner = c.requires.stands.0 ∙ alike.0; reader = c.requires.stands.1 ∙ alike.1; other_owners = λ k ne. refl; other_readers = λ k ne. refl };
     }
 
 pub returns : goal.returns
@@ -21,5 +21,5 @@ returns c =
     record {
       moved = c.move_to.new.self;
       set = c.set.ensures;
-      follows = λ stood. subst (λ (h : Holders). HaveMoved c.args.core c.args.after h c.move_to.new.self) is c.move_to.ensures;
+      follows = subst (λ (h : Holders). HaveMoved c.args.core c.args.after h c.move_to.new.self) is c.move_to.ensures;
     }

@@ -1,10 +1,11 @@
 use Rattle.std.proofs.Common.{ℕ, List, ◌++◌, sym, subst}
+use Rattle.std.proofs.lemmas.Result.{on_err_weaker, on_ok_weaker}
 use Rattle.std.specs.Io.KnownBytes.{Appends}
 use Rattle.std.specs.Prelude.{codes}
 use Rattle.snoop_trace.specs.Heading.{heading_for, heading_text}
 use Rattle.snoop_trace.specs.Output.{AppendsFront, steps_text, text_of}
 use Rattle.snoop_trace.proofs.BackLemmas.{all_read_again, other_refused}
-use Rattle.snoop_trace.proofs.OutputLemmas.{appends_none_of, appends_more, front_cut, front_after, on_err, on_err_at, on_ok_at, text_parts}
+use Rattle.snoop_trace.proofs.OutputLemmas.{appends_none_of, appends_more, front_cut, front_after, on_err, text_parts}
 use Rattle.snoop_trace.proofs.output.write_steps.Goals as goal
 
 pub returns-in_err-heading-clause-front : goal.returns-in_err-heading-clause-front
@@ -35,7 +36,7 @@ pub returns-clause-ok : goal.returns-clause-ok
 returns-clause-ok g c =
     let wrote = rw (c.deref.ensures.value, c.in_ok-heading.ensures) at c.in_ok-write_whole.ensures.ok in
     let P : List ℕ → Type 0 = λ t. Appends (g.W.Write.contents c.args.writer.now) (g.W.Write.contents c.write_records.new.writer) t in
-    on_ok_at c.write_records.result _ _
+    on_ok_weaker c.write_records.result
     (λ more. subst P (sym (text_parts c.args.protocol c.args.shape c.args.steps.now))
     (appends_more _ _ _ (heading_text (heading_for c.args.protocol c.args.shape) ++ codes "\n") (steps_text c.args.shape c.args.steps.now) wrote more))
     c.write_records.ensures.ok
@@ -44,7 +45,7 @@ pub returns-clause-front : goal.returns-clause-front
 returns-clause-front g c =
     let wrote = rw (c.deref.ensures.value, c.in_ok-heading.ensures) at c.in_ok-write_whole.ensures.ok in
     let P : List ℕ → Type 0 = λ t. AppendsFront (g.W.Write.contents c.args.writer.now) (g.W.Write.contents c.write_records.new.writer) t in
-    on_err_at c.write_records.result _ _
+    on_err_weaker c.write_records.result
     (λ cut. subst P (sym (text_parts c.args.protocol c.args.shape c.args.steps.now))
     (front_after _ _ _ (heading_text (heading_for c.args.protocol c.args.shape) ++ codes "\n") (steps_text c.args.shape c.args.steps.now) wrote cut))
     c.write_records.ensures.front

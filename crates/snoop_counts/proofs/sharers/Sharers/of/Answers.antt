@@ -1,8 +1,8 @@
 use Rattle.std.proofs.Common.{ℕ, ◌<◌, List, [], length, sym, ap, ◌∙◌, arith}
 use Rattle.std.proofs.lemmas.Option.{get_or_from_slice_get}
 use Rattle.snoop_blocks.specs.CoreSet.{has}
+use Rattle.snoop_engine.proofs.RangeLemmas.{filter_range}
 use Rattle.snoop_counts.specs.Sharers.{is_shared_by}
-use Rattle.snoop_counts.proofs.SharerLemmas.{filter_range}
 use Rattle.snoop_counts.proofs.sharers.Sharers.of.Goals as goal
 
 pub returns-in-Some : goal.returns-in-Some

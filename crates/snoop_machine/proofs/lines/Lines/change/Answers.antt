@@ -9,7 +9,8 @@ use Rattle.snoop_machine.specs.Cache.{Contents, no_cache, line_in, changed}
 use Rattle.snoop_machine.specs.Lines.{line_at}
 use Rattle.snoop_machine.proofs.ProperLines.{settled}
 use Rattle.snoop_machine.proofs.LineMaps.{in_rows, line_seen, mover_placed}
-use Rattle.snoop_machine.proofs.LineChanges.{HasWritten, lines_after, rows_wrote, many_kept, others_kept, lines_stay, line_gone, lines_elsewhere, lines_gone}
+use Rattle.snoop_machine.proofs.LineParts.{stands}
+use Rattle.snoop_machine.proofs.LineChanges.{HasWritten, lines_after, rows_wrote, room_kept, many_kept, others_kept, lines_stay, line_gone, lines_elsewhere, lines_gone}
 use Rattle.snoop_machine.proofs.lines.Lines.change.Given.{Over}
 use Rattle.snoop_machine.proofs.lines.Lines.change.Goals as goal
 use Rattle.snoop_machine.proofs.lines.Lines.change.Goals.{After-index_mut-cache, After-follow}
@@ -54,6 +55,11 @@ follow-requires-clause-core g c =
     let few = c.self.invariant.few in
     omega (arith, h, few)
 
+pub follow-requires-clause-stands : goal.follow-requires-clause-stands
+follow-requires-clause-stands g c =
+    let d = (goal.at.follow-requires-clause-stands g c).After-index_mut-cache in
+    stands c.self.inside.caches.items c.self.inside.holders c.self.invariant c.args.core c.args.block (within g d).0 c.index_mut-cache.result.now (read g d) c.change-before.result c.change-before.ensures.before
+
 place : (g : Over) (c : After-index_mut-cache g) → ((line_at c.args.self.now.rows c.args.core c.args.block).state ≢ I) ⊎ (c.args.next ≢ I)
 place g c = elim c.requires.place [ inl held ↦ inl held | inr new ↦ inr new.1 ]
 
@@ -69,9 +75,8 @@ wrote g c =
       proper = c.requires.proper;
       here = c.change-before.ensures.here ∙ ap (λ (x : Line). changed c.args.next c.args.change x) (was g d);
       others = c.change-before.ensures.others;
-      before = c.change-before.result;
-      was = c.change-before.ensures.before;
       followed = c.follow.ensures;
+      room = c.change-before.ensures.room;
     }
 
 pub invariant_of-self : goal.invariant_of-self
@@ -99,3 +104,6 @@ returns-clause-lines g c =
 
 pub returns-clause-others : goal.returns-clause-others
 returns-clause-others g c = others_kept (wrote g (goal.at.returns-clause-others g c).After-follow) c.args.self.now c.self.view_is
+
+pub returns-clause-room : goal.returns-clause-room
+returns-clause-room g c = room_kept (wrote g (goal.at.returns-clause-room g c).After-follow) c.args.self.now c.self.view_is

@@ -4,7 +4,8 @@ use Rattle.std.specs.Map.{lookup}
 use Rattle.std.proofs.lemmas.List.{get_or_read}
 use Rattle.snoop_machine.specs.Cache.{Contents, no_cache, filled_line}
 use Rattle.snoop_machine.proofs.LineMaps.{in_rows, held_placed}
-use Rattle.snoop_machine.proofs.LineChanges.{HasWritten, lines_after, rows_wrote, lines_stay}
+use Rattle.snoop_machine.proofs.LineParts.{stands}
+use Rattle.snoop_machine.proofs.LineChanges.{HasWritten, lines_after, rows_wrote, room_kept, lines_stay}
 use Rattle.snoop_machine.proofs.lines.Lines.fill.Given.{Over}
 use Rattle.snoop_machine.proofs.lines.Lines.fill.Goals as goal
 use Rattle.snoop_machine.proofs.lines.Lines.fill.Goals.{After-index_mut-cache, After-follow}
@@ -34,6 +35,11 @@ follow-requires-clause-core g c =
     let few = c.self.invariant.few in
     omega (arith, h, few)
 
+pub follow-requires-clause-stands : goal.follow-requires-clause-stands
+follow-requires-clause-stands g c =
+    let d = (goal.at.follow-requires-clause-stands g c).After-index_mut-cache in
+    stands c.self.inside.caches.items c.self.inside.holders c.self.invariant c.args.core c.args.block (within g d).0 c.index_mut-cache.result.now (read g d) c.fill-before.result c.fill-before.ensures.before
+
 -- the map has the filled line, and the holders have followed
 wrote : (g : Over) (c : After-follow g)
     → HasWritten c.self.inside.caches.items c.self.inside.holders c.args.core c.args.block (filled_line c.args.next c.args.access c.args.words.now) c.index_mut-cache.result.now c.fill-before.new.self c.follow.new.holders
@@ -46,9 +52,8 @@ wrote g c =
       proper = c.requires.proper;
       here = c.fill-before.ensures.here;
       others = c.fill-before.ensures.others;
-      before = c.fill-before.result;
-      was = c.fill-before.ensures.before;
       followed = c.follow.ensures;
+      room = c.fill-before.ensures.room;
     }
 
 pub invariant_of-self : goal.invariant_of-self
@@ -59,3 +64,6 @@ returns-clause-rows g c = rows_wrote (wrote g (goal.at.returns-clause-rows g c).
 
 pub returns-clause-lines : goal.returns-clause-lines
 returns-clause-lines g c = lines_stay (wrote g (goal.at.returns-clause-lines g c).After-follow) c.args.self.now c.self.view_is c.fill-before.ensures.blocks
+
+pub returns-clause-room : goal.returns-clause-room
+returns-clause-room g c = room_kept (wrote g (goal.at.returns-clause-room g c).After-follow) c.args.self.now c.self.view_is

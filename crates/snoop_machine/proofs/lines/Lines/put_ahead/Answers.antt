@@ -2,11 +2,12 @@ use Rattle.std.proofs.Common.{◌≡◌, ℕ, ◌<◌, List, ◌++◌, ◌∷◌
 use Rattle.std.specs.Prelude.{slice_index_or, slice_set, nat_eq, map}
 use Rattle.std.specs.Map.{lookup}
 use Rattle.std.proofs.lemmas.List.{get_or_read, map-set}
-use Rattle.snoop_machine.specs.Cache.{Contents, no_cache, line_in, blocks_of}
+use Rattle.snoop_machine.specs.Cache.{Contents, no_cache, line_in, blocks_of, KeepsSpare}
 use Rattle.snoop_machine.specs.Lines.{Held}
 use Rattle.snoop_machine.proofs.MapRows.{rows-same}
 use Rattle.snoop_machine.proofs.LineMaps.{in_maps, among_seen, spare_seen, blocks_seen}
 use Rattle.snoop_machine.proofs.LineParts.{AreLines-alike}
+use Rattle.snoop_machine.proofs.LineChanges.{spares_kept}
 use Rattle.snoop_machine.proofs.lines.Lines.put_ahead.Given.{Over}
 use Rattle.snoop_machine.proofs.lines.Lines.put_ahead.Goals as goal
 use Rattle.snoop_machine.proofs.lines.Lines.put_ahead.Goals.{After-index_mut-cache}
@@ -47,3 +48,9 @@ returns-clause-lines g c =
     ∙ (ap (λ (blocks : List ℕ). slice_set (map blocks_of c.self.inside.caches.items) c.args.core blocks)
     (c.put_ahead.ensures.blocks ∙ ap (λ (blocks : List ℕ). blocks ++ c.args.block ∷ []) (ap blocks_of (read g d) ∙ blocks_seen c.self.inside.caches.items c.self.inside.holders c.args.self.now c.self.view_is c.args.core))
     ∙ ap (λ (lines : List (List ℕ)). slice_set lines c.args.core (slice_index_or c.args.self.now.lines c.args.core [] ++ c.args.block ∷ [])) (ap (λ (h : Held). h.lines) c.self.view_is))
+
+pub returns-clause-room : goal.returns-clause-room
+returns-clause-room g c =
+    let d = (goal.at.returns-clause-room g c).After-index_mut-cache in
+    spares_kept c.self.inside.caches.items c.self.inside.holders c.args.self.now c.self.view_is c.args.core c.put_ahead.new.self c.self.inside.holders (within g d)
+    (subst (λ (cache : Contents). KeepsSpare cache c.put_ahead.new.self) (read g d) c.put_ahead.ensures.room)

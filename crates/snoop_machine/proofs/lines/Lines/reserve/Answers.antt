@@ -2,11 +2,12 @@ use Rattle.std.proofs.Common.{◌≡◌, ℕ, ◌<◌, List, length, sym, ◌∙
 use Rattle.std.specs.Prelude.{slice_index_or, slice_set, map, OnOk}
 use Rattle.std.specs.Map.{keys_of}
 use Rattle.std.proofs.lemmas.List.{get_or_read, get_or-set_same, map-set}
-use Rattle.snoop_machine.specs.Cache.{Contents, no_cache}
+use Rattle.snoop_machine.specs.Cache.{Contents, no_cache, KeepsSpare}
 use Rattle.snoop_machine.specs.Lines.{Held}
 use Rattle.snoop_machine.proofs.MapRows.{rows-same, line-same, blocks-same, spare-at}
 use Rattle.snoop_machine.proofs.LineMaps.{in_maps}
 use Rattle.snoop_machine.proofs.LineParts.{AreLines-alike}
+use Rattle.snoop_machine.proofs.LineChanges.{spares_kept}
 use Rattle.snoop_machine.proofs.lines.Lines.reserve.Given.{Over}
 use Rattle.snoop_machine.proofs.lines.Lines.reserve.Goals as goal
 use Rattle.snoop_machine.proofs.lines.Lines.reserve.Goals.{After-reserve}
@@ -14,11 +15,12 @@ use Rattle.snoop_machine.proofs.lines.Lines.reserve.Goals.{After-reserve}
 within : (g : Over) (c : After-reserve g) → c.args.core < length c.self.inside.caches.items
 within g c = in_maps c.self.inside.caches.items c.self.inside.holders c.args.self.now c.self.view_is c.args.core c.requires.core
 
+read : (g : Over) (c : After-reserve g) → c.index_mut-cache.result.now ≡ slice_index_or c.self.inside.caches.items c.args.core no_cache
+read g c = get_or_read c.self.inside.caches.items c.args.core c.index_mut-cache.result.now (within g c) c.index_mut-cache.ensures.value no_cache
+
 -- the map's entries are as they were
 same : (g : Over) (c : After-reserve g) → c.reserve.new.self.entries ≡ (slice_index_or c.self.inside.caches.items c.args.core no_cache).entries
-same g c =
-    c.reserve.ensures.same
-    ∙ ap (λ (cache : Contents). cache.entries) (get_or_read c.self.inside.caches.items c.args.core c.index_mut-cache.result.now (within g c) c.index_mut-cache.ensures.value no_cache)
+same g c = c.reserve.ensures.same ∙ ap (λ (cache : Contents). cache.entries) (read g c)
 
 pub invariant_of-self : goal.invariant_of-self
 invariant_of-self g c =
@@ -58,3 +60,9 @@ returns-clause-spares g c =
     map-set (λ (cache : Contents). cache.spare) c.self.inside.caches.items c.args.core c.reserve.new.self
     ∙ (ap (λ (n : ℕ). slice_set (map (λ (cache : Contents). cache.spare) c.self.inside.caches.items) c.args.core n) (sym (here g d))
     ∙ ap (λ (h : Held). slice_set h.spares c.args.core (slice_index_or (spares g d) c.args.core 0)) c.self.view_is)
+
+pub returns-clause-room : goal.returns-clause-room
+returns-clause-room g c =
+    let d = (goal.at.returns-clause-room g c).After-reserve in
+    spares_kept c.self.inside.caches.items c.self.inside.holders c.args.self.now c.self.view_is c.args.core c.reserve.new.self c.self.inside.holders (within g d)
+    (subst (λ (cache : Contents). KeepsSpare cache c.reserve.new.self) (read g d) c.reserve.ensures.room)

@@ -1,11 +1,9 @@
-use Rattle.std.proofs.Common.{◌≡◌, ◌≢◌, ℕ, ◌<◌, length, arith, refl, sym, ap, ◌∙◌, subst, Option, Some, None}
+use Rattle.std.proofs.Common.{◌≡◌, ℕ, ◌<◌, length, arith, sym, ap, ◌∙◌, subst, Option, Some, None}
 use Rattle.std.specs.Prelude.{slice_index_or}
-use Rattle.snoop_trace.specs.Words.{Data}
 use Rattle.snoop_rules.specs.declared.names.CacheState.{CacheState}
 use Rattle.snoop_rules.specs.declared.names.CacheEvent.{CacheEvent}
 use Rattle.snoop_rules.specs.declared.names.CacheAction.{CacheAction}
 use Rattle.snoop_rules.specs.declared.names.MemAction.{MemAction}
-use Rattle.snoop_rules.specs.declared.names.MemAction.TheVariants as mem_action
 use Rattle.snoop_rules.specs.declared.names.MemEvent.{MemEvent}
 use Rattle.snoop_rules.specs.declared.names.MemState.{MemState}
 use Rattle.snoop_rules.specs.declared.names.Payload.{Payload}
@@ -14,9 +12,8 @@ use Rattle.snoop_rules.specs.Cell.{Cell}
 use Rattle.snoop_rules.specs.MemoryCell.{MemoryCell}
 use Rattle.snoop_rules.specs.Possible.{IsImpossible}
 use Rattle.snoop_rules.specs.Takers.{seen_by, at_memory}
-use Rattle.snoop_model.specs.Pictures.Picture.{held_at}
-use Rattle.snoop_model.specs.Pictures.Message.{free_picture, memory_message}
-use Rattle.snoop_model.specs.Pictures.Sends.{Sends}
+use Rattle.snoop_model.specs.Pictures.Picture.{free_picture, held_at}
+use Rattle.snoop_model.specs.Pictures.Sends.{Sends, IsOnlySender}
 use Rattle.snoop_model.proofs.Tables.SentBy.{sent_by, sends_row}
 use Rattle.snoop_model.proofs.Lines.TheSender.{Silent-none, Silent-more, Silent-past, Silent-all}
 use Rattle.snoop_machine.proofs.ConcernedCores.{concerned_within, waits_within, Cell-passed}
@@ -24,7 +21,6 @@ use Rattle.snoop_machine.proofs.lines.Lines.sender.Given.{Over}
 use Rattle.snoop_machine.proofs.lines.Lines.sender.Goals as goal
 use Rattle.snoop_machine.proofs.lines.Lines.sender.Goals.{In-Some, In-Some-cache_cell, In-Some-next}
 use Rattle.snoop_machine.specs.Lines.{row_of}
-use Rattle.snoop_machine.specs.Sender.{IsSender}
 use Rattle.snoop_machine.specs.PartsView.{no_memory}
 
 -- memory's row
@@ -37,17 +33,8 @@ memory_row g c =
 -- who sends is the only one that does
 sends : (g : Over) (c : In-Some g) (from : Option ℕ) (payload : Payload)
     → Sends c.args.protocol (free_picture (row_of c.args.self.now.rows c.args.block) (slice_index_or c.args.memory.now c.args.block no_memory)) c.args.requestor c.args.request from payload
-    → IsSender c.args.protocol (free_picture (row_of c.args.self.now.rows c.args.block) (slice_index_or c.args.memory.now c.args.block no_memory)) c.args.requestor c.args.request from payload
-sends g c from payload sent = record {
-  rows = c.requires.rows;
-  only = record { sends = sent; alone = λ other message h. c.requires.line.sent.alone other message h ∙ sym (c.requires.line.sent.alone from payload sent) };
-}
-
--- memory sends no message by an action that isn't to send one
-no_message : (act : MemAction) (value : Data) → ((payload : Payload) → act ≢ mem_action.Send payload) → memory_message act value ≡ None
-no_message (mem_action.Send payload) value none = absurd (none payload refl)
-no_message mem_action.None value none = refl
-no_message mem_action.Write value none = refl
+    → IsOnlySender c.args.protocol (free_picture (row_of c.args.self.now.rows c.args.block) (slice_index_or c.args.memory.now c.args.block no_memory)) c.args.requestor c.args.request from payload
+sends g c from payload sent = record { sends = sent; alone = λ other message h. c.requires.line.sent.alone other message h ∙ sym (c.requires.line.sent.alone from payload sent) }
 
 pub returns-in-Some-sent_by_memory-clause-sender : goal.returns-in-Some-sent_by_memory-clause-sender
 returns-in-Some-sent_by_memory-clause-sender g c =
@@ -96,7 +83,7 @@ loop-core-init g c =
     let held = slice_index_or c.args.memory.now c.args.block no_memory in
     let before = free_picture (row_of c.args.self.now.rows c.args.block) held in (
       Silent-none c.args.protocol before c.args.requestor c.args.request c.in-Some.row.action c.in-Some.row.next
-          (memory_row g d) (no_message c.in-Some.row.action held.value c.in_default-sent_by_memory.ensures.none),
+          (memory_row g d) c.in_default-sent_by_memory.ensures.none,
       omega arith,
     )
 

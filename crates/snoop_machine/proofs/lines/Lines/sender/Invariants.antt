@@ -1,7 +1,7 @@
 use Rattle.std.proofs.Common.{◌≤◌, ◌-◌, length}
 use Rattle.std.specs.Prelude.{slice_index_or}
 use Rattle.snoop_machine.specs.PartsView.{no_memory}
-use Rattle.snoop_model.specs.Pictures.Message.{free_picture}
+use Rattle.snoop_model.specs.Pictures.Picture.{free_picture}
 use Rattle.snoop_model.proofs.Lines.TheSender.{SilentBelow}
 use Rattle.snoop_machine.proofs.lines.Lines.sender.Given as goal
 use Rattle.snoop_machine.specs.Lines.{row_of}

@@ -15,8 +15,8 @@ use Rattle.snoop_machine.specs.Cache.{Contents, no_cache, line_of, line_in, bloc
 use Rattle.snoop_machine.specs.Lines.{held, gone, line_at, TookRow}
 use Rattle.snoop_machine.proofs.ProperLines.{settled, moves_to_same}
 use Rattle.snoop_machine.proofs.LineMaps.{in_rows, line_seen, gone-same, is_I}
-use Rattle.snoop_machine.proofs.LineParts.{followed-still}
-use Rattle.snoop_machine.proofs.LineChanges.{HasWritten, lines_after, rows_wrote, many_kept, others_kept, lines_stay, line_gone, lines_elsewhere, lines_gone}
+use Rattle.snoop_machine.proofs.LineParts.{stands, followed-still}
+use Rattle.snoop_machine.proofs.LineChanges.{HasWritten, lines_after, rows_wrote, room_kept, many_kept, others_kept, lines_stay, line_gone, lines_elsewhere, lines_gone}
 use Rattle.snoop_machine.proofs.lines.Lines.take_row.Given.{Over}
 use Rattle.snoop_machine.proofs.lines.Lines.take_row.Goals as goal
 use Rattle.snoop_machine.proofs.lines.Lines.take_row.Goals.{After-index_mut-cache, After-take_row, In-Some, In_default, After-follow}
@@ -56,6 +56,7 @@ took g c action next after wrote row stays taken lines = record {
   many = many_kept wrote c.args.self.now c.self.view_is;
   lines = lines;
   others = others_kept wrote c.args.self.now c.self.view_is;
+  room = room_kept wrote c.args.self.now c.self.view_is;
 }
 
 -- a line that stays is as after its row
@@ -73,9 +74,9 @@ stayed g c =
       proper = subst (λ (x : Line). IsProper x) (sym (moves_to_same held_line proper) ∙ ap (λ (x : Line). moves_to x.state x) (was g d)) proper;
       here = subst (λ (x : Line). line_in c.take_row.new.self c.args.block ≡ moves_to x.state x) (was g d) same;
       others = c.take_row.ensures.others;
-      before = old.state;
-      was = sym (ap (λ (x : Line). x.state) (was g d));
-      followed = followed-still c.args.core c.args.block old.state c.self.inside.holders;
+      followed = followed-still c.args.core c.args.block old.state c.self.inside.holders
+          (stands c.self.inside.caches.items c.self.inside.holders c.self.invariant c.args.core c.args.block (within g d).0 c.index_mut-cache.result.now (read g d) old.state (sym (ap (λ (x : Line). x.state) (was g d))));
+      room = c.take_row.ensures.room;
     }
 
 -- a line that moves has taken its row
@@ -101,9 +102,8 @@ moved g c =
         | inr ne ↦ c.in-Some.ensures.here ne ∙ ap (λ (x : Line). moves_to next x) (was g d)
       ];
       others = c.take_row.ensures.others;
-      before = c.in-Some.before;
-      was = c.in-Some.ensures.before;
       followed = c.follow.ensures;
+      room = c.take_row.ensures.room;
     }
 
 -- a line that moves leaves its state, or does not come to I
@@ -133,6 +133,11 @@ follow-requires-clause-core g c =
     let h = (within g (goal.at.follow-requires-clause-core g c).After-index_mut-cache).1 in
     let few = c.self.invariant.few in
     omega (arith, h, few)
+
+pub follow-requires-clause-stands : goal.follow-requires-clause-stands
+follow-requires-clause-stands g c =
+    let d = (goal.at.follow-requires-clause-stands g c).After-index_mut-cache in
+    stands c.self.inside.caches.items c.self.inside.holders c.self.invariant c.args.core c.args.block (within g d).0 c.index_mut-cache.result.now (read g d) c.in-Some.before c.in-Some.ensures.before
 
 -- where the line stays
 pub invariant_of-self : goal.invariant_of-self

@@ -1,13 +1,15 @@
 use Rattle.std.proofs.Common.{◌≡◌, ◌<◌, ◌≤◌, ◌++◌, ◌∷◌, [], ◌∙◌, ℕ, List, sym, ap, subst, length, arith, refl}
-use Rattle.std.specs.Prelude.{slice_set, slice_index, slice_index_or}
+use Rattle.std.specs.Prelude.{slice_set, slice_index_or}
 use Rattle.std.proofs.lemmas.Grind.{common_steps}
 use Rattle.std.proofs.lemmas.Result.{err_from_is_err_and}
 use Rattle.std.proofs.lemmas.List.{length-set}
 use Rattle.snoop_bus.specs.Traffic.{Traffic, Waiting, waiting_of}
-use Rattle.snoop_machine.specs.PartsView.{Fields, fields, places_of, IsSound}
+use Rattle.snoop_machine.specs.PartsView.{Fields, fields, shown_spares, IsSound}
 use Rattle.snoop_model.specs.Pictures.Lines.{Line}
 use Rattle.snoop_model.specs.Moves.Standing.{Standing}
-use Rattle.snoop_machine.proofs.Room.{held_in, held_in-set, keeps_room, places-full, places-map, places-queue}
+use Rattle.snoop_model.specs.Moves.Prepared.{places}
+use Rattle.snoop_machine.specs.Lines.{KeepsSpares}
+use Rattle.snoop_machine.proofs.Room.{held_in, held_in-set, keeps_room, shown-same, places-map, places-queue}
 use Rattle.snoop_machine.proofs.QueueViews.{queues_of-room, same_traffic, IsSound-room}
 use Rattle.snoop_machine.proofs.parts.Parts.add_line.Given.{Over}
 use Rattle.snoop_machine.proofs.parts.Parts.add_line.Goals as goal
@@ -42,24 +44,32 @@ pub returns-in_err-reserve-clause-full : goal.returns-in_err-reserve-clause-full
 returns-in_err-reserve-clause-full g c =
     let m = (fields c.self.inside.protocol c.self.inside.shape c.self.inside.lines c.self.inside.memory c.self.inside.bus c.self.inside.log) in
     let p = err_from_is_err_and c.from_residual.result c.from_residual.ensures.1 in
-    let P : Standing → Type 0 = λ s. slice_index s.places c.args.core ≡ 0 in
-    rw p.1 (subst P c.self.view_is (places-map m.bus.queues m.lines.spares c.args.core c.in_err-reserve.ensures.full))
+    let P : Standing → Type 0 = λ s. places s c.args.core ≡ 0 in
+    rw p.1 (subst P c.self.view_is (places-map m c.args.core c.in_err-reserve.ensures.full))
 
 pub returns-in_err-reserve-2-clause-full : goal.returns-in_err-reserve-2-clause-full
 returns-in_err-reserve-2-clause-full g c =
     let m = (fields c.self.inside.protocol c.self.inside.shape c.self.inside.lines c.self.inside.memory c.self.inside.bus c.self.inside.log) in
     let p = err_from_is_err_and c.from_residual-in_err-reserve-2.result c.from_residual-in_err-reserve-2.ensures.1 in
-    let P : Standing → Type 0 = λ s. slice_index s.places c.args.core ≡ 0 in
-    rw p.1 (subst P c.self.view_is (places-queue m.bus.queues m.lines.spares c.args.core c.in_err-reserve-2.ensures.full))
+    let P : Standing → Type 0 = λ s. places s c.args.core ≡ 0 in
+    rw p.1 (subst P c.self.view_is (places-queue m c.args.core c.in_err-reserve-2.ensures.full))
 
 pub returns-in_err-reserve-2-clause-refused : goal.returns-in_err-reserve-2-clause-refused
 returns-in_err-reserve-2-clause-refused g c =
     let m = (fields c.self.inside.protocol c.self.inside.shape c.self.inside.lines c.self.inside.memory c.self.inside.bus c.self.inside.log) in
     let after = c.reserve.new.self in
     let p = err_from_is_err_and c.from_residual-in_err-reserve-2.result c.from_residual-in_err-reserve-2.ensures.1 in
-    let places : places_of m.bus.queues after.spares ≡ places_of m.bus.queues m.lines.spares =
-    ap (λ (spares : List ℕ). places_of m.bus.queues spares) c.reserve.ensures.spares ∙ places-full m.bus.queues m.lines.spares c.args.core _ c.in_err-reserve-2.ensures.full in
-    rw (p.1, c.in_err-reserve-2.ensures.refused, c.reserve.ensures.rows, c.reserve.ensures.lines, places) c.self.view_is
+    let shown : shown_spares m.bus.queues after.spares ≡ shown_spares m.bus.queues m.lines.spares =
+    ap (λ (spares : List ℕ). shown_spares m.bus.queues spares) c.reserve.ensures.spares ∙ shown-same m.bus.queues m.lines.spares c.args.core _ c.in_err-reserve-2.ensures.full in
+    rw (p.1, c.in_err-reserve-2.ensures.refused, c.reserve.ensures.rows, c.reserve.ensures.lines, shown) c.self.view_is
+
+pub returns-in_err-reserve-2-clause-room : goal.returns-in_err-reserve-2-clause-room
+returns-in_err-reserve-2-clause-room g c =
+    let m = (fields c.self.inside.protocol c.self.inside.shape c.self.inside.lines c.self.inside.memory c.self.inside.bus c.self.inside.log) in
+    let new : Fields = record m { lines = c.reserve.new.self; bus = c.reserve-2.new.self } in
+    let queues : (core : ℕ) → held_in m.bus.queues core ≤ held_in c.reserve-2.new.self.queues core =
+    λ core. (let B : Traffic → Type 0 = λ bus. held_in m.bus.queues core ≤ held_in bus.queues core in subst B (sym c.in_err-reserve-2.ensures.refused) (omega arith)) in
+    keeps_room m new c.args.self.now c.self.view_is (omega arith) queues c.reserve.ensures.room
 
 pub returns-clause-ok : goal.returns-clause-ok
 returns-clause-ok g c = grind (arith, common_steps)
@@ -83,4 +93,9 @@ returns-clause-room g c =
     let more = c.reserve-2.ensures.room in
     let new : Fields = record m { lines = c.put_ahead.new.self; bus = c.reserve-2.new.self } in
     let Q : List Waiting → Type 0 = λ queues. (k : ℕ) → held_in m.bus.queues k ≤ held_in queues k in
-    keeps_room m new c.args.self.now c.self.view_is (omega arith) (subst Q (sym c.reserve-2.ensures.queue) (held_in-set m.bus.queues core queue in_queues (omega arith)))
+    let spares : KeepsSpares m.lines new.lines = λ k.
+    (let grown = c.reserve.ensures.room k in
+    let used = c.put_ahead.ensures.room k in
+    let same = ap (λ (lines : List (List ℕ)). length (slice_index_or lines k [])) c.reserve.ensures.lines in
+    omega arith) in
+    keeps_room m new c.args.self.now c.self.view_is (omega arith) (subst Q (sym c.reserve-2.ensures.queue) (held_in-set m.bus.queues core queue in_queues (omega arith))) spares

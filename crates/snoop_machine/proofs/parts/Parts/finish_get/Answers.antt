@@ -1,4 +1,4 @@
-use Rattle.std.proofs.Common.{◌≡◌, ℕ, ◌++◌, ◌∷◌, [], List, length, Some, None, Bool, true, false, ◌∙◌, refl, sym, ap, subst, Option, arith}
+use Rattle.std.proofs.Common.{◌≡◌, ℕ, ◌+◌, ◌≤◌, ◌++◌, ◌∷◌, [], List, length, Some, None, Bool, true, false, ◌∙◌, refl, sym, ap, subst, Option, arith}
 use Rattle.std.specs.Prelude.{◌≢◌, ◌<◌, slice_set, slice_index_or, option_map, IfSome}
 use Rattle.std.proofs.lemmas.Option.{same_Some}
 use Rattle.snoop_bus.specs.Traffic.{Open}
@@ -6,7 +6,7 @@ use Rattle.snoop_rules.specs.declared.names.CacheState.TheVariants.{I}
 use Rattle.snoop_rules.specs.declared.names.Request.TheVariants.{PutM}
 use Rattle.snoop_history.specs.declared.items.Item.{Item}
 use Rattle.snoop_model.specs.declared.replies.Reply.TheVariants as reply
-use Rattle.std.proofs.lemmas.List.{length-set}
+use Rattle.std.proofs.lemmas.List.{length-append, length-set}
 use Rattle.snoop_rules.specs.Waits.{waiting_request}
 use Rattle.snoop_rules.specs.declared.names.Request.{Request}
 use Rattle.snoop_history.specs.Journal.{Journal}
@@ -19,15 +19,16 @@ use Rattle.snoop_model.specs.Pictures.Picture.{Picture, held_by}
 use Rattle.snoop_model.specs.Moves.Standing.{Standing}
 use Rattle.snoop_model.specs.Pictures.Situation.{Situation, picture_of, with_picture}
 use Rattle.snoop_model.specs.Pictures.Sound.{IsProper, keeps, request_for, missed_request}
-use Rattle.snoop_machine.specs.PartsView.{fields, standing, pictures_of, queues_of, no_memory, IsSound}
+use Rattle.snoop_machine.specs.PartsView.{Fields, fields, standing, pictures_of, queues_of, no_memory, IsSound}
 use Rattle.snoop_machine.specs.Cache.{filled_line}
 use Rattle.snoop_machine.specs.Lines.{row_of, line_at}
 use Rattle.snoop_model.specs.Moves.Move.{Fills, ArrivesFor, ArrivesAtMemory, Responds, Settles, came_of, next_did, written}
-use Rattle.snoop_model.specs.declared.line.Access.{Access}
+use Rattle.snoop_model.specs.declared.access.Access.{Access}
 use Rattle.snoop_machine.proofs.PlacedLines.{placed}
 use Rattle.snoop_machine.proofs.LineWrites.{IsSound-line}
 use Rattle.snoop_machine.proofs.QueueViews.{IsSound-close}
 use Rattle.snoop_model.proofs.Tables.Rows.{fill-waits, IsProper-fill}
+use Rattle.snoop_machine.proofs.Room.{held_in, keeps_room}
 use Rattle.snoop_machine.proofs.Responses.{Arrives-get}
 use Rattle.snoop_machine.proofs.Following.{follows-set}
 use Rattle.snoop_machine.proofs.LineMaps.{gone-none}
@@ -200,3 +201,17 @@ fill-requires-clause-core g c =
     let in_cores = core_in m c.self.invariant c.args.self.now c.self.view_is c.in-Some.closing.core (in_core g d) in
     let in_blocks = block_in m c.self.invariant c.args.self.now c.self.view_is c.args.came.block c.requires.block in
     rw (c.self.invariant.sound.row c.args.came.block in_blocks) in_cores
+
+pub returns-clause-room : goal.returns-clause-room
+returns-clause-room g c =
+    let m = (fields c.self.inside.protocol c.self.inside.shape c.self.inside.lines c.self.inside.memory c.self.inside.bus c.self.inside.log) in
+    let entry : Item = item.Came c.args.came (Some c.next_did-did.result) in
+    let long = length-append m.log.items (entry ∷ []) in
+    let had : 0 < m.log.room = (let R : Standing → Type 0 = λ x. 0 < x.room in subst R (sym c.self.view_is) c.requires.room) in
+    let items : length m.log.items + m.log.room ≤ length c.push.new.self.items + c.push.new.self.room =
+    (let J : Journal → Type 0 = λ j. length m.log.items + m.log.room ≤ length j.items + j.room in
+    subst J (sym c.push.ensures) (omega arith)) in
+    let queues : (core : ℕ) → held_in m.bus.queues core ≤ held_in c.finish.new.self.queues core =
+    λ core. (let B : Traffic → Type 0 = λ b. held_in m.bus.queues core ≤ held_in b.queues core in subst B (sym c.finish.ensures.after) (omega arith)) in
+    let new : Fields = record m { lines = c.fill.new.self; memory = c.settle.new.self; bus = c.finish.new.self; log = c.push.new.self } in
+    keeps_room m new c.args.self.now c.self.view_is items queues c.fill.ensures.room

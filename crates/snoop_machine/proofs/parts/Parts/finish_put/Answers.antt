@@ -1,11 +1,11 @@
-use Rattle.std.proofs.Common.{◌≡◌, ◌++◌, ◌∷◌, [], List, length, Option, Some, None, ◌∙◌, refl, sym, ap, subst}
+use Rattle.std.proofs.Common.{◌≡◌, ℕ, ◌+◌, ◌<◌, ◌≤◌, ◌++◌, ◌∷◌, [], List, length, Option, Some, None, ◌∙◌, refl, sym, ap, subst, arith}
 use Rattle.std.specs.Prelude.{option_map, slice_index_or}
 use Rattle.std.proofs.lemmas.Option.{same_Some}
 use Rattle.snoop_bus.specs.Traffic.{Open}
 use Rattle.snoop_history.specs.declared.items.Item.{Item}
 use Rattle.snoop_model.specs.declared.replies.Reply.TheVariants as reply
 use Rattle.snoop_model.specs.Pictures.Lines.{MemLine}
-use Rattle.std.proofs.lemmas.List.{length-set, set-get_or}
+use Rattle.std.proofs.lemmas.List.{length-append, length-set, set-get_or}
 use Rattle.snoop_history.specs.Journal.{Journal}
 use Rattle.snoop_history.specs.declared.items.Came.{Came}
 use Rattle.snoop_history.specs.declared.items.Item.TheVariants as item
@@ -13,10 +13,11 @@ use Rattle.snoop_bus.specs.Traffic.{Traffic}
 use Rattle.snoop_model.specs.Pictures.Picture.{Picture}
 use Rattle.snoop_model.specs.Moves.Standing.{Standing}
 use Rattle.snoop_model.specs.Pictures.Situation.{Situation, picture_of, with_picture}
-use Rattle.snoop_machine.specs.PartsView.{fields, standing, pictures_of, queues_of, no_memory, IsSound}
+use Rattle.snoop_machine.specs.PartsView.{Fields, fields, standing, pictures_of, queues_of, no_memory, IsSound}
 use Rattle.snoop_machine.specs.Lines.{row_of}
 use Rattle.snoop_model.specs.Moves.Move.{ArrivesFor, ArrivesAtMemory, Responds, Settles, came_of, written}
 use Rattle.snoop_machine.proofs.QueueViews.{IsSound-close}
+use Rattle.snoop_machine.proofs.Room.{held_in, keeps_room, KeepsSpares-same}
 use Rattle.snoop_machine.proofs.Responses.{Arrives-put}
 use Rattle.snoop_machine.proofs.parts.Parts.finish_put.Given.{Over}
 use Rattle.snoop_machine.proofs.parts.Parts.finish_put.Goals as goal
@@ -110,3 +111,17 @@ returns-clause-lines g c =
     follows-rows m c.self.invariant c.args.self.now c.self.view_is _ c.args.came.block next m.lines c.requires.block
     (picture-written m c.args.came.block next m.lines.rows c.settle.new.self c.finish.new.self.transactions (sym (set-get_or m.lines.rows c.args.came.block [])) c.settle.ensures (ap (λ (b : Traffic). b.transactions) c.finish.ensures.after)) refl
     refl (LinesGo-none c.args.came.block m.lines)
+
+pub returns-clause-room : goal.returns-clause-room
+returns-clause-room g c =
+    let m = (fields c.self.inside.protocol c.self.inside.shape c.self.inside.lines c.self.inside.memory c.self.inside.bus c.self.inside.log) in
+    let entry : Item = item.Came c.args.came None in
+    let long = length-append m.log.items (entry ∷ []) in
+    let had : 0 < m.log.room = (let R : Standing → Type 0 = λ x. 0 < x.room in subst R (sym c.self.view_is) c.requires.room) in
+    let items : length m.log.items + m.log.room ≤ length c.push.new.self.items + c.push.new.self.room =
+    (let J : Journal → Type 0 = λ j. length m.log.items + m.log.room ≤ length j.items + j.room in
+    subst J (sym c.push.ensures) (omega arith)) in
+    let queues : (core : ℕ) → held_in m.bus.queues core ≤ held_in c.finish.new.self.queues core =
+    λ core. (let B : Traffic → Type 0 = λ b. held_in m.bus.queues core ≤ held_in b.queues core in subst B (sym c.finish.ensures.after) (omega arith)) in
+    let new : Fields = record m { memory = c.settle.new.self; bus = c.finish.new.self; log = c.push.new.self } in
+    keeps_room m new c.args.self.now c.self.view_is items queues (KeepsSpares-same m.lines)

@@ -89,7 +89,7 @@ returns-clause-room g c =
     let long : length requests ≡ length before.requests + 1 = length-append before.requests ((c.args.request, c.args.block) ∷ []) in
     let new : Fields = record m { lines = c.change.new.self; bus = c.issue.new.self } in
     let Q : List Waiting → Type 0 = λ queues. (k : ℕ) → held_in m.bus.queues k ≤ held_in queues k in
-    keeps_room m new c.args.self.now c.self.view_is (omega arith) (subst Q (sym c.issue.ensures.queue) (held_in-set m.bus.queues core queue in_queues (omega arith)))
+    keeps_room m new c.args.self.now c.self.view_is (omega arith) (subst Q (sym c.issue.ensures.queue) (held_in-set m.bus.queues core queue in_queues (omega arith))) c.change.ensures.room
 
 pub returns-clause-lines : goal.returns-clause-lines
 returns-clause-lines g c =

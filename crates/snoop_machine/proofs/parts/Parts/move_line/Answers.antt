@@ -1,13 +1,14 @@
-use Rattle.std.proofs.Common.{◌≡◌, ℕ, sym, subst, List, ap, ◌∙◌, refl, inl}
+use Rattle.std.proofs.Common.{◌≡◌, ℕ, sym, subst, List, ap, ◌∙◌, arith, refl, inl}
 use Rattle.snoop_rules.specs.Waits.{waiting_request}
 use Rattle.snoop_model.specs.Pictures.Lines.{Line}
 use Rattle.snoop_model.specs.Pictures.Picture.{Picture, held_by, with_line}
 use Rattle.snoop_model.specs.Pictures.Situation.{Situation, picture_of, with_picture}
 use Rattle.snoop_model.specs.Moves.Standing.{Standing}
-use Rattle.snoop_machine.specs.PartsView.{fields, standing, IsSound}
+use Rattle.snoop_machine.specs.PartsView.{Fields, fields, standing, IsSound}
 use Rattle.snoop_machine.proofs.PictureViews.{seen, state_seen, line-written, core_in, block_in, sized_on}
 use Rattle.snoop_machine.proofs.LineWrites.{IsSound-line}
 use Rattle.snoop_machine.proofs.Following.{follows-set}
+use Rattle.snoop_machine.proofs.Room.{keeps_room}
 use Rattle.snoop_model.specs.Pictures.Sound.{IsProper}
 use Rattle.snoop_machine.specs.Cache.{changed, IsOfWords}
 use Rattle.snoop_machine.specs.Lines.{line_at}
@@ -56,6 +57,12 @@ returns-clause-written g c =
     let next : Picture = with_line (picture_of c.args.self.now.situation c.args.block) c.args.core (line g d) in
     ap (λ (l : List Picture). let t : Situation = record (standing m).situation { pictures = l } in t) (line-written m c.self.invariant c.args.self.now c.self.view_is c.args.block c.change.new.self.rows c.args.core (line g d) (wrote g d))
     ∙ ap (λ (s : Standing). with_picture s.situation c.args.block next) c.self.view_is
+
+pub returns-clause-room : goal.returns-clause-room
+returns-clause-room g c =
+    let m = (fields c.self.inside.protocol c.self.inside.shape c.self.inside.lines c.self.inside.memory c.self.inside.bus c.self.inside.log) in
+    let new : Fields = record m { lines = c.change.new.self } in
+    keeps_room m new c.args.self.now c.self.view_is (omega arith) (λ core. omega arith) c.change.ensures.room
 
 pub returns-clause-lines : goal.returns-clause-lines
 returns-clause-lines g c =

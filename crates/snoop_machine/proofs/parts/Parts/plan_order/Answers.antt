@@ -1,28 +1,32 @@
 use Rattle.std.proofs.Common.{◌≡◌, ◌<◌, Option, Some, None, refl, sym, ap, subst, ◌∙◌, false}
-use Rattle.std.specs.Prelude.{ℕ, length, is_some, slice_index_or}
+use Rattle.std.specs.Prelude.{ℕ, length, is_some, option_copied, slice_index_or}
 use Rattle.snoop_trace.specs.declared.step.Step.TheVariants.{Order}
 use Rattle.snoop_rules.specs.Takers.{at_memory, seen_by}
 use Rattle.snoop_rules.specs.Waits.{waiting_request}
+use Rattle.std.specs.Borrow.{Bor}
 use Rattle.snoop_bus.specs.Traffic.{Open}
-use Rattle.snoop_model.specs.Pictures.Picture.{Picture, held_by}
+use Rattle.snoop_model.specs.Pictures.Picture.{Picture, free_picture, held_by}
 use Rattle.snoop_model.specs.Moves.Standing.{Standing}
-use Rattle.snoop_model.specs.Pictures.Situation.{picture_of}
+use Rattle.snoop_model.specs.Pictures.Situation.{picture_of, state_of}
 use Rattle.snoop_model.specs.Moves.LookUps.{HasRow}
 use Rattle.snoop_model.specs.Moves.SenderTable.{FollowsSenderTable}
-use Rattle.snoop_model.specs.Pictures.Message.{free_picture}
 use Rattle.snoop_model.specs.Moves.Move.{TakesMemRow}
 use Rattle.snoop_model.proofs.Invariant.Coherence.{orders_follow_sender_table, finds_rows}
 use Rattle.snoop_model.proofs.OneBlock.OfBlocks.{same_picture}
 use Rattle.snoop_machine.specs.declared.plan.Plan.TheVariants as plan
 use Rattle.snoop_machine.proofs.Plans.{plan-allowed}
 use Rattle.snoop_machine.specs.Plan.{IsPlan}
-use Rattle.snoop_machine.specs.Sender.{IsSender}
+use Rattle.snoop_model.specs.Pictures.Sends.{IsOnlySender}
 use Rattle.snoop_machine.specs.PartsView.{Fields, fields, standing, no_memory, IsWhole}
 use Rattle.snoop_machine.specs.Lines.{row_of}
 use Rattle.snoop_machine.proofs.parts.Parts.plan_order.Given.{Over}
 use Rattle.snoop_machine.proofs.parts.Parts.plan_order.Goals as goal
 use Rattle.snoop_machine.proofs.parts.Parts.plan_order.Goals.{After-sender-from}
 use Rattle.snoop_machine.proofs.PictureViews.{seen, picture_in, state_seen}
+
+some_copied : (o : Option (Bor Open)) → is_some (option_copied o) ≡ is_some o
+some_copied None = refl
+some_copied (Some x) = refl
 
 none_from_is_some : (o : Option Open) → is_some o ≡ false → o ≡ None
 none_from_is_some None h = refl
@@ -45,7 +49,7 @@ sender-from-requires-clause-waits g c =
 pub sender-from-requires-clause-rows : goal.sender-from-requires-clause-rows
 sender-from-requires-clause-rows g c =
     let m = (fields c.self.inside.protocol c.self.inside.shape c.self.inside.lines c.self.inside.memory c.self.inside.bus c.self.inside.log) in
-    let free = none_from_is_some _ (ap is_some (sym c.transaction.ensures.value) ∙ (sym c.is_some.ensures ∙ c.if-is_some.false)) in
+    let free = none_from_is_some _ (ap is_some (sym c.transaction.ensures.value) ∙ (some_copied c.transaction.result ∙ (sym c.is_some.ensures ∙ c.if-is_some.false))) in
     let protocol = ap (λ (s : Standing). s.situation.protocol) c.self.view_is in
     let s = c.args.self.now.situation in
     let request = c.in-Some.request in
@@ -56,7 +60,7 @@ sender-from-requires-clause-rows g c =
 pub sender-from-requires-clause-line : goal.sender-from-requires-clause-line
 sender-from-requires-clause-line g c =
     let m = (fields c.self.inside.protocol c.self.inside.shape c.self.inside.lines c.self.inside.memory c.self.inside.bus c.self.inside.log) in
-    let free = none_from_is_some _ (ap is_some (sym c.transaction.ensures.value) ∙ (sym c.is_some.ensures ∙ c.if-is_some.false)) in
+    let free = none_from_is_some _ (ap is_some (sym c.transaction.ensures.value) ∙ (some_copied c.transaction.result ∙ (sym c.is_some.ensures ∙ c.if-is_some.false))) in
     let protocol = ap (λ (s : Standing). s.situation.protocol) c.self.view_is in
     let Q : Picture → Type 0 = λ p. FollowsSenderTable c.self.inside.protocol p c.args.core c.in-Some.request in
     subst Q (sym (picture m c.self.invariant c.args.self.now c.self.view_is c.in-Some.block free))
@@ -66,13 +70,16 @@ sender-from-requires-clause-line g c =
 plan_is : (g : Over) (c : After-sender-from g) → IsPlan c.args.self.now.situation (plan.Order c.args.core c.in-Some.request c.in-Some.block c.sender-from.result.from c.sender-from.result.payload c.sender-from.result.memory)
 plan_is g c =
     let m = (fields c.self.inside.protocol c.self.inside.shape c.self.inside.lines c.self.inside.memory c.self.inside.bus c.self.inside.log) in
-    let free = none_from_is_some _ (ap is_some (sym c.transaction.ensures.value) ∙ (sym c.is_some.ensures ∙ c.if-is_some.false)) in
+    let free = none_from_is_some _ (ap is_some (sym c.transaction.ensures.value) ∙ (some_copied c.transaction.result ∙ (sym c.is_some.ensures ∙ c.if-is_some.false))) in
     let protocol = ap (λ (s : Standing). s.situation.protocol) c.self.view_is in
-    let Q : Picture → Type 0 = λ p. IsSender c.self.inside.protocol p c.args.core c.in-Some.request c.sender-from.result.from c.sender-from.result.payload in
+    let s = c.args.self.now.situation in
+    let Q : Picture → Type 0 = λ p. IsOnlySender c.self.inside.protocol p c.args.core c.in-Some.request c.sender-from.result.from c.sender-from.result.payload in
     let R : Picture → Type 0 = λ p. TakesMemRow c.self.inside.protocol (at_memory c.in-Some.request) p.memory.state c.sender-from.result.memory in
+    let rows : (k : ℕ) → k < length (picture_of s c.in-Some.block).caches → HasRow s.protocol (state_of s k c.in-Some.block) (seen_by k c.args.core c.in-Some.request) = λ k inside.
+    (finds_rows s c.requires.inductive (Order c.args.core)).cache k c.in-Some.block (Some (seen_by k c.args.core c.in-Some.request)) (c.in-Some.request, ((c.in-Some.ensures.some.waits, free), refl)) in
     let sent = subst Q (picture m c.self.invariant c.args.self.now c.self.view_is c.in-Some.block free) c.sender-from.ensures.sender in
     let row = subst R (picture m c.self.invariant c.args.self.now c.self.view_is c.in-Some.block free) c.sender-from.ensures.memory in
-    (c.requires.core, record { head = c.in-Some.ensures.some; free = free; memory_row = rw (← protocol) row; sent = rw (← protocol) sent })
+    (c.requires.core, record { head = c.in-Some.ensures.some; free = free; memory_row = rw (← protocol) row; rows = rows; sender = rw (← protocol) sent })
 
 pub returns-clause-found : goal.returns-clause-found
 returns-clause-found g c = (refl, plan_is g (goal.at.returns-clause-found g c).After-sender-from)

@@ -1,5 +1,5 @@
-use Rattle.std.proofs.Common.{rules, arith, ℕ, ◌≡◌, ◌≢◌, ◌<◌, true, false, Some, refl, sym, ap, ◌∙◌, subst}
-use Rattle.std.specs.Prelude.{Option, IfSome, IsSomeAnd, IsTrue, option_map}
+use Rattle.std.proofs.Common.{rules, arith, ℕ, ◌≡◌, ◌≢◌, true, false, Some, refl, sym, ap, ◌∙◌, subst}
+use Rattle.std.specs.Prelude.{Option, IfSome, IsSomeAnd, IsTrue, option_copied, option_map}
 use Rattle.snoop_rules.specs.declared.names.MemState.{MemState}
 use Rattle.snoop_bus.specs.Traffic.{Open}
 use Rattle.snoop_history.specs.declared.items.Came.{Came}
@@ -24,17 +24,17 @@ pub settle-memory-requires : goal.settle-memory-requires
 settle-memory-requires g c =
     let s = c.args.self.now.situation in
     let block = c.args.block in
-    let closing = c.in-Some.closing in
+    let closing = c.in-Some.closing.now in
     let P : MemState → Type 0 = λ x. IsTrue (takes_payload closing.request x) → IsSomeAnd (arrival_at_memory closing.payload) (HasMemRow c.self.inside.protocol x) in
     let Q : Standing → Type 0 = λ x. IsTrue (takes_payload closing.request (picture_of s block).memory.state) → IsSomeAnd (arrival_at_memory closing.payload) (HasMemRow x.situation.protocol (picture_of s block).memory.state) in
     let finds = finds_rows s c.requires.inductive (Respond block) in
     subst P (sym c.memory_state.ensures) (subst Q (sym c.self.view_is)
-    (λ takes. finds.memory block (arrival_at_memory closing.payload) (closing, (refl, sym c.transaction.ensures.value ∙ c.in-Some.is, takes, refl))))
+    (λ takes. finds.memory block (arrival_at_memory closing.payload) (closing, (refl, sym c.transaction.ensures.value ∙ ap option_copied c.in-Some.is, takes, refl))))
 
 pub fill-filled-requires-clause-possible : goal.fill-filled-requires-clause-possible
 fill-filled-requires-clause-possible g c =
     let s = c.args.self.now.situation in
-    let closing = c.in-Some.closing in
+    let closing = c.in-Some.closing.now in
     let get : closing.request ≢ PutM = elim c.match-matches.branch [
       | in-PutM w ↦ λ e. (let clash : true ≡ false = sym w.matches-is ∙ c.if-matches.false in cc)
       | in_default-matches w ↦ w.in_default-matches.not-PutM
@@ -44,16 +44,16 @@ fill-filled-requires-clause-possible g c =
     let Q : Standing → Type 0 = λ x. IsSomeAnd (arrival closing.payload) (HasRow x.situation.protocol line.state) in
     let finds = finds_rows s c.requires.inductive (Respond c.args.block) in
     subst P (sym c.line-found.ensures.line) (subst Q (sym c.self.view_is)
-    (finds.cache closing.core c.args.block (arrival closing.payload) (closing, (refl, sym c.transaction.ensures.value ∙ c.in-Some.is, refl, get, refl))))
+    (finds.cache closing.core c.args.block (arrival closing.payload) (closing, (refl, sym c.transaction.ensures.value ∙ ap option_copied c.in-Some.is, refl, get, refl))))
 
 pub fill-filled-requires-clause-word : goal.fill-filled-requires-clause-word
 fill-filled-requires-clause-word g c =
     let held = sym (ap (λ (x : Standing). x.situation.shape.words) c.self.view_is) ∙ c.self.invariant.sized.held in
-    rw c.line-found.ensures.line (waiting_held c.args.self.now.situation _ c.in-Some.closing.core c.args.block held c.requires.inductive)
+    rw c.line-found.ensures.line (waiting_held c.args.self.now.situation _ c.in-Some.closing.now.core c.args.block held c.requires.inductive)
 
 -- the transaction is open
-opened : (g : Over) (c : After-came-came g) → (picture_of c.args.self.now.situation c.args.block).transaction ≡ Some c.in-Some.closing
-opened g c = sym c.transaction.ensures.value ∙ c.in-Some.is
+opened : (g : Over) (c : After-came-came g) → (picture_of c.args.self.now.situation c.args.block).transaction ≡ Some c.in-Some.closing.now
+opened g c = sym c.transaction.ensures.value ∙ ap option_copied c.in-Some.is
 
 -- the response is to this block's
 its : (g : Over) (c : After-came-came g) → c.came-came.result.block ≡ c.args.block
@@ -62,7 +62,7 @@ its g c = ap (λ (x : Came). x.block) c.came-came.ensures ∙ c.in-Some.ensures.
 closes : (g : Over) (c : After-came-came g) → IsClosing c.args.self.now.situation c.came-came.result c.settle-memory.result
 closes g c =
     let s = c.args.self.now.situation in
-    let closing = c.in-Some.closing in
+    let closing = c.in-Some.closing.now in
     let P : Came → Type 0 = λ came. IsClosing s came c.settle-memory.result in
     let Q : MemState → Type 0 = λ x. Settles c.self.inside.protocol closing.request closing.payload x c.settle-memory.result.action c.settle-memory.result.next in
     let R : Standing → Type 0 = λ x. Settles x.situation.protocol closing.request closing.payload (picture_of s c.args.block).memory.state c.settle-memory.result.action c.settle-memory.result.next in
@@ -78,7 +78,7 @@ closes g c =
 pub returns-then-matches-clause-found : goal.returns-then-matches-clause-found
 returns-then-matches-clause-found g c =
     let d = (goal.at.returns-then-matches-clause-found g c).After-came-came in
-    let put : c.in-Some.closing.request ≡ PutM = search rules in
+    let put : c.in-Some.closing.now.request ≡ PutM = search rules in
     let here = its g d in
     let inside = c.requires.block in
     (ap Respond (its g d), (omega arith, closes g d, ap (λ (x : Came). x.request) c.came-came.ensures ∙ put))
@@ -88,7 +88,7 @@ returns-clause-found g c =
     let d = (goal.at.returns-clause-found g c).After-came-came in
     let s = c.args.self.now.situation in
     let block = c.args.block in
-    let closing = c.in-Some.closing in
+    let closing = c.in-Some.closing.now in
     let get : closing.request ≢ PutM = elim c.match-matches.branch [
       | in-PutM w ↦ λ e. (let clash : true ≡ false = sym w.matches-is ∙ c.if-matches.false in cc)
       | in_default-matches w ↦ w.in_default-matches.not-PutM

@@ -3,8 +3,7 @@ use Rattle.std.specs.Prelude.{◌==◌, not, filter, slice_set, slice_index_or, 
 use Rattle.std.specs.Option.{ForSome}
 use Rattle.snoop_trace.specs.declared.protocol.Protocol.{Protocol}
 use Rattle.snoop_rules.specs.declared.names.Payload.{Payload}
-use Rattle.snoop_model.specs.Pictures.Sends.{Sends, value_sent}
-use Rattle.snoop_machine.specs.Sender.{IsSender}
+use Rattle.snoop_model.specs.Pictures.Sends.{Sends, IsOnlySender, value_sent}
 use Rattle.std.proofs.lemmas.List.{length-set, length-append, length-drop}
 use Rattle.snoop_rules.specs.declared.names.Request.{Request}
 use Rattle.snoop_rules.specs.Takers.{at_memory, seen_by}
@@ -38,7 +37,7 @@ take_rows-requires-clause-rows g c =
     let m = (fields c.self.inside.protocol c.self.inside.shape c.self.inside.lines c.self.inside.memory c.self.inside.bus c.self.inside.log) in
     let P : Standing → Type 0 = λ s. (k : ℕ) → k < length (picture_of c.args.self.now.situation c.args.block).caches → HasRow s.situation.protocol (held_by (picture_of c.args.self.now.situation c.args.block) k).state (seen_by k c.args.core c.args.request) in
     let Q : Picture → Type 0 = λ x. (k : ℕ) → k < length x.caches → HasRow m.protocol (held_by x k).state (seen_by k c.args.core c.args.request) in
-    subst Q (seen m c.self.invariant c.args.self.now c.self.view_is c.args.block) (subst P (sym c.self.view_is) c.requires.sender.rows)
+    subst Q (seen m c.self.invariant c.args.self.now c.self.view_is c.args.block) (subst P (sym c.self.view_is) c.requires.rows)
 
 head : (g : Over) (c : After-take_rows g) → head_of c.self.inside.bus c.args.core ≡ Some (c.args.request, c.args.block)
 head g c =
@@ -103,10 +102,10 @@ returns-clause-ordered g c =
     let G : Situation → Type 0 = λ x. Orders x core block request new in
     let W : Situation → Type 0 = λ x. Waits x core block request in
     let F : Situation → Type 0 = λ x. (picture_of x block).transaction ≡ None in
-    let M : Situation → Type 0 = λ x. IsSender x.protocol (picture_of x block) core request c.args.from c.args.payload in
+    let M : Situation → Type 0 = λ x. IsOnlySender x.protocol (picture_of x block) core request c.args.from c.args.payload in
     let N : Situation → Type 0 = λ x. TakesMemRow x.protocol (at_memory request) (picture_of x block).memory.state c.args.memory in
     let R : Picture → Type 0 = λ x. TakesRows m.protocol core request x.caches (row_of c.take_rows.new.self.rows block) in
-    let sent : IsSender m.protocol (picture_of old block) core request c.args.from c.args.payload = subst M (sym is) c.requires.sender in
+    let sent : IsOnlySender m.protocol (picture_of old block) core request c.args.from c.args.payload = subst M (sym is) c.requires.sender in
     let held : (slice_index_or m.memory block no_memory).value ≡ (picture_of old block).memory.value = sym (ap (λ (x : Picture). x.memory.value) (seen m c.self.invariant (standing m) refl block)) in
     let words : c.words_sent-words.result ≡ value_sent (picture_of old block) c.args.from c.args.payload = c.words_sent-words.ensures ∙ ap (λ (x : Situation). value_sent (picture_of x block) c.args.from c.args.payload) (sym is) in
     let next : Picture = record {
@@ -118,7 +117,7 @@ returns-clause-ordered g c =
       ready = (subst W (sym is) c.requires.head.waits, subst F (sym is) c.requires.free);
       from = c.args.from;
       payload = c.args.payload;
-      sent = sent.only;
+      sent = sent;
       next = next;
       taken = subst R (sym (seen m c.self.invariant (standing m) refl block)) c.take_rows.ensures.taken;
       memory = subst N (sym is) c.requires.memory;
@@ -163,7 +162,7 @@ returns-clause-room g c =
     let items : length m.log.items + m.log.room ≤ length new.log.items + new.log.room =
     (let J : Journal → Type 0 = λ j. length m.log.items + m.log.room ≤ length j.items + j.room in
     subst J (sym pushed) (omega arith)) in
-    keeps_room m new c.args.self.now c.self.view_is items kept
+    keeps_room m new c.args.self.now c.self.view_is items kept c.take_rows.ensures.room
 
 pub returns-clause-lines : goal.returns-clause-lines
 returns-clause-lines g c =
@@ -190,4 +189,4 @@ words_sent-words-requires-clause-sender g c =
     ∙ (c.self.invariant.sound.row c.args.block (block_in m c.self.invariant c.args.self.now c.self.view_is c.args.block c.requires.head.within)
     ∙ ap (λ (x : Standing). x.situation.shape.cores) c.self.view_is) in
     let P : ℕ → Type 0 = λ n. ForSome c.args.from (λ sender. sender < n) in
-    subst P wide (sender_in s.protocol (picture_of s c.args.block) c.args.core c.args.request c.args.from c.args.payload c.requires.sender.only.sends)
+    subst P wide (sender_in s.protocol (picture_of s c.args.block) c.args.core c.args.request c.args.from c.args.payload c.requires.sender.sends)

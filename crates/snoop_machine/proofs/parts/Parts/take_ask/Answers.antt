@@ -1,7 +1,7 @@
 use Rattle.std.proofs.Common.{sym, subst}
 use Rattle.snoop_rules.specs.Takers.{asked}
 use Rattle.snoop_machine.specs.declared.ask.Asked.{Asked}
-use Rattle.snoop_model.specs.declared.line.Access.{Access}
+use Rattle.snoop_model.specs.declared.access.Access.{Access}
 use Rattle.std.specs.Prelude.{Option}
 use Rattle.snoop_model.specs.Pictures.Lines.{Line}
 use Rattle.snoop_model.specs.Pictures.Sound.{IsProper}

@@ -1,7 +1,7 @@
 use Rattle.std.proofs.Common.{◌≡◌, List, ℕ, length, ap, arith}
 use Rattle.std.specs.Fmt.{decimal}
 use Rattle.std.proofs.lemmas.Fmt.{decimal_digit}
-use Rattle.snoop_trace.proofs.streams.back.Back.put_decimal.Goals as goal
+use Rattle.snoop_trace.proofs.streams.step_text.Back.put_decimal.Goals as goal
 
 pub put-requires : goal.put-requires
 put-requires c =

@@ -1,6 +1,6 @@
 use Rattle.std.proofs.Common.{◌<◌, arith, sym, ◌∙◌, rules}
 use Rattle.snoop_trace.proofs.NumeralLemmas.{few_digits, numeral-end}
-use Rattle.snoop_trace.proofs.number.decimal.Goals as goal
+use Rattle.snoop_trace.proofs.record.decimal.Goals as goal
 
 pub overflow_mul-value : goal.overflow_mul-value
 overflow_mul-value c =

@@ -1,7 +1,7 @@
 use Rattle.std.proofs.Common.{arith}
 use Rattle.snoop_engine.specs.Packed.{values_of, words_of}
 use Rattle.snoop_engine.proofs.Packing.{words_after, values_after, steps_after, steps_counted}
-use Rattle.snoop_engine.proofs.packed.StepQueue.push.Goals as goal
+use Rattle.snoop_engine.proofs.packed.StepQueueEntriesStep.append.Goals as goal
 
 pub invariant_of-self-2 : goal.invariant_of-self-2
 invariant_of-self-2 c = (

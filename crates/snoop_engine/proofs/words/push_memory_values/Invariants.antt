@@ -1,8 +1,0 @@
-use Rattle.std.proofs.Common.{◌≡◌, ◌++◌}
-use Rattle.std.specs.List.{flat_map, range_with_len}
-use Rattle.snoop_engine.specs.States.{memory_value_at, value_text}
-use Rattle.snoop_engine.proofs.words.push_memory_values.Given as goal
-
--- the values so far
-abbrev pub invariant-loop-word : goal.invariant-loop-word
-invariant-loop-word l = l.out.items ≡ l.fn.out.items ++ flat_map (λ word. value_text word (memory_value_at l.machine.situation l.block word)) (range_with_len 0 l.word)
