@@ -27,9 +27,6 @@ pub answers_of-push : (items : List Item) (entry : Item) (core : ℕ) → answer
 answers_of-push items entry core =
     ap (filter (λ did. did.core == core)) (operations-push items entry) ∙ filter-append (λ did. did.core == core) (operations items) (option_to_list (operation_of entry))
 
-pub next_number-push : (items : List Item) (entry : Item) (core : ℕ) → next_number (items ++ entry ∷ []) core ≡ next_number items core + length (of_core core (operation_of entry))
-next_number-push items entry core = ap length (answers_of-push items entry core) ∙ length-append (answers_of items core) (of_core core (operation_of entry))
-
 pub last_or-append : {A : Type 0} (value : A) (xs ys : List A) → last_or value (xs ++ ys) ≡ last_or (last_or value xs) ys
 last_or-append value [] ys = refl
 last_or-append value (x ∷ xs) ys = last_or-append x xs ys
