@@ -1,4 +1,5 @@
 -- Runs.
+pub mod Along
 pub mod GoOn
 pub mod AreOne
 pub mod AllTaken

@@ -23,6 +23,7 @@ use Rattle.snoop_model.proofs.OneBlock.AfterMoves.{order_here, order_other_block
 use Rattle.snoop_model.proofs.OneBlock.OfBlocks.{same_everywhere}
 use Rattle.snoop_model.proofs.Invariant.Runs.{goes_keeps, refusal_same, reset_open}
 use Rattle.snoop_model.proofs.Invariant.TableLines.{order_is_line, respond_settles}
+use Rattle.snoop_model.proofs.Runs.Along.{kept_along}
 
 abbrev OnLine : Protocol → Picture → Type 0
 OnLine p picture = IfSome picture.transaction (λ o. (before : Picture) × IsLine p before o.core o.request o.from o.payload picture.memory.state)
@@ -64,9 +65,9 @@ goes_on_lines old step (Ok answer) new g lines m = move_on_lines m.1.0 old step 
 goes_on_lines old step (Err cause) new g lines r = subst AreOnLines (sym (refusal_same old step cause new r)) lines
 
 pub run_on_lines : (steps : List Step) (outcomes : List (Result Reply Refused)) (old new : Situation) → Invariant old → AreOnLines old → RunFrom old steps outcomes new → AreOnLines new
-run_on_lines [] [] old new g lines r = subst AreOnLines (sym r) lines
-run_on_lines (step ∷ steps) (outcome ∷ outcomes) old new g lines r = run_on_lines steps outcomes r.0 new (goes_keeps old step outcome r.0 g r.1.0) (goes_on_lines old step outcome r.0 g lines r.1.0) r.1.1
-run_on_lines _ _ old new g lines r = absurd r
+run_on_lines steps outcomes old new g lines r =
+    let P : Situation → Type 0 = λ s. Invariant s × AreOnLines s in
+    (kept_along Goes P (λ s step outcome t both goes. (goes_keeps s step outcome t both.0 goes, goes_on_lines s step outcome t both.0 both.1 goes)) steps outcomes old new (g, lines) r).1
 
 pub reset_on_lines : (p : Protocol) (shape : Extent) → AreOnLines (reset p shape)
 reset_on_lines p shape block = rw (reset_open p shape block) tt

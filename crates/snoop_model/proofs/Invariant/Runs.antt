@@ -27,6 +27,7 @@ use Rattle.snoop_model.specs.Invariant.Invariant.{Invariant}
 use Rattle.snoop_model.specs.Invariant.WellKept.{IsShaped}
 use Rattle.snoop_model.proofs.Lists.Facts.{replicated}
 use Rattle.snoop_model.proofs.Invariant.Moves.{move_keeps}
+use Rattle.snoop_model.proofs.Runs.Along.{kept_along}
 
 pub nothing_proper : IsProper nothing_held
 nothing_proper = record { kept = refl; waiting = refl }
@@ -120,6 +121,4 @@ goes_keeps old step (Ok answer) new g m = move_keeps m.1.0 old step answer new m
 goes_keeps old step (Err cause) new g r = subst Invariant (sym (refusal_same old step cause new r)) g
 
 pub run_keeps : (steps : List Step) (outcomes : List (Result Reply Refused)) (old new : Situation) → Invariant old → RunFrom old steps outcomes new → Invariant new
-run_keeps [] [] old new g r = subst Invariant (sym r) g
-run_keeps (step ∷ steps) (outcome ∷ outcomes) old new g r = run_keeps steps outcomes r.0 new (goes_keeps old step outcome r.0 g r.1.0) r.1.1
-run_keeps _ _ old new g r = absurd r
+run_keeps = kept_along Goes Invariant goes_keeps

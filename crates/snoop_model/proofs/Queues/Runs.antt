@@ -38,6 +38,7 @@ use Rattle.snoop_model.proofs.Queues.Responds.{arrives_waits}
 use Rattle.snoop_model.proofs.Lists.Facts.{either_way, one_if}
 use Rattle.snoop_model.proofs.Lists.QueueCounts.{times, times_push, times_without}
 use Rattle.snoop_model.proofs.Invariant.Runs.{goes_keeps, refusal_same, reset_line}
+use Rattle.snoop_model.proofs.Runs.Along.{kept_along}
 
 abbrev waits : CacheState → ℕ
 waits s = one_if (is_some (waiting_request s))
@@ -168,9 +169,9 @@ goes_queued old step (Ok answer) new g q m = move_queued m.1.0 old step answer n
 goes_queued old step (Err cause) new g q r = subst AreQueued (sym (refusal_same old step cause new r)) q
 
 pub run_queued : (steps : List Step) (outcomes : List (Result Reply Refused)) (old new : Situation) → Invariant old → AreQueued old → RunFrom old steps outcomes new → AreQueued new
-run_queued [] [] old new g q r = subst AreQueued (sym r) q
-run_queued (step ∷ steps) (outcome ∷ outcomes) old new g q r = run_queued steps outcomes r.0 new (goes_keeps old step outcome r.0 g r.1.0) (goes_queued old step outcome r.0 g q r.1.0) r.1.1
-run_queued _ _ old new g q r = absurd r
+run_queued steps outcomes old new g q r =
+    let P : Situation → Type 0 = λ s. Invariant s × AreQueued s in
+    (kept_along Goes P (λ s step outcome t both goes. (goes_keeps s step outcome t both.0 goes, goes_queued s step outcome t both.0 both.1 goes)) steps outcomes old new (g, q) r).1
 
 empty_queue : (cores core : ℕ) → queue_of (replicate cores []) core ≡ []
 empty_queue cores core = elim (cases_lt core cores) [

@@ -1,16 +1,17 @@
 -- Runs whose steps were all taken.
-use Rattle.std.proofs.Common.{◌≡◌, List, [], ◌∷◌, ◌++◌, map, Option, refl, ap, ◌∙◌, subst}
-use Rattle.std.specs.Prelude.{Result, Ok, count_by}
+use Rattle.std.proofs.Common.{◌≡◌, List, [], ◌∷◌, ◌++◌, map, refl, ap, sym, ◌∙◌, subst}
+use Rattle.std.specs.Prelude.{Result, Ok, Err, count_by}
 use Rattle.snoop_trace.specs.declared.step.Step.{Step}
-use Rattle.snoop_history.specs.declared.items.Item.{Item}
 use Rattle.snoop_model.specs.declared.replies.Reply.{Reply}
 use Rattle.snoop_model.specs.declared.replies.Refused.{Refused}
+use Rattle.snoop_model.specs.declared.replies.Refused.TheVariants.{NoMemory}
+use Rattle.std.proofs.lemmas.List.{map-append}
 use Rattle.snoop_model.specs.Pictures.Situation.{Situation, reset}
-use Rattle.snoop_model.specs.Moves.Move.{FirstMove}
 use Rattle.snoop_model.specs.Runs.Once.{asks, taken}
-use Rattle.snoop_model.specs.Runs.Run.{FirstRunFrom, RunFrom, TakenBegins, TakenGoesOn}
+use Rattle.snoop_model.specs.Runs.Run.{Goes, GoesFirst, FirstRunFrom, RunFrom, TakenBegins, TakenGoesOn}
 use Rattle.snoop_model.specs.Runs.Tallied.{AskedAreTallied}
 use Rattle.snoop_model.proofs.Once.Runs.{run_asked_once}
+use Rattle.snoop_model.proofs.Runs.Along.{run_more, seen_along}
 
 -- the outcomes of steps that were all taken
 abbrev all_ok : List Reply → List (Result Reply Refused)
@@ -19,21 +20,19 @@ all_ok replies = map (λ reply. Ok reply) replies
 pub taken_begins : TakenBegins
 taken_begins protocol shape = ([], refl)
 
-one_more : (old middle new : Situation) (steps : List Step) (replies : List Reply) (step : Step) (answer : Reply) (entry : Option Item)
-    → FirstRunFrom old steps (all_ok replies) middle → FirstMove middle step answer new entry → FirstRunFrom old (steps ++ step ∷ []) (all_ok (replies ++ answer ∷ [])) new
-one_more old middle new [] [] step answer entry run move = (new, ((entry, subst (λ (s : Situation). FirstMove s step answer new entry) run move), refl))
-one_more old middle new (x ∷ steps) (y ∷ replies) step answer entry run move = (run.0, (run.1.0, one_more run.0 middle new steps replies step answer entry run.1.1 move))
-one_more old middle new _ _ step answer entry run move = absurd run
-
 pub taken_goes_on : TakenGoesOn
 taken_goes_on protocol shape steps step answer entry middle new taken move =
-    (taken.0 ++ answer ∷ [], one_more (reset protocol shape) middle new steps taken.0 step answer entry taken.1 move)
+    let run = run_more GoesFirst steps (all_ok taken.0) (reset protocol shape) middle new step (Ok answer) taken.1 (entry, move) in
+    (taken.0 ++ answer ∷ [], subst (λ (outcomes : List (Result Reply Refused)). FirstRunFrom (reset protocol shape) (steps ++ step ∷ []) outcomes new) (sym (map-append (λ (reply : Reply). Ok reply) taken.0 (answer ∷ []))) run)
 
 -- the same steps as a run on any block
-as_run : (old new : Situation) (steps : List Step) (replies : List Reply) → FirstRunFrom old steps (all_ok replies) new → RunFrom old steps (all_ok replies) new
-as_run old new [] [] run = run
-as_run old new (step ∷ steps) (answer ∷ replies) run = (run.0, ((run.1.0.0, (run.1.0.1.0, run.1.0.1.1.1)), as_run run.0 new steps replies run.1.1))
-as_run old new _ _ run = absurd run
+goes_on_any : (old : Situation) (step : Step) (outcome : Result Reply Refused) (new : Situation) → GoesFirst old step outcome new → Goes old step outcome new
+goes_on_any old step (Ok answer) new goes = (goes.0, (goes.1.0, goes.1.1.1))
+goes_on_any old step (Err NoMemory) new goes = goes.1
+goes_on_any old step (Err cause) new goes = goes
+
+as_run : (steps : List Step) (outcomes : List (Result Reply Refused)) (old new : Situation) → FirstRunFrom old steps outcomes new → RunFrom old steps outcomes new
+as_run = seen_along GoesFirst Goes (λ s. s) goes_on_any
 
 -- none of them was refused
 none_refused : (old new : Situation) (steps : List Step) (replies : List Reply) → FirstRunFrom old steps (all_ok replies) new → taken steps (all_ok replies) ≡ steps
@@ -43,5 +42,5 @@ none_refused old new _ _ run = absurd run
 
 pub asked_are_tallied : AskedAreTallied
 asked_are_tallied protocol shape steps s all core block wanted =
-    let once = run_asked_once protocol shape steps (all_ok all.0) s (as_run (reset protocol shape) s steps all.0 all.1) core block wanted in
+    let once = run_asked_once protocol shape steps (all_ok all.0) s (as_run steps (all_ok all.0) (reset protocol shape) s all.1) core block wanted in
     once ∙ ap (λ (l : List Step). count_by (asks core block wanted) l) (none_refused (reset protocol shape) s steps all.0 all.1)

@@ -63,6 +63,7 @@ use Rattle.snoop_model.proofs.Steps.Orders.{Ordered}
 use Rattle.snoop_model.proofs.Steps.Responds as responds
 use Rattle.snoop_model.proofs.Steps.Responds.{Filled, Arrived, Remembered}
 use Rattle.snoop_model.proofs.OneBlock.Possible.{Answerable, ask_possible, respond_possible}
+use Rattle.snoop_model.proofs.Runs.Along.{kept_along}
 
 -- what the actions of an Ask are: a hit is of a load or a store, in a state that keeps a value
 abbrev is_asked : CacheAction → CacheEvent → Bool
@@ -342,9 +343,7 @@ steady_on keeps old step (Ok answer) new steady goes = (first_keeps old step ans
 steady_on keeps old step (Err cause) new steady goes = subst IsSteady (sym goes.1) steady
 
 pub run_steady : KeepsWell → (steps : List Step) (outcomes : List (Result Reply Refused)) (old new : Situation) → IsSteady old → FirstRunFrom old steps outcomes new → IsSteady new
-run_steady keeps [] [] old new steady run = subst IsSteady (sym run) steady
-run_steady keeps (step ∷ steps) (outcome ∷ outcomes) old new steady run = run_steady keeps steps outcomes run.0 new (steady_on keeps old step outcome run.0 steady run.1.0) run.1.1
-run_steady keeps _ _ old new steady run = absurd run
+run_steady keeps = kept_along GoesFirst IsSteady (steady_on keeps)
 
 -- some run of these steps
 abbrev pub SomeRun : Situation → List Step → Type 0

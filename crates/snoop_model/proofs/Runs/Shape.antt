@@ -1,5 +1,5 @@
 -- Steps leave the protocol and the shape.
-use Rattle.std.proofs.Common.{◌≡◌, ℕ, List, [], ◌∷◌, Option, ap, ◌∙◌, inl, inr}
+use Rattle.std.proofs.Common.{◌≡◌, ℕ, List, Option, refl, ap, ◌∙◌, inl, inr}
 use Rattle.std.specs.Prelude.{Result, Ok, Err, IfOk, IfErr}
 use Rattle.snoop_trace.specs.declared.step.Step.{Step}
 use Rattle.snoop_trace.specs.declared.step.Step.TheVariants.{Ask, Order, Respond}
@@ -10,9 +10,10 @@ use Rattle.snoop_model.specs.Pictures.Situation.{Situation}
 use Rattle.snoop_model.specs.Moves.Standing.{Standing}
 use Rattle.snoop_model.specs.Moves.Move.{MoveOn, FirstMove}
 use Rattle.snoop_model.specs.Moves.StepMove.{RefusedFor}
-use Rattle.snoop_model.specs.Runs.Run.{Goes, RunFrom}
-use Rattle.snoop_model.specs.Runs.Runs.{Answers, RunsOn}
+use Rattle.snoop_model.specs.Runs.Run.{Goes, RunFrom, RunBy}
+use Rattle.snoop_model.specs.Runs.Runs.{Answers, AnswersSafely}
 use Rattle.snoop_model.proofs.Invariant.Runs.{refusal_same}
+use Rattle.snoop_model.proofs.Runs.Along.{kept_along}
 
 -- the protocol and the shape are as they were
 abbrev pub IsAlike : Situation → Situation → Type 0
@@ -41,9 +42,7 @@ goes_stays old new step (Ok answer) m = on_stays m.1.0 old new step answer m.0 m
 goes_stays old new step (Err cause) r = same_alike old new (refusal_same old step cause new r)
 
 pub run_stays : (steps : List Step) (outcomes : List (Result Reply Refused)) (old new : Situation) → RunFrom old steps outcomes new → IsAlike old new
-run_stays [] [] old new r = same_alike old new r
-run_stays (step ∷ steps) (outcome ∷ outcomes) old new r = alike_on old r.0 new (goes_stays old r.0 step outcome r.1.0) (run_stays steps outcomes r.0 new r.1.1)
-run_stays _ _ old new r = absurd r
+run_stays steps outcomes old new = kept_along Goes (IsAlike old) (λ s step outcome t far goes. alike_on old s t far (goes_stays s t step outcome goes)) steps outcomes old new (refl, refl)
 
 -- a step, taken or refused
 pub step_stays : (old new : Standing) (step : Step) (result : Result Reply Refused) → IfOk result (λ reply. (entry : Option Item) × FirstMove old.situation step reply new.situation entry)
@@ -56,7 +55,7 @@ answer_stays old new step (Ok answer) a = move_stays old.situation new.situation
 answer_stays old new step (Err cause) a = same_alike old.situation new.situation (ap (λ (s : Standing). s.situation) a.2)
 
 -- steps in order
-pub steps_stay : (steps : List Step) (outcomes : List (Result Reply Refused)) (old new : Standing) → RunsOn old steps outcomes new → IsAlike old.situation new.situation
-steps_stay [] [] old new r = same_alike old.situation new.situation (ap (λ (s : Standing). s.situation) r)
-steps_stay (step ∷ steps) (outcome ∷ outcomes) old new r = alike_on old.situation r.0.situation new.situation (answer_stays old r.0 step outcome r.1.0) (steps_stay steps outcomes r.0 new r.1.2)
-steps_stay _ _ old new r = absurd r
+pub steps_stay : (steps : List Step) (outcomes : List (Result Reply Refused)) (old new : Standing) → RunBy AnswersSafely old steps outcomes new → IsAlike old.situation new.situation
+steps_stay steps outcomes old new =
+    let P : Standing → Type 0 = λ s. IsAlike old.situation s.situation in
+    kept_along AnswersSafely P (λ s step outcome t far goes. alike_on old.situation s.situation t.situation far (answer_stays s t step outcome goes.0)) steps outcomes old new (refl, refl)

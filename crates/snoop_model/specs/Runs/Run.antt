@@ -18,25 +18,24 @@ Goes old step (Ok answer) new = (entry : Option Item) × ((block : ℕ) × MoveO
 Goes old step (Err NoMemory) new = new ≡ old
 Goes old step (Err cause) new = Refuses old step cause × (new ≡ old)
 
--- from old, these steps with these outcomes lead to new
+-- from old, these steps with these outcomes lead to new, each as `One` says of a step
+abbrev pub RunBy : {A : Type 0} → (A → Step → Result Reply Refused → A → Type 0) → A → List Step → List (Result Reply Refused) → A → Type 0
+RunBy One old [] [] new = new ≡ old
+RunBy {A} One old (step ∷ steps) (outcome ∷ outcomes) new = (middle : A) × (One old step outcome middle × RunBy One middle steps outcomes new)
+RunBy One old _ _ new = ⊥
+
+-- each step as one of a run
 abbrev pub RunFrom : Situation → List Step → List (Result Reply Refused) → Situation → Type 0
-RunFrom old [] [] new = new ≡ old
-RunFrom old (step ∷ steps) (outcome ∷ outcomes) new =
-    (middle : Situation) × (Goes old step outcome middle × RunFrom middle steps outcomes new)
-RunFrom old _ _ new = ⊥
+RunFrom old steps outcomes new = RunBy Goes old steps outcomes new
 
 -- one step of the run of some steps: each Order is on the block that stands first, and memory is ample
 abbrev pub GoesFirst : Situation → Step → Result Reply Refused → Situation → Type 0
 GoesFirst old step (Ok answer) new = (entry : Option Item) × FirstMove old step answer new entry
 GoesFirst old step (Err cause) new = Refuses old step cause × (new ≡ old)
 
--- from old, these steps with these outcomes lead to new, each as in the run of some steps
+-- each step as one of the run of some steps
 abbrev pub FirstRunFrom : Situation → List Step → List (Result Reply Refused) → Situation → Type 0
-FirstRunFrom old [] [] new = new ≡ old
-FirstRunFrom old (step ∷ steps) (outcome ∷ outcomes) new =
-    (middle : Situation) × (GoesFirst old step outcome middle × FirstRunFrom middle steps outcomes new)
-FirstRunFrom old [] (outcome ∷ outcomes) new = ⊥
-FirstRunFrom old (step ∷ steps) [] new = ⊥
+FirstRunFrom old steps outcomes new = RunBy GoesFirst old steps outcomes new
 
 -- the run of these steps from reset
 abbrev pub TheRun : Protocol → Extent → List Step → List (Result Reply Refused) → Situation → Type 0

@@ -12,6 +12,7 @@ use Rattle.snoop_model.specs.Moves.StepMove.{RefusedFor}
 use Rattle.snoop_model.specs.Moves.Prepared.{IsFull}
 use Rattle.snoop_model.specs.Moves.Holding.{HoldsOn}
 use Rattle.snoop_model.specs.Runs.Once.{OnceMore}
+use Rattle.snoop_model.specs.Runs.Run.{RunBy}
 use Rattle.snoop_model.specs.Runs.Safe.{IsSafe}
 
 -- one step as a machine answers it: a move, an Order being on the block that stands first, by which no room is lost and lines come and go as they should; or a refusal, which leaves all equal, the room too, and is out of memory only where there is no room
@@ -19,17 +20,13 @@ abbrev pub Answers : Standing → Step → Result Reply Refused → Standing →
 Answers old step (Ok answer) new = ((entry : Option Item) × FirstMove old.situation step answer new.situation entry) × KeepsRoom old new × ((core : ℕ) → HoldsOn old new step core)
 Answers old step (Err cause) new = RefusedFor old.situation step cause × (cause ≡ NoMemory → IsFull old step) × (new ≡ old)
 
--- from old, these steps with these outcomes lead a machine to new, and it is safe between them too
-abbrev pub RunsOn : Standing → List Step → List (Result Reply Refused) → Standing → Type 0
-RunsOn old [] [] new = new ≡ old
-RunsOn old (step ∷ steps) (outcome ∷ outcomes) new =
-    (middle : Standing) × (Answers old step outcome middle × IsSafe middle.situation × RunsOn middle steps outcomes new)
-RunsOn old [] (outcome ∷ outcomes) new = ⊥
-RunsOn old (step ∷ steps) [] new = ⊥
+-- such a step, after which the machine is safe
+abbrev pub AnswersSafely : Standing → Step → Result Reply Refused → Standing → Type 0
+AnswersSafely old step outcome new = Answers old step outcome new × IsSafe new.situation
 
 -- the steps were taken in order, so many of them with no refusal, and each load and store of theirs once
 pub record HasRun (old : Standing) (steps : List Step) (taken : ℕ) (new : Standing) : Type 0 where
   pub outcomes : List (Result Reply Refused)
-  pub run : RunsOn old steps outcomes new
+  pub run : RunBy AnswersSafely old steps outcomes new
   pub many : taken ≡ count_by is_ok outcomes
   pub once : OnceMore old.situation steps outcomes new.situation

@@ -1,0 +1,37 @@
+-- What goes along a run, whatever is said of one step.
+use Rattle.std.proofs.Common.{◌≡◌, List, [], ◌∷◌, ◌++◌, refl, ap, sym, subst}
+use Rattle.std.specs.Prelude.{Result}
+use Rattle.snoop_trace.specs.declared.step.Step.{Step}
+use Rattle.snoop_model.specs.declared.replies.Reply.{Reply}
+use Rattle.snoop_model.specs.declared.replies.Refused.{Refused}
+use Rattle.snoop_model.specs.Runs.Run.{RunBy}
+
+module _ {A : Type 0} (One : A → Step → Result Reply Refused → A → Type 0) where
+  -- what each step keeps, a run keeps
+  pub kept_along : (P : A → Type 0) → ((old : A) (step : Step) (outcome : Result Reply Refused) (new : A) → P old → One old step outcome new → P new)
+      → (steps : List Step) (outcomes : List (Result Reply Refused)) (old new : A) → P old → RunBy One old steps outcomes new → P new
+  kept_along P keeps [] [] old new holds run = subst P (sym run) holds
+  kept_along P keeps (step ∷ steps) (outcome ∷ outcomes) old new holds run =
+      kept_along P keeps steps outcomes run.0 new (keeps old step outcome run.0 holds run.1.0) run.1.1
+  kept_along P keeps _ _ old new holds run = absurd run
+
+  -- a run, and one from where it led
+  pub run_on : (first rest : List Step) (outcomes more : List (Result Reply Refused)) (old middle new : A) → RunBy One old first outcomes middle → RunBy One middle rest more new
+      → RunBy One old (first ++ rest) (outcomes ++ more) new
+  run_on [] rest [] more old middle new run later = subst (λ s. RunBy One s rest more new) run later
+  run_on (step ∷ first) rest (outcome ∷ outcomes) more old middle new run later = (run.0, (run.1.0, run_on first rest outcomes more run.0 middle new run.1.1 later))
+  run_on _ rest _ more old middle new run later = absurd run
+
+  -- a run, and one more step
+  pub run_more : (steps : List Step) (outcomes : List (Result Reply Refused)) (old middle new : A) (step : Step) (outcome : Result Reply Refused) → RunBy One old steps outcomes middle → One middle step outcome new
+      → RunBy One old (steps ++ step ∷ []) (outcomes ++ outcome ∷ []) new
+  run_more steps outcomes old middle new step outcome run one = run_on steps (step ∷ []) outcomes (outcome ∷ []) old middle new run (new, (one, refl))
+
+-- a run is one of what is seen of it, where each step is
+pub seen_along : {A B : Type 0} (One : A → Step → Result Reply Refused → A → Type 0) (Other : B → Step → Result Reply Refused → B → Type 0) (see : A → B)
+    → ((old : A) (step : Step) (outcome : Result Reply Refused) (new : A) → One old step outcome new → Other (see old) step outcome (see new))
+    → (steps : List Step) (outcomes : List (Result Reply Refused)) (old new : A) → RunBy One old steps outcomes new → RunBy Other (see old) steps outcomes (see new)
+seen_along One Other see each [] [] old new run = ap see run
+seen_along One Other see each (step ∷ steps) (outcome ∷ outcomes) old new run =
+    (see run.0, (each old step outcome run.0 run.1.0, seen_along One Other see each steps outcomes run.0 new run.1.1))
+seen_along One Other see each _ _ old new run = absurd run
