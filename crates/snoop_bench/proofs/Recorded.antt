@@ -3,7 +3,7 @@ use Rattle.std.proofs.Common.{◌≡◌, ℕ, List, [], ◌∷◌, ◌++◌, Opt
 use Rattle.std.specs.Prelude.{option_to_list}
 use Rattle.std.proofs.lemmas.List.Elements.{All-push}
 use Rattle.snoop_trace.specs.Extent.{Extent}
-use Rattle.snoop_trace.specs.Output.{IsWithin}
+use Rattle.snoop_trace.specs.Output.{IsStepWithin}
 use Rattle.snoop_trace.specs.declared.step.Step.{Step}
 use Rattle.snoop_trace.specs.declared.protocol.Protocol.{Protocol}
 use Rattle.snoop_history.specs.declared.items.Item.{Item}
@@ -27,6 +27,6 @@ run_on s t steps after step answer entry run move protocol shape is =
     subst (λ (p : Protocol). AllTaken p t.shape after t) (sym protocol) two
 
 -- the steps stay such as are read again when one more is
-pub readable_on : (before now : Extent) (steps after : List Step) (step : Step) → All (IsWithin before) steps → IsWithin before step → now ≡ before → after ≡ steps ++ step ∷ [] → All (IsWithin now) after
+pub readable_on : (before now : Extent) (steps after : List Step) (step : Step) → All (IsStepWithin before) steps → IsStepWithin before step → now ≡ before → after ≡ steps ++ step ∷ [] → All (IsStepWithin now) after
 readable_on before now steps after step all fits shape is =
-    subst (λ (e : Extent). All (IsWithin e) after) (sym shape) (subst (λ (l : List Step). All (IsWithin before) l) (sym is) (All-push (IsWithin before) steps step all fits))
+    subst (λ (e : Extent). All (IsStepWithin e) after) (sym shape) (subst (λ (l : List Step). All (IsStepWithin before) l) (sym is) (All-push (IsStepWithin before) steps step all fits))

@@ -199,7 +199,14 @@ impl<K: Copy> Bus<K> {
     }
 
     /// The transaction that is open on the block.
-    pub fn open(&self, block: u32) -> Option<&Open<K>>
+    pub fn open(&self, block: u32) -> Option<Open<K>>
+        ensures { result ≡ transaction_on self.now block }
+    {
+        self.opened(block).copied()
+    }
+
+    /// The same where it stands, without a copy of its words.
+    pub fn opened(&self, block: u32) -> Option<&Open<K>>
         ensures { option_copied result ≡ transaction_on self.now block }
     {
         self.transactions.get_ref(block)?.as_ref()
@@ -232,7 +239,7 @@ impl<K: Copy> Bus<K> {
         ensures after { self.new ≡ record self.old { transactions = slice_set self.old.transactions block None } }
         ensures unchanged { IsNone result → self.new ≡ self.old }
     {
-        let closed = self.open(block).copied();
+        let closed = self.open(block);
         if closed.is_some() {
             self.transactions.set(block, None);
         }

@@ -29,7 +29,7 @@ use Rattle.snoop_rules.specs.Takers.{arrival, asked}
 use Rattle.snoop_rules.specs.Waits.{waiting_request}
 use Rattle.snoop_rules.proofs.Every.{all_events, all_events-at, all_states, all_states-at}
 use Rattle.snoop_history.specs.Totals.{how_many, is_put_m, performed}
-use Rattle.snoop_history.specs.Within.{IsWithin, block_of, core_of}
+use Rattle.snoop_history.specs.Within.{IsItemWithin, block_of, core_of}
 use Rattle.snoop_history.specs.declared.items.Came.{Came}
 use Rattle.snoop_history.specs.declared.items.Did.{Did}
 use Rattle.snoop_history.specs.declared.items.Item.{Item}
@@ -292,7 +292,7 @@ module _ (cores blocks words b : ℕ) (few : blocks * words ≤ 2 ^ 32) (test : 
       let up : suc block * words ≡ block * words + words = suc-mul block words in
       omega arith
 
-  performed_ones : (entry : Item) → IsWithin cores blocks words entry × IsSound cores entry
+  performed_ones : (entry : Item) → IsItemWithin cores blocks words entry × IsSound cores entry
       → sum_by (λ w. once (performed test entry && is_it (own_word words (happening.Item entry)) (place_of_word words b w))) (range_with_len 0 words) ≡ once (performed test entry && block_of entry == b)
   performed_ones (item.Did did) fits = word_ones (test did) did.block did.word words b (fits.0.operation did refl).2 (place_fits did.block did.word (fits.0.operation did refl).1 (fits.0.operation did refl).2)
   performed_ones (item.Sent sent) fits = sum_zero (range_with_len 0 words)
@@ -302,10 +302,10 @@ module _ (cores blocks words b : ℕ) (few : blocks * words ≤ 2 ^ 32) (test : 
       ∙ ap (λ (k : ℕ). once (test did && k == b)) (fits.1.1 did refl)
 
 module _ (protocol : Protocol) (shape : Extent) (frames : List Frame) (final : Situation) (run : FramesFrom (reset protocol shape) frames final) (limits : IsWithinLimits shape)
-    (within : All (IsWithin shape.cores shape.blocks shape.words) final.log) where
-  fit_all : All (λ entry. IsWithin shape.cores shape.blocks shape.words entry × IsSound shape.cores entry) (items_in frames)
-  fit_all = subst (All (λ entry. IsWithin shape.cores shape.blocks shape.words entry × IsSound shape.cores entry)) (sym (whole protocol shape frames final run))
-      (all_both (IsWithin shape.cores shape.blocks shape.words) (IsSound shape.cores) final.log within (sound_log protocol shape frames final run))
+    (within : All (IsItemWithin shape.cores shape.blocks shape.words) final.log) where
+  fit_all : All (λ entry. IsItemWithin shape.cores shape.blocks shape.words entry × IsSound shape.cores entry) (items_in frames)
+  fit_all = subst (All (λ entry. IsItemWithin shape.cores shape.blocks shape.words entry × IsSound shape.cores entry)) (sym (whole protocol shape frames final run))
+      (all_both (IsItemWithin shape.cores shape.blocks shape.words) (IsSound shape.cores) final.log within (sound_log protocol shape frames final run))
 
   few_places : shape.blocks * shape.words ≤ 2 ^ 32
   few_places =
@@ -322,7 +322,7 @@ module _ (protocol : Protocol) (shape : Extent) (frames : List Frame) (final : S
       let words : ℕ = shape.words in
       let q : ℕ → Item → Bool = λ w entry. counts_item c entry && is_it (own_word words (happening.Item entry)) (place_of_word words b w) in
       let p : Item → Bool = λ entry. counts_item c entry && block_of entry == b in
-      let P : Item → Type 0 = λ entry. IsWithin shape.cores shape.blocks words entry × IsSound shape.cores entry in
+      let P : Item → Type 0 = λ entry. IsItemWithin shape.cores shape.blocks words entry × IsSound shape.cores entry in
       let ones : (entry : Item) → P entry → sum_by (λ w. once (q w entry)) (range_with_len 0 words) ≡ once (p entry) = λ entry fits.
       ((λ i. sum_by (λ w. once (is entry i && is_it (own_word words (happening.Item entry)) (place_of_word words b w))) (range_with_len 0 words))
       ∙ performed_ones shape.cores shape.blocks words b few_places test entry fits

@@ -13,7 +13,7 @@ use Rattle.snoop_trace.specs.declared.protocol.Protocol.{Protocol}
 use Rattle.snoop_rules.specs.declared.names.CacheEvent.{CacheEvent}
 use Rattle.snoop_rules.specs.declared.names.CacheState.{CacheState}
 use Rattle.snoop_history.specs.Totals.{how_many, totals_of}
-use Rattle.snoop_history.specs.Within.{IsWithin, block_of, core_of}
+use Rattle.snoop_history.specs.Within.{IsItemWithin, block_of, core_of}
 use Rattle.snoop_history.specs.declared.items.Item.{Item}
 use Rattle.snoop_model.specs.Moves.Move.{FirstMove}
 use Rattle.snoop_model.specs.Pictures.Situation.{Situation, reset}
@@ -248,9 +248,9 @@ module _ (protocol : Protocol) (shape : Extent) (frames : List Frame) (final : S
 
 -- the items lie within the shape
 pub sums_are_totals : (protocol : Protocol) (shape : Extent) (frames : List Frame) (final : Situation) (cores blocks words : ℕ) → FramesFrom (reset protocol shape) frames final → cores ≡ shape.cores → blocks ≡ shape.blocks
-    → All (IsWithin cores blocks words) final.log → SumsAreTotals shape frames final.log
+    → All (IsItemWithin cores blocks words) final.log → SumsAreTotals shape frames final.log
 sums_are_totals protocol shape frames final cores blocks words run same_cores same_blocks all =
-    let P : Item → Type 0 = IsWithin cores blocks words in
+    let P : Item → Type 0 = IsItemWithin cores blocks words in
     record {
       cores = cores_total protocol shape frames final run shape.cores
           (subst (λ (n : ℕ). All (λ entry. core_of entry < n) final.log) same_cores (all_then P (λ entry. core_of entry < cores) (λ entry w. w.core) final.log all));

@@ -20,14 +20,6 @@ static WORD_COUNTS: [Count; 4] = [
     Count::StoreHits,
 ];
 
-// The first address of a word of a block.
-fn word_address(shape: Shape, block: u32, word: u32) -> u64
-    ensures { result ≡ word_address shape block word }
-{
-    let bytes = shape.block_bytes();
-    block as u64 * bytes as u64 + word as u64 * (bytes / shape.words()) as u64
-}
-
 // The place of a word among all words.
 fn place_of_word(shape: Shape, block: u32, word: u32) -> u32
     requires within { (block < shape.blocks) × (word < shape.words) }
@@ -77,7 +69,7 @@ fn push_word(
             push_byte(out, b',')?;
             push_decimal(out, word as u64)?;
             push_byte(out, b',')?;
-            push_decimal(out, word_address(shape, block, word))?;
+            push_decimal(out, shape.word_address(block, word))?;
             push_word_sharing(out, shape, tally, place)?;
             push_counts(out, &row, &WORD_COUNTS)?;
             push_byte(out, b'\n')

@@ -14,7 +14,7 @@ use Rattle.snoop_history.specs.declared.items.Did.{Did}
 use Rattle.snoop_history.specs.declared.items.Item.{Item}
 use Rattle.snoop_history.specs.declared.items.Totals.{Totals}
 use Rattle.snoop_history.specs.History.{operation_of, operations, next_number, is_store_to, last_or, flat, last_of}
-use Rattle.snoop_history.specs.Within.{core_of, block_of, sender_of, IsWithin, is_within, inside}
+use Rattle.snoop_history.specs.Within.{core_of, block_of, responder_of, IsItemWithin, is_within, inside}
 use Rattle.snoop_history.specs.Totals.{totals_of, capped, capped_totals}
 use Rattle.snoop_history.specs.Journal.{counted, tallied}
 use Rattle.snoop_history.specs.Board.{Tables, for_each_below, board_of, operation_within, noted, absorbed, place_of}
@@ -223,10 +223,10 @@ operation-lies cores blocks words (Some d) rest true e did is =
     subst P p (lies-within cores blocks words d (and_parts rest (nat_lt d.core cores && nat_lt d.block blocks && nat_lt d.word words) (sym e)).1)
 
 -- an item that passes the test lies within the shape
-pub passes-within : (cores blocks words : ℕ) (entry : Item) → is_within cores blocks words entry ≡ true → IsWithin cores blocks words entry
+pub passes-within : (cores blocks words : ℕ) (entry : Item) → is_within cores blocks words entry ≡ true → IsItemWithin cores blocks words entry
 passes-within cores blocks words entry e =
-    let p = and_parts (nat_lt (core_of entry) cores && nat_lt (block_of entry) blocks && option_map_or (λ core. nat_lt core cores) (sender_of entry) true) (option_map_or (λ did. nat_lt did.core cores && nat_lt did.block blocks && nat_lt did.word words) (operation_of entry) true) e in
-    let r = and_parts (nat_lt (core_of entry) cores && nat_lt (block_of entry) blocks) (option_map_or (λ core. nat_lt core cores) (sender_of entry) true) p.0 in
+    let p = and_parts (nat_lt (core_of entry) cores && nat_lt (block_of entry) blocks && option_map_or (λ core. nat_lt core cores) (responder_of entry) true) (option_map_or (λ did. nat_lt did.core cores && nat_lt did.block blocks && nat_lt did.word words) (operation_of entry) true) e in
+    let r = and_parts (nat_lt (core_of entry) cores && nat_lt (block_of entry) blocks) (option_map_or (λ core. nat_lt core cores) (responder_of entry) true) p.0 in
     let q = and_parts (nat_lt (core_of entry) cores) (nat_lt (block_of entry) blocks) r.0 in
     record {
       core = ltb-true (core_of entry) cores q.0;
@@ -237,7 +237,7 @@ passes-within cores blocks words entry e =
 
 pub operation_within-lies : (cores blocks words : ℕ) (entry : Item) (did : Did) → operation_within cores blocks words entry ≡ Some did → (did.core < cores) × (did.block < blocks) × (did.word < words)
 operation_within-lies cores blocks words entry did is =
-    operation-lies cores blocks words (operation_of entry) (nat_lt (core_of entry) cores && nat_lt (block_of entry) blocks && option_map_or (λ core. nat_lt core cores) (sender_of entry) true) (is_within cores blocks words entry) refl did is
+    operation-lies cores blocks words (operation_of entry) (nat_lt (core_of entry) cores && nat_lt (block_of entry) blocks && option_map_or (λ core. nat_lt core cores) (responder_of entry) true) (is_within cores blocks words entry) refl did is
 
 -- absorbing one item gives the board of the list with it
 pub absorbed_board : (cores blocks words : ℕ) (items : List Item) (entry : Item) → absorbed (board_of cores blocks words items) entry ≡ board_of cores blocks words (items ++ entry ∷ [])
@@ -304,9 +304,9 @@ absorbed_as view new entry did is b w v c l t =
     ∙ ap (λ (op : Option Did). with_totals view op (tallied view.totals entry)) (sym is)
 
 -- an item within a shape passes the test
-pub within-passes : (cores blocks words : ℕ) (entry : Item) → IsWithin cores blocks words entry → is_within cores blocks words entry ≡ true
+pub within-passes : (cores blocks words : ℕ) (entry : Item) → IsItemWithin cores blocks words entry → is_within cores blocks words entry ≡ true
 within-passes cores blocks words entry lies =
-    rw (lt-ltb (core_of entry) cores lies.core, lt-ltb (block_of entry) blocks lies.block, sender (sender_of entry) lies.sender) (operation (operation_of entry) lies.operation)
+    rw (lt-ltb (core_of entry) cores lies.core, lt-ltb (block_of entry) blocks lies.block, sender (responder_of entry) lies.sender) (operation (operation_of entry) lies.operation)
   where
     sender : (from : Option ℕ) → ForSome from (λ core. core < cores) → option_map_or (λ core. nat_lt core cores) from true ≡ true
     sender None h = refl
@@ -316,10 +316,10 @@ within-passes cores blocks words entry lies =
     operation None h = refl
     operation (Some did) h = let p = h did refl in rw (lt-ltb did.core cores p.0, lt-ltb did.block blocks p.1, lt-ltb did.word words p.2)
 
-pub inside_all : (cores blocks words : ℕ) (items : List Item) → All (IsWithin cores blocks words) items → inside cores blocks words items ≡ items
+pub inside_all : (cores blocks words : ℕ) (items : List Item) → All (IsItemWithin cores blocks words) items → inside cores blocks words items ≡ items
 inside_all cores blocks words [] all = refl
 inside_all cores blocks words (x ∷ xs) all =
-    rw (within-passes cores blocks words x (All-head (IsWithin cores blocks words) x xs all)) (ap (λ (l : List Item). x ∷ l) (inside_all cores blocks words xs (All-tail (IsWithin cores blocks words) x xs all)))
+    rw (within-passes cores blocks words x (All-head (IsItemWithin cores blocks words) x xs all)) (ap (λ (l : List Item). x ∷ l) (inside_all cores blocks words xs (All-tail (IsItemWithin cores blocks words) x xs all)))
 
 -- the tables of a board have its shape's lengths
 pub board_lengths : (cores blocks words : ℕ) (items : List Item) → (length (board_of cores blocks words items).counts ≡ cores) × (length (board_of cores blocks words items).values ≡ blocks * words)

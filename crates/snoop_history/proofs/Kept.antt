@@ -9,13 +9,13 @@ use Rattle.snoop_history.specs.declared.items.Did.{Did}
 use Rattle.snoop_history.specs.declared.items.Item.{Item}
 use Rattle.snoop_history.specs.declared.items.Totals.{Totals}
 use Rattle.snoop_history.specs.History.{next_number, flat, last_of, IsNumbered}
-use Rattle.snoop_history.specs.Within.{IsWithin, inside}
+use Rattle.snoop_history.specs.Within.{IsItemWithin, inside}
 use Rattle.snoop_history.specs.Totals.{totals_of, touched, capped, capped_totals}
 use Rattle.snoop_history.specs.Journal.{Journal}
 use Rattle.snoop_history.specs.Board.{Tables, board_of}
 use Rattle.snoop_history.specs.Packed.{NumberFits, unpacked}
 use Rattle.snoop_history.specs.declared.packed.Packed.{Packed}
-use Rattle.snoop_history.specs.Kept.{IsKept}
+use Rattle.snoop_history.specs.Kept.{IsTallied}
 use Rattle.snoop_history.proofs.Pushed.{next_number-few, next_number_le, totals-few}
 use Rattle.snoop_history.proofs.Legal.{listed-push}
 use Rattle.snoop_history.proofs.Boards.{inside_all, board_lengths}
@@ -50,9 +50,9 @@ pub filter_map-map : {X Y Z : Type 0} (f : X → Y) (g : Y → Option Z) (xs : L
 filter_map-map f g [] = refl
 filter_map-map f g (x ∷ xs) = rw (filter_map-map f g xs)
 
-module _ {cores blocks words : ℕ} {items : List Item} {board : Tables} {order : List ℕ} (kept : IsKept cores blocks words items board order) where
-  pub within_all : All (IsWithin cores blocks words) items
-  within_all = all_places (IsWithin cores blocks words) items kept.listed.within
+module _ {cores blocks words : ℕ} {items : List Item} {board : Tables} {order : List ℕ} (kept : IsTallied cores blocks words items board order) where
+  pub within_all : All (IsItemWithin cores blocks words) items
+  within_all = all_places (IsItemWithin cores blocks words) items kept.listed.within
 
   whole : inside cores blocks words items ≡ items
   whole = inside_all cores blocks words items within_all
@@ -77,7 +77,7 @@ module _ {cores blocks words : ℕ} {items : List Item} {board : Tables} {order 
   kept-touched answer is = rw (is ∙ kept.mentioned) (touched_within cores blocks words items within_all)
 
   -- an item of the shape is one of the largest shape
-  pub fits : (entry : Item) → IsWithin cores blocks words entry → IsWithin 256 65536 64 entry
+  pub fits : (entry : Item) → IsItemWithin cores blocks words entry → IsItemWithin 256 65536 64 entry
   fits entry lies =
       let few_cores = kept.few_cores in
       let few_blocks = kept.few_blocks in
@@ -92,8 +92,8 @@ module _ {cores blocks words : ℕ} {items : List Item} {board : Tables} {order 
       }
 
   -- a log with one item more
-  pub kept-push : (entry : Item) (items' : List Item) (board' : Tables) (order' : List ℕ) → IsWithin cores blocks words entry → IsNumbered items entry →
-      items' ≡ items ++ entry ∷ [] → board' ≡ board_of cores blocks words (items ++ entry ∷ []) → order' ≡ touched (items ++ entry ∷ []) → IsKept cores blocks words items' board' order'
+  pub kept-push : (entry : Item) (items' : List Item) (board' : Tables) (order' : List ℕ) → IsItemWithin cores blocks words entry → IsNumbered items entry →
+      items' ≡ items ++ entry ∷ [] → board' ≡ board_of cores blocks words (items ++ entry ∷ []) → order' ≡ touched (items ++ entry ∷ []) → IsTallied cores blocks words items' board' order'
   kept-push entry items' board' order' lies numbered more tallied mentioned =
       rw more (record {
         few_cores = kept.few_cores;
@@ -111,11 +111,11 @@ board-shape {cores} {blocks} {words} items {board} is =
     (ap (λ (t : Tables). length t.counts) is ∙ lengths.0, ap (λ (t : Tables). t.blocks) is, ap (λ (t : Tables). t.words) is)
 
 -- the same log under other names of its sizes
-pub kept-as : {cores blocks words : ℕ} (cores' blocks' words' : ℕ) {items : List Item} {board : Tables} {order : List ℕ} → cores' ≡ cores → blocks' ≡ blocks → words' ≡ words → IsKept cores blocks words items board order → IsKept cores' blocks' words' items board order
+pub kept-as : {cores blocks words : ℕ} (cores' blocks' words' : ℕ) {items : List Item} {board : Tables} {order : List ℕ} → cores' ≡ cores → blocks' ≡ blocks → words' ≡ words → IsTallied cores blocks words items board order → IsTallied cores' blocks' words' items board order
 kept-as cores' blocks' words' c b w kept = rw (c, b, w) kept
 
 -- an empty log
-pub kept-at_first : (cores blocks words : ℕ) (board : Tables) (order : List ℕ) → cores ≤ 256 → blocks ≤ 65536 → words ≤ 64 → board ≡ board_of cores blocks words [] → order ≡ [] → IsKept cores blocks words [] board order
+pub kept-at_first : (cores blocks words : ℕ) (board : Tables) (order : List ℕ) → cores ≤ 256 → blocks ≤ 65536 → words ≤ 64 → board ≡ board_of cores blocks words [] → order ≡ [] → IsTallied cores blocks words [] board order
 kept-at_first cores blocks words board order few_cores few_blocks few_words tallied mentioned =
     record {
       few_cores = few_cores;
@@ -126,7 +126,7 @@ kept-at_first cores blocks words board order few_cores few_blocks few_words tall
       mentioned = mentioned;
     }
 
-pub kept-empty : {cores blocks words : ℕ} {items : List Item} {board : Tables} {order : List ℕ} → items ≡ [] → IsKept cores blocks words [] board order → IsKept cores blocks words items board order
+pub kept-empty : {cores blocks words : ℕ} {items : List Item} {board : Tables} {order : List ℕ} → items ≡ [] → IsTallied cores blocks words [] board order → IsTallied cores blocks words items board order
 kept-empty none kept = rw none kept
 
 -- two journals of equal parts

@@ -9,7 +9,7 @@ use Rattle.snoop_history.specs.declared.items.Item.{Item}
 use Rattle.snoop_history.specs.declared.items.Did.{Did}
 use Rattle.snoop_history.proofs.Pushed.{last_or-append}
 use Rattle.snoop_history.specs.History.{Legal, Follows, flat, stores, stored_values, operations, operation_of, is_store_to, last_or, IsNumbered}
-use Rattle.snoop_history.specs.Within.{IsWithin}
+use Rattle.snoop_history.specs.Within.{IsItemWithin}
 use Rattle.snoop_history.specs.Kept.{IsKeptList}
 
 -- an element of a list with one more at its end: an earlier one, or the new one
@@ -32,10 +32,10 @@ module _ (P : List Item → Item → Type 0) where
       ]
 
 -- a log's list with one item more
-pub listed-push : (cores blocks words : ℕ) (items : List Item) (entry : Item) → IsKeptList cores blocks words items → IsWithin cores blocks words entry → IsNumbered items entry → IsKeptList cores blocks words (items ++ entry ∷ [])
+pub listed-push : (cores blocks words : ℕ) (items : List Item) (entry : Item) → IsKeptList cores blocks words items → IsItemWithin cores blocks words entry → IsNumbered items entry → IsKeptList cores blocks words (items ++ entry ∷ [])
 listed-push cores blocks words items entry kept within numbered =
     record {
-      within = each-grows (λ past x. IsWithin cores blocks words x) items entry kept.within within;
+      within = each-grows (λ past x. IsItemWithin cores blocks words x) items entry kept.within within;
       in_order = each-grows IsNumbered items entry kept.in_order numbered;
     }
 

@@ -15,7 +15,7 @@ use Rattle.std.proofs.lemmas.Map.Views.{any-filter_same}
 use Rattle.indexmap.specs.IndexSet.{insert_key}
 use Rattle.snoop_history.specs.declared.items.Did.{Did}
 use Rattle.snoop_history.specs.declared.items.Item.{Item}
-use Rattle.snoop_history.specs.Within.{block_of, IsWithin}
+use Rattle.snoop_history.specs.Within.{block_of, IsItemWithin}
 use Rattle.snoop_history.specs.Totals.{each_once, mentioned, touched, totals_of}
 use Rattle.snoop_history.specs.declared.items.Totals.{Totals}
 
@@ -96,16 +96,16 @@ blocks_within cores blocks words block None within lies = All-cons (λ b. b < bl
 blocks_within cores blocks words block (Some did) within lies =
     All-cons (λ b. b < blocks) block (did.block ∷ []) within (All-cons (λ b. b < blocks) did.block [] (lies did refl).1 (All-nil (λ b. b < blocks)))
 
-mentioned_within : (cores blocks words : ℕ) (items : List Item) → All (IsWithin cores blocks words) items → All (λ block. block < blocks) (flat_map mentioned items)
+mentioned_within : (cores blocks words : ℕ) (items : List Item) → All (IsItemWithin cores blocks words) items → All (λ block. block < blocks) (flat_map mentioned items)
 mentioned_within cores blocks words [] all = All-nil (λ block. block < blocks)
 mentioned_within cores blocks words (x ∷ xs) all =
-    let first = All-head (IsWithin cores blocks words) x xs all in
+    let first = All-head (IsItemWithin cores blocks words) x xs all in
     All-append (λ block. block < blocks) (mentioned x) (flat_map mentioned xs)
     (blocks_within cores blocks words (block_of x) (operation_of x) first.block first.operation)
-    (mentioned_within cores blocks words xs (All-tail (IsWithin cores blocks words) x xs all))
+    (mentioned_within cores blocks words xs (All-tail (IsItemWithin cores blocks words) x xs all))
 
 -- the touched blocks of a list within a shape are within it
-pub touched_within : (cores blocks words : ℕ) (items : List Item) → All (IsWithin cores blocks words) items → All (λ block. block < blocks) (touched items)
+pub touched_within : (cores blocks words : ℕ) (items : List Item) → All (IsItemWithin cores blocks words) items → All (λ block. block < blocks) (touched items)
 touched_within cores blocks words items all =
     each_once-all (λ block. block < blocks) (flat_map mentioned items) (mentioned_within cores blocks words items all)
 

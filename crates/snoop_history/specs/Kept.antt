@@ -6,7 +6,7 @@ use Rattle.snoop_history.specs.declared.log.Log.TheInside.{Inside}
 use Rattle.snoop_history.specs.History.{IsNumbered}
 use Rattle.snoop_history.specs.Totals.{touched}
 use Rattle.snoop_history.specs.Journal.{Journal}
-use Rattle.snoop_history.specs.Within.{IsWithin}
+use Rattle.snoop_history.specs.Within.{IsItemWithin}
 use Rattle.snoop_history.specs.Packed.{unpacked}
 use Rattle.snoop_history.specs.Board.{Tables, board_of}
 
@@ -23,11 +23,11 @@ journal l =
 
 -- each item lies within the shape, and its operation carries its core's next number
 pub record IsKeptList (cores blocks words : ℕ) (items : List Item) : Type 0 where
-  pub within : (k : ℕ) (entry : Item) → slice_get items k ≡ Some entry → IsWithin cores blocks words entry
+  pub within : (k : ℕ) (entry : Item) → slice_get items k ≡ Some entry → IsItemWithin cores blocks words entry
   pub in_order : (k : ℕ) (entry : Item) → slice_get items k ≡ Some entry → IsNumbered (take k items) entry
 
 -- the shape is within the limits, the board is that of the items, and the blocks are those that they touch
-pub record IsKept (cores blocks words : ℕ) (items : List Item) (board : Tables) (order : List ℕ) : Type 0 where
+pub record IsTallied (cores blocks words : ℕ) (items : List Item) (board : Tables) (order : List ℕ) : Type 0 where
   pub few_cores : cores ≤ 256
   pub few_blocks : blocks ≤ 65536
   pub few_words : words ≤ 64
@@ -36,6 +36,6 @@ pub record IsKept (cores blocks words : ℕ) (items : List Item) (board : Tables
   pub mentioned : order ≡ touched items
 
 -- what holds of every log
-pub record IsWellKept (l : Inside) : Type 0 where
-  pub kept : IsKept (length l.board.counts) l.board.blocks l.board.words (map unpacked l.items.items) l.board l.touched.order
+pub record LogKeeps (l : Inside) : Type 0 where
+  pub kept : IsTallied (length l.board.counts) l.board.blocks l.board.words (map unpacked l.items.items) l.board l.touched.order
   pub as_many : l.touched.blocks ≡ l.board.blocks

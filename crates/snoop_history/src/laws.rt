@@ -2,7 +2,7 @@
 ghost use Rattle.std.specs.Prelude.{◌≡◌, ℕ, List, [], ◌∷◌, ◌++◌, fold, All};
 ghost use Rattle.snoop_history.specs.declared.items.Item.{Item};
 ghost use Rattle.snoop_history.specs.History.{Legal, Follows, flat, stores};
-ghost use Rattle.snoop_history.specs.Within.{IsWithin, inside};
+ghost use Rattle.snoop_history.specs.Within.{IsItemWithin, inside};
 ghost use Rattle.snoop_history.specs.Board.{board_of, absorbed};
 
 /// A legal history stays legal when an item that may come next is added.
@@ -22,7 +22,7 @@ pub fn flat_grows()
 
 /// A board counts the whole of a history that lies within its shape.
 pub fn inside_whole()
-    ensures { (cores blocks words : ℕ) (items : List Item) → All (IsWithin cores blocks words) items → inside cores blocks words items ≡ items }
+    ensures { (cores blocks words : ℕ) (items : List Item) → All (IsItemWithin cores blocks words) items → inside cores blocks words items ≡ items }
 {}
 
 /// The board of a list with one item more.

@@ -1,7 +1,7 @@
 //! The history of a machine.
 ghost use Rattle.std.specs.Prelude.{All, ◌&&◌, ◌==◌, ◌≡◌, ◌-◌, ◌<◌, ◌≤◌, ◌↔◌, [], ◌∷◌, ◌++◌, length, take, IsTrue, IfOk, IfSome, OnOk, OnErr, Some, None, slice_get, if◌then◌else◌, nat_lt};
 ghost use Rattle.snoop_history.specs.History.{next_number, flat, answers_of, last_of, IsNumbered};
-ghost use Rattle.snoop_history.specs.Within.{IsWithin};
+ghost use Rattle.snoop_history.specs.Within.{IsItemWithin};
 ghost use Rattle.snoop_history.specs.Totals.{totals_of, touched};
 
 use crate::board::Board;
@@ -29,11 +29,11 @@ impl Model for Log {
 
     ghost Value = { Journal };
 
-    ghost use Rattle.snoop_history.specs.Kept.{journal, IsWellKept};
+    ghost use Rattle.snoop_history.specs.Kept.{journal, LogKeeps};
 
     ghost view = { journal };
 
-    ghost invariant = { IsWellKept };
+    ghost invariant = { LogKeeps };
 }
 
 impl Log {
@@ -90,7 +90,7 @@ impl Log {
     /// The item at this place, from 0.
     pub fn item(&self, place: usize) -> Option<Item>
         ensures value { result ≡ slice_get self.now.items place }
-        ensures within { IfSome result (λ entry. IsWithin self.now.cores self.now.blocks self.now.words entry) }
+        ensures within { IfSome result (λ entry. IsItemWithin self.now.cores self.now.blocks self.now.words entry) }
 
         // The k-th operation of a core, from 0, carries number k.
         ensures numbered { IfSome result (λ entry. IsNumbered (take place self.now.items) entry) }
@@ -101,7 +101,7 @@ impl Log {
 
     /// Does nothing: every item lies within the shape.
     pub fn kept(&self)
-        ensures { All (IsWithin self.now.cores self.now.blocks self.now.words) self.now.items }
+        ensures { All (IsItemWithin self.now.cores self.now.blocks self.now.words) self.now.items }
     {
         let _ = &self.items;
     }
@@ -206,8 +206,8 @@ impl Log {
     /// sent its response, if one did, and the core, block and word of its operation, if it has one, which carries its
     /// core's `count` as its number.
     pub fn takes(&self, item: Item) -> bool
-        ensures sound { IsTrue result → IsWithin self.now.cores self.now.blocks self.now.words item × IsNumbered self.now.items item }
-        ensures whole { IsWithin self.now.cores self.now.blocks self.now.words item → IsNumbered self.now.items item → IsTrue result }
+        ensures sound { IsTrue result → IsItemWithin self.now.cores self.now.blocks self.now.words item × IsNumbered self.now.items item }
+        ensures whole { IsItemWithin self.now.cores self.now.blocks self.now.words item → IsNumbered self.now.items item → IsTrue result }
     {
         let numbered = match item.did() {
             Some(did) => self.is_next(did),
@@ -232,7 +232,7 @@ impl Log {
     #[inline(always)]
     pub fn push(&mut self, item: Item)
         requires room { 0 < self.old.room }
-        requires within { IsWithin self.old.cores self.old.blocks self.old.words item }
+        requires within { IsItemWithin self.old.cores self.old.blocks self.old.words item }
         requires numbered { IsNumbered self.old.items item }
         ensures { self.new ≡ record self.old { items = self.old.items ++ item ∷ []; room = self.old.room - 1 } }
     {

@@ -4,8 +4,8 @@ ghost use Rattle.std.specs.Option.{ForSome};
 ghost use Rattle.snoop_history.specs.declared.packed.Packed.{Packed};
 ghost use Rattle.snoop_history.specs.declared.items.Item.TheVariants as item;
 ghost use Rattle.snoop_history.specs.History.{operation_of};
-ghost use Rattle.snoop_history.specs.Within.{IsWithin};
-ghost use Rattle.snoop_history.specs.Packed.{NumberFits, request_of, is_hit, is_load, is_of_core, item_of, operation_in, payload_in, request_in, response_in, unpacked};
+ghost use Rattle.snoop_history.specs.Within.{IsItemWithin};
+ghost use Rattle.snoop_history.specs.Packed.{NumberFits, request_of, is_hit_kind, is_load_kind, is_of_core, item_of, operation_in, payload_in, request_in, response_in, unpacked};
 
 use crate::items::{Came, Did, Item, Sent};
 use snoop_rules::{Payload, Request};
@@ -31,8 +31,8 @@ pub(crate) enum Kind {
 impl Kind {
     /// Of an operation alone.
     fn of_operation(load: bool, hit: bool) -> Self
-        ensures load { is_load result ≡ load }
-        ensures hit { is_hit result ≡ hit }
+        ensures load { is_load_kind result ≡ load }
+        ensures hit { is_hit_kind result ≡ hit }
         ensures item { (packed : Packed) → item_of result packed ≡ item.Did (operation_in packed) }
     {
         match (load, hit) {
@@ -45,8 +45,8 @@ impl Kind {
 
     /// Of a response that performed an operation.
     fn of_response(load: bool, hit: bool) -> Self
-        ensures load { is_load result ≡ load }
-        ensures hit { is_hit result ≡ hit }
+        ensures load { is_load_kind result ≡ load }
+        ensures hit { is_hit_kind result ≡ hit }
         ensures item { (packed : Packed) → item_of result packed ≡ item.Came (response_in packed) (Some (operation_in packed)) }
     {
         match (load, hit) {
@@ -58,7 +58,7 @@ impl Kind {
     }
 
     fn is_load(self) -> bool
-        ensures { result ≡ is_load self }
+        ensures { result ≡ is_load_kind self }
     {
         matches!(
             &self,
@@ -67,7 +67,7 @@ impl Kind {
     }
 
     fn is_hit(self) -> bool
-        ensures { result ≡ is_hit self }
+        ensures { result ≡ is_hit_kind self }
     {
         matches!(
             &self,
@@ -263,7 +263,7 @@ impl Packed {
     /// Packs an item of the largest shape or a smaller one.
     #[inline(always)]
     pub(crate) fn new(item: Item) -> Self
-        requires within { IsWithin 256 65536 64 item }
+        requires within { IsItemWithin 256 65536 64 item }
         requires number { NumberFits item }
         ensures { unpacked result ≡ item }
     {
@@ -283,8 +283,8 @@ impl Packed {
         requires block { did.block < 65536 }
         requires word { did.word < 64 }
         requires number { did.number < 2 ^ 48 }
-        requires load { is_load kind ≡ did.load }
-        requires hit { is_hit kind ≡ did.hit }
+        requires load { is_load_kind kind ≡ did.load }
+        requires hit { is_hit_kind kind ≡ did.hit }
         ensures kind { result.kind ≡ kind }
         ensures operation { operation_in result ≡ did }
     {

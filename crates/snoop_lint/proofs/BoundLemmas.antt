@@ -7,7 +7,7 @@ use Rattle.std.proofs.lemmas.Bool.Decides.{nat_tests}
 use Rattle.std.proofs.Math.Nat.{zero-div}
 use Rattle.csv.specs.Records.{field_at}
 use Rattle.snoop_trace.specs.Extent.{Extent}
-use Rattle.snoop_trace.specs.Grammar.{◌>>=◌, ask, asked, block_in, core_in, number, order, respond, row_in, step_in, store, without_value, word_asked}
+use Rattle.snoop_trace.specs.Grammar.{◌>>=◌, ask, row_by_letter, block_in, core_in, number, order, respond, row_in, step_in, store, without_value, word_asked}
 use Rattle.snoop_trace.specs.declared.fault.TextFault.{TextFault}
 use Rattle.snoop_trace.specs.declared.fault.TextFault.TheVariants.{BadFields, BadKind, BadNumber}
 use Rattle.snoop_trace.specs.declared.step.Op.{Op}
@@ -91,8 +91,8 @@ store_bound make shape n first (a ∷ b ∷ v ∷ d ∷ rest) = inl (BadFields n
 
 -- what a core asks for
 ask_bound : {A : Type 0} (make : Made A) (shape : Extent) (n l : ℕ) (rest : Fields)
-    → Bound (λ e. placed make e n (asked e n l ((l ∷ []) ∷ rest))) shape (core_named ((l ∷ []) ∷ rest)) (block_named shape ((l ∷ []) ∷ rest))
-unfolding asked core_named address_named field_at
+    → Bound (λ e. placed make e n (row_by_letter e n l ((l ∷ []) ∷ rest))) shape (core_named ((l ∷ []) ∷ rest)) (block_named shape ((l ∷ []) ∷ rest))
+unfolding row_by_letter core_named address_named field_at
 ask_bound make shape n l rest =
     elim (cases_Bool (l == 76)) [
       | inl e ↦ let is : l ≡ 76 = grind (arith, nat_tests) in rw is (value_bound make shape n Load (76 ∷ []) rest)

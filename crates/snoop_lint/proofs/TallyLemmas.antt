@@ -13,7 +13,7 @@ use Rattle.snoop_lint.specs.declared.form.Form.{Form}
 use Rattle.snoop_lint.specs.declared.form.Form.TheVariants.{Steps, Rows}
 use Rattle.snoop_lint.specs.Fields.{core_named}
 use Rattle.snoop_lint.specs.Findings.{Finding, fault_at, finding, findings, heads}
-use Rattle.snoop_lint.specs.Tallies.{asks, block_named, drives, has_heading, is_limit, is_other, one_more, tally_of}
+use Rattle.snoop_lint.specs.Tallies.{is_asking, block_named, drives, has_heading, is_limit, is_other, one_more, tally_of}
 use Rattle.snoop_lint.proofs.FindingLemmas.{findings_more}
 
 or_false : (b : Bool) → (b || false) ≡ b
@@ -58,7 +58,7 @@ tally_more form protocol shape rows row n e =
     ∙ list_any-append (λ (f : Finding). not (is_limit f.fault)) (findings form protocol shape rows) (option_to_list (finding (fault_at form protocol shape) n row))
     ∙ ap (λ (b : Bool). list_any (λ (f : Finding). not (is_limit f.fault)) (findings form protocol shape rows) || b) (other_found (fault_at form protocol shape) n row o refl) in
     let heading = heading_more form rows row n e in
-    let ask = any_push asks rows row in
+    let ask = any_push is_asking rows row in
     let drive = any_push drives rows row in
     let core = fold_push (λ (most : ℕ) (r : List (List ℕ)). max most (core_named r)) 0 rows row in
     let block = fold_push (λ (most : ℕ) (r : List (List ℕ)). max most (block_named shape r)) 0 rows row in

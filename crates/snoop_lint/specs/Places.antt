@@ -6,10 +6,10 @@ use Rattle.snoop_lint.specs.declared.lines.Place.{Place}
 use Rattle.snoop_lint.specs.declared.lines.Place.TheVariants as place
 
 -- the state of the reader at a place
-abbrev pub state_of : Place → State
-state_of place.Between = st.StartRecord
-state_of place.Return = st.AfterCr
-state_of place.Field = st.StartField
-state_of place.Inside = st.InField
-state_of place.Quoted = st.InQuoted
-state_of place.Quote = st.AfterQuote
+abbrev pub reader_state : Place → State
+reader_state place.Between = st.StartRecord
+reader_state place.Return = st.AfterCr
+reader_state place.Field = st.StartField
+reader_state place.Inside = st.InField
+reader_state place.Quoted = st.InQuoted
+reader_state place.Quote = st.AfterQuote

@@ -33,8 +33,8 @@ abbrev pub greatest : (List (List ℕ) → ℕ) → List (List (List ℕ)) → �
 greatest number rows = fold (λ most row. max most (number row)) 0 rows
 
 -- a core asks for something
-abbrev pub asks : List (List ℕ) → Bool
-asks fields = is_letter_of (codes "LSE") (field fields 0)
+abbrev pub is_asking : List (List ℕ) → Bool
+is_asking fields = is_letter_of (codes "LSE") (field fields 0)
 
 -- the bus does something
 abbrev pub drives : List (List ℕ) → Bool
@@ -48,7 +48,7 @@ tally_of form protocol shape rows = record {
   faults = length (findings form protocol shape rows);
   has_others = list_any (λ (f : Finding). not (is_limit f.fault)) (findings form protocol shape rows);
   has_heading = has_heading form rows;
-  asks = list_any asks rows;
+  asks = list_any is_asking rows;
   drives = list_any drives rows;
   core = greatest core_named rows;
   block = greatest (block_named shape) rows;
@@ -65,7 +65,7 @@ one_more form shape n fields fault tally = record {
   faults = tally.faults + (if is_some fault then 1 else 0);
   has_others = tally.has_others || is_other fault;
   has_heading = tally.has_heading || heads form n fields;
-  asks = tally.asks || asks fields;
+  asks = tally.asks || is_asking fields;
   drives = tally.drives || drives fields;
   core = max tally.core (core_named fields);
   block = max tally.block (block_named shape fields);

@@ -154,7 +154,7 @@ impl<B: Block> Parts<B> {
         ensures value { result ≡ (picture_of self.now.situation block).transaction }
         ensures padded { IfSome result (λ opened. AreZeroFrom self.now.situation.shape.words opened.value) }
     {
-        let opened = self.bus.open(block)?;
+        let opened = self.bus.opened(block)?;
         Some(Open {
             core: opened.core,
             request: opened.request,
@@ -269,7 +269,7 @@ impl<B: Block> Parts<B> {
         ensures value { option_copied result ≡ (picture_of self.now.situation block).transaction }
         ensures within { IfSome (option_copied result) (λ opened. (opened.block ≡ block) × (opened.core < self.now.situation.shape.cores)) }
     {
-        self.bus.open(block)
+        self.bus.opened(block)
     }
 
     /// The core's next operation, as the history will have it.

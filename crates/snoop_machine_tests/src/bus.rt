@@ -93,7 +93,7 @@ fn go_through(bus: &mut Bus) -> Result<(), Fail>
     if start_all(bus) != [true, false, true]
         || bus.head(0) != Some((Request::GetM, 3))
         || bus.head(1).is_some()
-        || bus.open(3).copied() != Some(opened())
+        || bus.open(3) != Some(opened())
     {
         Err("what is open")?
     }
@@ -127,7 +127,7 @@ fn opened_load() -> Open {
 
 // Whether block 1 has the load open, and core 0's request for block 0 waits.
 fn has_load_open(bus: &Bus) -> bool {
-    bus.open(1).copied() == Some(opened_load()) && bus.head(0) == Some((Request::GetS, 0))
+    bus.open(1) == Some(opened_load()) && bus.head(0) == Some((Request::GetS, 0))
 }
 
 fn go_in_order(bus: &mut Bus) -> Result<(), Fail>

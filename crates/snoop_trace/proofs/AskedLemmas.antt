@@ -6,7 +6,7 @@ use Rattle.std.proofs.lemmas.Bool.{cases_Bool}
 use Rattle.std.proofs.lemmas.List.Elements.{All-head, All-tail, All-nil, All-cons}
 use Rattle.snoop_trace.specs.Asked.{AreAsked, asked_in, asked_of, step_of}
 use Rattle.snoop_trace.specs.Extent.{Extent, IsWithinLimits}
-use Rattle.snoop_trace.specs.Grammar.{◌>>=◌, IsRowWithin, IsStepWithin, asked, block_in, letter_of, row_in, word_asked}
+use Rattle.snoop_trace.specs.Grammar.{◌>>=◌, IsRowWithin, IsStepWithin, row_by_letter, block_in, letter_of, row_in, word_asked}
 use Rattle.snoop_trace.specs.Progress.{IsSaid}
 use Rattle.snoop_trace.specs.Text.{Gives, entries_from, entries_in, records_of, rows_of}
 use Rattle.snoop_trace.specs.declared.fault.TextFault.{TextFault}
@@ -32,10 +32,10 @@ one_asked : (shape : Extent) (n : ℕ) (fs : List (List ℕ)) → asked_in shape
 unfolding asked_in row_in
 one_asked shape n fs = go (letter_of fs)
   where
-    go : (letter : Option ℕ) → (ok_or letter (BadKind n) >>= λ l. asked shape n l fs >>= λ row. block_in shape n row.address >>= λ block. Ok (record { core = row.core; work = record { block = block; word = word_asked shape row.address row.op; op = row.op } }))
-        ≡ ((ok_or letter (BadKind n) >>= λ l. asked shape n l fs >>= λ row. block_in shape n row.address >>= λ block. Ok row) >>= λ row. Ok (asked_of shape row))
+    go : (letter : Option ℕ) → (ok_or letter (BadKind n) >>= λ l. row_by_letter shape n l fs >>= λ row. block_in shape n row.address >>= λ block. Ok (record { core = row.core; work = record { block = block; word = word_asked shape row.address row.op; op = row.op } }))
+        ≡ ((ok_or letter (BadKind n) >>= λ l. row_by_letter shape n l fs >>= λ row. block_in shape n row.address >>= λ block. Ok row) >>= λ row. Ok (asked_of shape row))
     go None = refl
-    go (Some l) = of_asked shape n (asked shape n l fs)
+    go (Some l) = of_asked shape n (row_by_letter shape n l fs)
 
 -- so do all rows of a text
 all_asked : (shape : Extent) (n : ℕ) (rs : List (List (List ℕ))) → entries_from (asked_in shape) n rs ≡ (entries_from (row_in shape) n rs >>= λ rows. Ok (map (asked_of shape) rows))
@@ -138,7 +138,7 @@ said_asked : (shape : Extent) (n : ℕ) (fs : List (List ℕ)) → IsWithinLimit
 unfolding asked_in
 said_asked shape n fs limits =
     if_bind (ok_or (letter_of fs) (BadKind n)) _ _ _ (if_any (ok_or (letter_of fs) (BadKind n))) (λ letter yes.
-    if_bind (asked shape n letter fs) _ _ _ (core_of_asked shape n letter fs) (λ row has.
+    if_bind (row_by_letter shape n letter fs) _ _ _ (core_of_asked shape n letter fs) (λ row has.
     if_bind (block_in shape n row.address) _ _ _ (has_block shape n row.address) (λ block there. (has, there, word_within shape row.address row.op limits))))
 
 pub asked_within : (shape : Extent) (asked : Asked) → IsWithinLimits shape → IsSaid (asked_in shape) asked → IsStepWithin shape (step_of asked)

@@ -3,7 +3,7 @@ use Rattle.std.proofs.Common.{◌≡◌, ◌<◌, ℕ, List, [], ◌∷◌, leng
 use Rattle.std.specs.Prelude.{zero, suc}
 use Rattle.csv.specs.Records.{field_at}
 use Rattle.snoop_trace.specs.Grammar.{letter_of, one_of, three_of, two_of}
-use Rattle.snoop_trace.specs.Heading.{five_of, version_of}
+use Rattle.snoop_trace.specs.Heading.{five_of, version_field}
 
 pub one_at : (fs : List (List ℕ)) → length fs ≡ 2 → field_at fs 1 ≡ one_of fs
 unfolding field_at
@@ -35,7 +35,7 @@ three_at (k ∷ x ∷ y ∷ []) a b c h p q r = absurd (omega arith)
 three_at (k ∷ x ∷ y ∷ z ∷ []) a b c h p q r = let one : a ≡ x = cc in let two : b ≡ y = cc in let three : c ≡ z = cc in rw (one, two, three) refl
 three_at (k ∷ x ∷ y ∷ z ∷ w ∷ fs) a b c h p q r = absurd (omega arith)
 
-pub version_at : (fs : List (List ℕ)) → field_at fs 1 ≡ version_of fs
+pub version_at : (fs : List (List ℕ)) → field_at fs 1 ≡ version_field fs
 unfolding field_at
 version_at [] = refl
 version_at (k ∷ []) = refl

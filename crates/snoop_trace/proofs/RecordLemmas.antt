@@ -2,8 +2,8 @@
 use Rattle.std.specs.Prelude.{◌≡◌, Result, Ok, Err, IfErr, Bool, true, false, ℕ, List, Option, Some, None, if◌then◌else◌, ◌==◌, nat_lt}
 use Rattle.std.specs.Option.{ok_or}
 use Rattle.snoop_trace.specs.Extent.{Extent}
-use Rattle.snoop_trace.specs.Grammar.{◌>>=◌, NamesRecord, ask, asked, block_at, block_in, core_in, number, number_in, one_of, order, respond, store, three_of, two_of, without_value}
-use Rattle.snoop_trace.specs.Heading.{five_of, heading_as, heading_in, protocol_in, protocol_named, same_heading, version_in, version_of}
+use Rattle.snoop_trace.specs.Grammar.{◌>>=◌, NamesRecord, ask, row_by_letter, block_at, block_in, core_in, number, number_in, one_of, order, respond, store, three_of, two_of, without_value}
+use Rattle.snoop_trace.specs.Heading.{five_of, heading_as, heading_in, protocol_in, protocol_named, same_heading, version_in, version_field}
 use Rattle.snoop_trace.specs.declared.heading.Heading.{Heading}
 use Rattle.snoop_trace.specs.declared.step.Op.{Op}
 use Rattle.snoop_trace.specs.declared.step.Op.TheVariants.{Load, Evict}
@@ -49,8 +49,8 @@ names_store shape n fs =
     names_bind (number_in n f.2) _ (names_number n f.2) (λ value.
     names_bind (core_in shape n core) _ (names_core shape n core) (λ c. tt)))))
 
-pub names_asked : (shape : Extent) (n letter : ℕ) (fs : List (List ℕ)) → IfErr (asked shape n letter fs) NamesRecord
-unfolding asked
+pub names_asked : (shape : Extent) (n letter : ℕ) (fs : List (List ℕ)) → IfErr (row_by_letter shape n letter fs) NamesRecord
+unfolding row_by_letter
 names_asked shape n letter fs =
     names_if (letter == 76) (without_value shape n Load fs) _ (names_without_value shape n Load fs)
     (names_if (letter == 83) (store shape n fs) _ (names_store shape n fs)
@@ -59,7 +59,7 @@ names_asked shape n letter fs =
 pub names_ask : (shape : Extent) (n letter : ℕ) (fs : List (List ℕ)) → IfErr (ask shape n letter fs) NamesRecord
 unfolding ask
 names_ask shape n letter fs =
-    names_bind (asked shape n letter fs) _ (names_asked shape n letter fs) (λ row.
+    names_bind (row_by_letter shape n letter fs) _ (names_asked shape n letter fs) (λ row.
     names_bind (block_in shape n row.address) _ (names_block shape n row.address) (λ block. tt))
 
 pub names_order : (shape : Extent) (n : ℕ) (fs : List (List ℕ)) → IfErr (order shape n fs) NamesRecord
@@ -83,7 +83,7 @@ names_as r said e h = rw e h
 names_version : (n : ℕ) (fs : List (List ℕ)) → IfErr (version_in n fs) NamesRecord
 unfolding version_in
 names_version n fs =
-    names_bind (ok_or (version_of fs) (BadFields n)) _ (names_or (version_of fs) (BadFields n) tt) (λ f.
+    names_bind (ok_or (version_field fs) (BadFields n)) _ (names_or (version_field fs) (BadFields n) tt) (λ f.
     names_bind (number_in n f) _ (names_number n f) (λ version.
     names_if (version == 2) (Ok version) (Err (BadVersion n)) tt tt))
 

@@ -9,7 +9,7 @@ use Rattle.csv.specs.declared.parser.State.TheVariants as st
 use Rattle.csv.specs.declared.reader.Reader.{Reader}
 use Rattle.csv.proofs.ReadFacts.{rows-end, rows-more}
 use Rattle.snoop_trace.specs.Grammar.{◌>>=◌, NamesRecord}
-use Rattle.snoop_trace.specs.Progress.{Takes, TakesEntry, entries_after, records_left}
+use Rattle.snoop_trace.specs.Progress.{TakesRecord, TakesEntry, entries_after, records_left}
 use Rattle.snoop_trace.specs.Heading.{heading_as, is_heading}
 use Rattle.snoop_trace.specs.Text.{Gives, entries_from, entries_in}
 use Rattle.snoop_trace.specs.declared.heading.Heading.{Heading}
@@ -84,7 +84,7 @@ took rem a b f xs config r e =
 
 took_entry_at : {R A : Type 0} (rem : R → Option (List ℕ)) (a b : Reader R) (f : List (List ℕ)) (says : List (List ℕ) → Result A TextFault) (entry : A) (o : Option (List ℕ))
     → reader_config a ≡ default_config → ReadRecord rem a b true f → says f ≡ Ok entry → source_of rem a ≡ o
-    → IfSome o (λ xs. Takes says (reader_state a) xs (Ok (Some entry)) (reader_state b) (source_of rem b))
+    → IfSome o (λ xs. TakesRecord says (reader_state a) xs (Ok (Some entry)) (reader_state b) (source_of rem b))
 took_entry_at rem a b f says entry None config r e o = tt
 took_entry_at rem a b f says entry (Some xs) config r e o =
     let (ys, next, left) = took rem a b f xs config r o in (f, ys, next, left, e)
@@ -94,7 +94,7 @@ pub took_entry : {R A : Type 0} (rem : R → Option (List ℕ)) (a b : Reader R)
 took_entry rem a b f says entry config r e = took_entry_at rem a b f says entry (source_of rem a) config r e refl
 
 took_fault_at : {A : Type 0} (says : List (List ℕ) → Result A TextFault) (s : State) (xs : List ℕ) (fault : TextFault) (s2 : State) (left : Option (List ℕ)) (r : Read)
-    → next_record default_config s [] [] xs ≡ Some r → says r.0 ≡ Err fault → Takes says s xs (Err fault) s2 left
+    → next_record default_config s [] [] xs ≡ Some r → says r.0 ≡ Err fault → TakesRecord says s xs (Err fault) s2 left
 took_fault_at says s xs (fault.BadKind m) s2 left r next e = (r, next, e)
 took_fault_at says s xs (fault.BadFields m) s2 left r next e = (r, next, e)
 took_fault_at says s xs (fault.BadNumber m) s2 left r next e = (r, next, e)
@@ -107,7 +107,7 @@ took_fault_at says s xs fault.NoMemory s2 left r next e = tt
 
 took_fault_from : {R A : Type 0} (rem : R → Option (List ℕ)) (a b : Reader R) (f : List (List ℕ)) (says : List (List ℕ) → Result A TextFault) (fault : TextFault) (o : Option (List ℕ))
     → reader_config a ≡ default_config → ReadRecord rem a b true f → says f ≡ Err fault → source_of rem a ≡ o
-    → IfSome o (λ xs. Takes says (reader_state a) xs (Err fault) (reader_state b) (source_of rem b))
+    → IfSome o (λ xs. TakesRecord says (reader_state a) xs (Err fault) (reader_state b) (source_of rem b))
 took_fault_from rem a b f says fault None config r e o = tt
 took_fault_from rem a b f says fault (Some xs) config r e o =
     let (ys, next, left) = took rem a b f xs config r o in
@@ -156,7 +156,7 @@ after_fault : {A : Type 0} (says : Says A) (before : List A) (n : ℕ) (rows : L
 after_fault says before n rows fault gave = rw gave refl
 
 pub further : {A : Type 0} (says : Says A) (begun : State) (before : List A) (read : ℕ) (xs : List ℕ) (s s2 : State) (left left2 : Option (List ℕ)) (entries : List A) (n : ℕ) (entry : A)
-    → SoFar says begun before read xs s left entries n → IfSome left (λ y. Takes (says (n + 1)) s y (Ok (Some entry)) s2 left2)
+    → SoFar says begun before read xs s left entries n → IfSome left (λ y. TakesRecord (says (n + 1)) s y (Ok (Some entry)) s2 left2)
     → SoFar says begun before read xs s2 left2 (entries ++ (entry ∷ [])) (n + 1)
 further {A} says begun before read xs s s2 left left2 entries n entry far h =
     let (fields, ys, next, known, is) = rw far.known at h in
@@ -173,7 +173,7 @@ further {A} says begun before read xs s s2 left left2 entries n entry far h =
     }
 
 pub done : {A : Type 0} (says : Says A) (begun : State) (before : List A) (read : ℕ) (xs : List ℕ) (s s2 : State) (left left2 : Option (List ℕ)) (entries : List A) (n : ℕ)
-    → SoFar says begun before read xs s left entries n → IfSome left (λ y. Takes (says (n + 1)) s y (Ok None) s2 left2)
+    → SoFar says begun before read xs s left entries n → IfSome left (λ y. TakesRecord (says (n + 1)) s y (Ok None) s2 left2)
     → entries_after says before (read + 1) (records_left begun xs) ≡ Ok entries
 done says begun before read xs s s2 left left2 entries n far h =
     let ended = rw far.known at h in
@@ -198,7 +198,7 @@ the_fault says begun before read xs s left entries n fault far h =
     ∙ after_fault says before (read + 1) (far.rows ++ (r.0 ∷ more)) fault (entries_fault says (read + 1) far.rows more r.0 far.taken fault far.gave (n + 1) (omega arith) is)
 
 pub faulty : {A : Type 0} (says : Says A) (begun : State) (before : List A) (read : ℕ) (xs : List ℕ) (s s2 : State) (left left2 : Option (List ℕ)) (entries : List A) (n : ℕ) (fault : TextFault) {X : Type 0} (view : X → List A)
-    → SoFar says begun before read xs s left entries n → IfSome left (λ y. Takes (says (n + 1)) s y (Err fault) s2 left2)
+    → SoFar says begun before read xs s left entries n → IfSome left (λ y. TakesRecord (says (n + 1)) s y (Err fault) s2 left2)
     → Gives view (Err fault) (entries_after says before (read + 1) (records_left begun xs))
 faulty says begun before read xs s s2 left left2 entries n (fault.BadKind m) view far h = the_fault says begun before read xs s left entries n (fault.BadKind m) far (rw far.known at h)
 faulty says begun before read xs s s2 left left2 entries n (fault.BadFields m) view far h = the_fault says begun before read xs s left entries n (fault.BadFields m) far (rw far.known at h)

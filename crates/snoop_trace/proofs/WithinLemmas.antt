@@ -6,7 +6,7 @@ use Rattle.std.proofs.lemmas.Bool.{cases_Bool, ltb-true}
 use Rattle.std.proofs.lemmas.List.Elements.{All-weaker}
 use Rattle.snoop_trace.specs.Extent.{Extent, IsWithinLimits}
 use Rattle.snoop_trace.proofs.WordPlaces.{asked_within}
-use Rattle.snoop_trace.specs.Grammar.{◌>>=◌, IsRowWithin, IsStepWithin, ask, asked, block_in, core_in, letter_of, number_in, one_of, order, respond, row_in, step_in, store, three_of, two_of, without_value}
+use Rattle.snoop_trace.specs.Grammar.{◌>>=◌, IsRowWithin, IsStepWithin, ask, row_by_letter, block_in, core_in, letter_of, number_in, one_of, order, respond, row_in, step_in, store, three_of, two_of, without_value}
 use Rattle.snoop_trace.specs.Progress.{IsSaid}
 use Rattle.snoop_trace.specs.declared.fault.TextFault.{TextFault}
 use Rattle.snoop_trace.specs.declared.fault.TextFault.TheVariants.{BadKind, BadFields}
@@ -52,8 +52,8 @@ core_of_store shape n fs =
     if_bind (number_in n f.2) _ _ _ (if_any (number_in n f.2)) (λ value yes.
     if_bind (core_in shape n core) _ _ _ (has_core shape n core) (λ c has. has)))))
 
-pub core_of_asked : (shape : Extent) (n letter : ℕ) (fs : List (List ℕ)) → IfOk (asked shape n letter fs) (HasCore shape)
-unfolding asked
+pub core_of_asked : (shape : Extent) (n letter : ℕ) (fs : List (List ℕ)) → IfOk (row_by_letter shape n letter fs) (HasCore shape)
+unfolding row_by_letter
 core_of_asked shape n letter fs =
     if_if (letter == 76) (without_value shape n Load fs) _ (HasCore shape) (core_of_without_value shape n Load fs)
     (if_if (letter == 83) (store shape n fs) _ (HasCore shape) (core_of_store shape n fs)
@@ -70,7 +70,7 @@ pub said_row : (shape : Extent) (n : ℕ) (fs : List (List ℕ)) → IfOk (row_i
 unfolding row_in
 said_row shape n fs =
     if_bind (ok_or (letter_of fs) (BadKind n)) _ _ _ (if_any (ok_or (letter_of fs) (BadKind n))) (λ letter yes.
-    if_bind (asked shape n letter fs) _ _ _ (core_of_asked shape n letter fs) (λ row has.
+    if_bind (row_by_letter shape n letter fs) _ _ _ (core_of_asked shape n letter fs) (λ row has.
     if_bind (block_in shape n row.address) _ _ _ (block_there shape n row.address) (λ block there. (has, there))))
 
 within_said : (shape : Extent) (row : Row) → IsSaid (row_in shape) row → IsRowWithin shape row
@@ -106,7 +106,7 @@ said_respond shape n fs =
 said_ask : (shape : Extent) (n letter : ℕ) (fs : List (List ℕ)) → IsWithinLimits shape → IfOk (ask shape n letter fs) (IsStepWithin shape)
 unfolding ask
 said_ask shape n letter fs limits =
-    if_bind (asked shape n letter fs) _ _ _ (core_of_asked shape n letter fs) (λ row has.
+    if_bind (row_by_letter shape n letter fs) _ _ _ (core_of_asked shape n letter fs) (λ row has.
     if_bind (block_in shape n row.address) _ _ _ (has_block shape n row.address) (λ block there. (has, there, asked_within shape row.address row.op limits)))
 
 said_step : (shape : Extent) (n : ℕ) (fs : List (List ℕ)) → IsWithinLimits shape → IfOk (step_in shape n fs) (IsStepWithin shape)

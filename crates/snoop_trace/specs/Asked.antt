@@ -3,7 +3,7 @@
 use Rattle.std.specs.Prelude.{◌≡◌, ℕ, ◌/◌, List, map, All, IfSome, Option, Result, Ok}
 use Rattle.std.specs.Option.{ok_or}
 use Rattle.snoop_trace.specs.Extent.{Extent}
-use Rattle.snoop_trace.specs.Grammar.{◌>>=◌, IsRowWithin, asked, block_in, letter_of, word_asked}
+use Rattle.snoop_trace.specs.Grammar.{◌>>=◌, IsRowWithin, row_by_letter, block_in, letter_of, word_asked}
 use Rattle.snoop_trace.specs.Text.{rows_of}
 use Rattle.snoop_trace.specs.declared.fault.TextFault.{TextFault}
 use Rattle.snoop_trace.specs.declared.fault.TextFault.TheVariants.{BadKind}
@@ -25,7 +25,7 @@ step_of asked = Ask asked.core asked.work.block asked.work.word asked.work.op
 unfoldable pub asked_in : Extent → ℕ → List (List ℕ) → Result Asked TextFault
 asked_in shape n fields = do
   letter ← ok_or (letter_of fields) (BadKind n)
-  row ← asked shape n letter fields
+  row ← row_by_letter shape n letter fields
   block ← block_in shape n row.address
   Ok (record { core = row.core; work = record { block = block; word = word_asked shape row.address row.op; op = row.op } })
 

@@ -125,8 +125,8 @@ respond shape n fields = do
   Ok (Respond block)
 
 -- what a core asks for in record n, by its letter: L is 76, S 83 and E 69
-unfoldable pub asked : Extent → ℕ → ℕ → List (List ℕ) → Result Row TextFault
-asked shape n letter fields =
+unfoldable pub row_by_letter : Extent → ℕ → ℕ → List (List ℕ) → Result Row TextFault
+row_by_letter shape n letter fields =
     if letter == 76 then without_value shape n Load fields
     else if letter == 83 then store shape n fields
     else if letter == 69 then without_value shape n Evict fields
@@ -136,14 +136,14 @@ asked shape n letter fields =
 unfoldable pub row_in : Extent → ℕ → List (List ℕ) → Result Row TextFault
 row_in shape n fields = do
   letter ← ok_or (letter_of fields) (BadKind n)
-  row ← asked shape n letter fields
+  row ← row_by_letter shape n letter fields
   block ← block_in shape n row.address
   Ok row
 
 -- the asking step of record n: the core asks for the block and the word of the address
 unfoldable pub ask : Extent → ℕ → ℕ → List (List ℕ) → Result Step TextFault
 ask shape n letter fields = do
-  row ← asked shape n letter fields
+  row ← row_by_letter shape n letter fields
   block ← block_in shape n row.address
   Ok (Ask row.core block (word_asked shape row.address row.op) row.op)
 

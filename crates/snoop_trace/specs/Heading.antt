@@ -19,9 +19,9 @@ is_heading ((letter ∷ []) ∷ fields) = letter == 86
 is_heading _ = false
 
 -- the field after the first, where there is one
-abbrev pub version_of : List (List ℕ) → Option (List ℕ)
-version_of (kind ∷ version ∷ fields) = Some version
-version_of _ = None
+abbrev pub version_field : List (List ℕ) → Option (List ℕ)
+version_field (kind ∷ version ∷ fields) = Some version
+version_field _ = None
 
 -- the five fields after the version, where there are five
 abbrev pub five_of : List (List ℕ) → Option (List ℕ × List ℕ × List ℕ × List ℕ × List ℕ)
@@ -42,7 +42,7 @@ protocol_in n name = ok_or (protocol_named name) (BadKind n)
 -- record n is of version 2
 unfoldable pub version_in : ℕ → List (List ℕ) → Result ℕ TextFault
 version_in n fields = do
-  field ← ok_or (version_of fields) (BadFields n)
+  field ← ok_or (version_field fields) (BadFields n)
   version ← number_in n field
   if version == 2 then Ok version else Err (BadVersion n)
 

@@ -18,13 +18,13 @@ pub record IsPlain {R : Type 0} (r : Reader R) : Type 0 where
   pub config : reader_config r ≡ default_config
 
 -- the next record of a text, by what it says, from a state and the bytes before it to those after it
-abbrev pub Takes : {A : Type 0} → (List (List ℕ) → Result A TextFault) → State → List ℕ → Result (Option A) TextFault → State → Option (List ℕ) → Type 0
-Takes says before xs (Ok None) after left = next_record default_config before [] [] xs ≡ None
-Takes says before xs (Ok (Some entry)) after left = (fields : List (List ℕ)) × (ys : List ℕ)
+abbrev pub TakesRecord : {A : Type 0} → (List (List ℕ) → Result A TextFault) → State → List ℕ → Result (Option A) TextFault → State → Option (List ℕ) → Type 0
+TakesRecord says before xs (Ok None) after left = next_record default_config before [] [] xs ≡ None
+TakesRecord says before xs (Ok (Some entry)) after left = (fields : List (List ℕ)) × (ys : List ℕ)
     × (next_record default_config before [] [] xs ≡ Some (fields, after, ys)) × (left ≡ Some ys) × (says fields ≡ Ok entry)
-Takes says before xs (Err Read) after left = Unit {0}
-Takes says before xs (Err NoMemory) after left = Unit {0}
-Takes says before xs (Err fault) after left = (r : Record) × (next_record default_config before [] [] xs ≡ Some r) × (says r.0 ≡ Err fault)
+TakesRecord says before xs (Err Read) after left = Unit {0}
+TakesRecord says before xs (Err NoMemory) after left = Unit {0}
+TakesRecord says before xs (Err fault) after left = (r : Record) × (next_record default_config before [] [] xs ≡ Some r) × (says r.0 ≡ Err fault)
 
 -- the records that are left of a text, from a state
 abbrev pub records_left : State → List ℕ → List (List (List ℕ))
@@ -36,7 +36,7 @@ entries_after says entries n rows = entries_from says n rows >>= λ more. Ok (en
 
 -- what a call does to a reader whose bytes are known
 abbrev pub TakesEntry : {R A : Type 0} → (R → Option (List ℕ)) → (List (List ℕ) → Result A TextFault) → Reader R → Result (Option A) TextFault → Reader R → Type 0
-TakesEntry rem says old r new = IfSome (source_of rem old) (λ xs. Takes says (reader_state old) xs r (reader_state new) (source_of rem new))
+TakesEntry rem says old r new = IfSome (source_of rem old) (λ xs. TakesRecord says (reader_state old) xs r (reader_state new) (source_of rem new))
 
 -- some record of a text says this entry
 abbrev pub IsSaid : {A : Type 0} → (ℕ → List (List ℕ) → Result A TextFault) → A → Type 0

@@ -112,7 +112,7 @@ fn protocol_named(name: &[u8]) -> Option<Protocol>
 // The field after the kind, where there is one.
 #[tactic(auto, using(crate::proofs::FieldLemmas::version_at))]
 fn version_of(fields: &ByteRecord) -> Option<&[u8]>
-    ensures { option_map (λ f. f.now) result ≡ spec.version_of (fields_of fields.now) }
+    ensures { option_map (λ f. f.now) result ≡ spec.version_field (fields_of fields.now) }
 {
     fields.get(1)
 }

@@ -5,7 +5,7 @@ ghost use Rattle.std.specs.Io.KnownBytes.{Appends};
 ghost use Rattle.csv.specs.Writing.{default_writer, needs_byte, row_text, text_written};
 ghost use Rattle.snoop_trace.specs.Extent.{Extent};
 ghost use Rattle.snoop_trace.specs.Heading.{heading_for, heading_text};
-ghost use Rattle.snoop_trace.specs.Output.{AppendsFront, BlamesWriter, IsWithin, step_text, steps_text, text_of};
+ghost use Rattle.snoop_trace.specs.Output.{AppendsFront, BlamesWriter, IsStepWithin, step_text, steps_text, text_of};
 ghost use Rattle.snoop_trace.specs.Records.{IsReady, Writes, record_writer};
 ghost use Rattle.snoop_trace.specs.Text.{steps_of};
 ghost use Rattle.snoop_trace.specs.declared.fault.TextFault.TheVariants as TextFault;
@@ -15,7 +15,6 @@ use crate::fault::{NoMemory, WriteFault};
 use crate::protocol::Protocol;
 use crate::shape::Shape;
 use crate::step::{Op, Step};
-use crate::streams::step_text::word_address;
 use crate::streams::{Sink, write_whole};
 use csv::{Writer, WriterBuilder};
 use itoa::Buffer;
@@ -42,7 +41,7 @@ pub fn write_steps<W: Sink>(
     ensures front { OnErr result (AppendsFront (W.contents writer.old) (W.contents writer.new) (text_of protocol shape steps.now)) }
     ensures never_blamed { W.never_fails ≡ true → result ≢ Err WriteFault.Write }
     ensures blamed { BlamesWriter (W.failed writer.old) (W.failed writer.new) (result ≡ Err WriteFault.Write) }
-    ensures read { All (IsWithin shape) steps.now → steps_of protocol shape (text_of protocol shape steps.now) ≡ Ok steps.now }
+    ensures read { All (IsStepWithin shape) steps.now → steps_of protocol shape (text_of protocol shape steps.now) ≡ Ok steps.now }
     ensures other { (other : Protocol) (extent : Extent) → ¬ ((other ≡ protocol) × (extent ≡ shape))
         → steps_of other extent (text_of protocol shape steps.now) ≡ Err (TextFault.OtherShape 1) }
 {
@@ -169,10 +168,10 @@ fn write_ask(
     ensures ready { OnOk result (IsReady records.new) }
 {
     match op {
-        Op::Load => write_two(records, b'L', core, word_address(shape, block, word)),
+        Op::Load => write_two(records, b'L', core, shape.word_address(block, word)),
         Op::Evict => write_two(records, b'E', core, shape.address_of(block)),
         Op::Store(value) => {
-            write_three(records, b'S', core, word_address(shape, block, word), value)
+            write_three(records, b'S', core, shape.word_address(block, word), value)
         }
     }
 }

@@ -124,10 +124,10 @@ fn store(shape: Shape, n: u64, fields: &ByteRecord) -> Result<Row, TextFault>
 }
 
 // What a core asks for in record n, by its letter.
-#[tactic(auto, unfolding(crate::specs::Grammar::asked))]
+#[tactic(auto, unfolding(crate::specs::Grammar::row_by_letter))]
 #[inline(always)]
 fn asked(shape: Shape, n: u64, letter: u8, fields: &ByteRecord) -> Result<Row, TextFault>
-    ensures { result ≡ spec.asked shape n letter (fields_of fields.now) }
+    ensures { result ≡ spec.row_by_letter shape n letter (fields_of fields.now) }
 {
     match letter {
         b'L' => without_value(shape, n, Op::Load, fields),

@@ -2,7 +2,7 @@
 ghost use Rattle.std.specs.Prelude.{◌≡◌, ◌≤◌, ◌<◌, ◌↔◌, Err, IsTrue};
 ghost use Rattle.std.specs.Result.{OkIff};
 ghost use Rattle.snoop_trace.specs.Extent.{IsBlockCount, IsBlockSize, IsCoreCount, IsWithinLimits, IsWordCount};
-ghost use Rattle.snoop_trace.specs.Output.{address_of};
+ghost use Rattle.snoop_trace.specs.Output.{address_of, word_address};
 ghost use Rattle.snoop_trace.specs.Words.{HasWord};
 
 use crate::step::Op;
@@ -77,21 +77,7 @@ impl Shape {
         ensures bad_bytes { (result ≡ Err ShapeFault.BadBytes)
             ↔ (IsCoreCount cores × IsBlockCount blocks × ¬ IsBlockSize block_bytes) }
     {
-        if !(1..=MAX_CORES).contains(&cores) {
-            return Err(ShapeFault::BadCores);
-        }
-        if !(1..=MAX_BLOCKS).contains(&blocks) {
-            return Err(ShapeFault::BadBlocks);
-        }
-        if !is_block_size(block_bytes) {
-            return Err(ShapeFault::BadBytes);
-        }
-        Ok(Shape {
-            cores,
-            blocks,
-            block_bytes,
-            words: 1,
-        })
+        Shape::with_words(cores, blocks, block_bytes, 1)
     }
 
     /// The shape of so many cores and blocks, and bytes and words a block.
@@ -225,6 +211,14 @@ impl Shape {
         ensures { result ≡ address_of self.now block }
     {
         block as u64 * self.block_bytes as u64
+    }
+
+    /// The first address of a word of a block, if need be of one outside the shape.
+    #[inline(always)]
+    pub fn word_address(&self, block: u32, word: u32) -> u64
+        ensures { result ≡ word_address self.now block word }
+    {
+        self.address_of(block) + word as u64 * (self.block_bytes() / self.words()) as u64
     }
 }
 

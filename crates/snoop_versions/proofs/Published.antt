@@ -3,7 +3,7 @@ use Rattle.std.proofs.Common.{◌≡◌, ℕ, ◌<◌, ◌≤◌, List, [], ◌�
 use Rattle.std.specs.Prelude.{All, Result, Ok, Err, IsOk, MatchResult, option_to_list}
 use Rattle.snoop_history.specs.declared.items.Item.{Item}
 use Rattle.snoop_history.specs.History.{Legal}
-use Rattle.snoop_history.specs.Within.{IsWithin}
+use Rattle.snoop_history.specs.Within.{IsItemWithin}
 use Rattle.snoop_versions.specs.declared.version.Version.{Version}
 use Rattle.snoop_versions.specs.declared.rule.View.{View}
 use Rattle.snoop_versions.specs.Rule.{version_of, grown, IsPublishing}
@@ -20,8 +20,8 @@ ok_side Q (Ok a) ok after = after
 ok_side Q (Err e) ok after = absurd (true≢false (sym ok))
 
 -- what the writer publishes is one item
-pub one_ready : (cores blocks words : ℕ) (v : View) (x : Version) (ready : List Item) → 0 < length ready → Legal (v.seen ++ ready) → IsPublishing cores blocks words v x ready → All (IsWithin cores blocks words) (v.seen ++ ready)
-    → (c : ℕ) × (b : ℕ) × (w : ℕ) × (entry : Item) × (ready ≡ entry ∷ []) × (x ≡ version_of c b w v.seen) × Legal (v.seen ++ entry ∷ []) × All (IsWithin c b w) (v.seen ++ entry ∷ [])
+pub one_ready : (cores blocks words : ℕ) (v : View) (x : Version) (ready : List Item) → 0 < length ready → Legal (v.seen ++ ready) → IsPublishing cores blocks words v x ready → All (IsItemWithin cores blocks words) (v.seen ++ ready)
+    → (c : ℕ) × (b : ℕ) × (w : ℕ) × (entry : Item) × (ready ≡ entry ∷ []) × (x ≡ version_of c b w v.seen) × Legal (v.seen ++ entry ∷ []) × All (IsItemWithin c b w) (v.seen ++ entry ∷ [])
 one_ready cores blocks words v x [] some legal p within = absurd (omega arith)
 one_ready cores blocks words v x (entry ∷ []) some legal p within = (cores, blocks, words, entry, refl, p.shown, legal, within)
 one_ready cores blocks words v x (entry ∷ next ∷ rest) some legal p within = let few = p.few in absurd (omega arith)

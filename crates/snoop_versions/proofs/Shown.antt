@@ -4,7 +4,7 @@ use Rattle.std.specs.Prelude.{All, ◌&&◌, nat_lt, if◌then◌else◌}
 use Rattle.snoop_history.specs.declared.items.Item.{Item}
 use Rattle.snoop_history.specs.declared.items.Did.{Did}
 use Rattle.snoop_history.specs.History.{flat, next_number, last_of}
-use Rattle.snoop_history.specs.Within.{IsWithin, inside}
+use Rattle.snoop_history.specs.Within.{IsItemWithin, inside}
 use Rattle.snoop_history.specs.Totals.{capped}
 use Rattle.snoop_history.proofs.Boards.{inside_all}
 use Rattle.snoop_versions.specs.declared.version.Version.{Version}
@@ -16,7 +16,7 @@ pub enters : (v w : View) (x y : Version) → v.used ≡ true → Sees v x y w �
 enters v w x y used s = record { legal = s.legal; begins = s.begins; shape = s.shape used }
 
 -- what a board shows of a list that lies within its shape
-module _ (cores blocks words : ℕ) (list : List Item) (within : All (IsWithin cores blocks words) list) where
+module _ (cores blocks words : ℕ) (list : List Item) (within : All (IsItemWithin cores blocks words) list) where
   pub value_whole : (block word : ℕ) (value : Option ℕ) → value ≡ (if nat_lt block blocks && nat_lt word words then Some (flat (inside cores blocks words list) block word) else None) → value ≡ (if nat_lt block blocks && nat_lt word words then Some (flat list block word) else None)
   value_whole block word value e = e ∙ ap (λ (l : List Item). if nat_lt block blocks && nat_lt word words then Some (flat l block word) else None) (inside_all cores blocks words list within)
 

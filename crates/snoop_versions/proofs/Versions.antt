@@ -9,7 +9,7 @@ use Rattle.left_right.specs.Register.{Admits, TurnsAt, Turns}
 use Rattle.atomic_table.proofs.Lists.{at_set, at_snoc}
 use Rattle.snoop_history.specs.declared.items.Item.{Item}
 use Rattle.snoop_history.specs.History.{Legal, last_or}
-use Rattle.snoop_history.specs.Within.{IsWithin}
+use Rattle.snoop_history.specs.Within.{IsItemWithin}
 use Rattle.snoop_history.proofs.Boards.{absorbed_board, same_shape}
 use Rattle.snoop_history.proofs.Pushed.{last_or-append}
 use Rattle.snoop_versions.specs.declared.version.Version.{Version}
@@ -87,7 +87,7 @@ no_other : (v u : View) (c' b' d' writer handle j : ℕ) (now : List Item) → I
 no_other v u c' b' d' writer handle j now is same fits theirs apart w true e = apart ((theirs.writes w).0 ∙ sym (fits.writes e).0)
 no_other v u c' b' d' writer handle j now is same fits theirs apart w false e = (theirs.writes w).2 (ap newest_of (same ∙ is e))
 
-pub adds : (handle : ℕ) (v : View) (x next : Version) (c b d : ℕ) (entry : Item) → x ≡ version_of c b d v.seen → IsWriting v → Legal (v.seen ++ entry ∷ []) → All (IsWithin c b d) (v.seen ++ entry ∷ []) → next ≡ grown x entry → TurnsAt Kept handle v x next Adds
+pub adds : (handle : ℕ) (v : View) (x next : Version) (c b d : ℕ) (entry : Item) → x ≡ version_of c b d v.seen → IsWriting v → Legal (v.seen ++ entry ∷ []) → All (IsItemWithin c b d) (v.seen ++ entry ∷ []) → next ≡ grown x entry → TurnsAt Kept handle v x next Adds
 adds handle v x next c b d entry shown is legal within grows views k at =
     let mine = k.each handle v at in
     let same : k.list ≡ v.seen = same_list v x c b d k.cores k.blocks k.words k.writer handle k.list is shown k.version mine v.writes refl in
@@ -103,7 +103,7 @@ adds handle v x next c b d entry shown is legal within grows views k at =
         writer = handle;
         version = grows ∙ ap (λ (y : Version). grown y entry) k.version ∙ sym (version_of-push k.cores k.blocks k.words k.list entry);
         legal = subst Legal seen legal;
-        within = subst (All (IsWithin k.cores k.blocks k.words)) seen (subst (λ (n : ℕ). All (IsWithin k.cores k.blocks n) (v.seen ++ entry ∷ [])) shape.2 (subst (λ (n : ℕ). All (IsWithin k.cores n d) (v.seen ++ entry ∷ [])) shape.1 (subst (λ (n : ℕ). All (IsWithin n b d) (v.seen ++ entry ∷ [])) shape.0 within)));
+        within = subst (All (IsItemWithin k.cores k.blocks k.words)) seen (subst (λ (n : ℕ). All (IsItemWithin k.cores k.blocks n) (v.seen ++ entry ∷ [])) shape.2 (subst (λ (n : ℕ). All (IsItemWithin k.cores n d) (v.seen ++ entry ∷ [])) shape.1 (subst (λ (n : ℕ). All (IsItemWithin n b d) (v.seen ++ entry ∷ [])) shape.0 within)));
         each = λ j u e. ⊎_elim
             (λ (t : (j ≡ handle) × (w ≡ u)). subst (Fits k.cores k.blocks k.words (k.list ++ entry ∷ []) handle j) t.1
             (record { begins = ([], sym seen ∙ sym (append-nil (v.seen ++ entry ∷ []))); shape = λ e. (refl, refl, refl); writes = λ e. (t.0, seen, λ none. absurd (some_none (sym (newest_push k.list entry) ∙ none))) }))
@@ -124,7 +124,7 @@ adds handle v x next c b d entry shown is legal within grows views k at =
 
 -- the rule holds of the version of no items, which only its writer has
 pub opens : (x : Version) (c b d : ℕ) → x ≡ version_of c b d [] → Kept x (newcomer ∷ [])
-opens x c b d is = record { cores = c; blocks = b; words = d; list = []; writer = 0; version = is; legal = none_illegal; within = All-nil (IsWithin c b d); each = one }
+opens x c b d is = record { cores = c; blocks = b; words = d; list = []; writer = 0; version = is; legal = none_illegal; within = All-nil (IsItemWithin c b d); each = one }
   where
     none_illegal : Legal []
     none_illegal k entry at = cc

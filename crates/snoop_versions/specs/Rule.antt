@@ -5,7 +5,7 @@ use mathlib.Core.Option.{some}
 use lib.ListN.{get_elem?}
 use Rattle.snoop_history.specs.declared.items.Item.{Item}
 use Rattle.snoop_history.specs.History.{Legal, last_or}
-use Rattle.snoop_history.specs.Within.{IsWithin}
+use Rattle.snoop_history.specs.Within.{IsItemWithin}
 use Rattle.snoop_history.specs.Board.{board_of, absorbed}
 use Rattle.snoop_versions.specs.declared.version.Version.{Version}
 use Rattle.snoop_versions.specs.declared.rule.View.{View}
@@ -42,7 +42,7 @@ pub record Kept (x : Version) (views : List View) : Type 0 where
   pub writer : ℕ
   pub version : x ≡ version_of cores blocks words list
   pub legal : Legal list
-  pub within : All (IsWithin cores blocks words) list
+  pub within : All (IsItemWithin cores blocks words) list
   pub each : (handle : ℕ) (v : View) → get_elem? views handle ≡ some v → Fits cores blocks words list writer handle v
 
 -- the writer's list has grown by the newest item
@@ -54,7 +54,7 @@ pub record Sees (v : View) (x y : Version) (w : View) : Type 0 where
   pub used : w.used ≡ true
   pub version : y ≡ version_of w.cores w.blocks w.words w.seen
   pub legal : Legal w.seen
-  pub within : All (IsWithin w.cores w.blocks w.words) w.seen
+  pub within : All (IsItemWithin w.cores w.blocks w.words) w.seen
   pub begins : StartsWith w.seen v.seen
   pub shape : v.used ≡ true → (w.cores ≡ v.cores) × (w.blocks ≡ v.blocks) × (w.words ≡ v.words)
 

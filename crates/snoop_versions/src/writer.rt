@@ -39,7 +39,7 @@ impl VersionWriter {
     ghost use Rattle.std.specs.Prelude.{◌≡◌, ◌<◌, ◌^◌, [], ◌∷◌, ◌++◌, All, IfOk, OnOk, OnErr};
     ghost use Rattle.snoop_history.specs.Board.{board_of};
     ghost use Rattle.snoop_history.specs.History.{Legal};
-    ghost use Rattle.snoop_history.specs.Within.{IsWithin};
+    ghost use Rattle.snoop_history.specs.Within.{IsItemWithin};
 
     /// The writer of the version of no items, for this shape, with `readers` reading places. `NoMemory` where a growth was refused.
     pub fn new(alloc: Global, shape: Shape, readers: usize) -> Result<VersionWriter, NoMemory>
@@ -74,7 +74,7 @@ impl VersionWriter {
     /// ready it does nothing. It takes no memory.
     pub fn publish<R: Wait>(&mut self, rt: &R)
         requires legal { Legal (self.old.list ++ self.old.ready) }
-        requires within { All (IsWithin self.old.shape.cores self.old.shape.blocks self.old.shape.words) (self.old.list ++ self.old.ready) }
+        requires within { All (IsItemWithin self.old.shape.cores self.old.shape.blocks self.old.shape.words) (self.old.list ++ self.old.ready) }
         ensures { self.new ≡ record self.old { list = self.old.list ++ self.old.ready; ready = [] } }
     {
         if self.writer.has_pending_operations() {

@@ -82,22 +82,6 @@ impl<W: Write> AnyWriter<W> {
             failed: false,
         }
     }
-
-    // Writes once, and notes a failure.
-    fn write_noting(&mut self, buf: &[u8]) -> io::Result<usize>
-        ensures bound { WritesAtMost result buf.now }
-        ensures bytes { WriteAppends (W.contents self.old.inner) (W.contents self.new.inner) result buf.now }
-        ensures some { IfOk result (λ n. 0 < length buf.now → 0 < n) }
-        ensures noted { BlamesWriter (Some self.old.failed) (Some self.new.failed) (IsErr result) }
-        ensures stays { self.old.failed ≡ true → self.new.failed ≡ true }
-    {
-        let written = match self.inner.write(buf) {
-            Ok(0) if !buf.is_empty() => Err(io::Error::from(ErrorKind::WriteZero)),
-            written => written,
-        };
-        self.failed |= written.is_err();
-        written
-    }
 }
 
 impl<W: Write> Write for AnyWriter<W> {
@@ -110,7 +94,12 @@ impl<W: Write> Write for AnyWriter<W> {
         ensures noted { BlamesWriter (Some self.old.failed) (Some self.new.failed) (IsErr result) }
         ensures stays { self.old.failed ≡ true → self.new.failed ≡ true }
     {
-        self.write_noting(buf)
+        let written = match self.inner.write(buf) {
+            Ok(0) if !buf.is_empty() => Err(io::Error::from(ErrorKind::WriteZero)),
+            written => written,
+        };
+        self.failed |= written.is_err();
+        written
     }
 
     fn flush(&mut self) -> io::Result<()> {
@@ -131,7 +120,7 @@ impl<W: Write> Sink for AnyWriter<W> {
         ensures noted { BlamesWriter (Some self.old.failed) (Some self.new.failed) (IsErr result) }
         ensures stays { self.old.failed ≡ true → self.new.failed ≡ true }
     {
-        self.write_noting(buf)
+        self.write(buf)
     }
 }
 

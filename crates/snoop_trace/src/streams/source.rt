@@ -69,18 +69,6 @@ impl<R: Read> AnyReader<R> {
             failed: false,
         }
     }
-
-    // Reads once, and notes a failure.
-    fn read_noting(&mut self, buf: &mut [u8]) -> io::Result<usize>
-        ensures bound { ReadsAtMost result buf.new }
-        ensures bytes { ReadConsumes (R.remaining self.old.inner) (R.remaining self.new.inner) result buf.new }
-        ensures noted { BlamesReader (Some self.old.failed) (Some self.new.failed) (IsErr result) }
-        ensures stays { self.old.failed ≡ true → self.new.failed ≡ true }
-    {
-        let read = self.inner.read(buf);
-        self.failed |= read.is_err();
-        read
-    }
 }
 
 impl<R: Read> Read for AnyReader<R> {
@@ -92,7 +80,9 @@ impl<R: Read> Read for AnyReader<R> {
         ensures noted { BlamesReader (Some self.old.failed) (Some self.new.failed) (IsErr result) }
         ensures stays { self.old.failed ≡ true → self.new.failed ≡ true }
     {
-        self.read_noting(buf)
+        let read = self.inner.read(buf);
+        self.failed |= read.is_err();
+        read
     }
 }
 
@@ -108,6 +98,6 @@ impl<R: Read> Source for AnyReader<R> {
         ensures noted { BlamesReader (Some self.old.failed) (Some self.new.failed) (IsErr result) }
         ensures stays { self.old.failed ≡ true → self.new.failed ≡ true }
     {
-        self.read_noting(buf)
+        self.read(buf)
     }
 }

@@ -1,7 +1,7 @@
 //! The text of one step.
 ghost use Rattle.std.specs.Prelude.{◌≡◌, ◌≤◌, ◌<◌, ◌+◌, ◌++◌, ◌∷◌, [], OnOk, codes, length};
 ghost use Rattle.std.specs.Fmt.{decimal};
-ghost use Rattle.snoop_trace.specs.Output.{step_text, word_address};
+ghost use Rattle.snoop_trace.specs.Output.{step_text};
 ghost use Rattle.snoop_trace.specs.declared.step.Step.TheVariants.{Ask};
 
 use crate::fault::NoMemory;
@@ -10,13 +10,6 @@ use crate::step::{Op, Step};
 use crate::streams::append::{push_byte, push_decimal};
 use itoa::write_digits;
 use std::marker::Model;
-
-// The first address of a word of a block.
-pub(crate) fn word_address(shape: Shape, block: u32, word: u32) -> u64
-    ensures { result ≡ word_address shape block word }
-{
-    shape.address_of(block) + word as u64 * (shape.block_bytes() / shape.words()) as u64
-}
 
 /// Appends a comma and a number.
 pub(crate) fn push_field(out: &mut Vec<u8>, number: u64) -> Result<(), NoMemory>
@@ -127,11 +120,11 @@ fn put_ask(back: &mut Back, shape: Shape, core: u32, block: u32, word: u32, op: 
     ensures { back.new ≡ step_text shape (Ask core block word op) }
 {
     match op {
-        Op::Load => put_two(back, b'L', core, word_address(shape, block, word)),
+        Op::Load => put_two(back, b'L', core, shape.word_address(block, word)),
         Op::Evict => put_two(back, b'E', core, shape.address_of(block)),
         Op::Store(value) => {
             put_field(back, value);
-            put_two(back, b'S', core, word_address(shape, block, word));
+            put_two(back, b'S', core, shape.word_address(block, word));
         }
     }
 }

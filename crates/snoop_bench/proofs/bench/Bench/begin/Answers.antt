@@ -1,5 +1,5 @@
 use Rattle.std.proofs.Common.{◌≡◌, ◌∙◌, Bool, true, false, List, Option, Some, refl, sym, ap, subst}
-use Rattle.snoop_trace.specs.Output.{IsWithin}
+use Rattle.snoop_trace.specs.Output.{IsStepWithin}
 use Rattle.snoop_trace.specs.declared.step.Step.{Step}
 use Rattle.snoop_trace.specs.declared.step.Step.TheVariants.{Ask}
 use Rattle.snoop_model.specs.Pictures.Situation.{Situation}
@@ -27,7 +27,7 @@ take-requires-clause-allowed g c =
 
 pub take-requires-clause-within : goal.take-requires-clause-within
 take-requires-clause-within g c =
-    subst (λ (l : Locked). IsWithin l.situation.shape (Ask c.args.core c.args.work.block c.args.work.word c.args.work.op)) (sym c.self.view_is) c.requires.within
+    subst (λ (l : Locked). IsStepWithin l.situation.shape (Ask c.args.core c.args.work.block c.args.work.word c.args.work.op)) (sym c.self.view_is) c.requires.within
 
 pub invariant_of-self-2 : goal.invariant_of-self-2
 invariant_of-self-2 g c =

@@ -1,6 +1,6 @@
 use Rattle.std.proofs.Common.{rules, ◌≡◌, ◌∙◌, ◌∷◌, [], ◌++◌, List, Option, sym, ap, subst}
 use Rattle.std.specs.Prelude.{option_to_list}
-use Rattle.snoop_trace.specs.Output.{IsWithin}
+use Rattle.snoop_trace.specs.Output.{IsStepWithin}
 use Rattle.snoop_trace.specs.declared.step.Step.{Step}
 use Rattle.snoop_history.specs.declared.items.Item.{Item}
 use Rattle.snoop_model.specs.Pictures.Situation.{Situation}
@@ -26,7 +26,7 @@ invariant_of-self-2 g c =
     ap (λ (w : Publishing). w.list) c.publish.ensures ∙ ap (λ (w : Publishing). w.list ++ w.ready) ready in
     let log = (c.step.ensures.prepared c.in-Ok-prepared.item told).1 ∙ ap (λ (x : Situation). x.log ++ option_to_list c.in-Ok-prepared.item) same in
     let inv = c.self.invariant in
-    let within = subst (λ (r : Recording). IsWithin r.situation.shape c.args.step) (sym c.self.view_is) c.requires.within in
+    let within = subst (λ (r : Recording). IsStepWithin r.situation.shape c.args.step) (sym c.self.view_is) c.requires.within in
     record {
       recorded = record {
         run = run_on s t c.self.inside.steps.items c.push_reserved.new.self.items c.args.step c.in-Ok-step.reply c.in-Ok-prepared.item inv.recorded.run move protocol shape steps;

@@ -4,7 +4,7 @@ use Rattle.std.specs.Option.{option_map}
 use Rattle.std.proofs.lemmas.Option.{slice_get-map}
 use Rattle.snoop_history.specs.Journal.{Journal}
 use Rattle.snoop_history.specs.Packed.{unpacked}
-use Rattle.snoop_history.specs.Within.{IsWithin}
+use Rattle.snoop_history.specs.Within.{IsItemWithin}
 use Rattle.snoop_history.specs.History.{IsNumbered}
 use Rattle.snoop_history.proofs.Kept.{read-at}
 use Rattle.snoop_history.proofs.log.Log.item.Goals as goal
@@ -16,7 +16,7 @@ returns-clause-within c =
     let there : slice_get l.items.items place ≡ Some c.in_ok-packed.packed =
     read-at (λ p. p.now) l.items.items place c.get.result _ (c.get.ensures.lookup.0 ∙ ap (λ xs. nat_lt place (length xs)) c.deref.ensures.value) (rw c.deref.ensures.value at c.get.ensures.lookup.1) (sym c.copied.ensures ∙ c.in_ok-packed.was) in
     let item = slice_get-map unpacked l.items.items place ∙ ap (option_map unpacked) there in
-    let P : Journal → Type 0 = λ j. IsWithin j.cores j.blocks j.words c.unpack.result in
+    let P : Journal → Type 0 = λ j. IsItemWithin j.cores j.blocks j.words c.unpack.result in
     subst P c.self.view_is (rw c.unpack.ensures (c.self.invariant.kept.listed.within place _ item))
 
 pub returns-clause-numbered : goal.returns-clause-numbered

@@ -3,7 +3,7 @@ use Rattle.std.proofs.lemmas.List.{length-map, map-append}
 use Rattle.snoop_history.specs.Journal.{Journal}
 use Rattle.snoop_history.specs.Packed.{unpacked}
 use Rattle.snoop_history.specs.History.{IsNumbered}
-use Rattle.snoop_history.specs.Within.{IsWithin}
+use Rattle.snoop_history.specs.Within.{IsItemWithin}
 use Rattle.snoop_history.specs.declared.items.Item.{Item}
 use Rattle.snoop_history.proofs.Kept.{kept-push, kept-as, board-shape, numbers_fit}
 use Rattle.snoop_history.proofs.log.Log.push.Goals as goal
@@ -14,7 +14,7 @@ invariant_of-self c =
     let items = map unpacked l.items.items in
     let entry = c.args.item in
     let kept = c.self.invariant.kept in
-    let P : Journal → Type 0 = λ j. IsWithin j.cores j.blocks j.words entry in
+    let P : Journal → Type 0 = λ j. IsItemWithin j.cores j.blocks j.words entry in
     let Q : Journal → Type 0 = λ j. IsNumbered j.items entry in
     let more : map unpacked c.push_reserved.new.self.items ≡ items ++ entry ∷ [] =
     ap (map unpacked) c.push_reserved.ensures.items ∙ (map-append unpacked l.items.items (c.new.result ∷ []) ∙ ap (λ (e : Item). items ++ e ∷ []) c.new.ensures) in
