@@ -23,7 +23,7 @@ use Rattle.snoop_model.specs.Moves.Move.{next_did}
 use Rattle.snoop_model.specs.Runs.Once.{did_it, did_access, same_op, same_access}
 use Rattle.snoop_model.specs.Runs.Owed.{IsLast, IsOwed}
 use Rattle.snoop_model.specs.Turns.Turn.{turn_of, step_under_way}
-use Rattle.snoop_model.specs.Turns.TurnRule.{TurnRule}
+use Rattle.snoop_model.specs.Turns.TurnLaws.{TurnLaws}
 use Rattle.snoop_trace.specs.declared.step.Work.{Work}
 use Rattle.snoop_bench.specs.declared.work.Turn.{Turn}
 use Rattle.snoop_bench.specs.declared.work.Turn.TheVariants as turn
@@ -99,7 +99,7 @@ no_evict : (core block word : ℕ) (asking : Op) → IsReplyTo (Ask core block w
 no_evict core block word asking fits same = subst (λ (x : Op). IsReplyTo (Ask core block word x) reply.StoreHit) same fits
 
 -- what an Ask answers, and the works after it
-pub asked_so : TurnRule → (s t : Situation) (core : ℕ) (work : Work) (answer : Reply) (given : Turn) (p q : Locked) → AreUnderWay p.works s → work_at p.works core ≡ None → core < s.shape.cores
+pub asked_so : TurnLaws → (s t : Situation) (core : ℕ) (work : Work) (answer : Reply) (given : Turn) (p q : Locked) → AreUnderWay p.works s → work_at p.works core ≡ None → core < s.shape.cores
     → Stepped s t (Ask core work.block work.word work.op) answer → IsReplyTo (Ask core work.block work.word work.op) answer → ((value : ℕ) → answer ≡ reply.Hit value → IsLoadHit (Ask core work.block work.word work.op) value s.log t.log)
     → q.situation ≡ t → given ≡ turn_asked answer → q.works ≡ works_asked answer p.works core work → Asked answer core work given p q
 asked_so rule s t core work (reply.Issued request) given p q u idle inside m fits hit is e w = (e, w)

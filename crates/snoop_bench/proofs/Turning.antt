@@ -32,7 +32,7 @@ use Rattle.snoop_model.specs.Runs.Owed.{IsOwed}
 use Rattle.snoop_model.specs.Turns.Serving.{IsServing, IsUnderWay}
 use Rattle.snoop_model.specs.Invariant.WellKept.{IsWellKept}
 use Rattle.snoop_model.specs.Turns.Turn.{turn_of, step_under_way}
-use Rattle.snoop_model.specs.Turns.TurnRule.{TurnRule}
+use Rattle.snoop_model.specs.Turns.TurnLaws.{TurnLaws}
 use Rattle.snoop_model.specs.Moves.Refuses.{Refuses}
 use Rattle.snoop_model.specs.declared.replies.Refused.{Refused}
 use Rattle.snoop_model.proofs.Turns.ClosedWorks.{has_step}
@@ -59,7 +59,7 @@ no_asked : (core block : ℕ) (wanted : Access) (step : Step) → IsNoAsk step �
 no_asked core block wanted step none e = true≢false (sym e ∙ none core block wanted)
 
 -- while the works stay, a step that asks nothing keeps them under way
-pub step_keeps : TurnRule → (s t : Situation) (step : Step) (answer : Reply) (works : List (Option Work)) → AreUnderWay works s → Stepped s t step answer → IsNoAsk step → IsUnderWay (under_way works) step → AreUnderWay works t
+pub step_keeps : TurnLaws → (s t : Situation) (step : Step) (answer : Reply) (works : List (Option Work)) → AreUnderWay works s → Stepped s t step answer → IsNoAsk step → IsUnderWay (under_way works) step → AreUnderWay works t
 step_keeps rule s t step answer works u m none under = record {
   places = u.places ∙ sym m.cores;
   serving = rule.serves_on s t (under_way works) (under_way works) step answer m.entry u.serving m.move (λ core block e. e) under;
@@ -72,7 +72,7 @@ step_keeps rule s t step answer works u m none under = record {
     by_was core block wanted (inr asked) = absurd (no_asked core block wanted step none asked)
 
 -- a core whose work has no step left gives it up
-pub over_keeps : TurnRule → (s : Situation) (works : List (Option Work)) (core : ℕ) (work : Work) → AreUnderWay works s → IsWellKept s → work_at works core ≡ Some work → turn_of s core work.block work.word work.op true ≡ None → AreUnderWay (slice_set works core None) s
+pub over_keeps : TurnLaws → (s : Situation) (works : List (Option Work)) (core : ℕ) (work : Work) → AreUnderWay works s → IsWellKept s → work_at works core ≡ Some work → turn_of s core work.block work.word work.op true ≡ None → AreUnderWay (slice_set works core None) s
 over_keeps rule s works core work u kept its closed = record {
   places = length-set works core None ∙ u.places;
   serving = rule.ends s (under_way works) (under_way (slice_set works core None)) core work.block work.word work.op u.serving kept (ap (λ (o : Option Work). option_map (λ w. w.block) o) its) closed (λ other apart. under_way-unchanged works core other None apart);
@@ -129,7 +129,7 @@ none_some : (o : Option Work) (w : Work) → o ≡ None → o ≡ Some w → ⊥
 none_some o w e f = cc
 
 -- a core that asked and issued no request is done with its work, and has none under way
-pub ended_keeps : TurnRule → (s t : Situation) (works : List (Option Work)) (core : ℕ) (work : Work) (answer : Reply) → AreUnderWay works s → work_at works core ≡ None → core < s.shape.cores → Stepped s t (Ask core work.block work.word work.op) answer
+pub ended_keeps : TurnLaws → (s t : Situation) (works : List (Option Work)) (core : ℕ) (work : Work) (answer : Reply) → AreUnderWay works s → work_at works core ≡ None → core < s.shape.cores → Stepped s t (Ask core work.block work.word work.op) answer
     → ((request : Request) → answer ≢ reply.Issued request) → (turn_of t core work.block work.word work.op true ≡ None) × AreUnderWay works t
 ended_keeps rule s t works core work answer u idle inside m ended = (
   closed,
@@ -175,7 +175,7 @@ ended_keeps rule s t works core work answer u idle inside m ended = (
         absurd (has_step t core work.block work.word work.op wanted m.kept waits' closed)
 
 -- a core that asked and issued a request has its work under way
-pub issued_keeps : TurnRule → (s t : Situation) (works : List (Option Work)) (core : ℕ) (work : Work) (answer : Reply) → AreUnderWay works s → work_at works core ≡ None → core < s.shape.cores → Stepped s t (Ask core work.block work.word work.op) answer
+pub issued_keeps : TurnLaws → (s t : Situation) (works : List (Option Work)) (core : ℕ) (work : Work) (answer : Reply) → AreUnderWay works s → work_at works core ≡ None → core < s.shape.cores → Stepped s t (Ask core work.block work.word work.op) answer
     → AreUnderWay (slice_set works core (Some work)) t
 issued_keeps rule s t works core work answer u idle inside m = record {
   places = length-set works core (Some work) ∙ u.places ∙ sym m.cores;
@@ -219,7 +219,7 @@ issued_keeps rule s t works core work answer u idle inside m = record {
         owed_still s t (Ask core work.block work.word work.op) answer m.entry works m.move m.once u.waiting c w was (others_ask_nothing core c work.block work.word work.op apart) (u.owed c w was isnt)
 
 -- the works after an Ask, whatever its reply
-pub asked_keeps : TurnRule → (s t : Situation) (works : List (Option Work)) (core : ℕ) (work : Work) (answer : Reply) → AreUnderWay works s → work_at works core ≡ None → core < s.shape.cores → Stepped s t (Ask core work.block work.word work.op) answer
+pub asked_keeps : TurnLaws → (s t : Situation) (works : List (Option Work)) (core : ℕ) (work : Work) (answer : Reply) → AreUnderWay works s → work_at works core ≡ None → core < s.shape.cores → Stepped s t (Ask core work.block work.word work.op) answer
     → AreUnderWay (works_asked answer works core work) t
 asked_keeps rule s t works core work (reply.Issued request) u idle inside m = issued_keeps rule s t works core work (reply.Issued request) u idle inside m
 asked_keeps rule s t works core work (reply.Hit value) u idle inside m = (ended_keeps rule s t works core work (reply.Hit value) u idle inside m (λ request e. cc)).1
@@ -230,7 +230,7 @@ asked_keeps rule s t works core work (reply.Ordered request') u idle inside m = 
 asked_keeps rule s t works core work (reply.Came payload from did) u idle inside m = (ended_keeps rule s t works core work (reply.Came payload from did) u idle inside m (λ request e. cc)).1
 
 -- no cause refuses the step of a turn
-pub never : TurnRule → (s : Situation) (works : List (Option Work)) (core : ℕ) (work : Work) (begun : Bool) (step : Step) → AreUnderWay works s → IsWellKept s → core < s.shape.cores → work.block < s.shape.blocks → HasWord s.shape work.word work.op
+pub never : TurnLaws → (s : Situation) (works : List (Option Work)) (core : ℕ) (work : Work) (begun : Bool) (step : Step) → AreUnderWay works s → IsWellKept s → core < s.shape.cores → work.block < s.shape.blocks → HasWord s.shape work.word work.op
     → work_at works core ≡ (if begun then Some work else None) → turn_of s core work.block work.word work.op begun ≡ Some step → (cause : Refused) → ¬ Refuses s step cause
 never rule s works core work true step u kept c b word its turn = rule.never_refused s (under_way works) core work.block work.word work.op true step u.serving kept c b word (ap (λ (o : Option Work). option_map (λ w. w.block) o) its) turn
 never rule s works core work false step u kept c b word its turn = rule.never_refused s (under_way works) core work.block work.word work.op false step u.serving kept c b word (ap (λ (o : Option Work). option_map (λ w. w.block) o) its) turn
@@ -248,13 +248,13 @@ no_ask core block None (Some t) (Ask c b w' a) works is = by_core (t.core == cor
     by_core true e = let n : ◌≡◌ {A = Option Step} (Some (Respond block)) (Some (Ask c b w' a)) = rw e at is in cc
     by_core false e = let n : ◌≡◌ {A = Option Step} None (Some (Ask c b w' a)) = rw e at is in cc
 
-pub serving_step : TurnRule → (s t : Situation) (core block word : ℕ) (asking : Op) (step : Step) (answer : Reply) (works : List (Option Work)) → AreUnderWay works s → Stepped s t step answer → turn_of s core block word asking true ≡ Some step → AreUnderWay works t
+pub serving_step : TurnLaws → (s t : Situation) (core block word : ℕ) (asking : Op) (step : Step) (answer : Reply) (works : List (Option Work)) → AreUnderWay works s → Stepped s t step answer → turn_of s core block word asking true ≡ Some step → AreUnderWay works t
 serving_step rule s t core block word asking step answer works u m turn =
     let n = no_ask core block (waiting_request (state_of s core block)) (picture_of s block).transaction step works turn in
     step_keeps rule s t step answer works u m n.0 n.1
 
 -- at reset nothing is under way, and nothing waits
-pub reset_under_way : TurnRule → (protocol : Protocol) (shape : Extent) → AreUnderWay (replicate shape.cores None) (reset protocol shape)
+pub reset_under_way : TurnLaws → (protocol : Protocol) (shape : Extent) → AreUnderWay (replicate shape.cores None) (reset protocol shape)
 reset_under_way rule protocol shape = record {
   places = length-replicate shape.cores None;
   serving = (rule.starts_well protocol shape (under_way (replicate shape.cores None))).1;

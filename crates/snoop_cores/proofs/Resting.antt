@@ -15,7 +15,7 @@ use Rattle.snoop_model.specs.Pictures.Situation.{Situation}
 use Rattle.snoop_model.specs.Runs.Safe.{IsSafe}
 use Rattle.snoop_model.specs.Turns.Serving.{IsServing}
 use Rattle.snoop_model.specs.Turns.Quiet.{IsQuiet}
-use Rattle.snoop_model.specs.Turns.TurnRule.{ComesToRest}
+use Rattle.snoop_model.specs.Turns.TurnLaws.{ComesToRest}
 use Rattle.snoop_model.specs.Runs.Once.{asks, did_it, waits_for, same_access, tally}
 use Rattle.snoop_model.proofs.Lists.Facts.{one_if}
 use Rattle.snoop_model.specs.Runs.Run.{AllTaken}

@@ -25,11 +25,10 @@ use Rattle.snoop_history.specs.declared.items.Item.{Item}
 use Rattle.snoop_blocks.specs.CoreSet.{Puts, has, set_of}
 use Rattle.snoop_bus.specs.Queues.{queue_of}
 use Rattle.snoop_bus.specs.Traffic.{Open}
-use Rattle.snoop_model.specs.Moves.OrderMove.{IsHead}
+use Rattle.snoop_model.specs.Pictures.Situation.{IsHead, Situation, nothing_there, picture_of, reset, state_of, untouched}
 use Rattle.snoop_model.specs.declared.replies.Reply.{Reply}
 use Rattle.snoop_model.specs.Pictures.Lines.{Line}
 use Rattle.snoop_model.specs.Pictures.Picture.{Picture, held_at, held_by, nothing_held, with_line}
-use Rattle.snoop_model.specs.Pictures.Situation.{Situation, nothing_there, picture_of, reset, state_of, untouched}
 use Rattle.snoop_model.specs.Moves.Move.{ArrivesFor, FillsRequestor, IsAbsent, Asks, Orders, Responds}
 use Rattle.snoop_model.specs.Runs.Run.{GoesFirst}
 use Rattle.snoop_model.proofs.Lists.Writes.{set_cases}

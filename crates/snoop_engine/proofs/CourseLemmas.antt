@@ -17,7 +17,7 @@ use Rattle.snoop_model.specs.Pictures.Situation.{Situation, reset}
 use Rattle.snoop_model.specs.Moves.Move.{FirstMove}
 use Rattle.snoop_model.specs.Runs.Run.{FirstRunFrom}
 use Rattle.snoop_model.specs.Turns.Quiet.{IsQuiet}
-use Rattle.snoop_model.specs.Turns.Serving.{owed, paid}
+use Rattle.snoop_model.specs.Turns.Serving.{steps_owed, steps_paid}
 use Rattle.snoop_model.proofs.Turns.Laws.{turn_rule}
 use Rattle.snoop_engine.specs.Courses.{Leading, LeadsOn}
 use Rattle.snoop_engine.specs.InOrder.{EndsInOrder, FindsInOrder, FollowsInOrder, InOrder, IsDoneInOrder, LeadsToRest, remaining_in_order}
@@ -103,7 +103,7 @@ driver_serves protocol shape rows start steps outcomes final begins end = record
 }
 
 -- an Ask pays for three steps
-paid_asks : (step : Step) → paid step ≡ 3 * length (all_asks (step ∷ []))
+paid_asks : (step : Step) → steps_paid step ≡ 3 * length (all_asks (step ∷ []))
 paid_asks (Ask core block word asking) = refl
 paid_asks (Order core) = refl
 paid_asks (Respond block) = refl
@@ -177,7 +177,7 @@ pub in_order_serves : (protocol : Protocol) (shape : Extent) (rows : List Row) (
     → start.situation ≡ reset protocol shape → start.left ≡ rows → EndsInOrder start steps outcomes final → StepsServeSerially protocol shape rows steps
 in_order_serves protocol shape rows start steps outcomes final at left end =
     let asked : all_asks steps ≡ map (ask_for shape) rows = end.asked ∙ (ap (λ (s : Situation). map (ask_for s.shape) start.left) at ∙ ap (map (ask_for shape)) left) in
-    let none : owed start.situation ≡ 0 = ap (λ (s : Situation). owed s) at ∙ owed_reset protocol shape in
+    let none : steps_owed start.situation ≡ 0 = ap (λ (s : Situation). steps_owed s) at ∙ owed_reset protocol shape in
     let all : length start.left ≡ length rows = ap (λ (l : List Row). length l) left in
     record {
       outcomes = outcomes;

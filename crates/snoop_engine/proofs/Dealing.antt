@@ -19,7 +19,7 @@ use Rattle.snoop_trace.specs.Grammar.{IsRowWithin}
 use Rattle.snoop_trace.specs.declared.step.Work.{Work}
 use Rattle.snoop_trace.specs.declared.protocol.Protocol.{Protocol}
 use Rattle.snoop_model.specs.Pictures.Situation.{reset}
-use Rattle.snoop_model.specs.Turns.TurnRule.{TurnRule}
+use Rattle.snoop_model.specs.Turns.TurnLaws.{TurnLaws}
 use Rattle.snoop_engine.specs.Round.{IsFit, IsWorkWithin}
 use Rattle.snoop_engine.specs.Packed.{largest}
 use Rattle.snoop_engine.specs.Todo.{IsAskedWithin, Todo, todo_of, nothing_to_do, under_way, left_in, work_of, works, works_by, works_of}
@@ -186,7 +186,7 @@ counted_more cores n counted = record {
 }
 
 -- a driver is fit at its start
-pub fit_new : TurnRule → (protocol : Protocol) (shape : Extent) (asks : List Asked) (lanes : List Todo) (turns : List ℕ) → IsWithinLimits shape → All (IsAskedWithin shape) asks
+pub fit_new : TurnLaws → (protocol : Protocol) (shape : Extent) (asks : List Asked) (lanes : List Todo) (turns : List ℕ) → IsWithinLimits shape → All (IsAskedWithin shape) asks
     → length lanes ≡ shape.cores → ((core : ℕ) → (todo_of lanes core).left ≡ works_by asks core) → ((core : ℕ) → (todo_of lanes core).work ≡ None)
     → All (λ core. core < shape.cores) turns → ((core : ℕ) → core < shape.cores → Contains turns core) → IsFit (reset protocol shape) lanes turns
 fit_new rule protocol shape asks lanes turns limits within cores left idle few all =

@@ -16,12 +16,12 @@ use Rattle.snoop_model.specs.declared.replies.Reply.{Reply}
 use Rattle.snoop_model.specs.declared.replies.Refused.{Refused}
 use Rattle.snoop_model.specs.declared.replies.Refused.TheVariants as refused
 use Rattle.snoop_model.specs.Moves.Move.{FirstMove}
-use Rattle.snoop_model.specs.Moves.StepMove.{RefusedFor}
+use Rattle.snoop_model.specs.Moves.Refuses.{RefusedFor}
 use Rattle.snoop_model.specs.Pictures.Situation.{Situation}
 use Rattle.snoop_trace.specs.declared.step.Work.{Work}
 use Rattle.snoop_model.specs.Turns.Turn.{turn_of}
 use Rattle.snoop_model.specs.Turns.Serving.{IsUnderWay}
-use Rattle.snoop_model.specs.Turns.TurnRule.{TurnRule}
+use Rattle.snoop_model.specs.Turns.TurnLaws.{TurnLaws}
 use Rattle.snoop_engine.specs.Todo.{Todo, todo_of, nothing_to_do, under_way, block_of}
 use Rattle.snoop_engine.specs.Round.{IsOver, IsEnabled, IsFit, IsIdle, IsTodoWithin, IsWorkWithin, TakesUp}
 use Rattle.snoop_engine.specs.Served.{ask_of}
@@ -50,7 +50,7 @@ todo_along s t todo e h = record {
     of_work None within = tt
     of_work (Some w) within = work_along s t w e within
 
-module _ (rule : TurnRule) (s : Situation) (lanes : List Todo) (turns : List ℕ) (fit : IsFit s lanes turns) (core : ℕ) (has_core : core < s.shape.cores) where
+module _ (rule : TurnLaws) (s : Situation) (lanes : List Todo) (turns : List ℕ) (fit : IsFit s lanes turns) (core : ℕ) (has_core : core < s.shape.cores) where
   module _ (work : Work) (works : (todo_of lanes core).work ≡ Some work) where
     pub goes_on : (r : Option Step) → r ≡ turn_of s core work.block work.word work.op true → IfSome r (IsEnabled s)
     goes_on None is = tt
@@ -150,7 +150,7 @@ takes_first lanes core next w has_lane first (Some step) is = λ k.
     ]))
 
 -- a move keeps what holds between turns
-pub fit_moves : TurnRule → (s t : Situation) (lanes : List Todo) (turns : List ℕ) (step : Step) (answer : Reply) (entry : Option Item)
+pub fit_moves : TurnLaws → (s t : Situation) (lanes : List Todo) (turns : List ℕ) (step : Step) (answer : Reply) (entry : Option Item)
     → IsFit s lanes turns → IsUnderWay (under_way lanes) step → FirstMove s step answer t entry → IsFit t lanes turns
 fit_moves rule s t lanes turns step answer entry fit its move =
     let e = same_shape s t step answer entry move in

@@ -8,7 +8,7 @@ use Rattle.snoop_trace.specs.declared.step.Step.TheVariants.{Ask, Order, Respond
 use Rattle.snoop_history.specs.declared.items.Item.{Item}
 use Rattle.snoop_model.specs.declared.replies.Reply.{Reply}
 use Rattle.snoop_model.specs.Moves.Move.{FirstMove}
-use Rattle.snoop_model.specs.Turns.Serving.{paid}
+use Rattle.snoop_model.specs.Turns.Serving.{steps_paid}
 use Rattle.snoop_model.proofs.Turns.Laws.{turn_rule}
 use Rattle.snoop_trace.specs.declared.step.Work.{Work}
 use Rattle.snoop_engine.specs.Todo.{Todo, todo_of, left_in}
@@ -57,7 +57,7 @@ left_fewer (x ∷ xs) (y ∷ ys) (suc core) one same =
     omega (arith, sum_by-cons (λ (t : Todo). length t.left) x xs, sum_by-cons (λ (t : Todo). length t.left) y ys, rest, here)
 
 -- what a step takes up is what it pays for
-left_paid : (old new : List Todo) (step : Step) → TakesUp old step new → 3 * left_in old ≡ paid step + 3 * left_in new
+left_paid : (old new : List Todo) (step : Step) → TakesUp old step new → 3 * left_in old ≡ steps_paid step + 3 * left_in new
 left_paid old new (Ask core block word asking) takes =
     let L : Bool → List Work = λ b. option_to_list (cond b (Some (record { block = block; word = word; op = asking })) None) in
     let first : length (todo_of old core).left ≡ suc (length (todo_of new core).left) =

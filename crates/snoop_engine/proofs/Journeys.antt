@@ -14,7 +14,7 @@ use Rattle.snoop_model.specs.declared.replies.Refused.{Refused}
 use Rattle.snoop_model.specs.Pictures.Picture.{Picture}
 use Rattle.snoop_model.specs.Pictures.Situation.{Situation, reset, untouched}
 use Rattle.snoop_model.specs.Runs.Run.{FirstRunFrom}
-use Rattle.snoop_model.specs.Turns.Serving.{owed, has_transaction}
+use Rattle.snoop_model.specs.Turns.Serving.{steps_owed, has_transaction}
 use Rattle.snoop_engine.proofs.TakenLemmas.{run_more}
 use Rattle.snoop_trace.specs.declared.step.Work.{Work}
 use Rattle.snoop_engine.specs.Todo.{todo_of, left_in, works_of}
@@ -43,7 +43,7 @@ none_open protocol cores (suc n) =
     let first : Picture = untouched protocol cores in
     omega (arith, sum_by-cons (λ (picture : Picture). cond (has_transaction picture) 1 0) first (replicate n first), none_open protocol cores n)
 
-pub owed_reset : (protocol : Protocol) (shape : Extent) → owed (reset protocol shape) ≡ 0
+pub owed_reset : (protocol : Protocol) (shape : Extent) → steps_owed (reset protocol shape) ≡ 0
 owed_reset protocol shape = omega (arith, none_wait shape.cores, none_open protocol shape.cores shape.blocks)
 
 pub way_begins : (start : Progress) → IsOnTheWay start [] [] start
@@ -86,5 +86,5 @@ end_serves protocol shape rows start steps outcomes final at left all end = reco
   taken = end.taken;
   asked = λ core. sym (end.asked core) ∙ left core;
   quiet = end.quiet;
-  few = (let none : owed start.situation ≡ 0 = ap (λ (s : Situation). owed s) at ∙ owed_reset protocol shape in omega (arith, none, all, end.few));
+  few = (let none : steps_owed start.situation ≡ 0 = ap (λ (s : Situation). steps_owed s) at ∙ owed_reset protocol shape in omega (arith, none, all, end.few));
 }

@@ -11,7 +11,7 @@ use Rattle.snoop_bus.specs.Queues.{queue_of}
 use Rattle.snoop_model.specs.Pictures.InQueue.{IsInQueue}
 use Rattle.snoop_model.specs.Pictures.Picture.{held_by}
 use Rattle.snoop_model.specs.Pictures.Situation.{Situation, picture_of, state_of}
-use Rattle.snoop_model.specs.Pictures.Sound.{keeps}
+use Rattle.snoop_model.specs.Pictures.Proper.{keeps}
 use Rattle.snoop_model.proofs.Lists.Facts.{one_if}
 use Rattle.snoop_engine.specs.States.{kept_at, kept_text, number_field, place_text, value_text}
 use Rattle.snoop_engine.specs.Taken.{state_at}

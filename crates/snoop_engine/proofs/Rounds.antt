@@ -8,7 +8,7 @@ use Rattle.snoop_trace.specs.declared.step.Step.{Step}
 use Rattle.snoop_model.specs.Pictures.Situation.{Situation}
 use Rattle.snoop_model.specs.Turns.Quiet.{IsQuiet}
 use Rattle.snoop_model.specs.Turns.Serving.{IsServing, IsUnderWay}
-use Rattle.snoop_model.specs.Turns.TurnRule.{TurnRule}
+use Rattle.snoop_model.specs.Turns.TurnLaws.{TurnLaws}
 use Rattle.snoop_engine.specs.Todo.{Todo, todo_of, under_way, block_of}
 use Rattle.snoop_engine.specs.Round.{Progress, IsFit, IsIdle, IsUnasked, IsDone, IsEnabled, TakesUp, Finds}
 
@@ -39,7 +39,7 @@ none_left [] h core there = let lt = there.1 in absurd (omega arith)
 none_left (x ∷ xs) h core there = cc
 
 -- without a turn each core is idle, and the machine is quiet
-pub all_done : TurnRule → (s : Situation) (lanes : List Todo) (turns : List ℕ) → IsFit s lanes turns → (r : Option ℕ) → r ≡ slice_get turns 0
+pub all_done : TurnLaws → (s : Situation) (lanes : List Todo) (turns : List ℕ) → IsFit s lanes turns → (r : Option ℕ) → r ≡ slice_get turns 0
     → IfNone r (((core : ℕ) → (todo_of lanes core).left ≡ []) × IsQuiet s)
 all_done rule s lanes turns fit (Some first) is = tt
 all_done rule s lanes turns fit None is =

@@ -17,7 +17,7 @@ use Rattle.snoop_bus.specs.Traffic.{Open}
 use Rattle.snoop_model.specs.Pictures.Situation.{Situation, picture_of, state_of}
 use Rattle.snoop_model.specs.Moves.Move.{FirstMove}
 use Rattle.snoop_model.specs.Turns.Turn.{step_under_way, turn_of}
-use Rattle.snoop_model.specs.Turns.Serving.{IsUnderWay, owed, paid}
+use Rattle.snoop_model.specs.Turns.Serving.{IsUnderWay, steps_owed, steps_paid}
 use Rattle.snoop_model.proofs.Turns.Laws.{turn_rule}
 use Rattle.snoop_engine.specs.Line.{line_text, line_texts}
 use Rattle.snoop_engine.specs.OneRow.{ServesOnly, ServesRow, TakesStep, nothing, only}
@@ -35,17 +35,17 @@ away core block other ne = ap (λ (b : Bool). cond {A = Option ℕ} b (Some bloc
 
 -- a step of work under way is no Ask
 pub under_way_asks_nothing : (request : Option Request) (open_there : Option Open) (core block : ℕ) (step : Step) → step_under_way request open_there core block ≡ Some step
-    → (is_ask step ≡ false) × (paid step ≡ 0) × ((under_way : ℕ → Option ℕ) → IsUnderWay under_way step)
+    → (is_ask step ≡ false) × (steps_paid step ≡ 0) × ((under_way : ℕ → Option ℕ) → IsUnderWay under_way step)
 under_way_asks_nothing (Some request) None core block step e =
-    let P : Step → Type 0 = λ x. (is_ask x ≡ false) × (paid x ≡ 0) × ((under_way : ℕ → Option ℕ) → IsUnderWay under_way x) in
+    let P : Step → Type 0 = λ x. (is_ask x ≡ false) × (steps_paid x ≡ 0) × ((under_way : ℕ → Option ℕ) → IsUnderWay under_way x) in
     subst P (same_Some _ _ e) (refl, refl, λ under_way. tt)
 under_way_asks_nothing (Some request) (Some transaction) core block step e =
-    let P : Step → Type 0 = λ x. (is_ask x ≡ false) × (paid x ≡ 0) × ((under_way : ℕ → Option ℕ) → IsUnderWay under_way x) in
+    let P : Step → Type 0 = λ x. (is_ask x ≡ false) × (steps_paid x ≡ 0) × ((under_way : ℕ → Option ℕ) → IsUnderWay under_way x) in
     subst P (same_Some _ _ e) (refl, refl, λ under_way. tt)
 under_way_asks_nothing None (Some transaction) core block step e = go (transaction.core == core) e
   where
     P : Step → Type 0
-    P x = (is_ask x ≡ false) × (paid x ≡ 0) × ((under_way : ℕ → Option ℕ) → IsUnderWay under_way x)
+    P x = (is_ask x ≡ false) × (steps_paid x ≡ 0) × ((under_way : ℕ → Option ℕ) → IsUnderWay under_way x)
 
     go : (own : Bool) → cond {A = Option Step} own (Some (Respond block)) None ≡ Some step → P step
     go true e = subst P (same_Some _ _ e) (refl, refl, λ under_way. tt)
@@ -120,7 +120,7 @@ module _ (shape : Extent) (row : Row) (within : IsRowWithin shape row) (limits :
           turn_rule.never_refused u (only row.core block) row.core block word row.op true step serves.serving serves.kept
           (core_there u serves.shaped) (block_there u serves.shaped) (has_word u serves.shaped) (here row.core block) turn
 
-      pub fewer_owed : (t : Situation) (b c : List ℕ) → TakesStep shape u step t b c → owed t < owed u
+      pub fewer_owed : (t : Situation) (b c : List ℕ) → TakesStep shape u step t b c → steps_owed t < steps_owed u
       fewer_owed t b c takes =
           let own = under_way_asks_nothing (waiting_request (state_of u row.core block)) (picture_of u block).transaction row.core block step turn in
           omega (arith, own.1, turn_rule.pays u t step takes.answer takes.entry takes.move)

@@ -19,7 +19,7 @@ use Rattle.snoop_history.specs.Report.{report_of}
 use Rattle.snoop_model.specs.declared.replies.Reply.{Reply}
 use Rattle.snoop_model.specs.declared.replies.Refused.{Refused}
 use Rattle.snoop_model.specs.Pictures.Situation.{Situation, reset}
-use Rattle.snoop_model.specs.Turns.Serving.{owed}
+use Rattle.snoop_model.specs.Turns.Serving.{steps_owed}
 use Rattle.snoop_model.specs.Runs.Run.{TheRun}
 use Rattle.snoop_model.proofs.Turns.Laws.{turn_rule}
 use Rattle.snoop_engine.specs.Line.{line_texts}
@@ -78,7 +78,7 @@ pub record ServedSoFar (protocol : Protocol) (shape : Extent) (rows : List Row) 
   pub taken : All IsOk outcomes
   pub asked : all_asks steps ≡ map (ask_for shape) (take n rows)
   pub apart : AsksAtRest protocol shape steps
-  pub few : length steps + owed s ≤ 3 * n
+  pub few : length steps + steps_owed s ≤ 3 * n
   pub rest : ServesOnly shape nothing s
   pub lines : Gathers old new chunk (line_texts shape steps outcomes)
 
@@ -86,7 +86,7 @@ pub served_none : (protocol : Protocol) (shape : Extent) (rows : List Row) (s : 
     → ServedSoFar protocol shape rows 0 s a a chunk
 served_none protocol shape rows s a chunk at e =
     let start = turn_rule.starts_well protocol shape nothing in
-    let none : owed s ≡ 0 = ap owed at ∙ owed_reset protocol shape in
+    let none : steps_owed s ≡ 0 = ap steps_owed at ∙ owed_reset protocol shape in
     let R : Situation → Type 0 = λ t. ServesOnly shape nothing t in
     record {
       steps = [];

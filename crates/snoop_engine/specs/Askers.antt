@@ -7,8 +7,7 @@ use Rattle.snoop_rules.specs.declared.names.CacheState.TheVariants.{I}
 use Rattle.snoop_rules.specs.declared.names.Request.{Request}
 use Rattle.snoop_bus.specs.Queues.{queue_of}
 use Rattle.snoop_blocks.specs.CoreSet.{has, set_of}
-use Rattle.snoop_model.specs.Moves.OrderMove.{IsHead}
-use Rattle.snoop_model.specs.Pictures.Situation.{Situation, state_of}
+use Rattle.snoop_model.specs.Pictures.Situation.{IsHead, Situation, state_of}
 
 -- each core that is not in the set is in I of the block
 abbrev pub AreOthersInI : Situation → ℕ → List ℕ → Type 0

@@ -12,7 +12,7 @@ use Rattle.snoop_model.specs.Pictures.Situation.{Situation}
 use Rattle.snoop_model.specs.Moves.Move.{FirstMove}
 use Rattle.snoop_model.specs.Runs.Run.{FirstRunFrom}
 use Rattle.snoop_model.specs.Turns.Quiet.{IsQuiet}
-use Rattle.snoop_model.specs.Turns.Serving.{IsUnderWay, owed}
+use Rattle.snoop_model.specs.Turns.Serving.{IsUnderWay, steps_owed}
 use Rattle.snoop_engine.specs.OneRow.{ServesOnly, nothing, only}
 use Rattle.snoop_engine.specs.Round.{IsEnabled}
 use Rattle.snoop_engine.specs.Serial.{all_asks, ask_for, is_ask}
@@ -37,7 +37,7 @@ pub record IsInOrder (s : Situation) (left : List Row) (row : Option Row) : Type
 
 -- the steps that may still come: three for each row that is left, and those that are owed
 abbrev pub remaining_in_order : InOrder → ℕ
-remaining_in_order d = 3 * length d.left + owed d.situation
+remaining_in_order d = 3 * length d.left + steps_owed d.situation
 
 -- the step asks the row that was left first, while nothing waits and nothing is open, or it asks nothing
 pub record TakesUpNext (old : InOrder) (step : Step) (new : InOrder) : Type 0 where

@@ -10,7 +10,7 @@ use Rattle.snoop_model.specs.declared.replies.Refused.{Refused}
 use Rattle.snoop_model.specs.Pictures.Situation.{Situation}
 use Rattle.snoop_model.specs.Moves.Move.{FirstMove}
 use Rattle.snoop_model.specs.Runs.Run.{FirstRunFrom}
-use Rattle.snoop_model.specs.Turns.Serving.{IsServing, owed}
+use Rattle.snoop_model.specs.Turns.Serving.{IsServing, steps_owed}
 use Rattle.snoop_model.specs.Invariant.WellKept.{IsWellKept}
 use Rattle.snoop_engine.specs.Line.{line_text, line_texts}
 use Rattle.snoop_engine.specs.Serial.{all_asks, ask_for}
@@ -43,5 +43,5 @@ pub record ServesRow (shape : Extent) (old : Situation) (row : Row) (new : Situa
   pub run : FirstRunFrom old (ask_for shape row ∷ steps) outcomes new
   pub taken : All IsOk outcomes
   pub asked : all_asks steps ≡ []
-  pub few : 1 + length steps + owed new ≤ 3 + owed old
+  pub few : 1 + length steps + steps_owed new ≤ 3 + steps_owed old
   pub lines : after ≡ before ++ line_texts shape (ask_for shape row ∷ steps) outcomes

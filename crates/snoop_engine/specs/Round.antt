@@ -10,7 +10,7 @@ use Rattle.snoop_model.specs.Pictures.Situation.{Situation}
 use Rattle.snoop_model.specs.Moves.Move.{FirstMove}
 use Rattle.snoop_model.specs.Moves.Refuses.{Refuses}
 use Rattle.snoop_model.specs.Turns.Quiet.{IsQuiet}
-use Rattle.snoop_model.specs.Turns.Serving.{IsServing, IsUnderWay, owed}
+use Rattle.snoop_model.specs.Turns.Serving.{IsServing, IsUnderWay, steps_owed}
 use Rattle.snoop_model.specs.Invariant.WellKept.{IsWellKept}
 use Rattle.snoop_trace.specs.declared.step.Work.{Work}
 use Rattle.snoop_engine.specs.Todo.{Todo, todo_of, left_in, under_way}
@@ -58,7 +58,7 @@ pub record IsFit (s : Situation) (lanes : List Todo) (turns : List ℕ) : Type 0
 
 -- the steps that may still come: three for each row that is left, and those that are owed
 abbrev pub remaining : Progress → ℕ
-remaining progress = 3 * left_in progress.lanes + owed progress.situation
+remaining progress = 3 * left_in progress.lanes + steps_owed progress.situation
 
 -- the step is the next one: its core has it left first, or has its row under way, and no cause refuses it
 pub record Finds (old : Progress) (step : Step) (new : Progress) : Type 0 where

@@ -4,7 +4,7 @@ ghost use Rattle.snoop_model.specs.declared.replies.Refused.{Refused as Cause};
 ghost use Rattle.snoop_model.specs.declared.replies.Refused.TheVariants.{NoMemory as OutOfMemory};
 ghost use Rattle.snoop_model.specs.declared.replies.Reply.{Reply as Answer};
 ghost use Rattle.snoop_model.specs.Pictures.Situation.{Situation, reset};
-ghost use Rattle.snoop_model.specs.Moves.StepMove.{RefusedFor};
+ghost use Rattle.snoop_model.specs.Moves.Refuses.{RefusedFor};
 ghost use Rattle.snoop_model.specs.Runs.Run.{GoesFirst, TheRun};
 ghost use Rattle.snoop_trace.specs.Extent.{Extent};
 ghost use Rattle.snoop_trace.specs.declared.protocol.Protocol.{Protocol};

@@ -3,7 +3,7 @@ ghost use Rattle.std.specs.Prelude.{◌≡◌, ◌++◌, [], List, ℕ, OnOk, So
 ghost use Rattle.std.specs.Option.{option_map_or};
 ghost use Rattle.std.specs.Fmt.{decimal};
 ghost use Rattle.snoop_rules.specs.Names.{memory_state_name, state_name};
-ghost use Rattle.snoop_model.specs.Pictures.Sound.{keeps};
+ghost use Rattle.snoop_model.specs.Pictures.Proper.{keeps};
 ghost use Rattle.snoop_engine.specs.Taken.{state_at};
 ghost use Rattle.snoop_engine.specs.States.{core_field, done_text, kept_at, kept_text, memory_done_text, memory_met_text, memory_now_text, memory_text, memory_value_at, met_text, now_text, number_field, place_text, reply_field, step_fields, taken_text, value_text};
 

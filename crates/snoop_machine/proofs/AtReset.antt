@@ -11,7 +11,7 @@ use Rattle.snoop_bus.specs.Traffic.{Open}
 use Rattle.snoop_bus.specs.Traffic.{Traffic, Waiting, no_queue, waiting_of, transaction_on}
 use Rattle.snoop_model.specs.Pictures.Lines.{Line}
 use Rattle.snoop_model.specs.Pictures.Picture.{held_at, nothing_held}
-use Rattle.snoop_model.specs.Pictures.Sound.{IsProper}
+use Rattle.snoop_model.specs.Pictures.Proper.{IsProper}
 use Rattle.snoop_machine.specs.PartsView.{queues_of, IsSound, IsEachOnce}
 use Rattle.snoop_machine.specs.Lines.{line_at}
 use Rattle.snoop_model.proofs.Lists.Facts.{replicated}

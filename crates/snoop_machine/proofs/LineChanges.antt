@@ -7,7 +7,7 @@ use Rattle.std.proofs.lemmas.List.{length-map, length-set, get_or-set_same, get_
 use Rattle.snoop_rules.specs.declared.names.CacheState.TheVariants.{I}
 use Rattle.snoop_machine.specs.declared.holders.Holders.{Holders}
 use Rattle.snoop_model.specs.Pictures.Lines.{Line}
-use Rattle.snoop_model.specs.Pictures.Sound.{IsProper}
+use Rattle.snoop_model.specs.Pictures.Proper.{IsProper}
 use Rattle.snoop_machine.specs.Holders.{HaveFollowed}
 use Rattle.snoop_machine.specs.Cache.{Contents, no_cache, line_of, line_in, blocks_of, KeepsSpare}
 use Rattle.snoop_machine.specs.Lines.{Held, AreLines, KeepsSpares, held, rows_of, gone, line_at, is_among}

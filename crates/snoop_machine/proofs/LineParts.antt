@@ -6,7 +6,7 @@ use Rattle.std.proofs.lemmas.List.{length-set, set-get_or, get_or-set_same, get_
 use Rattle.snoop_rules.specs.declared.names.CacheState.{CacheState}
 use Rattle.snoop_model.specs.Pictures.Lines.{Line}
 use Rattle.snoop_model.specs.Pictures.Picture.{held_at}
-use Rattle.snoop_model.specs.Pictures.Sound.{IsProper, keeps}
+use Rattle.snoop_model.specs.Pictures.Proper.{IsProper, keeps}
 use Rattle.snoop_model.specs.Invariant.Fits.{is_owner}
 use Rattle.snoop_machine.specs.declared.holders.Holders.{Holders}
 use Rattle.snoop_machine.specs.Holders.{AreHolders, HaveMoved, HaveFollowed, StandsAs, no_holders}

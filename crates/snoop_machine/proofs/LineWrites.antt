@@ -10,7 +10,7 @@ use Rattle.snoop_rules.specs.declared.names.Request.{Request}
 use Rattle.snoop_rules.specs.Waits.{waiting_request}
 use Rattle.snoop_bus.specs.Traffic.{Traffic, no_queue, waiting_of}
 use Rattle.snoop_model.specs.Pictures.Lines.{Line}
-use Rattle.snoop_model.specs.Pictures.Sound.{IsProper}
+use Rattle.snoop_model.specs.Pictures.Proper.{IsProper}
 use Rattle.snoop_machine.proofs.PlacedLines.{placed, line_at-placed, line_at-placed_core, line_at-placed_block, length-placed, length-row-placed}
 use Rattle.snoop_machine.specs.Lines.{row_of, line_at}
 use Rattle.snoop_machine.specs.PartsView.{IsSound, IsEachOnce}

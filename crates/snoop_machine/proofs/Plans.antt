@@ -34,12 +34,10 @@ use Rattle.snoop_model.specs.declared.replies.Refused.{Refused}
 use Rattle.snoop_model.specs.declared.replies.Refused.TheVariants.{NoCore, NoBlock, Stalled, NothingWaiting, BusTaken, NoTransaction, NoMemory}
 use Rattle.snoop_model.specs.Moves.Standing.{Standing}
 use Rattle.snoop_model.specs.Pictures.Picture.{held_at, held_by}
-use Rattle.snoop_model.specs.Pictures.Situation.{Situation, picture_of, state_of, Waits}
+use Rattle.snoop_model.specs.Pictures.Situation.{Situation, picture_of, state_of, Waits, IsHead}
 use Rattle.snoop_machine.specs.Asked.{TakesAsk, RefusesAsk}
 use Rattle.snoop_model.specs.Moves.Move.{Performs, Takes, Fills, FillsRequestor, ArrivesFor, IsAbsent, Asks, FirstMove, came_of, next_did}
-use Rattle.snoop_model.specs.Moves.OrderMove.{IsHead}
-use Rattle.snoop_model.specs.Moves.Refuses.{Refuses}
-use Rattle.snoop_model.specs.Moves.StepMove.{IsDenied, RefusedFor}
+use Rattle.snoop_model.specs.Moves.Refuses.{Refuses, RefusedFor}
 use Rattle.snoop_model.specs.Moves.Prepared.{room_to, IsFull, IsPrepared}
 use Rattle.snoop_model.proofs.Tables.EvictInI.{no_row}
 use Rattle.snoop_machine.specs.Plan.{IsPlan, IsPlanFor, HasRoom, HasRoomToAsk, step_of, room_for, room_for_ask, entry_of, entry_of_ask}
@@ -60,15 +58,15 @@ row_found p line word asking (Issue request next) t = inr (next, (t, λ e. cc))
 row_found p line word asking (Drop next) t = inr (next, (t, λ e. cc))
 
 -- an Ask that is refused on its line
-pub IsDenied-ask : (s : Situation) (core block word : ℕ) (asking : Op) (cause : Refused) → core < s.shape.cores → block < s.shape.blocks → HasWord s.shape word asking
-    → RefusesAsk s.protocol (held_by (picture_of s block) core) asking cause → IsDenied s (step.Ask core block word asking) cause
-IsDenied-ask s core block word asking (Stalled state) in_cores in_blocks in_words h = ((in_cores, in_blocks), h.0, h.1, in_words)
-IsDenied-ask s core block word asking NoCore in_cores in_blocks in_words h = absurd h
-IsDenied-ask s core block word asking NoBlock in_cores in_blocks in_words h = absurd h
-IsDenied-ask s core block word asking NothingWaiting in_cores in_blocks in_words h = absurd h
-IsDenied-ask s core block word asking (BusTaken b) in_cores in_blocks in_words h = absurd h
-IsDenied-ask s core block word asking NoTransaction in_cores in_blocks in_words h = absurd h
-IsDenied-ask s core block word asking NoMemory in_cores in_blocks in_words h = absurd h
+pub refuses-ask : (s : Situation) (core block word : ℕ) (asking : Op) (cause : Refused) → core < s.shape.cores → block < s.shape.blocks → HasWord s.shape word asking
+    → RefusesAsk s.protocol (held_by (picture_of s block) core) asking cause → Refuses s (step.Ask core block word asking) cause
+refuses-ask s core block word asking (Stalled state) in_cores in_blocks in_words h = ((in_cores, in_blocks), h.0, h.1, in_words)
+refuses-ask s core block word asking NoCore in_cores in_blocks in_words h = absurd h
+refuses-ask s core block word asking NoBlock in_cores in_blocks in_words h = absurd h
+refuses-ask s core block word asking NothingWaiting in_cores in_blocks in_words h = absurd h
+refuses-ask s core block word asking (BusTaken b) in_cores in_blocks in_words h = absurd h
+refuses-ask s core block word asking NoTransaction in_cores in_blocks in_words h = absurd h
+refuses-ask s core block word asking NoMemory in_cores in_blocks in_words h = absurd h
 
 -- an Ask that was found is not refused
 module _ (s : Situation) (core block word : ℕ) (asking : Op) (way : Asked) (in_cores : core < s.shape.cores) (in_blocks : block < s.shape.blocks) (in_words : HasWord s.shape word asking)

@@ -14,7 +14,7 @@ use Rattle.snoop_rules.specs.declared.names.CacheState.TheVariants as state
 use Rattle.snoop_model.specs.declared.access.Access.{Access}
 use Rattle.snoop_model.specs.Pictures.Lines.{Line}
 use Rattle.snoop_model.specs.Pictures.Picture.{kept_on, nothing_held}
-use Rattle.snoop_model.specs.Pictures.Sound.{IsProper, keeps, request_for, missed_request}
+use Rattle.snoop_model.specs.Pictures.Proper.{IsProper, keeps, request_for, missed_request}
 use Rattle.snoop_model.specs.Moves.Move.{moves_to}
 use Rattle.snoop_machine.specs.Cache.{changed, kept_after, words_after}
 use Rattle.snoop_machine.specs.declared.cache.LineChange.TheVariants.{Hit}

@@ -13,7 +13,7 @@ use Rattle.snoop_model.specs.Moves.Standing.{Standing, KeepsRoom}
 use Rattle.snoop_model.specs.Moves.Prepared.{IsFull}
 use Rattle.snoop_model.specs.Moves.Holding.{HoldsOn}
 use Rattle.snoop_model.specs.Moves.Move.{FirstMove}
-use Rattle.snoop_model.specs.Moves.StepMove.{RefusedFor}
+use Rattle.snoop_model.specs.Moves.Refuses.{RefusedFor}
 use Rattle.snoop_model.specs.Runs.Run.{Goes, RunFrom, RunBy}
 use Rattle.snoop_model.specs.Invariant.Invariant.{Invariant}
 use Rattle.snoop_model.specs.Invariant.MachineKeeps.{MachineKeeps}

@@ -7,7 +7,7 @@ use Rattle.snoop_rules.specs.declared.names.Request.TheVariants.{GetS, GetM, Put
 use Rattle.snoop_model.specs.Pictures.Lines.{Line}
 use Rattle.snoop_machine.specs.declared.holders.Holders.{Holders}
 use Rattle.snoop_model.specs.Pictures.Picture.{held_at}
-use Rattle.snoop_model.specs.Pictures.Sound.{keeps}
+use Rattle.snoop_model.specs.Pictures.Proper.{keeps}
 use Rattle.snoop_model.specs.Invariant.Fits.{is_owner}
 use Rattle.snoop_blocks.specs.CoreSet.{has}
 

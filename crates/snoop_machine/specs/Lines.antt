@@ -11,7 +11,7 @@ use Rattle.snoop_trace.specs.declared.protocol.Protocol.{Protocol}
 use Rattle.snoop_model.specs.Moves.Move.{moves_to}
 use Rattle.snoop_model.specs.Pictures.Lines.{Line}
 use Rattle.snoop_model.specs.Pictures.Picture.{held_at}
-use Rattle.snoop_model.specs.Pictures.Sound.{IsProper}
+use Rattle.snoop_model.specs.Pictures.Proper.{IsProper}
 use Rattle.snoop_machine.specs.declared.holders.Holders.{Holders}
 use Rattle.snoop_machine.specs.Holders.{AreHolders, no_holders}
 use Rattle.snoop_machine.specs.Cache.{Contents, no_cache, line_in, blocks_of, row_in}

@@ -10,7 +10,7 @@ use Rattle.snoop_history.specs.Journal.{Journal}
 use Rattle.snoop_model.specs.Pictures.Lines.{Line, MemLine}
 use Rattle.snoop_model.specs.Pictures.Picture.{Picture}
 use Rattle.snoop_model.specs.Pictures.Situation.{nothing_there}
-use Rattle.snoop_model.specs.Pictures.Sound.{IsProper}
+use Rattle.snoop_model.specs.Pictures.Proper.{IsProper}
 use Rattle.snoop_model.specs.Moves.Standing.{Standing}
 use Rattle.snoop_machine.specs.Lines.{Held, line_at}
 

@@ -20,16 +20,15 @@ use Rattle.snoop_machine.specs.declared.plan.Plan.{Plan}
 use Rattle.snoop_machine.specs.declared.plan.Plan.TheVariants.{Ask, Order, Writeback, Fill}
 use Rattle.snoop_model.specs.Moves.Standing.{Standing, has_line}
 use Rattle.snoop_model.specs.Moves.Prepared.{room_to_issue}
-use Rattle.snoop_model.specs.Pictures.Situation.{Situation, picture_of, state_of}
+use Rattle.snoop_model.specs.Pictures.Situation.{Situation, picture_of, state_of, IsHead}
 use Rattle.snoop_model.specs.Pictures.Picture.{held_by}
 use Rattle.snoop_model.specs.Pictures.Sends.{IsOnlySender}
-use Rattle.snoop_model.specs.Pictures.Sound.{IsProper}
+use Rattle.snoop_model.specs.Pictures.Proper.{IsProper}
 use Rattle.snoop_model.specs.Moves.LookUps.{HasRow}
 use Rattle.snoop_model.specs.Moves.Move.{Fills, Settles, IsWithin, TakesMemRow, came_of, next_did}
 use Rattle.snoop_machine.specs.declared.ask.Asked.{Asked}
 use Rattle.snoop_machine.specs.Cache.{filled_line}
 use Rattle.snoop_machine.specs.Asked.{TakesAsk}
-use Rattle.snoop_model.specs.Moves.OrderMove.{IsHead}
 
 -- the step that a plan is for
 abbrev pub step_of : Plan → Step

@@ -5,7 +5,7 @@ ghost use Rattle.snoop_bus.specs.Queues.{place_in, queue_of};
 ghost use Rattle.snoop_rules.specs.Waits.{waiting_request};
 ghost use Rattle.snoop_model.specs.Pictures.Picture.{first_memory, held_by};
 ghost use Rattle.snoop_model.specs.Pictures.Situation.{picture_of, reset, state_of};
-ghost use Rattle.snoop_model.specs.Pictures.Sound.{IsProper, keeps};
+ghost use Rattle.snoop_model.specs.Pictures.Proper.{IsProper, keeps};
 ghost use Rattle.snoop_model.specs.Moves.Move.{next_did};
 ghost use Rattle.snoop_model.specs.Moves.Standing.{line_count};
 ghost use Rattle.snoop_model.specs.Moves.Holding.{HasHeldLines};

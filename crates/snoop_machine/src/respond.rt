@@ -1,7 +1,7 @@
 //! What a response does to one line, and to memory.
 ghost use Rattle.std.specs.Prelude.{◌≡◌, ◌<◌, IfSome, IsSomeAnd, IsTrue, option_copied};
 ghost use Rattle.snoop_rules.specs.Takers.{arrival, arrival_at_memory, takes_payload};
-ghost use Rattle.snoop_model.specs.Pictures.Sound.{IsProper};
+ghost use Rattle.snoop_model.specs.Pictures.Proper.{IsProper};
 ghost use Rattle.snoop_model.specs.Moves.LookUps.{HasRow, HasMemRow};
 ghost use Rattle.snoop_model.specs.Moves.Move.{Fills, Settles};
 ghost use Rattle.snoop_machine.specs.Cache.{line_of, filled_line};

@@ -14,11 +14,11 @@ use Rattle.snoop_model.specs.declared.replies.Refused.{Refused}
 use Rattle.snoop_model.specs.Pictures.Picture.{held_by, data_under_way}
 use Rattle.snoop_model.specs.Pictures.Situation.{Situation, picture_of, state_of, CanOrder}
 use Rattle.snoop_model.specs.Pictures.OneWriter.{OneWriter}
-use Rattle.snoop_model.specs.Pictures.Sound.{missed_request, request_for}
+use Rattle.snoop_model.specs.Pictures.Proper.{missed_request, request_for}
 use Rattle.snoop_model.specs.Pictures.InQueue.{IsInQueue}
 use Rattle.snoop_model.specs.Moves.Move.{IsWithin, Orders, FirstMove}
 use Rattle.snoop_model.specs.Moves.Refuses.{Refuses}
-use Rattle.snoop_model.specs.Moves.SenderTable.{IsLine, IsOpenByTable}
+use Rattle.snoop_model.specs.Moves.SenderTable.{IsSenderLine, IsOpenByTable}
 use Rattle.snoop_model.specs.Runs.Once.{Once}
 
 -- a coherent machine
@@ -48,7 +48,7 @@ pub record IsCoherent (s : Situation) : Type 0 where
   -- so is an Order of a waiting request of any free block: each controller takes its row for it, and exactly one sends
   pub orders : (core block : ℕ) (request : Request) → CanOrder s core block request → (new : Situation) × Orders s core block request new
   -- each Order that is taken next, of any block, is a line of the table of senders, `lines_of`
-  pub by_table : (core block : ℕ) (request : Request) (new : Situation) (made : Orders s core block request new) → IsLine s.protocol (picture_of s block) core request made.from made.payload made.next.memory.state
+  pub by_table : (core block : ℕ) (request : Request) (new : Situation) (made : Orders s core block request new) → IsSenderLine s.protocol (picture_of s block) core request made.from made.payload made.next.memory.state
   -- an open transaction is on such a line, and a Respond taken next closes it and leaves memory as the line says
   pub on_table : (block : ℕ) → IfSome (picture_of s block).transaction (IsOpenByTable s block)
 

@@ -1,7 +1,5 @@
 -- What a step does, when it is refused, and which cells it needs.
 pub mod Move
-pub mod OrderMove
-pub mod StepMove
 pub mod Refuses
 pub mod Replies
 pub mod LookUps

@@ -4,5 +4,5 @@ pub mod Picture
 pub mod Situation
 pub mod Sends
 pub mod OneWriter
-pub mod Sound
+pub mod Proper
 pub mod InQueue

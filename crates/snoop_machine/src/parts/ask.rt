@@ -11,14 +11,13 @@ ghost use Rattle.snoop_model.specs.Moves.Standing.{KeepsRoom, has_line};
 ghost use Rattle.snoop_machine.specs.Following.{LosesLines};
 ghost use Rattle.snoop_model.specs.Pictures.Picture.{held_by, with_line};
 ghost use Rattle.snoop_model.specs.Pictures.Situation.{picture_of, state_of, with_picture};
-ghost use Rattle.snoop_model.specs.Pictures.Sound.{IsProper};
+ghost use Rattle.snoop_model.specs.Pictures.Proper.{IsProper};
 ghost use Rattle.snoop_model.specs.Moves.Move.{AskMove, is_load, next_did};
 ghost use Rattle.snoop_machine.specs.declared.cache.LineChange.TheVariants.{Hit, Wait};
 ghost use Rattle.snoop_machine.specs.Cache.{changed, IsOfWords};
 ghost use Rattle.snoop_machine.specs.Asked.{TakesAsk};
-ghost use Rattle.snoop_model.specs.Moves.StepMove.{IsDenied};
-ghost use Rattle.snoop_machine.specs.Plan.{IsPlanFor, HasRoomToAsk, entry_of_ask};
 ghost use Rattle.snoop_model.specs.Moves.Refuses.{Refuses};
+ghost use Rattle.snoop_machine.specs.Plan.{IsPlanFor, HasRoomToAsk, entry_of_ask};
 ghost use Rattle.snoop_model.specs.Invariant.Invariant.{Invariant};
 ghost use Rattle.snoop_model.specs.declared.replies.Refused.{Refused};
 ghost use Rattle.snoop_model.specs.declared.replies.Reply.TheVariants as reply;
@@ -41,7 +40,7 @@ impl<B: Block> Parts<B> {
         requires word { HasWord self.now.situation.shape word op }
         requires inductive { Invariant self.now.situation }
         ensures found { IfOk result (λ plan. IsPlanFor self.now.situation (Ask core block word op) plan) }
-        ensures denied { IfErr result (λ cause. IsDenied self.now.situation (Ask core block word op) cause) }
+        ensures denied { IfErr result (λ cause. Refuses self.now.situation (Ask core block word op) cause) }
         ensures exactly { (cause : Refused) → Refuses self.now.situation (Ask core block word op) cause → result ≡ Err cause }
     {
         let found = self.line(core, block);

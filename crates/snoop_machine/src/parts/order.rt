@@ -6,12 +6,10 @@ ghost use Rattle.snoop_model.specs.declared.replies.Refused.{Refused};
 ghost use Rattle.snoop_trace.specs.declared.step.Step.TheVariants.{Order};
 ghost use Rattle.snoop_model.specs.Moves.Standing.{KeepsRoom};
 ghost use Rattle.snoop_machine.specs.Following.{LosesLines};
-ghost use Rattle.snoop_model.specs.Pictures.Situation.{picture_of, state_of};
+ghost use Rattle.snoop_model.specs.Pictures.Situation.{picture_of, state_of, IsHead};
 ghost use Rattle.snoop_model.specs.Moves.Refuses.{Refuses, WaitsOnNone};
 ghost use Rattle.snoop_model.specs.Moves.LookUps.{HasRow};
 ghost use Rattle.snoop_model.specs.Moves.Move.{Orders, TakesMemRow};
-ghost use Rattle.snoop_model.specs.Moves.OrderMove.{IsHead};
-ghost use Rattle.snoop_model.specs.Moves.StepMove.{IsDenied};
 ghost use Rattle.snoop_model.specs.Pictures.Sends.{IsOnlySender, value_sent};
 ghost use Rattle.std.specs.Option.{ForSome};
 ghost use Rattle.snoop_machine.specs.Plan.{IsPlanFor};
@@ -42,7 +40,7 @@ impl<B: Block> Parts<B> {
         requires core { core < self.now.situation.shape.cores }
         requires inductive { Invariant self.now.situation }
         ensures found { IfOk result (λ plan. IsPlanFor self.now.situation (Order core) plan) }
-        ensures denied { IfErr result (λ cause. IsDenied self.now.situation (Order core) cause) }
+        ensures denied { IfErr result (λ cause. Refuses self.now.situation (Order core) cause) }
         ensures exactly { (cause : Refused) → Refuses self.now.situation (Order core) cause → result ≡ Err cause }
     {
         let Some((request, block)) = self.head(core) else {

@@ -9,11 +9,10 @@ ghost use Rattle.snoop_machine.specs.Following.{LosesLines};
 ghost use Rattle.snoop_model.specs.Pictures.Situation.{picture_of};
 ghost use Rattle.snoop_model.specs.Pictures.Picture.{held_by};
 ghost use Rattle.snoop_model.specs.Moves.Move.{Fills, Settles, RespondMove, came_of, next_did};
-ghost use Rattle.snoop_model.specs.Moves.StepMove.{IsDenied};
+ghost use Rattle.snoop_model.specs.Moves.Refuses.{Refuses};
 ghost use Rattle.snoop_machine.specs.Cache.{filled_line};
 ghost use Rattle.snoop_machine.specs.Plan.{IsPlanFor};
 ghost use Rattle.snoop_model.specs.Invariant.Invariant.{Invariant};
-ghost use Rattle.snoop_model.specs.Moves.Refuses.{Refuses};
 ghost use Rattle.snoop_model.specs.declared.replies.Refused.{Refused};
 ghost use Rattle.snoop_model.specs.declared.replies.Reply.TheVariants as reply;
 ghost use Rattle.snoop_history.specs.declared.items.Item.TheVariants.{Came as ItemCame};
@@ -34,7 +33,7 @@ impl<B: Block> Parts<B> {
         requires block { block < self.now.situation.shape.blocks }
         requires inductive { Invariant self.now.situation }
         ensures found { IfOk result (λ plan. IsPlanFor self.now.situation (Respond block) plan) }
-        ensures denied { IfErr result (λ cause. IsDenied self.now.situation (Respond block) cause) }
+        ensures denied { IfErr result (λ cause. Refuses self.now.situation (Respond block) cause) }
         ensures exactly { (cause : Refused) → Refuses self.now.situation (Respond block) cause → result ≡ Err cause }
     {
         let Some(closing) = self.transaction(block) else {

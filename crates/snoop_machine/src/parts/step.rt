@@ -3,7 +3,7 @@ ghost use Rattle.std.specs.Prelude.{◌≡◌, ◌≢◌, ◌<◌, ◌+◌, ◌+
 ghost use Rattle.snoop_history.specs.declared.items.Item.{Item};
 ghost use Rattle.snoop_model.specs.declared.replies.Refused.TheVariants.{NoMemory as OutOfMemory};
 ghost use Rattle.snoop_model.specs.Moves.Move.{FirstMove};
-ghost use Rattle.snoop_model.specs.Moves.StepMove.{RefusedFor, IsDenied};
+ghost use Rattle.snoop_model.specs.Moves.Refuses.{RefusedFor, Refuses};
 ghost use Rattle.snoop_rules.specs.declared.names.CacheState.TheVariants.{I};
 ghost use Rattle.snoop_model.specs.Pictures.Situation.{state_of};
 ghost use Rattle.snoop_model.specs.Moves.Standing.{KeepsRoom, line_count, has_line};
@@ -11,7 +11,6 @@ ghost use Rattle.snoop_model.specs.Moves.Holding.{HoldsOn};
 ghost use Rattle.snoop_model.specs.Moves.Prepared.{IsFull, IsPrepared, places, room_to_issue};
 ghost use Rattle.snoop_machine.specs.Following.{LosesLines, AddsLine, AddsLinesToAsk, AddsLines};
 ghost use Rattle.snoop_machine.specs.Plan.{IsPlan, IsPlanFor, HasRoom, HasRoomToAsk, step_of, room_for, room_for_ask, entry_of};
-ghost use Rattle.snoop_model.specs.Moves.Refuses.{Refuses};
 ghost use Rattle.snoop_model.specs.Invariant.Invariant.{Invariant};
 ghost use Rattle.snoop_model.specs.declared.replies.Refused.{Refused};
 
@@ -69,7 +68,7 @@ impl<B: Block> Parts<B> {
     fn planned(&self, step: Step) -> Result<Plan, Refused>
         requires { Invariant self.now.situation }
         ensures found { IfOk result (λ plan. IsPlanFor self.now.situation step plan) }
-        ensures denied { IfErr result (λ cause. IsDenied self.now.situation step cause) }
+        ensures denied { IfErr result (λ cause. Refuses self.now.situation step cause) }
         ensures exactly { (cause : Refused) → Refuses self.now.situation step cause → result ≡ Err cause }
     {
         let cores = self.shape.cores();

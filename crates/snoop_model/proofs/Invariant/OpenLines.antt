@@ -15,10 +15,10 @@ use Rattle.snoop_model.specs.declared.replies.Refused.{Refused}
 use Rattle.snoop_model.specs.Pictures.Picture.{Picture, with_line}
 use Rattle.snoop_model.specs.Pictures.Situation.{Situation, picture_of, reset}
 use Rattle.snoop_model.specs.Moves.Move.{Orders, Responds, IsWithin, MoveOn, queues_after}
-use Rattle.snoop_model.specs.Moves.SenderTable.{IsLine}
+use Rattle.snoop_model.specs.Moves.SenderTable.{IsSenderLine}
 use Rattle.snoop_model.specs.Runs.Run.{Goes, RunFrom}
 use Rattle.snoop_model.specs.Invariant.Invariant.{Invariant}
-use Rattle.snoop_model.specs.Invariant.MachineKeeps.{AreOnLines}
+use Rattle.snoop_model.specs.Invariant.MachineKeeps.{AreOnSenderLines}
 use Rattle.snoop_model.proofs.OneBlock.AfterMoves.{order_here, order_other_block, respond_other_block}
 use Rattle.snoop_model.proofs.OneBlock.OfBlocks.{same_everywhere}
 use Rattle.snoop_model.proofs.Invariant.Runs.{goes_keeps, refusal_same, reset_open}
@@ -26,9 +26,9 @@ use Rattle.snoop_model.proofs.Invariant.TableLines.{order_is_line, respond_settl
 use Rattle.snoop_model.proofs.Runs.Along.{kept_along}
 
 abbrev OnLine : Protocol → Picture → Type 0
-OnLine p picture = IfSome picture.transaction (λ o. (before : Picture) × IsLine p before o.core o.request o.from o.payload picture.memory.state)
+OnLine p picture = IfSome picture.transaction (λ o. (before : Picture) × IsSenderLine p before o.core o.request o.from o.payload picture.memory.state)
 
-order_on_lines : (old : Situation) (core block : ℕ) (q : Request) (new : Situation) → Invariant old → AreOnLines old → IsWithin old core block → Orders old core block q new → AreOnLines new
+order_on_lines : (old : Situation) (core block : ℕ) (q : Request) (new : Situation) → Invariant old → AreOnSenderLines old → IsWithin old core block → Orders old core block q new → AreOnSenderLines new
 order_on_lines old core block q new g lines within o b =
     let p : new.protocol ≡ old.protocol = ap (λ (s : Situation). s.protocol) o.after in
     subst (λ (x : Protocol). OnLine x (picture_of new b)) (sym p) (elim (eqb_tells b block) as (λ _. OnLine old.protocol (picture_of new b)) [
@@ -39,7 +39,7 @@ order_on_lines old core block q new g lines within o b =
       | inr h ↦ subst (OnLine old.protocol) (sym (order_other_block old core block q new g within o b h.1)) (lines b)
     ])
 
-respond_on_lines : (old : Situation) (block : ℕ) (closing : Open) (did : Option Did) (new : Situation) → Invariant old → AreOnLines old → block < old.shape.blocks → Responds old block closing did new → AreOnLines new
+respond_on_lines : (old : Situation) (block : ℕ) (closing : Open) (did : Option Did) (new : Situation) → Invariant old → AreOnSenderLines old → block < old.shape.blocks → Responds old block closing did new → AreOnSenderLines new
 respond_on_lines old block closing did new g lines within r b =
     let p : new.protocol ≡ old.protocol = ap (λ (s : Situation). s.protocol) r.after in
     subst (λ (x : Protocol). OnLine x (picture_of new b)) (sym p) (elim (eqb_tells b block) as (λ _. OnLine old.protocol (picture_of new b)) [
@@ -52,22 +52,22 @@ abbrev without_lines : Picture → Picture
 without_lines picture = record picture { caches = [] }
 
 -- a move keeps the lines: an Ask changes neither memory nor a transaction
-pub move_on_lines : (block : ℕ) (old : Situation) (step : Step) (answer : Reply) (new : Situation) (entry : Option Item) → Invariant old → AreOnLines old → MoveOn block old step answer new entry → AreOnLines new
-move_on_lines block old (Ask core on word asking) answer new entry g lines m = elim m.moves as (λ _. AreOnLines new) [
-  | inl idle ↦ subst AreOnLines (sym idle.3) lines
-  | inr a ↦ subst AreOnLines (sym a.after) (λ b. subst (OnLine old.protocol) (sym (same_everywhere old block (with_line (picture_of old block) core a.held) (queues_after a.row.action old.queues core block) (old.log ++ option_to_list entry) without_lines refl b)) (lines b))
+pub move_on_lines : (block : ℕ) (old : Situation) (step : Step) (answer : Reply) (new : Situation) (entry : Option Item) → Invariant old → AreOnSenderLines old → MoveOn block old step answer new entry → AreOnSenderLines new
+move_on_lines block old (Ask core on word asking) answer new entry g lines m = elim m.moves as (λ _. AreOnSenderLines new) [
+  | inl idle ↦ subst AreOnSenderLines (sym idle.3) lines
+  | inr a ↦ subst AreOnSenderLines (sym a.after) (λ b. subst (OnLine old.protocol) (sym (same_everywhere old block (with_line (picture_of old block) core a.held) (queues_after a.row.action old.queues core block) (old.log ++ option_to_list entry) without_lines refl b)) (lines b))
 ]
 move_on_lines block old (Order core) answer new entry g lines m = order_on_lines old core block m.request new g lines m.within m.orders
 move_on_lines block old (Respond on) answer new entry g lines m = respond_on_lines old block m.closing m.did new g lines m.within m.responds
 
-goes_on_lines : (old : Situation) (step : Step) (outcome : Result Reply Refused) (new : Situation) → Invariant old → AreOnLines old → Goes old step outcome new → AreOnLines new
+goes_on_lines : (old : Situation) (step : Step) (outcome : Result Reply Refused) (new : Situation) → Invariant old → AreOnSenderLines old → Goes old step outcome new → AreOnSenderLines new
 goes_on_lines old step (Ok answer) new g lines m = move_on_lines m.1.0 old step answer new m.0 g lines m.1.1
-goes_on_lines old step (Err cause) new g lines r = subst AreOnLines (sym (refusal_same old step cause new r)) lines
+goes_on_lines old step (Err cause) new g lines r = subst AreOnSenderLines (sym (refusal_same old step cause new r)) lines
 
-pub run_on_lines : (steps : List Step) (outcomes : List (Result Reply Refused)) (old new : Situation) → Invariant old → AreOnLines old → RunFrom old steps outcomes new → AreOnLines new
+pub run_on_lines : (steps : List Step) (outcomes : List (Result Reply Refused)) (old new : Situation) → Invariant old → AreOnSenderLines old → RunFrom old steps outcomes new → AreOnSenderLines new
 run_on_lines steps outcomes old new g lines r =
-    let P : Situation → Type 0 = λ s. Invariant s × AreOnLines s in
+    let P : Situation → Type 0 = λ s. Invariant s × AreOnSenderLines s in
     (kept_along Goes P (λ s step outcome t both goes. (goes_keeps s step outcome t both.0 goes, goes_on_lines s step outcome t both.0 both.1 goes)) steps outcomes old new (g, lines) r).1
 
-pub reset_on_lines : (p : Protocol) (shape : Extent) → AreOnLines (reset p shape)
+pub reset_on_lines : (p : Protocol) (shape : Extent) → AreOnSenderLines (reset p shape)
 reset_on_lines p shape block = rw (reset_open p shape block) tt

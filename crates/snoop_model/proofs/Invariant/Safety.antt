@@ -12,13 +12,13 @@ use Rattle.snoop_model.specs.declared.replies.Refused.{Refused}
 use Rattle.snoop_model.specs.Pictures.Picture.{held_by}
 use Rattle.snoop_model.specs.Moves.Standing.{Standing}
 use Rattle.snoop_model.specs.Pictures.Situation.{Situation, picture_of, state_of, reset}
-use Rattle.snoop_model.specs.Pictures.Sound.{IsProper, keeps}
+use Rattle.snoop_model.specs.Pictures.Proper.{IsProper, keeps}
 use Rattle.snoop_model.specs.Pictures.InQueue.{IsInQueue}
 use Rattle.snoop_model.specs.Coherent.{IsCoherent}
 use Rattle.snoop_model.specs.Moves.Move.{FirstMove}
-use Rattle.snoop_model.specs.Moves.StepMove.{RefusedFor}
+use Rattle.snoop_model.specs.Moves.Refuses.{RefusedFor}
 use Rattle.snoop_model.specs.Invariant.Invariant.{Invariant}
-use Rattle.snoop_model.specs.Invariant.MachineKeeps.{AreOnLines, MachineKeeps}
+use Rattle.snoop_model.specs.Invariant.MachineKeeps.{AreOnSenderLines, MachineKeeps}
 use Rattle.snoop_model.specs.Runs.Safe.{IsSafe}
 use Rattle.snoop_model.proofs.Invariant.TableLines.{order_is_line, open_is_by_table}
 use Rattle.snoop_model.proofs.Invariant.OpenLines.{reset_on_lines, move_on_lines}
@@ -48,7 +48,7 @@ kept_is_flat s g few core block word (Some value) within inside readable =
     same_Some _ _ (inside within.0 within.1 within.2 ∙ ap (λ o. option_map (λ (ws : List ℕ). word_at ws word) o) kept) ∙ word_flat s.log block word (omega (arith, few, within.2))
 
 -- the invariant, open transactions on lines of the table, and the queues make a situation coherent
-pub is_coherent : (s : Situation) → Invariant s → AreOnLines s → ((core block : ℕ) → IsInQueue s core block) → IsCoherent s
+pub is_coherent : (s : Situation) → Invariant s → AreOnSenderLines s → ((core block : ℕ) → IsInQueue s core block) → IsCoherent s
 is_coherent s g on_lines queued = record {
   one_writer = has_one_writer s g;
   legal = g.legal;

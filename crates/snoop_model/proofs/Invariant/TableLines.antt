@@ -13,15 +13,15 @@ use Rattle.snoop_model.specs.Pictures.Picture.{Picture}
 use Rattle.snoop_model.specs.Pictures.Situation.{Situation, picture_of}
 use Rattle.snoop_model.specs.Pictures.Sends.{Sends}
 use Rattle.snoop_model.specs.Moves.Move.{Settles, Orders, Responds, ArrivesAtMemory}
-use Rattle.snoop_model.specs.Moves.SenderTable.{IsLine, IsOpenByTable}
+use Rattle.snoop_model.specs.Moves.SenderTable.{IsSenderLine, IsOpenByTable}
 use Rattle.snoop_model.specs.Invariant.Invariant.{Invariant}
-use Rattle.snoop_model.specs.Invariant.MachineKeeps.{AreOnLines}
+use Rattle.snoop_model.specs.Invariant.MachineKeeps.{AreOnSenderLines}
 use Rattle.snoop_model.proofs.Invariant.Coherence.{orders_follow_sender_table}
 use Rattle.snoop_model.proofs.OneBlock.AfterMoves.{respond_here}
 use Rattle.snoop_model.proofs.Runs.AreOne.{memory_one, sends_one}
 
 -- an Order is a line of the table
-pub order_is_line : (s : Situation) → Invariant s → (core block : ℕ) (q : Request) (new : Situation) (made : Orders s core block q new) → IsLine s.protocol (picture_of s block) core q made.from made.payload made.next.memory.state
+pub order_is_line : (s : Situation) → Invariant s → (core block : ℕ) (q : Request) (new : Situation) (made : Orders s core block q new) → IsSenderLine s.protocol (picture_of s block) core q made.from made.payload made.next.memory.state
 order_is_line s g core block q new o =
     let p = s.protocol in
     let before : Picture = picture_of s block in
@@ -29,9 +29,9 @@ order_is_line s g core block q new o =
     let from : f.from ≡ o.from = o.sent.alone f.from f.payload f.sent.sends in
     let payload : f.payload ≡ o.payload = sends_one p before core q o.from f.payload o.payload (subst (λ (x : Option ℕ). Sends p before core q x f.payload) from f.sent.sends) o.sent.sends in
     let memory : f.next ≡ o.next.memory.state = f.ordered.2 ∙ (ap (λ (row : MemCell). row.next) (same_Some _ _ (sym f.ordered.1 ∙ o.memory.1)) ∙ sym o.memory.2) in
-    subst (λ (m : MemState). IsLine p before core q o.from o.payload m) memory
-    (subst (λ (x : Payload). IsLine p before core q o.from x f.next) payload
-    (subst (λ (x : Option ℕ). IsLine p before core q x f.payload f.next) from f.is_line))
+    subst (λ (m : MemState). IsSenderLine p before core q o.from o.payload m) memory
+    (subst (λ (x : Payload). IsSenderLine p before core q o.from x f.next) payload
+    (subst (λ (x : Option ℕ). IsSenderLine p before core q x f.payload f.next) from f.is_line))
 
 -- a Respond that led from old to new closed the block's transaction, and memory took its row for the response, or stayed where it takes none
 pub record IsSettled (old : Situation) (block : ℕ) (new : Situation) : Type 0 where
@@ -51,14 +51,14 @@ respond_settles s g block closing did new within r =
     }
 
 -- a Respond taken next closes the transaction and leaves memory in the last state of its line
-pub open_is_by_table : (s : Situation) → Invariant s → AreOnLines s → (block : ℕ) → IfSome (picture_of s block).transaction (IsOpenByTable s block)
+pub open_is_by_table : (s : Situation) → Invariant s → AreOnSenderLines s → (block : ℕ) → IfSome (picture_of s block).transaction (IsOpenByTable s block)
 open_is_by_table s g lines block = go (picture_of s block).transaction refl (lines block)
   where
     memory : MemState
     memory = (picture_of s block).memory.state
 
     OnLine : Open → Type 0
-    OnLine o = (before : Picture) × IsLine s.protocol before o.core o.request o.from o.payload memory
+    OnLine o = (before : Picture) × IsSenderLine s.protocol before o.core o.request o.from o.payload memory
 
     go : (found : Option Open) → (picture_of s block).transaction ≡ found → IfSome found OnLine → IfSome found (IsOpenByTable s block)
     go None is line = tt

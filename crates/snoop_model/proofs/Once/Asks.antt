@@ -21,7 +21,7 @@ use Rattle.snoop_history.specs.declared.items.Item.{Item}
 use Rattle.snoop_model.specs.declared.access.Access.{Access}
 use Rattle.snoop_model.specs.Pictures.Lines.{Line}
 use Rattle.snoop_model.specs.declared.replies.Reply.{Reply}
-use Rattle.snoop_model.specs.Pictures.Sound.{IsProper, request_for, missed_request}
+use Rattle.snoop_model.specs.Pictures.Proper.{IsProper, request_for, missed_request}
 use Rattle.snoop_model.specs.Moves.Move.{Takes, Performs, kept_waiting, is_load, next_did}
 use Rattle.snoop_model.specs.Runs.Once.{same_op, same_access, did_access}
 use Rattle.snoop_model.proofs.Lists.Facts.{one_if}

@@ -20,7 +20,7 @@ use Rattle.snoop_model.specs.declared.replies.Reply.{Reply}
 use Rattle.snoop_model.specs.Pictures.Lines.{Line}
 use Rattle.snoop_model.specs.Pictures.Picture.{Picture, held_by, nothing_held, with_line}
 use Rattle.snoop_model.specs.Pictures.Situation.{Situation, picture_of}
-use Rattle.snoop_model.specs.Pictures.Sound.{keeps, IsProper}
+use Rattle.snoop_model.specs.Pictures.Proper.{keeps, IsProper}
 use Rattle.snoop_model.specs.Moves.Move.{Takes, Asks}
 use Rattle.snoop_model.specs.Invariant.Fits.{is_clean, fits}
 use Rattle.snoop_model.specs.Invariant.Block.{BlockInvariant, awaited, owns}

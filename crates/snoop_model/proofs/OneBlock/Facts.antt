@@ -17,7 +17,7 @@ use Rattle.snoop_model.specs.Invariant.Block.{BlockInvariant, talk_of, awaited, 
 use Rattle.snoop_model.proofs.Tables.Every.{same_is}
 use Rattle.snoop_model.proofs.Tables.RespondTests.{writes}
 use Rattle.snoop_model.proofs.Tables.StateTests.{alone_rule, calm_talk, carries, is_calm, kept_reader, owned_rule}
-use Rattle.snoop_model.specs.Pictures.Sound.{keeps}
+use Rattle.snoop_model.specs.Pictures.Proper.{keeps}
 
 pub or_true : (b : Bool) → (b || true) ≡ true
 or_true true = refl

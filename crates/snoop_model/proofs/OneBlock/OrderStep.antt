@@ -25,7 +25,7 @@ use Rattle.snoop_model.specs.Pictures.Situation.{Situation, picture_of}
 use Rattle.snoop_model.specs.Pictures.Sends.{Sends, value_sent}
 use Rattle.snoop_model.proofs.Tables.SentBy.{sent_by, sent_by_memory}
 use Rattle.snoop_model.specs.Moves.Move.{moves_to, TakesRow, TakesRows, Orders}
-use Rattle.snoop_model.specs.Pictures.Sound.{keeps, IsProper}
+use Rattle.snoop_model.specs.Pictures.Proper.{keeps, IsProper}
 use Rattle.snoop_model.specs.Invariant.Fits.{Claims, claims_of, is_clean, same, fits}
 use Rattle.snoop_model.specs.Invariant.Block.{BlockInvariant, talk_of, awaited, owns}
 use Rattle.snoop_model.proofs.Tables.Every.{given_at, same_is, some_of}

@@ -13,7 +13,7 @@ use Rattle.snoop_model.specs.Pictures.Lines.{Line}
 use Rattle.snoop_model.specs.Pictures.Situation.{Situation, reset}
 use Rattle.snoop_model.specs.Turns.Serving.{IsServing}
 use Rattle.snoop_model.specs.Invariant.WellKept.{IsWellKept, awaited_request}
-use Rattle.snoop_model.specs.Turns.TurnRule.{StartsWell, KeepsWell}
+use Rattle.snoop_model.specs.Turns.TurnLaws.{StartsWell, KeepsWell}
 use Rattle.snoop_model.proofs.Lists.Facts.{replicated}
 use Rattle.snoop_model.proofs.Invariant.Runs.{reset_line, reset_open, reset_shaped}
 use Rattle.snoop_model.proofs.Queues.Asks.{kept_asks}

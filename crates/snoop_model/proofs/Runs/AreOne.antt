@@ -42,7 +42,7 @@ use Rattle.snoop_model.proofs.Tables.SentBy.{sent_by, sent_by_memory}
 use Rattle.snoop_model.specs.Moves.Move.{TakesRow, Takes, FillsRequestor, ArrivesFor, ArrivesAtMemory, Asks, Orders, Responds, IsAbsent, IsWithin, FirstMove, Performs, is_load, moves_to, next_did, came_of, written}
 use Rattle.snoop_model.specs.Moves.Refuses.{Refuses, WaitsOnNone}
 use Rattle.snoop_model.specs.Runs.Run.{GoesFirst, FirstRunFrom}
-use Rattle.snoop_model.specs.Turns.TurnRule.{KeepsWell}
+use Rattle.snoop_model.specs.Turns.TurnLaws.{KeepsWell}
 use Rattle.snoop_model.proofs.Tables.EvictInI.{no_row}
 use Rattle.snoop_model.proofs.Tables.RespondTests.{SettlesIf}
 use Rattle.snoop_model.proofs.OneBlock.OfBlocks.{same_picture, same_memory}

@@ -39,7 +39,7 @@ use Rattle.snoop_model.specs.declared.replies.Reply.{Reply}
 use Rattle.snoop_model.specs.declared.replies.Refused.{Refused}
 use Rattle.snoop_model.specs.Pictures.Picture.{Picture, held_at, held_by}
 use Rattle.snoop_model.specs.Pictures.Situation.{Situation, picture_of, state_of, Waits, CanOrder, StandsFirst}
-use Rattle.snoop_model.specs.Pictures.Sound.{keeps, request_for, missed_request, IsProper}
+use Rattle.snoop_model.specs.Pictures.Proper.{keeps, request_for, missed_request, IsProper}
 use Rattle.snoop_model.specs.Moves.Move.{Orders, is_load, FirstMove, IsWithin}
 use Rattle.snoop_model.specs.Runs.Run.{GoesFirst, FirstRunFrom}
 use Rattle.snoop_model.specs.Moves.Refuses.{Refuses, WaitsOnNone}
@@ -47,7 +47,7 @@ use Rattle.snoop_model.specs.Pictures.InQueue.{IsInQueue}
 use Rattle.snoop_model.proofs.Lists.Facts.{one_if}
 use Rattle.snoop_model.specs.Invariant.WellKept.{IsWellKept}
 use Rattle.snoop_model.proofs.Lists.QueueCounts.{times, times_cons}
-use Rattle.snoop_model.specs.Turns.TurnRule.{KeepsWell}
+use Rattle.snoop_model.specs.Turns.TurnLaws.{KeepsWell}
 use Rattle.snoop_model.specs.Invariant.Invariant.{Invariant}
 use Rattle.snoop_model.proofs.Tables.Rows.{same_request, same_request-true}
 use Rattle.snoop_model.proofs.Tables.AskTests.{is_idle_evict}

@@ -9,7 +9,7 @@ use Rattle.snoop_model.specs.declared.replies.Refused.{Refused}
 use Rattle.snoop_model.specs.Pictures.Situation.{Situation}
 use Rattle.snoop_model.specs.Moves.Standing.{Standing}
 use Rattle.snoop_model.specs.Moves.Move.{MoveOn, FirstMove}
-use Rattle.snoop_model.specs.Moves.StepMove.{RefusedFor}
+use Rattle.snoop_model.specs.Moves.Refuses.{RefusedFor}
 use Rattle.snoop_model.specs.Runs.Run.{Goes, RunFrom, RunBy}
 use Rattle.snoop_model.specs.Runs.Runs.{Answers, AnswersSafely}
 use Rattle.snoop_model.proofs.Invariant.Runs.{refusal_same}

@@ -17,7 +17,7 @@ use Rattle.snoop_rules.proofs.Every.{all_protocols, all_protocols-at, all_states
 use Rattle.snoop_model.specs.Invariant.Fits.{claims_of, is_owner, is_sharer, is_clean, wait_fits, in_protocol, same, fits}
 use Rattle.snoop_model.proofs.Tables.Every.{either, either-at, when, when_at, given, given_at, all_asks, all_asks-at, all_waits, all_waits-at}
 use Rattle.snoop_model.proofs.Tables.StateTests.{is_hit, carries}
-use Rattle.snoop_model.specs.Pictures.Sound.{keeps}
+use Rattle.snoop_model.specs.Pictures.Proper.{keeps}
 
 abbrev pub is_stall : CacheAction → Bool
 is_stall action.Stall = true

@@ -21,7 +21,7 @@ use Rattle.snoop_model.specs.Invariant.Fits.{Claims, claims_of, is_owner, is_sha
 use Rattle.snoop_model.proofs.Tables.Every.{either, either-at, when, when_at, given, given_at}
 use Rattle.snoop_model.proofs.Tables.SenderTests.{is_sender_line, follows_sender_table}
 use Rattle.snoop_model.proofs.Tables.StateTests.{carries}
-use Rattle.snoop_model.specs.Pictures.Sound.{keeps}
+use Rattle.snoop_model.specs.Pictures.Proper.{keeps}
 
 abbrev pub or_else : Option Payload → Option Payload → Option Payload
 or_else None b = b

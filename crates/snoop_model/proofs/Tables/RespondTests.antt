@@ -24,7 +24,7 @@ use Rattle.snoop_history.specs.Totals.{is_put_m, is_get_m}
 use Rattle.snoop_model.specs.Invariant.Fits.{Claims, claims_of, is_owner, is_sharer, is_clean, wait_fits, in_protocol, same, fits}
 use Rattle.snoop_model.proofs.Tables.Every.{either, when, given, given_at, all_asks, all_waits}
 use Rattle.snoop_model.proofs.Tables.SenderTests.{after_respond}
-use Rattle.snoop_model.specs.Pictures.Sound.{keeps}
+use Rattle.snoop_model.specs.Pictures.Proper.{keeps}
 
 -- the row for an event, if there are both
 abbrev pub row_for : Protocol → CacheState → Option CacheEvent → Option CacheCell

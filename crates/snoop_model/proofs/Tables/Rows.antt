@@ -23,7 +23,7 @@ use Rattle.snoop_rules.proofs.Every.{all_protocols, all_states, all_events}
 use Rattle.snoop_rules.proofs.Rows.{each_row, each_row-at}
 use Rattle.snoop_model.specs.Pictures.Lines.{Line}
 use Rattle.snoop_model.specs.Pictures.Picture.{kept_on}
-use Rattle.snoop_model.specs.Pictures.Sound.{keeps, request_for, missed_request, IsProper}
+use Rattle.snoop_model.specs.Pictures.Proper.{keeps, request_for, missed_request, IsProper}
 use Rattle.snoop_model.specs.Moves.Move.{moves_to, kept_waiting, is_load}
 
 -- requests, or none, as numbers that a test compares

@@ -15,7 +15,7 @@ use Rattle.snoop_history.specs.Totals.{is_put_m}
 use Rattle.snoop_model.specs.Pictures.Picture.{kept_on}
 use Rattle.snoop_model.specs.Invariant.Fits.{Claims, Talk, claims_of, is_owner, is_sharer, is_clean, wait_fits, in_protocol, same, fits}
 use Rattle.snoop_model.proofs.Tables.Every.{either, either-at, when, when_at, given, given_at, all_asks, all_waits, all_waits-at, all_talks, all_talks-at}
-use Rattle.snoop_model.specs.Pictures.Sound.{keeps}
+use Rattle.snoop_model.specs.Pictures.Proper.{keeps}
 
 -- no row makes a reader, or a clean owner, of a core that was none
 abbrev pub carries : CacheState → CacheState → Bool

@@ -23,7 +23,7 @@ use Rattle.snoop_rules.proofs.Every.{all_protocols, all_states, all_events}
 use Rattle.snoop_rules.proofs.Rows.{each_row, each_row-at}
 use Rattle.snoop_model.specs.declared.access.Access.{Access}
 use Rattle.snoop_model.specs.Moves.Move.{kept_waiting}
-use Rattle.snoop_model.specs.Pictures.Sound.{missed_request}
+use Rattle.snoop_model.specs.Pictures.Proper.{missed_request}
 use Rattle.snoop_model.specs.Invariant.WellKept.{awaited_request}
 use Rattle.snoop_model.proofs.Tables.Rows.{same_request, same_request-true}
 

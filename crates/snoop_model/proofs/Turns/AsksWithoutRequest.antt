@@ -18,7 +18,7 @@ use Rattle.snoop_model.specs.Pictures.Picture.{held_by}
 use Rattle.snoop_model.specs.Pictures.Situation.{Situation, picture_of, state_of}
 use Rattle.snoop_model.specs.Moves.Move.{FirstMove, Asks, Takes, queues_after, IsAbsent}
 use Rattle.snoop_model.specs.Turns.Turn.{step_under_way}
-use Rattle.snoop_model.specs.Runs.Owed.{AskedOnce}
+use Rattle.snoop_model.specs.Runs.Owed.{EndsAtOnce}
 use Rattle.snoop_model.proofs.Lines.OneLine.{same_open}
 
 -- nothing of the core waits or is open
@@ -50,7 +50,7 @@ same_queues s t core block word asking answer entry m other = by_kind m.1.1.move
     by_kind (inl absent) = (ap (λ (x : Situation). x.queues) absent.3, λ b. ap (λ (x : Situation). (picture_of x b).transaction) absent.3)
     by_kind (inr a) = (ap (λ (x : Situation). x.queues) a.after ∙ by_act a a.row.action refl, λ b. ap (λ (x : Situation). (picture_of x b).transaction) a.after ∙ same_open s core m.0 a.held (queues_after a.row.action s.queues core m.0) (s.log ++ option_to_list entry) b)
 
-pub asked_once : AskedOnce
+pub asked_once : EndsAtOnce
 asked_once s t under_way core block word asking answer entry serving idle kept m other =
     let same = same_queues s t core block word asking answer entry m other in
     idle_turn core block (waiting_request (state_of t core block)) (picture_of t block).transaction

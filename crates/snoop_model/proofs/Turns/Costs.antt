@@ -9,8 +9,8 @@ use Rattle.snoop_bus.specs.Queues.{after_order}
 use Rattle.snoop_model.specs.Pictures.Situation.{Situation, picture_of, nothing_there}
 use Rattle.snoop_model.specs.Pictures.Picture.{Picture, with_line}
 use Rattle.snoop_model.specs.Moves.Move.{queues_after}
-use Rattle.snoop_model.specs.Turns.Serving.{owed, has_transaction}
-use Rattle.snoop_model.specs.Turns.TurnRule.{Pays}
+use Rattle.snoop_model.specs.Turns.Serving.{steps_owed, has_transaction}
+use Rattle.snoop_model.specs.Turns.TurnLaws.{Pays}
 use Rattle.snoop_model.proofs.Lists.Writes.{sum_issued, sum_ordered, one, one_small, count_set}
 
 sum_asked : (act : CacheAction) (lines : List (List ℕ)) (core block : ℕ) → sum_by length (queues_after act lines core block) ≤ sum_by length lines + 1
@@ -28,19 +28,19 @@ owes queues pictures = 2 * sum_by length queues + count_by has_transaction pictu
 
 pub pays : Pays
 pays s t (Ask core on word asking) answer entry move = elim move.1.1.moves [
-  | inl absent ↦ let e : owed t ≡ owed s = ap (λ (x : Situation). owed x) absent.3 in omega arith
+  | inl absent ↦ let e : steps_owed t ≡ steps_owed s = ap (λ (x : Situation). steps_owed x) absent.3 in omega arith
   | inr asks ↦
       let next : Picture = with_line (picture_of s move.0) core asks.held in
-      let e : owed t ≡ owes (queues_after asks.row.action s.queues core move.0) (slice_set s.pictures move.0 next) = ap (λ (x : Situation). owed x) asks.after in
+      let e : steps_owed t ≡ owes (queues_after asks.row.action s.queues core move.0) (slice_set s.pictures move.0 next) = ap (λ (x : Situation). steps_owed x) asks.after in
       omega (arith, e, sum_asked asks.row.action s.queues core move.0, count_set has_transaction s.pictures move.0 next nothing_there refl)
 ]
 pays s t (Order core) answer entry move =
     let orders = move.1.1.orders in
-    let e : owed t ≡ owes (after_order s.queues core move.0) (slice_set s.pictures move.0 orders.next) = ap (λ (x : Situation). owed x) orders.after in
+    let e : steps_owed t ≡ owes (after_order s.queues core move.0) (slice_set s.pictures move.0 orders.next) = ap (λ (x : Situation). steps_owed x) orders.after in
     omega (arith, e, sum_ordered s.queues core move.0 move.1.0, count_set has_transaction s.pictures move.0 orders.next nothing_there refl, one_small (has_transaction orders.next))
 pays s t (Respond on) answer entry move =
     let responds = move.1.1.responds in
-    let e : owed t ≡ owes s.queues (slice_set s.pictures move.0 responds.next) = ap (λ (x : Situation). owed x) responds.after in
+    let e : steps_owed t ≡ owes s.queues (slice_set s.pictures move.0 responds.next) = ap (λ (x : Situation). steps_owed x) responds.after in
     let was : one (has_transaction (picture_of s move.0)) ≡ 1 = ap (λ (o : Option Open). one (is_some o)) responds.opened in
     let is : one (has_transaction responds.next) ≡ 0 = ap (λ (o : Option Open). one (is_some o)) responds.closed in
     omega (arith, e, count_set has_transaction s.pictures move.0 responds.next nothing_there refl, was, is)

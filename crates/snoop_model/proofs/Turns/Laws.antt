@@ -1,5 +1,5 @@
 -- All laws of turns that follow the turn rule.
-use Rattle.snoop_model.specs.Turns.TurnRule.{TurnRule}
+use Rattle.snoop_model.specs.Turns.TurnLaws.{TurnLaws}
 use Rattle.snoop_model.proofs.Queues.Moves.{starts_well, keeps_well}
 use Rattle.snoop_model.proofs.Turns.Costs.{pays}
 use Rattle.snoop_model.proofs.Turns.Rule.{never_refused, serves_on, ends, comes_to_rest}
@@ -7,7 +7,7 @@ use Rattle.snoop_model.proofs.Once.Owed.{owes}
 use Rattle.snoop_model.proofs.Turns.ClosedWorks.{closed_is_last}
 use Rattle.snoop_model.proofs.Turns.AsksWithoutRequest.{asked_once}
 
-pub turn_rule : TurnRule
+pub turn_rule : TurnLaws
 turn_rule =
     record {
       starts_well = starts_well;

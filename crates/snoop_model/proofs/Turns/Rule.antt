@@ -25,7 +25,7 @@ use Rattle.snoop_model.specs.Moves.Refuses.{Refuses}
 use Rattle.snoop_model.specs.Turns.Turn.{step_under_way}
 use Rattle.snoop_model.specs.Turns.Serving.{IsServing}
 use Rattle.snoop_model.specs.Invariant.WellKept.{IsWellKept}
-use Rattle.snoop_model.specs.Turns.TurnRule.{NeverRefused, ServesOn, Ends, ComesToRest}
+use Rattle.snoop_model.specs.Turns.TurnLaws.{NeverRefused, ServesOn, Ends, ComesToRest}
 use Rattle.snoop_model.proofs.Lists.Writes.{set_cases, all_first, all_issued, all_ordered}
 use Rattle.snoop_model.proofs.Turns.WaitingWorks.{stall_busy, busy_under_way, missed_busy}
 

@@ -8,7 +8,7 @@ use Rattle.snoop_rules.specs.declared.names.Request.{Request}
 use Rattle.snoop_rules.specs.Takers.{carries_value}
 use Rattle.snoop_bus.specs.Traffic.{Open}
 use Rattle.snoop_model.specs.Pictures.Picture.{Picture, held_by}
-use Rattle.snoop_model.specs.Pictures.Sound.{keeps, IsProper}
+use Rattle.snoop_model.specs.Pictures.Proper.{keeps, IsProper}
 use Rattle.snoop_model.specs.Invariant.Fits.{Claims, Talk, claims_of, is_clean, fits}
 
 -- what is said on the bus
@@ -26,7 +26,7 @@ abbrev pub owns : Option ℕ → ℕ → Bool
 owns None d = false
 owns (Some o) d = d == o
 
--- where n cores hold a block whose words in flat memory are these: each reader keeps it, and memory and the message have it where they are said to
+-- what holds of a block's picture, for n cores, where these are its words in flat memory: each core that may read keeps them; memory has them where the claims say so, and the message where its payload carries them
 pub record BlockInvariant (p : Protocol) (n : ℕ) (flat : Data) (picture : Picture) : Type 0 where
   pub claims : Claims
   pub is_claims : claims_of p picture.memory.state (talk_of picture.transaction) ≡ Some claims

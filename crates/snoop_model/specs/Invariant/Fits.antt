@@ -30,7 +30,7 @@ with_sharers = record { owned = false; shared = true; fresh = true }
 abbrev pub with_sharers_alone : Claims
 with_sharers_alone = record { owned = false; shared = true; fresh = false }
 
--- with memory alone
+-- with memory, and in the message if that carries data; no core has it
 abbrev pub with_memory : Claims
 with_memory = record { owned = false; shared = false; fresh = true }
 

@@ -10,7 +10,7 @@ use Rattle.snoop_bus.specs.Traffic.{Open}
 use Rattle.snoop_bus.specs.Queues.{queue_of}
 use Rattle.snoop_model.specs.Pictures.Picture.{held_by}
 use Rattle.snoop_model.specs.Pictures.Situation.{Situation, picture_of, state_of, Waits}
-use Rattle.snoop_model.specs.Pictures.Sound.{missed_request}
+use Rattle.snoop_model.specs.Pictures.Proper.{missed_request}
 
 -- the request whose data a core awaits in a state, once the request has been ordered
 abbrev pub awaited_request : CacheState → Option Request

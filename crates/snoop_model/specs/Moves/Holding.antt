@@ -14,8 +14,7 @@ use Rattle.snoop_model.specs.Moves.Standing.{Standing, line_count, has_line}
 abbrev pub NeedsLine : Standing → Step → ℕ → Type 0
 NeedsLine s (Ask asker block word asking) core =
     (asker ≡ core) × IsWithin s.situation asker block × (asking ≢ op.Evict) × (state_of s.situation asker block ≡ I) × (has_line s asker block ≡ false) × HasWord s.situation.shape word asking
-NeedsLine s (Order orderer) core = ⊥
-NeedsLine s (Respond block) core = ⊥
+NeedsLine s _ core = ⊥
 
 -- the core has moved to I on some block
 abbrev pub MovesToI : Situation → Situation → ℕ → Type 0

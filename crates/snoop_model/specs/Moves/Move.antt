@@ -136,7 +136,7 @@ came_of closing = record { core = closing.core; request = closing.request; block
 abbrev pub IsWithin : Situation → ℕ → ℕ → Type 0
 IsWithin s core block = (core < s.shape.cores) × (block < s.shape.blocks)
 
--- an Evict in I
+-- an Evict in I: answered Absent, and nothing changes
 abbrev pub IsAbsent : Situation → ℕ → ℕ → Op → Reply → Situation → Option Item → Type 0
 IsAbsent old core block asking answer new entry =
     (asking ≡ op.Evict) × (state_of old core block ≡ state.I) × (answer ≡ reply.Absent) × (new ≡ old) × (entry ≡ None)

@@ -34,8 +34,7 @@ room_to _ before core block = 1
 abbrev pub IsFull : Standing → Step → Type 0
 IsFull before (Ask core block word asking) =
     (act : CacheAction) × ((next : CacheState) × (Cell before.situation.protocol (state_of before.situation core block) (asked asking) act next × (room_to act before core block ≡ 0)))
-IsFull before (Order core) = before.room ≡ 0
-IsFull before (Respond block) = before.room ≡ 0
+IsFull before _ = before.room ≡ 0
 
 -- the step is not refused, has its room, and adds this item, if any, whatever move it is
 pub record IsPrepared (before : Standing) (step : Step) (entry : Option Item) : Type 0 where

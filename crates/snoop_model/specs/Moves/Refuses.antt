@@ -10,7 +10,7 @@ use Rattle.snoop_rules.specs.declared.names.Request.{Request}
 use Rattle.snoop_rules.specs.Cell.{Cell}
 use Rattle.snoop_rules.specs.Takers.{asked}
 use Rattle.snoop_model.specs.declared.replies.Refused.{Refused}
-use Rattle.snoop_model.specs.declared.replies.Refused.TheVariants.{NoCore, NoBlock, Stalled, NothingWaiting, BusTaken, NoTransaction}
+use Rattle.snoop_model.specs.declared.replies.Refused.TheVariants.{NoCore, NoBlock, Stalled, NothingWaiting, BusTaken, NoTransaction, NoMemory}
 use Rattle.snoop_model.specs.Pictures.Situation.{Situation, picture_of, state_of, Waits, StandsFirst}
 use Rattle.snoop_model.specs.Moves.Move.{IsWithin}
 
@@ -29,3 +29,8 @@ Refuses s (Order core) (BusTaken block) = (core < s.shape.cores) × StandsFirst 
 Refuses s (Respond block) NoBlock = s.shape.blocks ≤ block
 Refuses s (Respond block) NoTransaction = (block < s.shape.blocks) × ((picture_of s block).transaction ≡ None)
 Refuses s _ _ = ⊥
+
+-- the step may be refused for this cause: the first that holds, or out of memory where none does
+abbrev pub RefusedFor : Situation → Step → Refused → Type 0
+RefusedFor s step NoMemory = (cause : Refused) → ¬ Refuses s step cause
+RefusedFor s step cause = Refuses s step cause

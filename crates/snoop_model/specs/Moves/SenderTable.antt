@@ -18,7 +18,7 @@ use Rattle.snoop_model.specs.Moves.Move.{TakesMemRow, Settles, MoveOn}
 use Rattle.snoop_model.specs.Pictures.Sends.{IsOnlySender}
 
 -- the core's request is met as a line of the table says: from memory's state and the sender's before it, to memory's state after it, from which memory's row for the payload, where memory takes it, leads to `done`
-pub record IsLine (protocol : Protocol) (before : Picture) (core : ℕ) (request : Request) (from : Option ℕ) (payload : Payload) (next : MemState) : Type 0 where
+pub record IsSenderLine (protocol : Protocol) (before : Picture) (core : ℕ) (request : Request) (from : Option ℕ) (payload : Payload) (next : MemState) : Type 0 where
   pub done : MemState
   pub line : Contains (lines_of protocol request before.memory.state) (sender_of core (λ k. (held_by before k).state) from, payload, next, done)
   pub act : MemAction
@@ -31,12 +31,12 @@ pub record FollowsSenderTable (protocol : Protocol) (before : Picture) (core : �
   pub next : MemState
   pub sent : IsOnlySender protocol before core request from payload
   pub ordered : TakesMemRow protocol (at_memory request) before.memory.state next
-  pub is_line : IsLine protocol before core request from payload next
+  pub is_line : IsSenderLine protocol before core request from payload next
 
 -- the open transaction is on a line of the table, with this core as requestor, memory's state and the sender's in some picture, and memory's state now; and a Respond taken next closes it and leaves memory in that line's last state
 pub record IsOpenByTable (s : Situation) (block : ℕ) (transaction : Open) : Type 0 where
   pub before : Picture
-  pub on_line : IsLine s.protocol before transaction.core transaction.request transaction.from transaction.payload (picture_of s block).memory.state
+  pub on_line : IsSenderLine s.protocol before transaction.core transaction.request transaction.from transaction.payload (picture_of s block).memory.state
   pub settled : (answer : Reply) (new : Situation) (entry : Option Item) → MoveOn block s (Respond block) answer new entry → ((picture_of new block).transaction ≡ None) × ((picture_of new block).memory.state ≡ on_line.done)
 
 -- every request that can be ordered would have exactly one sender, and be a line of the protocol's table

@@ -1,11 +1,11 @@
--- What callers see of a machine.
+-- A machine's situation with its room, and the blocks that its maps have lines for.
 -- Source: this project's profile.
 use Rattle.std.specs.Prelude.{◌<◌, ◌≤◌, ℕ, ◌+◌, ◌-◌, Bool, List, [], length, nat_eq, slice_index, slice_index_or}
 use Rattle.std.specs.List.{list_any}
 use Rattle.snoop_bus.specs.Queues.{queue_of}
 use Rattle.snoop_model.specs.Pictures.Situation.{Situation}
 
--- the situation; for how many more requests of each core there is room; for how many more lines each core's map has room, where there is room for a request of the core; for how many more items; and the blocks that each core's map has a line for
+-- the situation; for how many more requests of each core there is room; for how many more lines each core's map has room, 0 where there is no room for a request of the core; for how many more items; and the blocks that each core's map has a line for
 pub record Standing : Type 0 where
   pub situation : Situation
   pub rooms : List ℕ
@@ -25,7 +25,7 @@ has_line s core block = list_any (nat_eq block) (slice_index_or s.lines core [])
 abbrev pub capacity_of : Standing → ℕ → ℕ
 capacity_of s core = length (queue_of s.situation.queues core) + slice_index s.rooms core
 
--- no room is lost: as many items in all, and as many requests of each core; and of the room for lines no more goes than lines were put in
+-- no room is lost: as many items in all, and as many requests of each core; and where a core's queue has room before and after, of the room for its lines no more goes than lines were put in
 pub record KeepsRoom (old new : Standing) : Type 0 where
   pub items : length old.situation.log + old.room ≤ length new.situation.log + new.room
   pub requests : (core : ℕ) → capacity_of old core ≤ capacity_of new core

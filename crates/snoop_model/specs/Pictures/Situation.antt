@@ -1,6 +1,6 @@
 -- The machine as its callers see it.
 -- Source: this project's profile.
-use Rattle.std.specs.Prelude.{◌≡◌, ℕ, List, [], Some, None, slice_get, slice_index_or, slice_set, replicate}
+use Rattle.std.specs.Prelude.{◌≡◌, ◌<◌, ℕ, List, [], Some, None, slice_get, slice_index_or, slice_set, replicate}
 use Rattle.snoop_trace.specs.Extent.{Extent}
 use Rattle.snoop_trace.specs.Words.{zero_words}
 use Rattle.snoop_trace.specs.declared.protocol.Protocol.{Protocol}
@@ -56,7 +56,7 @@ with_picture s block picture = record s { pictures = slice_set s.pictures block 
 abbrev pub state_of : Situation → ℕ → ℕ → CacheState
 state_of s core block = (held_by (picture_of s block) core).state
 
--- the core waits on the block with the request
+-- the core's request for the block is issued and not yet ordered
 abbrev pub Waits : Situation → ℕ → ℕ → Request → Type 0
 Waits s core block request = waiting_request (state_of s core block) ≡ Some request
 
@@ -67,3 +67,9 @@ CanOrder s core block request = Waits s core block request × ((picture_of s blo
 -- the block stands first in the core's queue
 abbrev pub StandsFirst : Situation → ℕ → ℕ → Type 0
 StandsFirst s core block = slice_get (queue_of s.queues core) 0 ≡ Some block
+
+-- the block stands first in the core's queue, and the core waits on it with this request
+pub record IsHead (s : Situation) (core : ℕ) (request : Request) (block : ℕ) : Type 0 where
+  pub first : StandsFirst s core block
+  pub waits : Waits s core block request
+  pub within : block < s.shape.blocks

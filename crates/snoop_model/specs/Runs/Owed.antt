@@ -26,16 +26,12 @@ IsLast s core block wanted = (did : Did) × (last_of s.log core ≡ Some did) ×
 abbrev pub IsOwed : Situation → ℕ → ℕ → Access → Type 0
 IsOwed s core block wanted = (waits_for s core block wanted ≡ 1) ⊎ IsLast s core block wanted
 
--- what waited before the step, or is asked by it, is owed after it
-abbrev pub OwesAfter : Step → Situation → Situation → Type 0
-OwesAfter step s t =
-    (core block : ℕ) (wanted : Access) → (waits_for s core block wanted ≡ 1) ⊎ (asks core block wanted step ≡ true) → IsOwed t core block wanted
-
--- a move owes what waited and what it asks
+-- after a move, what waited before it or is asked by it is owed
 abbrev pub Owes : Type 0
 Owes =
     (s t : Situation) (step : Step) (answer : Reply) (entry : Option Item)
-    → FirstMove s step answer t entry → OnceMore s (step ∷ []) (Ok answer ∷ []) t → OwesAfter step s t
+    → FirstMove s step answer t entry → OnceMore s (step ∷ []) (Ok answer ∷ []) t
+    → (core block : ℕ) (wanted : Access) → (waits_for s core block wanted ≡ 1) ⊎ (asks core block wanted step ≡ true) → IsOwed t core block wanted
 
 -- what is owed to a core whose work has no step left is its last operation
 abbrev pub ClosedIsLast : Type 0
@@ -44,8 +40,8 @@ ClosedIsLast =
     → IsWellKept s → IsOwed s core block wanted → turn_of s core block word asking true ≡ None → IsLast s core block wanted
 
 -- an Ask that issues no request ends its work at once, where the core had none under way
-abbrev pub AskedOnce : Type 0
-AskedOnce =
+abbrev pub EndsAtOnce : Type 0
+EndsAtOnce =
     (s t : Situation) (under_way : ℕ → Option ℕ) (core block word : ℕ) (asking : Op) (answer : Reply) (entry : Option Item)
     → IsServing under_way s → under_way core ≡ None → IsWellKept t → FirstMove s (Ask core block word asking) answer t entry
     → ((request : Request) → answer ≢ Issued request) → turn_of t core block word asking true ≡ None

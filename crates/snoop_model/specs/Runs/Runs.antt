@@ -8,7 +8,7 @@ use Rattle.snoop_model.specs.declared.replies.Refused.{Refused}
 use Rattle.snoop_model.specs.declared.replies.Refused.TheVariants.{NoMemory}
 use Rattle.snoop_model.specs.Moves.Standing.{Standing, KeepsRoom}
 use Rattle.snoop_model.specs.Moves.Move.{FirstMove}
-use Rattle.snoop_model.specs.Moves.StepMove.{RefusedFor}
+use Rattle.snoop_model.specs.Moves.Refuses.{RefusedFor}
 use Rattle.snoop_model.specs.Moves.Prepared.{IsFull}
 use Rattle.snoop_model.specs.Moves.Holding.{HoldsOn}
 use Rattle.snoop_model.specs.Runs.Once.{OnceMore}

@@ -5,7 +5,7 @@ use Rattle.snoop_trace.specs.declared.step.Step.{Step}
 use Rattle.std.specs.Prelude.{◌≡◌, ℕ, is_some}
 use Rattle.snoop_model.specs.Pictures.Picture.{held_by}
 use Rattle.snoop_model.specs.Pictures.Situation.{Situation, picture_of, state_of}
-use Rattle.snoop_model.specs.Pictures.Sound.{keeps}
+use Rattle.snoop_model.specs.Pictures.Proper.{keeps}
 use Rattle.snoop_model.specs.Moves.LookUps.{FindsRows}
 use Rattle.snoop_model.specs.Invariant.WellKept.{IsWellKept}
 use Rattle.snoop_model.specs.Runs.Run.{EveryRun}

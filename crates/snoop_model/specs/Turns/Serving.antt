@@ -16,19 +16,17 @@ pub record IsServing (under_way : ℕ → Option ℕ) (s : Situation) : Type 0 w
 -- a core that asks has this block under way
 abbrev pub IsUnderWay : (ℕ → Option ℕ) → Step → Type 0
 IsUnderWay under_way (Ask core block word asking) = under_way core ≡ Some block
-IsUnderWay under_way (Order core) = ⊤
-IsUnderWay under_way (Respond block) = ⊤
+IsUnderWay under_way _ = ⊤
 
 -- a transaction is open on the block of this picture
 abbrev pub has_transaction : Picture → Bool
 has_transaction picture = is_some picture.transaction
 
 -- the steps still to come for what was asked: two for each request that waits, and one for each open transaction
-abbrev pub owed : Situation → ℕ
-owed s = 2 * sum_by length s.queues + count_by has_transaction s.pictures
+abbrev pub steps_owed : Situation → ℕ
+steps_owed s = 2 * sum_by length s.queues + count_by has_transaction s.pictures
 
 -- what a step pays in: an Ask three, of which one is its own
-abbrev pub paid : Step → ℕ
-paid (Ask core block word asking) = 3
-paid (Order core) = 0
-paid (Respond block) = 0
+abbrev pub steps_paid : Step → ℕ
+steps_paid (Ask core block word asking) = 3
+steps_paid _ = 0

@@ -1,4 +1,4 @@
-use Rattle.snoop_model.specs.Turns.Serving.{owed}
+use Rattle.snoop_model.specs.Turns.Serving.{steps_owed}
 use Rattle.snoop_engine.specs.OneRow.{ServesOnly, ServesRow, only}
 use Rattle.snoop_engine.proofs.serial.push_served.Given as goal
 
@@ -8,4 +8,4 @@ invariant-loop-step l = ServesRow l.shape l.fn.machine.situation l.row l.machine
     × ServesOnly l.shape (only l.row.core l.block) l.machine.situation
 
 abbrev pub decreases-loop-step : goal.decreases-loop-step
-decreases-loop-step l = owed l.machine.situation
+decreases-loop-step l = steps_owed l.machine.situation

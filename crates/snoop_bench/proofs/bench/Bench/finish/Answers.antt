@@ -27,7 +27,7 @@ use Rattle.snoop_bench.proofs.bench.Bench.finish.Goals as goal
 abbrev Finished : Situation → Situation → Step → List (Option Work) → ℕ → Work → Type 0
 Finished s t step works core work = (step ≡ Respond work.block) × (turn_of t core work.block work.word work.op true ≡ None) × AreUnderWay works t
 
-finished : Rattle.snoop_model.specs.Turns.TurnRule.TurnRule → (s t : Situation) (step : Step) (answer : Rattle.snoop_model.specs.declared.replies.Reply.Reply) (works : List (Option Work)) (core : ℕ) (work : Work) → AreUnderWay works s → IsWellKept s
+finished : Rattle.snoop_model.specs.Turns.TurnLaws.TurnLaws → (s t : Situation) (step : Step) (answer : Rattle.snoop_model.specs.declared.replies.Reply.Reply) (works : List (Option Work)) (core : ℕ) (work : Work) → AreUnderWay works s → IsWellKept s
     → Stepped s t step answer → turn_of s core work.block work.word work.op true ≡ Some step → is_some (waiting_request (state_of s core work.block)) ≡ false → Finished s t step works core work
 finished rule s t step answer works core work u well m turn none =
     let is = a_response core work.block (waiting_request (state_of s core work.block)) (picture_of s work.block).transaction step turn none in

@@ -2,7 +2,7 @@ use Rattle.std.proofs.Common.{◌≡◌, ◌<◌, sym, ◌∙◌, ap, subst, ari
 use Rattle.std.specs.Prelude.{slice_index_or, option_copied}
 use Rattle.std.proofs.lemmas.List.{get_or_read}
 use Rattle.snoop_model.specs.Pictures.Lines.{Line}
-use Rattle.snoop_model.specs.Pictures.Sound.{IsProper}
+use Rattle.snoop_model.specs.Pictures.Proper.{IsProper}
 use Rattle.snoop_machine.specs.Cache.{Contents, no_cache, line_in, line_of}
 use Rattle.snoop_machine.proofs.LineMaps.{in_rows, line_seen}
 use Rattle.snoop_machine.proofs.lines.Lines.get.Given.{Over}

@@ -5,7 +5,7 @@ use Rattle.std.proofs.lemmas.Result.{err_from_is_err_and}
 use Rattle.std.proofs.lemmas.List.{length-replicate, get_or-replicate}
 use Rattle.snoop_model.specs.Pictures.Lines.{Line}
 use Rattle.snoop_model.specs.Pictures.Picture.{nothing_held}
-use Rattle.snoop_model.specs.Pictures.Sound.{IsProper, keeps}
+use Rattle.snoop_model.specs.Pictures.Proper.{IsProper, keeps}
 use Rattle.snoop_model.specs.Invariant.Fits.{is_owner}
 use Rattle.snoop_model.proofs.Lists.Facts.{replicated}
 use Rattle.snoop_model.proofs.Invariant.Runs.{nothing_proper}

@@ -5,7 +5,7 @@ use Rattle.snoop_rules.specs.declared.names.Request.{Request}
 use Rattle.snoop_bus.specs.Traffic.{head_of}
 use Rattle.snoop_model.specs.Moves.Standing.{Standing}
 use Rattle.snoop_model.specs.Moves.Refuses.{WaitsOnNone}
-use Rattle.snoop_model.specs.Moves.OrderMove.{IsHead}
+use Rattle.snoop_model.specs.Pictures.Situation.{IsHead}
 use Rattle.snoop_rules.specs.Waits.{waiting_request}
 use Rattle.snoop_machine.proofs.PictureViews.{state_seen}
 use Rattle.snoop_machine.proofs.QueueHeads.{line_from_head, waits_from_head, idle_from_head, within_from_waits, empty_from_head}

@@ -11,7 +11,7 @@ use Rattle.snoop_model.specs.Pictures.Situation.{Situation, picture_of, with_pic
 use Rattle.snoop_model.specs.Pictures.Picture.{Picture, held_by, with_line}
 use Rattle.snoop_machine.proofs.Room.{held_in, held_in-set, keeps_room}
 use Rattle.snoop_machine.proofs.LineWrites.{IsSound-issue}
-use Rattle.snoop_model.specs.Pictures.Sound.{IsProper}
+use Rattle.snoop_model.specs.Pictures.Proper.{IsProper}
 use Rattle.snoop_machine.specs.Cache.{changed}
 use Rattle.snoop_machine.specs.Lines.{line_at}
 use Rattle.snoop_machine.specs.declared.cache.LineChange.TheVariants.{Wait}

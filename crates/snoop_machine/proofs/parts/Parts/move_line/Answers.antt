@@ -9,7 +9,7 @@ use Rattle.snoop_machine.proofs.PictureViews.{seen, state_seen, line-written, co
 use Rattle.snoop_machine.proofs.LineWrites.{IsSound-line}
 use Rattle.snoop_machine.proofs.Following.{follows-set}
 use Rattle.snoop_machine.proofs.Room.{keeps_room}
-use Rattle.snoop_model.specs.Pictures.Sound.{IsProper}
+use Rattle.snoop_model.specs.Pictures.Proper.{IsProper}
 use Rattle.snoop_machine.specs.Cache.{changed, IsOfWords}
 use Rattle.snoop_machine.specs.Lines.{line_at}
 use Rattle.snoop_machine.proofs.PlacedLines.{placed}

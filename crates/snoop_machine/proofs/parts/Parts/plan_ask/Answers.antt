@@ -7,14 +7,14 @@ use Rattle.snoop_rules.specs.Takers.{asked as event_of}
 use Rattle.snoop_model.specs.Pictures.Lines.{Line}
 use Rattle.snoop_machine.specs.declared.plan.Plan.TheVariants as plan
 use Rattle.snoop_model.specs.Moves.Standing.{Standing}
-use Rattle.snoop_model.specs.Pictures.Sound.{IsProper}
+use Rattle.snoop_model.specs.Pictures.Proper.{IsProper}
 use Rattle.snoop_model.specs.Pictures.Picture.{held_by}
 use Rattle.snoop_model.specs.Pictures.Situation.{picture_of}
 use Rattle.snoop_machine.specs.Asked.{TakesAsk, RefusesAsk}
 use Rattle.snoop_model.specs.Moves.LookUps.{HasRow}
 use Rattle.snoop_model.proofs.Invariant.Coherence.{finds_rows}
 use Rattle.snoop_machine.proofs.WordsHeld.{operation_held}
-use Rattle.snoop_machine.proofs.Plans.{IsDenied-ask, plan-allowed}
+use Rattle.snoop_machine.proofs.Plans.{refuses-ask, plan-allowed}
 use Rattle.snoop_machine.proofs.parts.Parts.plan_ask.Goals as goal
 
 pub returns-in_err-asked-clause-denied : goal.returns-in_err-asked-clause-denied
@@ -23,7 +23,7 @@ returns-in_err-asked-clause-denied g c =
     let P : Line → Type 0 = λ line. RefusesAsk c.self.inside.protocol line c.args.op c.in_err-asked.field-0.0 in
     let Q : Standing → Type 0 = λ x. RefusesAsk x.situation.protocol (held_by (picture_of s c.args.block) c.args.core) c.args.op c.in_err-asked.field-0.0 in
     let p = err_from_is_err_and c.from_residual.result c.from_residual.ensures.1 in
-    rw (p.1, p.2) (IsDenied-ask s c.args.core c.args.block c.args.word c.args.op c.in_err-asked.field-0.0 c.requires.core c.requires.block c.requires.word
+    rw (p.1, p.2) (refuses-ask s c.args.core c.args.block c.args.word c.args.op c.in_err-asked.field-0.0 c.requires.core c.requires.block c.requires.word
     (subst Q c.self.view_is (subst P c.line-found.ensures.line c.in_err-asked.ensures.refused)))
 
 pub returns-clause-exactly : goal.returns-clause-exactly

@@ -19,9 +19,8 @@ use Rattle.snoop_model.specs.Moves.Standing.{Standing}
 use Rattle.snoop_model.specs.Pictures.Situation.{Situation, picture_of, with_picture, Waits, StandsFirst}
 use Rattle.snoop_machine.specs.PartsView.{Fields, fields, standing, pictures_of, queues_of, no_memory, IsSound}
 use Rattle.snoop_machine.specs.Lines.{row_of}
-use Rattle.snoop_model.specs.Moves.Move.{Orders, TakesRows}
+use Rattle.snoop_model.specs.Moves.Move.{Orders, TakesRows, TakesMemRow}
 use Rattle.snoop_model.specs.Moves.LookUps.{HasRow}
-use Rattle.snoop_model.specs.Moves.Move.{TakesMemRow}
 use Rattle.snoop_machine.proofs.Room.{held_in, held_in-set, keeps_room}
 use Rattle.snoop_machine.proofs.QueueHeads.{head_from_line}
 use Rattle.snoop_machine.proofs.AfterOrders.{IsSound-order, blocks_of-rest}

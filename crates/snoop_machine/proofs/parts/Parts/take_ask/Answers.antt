@@ -4,7 +4,7 @@ use Rattle.snoop_machine.specs.declared.ask.Asked.{Asked}
 use Rattle.snoop_model.specs.declared.access.Access.{Access}
 use Rattle.std.specs.Prelude.{Option}
 use Rattle.snoop_model.specs.Pictures.Lines.{Line}
-use Rattle.snoop_model.specs.Pictures.Sound.{IsProper}
+use Rattle.snoop_model.specs.Pictures.Proper.{IsProper}
 use Rattle.snoop_model.specs.Pictures.Picture.{held_by}
 use Rattle.snoop_model.specs.Pictures.Situation.{picture_of}
 use Rattle.snoop_machine.specs.Asked.{TakesAsk}

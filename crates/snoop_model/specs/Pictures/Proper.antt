@@ -9,7 +9,7 @@ use Rattle.snoop_rules.specs.declared.names.Request.{Request}
 use Rattle.snoop_rules.specs.declared.names.Request.TheVariants.{GetS, GetM, PutM}
 use Rattle.snoop_model.specs.Pictures.Lines.{Line}
 
--- a kept value is there in this state: the state may read
+-- a kept value is there in this state: the state may read, under MESI at least
 abbrev pub keeps : CacheState → Bool
 keeps S = true
 keeps SmAd = true

@@ -13,12 +13,12 @@ use Rattle.snoop_model.specs.Pictures.Situation.{Situation, reset}
 use Rattle.snoop_model.specs.Moves.Move.{FirstMove}
 use Rattle.snoop_model.specs.Moves.Refuses.{Refuses}
 use Rattle.snoop_model.specs.Turns.Turn.{turn_of}
-use Rattle.snoop_model.specs.Turns.Serving.{IsServing, IsUnderWay, owed, paid}
+use Rattle.snoop_model.specs.Turns.Serving.{IsServing, IsUnderWay, steps_owed, steps_paid}
 use Rattle.snoop_model.specs.Invariant.WellKept.{IsWellKept}
 use Rattle.snoop_model.specs.Turns.Quiet.{IsQuiet}
-use Rattle.snoop_model.specs.Runs.Owed.{Owes, ClosedIsLast, AskedOnce}
+use Rattle.snoop_model.specs.Runs.Owed.{Owes, ClosedIsLast, EndsAtOnce}
 
--- a machine at reset is well kept, and serves nothing
+-- a machine at reset is well kept, and serves whatever works are under way
 abbrev pub StartsWell : Type 0
 StartsWell = (protocol : Protocol) (shape : Extent) (under_way : ℕ → Option ℕ) → IsWellKept (reset protocol shape) × IsServing under_way (reset protocol shape)
 
@@ -60,10 +60,10 @@ ComesToRest = (s : Situation) → IsServing (λ _. None) s → IsWellKept s → 
 abbrev pub Pays : Type 0
 Pays =
     (s t : Situation) (step : Step) (answer : Reply) (entry : Option Item)
-    → FirstMove s step answer t entry → 1 + owed t ≤ paid step + owed s
+    → FirstMove s step answer t entry → 1 + steps_owed t ≤ steps_paid step + steps_owed s
 
 -- what holds of every turn that follows the turn rule
-pub record TurnRule : Type 0 where
+pub record TurnLaws : Type 0 where
   pub starts_well : StartsWell
   pub keeps_well : KeepsWell
   pub never_refused : NeverRefused
@@ -73,4 +73,4 @@ pub record TurnRule : Type 0 where
   pub pays : Pays
   pub owes : Owes
   pub closed_is_last : ClosedIsLast
-  pub asked_once : AskedOnce
+  pub asked_once : EndsAtOnce
