@@ -16,7 +16,7 @@ use Rattle.snoop_model.specs.Pictures.Situation.{Situation}
 use Rattle.snoop_model.specs.Moves.Move.{FirstMove}
 use Rattle.snoop_model.specs.Runs.Once.{did_it, did_access, waits_for, asks, same_op, OnceMore}
 use Rattle.snoop_model.specs.Runs.Owed.{IsOwed}
-use Rattle.snoop_model.proofs.Runs.Prepared.{move-log}
+use Rattle.snoop_model.proofs.Runs.Logged.{move-log}
 use Rattle.snoop_model.proofs.Once.Owed.{entry_op, answers_are, one_or_none, one_waits, owes}
 use Rattle.snoop_trace.specs.declared.step.Work.{Work}
 use Rattle.snoop_bench.specs.Works.{access_of, work_at}

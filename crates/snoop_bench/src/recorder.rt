@@ -7,8 +7,8 @@ ghost use Rattle.snoop_model.specs.Pictures.Situation.{Situation, reset};
 ghost use Rattle.snoop_model.specs.Moves.Refuses.{Refuses};
 ghost use Rattle.snoop_model.specs.Moves.Replies.{IsReplyTo, IsLoadHit};
 ghost use Rattle.snoop_model.specs.Runs.Once.{OnceMore};
-ghost use Rattle.snoop_model.specs.Moves.Standing.{Standing};
-ghost use Rattle.snoop_model.specs.Moves.Prepared.{IsPrepared};
+ghost use Rattle.snoop_machine.specs.Standing.{Standing};
+ghost use Rattle.snoop_machine.specs.Prepared.{IsPrepared};
 ghost use Rattle.snoop_bench.specs.Recording.{IsRecorded, Takes};
 
 use snoop_history::Item;

@@ -8,7 +8,7 @@ use Rattle.snoop_rules.specs.declared.names.CacheState.TheVariants.{I}
 use Rattle.snoop_model.specs.Pictures.Lines.{Line}
 use Rattle.snoop_model.specs.Pictures.Picture.{Picture, held_at, held_by}
 use Rattle.snoop_model.specs.Pictures.Situation.{state_of, nothing_there}
-use Rattle.snoop_model.specs.Moves.Standing.{Standing, line_count}
+use Rattle.snoop_machine.specs.Standing.{Standing, line_count}
 use Rattle.snoop_machine.specs.PartsView.{Fields, standing, IsWhole}
 use Rattle.snoop_machine.specs.Lines.{Held, LinesGo, gone, is_invalid, row_of, line_at}
 use Rattle.snoop_machine.specs.Following.{LosesLines}

@@ -13,8 +13,8 @@ use Rattle.snoop_model.specs.declared.replies.Reply.{Reply}
 use Rattle.snoop_model.specs.Pictures.Picture.{Picture, held_by, with_line}
 use Rattle.snoop_model.specs.Pictures.Situation.{Situation, picture_of, state_of, nothing_there}
 use Rattle.snoop_model.specs.Moves.Move.{FirstMove}
-use Rattle.snoop_model.specs.Moves.Standing.{Standing, KeepsRoom, line_count}
-use Rattle.snoop_model.specs.Moves.Holding.{NeedsLine, MovesToI, HoldsOn}
+use Rattle.snoop_machine.specs.Standing.{Standing, KeepsRoom, line_count}
+use Rattle.snoop_machine.specs.Holding.{NeedsLine, MovesToI, HoldsOn}
 use Rattle.snoop_model.proofs.Tables.EvictInI.{no_row}
 use Rattle.snoop_machine.specs.declared.ask.Asked.TheVariants.{Absent, Hit, Issue, Drop}
 use Rattle.snoop_machine.specs.declared.plan.Plan.{Plan}

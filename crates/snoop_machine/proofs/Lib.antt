@@ -10,6 +10,7 @@ pub mod AtReset
 pub mod ConcernedCores
 pub mod Plans
 pub mod Room
+pub mod StepKeeps
 pub mod RunSteps
 pub mod ProperLines
 pub mod MapRows

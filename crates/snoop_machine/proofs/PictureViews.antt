@@ -10,7 +10,7 @@ use Rattle.snoop_history.specs.Journal.{Journal}
 use Rattle.snoop_model.specs.Pictures.Lines.{Line, MemLine}
 use Rattle.snoop_model.specs.Pictures.Picture.{Picture, held_by, with_line}
 use Rattle.snoop_model.specs.Pictures.Situation.{Situation, picture_of, state_of, nothing_there}
-use Rattle.snoop_model.specs.Moves.Standing.{Standing}
+use Rattle.snoop_machine.specs.Standing.{Standing}
 use Rattle.snoop_machine.specs.Lines.{line_at, row_of}
 use Rattle.snoop_machine.specs.PartsView.{Fields, standing, pictures_of, no_memory, IsSized, IsWhole}
 use Rattle.snoop_machine.proofs.PlacedLines.{placed}

@@ -6,8 +6,8 @@ use Rattle.std.proofs.lemmas.List.{length-map, get_or-set_same, get_or-set_other
 use Rattle.snoop_rules.specs.declared.names.Request.{Request}
 use Rattle.snoop_bus.specs.Traffic.{Waiting, no_queue}
 use Rattle.snoop_bus.specs.Queues.{queue_of}
-use Rattle.snoop_model.specs.Moves.Standing.{Standing, KeepsRoom}
-use Rattle.snoop_model.specs.Moves.Prepared.{places}
+use Rattle.snoop_machine.specs.Standing.{Standing, KeepsRoom}
+use Rattle.snoop_machine.specs.Prepared.{places}
 use Rattle.snoop_machine.specs.Lines.{Held, KeepsSpares}
 use Rattle.snoop_machine.specs.PartsView.{Fields, queues_of, shown_spare, shown_spares, standing}
 use Rattle.snoop_machine.proofs.QueueViews.{queue_of-queues_of}

@@ -9,18 +9,19 @@ use Rattle.snoop_model.specs.declared.replies.Reply.{Reply}
 use Rattle.snoop_model.specs.declared.replies.Refused.{Refused}
 use Rattle.snoop_model.specs.declared.replies.Refused.TheVariants.{NoMemory}
 use Rattle.snoop_model.specs.Pictures.Situation.{Situation}
-use Rattle.snoop_model.specs.Moves.Standing.{Standing, KeepsRoom}
-use Rattle.snoop_model.specs.Moves.Prepared.{IsFull}
-use Rattle.snoop_model.specs.Moves.Holding.{HoldsOn}
+use Rattle.snoop_machine.specs.Standing.{Standing, KeepsRoom}
+use Rattle.snoop_machine.specs.Prepared.{IsFull}
+use Rattle.snoop_machine.specs.Holding.{HoldsOn}
 use Rattle.snoop_model.specs.Moves.Move.{FirstMove}
 use Rattle.snoop_model.specs.Moves.Refuses.{RefusedFor}
 use Rattle.snoop_model.specs.Runs.Run.{Goes, RunFrom, RunBy}
 use Rattle.snoop_model.specs.Invariant.Invariant.{Invariant}
 use Rattle.snoop_model.specs.Invariant.MachineKeeps.{MachineKeeps}
-use Rattle.snoop_model.proofs.Invariant.Safety.{is_safe, step_keeps}
+use Rattle.snoop_model.proofs.Invariant.Safety.{is_safe}
+use Rattle.snoop_machine.proofs.StepKeeps.{step_keeps}
 use Rattle.snoop_model.proofs.Once.Runs.{run_once}
 use Rattle.snoop_model.proofs.Runs.Along.{run_more, seen_along}
-use Rattle.snoop_model.specs.Runs.Runs.{Answers, AnswersSafely, HasRun}
+use Rattle.snoop_machine.specs.Runs.{Answers, AnswersSafely, HasRun}
 
 -- what a machine's step answers
 pub answers : (old new : Standing) (step : Step) (result : Result Reply Refused) → IfOk result (λ reply. (entry : Option Item) × FirstMove old.situation step reply new.situation entry)

@@ -2,7 +2,7 @@
 -- Source: this project's profile.
 use Rattle.snoop_machine.specs.declared.any_parts.AnyParts.{AnyParts}
 use Rattle.snoop_machine.specs.declared.any_parts.AnyParts.TheVariants.{One, Two, Four, Eight, Sixteen, ThirtyTwo, SixtyFour}
-use Rattle.snoop_model.specs.Moves.Standing.{Standing}
+use Rattle.snoop_machine.specs.Standing.{Standing}
 
 -- their view
 abbrev pub stand : AnyParts → Standing

@@ -7,8 +7,8 @@ use Rattle.snoop_machine.specs.declared.plan.Plan.{Plan}
 use Rattle.snoop_machine.specs.declared.plan.Plan.TheVariants.{Ask}
 use Rattle.snoop_rules.specs.declared.names.CacheState.TheVariants.{I}
 use Rattle.snoop_model.specs.Pictures.Situation.{state_of}
-use Rattle.snoop_model.specs.Moves.Standing.{Standing, line_count, has_line}
-use Rattle.snoop_model.specs.Moves.Holding.{MovesToI}
+use Rattle.snoop_machine.specs.Standing.{Standing, line_count, has_line}
+use Rattle.snoop_machine.specs.Holding.{MovesToI}
 
 -- of a core's map as many lines go as blocks on which it moves to I, which is one at most
 pub record LosesLines (old new : Standing) (core : ℕ) : Type 0 where

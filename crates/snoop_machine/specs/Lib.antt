@@ -8,3 +8,7 @@ pub mod MachineView
 pub mod Lines
 pub mod Holders
 pub mod Following
+pub mod Standing
+pub mod Holding
+pub mod Prepared
+pub mod Runs

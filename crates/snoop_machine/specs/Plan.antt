@@ -18,8 +18,8 @@ use Rattle.snoop_history.specs.declared.items.Item.TheVariants as item
 use Rattle.snoop_machine.specs.declared.ask.Asked.TheVariants as asked
 use Rattle.snoop_machine.specs.declared.plan.Plan.{Plan}
 use Rattle.snoop_machine.specs.declared.plan.Plan.TheVariants.{Ask, Order, Writeback, Fill}
-use Rattle.snoop_model.specs.Moves.Standing.{Standing, has_line}
-use Rattle.snoop_model.specs.Moves.Prepared.{room_to_issue}
+use Rattle.snoop_machine.specs.Standing.{Standing, has_line}
+use Rattle.snoop_machine.specs.Prepared.{room_to_issue}
 use Rattle.snoop_model.specs.Pictures.Situation.{Situation, picture_of, state_of, IsHead}
 use Rattle.snoop_model.specs.Pictures.Picture.{held_by}
 use Rattle.snoop_model.specs.Pictures.Sends.{IsOnlySender}

@@ -1,11 +1,11 @@
 //! The parts of a machine, by how many words a block has.
 ghost use Rattle.snoop_history.specs.declared.items.Item.{Item};
 ghost use Rattle.snoop_model.specs.Invariant.Invariant.{Invariant};
-ghost use Rattle.snoop_model.specs.Moves.Holding.{HoldsOn};
+ghost use Rattle.snoop_machine.specs.Holding.{HoldsOn};
 ghost use Rattle.snoop_model.specs.Moves.Move.{FirstMove};
-ghost use Rattle.snoop_model.specs.Moves.Prepared.{IsFull, IsPrepared};
+ghost use Rattle.snoop_machine.specs.Prepared.{IsFull, IsPrepared};
 ghost use Rattle.snoop_model.specs.Moves.Refuses.{Refuses, RefusedFor};
-ghost use Rattle.snoop_model.specs.Moves.Standing.{line_count, KeepsRoom};
+ghost use Rattle.snoop_machine.specs.Standing.{line_count, KeepsRoom};
 ghost use Rattle.snoop_model.specs.Pictures.Picture.{held_by};
 ghost use Rattle.snoop_model.specs.Pictures.Situation.{picture_of, reset, state_of};
 ghost use Rattle.snoop_model.specs.Pictures.Proper.{keeps};

@@ -15,12 +15,12 @@ ghost use Rattle.snoop_model.specs.Pictures.Proper.{keeps};
 ghost use Rattle.snoop_model.specs.Moves.Move.{FirstMove};
 ghost use Rattle.snoop_model.specs.Moves.Replies.{IsReplyTo, IsLoadHit};
 ghost use Rattle.snoop_model.specs.Moves.Refuses.{Refuses, RefusedFor};
-ghost use Rattle.snoop_model.specs.Moves.Standing.{KeepsRoom, line_count};
-ghost use Rattle.snoop_model.specs.Moves.Holding.{HoldsOn, HasHeldLines};
-ghost use Rattle.snoop_model.specs.Moves.Prepared.{IsFull, IsPrepared};
+ghost use Rattle.snoop_machine.specs.Standing.{KeepsRoom, line_count};
+ghost use Rattle.snoop_machine.specs.Holding.{HoldsOn, HasHeldLines};
+ghost use Rattle.snoop_machine.specs.Prepared.{IsFull, IsPrepared};
 ghost use Rattle.snoop_model.specs.Runs.Safe.{IsSafe};
 ghost use Rattle.snoop_model.specs.Runs.Once.{OnceMore};
-ghost use Rattle.snoop_model.specs.Runs.Runs.{HasRun};
+ghost use Rattle.snoop_machine.specs.Runs.{HasRun};
 
 use crate::any_parts::{AnyParts, each};
 use snoop_bus::Open;
@@ -40,7 +40,7 @@ pub struct Machine {
 }
 
 impl Model for Machine {
-    ghost use Rattle.snoop_model.specs.Moves.Standing.{Standing};
+    ghost use Rattle.snoop_machine.specs.Standing.{Standing};
 
     ghost Value = { Standing };
 

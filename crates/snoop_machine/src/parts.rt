@@ -7,8 +7,8 @@ ghost use Rattle.snoop_model.specs.Pictures.Picture.{first_memory, held_by};
 ghost use Rattle.snoop_model.specs.Pictures.Situation.{picture_of, reset, state_of};
 ghost use Rattle.snoop_model.specs.Pictures.Proper.{IsProper, keeps};
 ghost use Rattle.snoop_model.specs.Moves.Move.{next_did};
-ghost use Rattle.snoop_model.specs.Moves.Standing.{line_count};
-ghost use Rattle.snoop_model.specs.Moves.Holding.{HasHeldLines};
+ghost use Rattle.snoop_machine.specs.Standing.{line_count};
+ghost use Rattle.snoop_machine.specs.Holding.{HasHeldLines};
 ghost use Rattle.snoop_machine.specs.Cache.{line_of};
 
 mod ask;
@@ -52,7 +52,7 @@ impl<B: Block> Drop for Parts<B> {
 }
 
 impl<B: Block> Model for Parts<B> {
-    ghost use Rattle.snoop_model.specs.Moves.Standing.{Standing};
+    ghost use Rattle.snoop_machine.specs.Standing.{Standing};
 
     ghost Value = { Standing };
 

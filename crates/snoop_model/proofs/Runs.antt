@@ -5,4 +5,4 @@ pub mod AreOne
 pub mod AllTaken
 pub mod Shape
 pub mod Replies
-pub mod Prepared
+pub mod Logged

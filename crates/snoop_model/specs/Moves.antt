@@ -4,6 +4,3 @@ pub mod Refuses
 pub mod Replies
 pub mod LookUps
 pub mod SenderTable
-pub mod Standing
-pub mod Prepared
-pub mod Holding

@@ -1,6 +1,5 @@
 -- Steps taken in order, from reset and from any machine.
 pub mod Run
-pub mod Runs
 pub mod Once
 pub mod Tallied
 pub mod Owed

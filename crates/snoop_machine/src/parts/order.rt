@@ -4,7 +4,7 @@ ghost use Rattle.snoop_rules.specs.Takers.{at_memory, seen_by};
 ghost use Rattle.snoop_bus.specs.Queues.{queue_of};
 ghost use Rattle.snoop_model.specs.declared.replies.Refused.{Refused};
 ghost use Rattle.snoop_trace.specs.declared.step.Step.TheVariants.{Order};
-ghost use Rattle.snoop_model.specs.Moves.Standing.{KeepsRoom};
+ghost use Rattle.snoop_machine.specs.Standing.{KeepsRoom};
 ghost use Rattle.snoop_machine.specs.Following.{LosesLines};
 ghost use Rattle.snoop_model.specs.Pictures.Situation.{picture_of, state_of, IsHead};
 ghost use Rattle.snoop_model.specs.Moves.Refuses.{Refuses, WaitsOnNone};

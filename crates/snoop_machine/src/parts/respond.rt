@@ -4,7 +4,7 @@ ghost use Rattle.std.specs.Option.{ForSome};
 ghost use Rattle.snoop_trace.specs.declared.step.Step.TheVariants.{Respond};
 ghost use Rattle.snoop_trace.specs.Words.{IsWord};
 ghost use Rattle.snoop_rules.specs.declared.names.Request.TheVariants.{PutM};
-ghost use Rattle.snoop_model.specs.Moves.Standing.{KeepsRoom};
+ghost use Rattle.snoop_machine.specs.Standing.{KeepsRoom};
 ghost use Rattle.snoop_machine.specs.Following.{LosesLines};
 ghost use Rattle.snoop_model.specs.Pictures.Situation.{picture_of};
 ghost use Rattle.snoop_model.specs.Pictures.Picture.{held_by};

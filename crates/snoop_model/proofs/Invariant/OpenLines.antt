@@ -1,5 +1,5 @@
 -- Each open transaction is on a line of the table of senders, after each step of a run.
-use Rattle.std.proofs.Common.{◌≡◌, ℕ, ◌<◌, ◌∷◌, List, [], Option, inl, inr, ap, sym, subst, refl, ◌++◌}
+use Rattle.std.proofs.Common.{◌≡◌, ℕ, ◌<◌, List, [], Option, inl, inr, ap, sym, subst, refl, ◌++◌}
 use Rattle.std.specs.Prelude.{IfSome, Result, Ok, Err, option_to_list}
 use Rattle.std.proofs.lemmas.Bool.Decides.{eqb_tells}
 use Rattle.snoop_trace.specs.Extent.{Extent}

@@ -1,6 +1,6 @@
 -- What every machine keeps makes it safe, and its steps keep it.
 use Rattle.std.proofs.Common.{ℕ, List, ◌<◌, ◌≤◌, arith, ap, Option, inl, inr, sym, ◌∙◌, subst, Some, None}
-use Rattle.std.specs.Prelude.{◌≡◌, option_map, Result, Ok, Err, IfOk, IfErr, IfSome, is_some}
+use Rattle.std.specs.Prelude.{◌≡◌, option_map, IfSome, is_some}
 use Rattle.std.proofs.lemmas.Option.{same_Some}
 use Rattle.snoop_trace.specs.Extent.{Extent}
 use Rattle.snoop_trace.specs.declared.step.Step.{Step}
@@ -8,15 +8,12 @@ use Rattle.snoop_trace.specs.declared.protocol.Protocol.{Protocol}
 use Rattle.snoop_history.specs.declared.items.Item.{Item}
 use Rattle.snoop_history.specs.History.{flat}
 use Rattle.snoop_model.specs.declared.replies.Reply.{Reply}
-use Rattle.snoop_model.specs.declared.replies.Refused.{Refused}
 use Rattle.snoop_model.specs.Pictures.Picture.{held_by}
-use Rattle.snoop_model.specs.Moves.Standing.{Standing}
 use Rattle.snoop_model.specs.Pictures.Situation.{Situation, picture_of, state_of, reset}
 use Rattle.snoop_model.specs.Pictures.Proper.{IsProper, keeps}
 use Rattle.snoop_model.specs.Pictures.InQueue.{IsInQueue}
 use Rattle.snoop_model.specs.Coherent.{IsCoherent}
 use Rattle.snoop_model.specs.Moves.Move.{FirstMove}
-use Rattle.snoop_model.specs.Moves.Refuses.{RefusedFor}
 use Rattle.snoop_model.specs.Invariant.Invariant.{Invariant}
 use Rattle.snoop_model.specs.Invariant.MachineKeeps.{AreOnSenderLines, MachineKeeps}
 use Rattle.snoop_model.specs.Runs.Safe.{IsSafe}
@@ -82,18 +79,10 @@ reset_keeps protocol shape = record {
   well_kept = (starts_well protocol shape (λ core. None)).0;
 }
 
-move_keeps_all : (old new : Situation) (step : Step) (answer : Reply) (entry : Option Item) → MachineKeeps old → FirstMove old step answer new entry → MachineKeeps new
+pub move_keeps_all : (old new : Situation) (step : Step) (answer : Reply) (entry : Option Item) → MachineKeeps old → FirstMove old step answer new entry → MachineKeeps new
 move_keeps_all old new step answer entry keeps move = record {
   inductive = first_keeps old step answer new entry keeps.inductive move;
   on_lines = move_on_lines move.0 old step answer new entry keeps.inductive keeps.on_lines move.1.1;
   queued = move_queued move.0 old step answer new entry keeps.inductive keeps.queued move.1.1;
   well_kept = keeps_well old new step answer entry keeps.well_kept move;
 }
-
--- what a step of the machine answers leads to what keeps it
-pub step_keeps : (old new : Standing) (step : Step) (result : Result Reply Refused) → MachineKeeps old.situation → IfOk result (λ reply. (entry : Option Item) × FirstMove old.situation step reply new.situation entry)
-    → IfErr result (λ cause. RefusedFor old.situation step cause × (new ≡ old)) → MachineKeeps new.situation
-step_keeps old new step (Ok reply) keeps taken refused = move_keeps_all old.situation new.situation step reply taken.0 keeps taken.1
-step_keeps old new step (Err cause) keeps taken refused =
-    let P : Standing → Type 0 = λ s. MachineKeeps s.situation in
-    subst P (sym refused.1) keeps

@@ -14,7 +14,7 @@ use Rattle.snoop_model.specs.Pictures.Situation.{Situation, picture_of}
 use Rattle.snoop_model.specs.Runs.Once.{did_it, tally, waits_for, asks, same_access}
 use Rattle.snoop_model.proofs.Lists.Facts.{one_if}
 use Rattle.snoop_model.specs.Runs.Owed.{IsOwed, Owes}
-use Rattle.snoop_model.proofs.Runs.Prepared.{move-log}
+use Rattle.snoop_model.proofs.Runs.Logged.{move-log}
 
 -- the operation of an item, if there is one
 abbrev pub entry_op : Option Item → Option Did

@@ -29,7 +29,7 @@ use Rattle.snoop_model.specs.Pictures.Situation.{Situation, picture_of}
 use Rattle.snoop_model.specs.Moves.Move.{FirstMove, Takes, Performs, is_load, next_did}
 use Rattle.snoop_model.specs.Moves.Replies.{IsReplyTo, IsLoadHit}
 use Rattle.snoop_model.proofs.Once.Asks.{is_evict, drop_evicts}
-use Rattle.snoop_model.proofs.Runs.Prepared.{move-log}
+use Rattle.snoop_model.proofs.Runs.Logged.{move-log}
 
 -- an issue is of the request that serves the operation
 abbrev serves : CacheEvent → Request → Bool

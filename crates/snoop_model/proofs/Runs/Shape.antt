@@ -1,17 +1,14 @@
 -- Steps leave the protocol and the shape.
 use Rattle.std.proofs.Common.{◌≡◌, ℕ, List, Option, refl, ap, ◌∙◌, inl, inr}
-use Rattle.std.specs.Prelude.{Result, Ok, Err, IfOk, IfErr}
+use Rattle.std.specs.Prelude.{Result, Ok, Err}
 use Rattle.snoop_trace.specs.declared.step.Step.{Step}
 use Rattle.snoop_trace.specs.declared.step.Step.TheVariants.{Ask, Order, Respond}
 use Rattle.snoop_history.specs.declared.items.Item.{Item}
 use Rattle.snoop_model.specs.declared.replies.Reply.{Reply}
 use Rattle.snoop_model.specs.declared.replies.Refused.{Refused}
 use Rattle.snoop_model.specs.Pictures.Situation.{Situation}
-use Rattle.snoop_model.specs.Moves.Standing.{Standing}
 use Rattle.snoop_model.specs.Moves.Move.{MoveOn, FirstMove}
-use Rattle.snoop_model.specs.Moves.Refuses.{RefusedFor}
-use Rattle.snoop_model.specs.Runs.Run.{Goes, RunFrom, RunBy}
-use Rattle.snoop_model.specs.Runs.Runs.{Answers, AnswersSafely}
+use Rattle.snoop_model.specs.Runs.Run.{Goes, RunFrom}
 use Rattle.snoop_model.proofs.Invariant.Runs.{refusal_same}
 use Rattle.snoop_model.proofs.Runs.Along.{kept_along}
 
@@ -19,7 +16,7 @@ use Rattle.snoop_model.proofs.Runs.Along.{kept_along}
 abbrev pub IsAlike : Situation → Situation → Type 0
 IsAlike old new = (new.protocol ≡ old.protocol) × (new.shape ≡ old.shape)
 
-same_alike : (old new : Situation) → new ≡ old → IsAlike old new
+pub same_alike : (old new : Situation) → new ≡ old → IsAlike old new
 same_alike old new same = (ap (λ (s : Situation). s.protocol) same, ap (λ (s : Situation). s.shape) same)
 
 on_stays : (block : ℕ) (old new : Situation) (step : Step) (answer : Reply) (entry : Option Item) → MoveOn block old step answer new entry → IsAlike old new
@@ -30,11 +27,11 @@ on_stays block old new (Ask core on word asking) answer entry m = elim m.moves [
 on_stays block old new (Order core) answer entry m = (ap (λ (s : Situation). s.protocol) m.orders.after, ap (λ (s : Situation). s.shape) m.orders.after)
 on_stays block old new (Respond on) answer entry m = (ap (λ (s : Situation). s.protocol) m.responds.after, ap (λ (s : Situation). s.shape) m.responds.after)
 
-move_stays : (old new : Situation) (step : Step) (answer : Reply) (entry : Option Item) → FirstMove old step answer new entry → IsAlike old new
+pub move_stays : (old new : Situation) (step : Step) (answer : Reply) (entry : Option Item) → FirstMove old step answer new entry → IsAlike old new
 move_stays old new step answer entry m = on_stays m.0 old new step answer entry m.1.1
 
 -- one after another
-alike_on : (old middle new : Situation) → IsAlike old middle → IsAlike middle new → IsAlike old new
+pub alike_on : (old middle new : Situation) → IsAlike old middle → IsAlike middle new → IsAlike old new
 alike_on old middle new first rest = (rest.0 ∙ first.0, rest.1 ∙ first.1)
 
 goes_stays : (old new : Situation) (step : Step) (outcome : Result Reply Refused) → Goes old step outcome new → IsAlike old new
@@ -43,19 +40,3 @@ goes_stays old new step (Err cause) r = same_alike old new (refusal_same old ste
 
 pub run_stays : (steps : List Step) (outcomes : List (Result Reply Refused)) (old new : Situation) → RunFrom old steps outcomes new → IsAlike old new
 run_stays steps outcomes old new = kept_along Goes (IsAlike old) (λ s step outcome t far goes. alike_on old s t far (goes_stays s t step outcome goes)) steps outcomes old new (refl, refl)
-
--- a step, taken or refused
-pub step_stays : (old new : Standing) (step : Step) (result : Result Reply Refused) → IfOk result (λ reply. (entry : Option Item) × FirstMove old.situation step reply new.situation entry)
-    → IfErr result (λ cause. RefusedFor old.situation step cause × (new ≡ old)) → IsAlike old.situation new.situation
-step_stays old new step (Ok reply) taken refused = move_stays old.situation new.situation step reply taken.0 taken.1
-step_stays old new step (Err cause) taken refused = same_alike old.situation new.situation (ap (λ (s : Standing). s.situation) refused.1)
-
-answer_stays : (old new : Standing) (step : Step) (outcome : Result Reply Refused) → Answers old step outcome new → IsAlike old.situation new.situation
-answer_stays old new step (Ok answer) a = move_stays old.situation new.situation step answer a.0.0 a.0.1
-answer_stays old new step (Err cause) a = same_alike old.situation new.situation (ap (λ (s : Standing). s.situation) a.2)
-
--- steps in order
-pub steps_stay : (steps : List Step) (outcomes : List (Result Reply Refused)) (old new : Standing) → RunBy AnswersSafely old steps outcomes new → IsAlike old.situation new.situation
-steps_stay steps outcomes old new =
-    let P : Standing → Type 0 = λ s. IsAlike old.situation s.situation in
-    kept_along AnswersSafely P (λ s step outcome t far goes. alike_on old.situation s.situation t.situation far (answer_stays s t step outcome goes.0)) steps outcomes old new (refl, refl)

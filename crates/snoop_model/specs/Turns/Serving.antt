@@ -2,7 +2,7 @@
 -- Source: this project's profile.
 use Rattle.std.specs.Prelude.{◌≡◌, ℕ, ◌+◌, ◌*◌, Bool, length, All, Option, Some, is_some, sum_by, count_by, ⊤}
 use Rattle.snoop_trace.specs.declared.step.Step.{Step}
-use Rattle.snoop_trace.specs.declared.step.Step.TheVariants.{Ask, Order, Respond}
+use Rattle.snoop_trace.specs.declared.step.Step.TheVariants.{Ask}
 use Rattle.snoop_bus.specs.Traffic.{Open}
 use Rattle.snoop_bus.specs.Queues.{queue_of}
 use Rattle.snoop_model.specs.Pictures.Picture.{Picture}

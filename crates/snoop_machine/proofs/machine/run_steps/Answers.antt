@@ -3,11 +3,12 @@ use Rattle.std.proofs.Common.{◌≡◌, ◌≤◌, ◌+◌, ◌∙◌, ℕ, Lis
 use Rattle.std.specs.Prelude.{is_ok}
 use Rattle.std.proofs.lemmas.List.{take_all}
 use Rattle.snoop_trace.specs.declared.step.Step.{Step}
-use Rattle.snoop_model.specs.Moves.Standing.{Standing}
+use Rattle.snoop_machine.specs.Standing.{Standing}
 use Rattle.snoop_model.specs.Invariant.MachineKeeps.{MachineKeeps}
-use Rattle.snoop_model.specs.Runs.Runs.{HasRun}
+use Rattle.snoop_machine.specs.Runs.{HasRun}
 use Rattle.snoop_model.proofs.Invariant.Safety.{is_safe}
-use Rattle.snoop_model.proofs.Runs.Shape.{IsAlike, steps_stay}
+use Rattle.snoop_model.proofs.Runs.Shape.{IsAlike}
+use Rattle.snoop_machine.proofs.StepKeeps.{steps_stay}
 use Rattle.snoop_machine.proofs.RunSteps.{Going, has_run, more_taken, more_refused}
 use Rattle.snoop_machine.specs.AnyParts.{stand}
 use Rattle.snoop_machine.proofs.machine.run_steps.Goals.{then-is_ok, else-is_ok, At-loop-step}

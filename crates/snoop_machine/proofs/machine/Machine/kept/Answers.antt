@@ -2,7 +2,7 @@ use Rattle.std.proofs.Common.{◌≤◌, ◌∙◌, ap, sym, subst}
 use Rattle.std.specs.Prelude.{◌≡◌, IfSome}
 use Rattle.snoop_trace.specs.Extent.{Extent}
 use Rattle.snoop_history.specs.History.{flat}
-use Rattle.snoop_model.specs.Moves.Standing.{Standing}
+use Rattle.snoop_machine.specs.Standing.{Standing}
 use Rattle.snoop_model.proofs.Invariant.Safety.{kept_is_flat}
 use Rattle.snoop_machine.specs.AnyParts.{stand}
 use Rattle.snoop_machine.proofs.machine.Machine.kept.Goals as goal

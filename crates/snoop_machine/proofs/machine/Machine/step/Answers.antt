@@ -1,11 +1,13 @@
 use Rattle.std.proofs.Common.{[], ◌∷◌, Ok, subst}
 use Rattle.std.specs.Prelude.{IfOk}
-use Rattle.snoop_model.specs.Moves.Standing.{Standing}
+use Rattle.snoop_machine.specs.Standing.{Standing}
 use Rattle.snoop_model.specs.Invariant.MachineKeeps.{MachineKeeps}
 use Rattle.snoop_model.specs.Runs.Once.{OnceMore}
-use Rattle.snoop_model.proofs.Invariant.Safety.{step_keeps, is_safe}
+use Rattle.snoop_model.proofs.Invariant.Safety.{is_safe}
+use Rattle.snoop_machine.proofs.StepKeeps.{step_keeps}
 use Rattle.snoop_model.proofs.Invariant.Steps.{step_once}
-use Rattle.snoop_model.proofs.Runs.Shape.{step_stays, IsAlike}
+use Rattle.snoop_model.proofs.Runs.Shape.{IsAlike}
+use Rattle.snoop_machine.proofs.StepKeeps.{step_stays}
 use Rattle.snoop_model.proofs.Runs.Replies.{LoadsHit, step_replies, step_hits}
 use Rattle.snoop_machine.specs.AnyParts.{stand}
 use Rattle.snoop_machine.proofs.machine.Machine.step.Goals as goal

@@ -6,8 +6,8 @@ use Rattle.std.proofs.lemmas.List.{length-set}
 use Rattle.snoop_bus.specs.Traffic.{Traffic, Waiting, waiting_of}
 use Rattle.snoop_machine.specs.PartsView.{Fields, fields, shown_spares, IsSound}
 use Rattle.snoop_model.specs.Pictures.Lines.{Line}
-use Rattle.snoop_model.specs.Moves.Standing.{Standing}
-use Rattle.snoop_model.specs.Moves.Prepared.{places}
+use Rattle.snoop_machine.specs.Standing.{Standing}
+use Rattle.snoop_machine.specs.Prepared.{places}
 use Rattle.snoop_machine.specs.Lines.{KeepsSpares}
 use Rattle.snoop_machine.proofs.Room.{held_in, held_in-set, keeps_room, shown-same, places-map, places-queue}
 use Rattle.snoop_machine.proofs.QueueViews.{queues_of-room, same_traffic, IsSound-room}

@@ -16,7 +16,7 @@ use Rattle.snoop_history.specs.declared.items.Item.TheVariants as item
 use Rattle.snoop_bus.specs.Traffic.{Traffic}
 use Rattle.snoop_model.specs.Pictures.Lines.{Line, MemLine}
 use Rattle.snoop_model.specs.Pictures.Picture.{Picture, held_by}
-use Rattle.snoop_model.specs.Moves.Standing.{Standing}
+use Rattle.snoop_machine.specs.Standing.{Standing}
 use Rattle.snoop_model.specs.Pictures.Situation.{Situation, picture_of, with_picture}
 use Rattle.snoop_model.specs.Pictures.Proper.{IsProper, keeps, request_for, missed_request}
 use Rattle.snoop_machine.specs.PartsView.{Fields, fields, standing, pictures_of, queues_of, no_memory, IsSound}

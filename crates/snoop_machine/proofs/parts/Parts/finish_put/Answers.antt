@@ -11,7 +11,7 @@ use Rattle.snoop_history.specs.declared.items.Came.{Came}
 use Rattle.snoop_history.specs.declared.items.Item.TheVariants as item
 use Rattle.snoop_bus.specs.Traffic.{Traffic}
 use Rattle.snoop_model.specs.Pictures.Picture.{Picture}
-use Rattle.snoop_model.specs.Moves.Standing.{Standing}
+use Rattle.snoop_machine.specs.Standing.{Standing}
 use Rattle.snoop_model.specs.Pictures.Situation.{Situation, picture_of, with_picture}
 use Rattle.snoop_machine.specs.PartsView.{Fields, fields, standing, pictures_of, queues_of, no_memory, IsSound}
 use Rattle.snoop_machine.specs.Lines.{row_of}

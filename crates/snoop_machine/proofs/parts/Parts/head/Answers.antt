@@ -3,7 +3,7 @@ use Rattle.std.specs.Prelude.{IfSome, IfNone, slice_get}
 use Rattle.snoop_bus.specs.Queues.{queue_of}
 use Rattle.snoop_rules.specs.declared.names.Request.{Request}
 use Rattle.snoop_bus.specs.Traffic.{head_of}
-use Rattle.snoop_model.specs.Moves.Standing.{Standing}
+use Rattle.snoop_machine.specs.Standing.{Standing}
 use Rattle.snoop_model.specs.Moves.Refuses.{WaitsOnNone}
 use Rattle.snoop_model.specs.Pictures.Situation.{IsHead}
 use Rattle.snoop_rules.specs.Waits.{waiting_request}

@@ -11,7 +11,7 @@ use Rattle.snoop_model.specs.Pictures.Lines.{Line}
 use Rattle.snoop_model.specs.Pictures.Picture.{Picture, held_by, with_line, nothing_held}
 use Rattle.snoop_model.specs.Pictures.Situation.{Situation, picture_of, with_picture, nothing_there}
 use Rattle.snoop_model.specs.Moves.Move.{next_did}
-use Rattle.snoop_model.specs.Moves.Standing.{Standing}
+use Rattle.snoop_machine.specs.Standing.{Standing}
 use Rattle.snoop_machine.specs.Cache.{changed}
 use Rattle.snoop_machine.specs.Following.{LosesLines}
 use Rattle.snoop_machine.specs.PartsView.{fields, standing}

@@ -1,5 +1,5 @@
 use Rattle.std.proofs.Common.{◌∙◌, subst, ◌≡◌, true}
-use Rattle.snoop_model.specs.Moves.Standing.{Standing, has_line}
+use Rattle.snoop_machine.specs.Standing.{Standing, has_line}
 use Rattle.snoop_machine.specs.PartsView.{fields}
 use Rattle.snoop_machine.proofs.PictureViews.{state_seen}
 use Rattle.snoop_machine.proofs.parts.Parts.lines.Goals as goal

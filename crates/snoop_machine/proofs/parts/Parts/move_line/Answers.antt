@@ -3,7 +3,7 @@ use Rattle.snoop_rules.specs.Waits.{waiting_request}
 use Rattle.snoop_model.specs.Pictures.Lines.{Line}
 use Rattle.snoop_model.specs.Pictures.Picture.{Picture, held_by, with_line}
 use Rattle.snoop_model.specs.Pictures.Situation.{Situation, picture_of, with_picture}
-use Rattle.snoop_model.specs.Moves.Standing.{Standing}
+use Rattle.snoop_machine.specs.Standing.{Standing}
 use Rattle.snoop_machine.specs.PartsView.{Fields, fields, standing, IsSound}
 use Rattle.snoop_machine.proofs.PictureViews.{seen, state_seen, line-written, core_in, block_in, sized_on}
 use Rattle.snoop_machine.proofs.LineWrites.{IsSound-line}

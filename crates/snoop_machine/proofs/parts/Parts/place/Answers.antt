@@ -1,6 +1,6 @@
 use Rattle.std.proofs.Common.{◌≡◌, subst, ◌∙◌}
 use Rattle.snoop_bus.specs.Queues.{place_in, queue_of}
-use Rattle.snoop_model.specs.Moves.Standing.{Standing}
+use Rattle.snoop_machine.specs.Standing.{Standing}
 use Rattle.snoop_machine.proofs.QueueHeads.{place_shown}
 use Rattle.snoop_machine.proofs.parts.Parts.place.Goals as goal
 

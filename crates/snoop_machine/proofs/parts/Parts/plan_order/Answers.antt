@@ -6,7 +6,7 @@ use Rattle.snoop_rules.specs.Waits.{waiting_request}
 use Rattle.std.specs.Borrow.{Bor}
 use Rattle.snoop_bus.specs.Traffic.{Open}
 use Rattle.snoop_model.specs.Pictures.Picture.{Picture, free_picture, held_by}
-use Rattle.snoop_model.specs.Moves.Standing.{Standing}
+use Rattle.snoop_machine.specs.Standing.{Standing}
 use Rattle.snoop_model.specs.Pictures.Situation.{picture_of, state_of}
 use Rattle.snoop_model.specs.Moves.LookUps.{HasRow}
 use Rattle.snoop_model.specs.Moves.SenderTable.{FollowsSenderTable}

@@ -9,7 +9,7 @@ use Rattle.snoop_trace.specs.declared.step.Step.TheVariants.{Respond}
 use Rattle.snoop_rules.specs.declared.names.Request.TheVariants.{PutM}
 use Rattle.snoop_rules.specs.Takers.{arrival, arrival_at_memory, takes_payload}
 use Rattle.snoop_model.specs.Pictures.Lines.{Line}
-use Rattle.snoop_model.specs.Moves.Standing.{Standing}
+use Rattle.snoop_machine.specs.Standing.{Standing}
 use Rattle.snoop_model.specs.Pictures.Situation.{picture_of}
 use Rattle.snoop_model.specs.Pictures.Picture.{held_by}
 use Rattle.snoop_model.specs.Moves.LookUps.{HasRow, HasMemRow}

@@ -15,7 +15,7 @@ use Rattle.snoop_bus.specs.Traffic.{Traffic, Waiting, waiting_of, head_of, trans
 use Rattle.snoop_bus.specs.Queues.{after_order}
 use Rattle.snoop_model.specs.Pictures.Lines.{MemLine}
 use Rattle.snoop_model.specs.Pictures.Picture.{Picture, held_by}
-use Rattle.snoop_model.specs.Moves.Standing.{Standing}
+use Rattle.snoop_machine.specs.Standing.{Standing}
 use Rattle.snoop_model.specs.Pictures.Situation.{Situation, picture_of, with_picture, Waits, StandsFirst}
 use Rattle.snoop_machine.specs.PartsView.{Fields, fields, standing, pictures_of, queues_of, no_memory, IsSound}
 use Rattle.snoop_machine.specs.Lines.{row_of}

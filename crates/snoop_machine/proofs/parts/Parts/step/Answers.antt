@@ -4,7 +4,7 @@ use Rattle.snoop_trace.specs.declared.step.Step.{Step}
 use Rattle.snoop_model.specs.Pictures.Situation.{Situation}
 use Rattle.snoop_model.specs.Moves.Move.{FirstMove}
 use Rattle.snoop_machine.specs.Plan.{step_of, entry_of}
-use Rattle.snoop_model.proofs.Runs.Prepared.{prepared-log}
+use Rattle.snoop_machine.proofs.StepKeeps.{prepared-log}
 use Rattle.snoop_machine.proofs.Plans.{RefusedFor-memory, IsFull-plan}
 use Rattle.snoop_machine.proofs.Holding.{HoldsOn-taken, KeepsRoom-taken}
 use Rattle.snoop_machine.proofs.parts.Parts.step.Goals as goal

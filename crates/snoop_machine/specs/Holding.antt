@@ -8,7 +8,7 @@ use Rattle.snoop_trace.specs.declared.step.Step.TheVariants.{Ask, Order, Respond
 use Rattle.snoop_rules.specs.declared.names.CacheState.TheVariants.{I}
 use Rattle.snoop_model.specs.Pictures.Situation.{Situation, state_of}
 use Rattle.snoop_model.specs.Moves.Move.{IsWithin}
-use Rattle.snoop_model.specs.Moves.Standing.{Standing, line_count, has_line}
+use Rattle.snoop_machine.specs.Standing.{Standing, line_count, has_line}
 
 -- the step is an Ask of the core that leaves I, a load or a store of a block that the core does not hold, and its map has no line for the block yet
 abbrev pub NeedsLine : Standing → Step → ℕ → Type 0

@@ -11,7 +11,7 @@ use Rattle.snoop_rules.specs.Takers.{asked}
 use Rattle.snoop_history.specs.declared.items.Item.{Item}
 use Rattle.snoop_model.specs.declared.replies.Reply.{Reply}
 use Rattle.snoop_model.specs.declared.replies.Refused.{Refused}
-use Rattle.snoop_model.specs.Moves.Standing.{Standing, has_line}
+use Rattle.snoop_machine.specs.Standing.{Standing, has_line}
 use Rattle.snoop_model.specs.Pictures.Situation.{Situation, state_of}
 use Rattle.snoop_model.specs.Moves.Move.{FirstMove}
 use Rattle.snoop_model.specs.Moves.Refuses.{Refuses}

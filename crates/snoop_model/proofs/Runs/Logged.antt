@@ -1,4 +1,4 @@
--- A prepared step adds the item that was reported.
+-- A move adds its item to the log.
 use Rattle.std.proofs.Common.{◌≡◌, ◌++◌, Option, sym, ◌∙◌, ap, inl, inr}
 use Rattle.std.specs.Prelude.{option_to_list}
 use Rattle.std.proofs.lemmas.List.{append-nil}
@@ -6,12 +6,9 @@ use Rattle.snoop_trace.specs.declared.step.Step.{Step}
 use Rattle.snoop_trace.specs.declared.step.Step.TheVariants.{Ask, Order, Respond}
 use Rattle.snoop_history.specs.declared.items.Item.{Item}
 use Rattle.snoop_model.specs.declared.replies.Reply.{Reply}
-use Rattle.snoop_model.specs.Moves.Standing.{Standing}
 use Rattle.snoop_model.specs.Pictures.Situation.{Situation}
 use Rattle.snoop_model.specs.Moves.Move.{FirstMove}
-use Rattle.snoop_model.specs.Moves.Prepared.{IsPrepared}
 
--- a move adds its item to the log
 pub move-log : (old new : Situation) (step : Step) (answer : Reply) (added : Option Item) → FirstMove old step answer new added → new.log ≡ old.log ++ option_to_list added
 move-log old new (Ask core block word asking) answer added m = elim m.1.1.moves [
   | inl absent ↦ ap (λ (s : Situation). s.log) absent.3 ∙ (sym (append-nil old.log) ∙ ap (λ (e : Option Item). old.log ++ option_to_list e) (sym absent.4))
@@ -21,9 +18,3 @@ move-log old new (Order core) answer added m =
     ap (λ (s : Situation). s.log) m.1.1.orders.after ∙ ap (λ (e : Option Item). old.log ++ option_to_list e) (sym m.1.1.logged)
 move-log old new (Respond block) answer added m =
     ap (λ (s : Situation). s.log) m.1.1.responds.after ∙ ap (λ (e : Option Item). old.log ++ option_to_list e) (sym m.1.1.logged)
-
--- a prepared step, taken, adds the item that was reported
-pub prepared-log : (before : Standing) (new : Situation) (step : Step) (answer : Reply) (added entry : Option Item)
-    → IsPrepared before step entry → FirstMove before.situation step answer new added → new.log ≡ before.situation.log ++ option_to_list entry
-prepared-log before new step answer added entry prepared move =
-    move-log before.situation new step answer added move ∙ ap (λ (e : Option Item). before.situation.log ++ option_to_list e) (prepared.adds answer new added move)
