@@ -12,7 +12,7 @@ ghost use Rattle.snoop_machine.specs.Following.{LosesLines};
 ghost use Rattle.snoop_model.specs.Pictures.Picture.{held_by, with_line};
 ghost use Rattle.snoop_model.specs.Pictures.Situation.{picture_of, state_of, with_picture};
 ghost use Rattle.snoop_model.specs.Pictures.Proper.{IsProper};
-ghost use Rattle.snoop_model.specs.Moves.Move.{AskMove, is_load, next_did};
+ghost use Rattle.snoop_model.specs.Moves.Move.{AskMove, is_load, kept_waiting, next_did};
 ghost use Rattle.snoop_machine.specs.declared.cache.LineChange.TheVariants.{Hit, Wait};
 ghost use Rattle.snoop_machine.specs.Cache.{changed, IsOfWords};
 ghost use Rattle.snoop_machine.specs.Asked.{TakesAsk};
@@ -23,7 +23,7 @@ ghost use Rattle.snoop_model.specs.declared.replies.Refused.{Refused};
 ghost use Rattle.snoop_model.specs.declared.replies.Reply.TheVariants as reply;
 
 use super::Parts;
-use crate::ask::{Asked, ask, waiting_for};
+use crate::ask::{Asked, ask};
 use crate::cache::LineChange;
 use crate::plan::Plan;
 use snoop_history::Item;
@@ -152,6 +152,16 @@ impl<B: Block> Parts<B> {
             self.move_line(core, block, next, LineChange::Hit(access));
         }
         self.log.push(Item::Did(did));
+    }
+}
+
+/// The load or store that waits once its request is issued.
+fn waiting_for(word: u32, op: Op) -> Option<Access>
+    ensures { result ≡ kept_waiting word op }
+{
+    match op {
+        Op::Load | Op::Store(_) => Some(Access { word, op }),
+        Op::Evict => None,
     }
 }
 

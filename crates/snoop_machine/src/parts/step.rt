@@ -107,30 +107,22 @@ impl<B: Block> Parts<B> {
     {
         match plan {
             Plan::Ask {
+                asked: Asked::Absent | Asked::Drop(_),
+                ..
+            } => Ok(()),
+            Plan::Ask {
                 core,
                 block,
-                asked,
+                asked: Asked::Issue(..),
                 ..
-            } => self.make_room_to_ask(*core, *block, asked),
-            Plan::Order { .. } | Plan::Writeback { .. } | Plan::Fill { .. } => self.reserve_item(),
-        }
-    }
-
-    /// Makes room for what an Ask of the core adds.
-    #[inline(always)]
-    fn make_room_to_ask(&mut self, core: u32, block: u32, asked: &Asked) -> Result<(), NoMemory>
-        requires { core < self.old.situation.shape.cores }
-        ensures ok { OnOk result (HasRoomToAsk self.new core block asked.now) }
-        ensures full { OnErr result (room_for_ask self.old core block asked.now ≡ 0) }
-        ensures refused { OnErr result (self.new ≡ self.old) }
-        ensures room { KeepsRoom self.old self.new }
-        ensures lines { (k : ℕ) → AddsLinesToAsk asked.now core block self.old self.new k }
-        ensures unchanged { self.new.situation ≡ self.old.situation }
-    {
-        match asked {
-            Asked::Hit(..) => self.reserve_item(),
-            Asked::Issue(..) => self.make_room_to_issue(core, block),
-            Asked::Absent | Asked::Drop(_) => Ok(()),
+            } => self.make_room_to_issue(*core, *block),
+            Plan::Ask {
+                asked: Asked::Hit(..),
+                ..
+            }
+            | Plan::Order { .. }
+            | Plan::Writeback { .. }
+            | Plan::Fill { .. } => self.reserve_item(),
         }
     }
 
