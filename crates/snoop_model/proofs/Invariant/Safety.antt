@@ -24,7 +24,9 @@ use Rattle.snoop_model.proofs.Invariant.TableLines.{order_is_line, open_is_by_ta
 use Rattle.snoop_model.proofs.Invariant.OpenLines.{reset_on_lines, move_on_lines}
 use Rattle.snoop_model.proofs.Invariant.Coherence.{has_one_writer, kept_read, readers_current, data_current, memory_current, names_its_block, finds_rows, place}
 use Rattle.snoop_model.proofs.Invariant.Runs.{reset_invariant, nothing_proper}
-use Rattle.snoop_model.proofs.Runs.GoOn.{order_made, moves_on, heads_of_queues}
+use Rattle.snoop_model.proofs.Runs.GoOn.{moves_on}
+use Rattle.snoop_model.proofs.Steps.GoesNext.{order_made}
+use Rattle.snoop_model.proofs.Steps.Heads.{heads_of_queues}
 use Rattle.snoop_model.proofs.Queues.Runs.{reset_queued, move_queued}
 use Rattle.snoop_model.proofs.Queues.Moves.{starts_well, keeps_well}
 use Rattle.snoop_model.proofs.Invariant.Steps.{first_keeps}
@@ -58,7 +60,7 @@ is_coherent s g on_lines queued = record {
   memory = memory_current s g;
   opened = names_its_block s g;
   moves = moves_on s g (heads_of_queues s queued);
-  orders = order_made s g;
+  orders = λ core block q ready. (_, order_made s g core block q ready);
   by_table = order_is_line s g;
   on_table = open_is_by_table s g on_lines;
   kept = kept_read s g;
