@@ -1,5 +1,4 @@
 -- What a step comes to, as a function: each step of a run goes as it is computed, and in no other way.
 pub mod Next
-pub mod Heads
 pub mod IsNext
 pub mod GoesNext

@@ -8,7 +8,6 @@ use Rattle.snoop_model.specs.Runs.Run.{FirstRunFrom}
 use Rattle.snoop_model.proofs.Invariant.Runs.{reset_invariant}
 use Rattle.snoop_model.proofs.Queues.Moves.{starts_well, keeps_well}
 use Rattle.snoop_model.proofs.Runs.GoOn.{IsSteady, steady_on}
-use Rattle.snoop_model.proofs.Steps.Heads.{heads_kept}
 use Rattle.snoop_model.proofs.Steps.Next.{next_of}
 use Rattle.snoop_model.proofs.Steps.GoesNext.{goes_next}
 use Rattle.snoop_scenes.specs.Scene.{Frame, steps_of, outcomes_of, controllers, PassesFrom, IsPlayed}
@@ -30,7 +29,7 @@ plays : (old : Situation) → IsSteady old → (steps : List Step) → Plays old
 plays old steady [] = (refl, refl)
 plays old steady (step ∷ steps) =
     let next = next_of old step in
-    let goes = goes_next old steady.0 (heads_kept old steady.1) step in
+    let goes = goes_next old steady.0 steady.1.queued step in
     let rest = plays next.1 (steady_on keeps_well old step next.0 next.1 steady goes) steps in
     ((next.1, (goes, rest.0)), (next.1, (goes, refl, rest.1)))
 

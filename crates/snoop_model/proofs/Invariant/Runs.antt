@@ -20,7 +20,7 @@ use Rattle.snoop_model.specs.Pictures.Picture.{Picture, held_by, nothing_held}
 use Rattle.snoop_model.specs.Pictures.Situation.{Situation, picture_of, reset, untouched, nothing_there}
 use Rattle.snoop_model.specs.Pictures.Sound.{keeps, IsProper}
 use Rattle.snoop_model.specs.Moves.Move.{IsWithin}
-use Rattle.snoop_model.specs.Runs.Run.{Goes, RunFrom}
+use Rattle.snoop_model.specs.Runs.Run.{Goes}
 use Rattle.snoop_model.specs.Invariant.Fits.{claims_of, is_owner, is_sharer, is_clean, wait_fits, in_protocol, same, fits}
 use Rattle.snoop_model.specs.Invariant.Block.{BlockInvariant}
 use Rattle.snoop_model.specs.Invariant.Invariant.{Invariant}
@@ -118,8 +118,3 @@ refusal_same old step cause new r = r.1
 pub goes_keeps : (old : Situation) (step : Step) (outcome : Result Reply Refused) (new : Situation) → Invariant old → Goes old step outcome new → Invariant new
 goes_keeps old step (Ok answer) new g m = move_keeps m.1.0 old step answer new m.0 g m.1.1
 goes_keeps old step (Err cause) new g r = subst Invariant (sym (refusal_same old step cause new r)) g
-
-pub run_keeps : (steps : List Step) (outcomes : List (Result Reply Refused)) (old new : Situation) → Invariant old → RunFrom old steps outcomes new → Invariant new
-run_keeps [] [] old new g r = subst Invariant (sym r) g
-run_keeps (step ∷ steps) (outcome ∷ outcomes) old new g r = run_keeps steps outcomes r.0 new (goes_keeps old step outcome r.0 g r.1.0) r.1.1
-run_keeps _ _ old new g r = absurd r

@@ -14,12 +14,12 @@ use Rattle.snoop_model.specs.Turns.TurnRule.{KeepsWell}
 use Rattle.snoop_model.specs.Invariant.Invariant.{Invariant}
 use Rattle.snoop_model.proofs.Invariant.Steps.{first_keeps}
 use Rattle.snoop_model.proofs.Steps.Next.{next_of}
-use Rattle.snoop_model.proofs.Steps.Heads.{HeadsWait, heads_kept}
+use Rattle.snoop_model.proofs.Queues.Waiting.{AreQueued}
 use Rattle.snoop_model.proofs.Steps.GoesNext.{goes_next}
 
 -- a step that is not refused is a move, an Order's on the first block of its core's queue
-pub moves_on : (s : Situation) → Invariant s → HeadsWait s → (step : Step) → ((cause : Refused) → ¬ Refuses s step cause) → (answer : Reply) × ((new : Situation) × ((entry : Option Item) × FirstMove s step answer new entry))
-moves_on s g heads step allowed = go (next_of s step).0 (next_of s step).1 (goes_next s g heads step)
+pub moves_on : (s : Situation) → Invariant s → AreQueued s → (step : Step) → ((cause : Refused) → ¬ Refuses s step cause) → (answer : Reply) × ((new : Situation) × ((entry : Option Item) × FirstMove s step answer new entry))
+moves_on s g queued step allowed = go (next_of s step).0 (next_of s step).1 (goes_next s g queued step)
   where
     go : (outcome : Result Reply Refused) (new : Situation) → GoesFirst s step outcome new → (answer : Reply) × ((new : Situation) × ((entry : Option Item) × FirstMove s step answer new entry))
     go (Ok answer) new goes = (answer, (new, goes))
@@ -46,6 +46,6 @@ pub runs_on : KeepsWell → (steps : List Step) (s : Situation) → IsSteady s �
 runs_on keeps [] s steady = ([], (s, refl))
 runs_on keeps (step ∷ steps) s steady =
     let next = next_of s step in
-    let goes = goes_next s steady.0 (heads_kept s steady.1) step in
+    let goes = goes_next s steady.0 steady.1.queued step in
     let rest = runs_on keeps steps next.1 (steady_on keeps s step next.0 next.1 steady goes) in
     (next.0 ∷ rest.0, (rest.1.0, (next.1, (goes, rest.1.1))))

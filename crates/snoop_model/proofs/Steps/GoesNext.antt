@@ -51,7 +51,7 @@ use Rattle.snoop_model.proofs.Invariant.Coherence.{orders_follow_sender_table, f
 use Rattle.snoop_model.proofs.OneBlock.Facts.{implied}
 use Rattle.snoop_model.proofs.OneBlock.Possible.{ask_possible, respond_possible}
 use Rattle.snoop_model.proofs.Steps.Next.{value_of, words_after, has_word, after_ask, by_row, next_asked, line_after, next_ordered, settled, filled, brought, next_closed, next_first, next_of}
-use Rattle.snoop_model.proofs.Steps.Heads.{HeadsWait}
+use Rattle.snoop_model.proofs.Queues.Waiting.{AreQueued, first_waits, none_waits}
 use Rattle.snoop_model.proofs.Steps.IsNext.{word_decides, sends_is, sender_is}
 
 -- what the actions of an Ask are: a hit is of a load or a store, in a state that keeps a value
@@ -175,8 +175,8 @@ module _ (s : Situation) (g : Invariant s) where
         after = refl;
       }
 
-  order_goes : HeadsWait s → (core : ℕ) → GoesNext s (Order core)
-  order_goes heads core = elim (cases_lt core s.shape.cores) as (λ _. GoesNext s (Order core)) [
+  order_goes : AreQueued s → (core : ℕ) → GoesNext s (Order core)
+  order_goes queued core = elim (cases_lt core s.shape.cores) as (λ _. GoesNext s (Order core)) [
     | inr past ↦ rw (le-ltb core s.shape.cores past) (past, refl)
     | inl in_cores ↦ rw (lt-ltb core s.shape.cores in_cores) (first in_cores (slice_get (queue_of s.queues core) 0) refl)
   ]
@@ -184,12 +184,12 @@ module _ (s : Situation) (g : Invariant s) where
       free_or_not : (block : ℕ) → StandsFirst s core block → core < s.shape.cores → (found : Option Open) → (picture_of s block).transaction ≡ found → (let n = next_first s core (Some block) in GoesFirst s (Order core) n.0 n.1)
       free_or_not block is in_cores (Some o) busy = rw busy ((in_cores, is, rw busy refl), refl)
       free_or_not block is in_cores None free =
-          let waits = heads.first core block is in
+          let waits = first_waits s queued core block is in
           let within = waits_within s g core block waits.0 waits.1 in
           rw (free, waits.1) (Some _, (block, (is, record { request = waits.0; within = within; answered = refl; logged = refl; orders = order_made core block waits.0 (waits.1, free) })))
 
       first : core < s.shape.cores → (found : Option ℕ) → slice_get (queue_of s.queues core) 0 ≡ found → (let n = next_first s core found in GoesFirst s (Order core) n.0 n.1)
-      first in_cores None none = ((in_cores, heads.none core none), refl)
+      first in_cores None none = ((in_cores, none_waits s queued core none), refl)
       first in_cores (Some block) is = free_or_not block is in_cores (picture_of s block).transaction refl
 
 -- the event is the arrival of data at its requestor
@@ -295,7 +295,7 @@ module _ (s : Situation) (g : Invariant s) where
   ]
 
   -- each step goes as it is computed
-  pub goes_next : HeadsWait s → (step : Step) → GoesNext s step
-  goes_next heads (Ask core block word asking) = ask_goes s g core block word asking
-  goes_next heads (Order core) = order_goes s g heads core
-  goes_next heads (Respond block) = respond_goes block
+  pub goes_next : AreQueued s → (step : Step) → GoesNext s step
+  goes_next queued (Ask core block word asking) = ask_goes s g core block word asking
+  goes_next queued (Order core) = order_goes s g queued core
+  goes_next queued (Respond block) = respond_goes block

@@ -43,7 +43,7 @@ use Rattle.snoop_model.proofs.Tables.SentBy.{sent_by, sent_by_memory, sends_row}
 use Rattle.snoop_model.proofs.Tables.RespondTests.{SettlesIf}
 use Rattle.snoop_model.proofs.OneBlock.OfBlocks.{same_picture, same_memory}
 use Rattle.snoop_model.proofs.Steps.Next.{Next, value_of, words_after, has_word, after_ask, by_row, next_asked, payload_from, sender_below, line_after, next_picture, next_ordered, settled, filled, brought, next_closed, next_of}
-use Rattle.snoop_model.proofs.Steps.Heads.{HeadsWait}
+use Rattle.snoop_model.proofs.Queues.Waiting.{AreQueued, first_waits}
 
 -- an operation does one thing
 pub performs_is : (word : ℕ) (asking : Op) (before : List ℕ) (value : ℕ) (after : List ℕ) → Performs word asking before value after → (value ≡ value_of word asking before) × (after ≡ words_after word asking before)
@@ -152,10 +152,10 @@ move_is s (Respond on) answer new entry m =
     rw (m.1.1.on_block, m.1.1.answered, lt-ltb m.0 s.shape.blocks m.1.1.within, m.1.1.responds.opened) (closed_is s m.0 m.1.1.closing m.1.1.did new m.1.1.responds)
 
 -- and so does a refusal
-module _ (s : Situation) (heads : HeadsWait s) where
+module _ (s : Situation) (queued : AreQueued s) where
   none_first : (core : ℕ) → WaitsOnNone s core → (found : Option ℕ) → slice_get (queue_of s.queues core) 0 ≡ found → found ≡ None
   none_first core none None is = refl
-  none_first core none (Some block) is = let waits = heads.first core block is in absurd (none block waits.0 waits.1)
+  none_first core none (Some block) is = let waits = first_waits s queued core block is in absurd (none block waits.0 waits.1)
 
   refused_is : (step : Step) (cause : Refused) → Refuses s step cause → ◌≡◌ {A = Next} (Err cause, s) (next_of s step)
   refused_is (Ask core block word asking) cause h = ask_refused s core block word asking cause h
