@@ -37,7 +37,7 @@ steps_stay steps outcomes old new =
 -- a step keeps what every machine keeps
 pub step_keeps : (old new : Standing) (step : Step) (result : Result Reply Refused) → MachineKeeps old.situation → IfOk result (λ reply. (entry : Option Item) × FirstMove old.situation step reply new.situation entry)
     → IfErr result (λ cause. RefusedFor old.situation step cause × (new ≡ old)) → MachineKeeps new.situation
-step_keeps old new step (Ok reply) keeps taken refused = move_keeps_all old.situation new.situation step reply taken.0 keeps taken.1
+step_keeps old new step (Ok reply) keeps taken refused = move_keeps_all taken.1.0 old.situation new.situation step reply taken.0 keeps taken.1.1.1
 step_keeps old new step (Err cause) keeps taken refused =
     let P : Standing → Type 0 = λ s. MachineKeeps s.situation in
     subst P (sym refused.1) keeps

@@ -1,5 +1,6 @@
--- The queues of the cores.
-pub mod Runs
+-- What every run keeps of the queues, and of the lines that wait.
+pub mod Waiting
+pub mod Changed
 pub mod Asks
 pub mod Orders
 pub mod Responds

@@ -1,6 +1,4 @@
--- Each way in which a step is taken or refused, with where it leads.
-pub mod Played
-pub mod Refusals
-pub mod Asks
-pub mod Orders
-pub mod Responds
+-- What a step comes to, as a function: each step of a run goes as it is computed, and in no other way.
+pub mod Next
+pub mod IsNext
+pub mod GoesNext

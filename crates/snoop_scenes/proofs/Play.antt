@@ -1,41 +1,44 @@
--- Steps played one after another.
-use Rattle.std.proofs.Common.{◌≡◌, List, [], ◌∷◌, Option, Some, refl, subst}
+-- What the steps of some frames come to, computed one after another.
+use Rattle.std.proofs.Common.{◌≡◌, List, [], ◌∷◌, None, refl, subst}
 use Rattle.snoop_trace.specs.Extent.{Extent}
 use Rattle.snoop_trace.specs.declared.step.Step.{Step}
 use Rattle.snoop_trace.specs.declared.protocol.Protocol.{Protocol}
 use Rattle.snoop_model.specs.Pictures.Situation.{Situation, reset}
 use Rattle.snoop_model.specs.Runs.Run.{FirstRunFrom}
+use Rattle.snoop_model.proofs.Invariant.Runs.{reset_invariant}
+use Rattle.snoop_model.proofs.Queues.Moves.{starts_well, keeps_well}
+use Rattle.snoop_model.proofs.Runs.GoOn.{IsSteady, steady_on}
+use Rattle.snoop_model.proofs.Steps.Next.{next_of}
+use Rattle.snoop_model.proofs.Steps.GoesNext.{goes_next}
 use Rattle.snoop_scenes.specs.Scene.{Frame, steps_of, outcomes_of, controllers, PassesFrom, IsPlayed}
-use Rattle.snoop_scenes.proofs.Deciding.{if_some, IsFound, the}
-use Rattle.snoop_scenes.proofs.Playing.{played}
 
 -- the frames of the steps, and where they lead
-pub record Play (old : Situation) (steps : List Step) : Type 0 where
-  pub frames : List Frame
-  pub new : Situation
-  pub runs : FirstRunFrom old steps (outcomes_of frames) new
-  pub passes : PassesFrom old frames new
+abbrev pub frames_from : Situation → List Step → List Frame
+frames_from old [] = []
+frames_from old (step ∷ steps) = let next = next_of old step in ((step, next.0), controllers next.1.pictures) ∷ frames_from next.1 steps
 
-abbrev pub play : (old : Situation) (steps : List Step) → Option (Play old steps)
-play old [] = Some (record { frames = []; new = old; runs = refl; passes = refl })
-play old (step ∷ steps) =
-    if_some (played old step) λ now is.
-    if_some (play now.new steps) λ rest is.
-    Some (record {
-      frames = ((step, now.outcome), controllers now.new.pictures) ∷ rest.frames;
-      new = rest.new;
-      runs = (now.new, (now.goes, rest.runs));
-      passes = (now.new, (now.goes, refl, rest.passes));
-    })
+abbrev pub end_from : Situation → List Step → Situation
+end_from old [] = old
+end_from old (step ∷ steps) = end_from (next_of old step).1 steps
 
--- the frames that the steps of these frames play, and where they lead
-pub told : (protocol : Protocol) (shape : Extent) (frames : List Frame) (end : Situation) (found : IsFound (play (reset protocol shape) (steps_of frames)))
-    → (the (play (reset protocol shape) (steps_of frames)) found).frames ≡ frames
-    → (the (play (reset protocol shape) (steps_of frames)) found).new ≡ end
-    → IsPlayed protocol shape frames end
-told protocol shape frames end found same leads =
+-- the steps have this run, which passes through these frames
+abbrev Plays : Situation → List Step → List Frame → Situation → Type 0
+Plays old steps frames end = FirstRunFrom old steps (outcomes_of frames) end × PassesFrom old frames end
+
+plays : (old : Situation) → IsSteady old → (steps : List Step) → Plays old steps (frames_from old steps) (end_from old steps)
+plays old steady [] = (refl, refl)
+plays old steady (step ∷ steps) =
+    let next = next_of old step in
+    let goes = goes_next old steady.0 steady.1.queued step in
+    let rest = plays next.1 (steady_on keeps_well old step next.0 next.1 steady goes) steps in
+    ((next.1, (goes, rest.0)), (next.1, (goes, refl, rest.1)))
+
+-- the steps of these frames come to these frames, and to this end
+pub told : (protocol : Protocol) (shape : Extent) (frames : List Frame) (end : Situation)
+    → frames_from (reset protocol shape) (steps_of frames) ≡ frames → end_from (reset protocol shape) (steps_of frames) ≡ end → IsPlayed protocol shape frames end
+told protocol shape frames end same leads =
+    let first : Situation = reset protocol shape in
     let steps : List Step = steps_of frames in
-    let played = the (play (reset protocol shape) (steps_of frames)) found in
-    let Q : List Frame → Situation → Type 0 = λ es s. FirstRunFrom (reset protocol shape) steps (outcomes_of es) s × PassesFrom (reset protocol shape) es s in
-    let here : Q frames end = subst (λ (s : Situation). Q frames s) leads (subst (λ (es : List Frame). Q es played.new) same (played.runs, played.passes)) in
+    let played = plays first (reset_invariant protocol shape, (starts_well protocol shape (λ core. None)).0) steps in
+    let here = subst (λ s. Plays first steps frames s) leads (subst (λ es. Plays first steps es (end_from first steps)) same played) in
     record { run = here.0; states = here.1 }

@@ -1,6 +1,6 @@
 -- Each open transaction is on a line of the table of senders, after each step of a run.
-use Rattle.std.proofs.Common.{◌≡◌, ℕ, ◌<◌, List, [], Option, inl, inr, ap, sym, subst, refl, ◌++◌}
-use Rattle.std.specs.Prelude.{IfSome, Result, Ok, Err, option_to_list}
+use Rattle.std.proofs.Common.{◌≡◌, ℕ, ◌<◌, [], Option, inl, inr, ap, sym, subst, refl, ◌++◌}
+use Rattle.std.specs.Prelude.{IfSome, option_to_list}
 use Rattle.std.proofs.lemmas.Bool.Decides.{eqb_tells}
 use Rattle.snoop_trace.specs.Extent.{Extent}
 use Rattle.snoop_trace.specs.declared.step.Step.{Step}
@@ -11,19 +11,16 @@ use Rattle.snoop_history.specs.declared.items.Did.{Did}
 use Rattle.snoop_history.specs.declared.items.Item.{Item}
 use Rattle.snoop_bus.specs.Traffic.{Open}
 use Rattle.snoop_model.specs.declared.replies.Reply.{Reply}
-use Rattle.snoop_model.specs.declared.replies.Refused.{Refused}
 use Rattle.snoop_model.specs.Pictures.Picture.{Picture, with_line}
 use Rattle.snoop_model.specs.Pictures.Situation.{Situation, picture_of, reset}
 use Rattle.snoop_model.specs.Moves.Move.{Orders, Responds, IsWithin, MoveOn, queues_after}
 use Rattle.snoop_model.specs.Moves.SenderTable.{IsSenderLine}
-use Rattle.snoop_model.specs.Runs.Run.{Goes, RunFrom}
 use Rattle.snoop_model.specs.Invariant.Invariant.{Invariant}
 use Rattle.snoop_model.specs.Invariant.MachineKeeps.{AreOnSenderLines}
 use Rattle.snoop_model.proofs.OneBlock.AfterMoves.{order_here, order_other_block, respond_other_block}
 use Rattle.snoop_model.proofs.OneBlock.OfBlocks.{same_everywhere}
-use Rattle.snoop_model.proofs.Invariant.Runs.{goes_keeps, refusal_same, reset_open}
+use Rattle.snoop_model.proofs.Invariant.Runs.{reset_open}
 use Rattle.snoop_model.proofs.Invariant.TableLines.{order_is_line, respond_settles}
-use Rattle.snoop_model.proofs.Runs.Along.{kept_along}
 
 abbrev OnLine : Protocol → Picture → Type 0
 OnLine p picture = IfSome picture.transaction (λ o. (before : Picture) × IsSenderLine p before o.core o.request o.from o.payload picture.memory.state)
@@ -59,15 +56,6 @@ move_on_lines block old (Ask core on word asking) answer new entry g lines m = e
 ]
 move_on_lines block old (Order core) answer new entry g lines m = order_on_lines old core block m.request new g lines m.within m.orders
 move_on_lines block old (Respond on) answer new entry g lines m = respond_on_lines old block m.closing m.did new g lines m.within m.responds
-
-goes_on_lines : (old : Situation) (step : Step) (outcome : Result Reply Refused) (new : Situation) → Invariant old → AreOnSenderLines old → Goes old step outcome new → AreOnSenderLines new
-goes_on_lines old step (Ok answer) new g lines m = move_on_lines m.1.0 old step answer new m.0 g lines m.1.1
-goes_on_lines old step (Err cause) new g lines r = subst AreOnSenderLines (sym (refusal_same old step cause new r)) lines
-
-pub run_on_lines : (steps : List Step) (outcomes : List (Result Reply Refused)) (old new : Situation) → Invariant old → AreOnSenderLines old → RunFrom old steps outcomes new → AreOnSenderLines new
-run_on_lines steps outcomes old new g lines r =
-    let P : Situation → Type 0 = λ s. Invariant s × AreOnSenderLines s in
-    (kept_along Goes P (λ s step outcome t both goes. (goes_keeps s step outcome t both.0 goes, goes_on_lines s step outcome t both.0 both.1 goes)) steps outcomes old new (g, lines) r).1
 
 pub reset_on_lines : (p : Protocol) (shape : Extent) → AreOnSenderLines (reset p shape)
 reset_on_lines p shape block = rw (reset_open p shape block) tt

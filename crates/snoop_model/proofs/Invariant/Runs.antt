@@ -20,14 +20,13 @@ use Rattle.snoop_model.specs.Pictures.Picture.{Picture, held_by, nothing_held}
 use Rattle.snoop_model.specs.Pictures.Situation.{Situation, picture_of, reset, untouched, nothing_there}
 use Rattle.snoop_model.specs.Pictures.Proper.{keeps, IsProper}
 use Rattle.snoop_model.specs.Moves.Move.{IsWithin}
-use Rattle.snoop_model.specs.Runs.Run.{Goes, RunFrom}
+use Rattle.snoop_model.specs.Runs.Run.{Goes}
 use Rattle.snoop_model.specs.Invariant.Fits.{claims_of, is_owner, is_sharer, is_clean, wait_fits, in_protocol, same, fits}
 use Rattle.snoop_model.specs.Invariant.Block.{BlockInvariant}
 use Rattle.snoop_model.specs.Invariant.Invariant.{Invariant}
 use Rattle.snoop_model.specs.Invariant.WellKept.{IsShaped}
 use Rattle.snoop_model.proofs.Lists.Facts.{replicated}
 use Rattle.snoop_model.proofs.Invariant.Moves.{move_keeps}
-use Rattle.snoop_model.proofs.Runs.Along.{kept_along}
 
 pub nothing_proper : IsProper nothing_held
 nothing_proper = record { kept = refl; waiting = refl }
@@ -119,6 +118,3 @@ refusal_same old step cause new r = r.1
 pub goes_keeps : (old : Situation) (step : Step) (outcome : Result Reply Refused) (new : Situation) → Invariant old → Goes old step outcome new → Invariant new
 goes_keeps old step (Ok answer) new g m = move_keeps m.1.0 old step answer new m.0 g m.1.1
 goes_keeps old step (Err cause) new g r = subst Invariant (sym (refusal_same old step cause new r)) g
-
-pub run_keeps : (steps : List Step) (outcomes : List (Result Reply Refused)) (old new : Situation) → Invariant old → RunFrom old steps outcomes new → Invariant new
-run_keeps = kept_along Goes Invariant goes_keeps

@@ -1,6 +1,6 @@
 -- What every machine keeps makes it safe, and its steps keep it.
 use Rattle.std.proofs.Common.{ℕ, List, ◌<◌, ◌≤◌, arith, ap, Option, inl, inr, sym, ◌∙◌, subst, Some, None}
-use Rattle.std.specs.Prelude.{◌≡◌, option_map, IfSome, is_some}
+use Rattle.std.specs.Prelude.{◌≡◌, option_map, Result, Ok, Err, IfSome, is_some}
 use Rattle.std.proofs.lemmas.Option.{same_Some}
 use Rattle.snoop_trace.specs.Extent.{Extent}
 use Rattle.snoop_trace.specs.declared.step.Step.{Step}
@@ -8,25 +8,28 @@ use Rattle.snoop_trace.specs.declared.protocol.Protocol.{Protocol}
 use Rattle.snoop_history.specs.declared.items.Item.{Item}
 use Rattle.snoop_history.specs.History.{flat}
 use Rattle.snoop_model.specs.declared.replies.Reply.{Reply}
+use Rattle.snoop_model.specs.declared.replies.Refused.{Refused}
 use Rattle.snoop_model.specs.Pictures.Picture.{held_by}
 use Rattle.snoop_model.specs.Pictures.Situation.{Situation, picture_of, state_of, reset}
 use Rattle.snoop_model.specs.Pictures.Proper.{IsProper, keeps}
 use Rattle.snoop_model.specs.Pictures.InQueue.{IsInQueue}
 use Rattle.snoop_model.specs.Coherent.{IsCoherent}
-use Rattle.snoop_model.specs.Moves.Move.{FirstMove}
+use Rattle.snoop_model.specs.Moves.Move.{MoveOn}
+use Rattle.snoop_model.specs.Runs.Run.{Goes, RunFrom}
 use Rattle.snoop_model.specs.Invariant.Invariant.{Invariant}
 use Rattle.snoop_model.specs.Invariant.MachineKeeps.{AreOnSenderLines, MachineKeeps}
 use Rattle.snoop_model.specs.Runs.Safe.{IsSafe}
 use Rattle.snoop_model.proofs.Invariant.TableLines.{order_is_line, open_is_by_table}
 use Rattle.snoop_model.proofs.Invariant.OpenLines.{reset_on_lines, move_on_lines}
 use Rattle.snoop_model.proofs.Invariant.Coherence.{has_one_writer, kept_read, readers_current, data_current, memory_current, names_its_block, finds_rows, place}
-use Rattle.snoop_model.proofs.Invariant.Runs.{reset_invariant, nothing_proper}
-use Rattle.snoop_model.proofs.Runs.GoOn.{order_made, moves_on, heads_of_queues}
-use Rattle.snoop_model.proofs.Queues.Runs.{reset_queued, move_queued}
-use Rattle.snoop_model.proofs.Queues.Moves.{starts_well, keeps_well}
-use Rattle.snoop_model.proofs.Invariant.Steps.{first_keeps}
+use Rattle.snoop_model.proofs.Invariant.Runs.{reset_invariant, nothing_proper, refusal_same}
+use Rattle.snoop_model.proofs.Runs.GoOn.{moves_on}
+use Rattle.snoop_model.proofs.Steps.GoesNext.{order_made}
+use Rattle.snoop_model.proofs.Queues.Moves.{on_kept, starts_well}
+use Rattle.snoop_model.proofs.Invariant.Moves.{move_keeps}
 use Rattle.snoop_model.proofs.Invariant.FlatMemory.{word_flat}
 use Rattle.snoop_trace.specs.Words.{word_at}
+use Rattle.snoop_model.proofs.Runs.Along.{kept_along}
 
 -- each line keeps and awaits what its state says
 pub all_proper : (s : Situation) → Invariant s → (core block : ℕ) → IsProper (held_by (picture_of s block) core)
@@ -54,8 +57,8 @@ is_coherent s g on_lines queued = record {
   carried = data_current s g;
   memory = memory_current s g;
   opened = names_its_block s g;
-  moves = moves_on s g (heads_of_queues s queued);
-  orders = order_made s g;
+  moves = moves_on s g queued;
+  orders = λ core block q ready. (_, order_made s g core block q ready);
   by_table = order_is_line s g;
   on_table = open_is_by_table s g on_lines;
   kept = kept_read s g;
@@ -65,7 +68,7 @@ is_coherent s g on_lines queued = record {
 
 pub is_safe : (s : Situation) → MachineKeeps s → IsSafe s
 is_safe s keeps = record {
-  coherent = is_coherent s keeps.inductive keeps.on_lines keeps.queued;
+  coherent = is_coherent s keeps.inductive keeps.on_lines keeps.well_kept.queued;
   finds_rows = finds_rows s keeps.inductive;
   kept_where_readable = λ core block. (all_proper s keeps.inductive core block).kept;
   well_kept = keeps.well_kept;
@@ -75,14 +78,20 @@ pub reset_keeps : (protocol : Protocol) (shape : Extent) → MachineKeeps (reset
 reset_keeps protocol shape = record {
   inductive = reset_invariant protocol shape;
   on_lines = reset_on_lines protocol shape;
-  queued = reset_queued protocol shape;
   well_kept = (starts_well protocol shape (λ core. None)).0;
 }
 
-pub move_keeps_all : (old new : Situation) (step : Step) (answer : Reply) (entry : Option Item) → MachineKeeps old → FirstMove old step answer new entry → MachineKeeps new
-move_keeps_all old new step answer entry keeps move = record {
-  inductive = first_keeps old step answer new entry keeps.inductive move;
-  on_lines = move_on_lines move.0 old step answer new entry keeps.inductive keeps.on_lines move.1.1;
-  queued = move_queued move.0 old step answer new entry keeps.inductive keeps.queued move.1.1;
-  well_kept = keeps_well old new step answer entry keeps.well_kept move;
+pub move_keeps_all : (block : ℕ) (old new : Situation) (step : Step) (answer : Reply) (entry : Option Item) → MachineKeeps old → MoveOn block old step answer new entry → MachineKeeps new
+move_keeps_all block old new step answer entry keeps move = record {
+  inductive = move_keeps block old step answer new entry keeps.inductive move;
+  on_lines = move_on_lines block old step answer new entry keeps.inductive keeps.on_lines move;
+  well_kept = on_kept block old new step answer entry keeps.well_kept move;
 }
+
+goes_keeps_all : (old new : Situation) (step : Step) (outcome : Result Reply Refused) → MachineKeeps old → Goes old step outcome new → MachineKeeps new
+goes_keeps_all old new step (Ok answer) keeps move = move_keeps_all move.1.0 old new step answer move.0 keeps move.1.1
+goes_keeps_all old new step (Err cause) keeps refused = subst MachineKeeps (sym (refusal_same old step cause new refused)) keeps
+
+-- so does a run
+pub run_keeps_all : (steps : List Step) (outcomes : List (Result Reply Refused)) (old new : Situation) → MachineKeeps old → RunFrom old steps outcomes new → MachineKeeps new
+run_keeps_all = kept_along Goes MachineKeeps (λ s step outcome t keeps goes. goes_keeps_all s t step outcome keeps goes)

@@ -18,7 +18,7 @@ use Rattle.snoop_model.specs.Invariant.Invariant.{Invariant}
 use Rattle.snoop_model.specs.Invariant.MachineKeeps.{AreOnSenderLines}
 use Rattle.snoop_model.proofs.Invariant.Coherence.{orders_follow_sender_table}
 use Rattle.snoop_model.proofs.OneBlock.AfterMoves.{respond_here}
-use Rattle.snoop_model.proofs.Runs.AreOne.{memory_one, sends_one}
+use Rattle.snoop_model.proofs.Steps.IsNext.{settled_is, sends_is}
 
 -- an Order is a line of the table
 pub order_is_line : (s : Situation) → Invariant s → (core block : ℕ) (q : Request) (new : Situation) (made : Orders s core block q new) → IsSenderLine s.protocol (picture_of s block) core q made.from made.payload made.next.memory.state
@@ -27,7 +27,7 @@ order_is_line s g core block q new o =
     let before : Picture = picture_of s block in
     let f = orders_follow_sender_table s g core block q o.ready in
     let from : f.from ≡ o.from = o.sent.alone f.from f.payload f.sent.sends in
-    let payload : f.payload ≡ o.payload = sends_one p before core q o.from f.payload o.payload (subst (λ (x : Option ℕ). Sends p before core q x f.payload) from f.sent.sends) o.sent.sends in
+    let payload : f.payload ≡ o.payload = same_Some _ _ (sym (sends_is p before core q o.from f.payload (subst (λ (x : Option ℕ). Sends p before core q x f.payload) from f.sent.sends)) ∙ sends_is p before core q o.from o.payload o.sent.sends) in
     let memory : f.next ≡ o.next.memory.state = f.ordered.2 ∙ (ap (λ (row : MemCell). row.next) (same_Some _ _ (sym f.ordered.1 ∙ o.memory.1)) ∙ sym o.memory.2) in
     subst (λ (m : MemState). IsSenderLine p before core q o.from o.payload m) memory
     (subst (λ (x : Payload). IsSenderLine p before core q o.from x f.next) payload
@@ -71,5 +71,6 @@ open_is_by_table s g lines block = go (picture_of s block).transaction refl (lin
               let then : MemState = (picture_of new block).memory.state in
               let same : by.closing ≡ o = cc in
               let settles : Settles s.protocol o.request o.payload memory by.settled.act then = subst (λ (x : Open). Settles s.protocol x.request x.payload memory by.settled.act then) same by.settled.settled in
-              (by.closed, (memory_one (takes_payload o.request memory) s.protocol memory (arrival_at_memory o.payload) by.settled.act line.1.act then line.1.done settles line.1.settled).1);
+              let is = settled_is (takes_payload o.request memory) s.protocol (arrival_at_memory o.payload) memory in
+              (by.closed, ap (λ x. x.1) (is by.settled.act then settles ∙ sym (is line.1.act line.1.done line.1.settled)));
         }

@@ -58,7 +58,7 @@ module _ (p : Protocol) (before : Picture) (core : ℕ) (request : Request) wher
       silent None payload below sends = none payload (sending_memory act payload (sym (ap sent_by_memory row) ∙ ap sent_by_memory sends.1))
       silent (Some k) payload below sends = absurd (omega arith)
 
-  sends_below : (other : Option ℕ) (payload : Payload) → Sends p before core request other payload → IsBelow (length before.caches) other
+  pub sends_below : (other : Option ℕ) (payload : Payload) → Sends p before core request other payload → IsBelow (length before.caches) other
   sends_below None payload sends = tt
   sends_below (Some k) payload sends = sends.0
 

@@ -1,10 +1,13 @@
 -- How often a block stands in a queue.
-use Rattle.std.proofs.Common.{◌≡◌, ℕ, ◌+◌, not, cond, eqb, List, [], ◌∷◌, ◌++◌, filter, refl, inl, inr, sym, ◌∙◌, arith}
-use Rattle.std.specs.Prelude.{count_by}
+use Rattle.std.proofs.Common.{◌≡◌, ◌≢◌, ℕ, zero, suc, ◌+◌, ◌<◌, ◌≤◌, not, Bool, true, false, cond, eqb, List, [], ◌∷◌, ◌++◌, length, filter, get_or, refl, inl, inr, ap, sym, ◌∙◌, arith}
+use Rattle.std.specs.Prelude.{count_by, Contains}
+use Rattle.std.proofs.lemmas.Bool.{eq-eqb, ne_eqb}
 use Rattle.std.proofs.lemmas.Bool.Decides.{eqb_tells}
-use Rattle.std.proofs.lemmas.List.Sums.{sum_by-append, sum_by-cons}
-use Rattle.snoop_model.proofs.Lists.Facts.{either_way, one_if}
-use Rattle.snoop_model.proofs.OneBlock.Facts.{not_eqb}
+use Rattle.std.proofs.lemmas.List.{get_or-set_same, get_or-set_other}
+use Rattle.std.proofs.lemmas.List.Sums.{sum_by_push, sum_by-cons}
+use Rattle.snoop_bus.specs.Queues.{queue_of, after_issue, after_order}
+use Rattle.snoop_model.proofs.Lists.Facts.{one_if}
+use Rattle.snoop_model.proofs.Lists.Writes.{set_cases}
 
 abbrev pub times : ℕ → List ℕ → ℕ
 times block queue = count_by (λ b. eqb b block) queue
@@ -12,37 +15,76 @@ times block queue = count_by (λ b. eqb b block) queue
 pub times_cons : (block x : ℕ) (queue : List ℕ) → times block (x ∷ queue) ≡ one_if (eqb x block) + times block queue
 times_cons block x queue = sum_by-cons (λ b. cond (eqb b block) 1 0) x queue
 
-pub times_push : (block x : ℕ) (queue : List ℕ) → times block (queue ++ x ∷ []) ≡ times block queue + one_if (eqb x block)
-times_push block x queue =
-    let e = sum_by-append (λ b. cond (eqb b block) 1 0) queue (x ∷ []) in
-    let f = times_cons block x [] in
-    let g : times block [] ≡ 0 = refl in
-    omega arith
+times_push : (block x : ℕ) (queue : List ℕ) → times block (queue ++ x ∷ []) ≡ times block queue + one_if (eqb x block)
+times_push block x queue = sum_by_push (λ b. cond (eqb b block) 1 0) queue x
 
--- a block is taken out of the queue
-pub times_without : (block taken : ℕ) (queue : List ℕ) → times block (filter (λ b. not (eqb b taken)) queue) ≡ cond (eqb taken block) 0 (times block queue)
-times_without block taken [] = either_way (eqb taken block) 0
-times_without block taken (x ∷ queue) =
-    let rest = times_without block taken queue in
-    let all : times block (x ∷ queue) ≡ one_if (eqb x block) + times block queue = times_cons block x queue in
-    elim (eqb_tells x taken) as (λ _. times block (cond (not (eqb x taken)) (x ∷ filter (λ b. not (eqb b taken)) queue) (filter (λ b. not (eqb b taken)) queue)) ≡ cond (eqb taken block) 0 (times block (x ∷ queue))) [
-      | inl h ↦ elim (eqb_tells taken block) as (λ _. times block (cond (not (eqb x taken)) (x ∷ filter (λ b. not (eqb b taken)) queue) (filter (λ b. not (eqb b taken)) queue)) ≡ cond (eqb taken block) 0 (times block (x ∷ queue))) [
-        | inl i ↦ rw (h.0, i.0) (rw i.0 at rest)
-        | inr i ↦
-            let r : times block (filter (λ b. not (eqb b taken)) queue) ≡ times block queue = rw i.0 at rest in
-            let z : one_if (eqb x block) ≡ 0 = rw (h.1, i.0) refl in
-            let same : times block (x ∷ queue) ≡ times block queue = omega arith in
-            rw (h.0, i.0) (r ∙ sym same)
-      ]
-      | inr h ↦
-          let more = times_cons block x (filter (λ b. not (eqb b taken)) queue) in
-          elim (eqb_tells taken block) as (λ _. times block (cond (not (eqb x taken)) (x ∷ filter (λ b. not (eqb b taken)) queue) (filter (λ b. not (eqb b taken)) queue)) ≡ cond (eqb taken block) 0 (times block (x ∷ queue))) [
-            | inl i ↦
-                let r : times block (filter (λ b. not (eqb b taken)) queue) ≡ 0 = rw i.0 at rest in
-                let z : one_if (eqb x block) ≡ 0 = rw (not_eqb x block (λ e. h.1 (e ∙ sym i.1))) refl in
-                rw (h.0, i.0) (omega arith)
-            | inr i ↦
-                let r : times block (filter (λ b. not (eqb b taken)) queue) ≡ times block queue = rw i.0 at rest in
-                rw (h.0, i.0) (omega arith)
-          ]
-    ]
+-- a block that is counted stands in the queue
+pub counted_in : (block : ℕ) (queue : List ℕ) → 1 ≤ times block queue → Contains queue block
+counted_in block [] some = absurd (omega arith)
+counted_in block (x ∷ queue) some = elim (eqb_tells x block) as (λ _. Contains (x ∷ queue) block) [
+  | inl same ↦ (0, omega arith, same.1)
+  | inr other ↦
+      let none : one_if (eqb x block) ≡ 0 = rw other.0 refl in
+      let rest = counted_in block queue (omega (arith, times_cons block x queue)) in
+      (suc rest.0, (let below = rest.1 in omega arith), rest.2)
+]
+
+pub in_counted : (block : ℕ) (queue : List ℕ) → Contains queue block → 1 ≤ times block queue
+in_counted block [] there = let below = there.1 in absurd (omega arith)
+in_counted block (x ∷ queue) there = at there.0 there.1 there.2 (in_counted block queue)
+  where
+    at : (k : ℕ) → k < suc (length queue) → get_or (x ∷ queue) k block ≡ block → (Contains queue block → 1 ≤ times block queue) → 1 ≤ times block (x ∷ queue)
+    at zero below is rest = let one : one_if (eqb x block) ≡ 1 = rw (is, eq-eqb block block refl) refl in omega (arith, times_cons block x queue)
+    at (suc k) below is rest = let some = rest (k, omega arith, is) in omega (arith, times_cons block x queue)
+
+-- a block is taken out of a queue, and the others stay
+times_gone : (taken : ℕ) (queue : List ℕ) → times taken (filter (λ b. not (eqb b taken)) queue) ≡ 0
+times_gone taken [] = refl
+times_gone taken (x ∷ queue) = by_test (eqb x taken) refl (times_gone taken queue)
+  where
+    by_test : (same : Bool) → eqb x taken ≡ same → times taken (filter (λ b. not (eqb b taken)) queue) ≡ 0 → times taken (filter (λ b. not (eqb b taken)) (x ∷ queue)) ≡ 0
+    by_test true e rest = rw e rest
+    by_test false e rest =
+        let none : one_if (eqb x taken) ≡ 0 = rw e refl in
+        rw e (times_cons taken x (filter (λ b. not (eqb b taken)) queue) ∙ omega arith)
+
+times_left : (block taken : ℕ) (queue : List ℕ) → block ≢ taken → times block (filter (λ b. not (eqb b taken)) queue) ≡ times block queue
+times_left block taken [] apart = refl
+times_left block taken (x ∷ queue) apart = elim (eqb_tells x taken) as (λ _. times block (filter (λ b. not (eqb b taken)) (x ∷ queue)) ≡ times block (x ∷ queue)) [
+  | inl same ↦
+      let none : one_if (eqb x block) ≡ 0 = rw (same.1, ne_eqb taken block (λ e. apart (sym e))) refl in
+      rw same.0 (omega (arith, times_left block taken queue apart, times_cons block x queue))
+  | inr other ↦ rw other.0 (omega (arith, times_left block taken queue apart, times_cons block x queue, times_cons block x (filter (λ b. not (eqb b taken)) queue)))
+]
+
+-- an issue adds its block to its core's queue once
+module _ (queues : List (List ℕ)) (core block : ℕ) where
+  pub issued_own : core < length queues → times block (queue_of (after_issue queues core block) core) ≡ times block (queue_of queues core) + 1
+  issued_own within =
+      let one : one_if (eqb block block) ≡ 1 = rw (eq-eqb block block refl) refl in
+      ap (times block) (get_or-set_same queues core (queue_of queues core ++ block ∷ []) [] within) ∙ (times_push block block (queue_of queues core) ∙ ap (λ n. times block (queue_of queues core) + n) one)
+
+  pub issued_others : (k : ℕ) → k ≢ core → queue_of (after_issue queues core block) k ≡ queue_of queues k
+  issued_others k apart = get_or-set_other queues core k (queue_of queues core ++ block ∷ []) [] apart
+
+  pub issued_elsewhere : (k b : ℕ) → b ≢ block → times b (queue_of (after_issue queues core block) k) ≡ times b (queue_of queues k)
+  issued_elsewhere k b apart = elim (set_cases queues core k (queue_of queues core ++ block ∷ []) []) [
+    | inl here ↦
+        let none : one_if (eqb block b) ≡ 0 = rw (ne_eqb block b (λ e. apart (sym e))) refl in
+        let same : times b (queue_of queues core) ≡ times b (queue_of queues k) = ap (λ j. times b (queue_of queues j)) (sym here.0) in
+        omega (arith, ap (times b) here.1, times_push b block (queue_of queues core))
+    | inr e ↦ ap (times b) e
+  ]
+
+  -- an Order takes it out
+  pub ordered_own : core < length queues → times block (queue_of (after_order queues core block) core) ≡ 0
+  ordered_own within = ap (times block) (get_or-set_same queues core (filter (λ b. not (eqb b block)) (queue_of queues core)) [] within) ∙ times_gone block (queue_of queues core)
+
+  pub ordered_others : (k : ℕ) → k ≢ core → queue_of (after_order queues core block) k ≡ queue_of queues k
+  ordered_others k apart = get_or-set_other queues core k (filter (λ b. not (eqb b block)) (queue_of queues core)) [] apart
+
+  pub ordered_elsewhere : (k b : ℕ) → b ≢ block → times b (queue_of (after_order queues core block) k) ≡ times b (queue_of queues k)
+  ordered_elsewhere k b apart = elim (set_cases queues core k (filter (λ x. not (eqb x block)) (queue_of queues core)) []) [
+    | inl here ↦ ap (times b) here.1 ∙ (times_left b block (queue_of queues core) apart ∙ ap (λ j. times b (queue_of queues j)) (sym here.0))
+    | inr e ↦ ap (times b) e
+  ]

@@ -36,6 +36,10 @@ module _ (s : Situation) (block : ℕ) (next : Picture) (queues : List (List ℕ
   pub picture_elsewhere : (b : ℕ) → b ≢ block → picture_of (changed s block next queues log) b ≡ picture_of s b
   picture_elsewhere b apart = get_or-set_other s.pictures block b next nothing_there apart
 
+  -- what holds of each picture and of the new one holds of each picture then
+  pub all_pictures : (P : Picture → Type 0) → ((b : ℕ) → P (picture_of s b)) → P next → (b : ℕ) → P (picture_of (changed s block next queues log) b)
+  all_pictures P all here b = elim (set_cases s.pictures block b next nothing_there) [ inl p ↦ subst P (sym p.1) here | inr e ↦ subst P (sym e) (all b) ]
+
   -- what the new picture leaves as it was is so of every block
   pub same_everywhere : {A : Type 0} (f : Picture → A) → f next ≡ f (picture_of s block) → (b : ℕ) → f (picture_of (changed s block next queues log) b) ≡ f (picture_of s b)
   same_everywhere f same b = elim (set_cases s.pictures block b next nothing_there) [

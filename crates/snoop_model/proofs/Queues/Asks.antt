@@ -1,9 +1,8 @@
 -- A machine stays well kept at an Ask.
-use Rattle.std.proofs.Common.{◌≡◌, ℕ, ◌<◌, List, [], ◌∷◌, ◌++◌, length, true, Option, Some, refl, sym, ◌∙◌, ap, subst, arith, inl, inr}
-use Rattle.std.specs.Prelude.{Contains}
+use Rattle.std.proofs.Common.{◌≡◌, ℕ, ◌<◌, ◌++◌, true, List, length, Option, Some, None, refl, sym, ◌∙◌, ap, subst, arith, inl, inr}
+use Rattle.std.specs.Prelude.{is_some, count_by, ◌==◌, option_map, option_to_list}
 use Rattle.std.proofs.lemmas.Bool.{cases_eq}
 use Rattle.std.proofs.lemmas.List.{length-set, get_or-set_same, get_or-set_other}
-use Rattle.std.proofs.lemmas.List.Elements.{Contains-push, Contains-push_cases, Contains-append_left}
 use Rattle.snoop_trace.specs.declared.step.Op.{Op}
 use Rattle.snoop_rules.specs.declared.names.CacheAction.{CacheAction}
 use Rattle.snoop_rules.specs.declared.names.CacheAction.TheVariants as action
@@ -13,127 +12,107 @@ use Rattle.snoop_rules.specs.Cell.{Cell}
 use Rattle.snoop_rules.specs.Takers.{asked}
 use Rattle.snoop_rules.specs.Waits.{waiting_request}
 use Rattle.snoop_history.specs.declared.items.Item.{Item}
-use Rattle.snoop_bus.specs.Queues.{queue_of, after_issue}
 use Rattle.snoop_model.specs.declared.access.Access.{Access}
 use Rattle.snoop_model.specs.Pictures.Lines.{Line}
 use Rattle.snoop_model.specs.declared.replies.Reply.{Reply}
-use Rattle.snoop_model.specs.Pictures.Picture.{held_by}
+use Rattle.snoop_model.specs.Pictures.Picture.{Picture, held_by, nothing_held, with_line}
 use Rattle.snoop_model.specs.Pictures.Situation.{Situation, picture_of, state_of}
+use Rattle.snoop_model.specs.Pictures.Proper.{missed_request, request_for}
 use Rattle.snoop_model.specs.Moves.Move.{Asks, Takes, IsWithin, queues_after}
-use Rattle.snoop_model.proofs.Tables.Rows.{issue-waits, hit-waits, drop-waits}
-use Rattle.snoop_model.proofs.OneBlock.OfBlocks.{in_pictures}
-use Rattle.snoop_model.proofs.Lines.OneLine.{lined, line_here, line_cases, same_lines, same_open, shaped_lined}
-use Rattle.snoop_model.specs.Invariant.WellKept.{IsWellKept, HasOpen, awaited_request}
-use Rattle.snoop_model.proofs.Tables.WaitingRows.{has_missed, awaited-asked, missed-asked, missed-issued}
+use Rattle.snoop_model.specs.Invariant.WellKept.{IsWellKept, awaited_request}
+use Rattle.snoop_model.proofs.Lists.Facts.{one_if}
+use Rattle.snoop_model.proofs.Lists.QueueCounts.{issued_own, issued_others, issued_elsewhere}
+use Rattle.snoop_model.proofs.Lists.Writes.{set_cases}
+use Rattle.snoop_model.proofs.Tables.Rows.{issue-waits, issue-missed, asked_missed, hit_facts, drop_facts}
+use Rattle.snoop_model.proofs.Tables.WaitingRows.{has_missed, awaited-asked}
+use Rattle.snoop_model.proofs.Queues.Changed.{waits, IsAwaited, KeepsOn, well_after}
 
-module _ (s : Situation) (kept : IsWellKept s) (core block : ℕ) (line : Line) (queues : List (List ℕ)) (log : List Item)
-    (awaits : awaited_request line.state ≡ awaited_request (state_of s core block)) (missed : (access : Access) → line.waiting ≡ Some access → has_missed line.state ≡ true) where
-  abbrev new : Situation
-  new = lined s core block line queues log
+module _ (s : Situation) (kept : IsWellKept s) (core block : ℕ) (within : IsWithin s core block) (held : Line) (next : CacheState) (is_next : held.state ≡ next)
+    (awaits : (request : Request) → awaited_request next ≡ Some request → awaited_request (state_of s core block) ≡ Some request)
+    (missed : (access : Access) → held.waiting ≡ Some access → has_missed next ≡ true) where
+  abbrev before : Picture
+  before = picture_of s block
 
-  -- the line awaits as it did
-  awaits_on : (k b : ℕ) (q : Request) → awaited_request (state_of new k b) ≡ Some q → HasOpen new k b q
-  awaits_on k b q h =
-      let had = kept.awaits k b q (sym (same_lines s core block line queues log (λ (x : Line). awaited_request x.state) awaits k b) ∙ h) in
-      (had.0, (same_open s core block line queues log b ∙ had.1.0, had.1.1, had.1.2))
+  abbrev after : Picture
+  after = with_line before core held
 
-  -- and an operation waits in it only where one has missed
-  missed_on : (k b : ℕ) (access : Access) → (held_by (picture_of new b) k).waiting ≡ Some access → has_missed (state_of new k b) ≡ true
-  missed_on k b access h = elim (line_cases s core block line queues log k b) [
-    | inl p ↦ ap (λ (x : Line). has_missed x.state) p.2 ∙ missed access (ap (λ (x : Line). x.waiting) (sym p.2) ∙ h)
-    | inr e ↦ ap (λ (x : Line). has_missed x.state) e ∙ kept.operations k b access (ap (λ (x : Line). x.waiting) (sym e) ∙ h)
-  ]
+  awaited_after : IsAwaited after
+  awaited_after = record {
+    awaits = λ k q h. elim (set_cases before.caches core k held nothing_held) [
+      | inl p ↦ (let had = kept.awaits core block q (awaits q (ap awaited_request (sym is_next) ∙ (ap (λ (x : Line). awaited_request x.state) (sym p.1) ∙ h))) in (had.0, (had.1.0, had.1.1 ∙ sym p.0, had.1.2)))
+      | inr e ↦ kept.awaits k block q (ap (λ (x : Line). awaited_request x.state) (sym e) ∙ h)
+    ];
+    operations = λ k access h. elim (set_cases before.caches core k held nothing_held) [
+      | inl p ↦ ap (λ (x : Line). has_missed x.state) p.1 ∙ (ap has_missed is_next ∙ missed access (ap (λ (x : Line). x.waiting) (sym p.1) ∙ h))
+      | inr e ↦ ap (λ (x : Line). has_missed x.state) e ∙ kept.operations k block access (ap (λ (x : Line). x.waiting) (sym e) ∙ h)
+    ];
+  }
 
-module _ (s : Situation) (kept : IsWellKept s) (core block : ℕ) (line : Line) (log : List Item) (has_core : core < s.shape.cores) (has_block : block < s.shape.blocks)
-    (awaits : awaited_request line.state ≡ awaited_request (state_of s core block)) (missed : (access : Access) → line.waiting ≡ Some access → has_missed line.state ≡ true) where
   -- the line waits as it did
-  pub kept_line : waiting_request line.state ≡ waiting_request (state_of s core block) → IsWellKept (lined s core block line s.queues log)
-  kept_line waits =
-      let same : (k b : ℕ) → waiting_request (state_of (lined s core block line s.queues log) k b) ≡ waiting_request (state_of s k b) =
-      same_lines s core block line s.queues log (λ (x : Line). waiting_request x.state) waits in
-      record {
-        shaped = shaped_lined s core block line s.queues log kept.shaped refl;
-        queued = λ k b q h. kept.queued k b q (sym (same k b) ∙ h);
-        waits = λ k b h. (let w = kept.waits k b h in (w.0, same k b ∙ w.1));
-        awaits = awaits_on s kept core block line s.queues log awaits missed;
-        operations = missed_on s kept core block line s.queues log awaits missed;
-      }
+  kept_line : waiting_request next ≡ waiting_request (state_of s core block) → KeepsOn s block after s.queues
+  kept_line same = record {
+    within = within.1;
+    as_wide = length-set before.caches core held;
+    as_many = refl;
+    here = λ k. kept.queued k block ∙ sym (elim (set_cases before.caches core k held nothing_held) [
+      | inl p ↦
+          ap (λ (x : Line). waits x.state) p.1
+          ∙ (ap waits is_next ∙ (ap (λ (x : Option Request). one_if (is_some x)) same ∙ ap (λ (j : ℕ). waits (held_by before j).state) (sym p.0)))
+      | inr e ↦ ap (λ (x : Line). waits x.state) e
+    ]);
+    elsewhere = λ k b apart. refl;
+    awaited = awaited_after;
+  }
 
   -- the line waits with a request that has just been issued
-  pub kept_issue : (request : Request) → waiting_request line.state ≡ Some request → IsWellKept (lined s core block line (after_issue s.queues core block) log)
-  kept_issue request waits =
-      let queues : List (List ℕ) = after_issue s.queues core block in
-      let new : Situation = lined s core block line queues log in
-      let in_queues : core < length s.queues = (let e = kept.shaped.queues in omega arith) in
-      let in_row : core < length (picture_of s block).caches = (let e = kept.shaped.row block has_block in omega arith) in
-      let own : queue_of queues core ≡ queue_of s.queues core ++ block ∷ [] = get_or-set_same s.queues core (queue_of s.queues core ++ block ∷ []) [] in_queues in
-      let others : (k : ℕ) → (k ≡ core → ⊥) → queue_of queues k ≡ queue_of s.queues k = λ k ne. get_or-set_other s.queues core k (queue_of s.queues core ++ block ∷ []) [] ne in
-      let old : (k b : ℕ) → Contains (queue_of s.queues k) b → Contains (queue_of queues k) b = λ k b h. elim (cases_eq k core) [
-        | inl e ↦
-            (let Q : List ℕ → Type 0 = λ l. Contains l b in
-            let R : ℕ → Type 0 = λ j. Contains (queue_of s.queues j) b in
-            subst Q (sym (ap (λ j. queue_of queues j) e ∙ own)) (Contains-append_left (queue_of s.queues core) (block ∷ []) b (subst R e h)))
-        | inr ne ↦ (let Q : List ℕ → Type 0 = λ l. Contains l b in subst Q (sym (others k ne)) h)
-      ] in
-      let last : Contains (queue_of queues core) block = (let Q : List ℕ → Type 0 = λ l. Contains l block in subst Q (sym own) (Contains-push (queue_of s.queues core) block)) in
-      let here : held_by (picture_of new block) core ≡ line = line_here s core block line queues log (in_pictures s block kept.shaped has_block) in_row in
-      let still : (k b : ℕ) → (r : Request) × (waiting_request (state_of s k b) ≡ Some r) → (r : Request) × (waiting_request (state_of new k b) ≡ Some r) =
-      λ k b w. elim (line_cases s core block line queues log k b) [
-        | inl p ↦ (request, ap (λ (x : Line). waiting_request x.state) p.2 ∙ waits)
-        | inr e ↦ (w.0, ap (λ (x : Line). waiting_request x.state) e ∙ w.1)
-      ] in
-      record {
-        shaped = shaped_lined s core block line queues log kept.shaped (length-set s.queues core (queue_of s.queues core ++ block ∷ []));
-        queued = λ k b q h. elim (line_cases s core block line queues log k b) [
-          | inl p ↦ (let Q : ℕ → ℕ → Type 0 = λ j c. Contains (queue_of queues j) c in subst (λ j. Q j b) (sym p.0) (subst (λ c. Q core c) (sym p.1) last))
-          | inr e ↦ old k b (kept.queued k b q (ap (λ (x : Line). waiting_request x.state) (sym e) ∙ h))
-        ];
-        waits = λ k b h. elim (cases_eq k core) [
-          | inl e ↦
-              (let Q : List ℕ → Type 0 = λ l. Contains l b in
-              let at : Contains (queue_of s.queues core ++ block ∷ []) b = subst Q (ap (λ j. queue_of queues j) e ∙ own) h in
-              let R : ℕ → Type 0 = λ j. (r : Request) × (waiting_request (state_of new j b) ≡ Some r) in
-              subst R (sym e) (elim (Contains-push_cases (queue_of s.queues core) block b at) [
-                | inl before ↦ still core b (kept.waits core b before)
-                | inr same ↦
-                    (let T : ℕ → Type 0 = λ c. (r : Request) × (waiting_request (state_of new core c) ≡ Some r) in
-                    subst T same (request, ap (λ (x : Line). waiting_request x.state) here ∙ waits))
-              ]))
-          | inr ne ↦ (let Q : List ℕ → Type 0 = λ l. Contains l b in still k b (kept.waits k b (subst Q (others k ne) h)))
-        ];
-        awaits = awaits_on s kept core block line queues log awaits missed;
-        operations = missed_on s kept core block line queues log awaits missed;
-      }
+  kept_issue : (request : Request) → waiting_request (state_of s core block) ≡ None → waiting_request next ≡ Some request → (queues : List (List ℕ)) → queues ≡ queues_after (action.Issue request) s.queues core block → KeepsOn s block after queues
+  kept_issue request was is queues issued = rw issued (record {
+    within = within.1;
+    as_wide = length-set before.caches core held;
+    as_many = length-set s.queues core _;
+    here = λ k. elim (cases_eq k core) [
+      | inl e ↦
+          (let in_queues : core < length s.queues = (let many = kept.shaped.queues in let below = within.0 in omega arith) in
+          let in_row : core < length before.caches = (let wide = kept.shaped.row block within.1 in let below = within.0 in omega arith) in
+          let none : waits (state_of s core block) ≡ 0 = ap (λ (x : Option Request). one_if (is_some x)) was in
+          let one : waits (held_by after core).state ≡ 1 = ap (λ (x : Line). waits x.state) (get_or-set_same before.caches core held nothing_held in_row) ∙ (ap waits is_next ∙ ap (λ (x : Option Request). one_if (is_some x)) is) in
+          rw e (issued_own s.queues core block in_queues ∙ omega (arith, kept.queued core block, none, one)))
+      | inr apart ↦
+          ap (λ queue. count_by (λ b. b == block) queue) (issued_others s.queues core block k apart)
+          ∙ (kept.queued k block ∙ ap (λ (x : Line). waits x.state) (sym (get_or-set_other before.caches core k held nothing_held apart)))
+    ];
+    elsewhere = issued_elsewhere s.queues core block;
+    awaited = awaited_after;
+  })
 
 -- the line that an Ask leaves, by its row
-module _ (s : Situation) (kept : IsWellKept s) (core block word : ℕ) (asking : Op) (has_core : core < s.shape.cores) (has_block : block < s.shape.blocks)
-    (held : Line) (next : CacheState) (answer : Reply) (entry : Option Item) (log : List Item) where
-  pub kept_taken : (act : CacheAction) → Cell s.protocol (state_of s core block) (asked asking) act next
-      → Takes act next s.log core block word asking (held_by (picture_of s block) core) held answer entry
-      → IsWellKept (lined s core block held (queues_after act s.queues core block) log)
+module _ (s : Situation) (kept : IsWellKept s) (core block word : ℕ) (asking : Op) (within : IsWithin s core block) (held : Line) (next : CacheState) (answer : Reply) (entry : Option Item) where
+  abbrev line : Line
+  line = held_by (picture_of s block) core
+
+  still : (waiting : held.waiting ≡ line.waiting) → missed_request line.state ≡ missed_request next → (access : Access) → held.waiting ≡ Some access → has_missed next ≡ true
+  still waiting same access h = ap is_some (sym same) ∙ kept.operations core block access (sym waiting ∙ h)
+
+  kept_taken : (act : CacheAction) → Cell s.protocol line.state (asked asking) act next → Takes act next s.log core block word asking line held answer entry
+      → KeepsOn s block (with_line (picture_of s block) core held) (queues_after act s.queues core block)
   kept_taken action.Hit row taken =
-      let state : held.state ≡ next = ap (λ (x : Line). x.state) taken.1.0.held in
-      kept_line s kept core block held log has_core has_block
-      (ap awaited_request state ∙ awaited-asked s.protocol (state_of s core block) asking action.Hit next row)
-      (λ o h. ap has_missed state ∙ missed-asked s.protocol (state_of s core block) asking action.Hit next row
-      (kept.operations core block o (sym (ap (λ (x : Line). x.waiting) taken.1.0.held) ∙ h)))
-      (ap waiting_request state ∙ hit-waits s.protocol (state_of s core block) (asked asking) next row)
-  kept_taken (action.Issue request) row taken =
-      let state : held.state ≡ next = ap (λ (x : Line). x.state) taken.0 in
-      kept_issue s kept core block held log has_core has_block
-      (ap awaited_request state ∙ awaited-asked s.protocol (state_of s core block) asking (action.Issue request) next row)
-      (λ o h. ap has_missed state ∙ missed-issued s.protocol (state_of s core block) word asking o request next row (sym (ap (λ (x : Line). x.waiting) taken.0) ∙ h))
-      request (ap waiting_request state ∙ (issue-waits s.protocol (state_of s core block) (asked asking) request next row).1)
+      let facts = hit_facts s.protocol line.state (asked asking) next row in
+      kept_line s kept core block within held next (ap (λ (x : Line). x.state) taken.1.0.held) (λ q. awaited-asked s.protocol line.state asking action.Hit next q row)
+      (still (ap (λ (x : Line). x.waiting) taken.1.0.held) facts.1) facts.2
   kept_taken action.Drop row taken =
-      let state : held.state ≡ next = ap (λ (x : Line). x.state) taken.0 in
-      kept_line s kept core block held log has_core has_block
-      (ap awaited_request state ∙ awaited-asked s.protocol (state_of s core block) asking action.Drop next row)
-      (λ o h. ap has_missed state ∙ missed-asked s.protocol (state_of s core block) asking action.Drop next row
-      (kept.operations core block o (sym (ap (λ (x : Line). x.waiting) taken.0) ∙ h)))
-      (ap waiting_request state ∙ drop-waits s.protocol (state_of s core block) (asked asking) next row)
+      let facts = drop_facts s.protocol line.state (asked asking) next row in
+      kept_line s kept core block within held next (ap (λ (x : Line). x.state) taken.0) (λ q. awaited-asked s.protocol line.state asking action.Drop next q row)
+      (still (ap (λ (x : Line). x.waiting) taken.0) facts.1) facts.2
+  kept_taken (action.Issue request) row taken =
+      let facts = issue-waits s.protocol line.state (asked asking) request next row in
+      let missed = issue-missed s.protocol line.state (asked asking) request next row in
+      kept_issue s kept core block within held next (ap (λ (x : Line). x.state) taken.0) (λ q. awaited-asked s.protocol line.state asking (action.Issue request) next q row)
+      (λ access h. ap is_some (missed.1 ∙ sym (asked_missed word asking)) ∙ ap (λ (x : Option Access). is_some (option_map (λ (a : Access). request_for a.op) x)) (sym (ap (λ (x : Line). x.waiting) taken.0) ∙ h))
+      request facts.0 facts.1 (queues_after (action.Issue request) s.queues core block) refl
   kept_taken _ row taken = absurd taken
 
 pub kept_asks : (s t : Situation) (core block word : ℕ) (asking : Op) (answer : Reply) (entry : Option Item) → IsWellKept s → IsWithin s core block → Asks s core block word asking answer t entry → IsWellKept t
 kept_asks s t core block word asking answer entry kept within asks =
-    let P : Situation → Type 0 = λ x. IsWellKept x in
-    subst P (sym asks.after) (kept_taken s kept core block word asking within.0 within.1 asks.held asks.row.next answer entry _ asks.row.action asks.is_row asks.taken)
+    let act = asks.row.action in
+    subst IsWellKept (sym asks.after) (well_after s kept block (with_line (picture_of s block) core asks.held) (queues_after act s.queues core block) (s.log ++ option_to_list entry)
+    (kept_taken s kept core block word asking within asks.held asks.row.next answer entry act asks.is_row asks.taken))

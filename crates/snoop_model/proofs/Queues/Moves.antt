@@ -1,15 +1,20 @@
 -- A machine is well kept at reset, and stays so.
 use Rattle.std.proofs.Common.{◌≡◌, ℕ, List, [], Option, Some, None, sym, ◌∙◌, ap, subst, arith, inl, inr}
-use Rattle.std.specs.Prelude.{All, Contains}
+use Rattle.std.specs.Prelude.{All}
 use Rattle.snoop_trace.specs.Extent.{Extent}
+use Rattle.snoop_trace.specs.declared.step.Step.{Step}
 use Rattle.snoop_trace.specs.declared.step.Step.TheVariants.{Ask, Order, Respond}
 use Rattle.snoop_trace.specs.declared.protocol.Protocol.{Protocol}
 use Rattle.snoop_rules.specs.declared.names.Request.{Request}
-use Rattle.snoop_rules.specs.Waits.{waiting_request}
 use Rattle.snoop_bus.specs.Traffic.{Open}
 use Rattle.snoop_bus.specs.Queues.{queue_of}
 use Rattle.snoop_model.specs.declared.access.Access.{Access}
 use Rattle.snoop_model.specs.Pictures.Lines.{Line}
+use Rattle.snoop_history.specs.declared.items.Item.{Item}
+use Rattle.snoop_model.specs.declared.replies.Reply.{Reply}
+use Rattle.snoop_model.specs.Moves.Move.{MoveOn}
+use Rattle.snoop_model.proofs.Lists.QueueCounts.{times}
+use Rattle.snoop_model.proofs.Queues.Changed.{waits}
 use Rattle.snoop_model.specs.Pictures.Situation.{Situation, reset}
 use Rattle.snoop_model.specs.Turns.Serving.{IsServing}
 use Rattle.snoop_model.specs.Invariant.WellKept.{IsWellKept, awaited_request}
@@ -20,15 +25,16 @@ use Rattle.snoop_model.proofs.Queues.Asks.{kept_asks}
 use Rattle.snoop_model.proofs.Queues.Orders.{kept_orders}
 use Rattle.snoop_model.proofs.Queues.Responds.{kept_responds}
 
-pub keeps_well : KeepsWell
-keeps_well s t (Ask core on word asking) answer entry kept move = elim move.1.1.moves [
-  | inl absent ↦ (let P : Situation → Type 0 = λ x. IsWellKept x in subst P (sym absent.3) kept)
-  | inr asks ↦ kept_asks s t core move.0 word asking answer entry kept move.1.1.within asks
+pub on_kept : (block : ℕ) (s t : Situation) (step : Step) (answer : Reply) (entry : Option Item) → IsWellKept s → MoveOn block s step answer t entry → IsWellKept t
+on_kept block s t (Ask core on word asking) answer entry kept move = elim move.moves [
+  | inl absent ↦ subst IsWellKept (sym absent.3) kept
+  | inr asks ↦ kept_asks s t core block word asking answer entry kept move.within asks
 ]
-keeps_well s t (Order core) answer entry kept move =
-    kept_orders s t core move.0 move.1.1.request kept move.1.1.within move.1.1.orders
-keeps_well s t (Respond on) answer entry kept move =
-    kept_responds s t move.0 move.1.1.closing move.1.1.did kept move.1.1.within move.1.1.responds
+on_kept block s t (Order core) answer entry kept move = kept_orders s t core block move.request kept move.within move.orders
+on_kept block s t (Respond on) answer entry kept move = kept_responds s t block move.closing move.did kept move.within move.responds
+
+pub keeps_well : KeepsWell
+keeps_well s t step answer entry kept move = on_kept move.0 s t step answer entry kept move.1.1
 
 module _ (protocol : Protocol) (shape : Extent) where
   queue_is : (k : ℕ) → queue_of (reset protocol shape).queues k ≡ []
@@ -37,8 +43,7 @@ module _ (protocol : Protocol) (shape : Extent) where
   kept_reset : IsWellKept (reset protocol shape)
   kept_reset = record {
     shaped = reset_shaped protocol shape;
-    queued = λ k b q h. (let clash : ◌≡◌ {A = Option Request} None (Some q) = sym (ap (λ (x : Line). waiting_request x.state) (reset_line protocol shape k b)) ∙ h in cc);
-    waits = λ k b h. (let P : List ℕ → Type 0 = λ l. Contains l b in let there : Contains [] b = subst P (queue_is k) h in let lt = there.1 in absurd (omega arith));
+    queued = λ k b. ap (times b) (queue_is k) ∙ sym (ap (λ (x : Line). waits x.state) (reset_line protocol shape k b));
     awaits = λ k b q h. (let clash : ◌≡◌ {A = Option Request} None (Some q) = sym (ap (λ (x : Line). awaited_request x.state) (reset_line protocol shape k b)) ∙ h in cc);
     operations = λ k b access h. (let clash : ◌≡◌ {A = Option Access} None (Some access) = sym (ap (λ (x : Line). x.waiting) (reset_line protocol shape k b)) ∙ h in cc);
   }

@@ -1,5 +1,6 @@
 -- A machine stays well kept at a Respond.
-use Rattle.std.proofs.Common.{◌≡◌, ℕ, ◌<◌, List, length, true, Option, Some, None, refl, sym, ◌∙◌, ap, subst, arith, inl, inr, ◌⊎◌}
+use Rattle.std.proofs.Common.{◌≡◌, ℕ, ◌<◌, true, List, length, Option, Some, None, refl, sym, ◌∙◌, ap, subst, arith, inl, inr, ◌⊎◌}
+use Rattle.std.specs.Prelude.{is_some}
 use Rattle.std.proofs.lemmas.Bool.{cases_eq, cases_lt}
 use Rattle.std.proofs.lemmas.Option.{same_Some}
 use Rattle.std.proofs.lemmas.List.{length-set, get_or-set_same, get_or-set_other, get_or_past}
@@ -12,14 +13,15 @@ use Rattle.snoop_history.specs.declared.items.Item.{Item}
 use Rattle.snoop_bus.specs.Traffic.{Open}
 use Rattle.snoop_model.specs.declared.access.Access.{Access}
 use Rattle.snoop_model.specs.Pictures.Lines.{Line}
-use Rattle.snoop_model.specs.Pictures.Picture.{held_at, held_by, nothing_held, Picture}
+use Rattle.snoop_model.specs.Pictures.Picture.{Picture, held_at, held_by, nothing_held}
 use Rattle.snoop_model.specs.Pictures.Situation.{Situation, picture_of, state_of}
 use Rattle.snoop_model.specs.Moves.Move.{Responds, FillsRequestor, ArrivesFor}
-use Rattle.snoop_model.proofs.Tables.Rows.{fill-waits}
 use Rattle.snoop_model.specs.Invariant.WellKept.{IsWellKept, awaited_request}
-use Rattle.snoop_model.proofs.Tables.WaitingRows.{has_missed, awaited-filled, awaited-get}
+use Rattle.snoop_model.proofs.Lists.Facts.{one_if}
 use Rattle.snoop_model.proofs.Lists.Writes.{set_cases}
-use Rattle.snoop_model.proofs.OneBlock.OfBlocks.{changed, in_pictures, picture_here, picture_elsewhere, same_everywhere, shaped_after}
+use Rattle.snoop_model.proofs.Tables.Rows.{fill-waits}
+use Rattle.snoop_model.proofs.Tables.WaitingRows.{has_missed, awaited-filled, awaited-get}
+use Rattle.snoop_model.proofs.Queues.Changed.{well_after}
 
 by_request : (q : Request) (closing : Open) (p : Protocol) (log : List Item) (old new : List Line) (did : Option Did)
     → ArrivesFor q closing p log old new did → ((q ≡ PutM) × (new ≡ old)) ⊎ FillsRequestor closing p log old new did
@@ -44,29 +46,27 @@ module _ (closing : Open) (p : Protocol) (log : List Item) (old new : List Line)
   ]
 
   -- the requestor awaits no more
-  fills_awaits : awaited_request (held_at new closing.core).state ≡ None
-  fills_awaits = elim (cases_lt closing.core (length old)) [
-    | inl lt ↦
-        ap (λ l. awaited_request (held_at l closing.core).state) fills.held
-        ∙ (ap (λ (x : Line). awaited_request x.state) (get_or-set_same old closing.core fills.line nothing_held lt ∙ fills.fills.held)
-        ∙ awaited-filled p (held_at old closing.core).state closing.payload fills.fills.event fills.fills.row.action fills.fills.row.next fills.fills.arrives fills.fills.is_row)
-    | inr ge ↦
+  fills_awaits : (q : Request) → awaited_request (held_at new closing.core).state ≡ Some q → ⊥
+  fills_awaits q h = elim (cases_lt closing.core (length old)) [
+    | inl inside ↦
+        (let line = ap (λ l. held_at l closing.core) fills.held ∙ (get_or-set_same old closing.core fills.line nothing_held inside ∙ fills.fills.held) in
+        awaited-filled p (held_at old closing.core).state closing.payload fills.fills.event fills.fills.row.action fills.fills.row.next q fills.fills.arrives fills.fills.is_row
+        (ap (λ (x : Line). awaited_request x.state) (sym line) ∙ h))
+    | inr past ↦
         (let long = length-set old closing.core fills.line in
         let same : length new ≡ length old = ap length fills.held ∙ long in
-        ap (λ (x : Line). awaited_request x.state) (get_or_past new closing.core nothing_held (omega arith)))
+        let clash : ◌≡◌ {A = Option Request} None (Some q) = ap (λ (x : Line). awaited_request x.state) (sym (get_or_past new closing.core nothing_held (omega arith))) ∙ h in
+        cc)
   ]
 
   fills_other : (k : ℕ) → (k ≡ closing.core → ⊥) → held_at new k ≡ held_at old k
-  fills_other k ne = ap (λ l. held_at l k) fills.held ∙ get_or-set_other old closing.core k fills.line nothing_held ne
+  fills_other k apart = ap (λ l. held_at l k) fills.held ∙ get_or-set_other old closing.core k fills.line nothing_held apart
 
   fills_waiting : (k : ℕ) (access : Access) → (held_at new k).waiting ≡ Some access → held_at new k ≡ held_at old k
   fills_waiting k access h = elim (filled_or_same k) [
     | inl e ↦ (let clash : ◌≡◌ {A = Option Access} None (Some access) = sym (ap (λ (x : Line). x.waiting) (e.1 ∙ fills.fills.held)) ∙ h in cc)
     | inr e ↦ e
   ]
-
-  fills_length : length new ≡ length old
-  fills_length = ap length fills.held ∙ length-set old closing.core fills.line
 
 -- a response changes no wait
 pub arrives_waits : (closing : Open) (p : Protocol) (log : List Item) (old new : List Line) (did : Option Did) → ArrivesFor closing.request closing p log old new did
@@ -76,86 +76,55 @@ arrives_waits closing p log old new did arrives k = elim (by_request closing.req
   | inr fills ↦ fills_waits closing p log old new did fills k
 ]
 
-module _ (s : Situation) (kept : IsWellKept s) (block : ℕ) (closing : Open) (did : Option Did) (next : Picture) (log : List Item) (has_block : block < s.shape.blocks)
+module _ (s : Situation) (kept : IsWellKept s) (block : ℕ) (closing : Open) (did : Option Did) (next : Picture)
     (opened : (picture_of s block).transaction ≡ Some closing) (requestor : ArrivesFor closing.request closing s.protocol s.log (picture_of s block).caches next.caches did) where
-  abbrev t : Situation
-  t = changed s block next s.queues log
+  abbrev before : Picture
+  before = picture_of s block
 
-  arrived : ((closing.request ≡ PutM) × (next.caches ≡ (picture_of s block).caches)) ⊎ FillsRequestor closing s.protocol s.log (picture_of s block).caches next.caches did
-  arrived = by_request closing.request closing s.protocol s.log (picture_of s block).caches next.caches did requestor
+  arrived : ((closing.request ≡ PutM) × (next.caches ≡ before.caches)) ⊎ FillsRequestor closing s.protocol s.log before.caches next.caches did
+  arrived = by_request closing.request closing s.protocol s.log before.caches next.caches did requestor
 
-  elsewhere : (b : ℕ) → (b ≡ block → ⊥) → picture_of (changed s block next s.queues log) b ≡ picture_of s b
-  elsewhere b apart = picture_elsewhere s block next s.queues log b apart
+  row_length : length next.caches ≡ length before.caches
+  row_length = elim arrived [ inl put ↦ ap length put.1 | inr fills ↦ ap length fills.held ∙ length-set before.caches closing.core fills.line ]
 
-  line_here : (k : ℕ) → held_by (picture_of (changed s block next s.queues log) block) k ≡ held_by next k
-  line_here k = ap (λ (x : Picture). held_by x k) (picture_here s block next s.queues log (in_pictures s block kept.shaped has_block))
-
-  row_length : length next.caches ≡ length (picture_of s block).caches
-  row_length = elim arrived [
-    | inl put ↦ ap length put.1
-    | inr fills ↦ fills_length closing s.protocol s.log (picture_of s block).caches next.caches did fills
-  ]
-
-  waits_same : (k b : ℕ) → waiting_request (state_of t k b) ≡ waiting_request (state_of s k b)
-  waits_same k b = same_everywhere s block next s.queues log (λ (x : Picture). waiting_request (held_by x k).state) (arrives_waits closing s.protocol s.log (picture_of s block).caches next.caches did requestor k) b
+  -- a core that awaited data awaited those of this transaction
+  its : (k : ℕ) (q : Request) → awaited_request (state_of s k block) ≡ Some q → (closing.core ≡ k) × (closing.request ≡ q)
+  its k q h =
+      let had = kept.awaits k block q h in
+      let same : had.0 ≡ closing = same_Some _ _ (sym had.1.0 ∙ opened) in
+      (ap (λ (o : Open). o.core) (sym same) ∙ had.1.1, ap (λ (o : Open). o.request) (sym same) ∙ had.1.2)
 
   -- no core awaits data of the block any more
-  none_awaits : (k : ℕ) (q : Request) → awaited_request (state_of t k block) ≡ Some q → ⊥
-  none_awaits k q h =
-      let at : awaited_request (held_at next.caches k).state ≡ Some q = ap (λ (x : Line). awaited_request x.state) (sym (line_here k)) ∙ h in
-      elim arrived [
-        | inl put ↦
-            (let was : awaited_request (state_of s k block) ≡ Some q = ap (λ l. awaited_request (held_at l k).state) (sym put.1) ∙ at in
-            let had = kept.awaits k block q was in
-            let its : had.0 ≡ closing = same_Some _ _ (sym had.1.0 ∙ opened) in
-            let none : PutM ≡ q = sym put.0 ∙ (ap (λ (o : Open). o.request) (sym its) ∙ had.1.2) in
-            let P : Request → Type 0 = λ r. awaited_request (state_of s k block) ≡ Some r in
-            awaited-get (state_of s k block) (subst P (sym none) was))
-        | inr fills ↦ elim (cases_eq k closing.core) [
-          | inl e ↦
-              (let none : awaited_request (held_at next.caches k).state ≡ None = rw e (fills_awaits closing s.protocol s.log (picture_of s block).caches next.caches did fills) in
-              let clash : ◌≡◌ {A = Option Request} None (Some q) = sym none ∙ at in
-              cc)
-          | inr ne ↦
-              (let same = fills_other closing s.protocol s.log (picture_of s block).caches next.caches did fills k ne in
-              let had = kept.awaits k block q (ap (λ (x : Line). awaited_request x.state) (sym same) ∙ at) in
-              let its : had.0 ≡ closing = same_Some _ _ (sym had.1.0 ∙ opened) in
-              ne (sym had.1.1 ∙ ap (λ (o : Open). o.core) its))
-        ]
-      ]
+  none_awaits : (k : ℕ) (q : Request) → awaited_request (held_by next k).state ≡ Some q → ⊥
+  none_awaits k q h = elim arrived [
+    | inl put ↦
+        (let was : awaited_request (state_of s k block) ≡ Some q = ap (λ l. awaited_request (held_at l k).state) (sym put.1) ∙ h in
+        awaited-get (state_of s k block) (was ∙ ap (λ (r : Request). Some r) (sym (its k q was).1 ∙ put.0)))
+    | inr fills ↦ elim (cases_eq k closing.core) [
+      | inl e ↦ fills_awaits closing s.protocol s.log before.caches next.caches did fills q (rw e at h)
+      | inr apart ↦ apart (sym (its k q (ap (λ (x : Line). awaited_request x.state) (sym (fills_other closing s.protocol s.log before.caches next.caches did fills k apart)) ∙ h)).0)
+    ]
+  ]
 
-  missed_here : (k : ℕ) (access : Access) → (held_by (picture_of t block) k).waiting ≡ Some access → has_missed (state_of t k block) ≡ true
-  missed_here k access h =
-      let at : (held_at next.caches k).waiting ≡ Some access = ap (λ (x : Line). x.waiting) (sym (line_here k)) ∙ h in
-      let same : held_at next.caches k ≡ held_by (picture_of s block) k = elim arrived [
+  missed_after : (k : ℕ) (access : Access) → (held_by next k).waiting ≡ Some access → has_missed (held_by next k).state ≡ true
+  missed_after k access h =
+      let same : held_by next k ≡ held_by before k = elim arrived [
         | inl put ↦ ap (λ l. held_at l k) put.1
-        | inr fills ↦ fills_waiting closing s.protocol s.log (picture_of s block).caches next.caches did fills k access at
+        | inr fills ↦ fills_waiting closing s.protocol s.log before.caches next.caches did fills k access h
       ] in
-      ap (λ (x : Line). has_missed x.state) (line_here k ∙ same) ∙ kept.operations k block access (ap (λ (x : Line). x.waiting) (sym same) ∙ at)
-
-  kept_responded : IsWellKept (changed s block next s.queues log)
-  kept_responded = record {
-    shaped = shaped_after s block next s.queues log kept.shaped row_length refl;
-    queued = λ k b q h. kept.queued k b q (sym (waits_same k b) ∙ h);
-    waits = λ k b h. (let w = kept.waits k b h in (w.0, waits_same k b ∙ w.1));
-    awaits = λ k b q h. elim (cases_eq b block) [
-      | inl f ↦ (let Q : ℕ → Type 0 = λ x. awaited_request (state_of t k x) ≡ Some q in absurd (none_awaits k q (subst Q f h)))
-      | inr nf ↦
-          (let same = elsewhere b nf in
-          let had = kept.awaits k b q (ap (λ (x : Picture). awaited_request (held_by x k).state) (sym same) ∙ h) in
-          (had.0, (ap (λ (x : Picture). x.transaction) same ∙ had.1.0, had.1.1, had.1.2)))
-    ];
-    operations = λ k b access h. elim (cases_eq b block) [
-      | inl f ↦
-          (let P : ℕ → Type 0 = λ x. has_missed (state_of t k x) ≡ true in
-          let Q : ℕ → Type 0 = λ x. (held_by (picture_of t x) k).waiting ≡ Some access in
-          subst P (sym f) (missed_here k access (subst Q f h)))
-      | inr nf ↦
-          (let same = elsewhere b nf in
-          ap (λ (x : Picture). has_missed (held_by x k).state) same ∙ kept.operations k b access (ap (λ (x : Picture). (held_by x k).waiting) (sym same) ∙ h))
-    ];
-  }
+      ap (λ (x : Line). has_missed x.state) same ∙ kept.operations k block access (ap (λ (x : Line). x.waiting) (sym same) ∙ h)
 
 pub kept_responds : (s t : Situation) (block : ℕ) (closing : Open) (did : Option Did) → IsWellKept s → block < s.shape.blocks → Responds s block closing did t → IsWellKept t
 kept_responds s t block closing did kept within responds =
-    subst IsWellKept (sym responds.after) (kept_responded s kept block closing did responds.next _ within responds.opened responds.requestor)
+    let next : Picture = responds.next in
+    subst IsWellKept (sym responds.after) (well_after s kept block next s.queues _ (record {
+      within = within;
+      as_wide = row_length s kept block closing did next responds.opened responds.requestor;
+      as_many = refl;
+      here = λ k. kept.queued k block ∙ ap (λ (x : Option Request). one_if (is_some x)) (sym (arrives_waits closing s.protocol s.log (picture_of s block).caches next.caches did responds.requestor k));
+      elsewhere = λ k b apart. refl;
+      awaited = record {
+        awaits = λ k q h. absurd (none_awaits s kept block closing did next responds.opened responds.requestor k q h);
+        operations = missed_after s kept block closing did next responds.opened responds.requestor;
+      };
+    }))

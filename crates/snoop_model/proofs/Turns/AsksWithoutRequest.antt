@@ -20,6 +20,7 @@ use Rattle.snoop_model.specs.Moves.Move.{FirstMove, Asks, Takes, queues_after, I
 use Rattle.snoop_model.specs.Turns.Turn.{step_under_way}
 use Rattle.snoop_model.specs.Runs.Owed.{EndsAtOnce}
 use Rattle.snoop_model.proofs.Lines.OneLine.{same_open}
+use Rattle.snoop_model.proofs.Queues.Waiting.{waits_queued}
 
 -- nothing of the core waits or is open
 idle_turn : (core block : ℕ) (w : Option Request) (o : Option Open) → ((r : Request) → w ≢ Some r) → ((t : Open) → o ≡ Some t → t.core ≢ core) → step_under_way w o core block ≡ None
@@ -54,5 +55,5 @@ pub asked_once : EndsAtOnce
 asked_once s t under_way core block word asking answer entry serving idle kept m other =
     let same = same_queues s t core block word asking answer entry m other in
     idle_turn core block (waiting_request (state_of t core block)) (picture_of t block).transaction
-    (λ r w. none_some (under_way core) block idle (All-contains (λ b. under_way core ≡ Some b) (queue_of s.queues core) block (serving.waits core) (subst (λ q. Contains (queue_of q core) block) same.0 (kept.queued core block r w))))
+    (λ r w. none_some (under_way core) block idle (All-contains (λ b. under_way core ≡ Some b) (queue_of s.queues core) block (serving.waits core) (subst (λ q. Contains (queue_of q core) block) same.0 (waits_queued t kept.queued core block r w))))
     (λ o is c. none_some (under_way o.core) block (ap under_way c ∙ idle) (serving.opened block o (sym (same.1 block) ∙ is)))

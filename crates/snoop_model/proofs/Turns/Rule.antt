@@ -27,6 +27,7 @@ use Rattle.snoop_model.specs.Turns.Serving.{IsServing}
 use Rattle.snoop_model.specs.Invariant.WellKept.{IsWellKept}
 use Rattle.snoop_model.specs.Turns.TurnLaws.{NeverRefused, ServesOn, Ends, ComesToRest}
 use Rattle.snoop_model.proofs.Lists.Writes.{set_cases, all_first, all_issued, all_ordered}
+use Rattle.snoop_model.proofs.Queues.Waiting.{queued_waits, waits_queued}
 use Rattle.snoop_model.proofs.Turns.WaitingWorks.{stall_busy, busy_under_way, missed_busy}
 
 -- which steps a work under way takes, and when it takes none
@@ -159,7 +160,7 @@ ends s before after core block word asking serving kept works none others =
             (let x : ℕ = slice_index_or (queue_of s.queues k) i d in
             let own : before core ≡ Some x = (let Q : ℕ → Type 0 = λ c. before c ≡ Some x in subst Q e (serving.waits k i d lt)) in
             let same : x ≡ block = same_Some _ _ (sym own ∙ works) in
-            let w = kept.waits k x (Contains-get_or (queue_of s.queues k) i d lt) in
+            let w = queued_waits s kept.queued k x (Contains-get_or (queue_of s.queues k) i d lt) in
             let R : ℕ → Type 0 = λ c. waiting_request (state_of s c x) ≡ Some w.0 in
             let T : ℕ → Type 0 = λ b. waiting_request (state_of s core b) ≡ Some w.0 in
             let clash : ◌≡◌ {A = Option Request} None (Some w.0) = sym left.0 ∙ subst T same (subst R e w.1) in
@@ -186,7 +187,7 @@ no_operation (Some o) h = absurd (h o refl)
 
 pub comes_to_rest : ComesToRest
 comes_to_rest s serving kept = record {
-  ordered = λ core block request waits. two_blocks block (All-contains (λ b. ◌≡◌ {A = Option ℕ} None (Some b)) (queue_of s.queues core) block (serving.waits core) (kept.queued core block request waits));
+  ordered = λ core block request waits. two_blocks block (All-contains (λ b. ◌≡◌ {A = Option ℕ} None (Some b)) (queue_of s.queues core) block (serving.waits core) (waits_queued s kept.queued core block request waits));
   closed = λ block. no_open (picture_of s block).transaction (λ o is. two_blocks block (serving.opened block o is));
   performed = λ core block. no_operation (held_by (picture_of s block) core).waiting (λ o is. two_blocks block (busy_under_way s (λ _. None) serving kept core block (missed_busy _ (kept.operations core block o is))));
 }

@@ -21,6 +21,7 @@ use Rattle.snoop_model.specs.Pictures.Situation.{Situation, state_of}
 use Rattle.snoop_model.specs.Turns.Serving.{IsServing}
 use Rattle.snoop_model.specs.Invariant.WellKept.{IsWellKept, awaited_request}
 use Rattle.snoop_model.proofs.Tables.WaitingRows.{has_missed}
+use Rattle.snoop_model.proofs.Queues.Waiting.{waits_queued}
 
 -- the core waits in a state, for its own request to be ordered or for data
 abbrev pub is_busy : CacheState → Bool
@@ -58,7 +59,7 @@ busy_cases IiA h = inl (PutM, refl)
 
 pub busy_under_way : (s : Situation) (under_way : ℕ → Option ℕ) → IsServing under_way s → IsWellKept s → (core block : ℕ) → is_busy (state_of s core block) ≡ true → under_way core ≡ Some block
 busy_under_way s under_way serving kept core block busy = elim (busy_cases (state_of s core block) busy) [
-  | inl w ↦ All-contains (λ b. under_way core ≡ Some b) (queue_of s.queues core) block (serving.waits core) (kept.queued core block w.0 w.1)
+  | inl w ↦ All-contains (λ b. under_way core ≡ Some b) (queue_of s.queues core) block (serving.waits core) (waits_queued s kept.queued core block w.0 w.1)
   | inr d ↦
       let own = kept.awaits core block d.0 d.1 in
       let P : ℕ → Type 0 = λ c. under_way c ≡ Some block in

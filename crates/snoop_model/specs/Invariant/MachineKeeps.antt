@@ -3,7 +3,6 @@
 use Rattle.std.specs.Prelude.{ℕ, IfSome}
 use Rattle.snoop_model.specs.Pictures.Picture.{Picture}
 use Rattle.snoop_model.specs.Pictures.Situation.{Situation, picture_of}
-use Rattle.snoop_model.specs.Pictures.InQueue.{IsInQueue}
 use Rattle.snoop_model.specs.Moves.SenderTable.{IsSenderLine}
 use Rattle.snoop_model.specs.Invariant.Invariant.{Invariant}
 use Rattle.snoop_model.specs.Invariant.WellKept.{IsWellKept}
@@ -16,5 +15,4 @@ AreOnSenderLines s = (block : ℕ) → IfSome (picture_of s block).transaction (
 pub record MachineKeeps (s : Situation) : Type 0 where
   pub inductive : Invariant s
   pub on_lines : AreOnSenderLines s
-  pub queued : (core block : ℕ) → IsInQueue s core block
   pub well_kept : IsWellKept s

@@ -1,8 +1,8 @@
 -- Every row is found, by the invariant of every run.
 use Rattle.snoop_model.specs.Pictures.Situation.{reset}
-use Rattle.snoop_model.proofs.Invariant.Runs.{reset_invariant, run_keeps}
+use Rattle.snoop_model.proofs.Invariant.Safety.{reset_keeps, run_keeps_all}
 use Rattle.snoop_model.proofs.Invariant.Coherence.{finds_rows}
 use Rattle.snoop_model.proofs.laws.rows_are_found.Goals as goal
 
 pub returns : goal.returns
-returns c p shape steps outcomes new run = finds_rows new (run_keeps steps outcomes (reset p shape) new (reset_invariant p shape) run)
+returns c p shape steps outcomes new run = finds_rows new (run_keeps_all steps outcomes (reset p shape) new (reset_keeps p shape) run).inductive

@@ -6,4 +6,4 @@ use Rattle.snoop_scenes.proofs.Play.{told}
 use Rattle.snoop_scenes.proofs.scenes.head_of_queue_blocks.Goals as goal
 
 pub returns-clause-scene : goal.returns-clause-scene
-returns-clause-scene c = told Msi two_blocks frames end tt refl refl
+returns-clause-scene c = told Msi two_blocks frames end refl refl

@@ -6,4 +6,4 @@ use Rattle.snoop_scenes.proofs.Play.{told}
 use Rattle.snoop_scenes.proofs.scenes.store_miss_keeps_words.Goals as goal
 
 pub returns-clause-scene : goal.returns-clause-scene
-returns-clause-scene c = told Msi two_words frames end tt refl refl
+returns-clause-scene c = told Msi two_words frames end refl refl

@@ -6,4 +6,4 @@ use Rattle.snoop_scenes.proofs.Play.{told}
 use Rattle.snoop_scenes.proofs.scenes.writeback_after_downgrade.Goals as goal
 
 pub returns-clause-scene : goal.returns-clause-scene
-returns-clause-scene c = told Msi two_cores frames end tt refl refl
+returns-clause-scene c = told Msi two_cores frames end refl refl

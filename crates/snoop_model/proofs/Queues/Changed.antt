@@ -1,0 +1,56 @@
+-- A machine stays well kept where one block and the queues change as they should.
+use Rattle.std.proofs.Common.{◌≡◌, ◌≢◌, ℕ, ◌<◌, List, length, Some, inl, inr, sym, ◌∙◌, ap, subst}
+use Rattle.std.specs.Prelude.{is_some, IsSome}
+use Rattle.std.proofs.lemmas.Bool.{cases_eq}
+use Rattle.snoop_rules.specs.declared.names.CacheState.{CacheState}
+use Rattle.snoop_rules.specs.declared.names.Request.{Request}
+use Rattle.snoop_rules.specs.Waits.{waiting_request}
+use Rattle.snoop_history.specs.declared.items.Item.{Item}
+use Rattle.snoop_bus.specs.Queues.{queue_of}
+use Rattle.snoop_bus.specs.Traffic.{Open}
+use Rattle.snoop_model.specs.declared.access.Access.{Access}
+use Rattle.snoop_model.specs.Pictures.Picture.{Picture, held_by}
+use Rattle.snoop_model.specs.Pictures.Situation.{Situation, picture_of}
+use Rattle.snoop_model.specs.Pictures.InQueue.{IsInQueue}
+use Rattle.snoop_model.specs.Pictures.Proper.{missed_request}
+use Rattle.snoop_model.specs.Invariant.WellKept.{IsWellKept, awaited_request}
+use Rattle.snoop_model.proofs.Lists.Facts.{one_if}
+use Rattle.snoop_model.proofs.Lists.QueueCounts.{times}
+use Rattle.snoop_model.proofs.OneBlock.OfBlocks.{changed, in_pictures, picture_here, picture_elsewhere, all_pictures, shaped_after}
+
+-- how often a core that holds the block in this state has it in its queue
+abbrev pub waits : CacheState → ℕ
+waits s = one_if (is_some (waiting_request s))
+
+-- a core that awaits data of the block has its transaction open, and an operation waits only where a load or a store has missed
+pub record IsAwaited (picture : Picture) : Type 0 where
+  pub awaits : (core : ℕ) (request : Request) → awaited_request (held_by picture core).state ≡ Some request → (o : Open) × ((picture.transaction ≡ Some o) × (o.core ≡ core) × (o.request ≡ request))
+  pub operations : (core : ℕ) (access : Access) → (held_by picture core).waiting ≡ Some access → IsSome (missed_request (held_by picture core).state)
+
+pub awaited_in : (s : Situation) → IsWellKept s → (block : ℕ) → IsAwaited (picture_of s block)
+awaited_in s kept block = record { awaits = λ core. kept.awaits core block; operations = λ core. kept.operations core block }
+
+-- what is to be shown of a move
+pub record KeepsOn (s : Situation) (block : ℕ) (next : Picture) (queues : List (List ℕ)) : Type 0 where
+  pub within : block < s.shape.blocks
+  pub as_wide : length next.caches ≡ length (picture_of s block).caches
+  pub as_many : length queues ≡ length s.queues
+  pub here : (core : ℕ) → times block (queue_of queues core) ≡ waits (held_by next core).state
+  pub elsewhere : (core b : ℕ) → b ≢ block → times b (queue_of queues core) ≡ times b (queue_of s.queues core)
+  pub awaited : IsAwaited next
+
+pub well_after : (s : Situation) → IsWellKept s → (block : ℕ) (next : Picture) (queues : List (List ℕ)) (log : List Item) → KeepsOn s block next queues → IsWellKept (changed s block next queues log)
+well_after s kept block next queues log k =
+    let new : Situation = changed s block next queues log in
+    let awaited : (b : ℕ) → IsAwaited (picture_of new b) = all_pictures s block next queues log IsAwaited (awaited_in s kept) k.awaited in
+    record {
+      shaped = shaped_after s block next queues log kept.shaped k.as_wide k.as_many;
+      queued = λ core b. elim (cases_eq b block) [
+        | inl e ↦
+            subst (λ (x : ℕ). IsInQueue new core x) (sym e)
+            (k.here core ∙ ap (λ (x : Picture). waits (held_by x core).state) (sym (picture_here s block next queues log (in_pictures s block kept.shaped k.within))))
+        | inr apart ↦ k.elsewhere core b apart ∙ (kept.queued core b ∙ ap (λ (x : Picture). waits (held_by x core).state) (sym (picture_elsewhere s block next queues log b apart)))
+      ];
+      awaits = λ core b. (awaited b).awaits core;
+      operations = λ core b. (awaited b).operations core;
+    }

@@ -1,0 +1,46 @@
+-- A core waits on the blocks in its queue, and on no others.
+use Rattle.std.proofs.Common.{◌≡◌, ℕ, List, [], ◌∷◌, Option, Some, None, refl, ap, ◌∙◌, arith}
+use Rattle.std.specs.Prelude.{Contains, is_some, slice_get}
+use Rattle.std.proofs.lemmas.Option.{same_Some}
+use Rattle.snoop_rules.specs.declared.names.Request.{Request}
+use Rattle.snoop_rules.specs.Waits.{waiting_request}
+use Rattle.snoop_bus.specs.Queues.{queue_of}
+use Rattle.snoop_model.specs.Pictures.Situation.{Situation, state_of, Waits, StandsFirst}
+use Rattle.snoop_model.specs.Pictures.InQueue.{IsInQueue}
+use Rattle.snoop_model.specs.Moves.Refuses.{WaitsOnNone}
+use Rattle.snoop_model.proofs.Lists.Facts.{one_if}
+use Rattle.snoop_model.proofs.Lists.QueueCounts.{times, counted_in, in_counted}
+
+-- each core's queue has the blocks on which it waits
+abbrev pub AreQueued : Situation → Type 0
+AreQueued s = (core block : ℕ) → IsInQueue s core block
+
+module _ (s : Situation) (queued : AreQueued s) (core block : ℕ) where
+  pub waits_queued : (request : Request) → Waits s core block request → Contains (queue_of s.queues core) block
+  waits_queued request waits =
+      let one : times block (queue_of s.queues core) ≡ 1 = queued core block ∙ ap (λ (o : Option Request). one_if (is_some o)) waits in
+      counted_in block (queue_of s.queues core) (omega arith)
+
+  pub queued_waits : Contains (queue_of s.queues core) block → (request : Request) × Waits s core block request
+  queued_waits there = by_state (waiting_request (state_of s core block)) refl
+    where
+      by_state : (waits : Option Request) → waiting_request (state_of s core block) ≡ waits → (request : Request) × Waits s core block request
+      by_state (Some request) waits = (request, waits)
+      by_state None waits =
+          let zero : times block (queue_of s.queues core) ≡ 0 = queued core block ∙ ap (λ (o : Option Request). one_if (is_some o)) waits in
+          absurd (omega (arith, in_counted block (queue_of s.queues core) there))
+
+first_in : (queue : List ℕ) (block : ℕ) → slice_get queue 0 ≡ Some block → Contains queue block
+first_in [] block e = cc
+first_in (x ∷ queue) block e = (0, omega arith, same_Some _ _ e)
+
+-- it waits on the block that stands first, and on none where none does
+pub first_waits : (s : Situation) → AreQueued s → (core block : ℕ) → StandsFirst s core block → (request : Request) × Waits s core block request
+first_waits s queued core block first = queued_waits s queued core block (first_in (queue_of s.queues core) block first)
+
+pub none_waits : (s : Situation) → AreQueued s → (core : ℕ) → slice_get (queue_of s.queues core) 0 ≡ None → WaitsOnNone s core
+none_waits s queued core none block request waits = nothing (queue_of s.queues core) none (waits_queued s queued core block request waits)
+  where
+    nothing : (queue : List ℕ) → slice_get queue 0 ≡ None → Contains queue block → ⊥
+    nothing [] e there = let below = there.1 in omega arith
+    nothing (x ∷ queue) e there = cc

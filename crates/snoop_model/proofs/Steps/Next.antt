@@ -1,0 +1,165 @@
+-- What a step comes to, computed: what it is answered, and where it leads. Where a table has no row, which no run meets, the state stays.
+use Rattle.std.proofs.Common.{ℕ, zero, suc, Bool, true, false, ◌&&◌, List, [], ◌∷◌, ◌++◌, length, map, Option, Some, None}
+use Rattle.std.specs.Prelude.{Result, Ok, Err, is_some, option_to_list, unwrap_or, slice_get, slice_set, if◌then◌else◌}
+use Rattle.std.specs.Option.{option_map_or}
+use Rattle.std.specs.List.{range_with_len}
+use Rattle.std.proofs.Math.Dec.{ltb}
+use Rattle.snoop_trace.specs.Extent.{Extent}
+use Rattle.snoop_trace.specs.Words.{Data, word_at, word_places, zero_words}
+use Rattle.snoop_trace.specs.declared.step.Op.{Op}
+use Rattle.snoop_trace.specs.declared.step.Op.TheVariants as op
+use Rattle.snoop_trace.specs.declared.step.Step.{Step}
+use Rattle.snoop_trace.specs.declared.step.Step.TheVariants.{Ask, Order, Respond}
+use Rattle.snoop_trace.specs.declared.protocol.Protocol.{Protocol}
+use Rattle.snoop_rules.specs.declared.names.CacheState.{CacheState}
+use Rattle.snoop_rules.specs.declared.names.CacheAction.{CacheAction}
+use Rattle.snoop_rules.specs.declared.names.CacheAction.TheVariants as action
+use Rattle.snoop_rules.specs.declared.names.MemAction.{MemAction}
+use Rattle.snoop_rules.specs.declared.names.MemAction.TheVariants as mem_action
+use Rattle.snoop_rules.specs.declared.names.MemEvent.{MemEvent}
+use Rattle.snoop_rules.specs.declared.names.MemState.{MemState}
+use Rattle.snoop_rules.specs.declared.names.Request.{Request}
+use Rattle.snoop_rules.specs.declared.names.Request.TheVariants.{PutM}
+use Rattle.snoop_rules.specs.declared.names.Payload.{Payload}
+use Rattle.snoop_rules.specs.declared.names.Payload.TheVariants as payload
+use Rattle.snoop_rules.specs.Cell.{cell_of}
+use Rattle.snoop_rules.specs.MemoryCell.{memory_cell_of}
+use Rattle.snoop_rules.specs.Takers.{asked, seen_by, at_memory, arrival, arrival_at_memory, takes_payload}
+use Rattle.snoop_rules.specs.Waits.{waiting_request}
+use Rattle.snoop_history.specs.declared.items.Did.{Did}
+use Rattle.snoop_history.specs.declared.items.Item.{Item}
+use Rattle.snoop_history.specs.declared.items.Item.TheVariants as item
+use Rattle.snoop_bus.specs.Traffic.{Open}
+use Rattle.snoop_bus.specs.Queues.{queue_of, after_order}
+use Rattle.snoop_model.specs.declared.access.Access.{Access}
+use Rattle.snoop_model.specs.Pictures.Lines.{Line}
+use Rattle.snoop_model.specs.declared.replies.Reply.{Reply}
+use Rattle.snoop_model.specs.declared.replies.Reply.TheVariants as reply
+use Rattle.snoop_model.specs.declared.replies.Refused.{Refused}
+use Rattle.snoop_model.specs.declared.replies.Refused.TheVariants.{NoCore, NoBlock, Stalled, NothingWaiting, BusTaken, NoTransaction}
+use Rattle.snoop_model.specs.Pictures.Picture.{Picture, held_at, held_by, with_line}
+use Rattle.snoop_model.specs.Pictures.Situation.{Situation, picture_of, with_picture, state_of}
+use Rattle.snoop_model.specs.Pictures.Sends.{value_sent}
+use Rattle.snoop_model.specs.Moves.Move.{is_load, kept_waiting, next_did, moves_to, written, came_of, queues_after}
+use Rattle.snoop_model.proofs.Tables.RespondTests.{row_for, memory_row_for}
+use Rattle.snoop_model.proofs.Tables.SentBy.{sent_by, sent_by_memory}
+
+abbrev pub Next : Type 0
+Next = Result Reply Refused × Situation
+
+-- the value that an operation on a word loads or stores, and the block's words after it
+abbrev pub value_of : ℕ → Op → Data → ℕ
+value_of word (op.Store stored) before = stored
+value_of word _ before = word_at before word
+
+abbrev pub words_after : ℕ → Op → Data → Data
+words_after word (op.Store stored) before = slice_set before word stored
+words_after word _ before = before
+
+-- the operation may be of this word
+abbrev pub has_word : Extent → ℕ → Op → Bool
+has_word shape word op.Evict = true
+has_word shape word _ = ltb word shape.words && ltb word word_places
+
+-- An Ask by a row, and one within the shape: only an Evict in I has no row.
+module _ (s : Situation) (core block word : ℕ) (asking : Op) where
+  abbrev pub asker : Line
+  asker = held_by (picture_of s block) core
+
+  abbrev pub after_ask : CacheAction → Line → Option Item → Situation
+  after_ask act held entry =
+      record (with_picture s block (with_line (picture_of s block) core held)) {
+        queues = queues_after act s.queues core block;
+        log = s.log ++ option_to_list entry;
+      }
+
+  abbrev pub by_row : CacheAction → CacheState → Next
+  by_row action.Hit next =
+      let before = unwrap_or asker.kept zero_words in
+      let value = value_of word asking before in
+      let held : Line = record { state = next; kept = Some (words_after word asking before); waiting = asker.waiting } in
+      (Ok (if is_load asking then reply.Hit value else reply.StoreHit), after_ask action.Hit held (Some (item.Did (next_did s.log core block word asking value true))))
+  by_row (action.Issue request) next = (Ok (reply.Issued request), after_ask (action.Issue request) (record (moves_to next asker) { waiting = kept_waiting word asking }) None)
+  by_row action.Drop next = (Ok reply.Gone, after_ask action.Drop (moves_to next asker) None)
+  by_row _ next = (Err (Stalled asker.state), s)
+
+  abbrev pub next_asked : Next
+  next_asked = option_map_or (λ row. by_row row.action row.next) (cell_of s.protocol asker.state (asked asking)) (Ok reply.Absent, s)
+
+-- An Order seen by all caches and memory, each with its row.
+module _ (p : Protocol) (before : Picture) (core : ℕ) (request : Request) where
+  -- what the row of memory, or of a core, sends
+  abbrev pub payload_from : Option ℕ → Option Payload
+  payload_from None = sent_by_memory (memory_cell_of p before.memory.state (at_memory request))
+  payload_from (Some k) = sent_by (cell_of p (held_by before k).state (seen_by k core request))
+
+  -- the last core below n whose row sends, else memory
+  abbrev pub sender_below : ℕ → Option ℕ
+  sender_below zero = None
+  sender_below (suc n) = if is_some (payload_from (Some n)) then Some n else sender_below n
+
+  abbrev pub line_after : ℕ → Line
+  line_after k =
+      let held = held_by before k in
+      moves_to (option_map_or (λ row. row.next) (cell_of p held.state (seen_by k core request)) held.state) held
+
+  abbrev pub next_picture : ℕ → Picture
+  next_picture block =
+      let from = sender_below (length before.caches) in
+      let payload = unwrap_or (payload_from from) payload.Data in
+      record {
+        caches = map line_after (range_with_len 0 (length before.caches));
+        memory = record { state = option_map_or (λ row. row.next) (memory_cell_of p before.memory.state (at_memory request)) before.memory.state; value = before.memory.value };
+        transaction = Some (record { core = core; request = request; block = block; payload = payload; value = value_sent before from payload; from = from });
+      }
+
+abbrev pub next_ordered : Situation → ℕ → ℕ → Request → Next
+next_ordered s core block request = (
+  Ok (reply.Ordered request),
+  record (with_picture s block (next_picture s.protocol (picture_of s block) core request block)) {
+    queues = after_order s.queues core block;
+    log = s.log ++ item.Sent (record { core = core; request = request; block = block }) ∷ [];
+  },
+)
+
+-- what memory does with a message, and its state then
+abbrev pub settled : Bool → Protocol → Option MemEvent → MemState → MemAction × MemState
+settled takes p found m = if takes then option_map_or {U = MemAction × MemState} (λ row. (row.action, row.next)) (memory_row_for p m found) (mem_action.None, m) else (mem_action.None, m)
+
+-- A Respond: what it brings to the lines, with the operation that it performs, and to memory.
+module _ (closing : Open) (p : Protocol) (log : List Item) (lines : List Line) where
+  abbrev pub filled : Option Access → List Line × Option Did
+  filled None = (lines, None)
+  filled (Some access) =
+      let held = held_at lines closing.core in
+      let next = option_map_or (λ row. row.next) (row_for p held.state (arrival closing.payload)) held.state in (
+        slice_set lines closing.core (record { state = next; kept = Some (words_after access.word access.op closing.value); waiting = None }),
+        Some (next_did log closing.core closing.block access.word access.op (value_of access.word access.op closing.value) false),
+      )
+
+  abbrev pub brought : Request → List Line × Option Did
+  brought PutM = (lines, None)
+  brought _ = filled (held_at lines closing.core).waiting
+
+abbrev pub next_closed : Situation → ℕ → Open → Next
+next_closed s block closing =
+    let before = picture_of s block in
+    let caches = brought closing s.protocol s.log before.caches closing.request in
+    let memory = settled (takes_payload closing.request before.memory.state) s.protocol (arrival_at_memory closing.payload) before.memory.state in
+    let next : Picture = record { caches = caches.0; memory = record { state = memory.1; value = written memory.0 closing.value before.memory.value }; transaction = None } in
+    (Ok (reply.Came closing.payload closing.from caches.1), record (with_picture s block next) { log = s.log ++ item.Came (came_of closing) caches.1 ∷ [] })
+
+-- an Order of the block that stands first, if any
+abbrev pub next_first : Situation → ℕ → Option ℕ → Next
+next_first s core None = (Err NothingWaiting, s)
+next_first s core (Some block) =
+    if is_some (picture_of s block).transaction then (Err (BusTaken block), s)
+    else option_map_or (next_ordered s core block) (waiting_request (state_of s core block)) (Err NothingWaiting, s)
+
+abbrev pub next_of : Situation → Step → Next
+next_of s (Ask core block word asking) =
+    if ltb core s.shape.cores
+    then if ltb block s.shape.blocks && has_word s.shape word asking then next_asked s core block word asking else (Err NoBlock, s)
+    else (Err NoCore, s)
+next_of s (Order core) = if ltb core s.shape.cores then next_first s core (slice_get (queue_of s.queues core) 0) else (Err NoCore, s)
+next_of s (Respond block) = if ltb block s.shape.blocks then option_map_or (next_closed s block) (picture_of s block).transaction (Err NoTransaction, s) else (Err NoBlock, s)
