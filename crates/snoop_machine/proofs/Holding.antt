@@ -107,7 +107,7 @@ KeepsRoom-taken old middle new taking x answer entry h unchanged adds loses move
       lines = λ core had has.
           let waits = ap (λ (s : Situation). length (queue_of s.queues core)) unchanged in
           let capacity = made.requests core in
-          let some : 0 < slice_index middle.rooms core = omega arith in
+          let some : 0 < slice_index middle.request_rooms core = omega arith in
           let first = made.lines core had some in
           let then = taken.lines core some has in
           elim (adds_step old middle taking x core h (adds core)) [

@@ -9,27 +9,27 @@ use Rattle.snoop_machine.specs.declared.holders.Holders.{Holders}
 use Rattle.snoop_model.specs.Pictures.Lines.{Line}
 use Rattle.snoop_model.specs.Pictures.Proper.{IsProper}
 use Rattle.snoop_machine.specs.Holders.{HaveFollowed}
-use Rattle.snoop_machine.specs.Cache.{Contents, no_cache, line_of, line_in, blocks_of, KeepsSpare}
-use Rattle.snoop_machine.specs.Lines.{Held, AreLines, KeepsSpares, held, rows_of, gone, line_at, is_among}
+use Rattle.snoop_machine.specs.Cache.{Contents, no_cache, line_of, line_in, blocks_of, KeepsMapRoom}
+use Rattle.snoop_machine.specs.Lines.{Held, AreLines, KeepsMapsRoom, held, rows_of, gone, line_at, is_among}
 use Rattle.snoop_machine.proofs.MapRows.{rows-set, blocks-at, spare-at, blocks-same, count-same, length-blocks_of, among-lookup}
 use Rattle.snoop_machine.proofs.LineMaps.{blocks_seen, spare_seen, maps-long, gone-none, gone-one, is_I}
 use Rattle.snoop_machine.proofs.LineParts.{AreLines-followed}
 
 -- one map that keeps its room for lines leaves that of all cores
 pub spares_kept : (caches : List Contents) (holders : List Holders) (now : Held) (view : held caches holders ≡ now) (core : ℕ) (new : Contents) (after : List Holders) → core < length caches
-    → KeepsSpare (slice_index_or caches core no_cache) new → KeepsSpares now (held (slice_set caches core new) after)
+    → KeepsMapRoom (slice_index_or caches core no_cache) new → KeepsMapsRoom now (held (slice_set caches core new) after)
 spares_kept caches holders now view core new after within kept k =
     let maps = slice_set caches core new in
     let room = spare-at maps k in
     let had_room = spare_seen caches holders now view k in
     let lines = ap (λ (blocks : List ℕ). length blocks) (blocks-at maps k) ∙ length-blocks_of (slice_index_or maps k no_cache) in
     let had_lines = sym (length-blocks_of (slice_index_or caches k no_cache)) ∙ ap (λ (blocks : List ℕ). length blocks) (blocks_seen caches holders now view k) in
-    let K : ℕ → Type 0 = λ j. KeepsSpare (slice_index_or caches j no_cache) (slice_index_or maps j no_cache) in
-    let L : Contents → Type 0 = λ cache. KeepsSpare (slice_index_or caches core no_cache) cache in
-    let M : Contents → Type 0 = λ cache. KeepsSpare (slice_index_or caches k no_cache) cache in
+    let K : ℕ → Type 0 = λ j. KeepsMapRoom (slice_index_or caches j no_cache) (slice_index_or maps j no_cache) in
+    let L : Contents → Type 0 = λ cache. KeepsMapRoom (slice_index_or caches core no_cache) cache in
+    let M : Contents → Type 0 = λ cache. KeepsMapRoom (slice_index_or caches k no_cache) cache in
     let each : K k = elim (cases_eq k core) [
       | inl e ↦ subst K (sym e) (subst L (sym (get_or-set_same caches core new no_cache within)) kept)
-      | inr ne ↦ (let same : KeepsSpare (slice_index_or caches k no_cache) (slice_index_or caches k no_cache) = omega arith in subst M (sym (get_or-set_other caches core k new no_cache ne)) same)
+      | inr ne ↦ (let same : KeepsMapRoom (slice_index_or caches k no_cache) (slice_index_or caches k no_cache) = omega arith in subst M (sym (get_or-set_other caches core k new no_cache ne)) same)
     ] in
     omega (arith, each, room, had_room, lines, had_lines)
 
@@ -42,7 +42,7 @@ pub record HasWritten (caches : List Contents) (holders : List Holders) (core bl
   pub here : line_in new block ≡ line
   pub others : (b : ℕ) → nat_eq block b ≡ false → lookup (nat_eq b) new.entries ≡ lookup (nat_eq b) old.entries
   pub followed : HaveFollowed core block line.state holders after
-  pub room : KeepsSpare old new
+  pub room : KeepsMapRoom old new
 
 module _ {caches : List Contents} {holders : List Holders} {core block : ℕ} {line : Line} {old new : Contents} {after : List Holders} (wrote : HasWritten caches holders core block line old new after)
     (now : Held) (view : held caches holders ≡ now) where
@@ -69,8 +69,8 @@ module _ {caches : List Contents} {holders : List Holders} {core block : ℕ} {l
   others_kept k ne = blocks-at (slice_set caches core new) k ∙ (ap blocks_of (get_or-set_other caches core k new no_cache ne) ∙ blocks_seen caches holders now view k)
 
   -- the room for lines is kept
-  pub room_kept : KeepsSpares now (held (slice_set caches core new) after)
-  room_kept = spares_kept caches holders now view core new after wrote.in_cores (subst (λ (cache : Contents). KeepsSpare cache new) wrote.read wrote.room)
+  pub room_kept : KeepsMapsRoom now (held (slice_set caches core new) after)
+  room_kept = spares_kept caches holders now view core new after wrote.in_cores (subst (λ (cache : Contents). KeepsMapRoom cache new) wrote.read wrote.room)
 
   -- the same blocks have lines
   pub lines_stay : blocks_of new ≡ blocks_of old → map blocks_of (slice_set caches core new) ≡ now.lines

@@ -38,8 +38,8 @@ module _ (caches : List Contents) (holders : List Holders) (now : Held) (view : 
   pub blocks_seen : (core : ℕ) → blocks_of (slice_index_or caches core no_cache) ≡ slice_index_or now.lines core []
   blocks_seen core = sym (blocks-at caches core) ∙ ap (λ (h : Held). slice_index_or h.lines core []) view
 
-  pub spare_seen : (core : ℕ) → (slice_index_or caches core no_cache).spare ≡ slice_index_or now.spares core 0
-  spare_seen core = sym (spare-at caches core) ∙ ap (λ (h : Held). slice_index_or h.spares core 0) view
+  pub spare_seen : (core : ℕ) → (slice_index_or caches core no_cache).spare ≡ slice_index_or now.line_rooms core 0
+  spare_seen core = sym (spare-at caches core) ∙ ap (λ (h : Held). slice_index_or h.line_rooms core 0) view
 
   pub among_seen : (core block : ℕ) → is_some (lookup (nat_eq block) (slice_index_or caches core no_cache).entries) ≡ is_among (slice_index_or now.lines core []) block
   among_seen core block = sym (among-lookup (slice_index_or caches core no_cache).entries block) ∙ ap (λ (blocks : List ℕ). is_among blocks block) (blocks_seen core)

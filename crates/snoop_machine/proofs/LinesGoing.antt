@@ -5,7 +5,7 @@ use Rattle.std.proofs.lemmas.Bool.{cases_eq}
 use Rattle.std.proofs.lemmas.List.{get_or-set_same, get_or-set_other}
 use Rattle.snoop_model.specs.Pictures.Lines.{Line}
 use Rattle.snoop_model.specs.Pictures.Picture.{held_at, nothing_held}
-use Rattle.snoop_machine.specs.Lines.{Held, KeepsSpares, LinesGo, gone, row_of, line_at}
+use Rattle.snoop_machine.specs.Lines.{Held, KeepsMapsRoom, LinesGo, gone, row_of, line_at}
 use Rattle.snoop_machine.proofs.LineMaps.{gone-same}
 
 -- no line has gone yet
@@ -13,9 +13,9 @@ pub LinesGo-none : (block : ℕ) (held : Held) → LinesGo block held held
 LinesGo-none block held core = let none = gone-same (line_at held.rows core block).state in omega arith
 
 -- lines have gone, and of one core more may go: the room for lines is kept
-pub KeepsSpares-more : (block core : ℕ) (first old new : Held) → LinesGo block first old → KeepsSpares first old → length (slice_index_or new.lines core []) ≤ length (slice_index_or old.lines core [])
-    → ((k : ℕ) → k ≢ core → slice_index_or new.lines k [] ≡ slice_index_or old.lines k []) → KeepsSpares old new → KeepsSpares first new
-KeepsSpares-more block core first old new went kept fewer others keeps k =
+pub KeepsMapsRoom-more : (block core : ℕ) (first old new : Held) → LinesGo block first old → KeepsMapsRoom first old → length (slice_index_or new.lines core []) ≤ length (slice_index_or old.lines core [])
+    → ((k : ℕ) → k ≢ core → slice_index_or new.lines k [] ≡ slice_index_or old.lines k []) → KeepsMapsRoom old new → KeepsMapsRoom first new
+KeepsMapsRoom-more block core first old new went kept fewer others keeps k =
     let had = went k in
     let before = kept k in
     let after = keeps k in

@@ -8,8 +8,8 @@ use Rattle.snoop_bus.specs.Traffic.{Waiting, no_queue}
 use Rattle.snoop_bus.specs.Queues.{queue_of}
 use Rattle.snoop_machine.specs.Standing.{Standing, KeepsRoom}
 use Rattle.snoop_machine.specs.Prepared.{places}
-use Rattle.snoop_machine.specs.Lines.{Held, KeepsSpares}
-use Rattle.snoop_machine.specs.PartsView.{Fields, queues_of, shown_spare, shown_spares, standing}
+use Rattle.snoop_machine.specs.Lines.{Held, KeepsMapsRoom}
+use Rattle.snoop_machine.specs.PartsView.{Fields, queues_of, shown_line_room, shown_line_rooms, standing}
 use Rattle.snoop_machine.proofs.QueueViews.{queue_of-queues_of}
 
 -- how many requests of the core find room in all
@@ -50,51 +50,51 @@ held_in-set queues core queue within more k = elim (cases_eq k core) [
       subst Q (sym other) here
 ]
 
-shown-full : (room spare : ℕ) → room ≡ 0 → shown_spare room spare ≡ 0
+shown-full : (room spare : ℕ) → room ≡ 0 → shown_line_room room spare ≡ 0
 shown-full zero spare full = refl
 shown-full (suc room) spare full = absurd (omega arith)
 
-shown-there : (room spare : ℕ) → 0 < room → shown_spare room spare ≡ spare
+shown-there : (room spare : ℕ) → 0 < room → shown_line_room room spare ≡ spare
 shown-there zero spare some = absurd (omega arith)
 shown-there (suc room) spare some = refl
 
-shown-none : (room : ℕ) → shown_spare room 0 ≡ 0
+shown-none : (room : ℕ) → shown_line_room room 0 ≡ 0
 shown-none zero = refl
 shown-none (suc room) = refl
 
-shown-least : (room spare : ℕ) → shown_spare room spare ≤ spare
+shown-least : (room spare : ℕ) → shown_line_room room spare ≤ spare
 shown-least zero spare = omega arith
 shown-least (suc room) spare = omega arith
 
-shown_at : (queues : List Waiting) (spares : List ℕ) (core : ℕ) → slice_index (shown_spares queues spares) core ≡ shown_spare (slice_index_or queues core no_queue).room (slice_index_or spares core 0)
-shown_at [] spares core = refl
+shown_at : (queues : List Waiting) (line_rooms : List ℕ) (core : ℕ) → slice_index (shown_line_rooms queues line_rooms) core ≡ shown_line_room (slice_index_or queues core no_queue).room (slice_index_or line_rooms core 0)
+shown_at [] line_rooms core = refl
 shown_at (q ∷ qs) [] zero = sym (shown-none q.room)
 shown_at (q ∷ qs) [] (suc core) = sym (shown-none (slice_index_or qs core no_queue).room)
 shown_at (q ∷ qs) (s ∷ ss) zero = refl
 shown_at (q ∷ qs) (s ∷ ss) (suc core) = shown_at qs ss core
 
 -- where the queue has no room, that of the map is not shown
-pub shown-same : (queues : List Waiting) (spares : List ℕ) (core spare : ℕ) → (slice_index_or queues core no_queue).room ≡ 0 → shown_spares queues (slice_set spares core spare) ≡ shown_spares queues spares
-shown-same [] spares core spare full = refl
+pub shown-same : (queues : List Waiting) (line_rooms : List ℕ) (core spare : ℕ) → (slice_index_or queues core no_queue).room ≡ 0 → shown_line_rooms queues (slice_set line_rooms core spare) ≡ shown_line_rooms queues line_rooms
+shown-same [] line_rooms core spare full = refl
 shown-same (q ∷ qs) [] core spare full = refl
-shown-same (q ∷ qs) (s ∷ ss) zero spare full = ap (λ (n : ℕ). n ∷ shown_spares qs ss) (shown-full q.room spare full ∙ sym (shown-full q.room s full))
-shown-same (q ∷ qs) (s ∷ ss) (suc core) spare full = ap (λ (l : List ℕ). shown_spare q.room s ∷ l) (shown-same qs ss core spare full)
+shown-same (q ∷ qs) (s ∷ ss) zero spare full = ap (λ (n : ℕ). n ∷ shown_line_rooms qs ss) (shown-full q.room spare full ∙ sym (shown-full q.room s full))
+shown-same (q ∷ qs) (s ∷ ss) (suc core) spare full = ap (λ (l : List ℕ). shown_line_room q.room s ∷ l) (shown-same qs ss core spare full)
 
 -- there is no place where the queue has no room
 pub places-queue : (m : Fields) (core : ℕ) → (slice_index_or m.bus.queues core no_queue).room ≡ 0 → places (standing m) core ≡ 0
-places-queue m core full = min-none (slice_index (standing m).rooms core) (slice_index (standing m).spares core) (rooms_at m.bus.queues core ∙ full)
+places-queue m core full = min-none (slice_index (standing m).request_rooms core) (slice_index (standing m).line_rooms core) (rooms_at m.bus.queues core ∙ full)
 
 -- nor where the map has none
-pub places-map : (m : Fields) (core : ℕ) → slice_index_or m.lines.spares core 0 ≡ 0 → places (standing m) core ≡ 0
+pub places-map : (m : Fields) (core : ℕ) → slice_index_or m.lines.line_rooms core 0 ≡ 0 → places (standing m) core ≡ 0
 places-map m core full =
-    let least = shown-least (slice_index_or m.bus.queues core no_queue).room (slice_index_or m.lines.spares core 0) in
-    let none = shown_at m.bus.queues m.lines.spares core in
-    none-min (slice_index (standing m).rooms core) (slice_index (standing m).spares core) (omega arith)
+    let least = shown-least (slice_index_or m.bus.queues core no_queue).room (slice_index_or m.lines.line_rooms core 0) in
+    let none = shown_at m.bus.queues m.lines.line_rooms core in
+    none-min (slice_index (standing m).request_rooms core) (slice_index (standing m).line_rooms core) (omega arith)
 
 -- as long as neither the log's capacity nor a queue's falls, and the maps keep their room for lines, no room is lost
 pub keeps_room : (old new : Fields) (view : Standing) → standing old ≡ view → length old.log.items + old.log.room ≤ length new.log.items + new.log.room → ((core : ℕ) → held_in old.bus.queues core ≤ held_in new.bus.queues core)
-    → KeepsSpares old.lines new.lines → KeepsRoom view (standing new)
-keeps_room old new view is items queues spares =
+    → KeepsMapsRoom old.lines new.lines → KeepsRoom view (standing new)
+keeps_room old new view is items queues line_rooms =
     let P : Standing → Type 0 = λ s. KeepsRoom s (standing new) in
     subst P is (record {
       items = items;
@@ -104,14 +104,14 @@ keeps_room old new view is items queues spares =
           let more = queues core in
           omega arith;
       lines = λ core had has.
-          let before = shown_at old.bus.queues old.lines.spares core in
-          let least = shown-least (slice_index_or old.bus.queues core no_queue).room (slice_index_or old.lines.spares core 0) in
+          let before = shown_at old.bus.queues old.lines.line_rooms core in
+          let least = shown-least (slice_index_or old.bus.queues core no_queue).room (slice_index_or old.lines.line_rooms core 0) in
           let room = rooms_at new.bus.queues core in
-          let after = shown_at new.bus.queues new.lines.spares core ∙ shown-there (slice_index_or new.bus.queues core no_queue).room (slice_index_or new.lines.spares core 0) (omega arith) in
-          let kept = spares core in
+          let after = shown_at new.bus.queues new.lines.line_rooms core ∙ shown-there (slice_index_or new.bus.queues core no_queue).room (slice_index_or new.lines.line_rooms core 0) (omega arith) in
+          let kept = line_rooms core in
           omega arith;
     })
 
 -- what was not changed keeps its room
-pub KeepsSpares-same : (held : Held) → KeepsSpares held held
-KeepsSpares-same held core = omega arith
+pub KeepsMapsRoom-same : (held : Held) → KeepsMapsRoom held held
+KeepsMapsRoom-same held core = omega arith

@@ -22,8 +22,8 @@ abbrev pub no_cache : Contents
 no_cache = record { entries = []; spare = 0 }
 
 -- of the room for lines no more goes than lines were put in
-abbrev pub KeepsSpare : Contents → Contents → Type 0
-KeepsSpare old new = old.spare ≤ new.spare + (length new.entries - length old.entries)
+abbrev pub KeepsMapRoom : Contents → Contents → Type 0
+KeepsMapRoom old new = old.spare ≤ new.spare + (length new.entries - length old.entries)
 
 -- the line that a map has, or that of a block of which the cache holds nothing
 abbrev pub line_of : Option Line → Line

@@ -28,7 +28,7 @@ line_at rows core block = held_at (row_of rows block) core
 pub record Held : Type 0 where
   pub rows : List (List Line)
   pub lines : List (List ℕ)
-  pub spares : List ℕ
+  pub line_rooms : List ℕ
 
 -- what each core holds, by block
 abbrev pub rows_of : ℕ → List Contents → List (List Line)
@@ -40,12 +40,12 @@ held caches holders =
     record {
       rows = rows_of (length holders) caches;
       lines = map blocks_of caches;
-      spares = map (λ cache. cache.spare) caches;
+      line_rooms = map (λ cache. cache.spare) caches;
     }
 
 -- of the room for each core's lines no more goes than lines were put in
-abbrev pub KeepsSpares : Held → Held → Type 0
-KeepsSpares old new = (core : ℕ) → slice_index_or old.spares core 0 ≤ slice_index_or new.spares core 0 + (length (slice_index_or new.lines core []) - length (slice_index_or old.lines core []))
+abbrev pub KeepsMapsRoom : Held → Held → Type 0
+KeepsMapsRoom old new = (core : ℕ) → slice_index_or old.line_rooms core 0 ≤ slice_index_or new.line_rooms core 0 + (length (slice_index_or new.lines core []) - length (slice_index_or old.lines core []))
 
 -- there are 256 cores at most, each line is proper, and the holders of each block are those of its lines
 pub record AreLines (caches : List Contents) (holders : List Holders) : Type 0 where
@@ -87,4 +87,4 @@ pub record TookRow (protocol : Protocol) (event : CacheEvent) (core block : ℕ)
   pub many : length new.lines ≡ length old.lines
   pub lines : length (slice_index_or new.lines core []) + gone (line_at old.rows core block).state next ≡ length (slice_index_or old.lines core [])
   pub others : (k : ℕ) → k ≢ core → slice_index_or new.lines k [] ≡ slice_index_or old.lines k []
-  pub room : KeepsSpares old new
+  pub room : KeepsMapsRoom old new

@@ -42,14 +42,14 @@ pictures_of (row ∷ rows) (memory ∷ memories) (transaction ∷ transactions) 
 pictures_of _ _ _ = []
 
 -- for how many more lines a map has room, as callers see it: none where its core's queue has no room, since there a request that is refused may have let the map grow
-abbrev pub shown_spare : ℕ → ℕ → ℕ
-shown_spare zero spare = 0
-shown_spare (suc room) spare = spare
+abbrev pub shown_line_room : ℕ → ℕ → ℕ
+shown_line_room zero spare = 0
+shown_line_room (suc room) spare = spare
 
 -- that of each core
-abbrev pub shown_spares : List Waiting → List ℕ → List ℕ
-shown_spares (queue ∷ queues) (spare ∷ spares) = shown_spare queue.room spare ∷ shown_spares queues spares
-shown_spares _ _ = []
+abbrev pub shown_line_rooms : List Waiting → List ℕ → List ℕ
+shown_line_rooms (queue ∷ queues) (spare ∷ line_rooms) = shown_line_room queue.room spare ∷ shown_line_rooms queues line_rooms
+shown_line_rooms _ _ = []
 
 -- the view of the parts
 abbrev pub standing : Fields → Standing
@@ -62,8 +62,8 @@ standing m =
         queues = queues_of m.bus.queues;
         log = m.log.items;
       };
-      rooms = map (λ queue. queue.room) m.bus.queues;
-      spares = shown_spares m.bus.queues m.lines.spares;
+      request_rooms = map (λ queue. queue.room) m.bus.queues;
+      line_rooms = shown_line_rooms m.bus.queues m.lines.line_rooms;
       room = m.log.room;
       lines = m.lines.lines;
     }

@@ -77,7 +77,7 @@ room_for_ask before core block (asked.Drop next) = 1
 abbrev pub HasRoomToAsk : Standing → ℕ → ℕ → Asked → Type 0
 HasRoomToAsk before core block asked.Absent = ⊤
 HasRoomToAsk before core block (asked.Hit next value) = 0 < before.room
-HasRoomToAsk before core block (asked.Issue request next) = (has_line before core block ≡ true) × (0 < slice_index before.rooms core)
+HasRoomToAsk before core block (asked.Issue request next) = (has_line before core block ≡ true) × (0 < slice_index before.request_rooms core)
 HasRoomToAsk before core block (asked.Drop next) = ⊤
 
 -- for how many more such steps there is room

@@ -18,11 +18,11 @@ use Rattle.snoop_model.specs.Moves.Refuses.{Refuses}
 
 -- for how many more requests of the core that need a line first there is room: each takes a place in the core's queue and one in its map
 abbrev pub places : Standing → ℕ → ℕ
-places before core = min (slice_index before.rooms core) (slice_index before.spares core)
+places before core = min (slice_index before.request_rooms core) (slice_index before.line_rooms core)
 
 -- for how many more requests of the core for the block there is room, by whether the core's map has a line for it
 abbrev pub room_to_issue : Standing → ℕ → ℕ → ℕ
-room_to_issue before core block = if has_line before core block then slice_index before.rooms core else places before core
+room_to_issue before core block = if has_line before core block then slice_index before.request_rooms core else places before core
 
 -- for how many more Asks of the core for the block by this action there is room: a hit adds an item, an issue adds a request, and no other adds any
 abbrev pub room_to : CacheAction → Standing → ℕ → ℕ → ℕ

@@ -4,7 +4,7 @@ ghost use Rattle.snoop_trace.specs.Words.{Data, word_at, zero_words};
 ghost use Rattle.std.specs.Map.{lookup};
 ghost use Rattle.snoop_rules.specs.declared.names.CacheState.TheVariants.{I};
 ghost use Rattle.snoop_model.specs.Pictures.Picture.{nothing_held, kept_on};
-ghost use Rattle.snoop_machine.specs.Cache.{line_in, line_of, blocks_of, changed, filled_line, IsOfWords, KeepsSpare};
+ghost use Rattle.snoop_machine.specs.Cache.{line_in, line_of, blocks_of, changed, filled_line, IsOfWords, KeepsMapRoom};
 ghost use Rattle.snoop_machine.specs.declared.cache.LineChange.TheVariants.{Hit};
 ghost use Rattle.snoop_rules.specs.declared.names.CacheState.{CacheState};
 ghost use Rattle.snoop_rules.specs.declared.names.CacheAction.{CacheAction};
@@ -275,7 +275,7 @@ impl<B: Block> Cache<B> {
         ensures full { OnErr result (self.old.spare ≡ 0) }
         ensures refused { OnErr result (self.new ≡ self.old) }
         ensures same { self.new.entries ≡ self.old.entries }
-        ensures room { KeepsSpare self.old self.new }
+        ensures room { KeepsMapRoom self.old self.new }
     {
         // The room alone decides: a refused growth may have left some.
         let grown = self.lines.reserve(1);
@@ -292,7 +292,7 @@ impl<B: Block> Cache<B> {
         requires room { 0 < self.old.spare }
         ensures same { (b : ℕ) → line_in self.new b ≡ line_in self.old b }
         ensures blocks { blocks_of self.new ≡ blocks_of self.old ++ block ∷ [] }
-        ensures room { KeepsSpare self.old self.new }
+        ensures room { KeepsMapRoom self.old self.new }
     {
         self.lines.insert(block, Entry::nothing()).unwrap();
     }
@@ -308,7 +308,7 @@ impl<B: Block> Cache<B> {
         ensures taken { next ≡ I → lookup (nat_eq block) self.new.entries ≡ None }
         ensures fewer { next ≡ I → length self.new.entries + 1 ≡ length self.old.entries }
         ensures stays { ¬ (next ≡ I) → blocks_of self.new ≡ blocks_of self.old }
-        ensures room { KeepsSpare self.old self.new }
+        ensures room { KeepsMapRoom self.old self.new }
     {
         let Some(entry) = self.lines.get_mut(&block) else {
             unreachable!();
@@ -336,7 +336,7 @@ impl<B: Block> Cache<B> {
         ensures here { line_in self.new block ≡ filled_line next access words.now }
         ensures others { (b : ℕ) → nat_eq block b ≡ false → lookup (nat_eq b) self.new.entries ≡ lookup (nat_eq b) self.old.entries }
         ensures blocks { blocks_of self.new ≡ blocks_of self.old }
-        ensures room { KeepsSpare self.old self.new }
+        ensures room { KeepsMapRoom self.old self.new }
     {
         let Some(entry) = self.lines.get_mut(&block) else {
             unreachable!();
@@ -368,7 +368,7 @@ impl<B: Block> Cache<B> {
         ensures fewer { IfSome result (λ states. states.1 ≡ I → length self.new.entries + 1 ≡ length self.old.entries) }
         ensures stays { IfSome result (λ states. states.1 ≢ I → blocks_of self.new ≡ blocks_of self.old) }
         ensures others { (b : ℕ) → nat_eq block b ≡ false → lookup (nat_eq b) self.new.entries ≡ lookup (nat_eq b) self.old.entries }
-        ensures room { KeepsSpare self.old self.new }
+        ensures room { KeepsMapRoom self.old self.new }
     {
         let entry = self.lines.get_mut(&block)?;
         let before = entry.state();

@@ -9,7 +9,7 @@ ghost use Rattle.snoop_model.specs.Pictures.Sends.{IsOnlySender};
 ghost use Rattle.snoop_model.specs.Moves.LookUps.{HasRow};
 ghost use Rattle.snoop_model.specs.Moves.SenderTable.{FollowsSenderTable};
 ghost use Rattle.snoop_model.specs.Moves.Move.{TakesMemRow, TakesRows};
-ghost use Rattle.snoop_machine.specs.Lines.{LinesGo, KeepsSpares};
+ghost use Rattle.snoop_machine.specs.Lines.{LinesGo, KeepsMapsRoom};
 ghost use Rattle.snoop_machine.specs.PartsView.{no_memory};
 
 use crate::lines::Lines;
@@ -36,7 +36,7 @@ impl<B: Block> Lines<B> {
         ensures others { self.new.rows ≡ slice_set self.old.rows block (slice_index_or self.new.rows block []) }
         ensures many { length self.new.lines ≡ length self.old.lines }
         ensures lines { LinesGo block self.old self.new }
-        ensures room { KeepsSpares self.old self.new }
+        ensures room { KeepsMapsRoom self.old self.new }
     {
         let concerned = self.concerned(block, requestor, request);
         let mut from = 0;

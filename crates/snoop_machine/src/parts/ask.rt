@@ -103,7 +103,7 @@ impl<B: Block> Parts<B> {
     )
         requires core { core < self.old.situation.shape.cores }
         requires block { block < self.old.situation.shape.blocks }
-        requires room { (has_line self.old core block ≡ true) × (0 < slice_index self.old.rooms core) }
+        requires room { (has_line self.old core block ≡ true) × (0 < slice_index self.old.request_rooms core) }
         requires idle { waiting_request (state_of self.old.situation core block) ≡ None }
         requires waits { waiting_request next ≡ Some request }
         requires proper { IsProper (changed next (Wait waiting) (held_by (picture_of self.old.situation block) core)) }

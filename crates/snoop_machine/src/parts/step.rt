@@ -130,7 +130,7 @@ impl<B: Block> Parts<B> {
     #[inline(always)]
     fn make_room_to_issue(&mut self, core: u32, block: u32) -> Result<(), NoMemory>
         requires { core < self.old.situation.shape.cores }
-        ensures ok { OnOk result ((has_line self.new core block ≡ true) × (0 < slice_index self.new.rooms core)) }
+        ensures ok { OnOk result ((has_line self.new core block ≡ true) × (0 < slice_index self.new.request_rooms core)) }
         ensures full { OnErr result (room_to_issue self.old core block ≡ 0) }
         ensures refused { OnErr result (self.new ≡ self.old) }
         ensures room { KeepsRoom self.old self.new }
@@ -157,7 +157,7 @@ impl<B: Block> Parts<B> {
     fn add_line(&mut self, core: u32, block: u32) -> Result<(), NoMemory>
         requires core { core < self.old.situation.shape.cores }
         requires absent { has_line self.old core block ≡ false }
-        ensures ok { OnOk result ((has_line self.new core block ≡ true) × (0 < slice_index self.new.rooms core)) }
+        ensures ok { OnOk result ((has_line self.new core block ≡ true) × (0 < slice_index self.new.request_rooms core)) }
         ensures full { OnErr result (places self.old core ≡ 0) }
         ensures refused { OnErr result (self.new ≡ self.old) }
         ensures room { KeepsRoom self.old self.new }
@@ -174,8 +174,8 @@ impl<B: Block> Parts<B> {
     /// Makes room for one more request of the core.
     fn reserve_request(&mut self, core: u32) -> Result<(), NoMemory>
         requires { core < self.old.situation.shape.cores }
-        ensures ok { OnOk result (0 < slice_index self.new.rooms core) }
-        ensures full { OnErr result (slice_index self.old.rooms core ≡ 0) }
+        ensures ok { OnOk result (0 < slice_index self.new.request_rooms core) }
+        ensures full { OnErr result (slice_index self.old.request_rooms core ≡ 0) }
         ensures refused { OnErr result (self.new ≡ self.old) }
         ensures room { KeepsRoom self.old self.new }
         ensures lines { self.new.lines ≡ self.old.lines }

@@ -2,7 +2,7 @@ use Rattle.std.proofs.Common.{◌≡◌, ℕ, ◌<◌, List, ◌++◌, ◌∷◌
 use Rattle.std.specs.Prelude.{slice_index_or, slice_set, nat_eq, map}
 use Rattle.std.specs.Map.{lookup}
 use Rattle.std.proofs.lemmas.List.{get_or_read, map-set}
-use Rattle.snoop_machine.specs.Cache.{Contents, no_cache, line_in, blocks_of, KeepsSpare}
+use Rattle.snoop_machine.specs.Cache.{Contents, no_cache, line_in, blocks_of, KeepsMapRoom}
 use Rattle.snoop_machine.specs.Lines.{Held}
 use Rattle.snoop_machine.proofs.MapRows.{rows-same}
 use Rattle.snoop_machine.proofs.LineMaps.{in_maps, among_seen, spare_seen, blocks_seen}
@@ -53,4 +53,4 @@ pub returns-clause-room : goal.returns-clause-room
 returns-clause-room g c =
     let d = (goal.at.returns-clause-room g c).After-index_mut-cache in
     spares_kept c.self.inside.caches.items c.self.inside.holders c.args.self.now c.self.view_is c.args.core c.put_ahead.new.self c.self.inside.holders (within g d)
-    (subst (λ (cache : Contents). KeepsSpare cache c.put_ahead.new.self) (read g d) c.put_ahead.ensures.room)
+    (subst (λ (cache : Contents). KeepsMapRoom cache c.put_ahead.new.self) (read g d) c.put_ahead.ensures.room)

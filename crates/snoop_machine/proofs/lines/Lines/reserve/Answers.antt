@@ -2,7 +2,7 @@ use Rattle.std.proofs.Common.{◌≡◌, ℕ, ◌<◌, List, length, sym, ◌∙
 use Rattle.std.specs.Prelude.{slice_index_or, slice_set, map, OnOk}
 use Rattle.std.specs.Map.{keys_of}
 use Rattle.std.proofs.lemmas.List.{get_or_read, get_or-set_same, map-set}
-use Rattle.snoop_machine.specs.Cache.{Contents, no_cache, KeepsSpare}
+use Rattle.snoop_machine.specs.Cache.{Contents, no_cache, KeepsMapRoom}
 use Rattle.snoop_machine.specs.Lines.{Held}
 use Rattle.snoop_machine.proofs.MapRows.{rows-same, line-same, blocks-same, spare-at}
 use Rattle.snoop_machine.proofs.LineMaps.{in_maps}
@@ -40,11 +40,11 @@ returns-clause-lines g c =
     blocks-same c.self.inside.caches.items c.args.core c.reserve.new.self (λ i. keys_of (same g d i)) ∙ ap (λ (h : Held). h.lines) c.self.view_is
 
 -- the room that callers see of each map after it
-abbrev spares : (g : Over) (c : After-reserve g) → List ℕ
-spares g c = map (λ (cache : Contents). cache.spare) (slice_set c.self.inside.caches.items c.args.core c.reserve.new.self)
+abbrev line_rooms : (g : Over) (c : After-reserve g) → List ℕ
+line_rooms g c = map (λ (cache : Contents). cache.spare) (slice_set c.self.inside.caches.items c.args.core c.reserve.new.self)
 
 -- for this core it is the map's
-here : (g : Over) (c : After-reserve g) → slice_index_or (spares g c) c.args.core 0 ≡ c.reserve.new.self.spare
+here : (g : Over) (c : After-reserve g) → slice_index_or (line_rooms g c) c.args.core 0 ≡ c.reserve.new.self.spare
 here g c =
     spare-at (slice_set c.self.inside.caches.items c.args.core c.reserve.new.self) c.args.core
     ∙ ap (λ (cache : Contents). cache.spare) (get_or-set_same c.self.inside.caches.items c.args.core c.reserve.new.self no_cache (within g c))
@@ -59,10 +59,10 @@ returns-clause-spares g c =
     let d = (goal.at.returns-clause-spares g c).After-reserve in
     map-set (λ (cache : Contents). cache.spare) c.self.inside.caches.items c.args.core c.reserve.new.self
     ∙ (ap (λ (n : ℕ). slice_set (map (λ (cache : Contents). cache.spare) c.self.inside.caches.items) c.args.core n) (sym (here g d))
-    ∙ ap (λ (h : Held). slice_set h.spares c.args.core (slice_index_or (spares g d) c.args.core 0)) c.self.view_is)
+    ∙ ap (λ (h : Held). slice_set h.line_rooms c.args.core (slice_index_or (line_rooms g d) c.args.core 0)) c.self.view_is)
 
 pub returns-clause-room : goal.returns-clause-room
 returns-clause-room g c =
     let d = (goal.at.returns-clause-room g c).After-reserve in
     spares_kept c.self.inside.caches.items c.self.inside.holders c.args.self.now c.self.view_is c.args.core c.reserve.new.self c.self.inside.holders (within g d)
-    (subst (λ (cache : Contents). KeepsSpare cache c.reserve.new.self) (read g d) c.reserve.ensures.room)
+    (subst (λ (cache : Contents). KeepsMapRoom cache c.reserve.new.self) (read g d) c.reserve.ensures.room)

@@ -12,7 +12,7 @@ use Rattle.snoop_model.specs.Moves.Move.{moves_to}
 use Rattle.snoop_model.specs.Moves.LookUps.{HasRow}
 use Rattle.snoop_model.proofs.Tables.Rows.{IsProper-order}
 use Rattle.snoop_machine.specs.Lines.{row_of, line_at}
-use Rattle.snoop_machine.proofs.LinesGoing.{LinesGo-set, KeepsSpares-more, row_after}
+use Rattle.snoop_machine.proofs.LinesGoing.{LinesGo-set, KeepsMapsRoom-more, row_after}
 use Rattle.snoop_model.proofs.Lines.EachRow.{Taking, Taking-more, Taking-past}
 use Rattle.snoop_machine.proofs.ConcernedCores.{concerned_within, TakesRow-passed, Cell-leaves}
 use Rattle.snoop_machine.proofs.lines.Lines.take_rows.Given.{Over}
@@ -100,7 +100,7 @@ loop-core-preserved g c =
           ∙ (set-set first.rows block (row_of now.rows block) (slice_set (row_of now.rows block) n line) ∙ ap (λ (r : List Line). slice_set first.rows block r) (sym after))),
       took.many ∙ before.3,
       LinesGo-set block first now new n line (in_blocks g d) (in_row g d) took.rows before.4 (first_line g d) took.lines took.others,
-      KeepsSpares-more block n first now new before.4 before.5 (let went = took.lines in omega arith) took.others took.room,
+      KeepsMapsRoom-more block n first now new before.4 before.5 (let went = took.lines in omega arith) took.others took.room,
     )
 
 pub returns-clause-taken : goal.returns-clause-taken

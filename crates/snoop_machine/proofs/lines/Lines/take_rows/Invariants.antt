@@ -1,7 +1,7 @@
 use Rattle.std.proofs.Common.{◌≡◌, ◌≤◌, ◌-◌, length}
 use Rattle.std.specs.Prelude.{slice_set}
 use Rattle.snoop_model.proofs.Lines.EachRow.{Taking}
-use Rattle.snoop_machine.specs.Lines.{LinesGo, KeepsSpares, row_of}
+use Rattle.snoop_machine.specs.Lines.{LinesGo, KeepsMapsRoom, row_of}
 use Rattle.snoop_machine.proofs.lines.Lines.take_rows.Given as goal
 
 abbrev pub invariant-loop-core : goal.invariant-loop-core
@@ -11,7 +11,7 @@ invariant-loop-core g l =
     × (l.self.rows ≡ slice_set l.initial.self.rows l.block (row_of l.self.rows l.block))
     × (length l.self.lines ≡ length l.initial.self.lines)
     × LinesGo l.block l.initial.self l.self
-    × KeepsSpares l.initial.self l.self
+    × KeepsMapsRoom l.initial.self l.self
 
 abbrev pub decreases-loop-core : goal.decreases-loop-core
 decreases-loop-core g l = length (row_of l.initial.self.rows l.block) - l.from

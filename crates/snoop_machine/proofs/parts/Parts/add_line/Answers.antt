@@ -4,11 +4,11 @@ use Rattle.std.proofs.lemmas.Grind.{common_steps}
 use Rattle.std.proofs.lemmas.Result.{err_from_is_err_and}
 use Rattle.std.proofs.lemmas.List.{length-set}
 use Rattle.snoop_bus.specs.Traffic.{Traffic, Waiting, waiting_of}
-use Rattle.snoop_machine.specs.PartsView.{Fields, fields, shown_spares, IsSound}
+use Rattle.snoop_machine.specs.PartsView.{Fields, fields, shown_line_rooms, IsSound}
 use Rattle.snoop_model.specs.Pictures.Lines.{Line}
 use Rattle.snoop_machine.specs.Standing.{Standing}
 use Rattle.snoop_machine.specs.Prepared.{places}
-use Rattle.snoop_machine.specs.Lines.{KeepsSpares}
+use Rattle.snoop_machine.specs.Lines.{KeepsMapsRoom}
 use Rattle.snoop_machine.proofs.Room.{held_in, held_in-set, keeps_room, shown-same, places-map, places-queue}
 use Rattle.snoop_machine.proofs.QueueViews.{queues_of-room, same_traffic, IsSound-room}
 use Rattle.snoop_machine.proofs.parts.Parts.add_line.Given.{Over}
@@ -59,8 +59,8 @@ returns-in_err-reserve-2-clause-refused g c =
     let m = (fields c.self.inside.protocol c.self.inside.shape c.self.inside.lines c.self.inside.memory c.self.inside.bus c.self.inside.log) in
     let after = c.reserve.new.self in
     let p = err_from_is_err_and c.from_residual-in_err-reserve-2.result c.from_residual-in_err-reserve-2.ensures.1 in
-    let shown : shown_spares m.bus.queues after.spares ≡ shown_spares m.bus.queues m.lines.spares =
-    ap (λ (spares : List ℕ). shown_spares m.bus.queues spares) c.reserve.ensures.spares ∙ shown-same m.bus.queues m.lines.spares c.args.core _ c.in_err-reserve-2.ensures.full in
+    let shown : shown_line_rooms m.bus.queues after.line_rooms ≡ shown_line_rooms m.bus.queues m.lines.line_rooms =
+    ap (λ (line_rooms : List ℕ). shown_line_rooms m.bus.queues line_rooms) c.reserve.ensures.line_rooms ∙ shown-same m.bus.queues m.lines.line_rooms c.args.core _ c.in_err-reserve-2.ensures.full in
     rw (p.1, c.in_err-reserve-2.ensures.refused, c.reserve.ensures.rows, c.reserve.ensures.lines, shown) c.self.view_is
 
 pub returns-in_err-reserve-2-clause-room : goal.returns-in_err-reserve-2-clause-room
@@ -93,9 +93,9 @@ returns-clause-room g c =
     let more = c.reserve-2.ensures.room in
     let new : Fields = record m { lines = c.put_ahead.new.self; bus = c.reserve-2.new.self } in
     let Q : List Waiting → Type 0 = λ queues. (k : ℕ) → held_in m.bus.queues k ≤ held_in queues k in
-    let spares : KeepsSpares m.lines new.lines = λ k.
+    let line_rooms : KeepsMapsRoom m.lines new.lines = λ k.
     (let grown = c.reserve.ensures.room k in
     let used = c.put_ahead.ensures.room k in
     let same = ap (λ (lines : List (List ℕ)). length (slice_index_or lines k [])) c.reserve.ensures.lines in
     omega arith) in
-    keeps_room m new c.args.self.now c.self.view_is (omega arith) (subst Q (sym c.reserve-2.ensures.queue) (held_in-set m.bus.queues core queue in_queues (omega arith))) spares
+    keeps_room m new c.args.self.now c.self.view_is (omega arith) (subst Q (sym c.reserve-2.ensures.queue) (held_in-set m.bus.queues core queue in_queues (omega arith))) line_rooms

@@ -17,7 +17,7 @@ use Rattle.snoop_machine.specs.PartsView.{Fields, fields, standing, pictures_of,
 use Rattle.snoop_machine.specs.Lines.{row_of}
 use Rattle.snoop_model.specs.Moves.Move.{ArrivesFor, ArrivesAtMemory, Responds, Settles, came_of, written}
 use Rattle.snoop_machine.proofs.QueueViews.{IsSound-close}
-use Rattle.snoop_machine.proofs.Room.{held_in, keeps_room, KeepsSpares-same}
+use Rattle.snoop_machine.proofs.Room.{held_in, keeps_room, KeepsMapsRoom-same}
 use Rattle.snoop_machine.proofs.Responses.{Arrives-put}
 use Rattle.snoop_machine.proofs.parts.Parts.finish_put.Given.{Over}
 use Rattle.snoop_machine.proofs.parts.Parts.finish_put.Goals as goal
@@ -124,4 +124,4 @@ returns-clause-room g c =
     let queues : (core : ℕ) → held_in m.bus.queues core ≤ held_in c.finish.new.self.queues core =
     λ core. (let B : Traffic → Type 0 = λ b. held_in m.bus.queues core ≤ held_in b.queues core in subst B (sym c.finish.ensures.after) (omega arith)) in
     let new : Fields = record m { memory = c.settle.new.self; bus = c.finish.new.self; log = c.push.new.self } in
-    keeps_room m new c.args.self.now c.self.view_is items queues (KeepsSpares-same m.lines)
+    keeps_room m new c.args.self.now c.self.view_is items queues (KeepsMapsRoom-same m.lines)

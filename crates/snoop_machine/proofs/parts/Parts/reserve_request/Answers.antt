@@ -1,7 +1,7 @@
 use Rattle.std.proofs.Common.{◌≡◌, ◌<◌, ◌≤◌, ℕ, List, sym, ap, subst, length, arith, refl}
 use Rattle.std.specs.Prelude.{slice_set}
 use Rattle.snoop_bus.specs.Traffic.{Traffic, Waiting, waiting_of}
-use Rattle.snoop_machine.proofs.Room.{held_in, held_in-set, keeps_room, KeepsSpares-same}
+use Rattle.snoop_machine.proofs.Room.{held_in, held_in-set, keeps_room, KeepsMapsRoom-same}
 use Rattle.snoop_machine.proofs.QueueViews.{queues_of-room, same_traffic, IsSound-room}
 use Rattle.snoop_machine.specs.PartsView.{Fields, fields, IsSound}
 use Rattle.snoop_machine.proofs.parts.Parts.reserve_request.Goals as goal
@@ -38,4 +38,4 @@ returns-clause-room g c =
     let more = c.reserve.ensures.room in
     let new : Fields = record m { bus = c.reserve.new.self } in
     let Q : List Waiting → Type 0 = λ queues. (k : ℕ) → held_in m.bus.queues k ≤ held_in queues k in
-    keeps_room m new c.args.self.now c.self.view_is (omega arith) (subst Q (sym c.reserve.ensures.queue) (held_in-set m.bus.queues core queue in_queues (omega arith))) (KeepsSpares-same m.lines)
+    keeps_room m new c.args.self.now c.self.view_is (omega arith) (subst Q (sym c.reserve.ensures.queue) (held_in-set m.bus.queues core queue in_queues (omega arith))) (KeepsMapsRoom-same m.lines)
