@@ -1,4 +1,4 @@
 -- The lines of one block.
-pub mod OneLine
 pub mod EachRow
 pub mod TheSender
+pub mod Answered

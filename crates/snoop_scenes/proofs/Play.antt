@@ -1,13 +1,12 @@
 -- What the steps of some frames come to, computed one after another.
-use Rattle.std.proofs.Common.{◌≡◌, List, [], ◌∷◌, None, refl, subst}
+use Rattle.std.proofs.Common.{◌≡◌, List, [], ◌∷◌, refl, subst}
 use Rattle.snoop_trace.specs.Extent.{Extent}
 use Rattle.snoop_trace.specs.declared.step.Step.{Step}
 use Rattle.snoop_trace.specs.declared.protocol.Protocol.{Protocol}
 use Rattle.snoop_model.specs.Pictures.Situation.{Situation, reset}
 use Rattle.snoop_model.specs.Runs.Run.{FirstRunFrom}
-use Rattle.snoop_model.proofs.Invariant.Runs.{reset_invariant}
-use Rattle.snoop_model.proofs.Queues.Moves.{starts_well, keeps_well}
-use Rattle.snoop_model.proofs.Runs.GoOn.{IsSteady, steady_on}
+use Rattle.snoop_model.proofs.Queues.Moves.{keeps_well}
+use Rattle.snoop_model.proofs.Runs.GoOn.{IsSteady, reset_steady, steady_on}
 use Rattle.snoop_model.proofs.Steps.Next.{next_of}
 use Rattle.snoop_model.proofs.Steps.GoesNext.{goes_next}
 use Rattle.snoop_scenes.specs.Scene.{Frame, steps_of, outcomes_of, controllers, PassesFrom, IsPlayed}
@@ -35,10 +34,11 @@ plays old steady (step ∷ steps) =
 
 -- the steps of these frames come to these frames, and to this end
 pub told : (protocol : Protocol) (shape : Extent) (frames : List Frame) (end : Situation)
-    → frames_from (reset protocol shape) (steps_of frames) ≡ frames → end_from (reset protocol shape) (steps_of frames) ≡ end → IsPlayed protocol shape frames end
+    → frames_from (reset protocol shape) (steps_of frames) ≡ frames → end_from (reset protocol shape) (steps_of frames) ≡ end
+    → IsPlayed protocol shape frames end
 told protocol shape frames end same leads =
     let first : Situation = reset protocol shape in
     let steps : List Step = steps_of frames in
-    let played = plays first (reset_invariant protocol shape, (starts_well protocol shape (λ core. None)).0) steps in
+    let played = plays first (reset_steady protocol shape) steps in
     let here = subst (λ s. Plays first steps frames s) leads (subst (λ es. Plays first steps es (end_from first steps)) same played) in
     record { run = here.0; states = here.1 }

@@ -2,7 +2,7 @@
 use Rattle.std.proofs.Common.{◌≡◌, ◌≢◌, ℕ, true, false, not, ◌||◌, List, [], length, Option, Some, None, refl, ◌⊎◌, inl, inr, ap, sym, ◌∙◌, subst, arith}
 use Rattle.std.specs.Prelude.{◌<◌, IfSome, IsSome, IsSomeAnd, ◌≤◌}
 use Rattle.std.specs.Option.{ForSome}
-use Rattle.std.proofs.lemmas.Bool.{cases_lt, and_parts, eq-eqb}
+use Rattle.std.proofs.lemmas.Bool.{and_parts, cases_Bool, cases_lt, eq-eqb}
 use Rattle.std.proofs.lemmas.List.{get_or_past}
 use Rattle.std.proofs.lemmas.Option.{same_Some}
 use Rattle.snoop_trace.specs.declared.step.Op.{Op}
@@ -41,7 +41,7 @@ use Rattle.snoop_model.proofs.Tables.Every.{given, given_at}
 use Rattle.snoop_model.proofs.Tables.AskTests.{is_idle_evict}
 use Rattle.snoop_model.proofs.Tables.RespondTests.{memory_row_for, row_for}
 use Rattle.snoop_model.proofs.OneBlock.OrderStep.{seen_other}
-use Rattle.snoop_model.proofs.OneBlock.Facts.{one_writer, fits_is_owner, clash, or_not}
+use Rattle.snoop_model.proofs.OneBlock.Facts.{one_writer, fits_is_owner, clash}
 use Rattle.snoop_model.proofs.OneBlock.Possible.{Answerable, Possible, order_possible, ask_possible, respond_possible}
 use Rattle.snoop_model.proofs.Tables.SenderLines.{led_line}
 use Rattle.snoop_model.proofs.Tables.StateTests.{is_hit, hit_rule, owner_reads, brings_data, resting_rule}
@@ -152,14 +152,14 @@ nobody_owns p n value picture g idle (Some o) is =
 
 no_data : (found : Option Open) → data_under_way found ≡ None → brings_data (talk_of found) ≡ false
 no_data None none = refl
-no_data (Some o) none = elim (or_not (carries_value o.payload)) as (λ _. carries_value o.payload ≡ false) [
+no_data (Some o) none = elim (cases_Bool (carries_value o.payload)) as (λ _. carries_value o.payload ≡ false) [
   | inl e ↦ let h : ◌≡◌ {A = Option (List ℕ)} (Some o.value) None = rw e at none in cc
   | inr e ↦ e
 ]
 
 data_is : (found : Option Open) (value : List ℕ) → ((o : Open) → found ≡ Some o → carries_value o.payload ≡ true → o.value ≡ value) → IfSome (data_under_way found) (λ sent. sent ≡ value)
 data_is None value carried = tt
-data_is (Some o) value carried = elim (or_not (carries_value o.payload)) as (λ _. IfSome (data_under_way (Some o)) (λ sent. sent ≡ value)) [
+data_is (Some o) value carried = elim (cases_Bool (carries_value o.payload)) as (λ _. IfSome (data_under_way (Some o)) (λ sent. sent ≡ value)) [
   | inl e ↦ rw e (carried o refl e)
   | inr e ↦ rw e tt
 ]
@@ -260,7 +260,8 @@ asked_row s g core block word asking busy = elim (place s g core block) [
       subst P (sym nothing) (nothing_asked s.protocol asking) busy
   | inl within ↦
       let held = state_of s core block in
-      let not_idle : is_idle_evict held (asked asking) ≡ false = elim (or_not (is_idle_evict held (asked asking))) as (λ _. is_idle_evict held (asked asking) ≡ false) [
+      let not_idle : is_idle_evict held (asked asking) ≡ false = elim (cases_Bool (is_idle_evict held (asked asking))) as
+      (λ _. is_idle_evict held (asked asking) ≡ false) [
         | inl idle ↦ absurd (busy (idle_evict held asking idle))
         | inr e ↦ e
       ] in

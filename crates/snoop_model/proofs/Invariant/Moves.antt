@@ -1,10 +1,10 @@
 -- A move keeps the invariant of the machine.
-use Rattle.std.proofs.Common.{◌≡◌, ◌≢◌, ℕ, ◌<◌, ◌≤◌, true, false, eqb, List, [], ◌∷◌, ◌++◌, length, Option, Some, None, refl, inl, inr, ap, sym, ◌∙◌, subst, cond}
-use Rattle.std.specs.Prelude.{option_to_list, slice_set, IfSome, All}
+use Rattle.std.proofs.Common.{◌≡◌, ℕ, ◌<◌, ◌≤◌, true, false, List, [], ◌∷◌, ◌++◌, length, Option, Some, None, refl, inl, inr, ap, sym, ◌∙◌, subst}
+use Rattle.std.specs.Prelude.{option_to_list, IfSome, All}
 use Rattle.std.proofs.lemmas.Bool.Decides.{eqb_tells}
 use Rattle.std.proofs.lemmas.List.{append-nil, length-set, get_or_past, get_or-set_same, get_or-set_other}
 use Rattle.std.proofs.lemmas.List.Elements.{All-nil, All-cons, All-append, filter_map-append}
-use Rattle.std.proofs.lemmas.Bool.{cases_lt}
+use Rattle.std.proofs.lemmas.Bool.{cases_lt, eq-eqb, ne_eqb}
 use Rattle.std.specs.Option.{option_map_or}
 use Rattle.snoop_trace.specs.Extent.{Extent}
 use Rattle.snoop_trace.specs.Words.{HasWord, IsWord}
@@ -15,9 +15,7 @@ use Rattle.snoop_trace.specs.declared.step.Step.TheVariants.{Ask, Order, Respond
 use Rattle.snoop_rules.specs.declared.names.CacheState.{CacheState}
 use Rattle.snoop_rules.specs.declared.names.CacheAction.{CacheAction}
 use Rattle.snoop_rules.specs.declared.names.CacheAction.TheVariants as action
-use Rattle.snoop_trace.specs.declared.protocol.Protocol.{Protocol}
 use Rattle.snoop_rules.specs.declared.names.Request.{Request}
-use Rattle.snoop_rules.specs.declared.names.Request.TheVariants as request
 use Rattle.snoop_history.specs.declared.items.Did.{Did}
 use Rattle.snoop_history.specs.declared.items.Item.{Item}
 use Rattle.snoop_history.specs.declared.items.Item.TheVariants as item
@@ -29,11 +27,12 @@ use Rattle.snoop_model.specs.declared.access.Access.{Access}
 use Rattle.snoop_model.specs.Pictures.Lines.{Line}
 use Rattle.snoop_model.specs.Pictures.Picture.{Picture, held_at, held_by, nothing_held, with_line}
 use Rattle.snoop_model.specs.Pictures.Situation.{Situation, picture_of}
-use Rattle.snoop_model.specs.Moves.Move.{Takes, FillsRequestor, ArrivesFor, Asks, Orders, Responds, IsWithin, MoveOn, kept_waiting, queues_after, came_of}
+use Rattle.snoop_model.specs.Moves.Move.{Takes, ArrivesFor, Asks, Orders, Responds, IsWithin, MoveOn, kept_waiting, queues_after, came_of}
 use Rattle.snoop_model.specs.Invariant.Block.{BlockInvariant}
 use Rattle.snoop_model.specs.Invariant.Invariant.{Invariant}
 use Rattle.snoop_model.proofs.OneBlock.Operation.{did_in, flat_after, IsLawful}
-use Rattle.snoop_model.proofs.OneBlock.OfBlocks.{changed, in_pictures, picture_here, picture_elsewhere, shaped_after}
+use Rattle.snoop_model.proofs.OneBlock.OfBlocks.{changed, in_pictures, each_picture, shaped_after}
+use Rattle.snoop_model.proofs.Lines.Answered.{by_request, arrives_length, still_waiting}
 use Rattle.snoop_model.proofs.Invariant.FlatMemory.{IsOn, FollowsIn, flat_logged, legal_logged, next_lawful}
 use Rattle.snoop_model.proofs.OneBlock.AskStep.{ask_keeps}
 use Rattle.snoop_model.proofs.OneBlock.OrderStep.{order_keeps}
@@ -55,62 +54,43 @@ all_logged P log (Some entry) was now =
     one_logged (item.Came came (Some did)) here = All-cons P did [] here (All-nil P)
     one_logged (item.Came came None) here = All-nil P
 
+-- the item of a move on a block may come next; its operation, if any, is on the block, of a core and a word that there are
+pub record IsNextOn (old : Situation) (block : ℕ) (entry : Option Item) : Type 0 where
+  pub on : IsOn block (did_in entry)
+  pub follows : FollowsIn old.log entry
+  pub logged : IfSome (did_in entry) (IsLogged old)
+
 -- what is to be shown of a move
 pub record Keeps (old : Situation) (block : ℕ) (next : Picture) (queues : List (List ℕ)) (entry : Option Item) : Type 0 where
   pub within : block < old.shape.blocks
   pub as_wide : length next.caches ≡ length (picture_of old block).caches
   pub as_many_queues : length queues ≡ length old.queues
   pub opened : (o : Open) → next.transaction ≡ Some o → o.block ≡ block
-  pub on : IsOn block (did_in entry)
   pub block_after : BlockInvariant old.protocol old.shape.cores (flat_after (flat_words old.log block) (did_in entry)) next
-  pub follows : FollowsIn old.log entry
   pub accesses : (core : ℕ) (access : Access) → (held_by next core).waiting ≡ Some access → IsWord old.shape access.word
-  pub logged : IfSome (did_in entry) (IsLogged old)
+  pub item : IsNextOn old block entry
 
 kept : (old : Situation) (block : ℕ) (next : Picture) (queues : List (List ℕ)) (entry : Option Item) → Invariant old → Keeps old block next queues entry → Invariant (changed old block next queues (old.log ++ option_to_list entry))
 kept old block next queues entry g k =
     let log = old.log ++ option_to_list entry in
-    let new : Situation = changed old block next queues log in
-    let here : picture_of new block ≡ next = picture_here old block next queues log (in_pictures old block g.shaped k.within) in
-    let others : (b : ℕ) → b ≢ block → picture_of new b ≡ picture_of old b = picture_elsewhere old block next queues log in
-    let at : (b : ℕ) → b ≡ block → picture_of new b ≡ next = λ b e. ap (picture_of new) e ∙ here in
+    let within = in_pictures old block g.shaped k.within in
+    let Good : List ℕ → Picture → Type 0 = BlockInvariant old.protocol old.shape.cores in
     record {
       shaped = shaped_after old block next queues log g.shaped k.as_wide k.as_many_queues;
-      opened = λ b o is_open. elim (eqb_tells b block) as (λ _. o.block ≡ b) [
-        | inl h ↦ k.opened o (ap (λ (x : Picture). x.transaction) (sym (at b h.1)) ∙ is_open) ∙ sym h.1
-        | inr h ↦ g.opened b o (ap (λ (x : Picture). x.transaction) (sym (others b h.1)) ∙ is_open)
-      ];
-      blocks = λ b b_in.
-          let v : flat_words new.log b ≡ cond (eqb block b) (flat_after (flat_words old.log b) (did_in entry)) (flat_words old.log b) = flat_logged old.log entry block b k.on in
-          subst (λ (x : List ℕ). BlockInvariant old.protocol old.shape.cores x (picture_of new b)) (sym v) (elim (eqb_tells block b) as (λ _. BlockInvariant old.protocol old.shape.cores (cond (eqb block b) (flat_after (flat_words old.log b) (did_in entry)) (flat_words old.log b)) (picture_of new b)) [
-            | inl h ↦ rw h.0 (subst (λ (x : Picture). BlockInvariant old.protocol old.shape.cores (flat_after (flat_words old.log b) (did_in entry)) x) (sym (at b (sym h.1))) (subst (λ (x : ℕ). BlockInvariant old.protocol old.shape.cores (flat_after (flat_words old.log x) (did_in entry)) next) h.1 k.block_after))
-            | inr h ↦ rw h.0 (subst (λ (x : Picture). BlockInvariant old.protocol old.shape.cores (flat_words old.log b) x) (sym (others b (λ e. h.1 (sym e)))) (g.blocks b b_in))
-          ]);
-      legal = legal_logged old.log entry g.legal k.follows;
-      logged = all_logged (IsLogged old) old.log entry g.logged k.logged;
-      accesses = λ core b access waits. elim (eqb_tells b block) as (λ _. IsWord old.shape access.word) [
-        | inl h ↦ k.accesses core access (ap (λ (x : Picture). (held_by x core).waiting) (sym (at b h.1)) ∙ waits)
-        | inr h ↦ g.accesses core b access (ap (λ (x : Picture). (held_by x core).waiting) (sym (others b h.1)) ∙ waits)
-      ];
+      opened = each_picture old block next queues log (λ b x. (o : Open) → x.transaction ≡ Some o → o.block ≡ b) within (λ b apart. g.opened b) k.opened;
+      blocks = each_picture old block next queues log (λ b x. b < old.shape.blocks → Good (flat_words log b) x) within
+          (λ b apart b_in. subst (λ ws. Good ws (picture_of old b)) (sym
+          (flat_logged old.log entry block b k.item.on ∙ rw (ne_eqb block b (λ e. apart (sym e))) refl)) (g.blocks b b_in))
+          (λ b_in. subst (λ ws. Good ws next) (sym (flat_logged old.log entry block block k.item.on ∙ rw (eq-eqb block block refl) refl)) k.block_after);
+      legal = legal_logged old.log entry g.legal k.item.follows;
+      logged = all_logged (IsLogged old) old.log entry g.logged k.item.logged;
+      accesses = λ core. each_picture old block next queues log (λ b x. (access : Access) → (held_by x core).waiting ≡ Some access
+          → IsWord old.shape access.word) within (λ b apart. g.accesses core b) (k.accesses core);
     }
 
 as_many_after : (a : CacheAction) (queues : List (List ℕ)) (core block : ℕ) → length (queues_after a queues core block) ≡ length queues
 as_many_after (action.Issue r) queues core block = length-set queues core _
 as_many_after _ queues core block = refl
-
--- what an Ask logs
-takes_on : (a : CacheAction) (next : CacheState) (log : List Item) (core block word : ℕ) (asking : Op) (old new : Line) (answer : Reply) (entry : Option Item) → Takes a next log core block word asking old new answer entry → IsOn block (did_in entry)
-takes_on action.Hit next log core block word asking old new answer entry t = subst (λ (x : Option Item). IsOn block (did_in x)) (sym t.1.2) refl
-takes_on (action.Issue r) next log core block word asking old new answer entry t = subst (λ (x : Option Item). IsOn block (did_in x)) (sym t.2) tt
-takes_on action.Drop next log core block word asking old new answer entry t = subst (λ (x : Option Item). IsOn block (did_in x)) (sym t.2) tt
-takes_on _ next log core block word asking old new answer entry t = absurd t
-
-takes_follows : (a : CacheAction) (next : CacheState) (log : List Item) (core block word : ℕ) (asking : Op) (old new : Line) (answer : Reply) (entry : Option Item) → Takes a next log core block word asking old new answer entry → (a ≡ action.Hit → word < 64) → IsLawful (flat_words log block) (did_in entry) → FollowsIn log entry
-takes_follows action.Hit next log core block word asking old new answer entry t inside lawful =
-    subst (FollowsIn log) (sym t.1.2) (next_lawful log core block word asking t.0 true (inside refl) (subst (λ (x : Option Item). IsLawful (flat_words log block) (did_in x)) t.1.2 lawful))
-takes_follows (action.Issue r) next log core block word asking old new answer entry t inside lawful = subst (FollowsIn log) (sym t.2) tt
-takes_follows action.Drop next log core block word asking old new answer entry t inside lawful = subst (FollowsIn log) (sym t.2) tt
-takes_follows _ next log core block word asking old new answer entry t inside lawful = absurd t
 
 -- what waits in a line is of a word that there is
 abbrev AccessWithin : Extent → Line → Type 0
@@ -143,12 +123,20 @@ hit_word s next log core block word op.Load old new answer entry within t = with
 hit_word s next log core block word (op.Store v) old new answer entry within t = within
 hit_word s next log core block word op.Evict old new answer entry within t = absurd t.1.0.performed
 
-takes_logged : (s : Situation) (a : CacheAction) (next : CacheState) (log : List Item) (core block word : ℕ) (asking : Op) (old new : Line) (answer : Reply) (entry : Option Item) → Takes a next log core block word asking old new answer entry → IsWithin s core block → HasWord s.shape word asking → IfSome (did_in entry) (IsLogged s)
-takes_logged s action.Hit next log core block word asking old new answer entry t within there =
-    subst (λ (x : Option Item). IfSome (did_in x) (IsLogged s)) (sym t.1.2) (within, hit_word s next log core block word asking old new answer entry there t)
-takes_logged s (action.Issue r) next log core block word asking old new answer entry t within there = subst (λ (x : Option Item). IfSome (did_in x) (IsLogged s)) (sym t.2) tt
-takes_logged s action.Drop next log core block word asking old new answer entry t within there = subst (λ (x : Option Item). IfSome (did_in x) (IsLogged s)) (sym t.2) tt
-takes_logged s _ next log core block word asking old new answer entry t within there = absurd t
+-- the item of an Ask
+takes_item : (s : Situation) (a : CacheAction) (next : CacheState) (core block word : ℕ) (asking : Op) (old new : Line) (answer : Reply) (entry : Option Item)
+    → Takes a next s.log core block word asking old new answer entry → IsWithin s core block → HasWord s.shape word asking
+    → IsLawful (flat_words s.log block) (did_in entry) → IsNextOn s block entry
+takes_item s action.Hit next core block word asking old new answer entry t within there lawful =
+    let has = hit_word s next s.log core block word asking old new answer entry there t in
+    let lawful_hit = subst (λ (x : Option Item). IsLawful (flat_words s.log block) (did_in x)) t.1.2 lawful in
+    subst (IsNextOn s block) (sym t.1.2)
+    (record { on = refl; follows = next_lawful s.log core block word asking t.0 true has.1 lawful_hit; logged = (within, has) })
+takes_item s (action.Issue r) next core block word asking old new answer entry t within there lawful = subst (IsNextOn s block) (sym t.2)
+    (record { on = tt; follows = tt; logged = tt })
+takes_item s action.Drop next core block word asking old new answer entry t within there lawful = subst (IsNextOn s block) (sym t.2)
+    (record { on = tt; follows = tt; logged = tt })
+takes_item s _ next core block word asking old new answer entry t within there lawful = absurd t
 
 pub ask_moves : (old : Situation) (core block word : ℕ) (asking : Op) (answer : Reply) (new : Situation) (entry : Option Item) → Invariant old → IsWithin old core block → HasWord old.shape word asking → Asks old core block word asking answer new entry → Invariant new
 ask_moves old core block word asking answer new entry g within there a =
@@ -163,11 +151,8 @@ ask_moves old core block word asking answer new entry g within there a =
       as_wide = length-set before.caches core a.held;
       as_many_queues = as_many_after a.row.action old.queues core block;
       opened = λ o is_open. g.opened block o is_open;
-      on = takes_on a.row.action a.row.next old.log core block word asking (held_by before core) a.held answer entry a.taken;
       block_after = k.0;
-      follows = takes_follows a.row.action a.row.next old.log core block word asking (held_by before core) a.held answer entry a.taken
-          (λ hit. (hit_word old a.row.next old.log core block word asking (held_by before core) a.held answer entry there (subst (λ (x : CacheAction). Takes x a.row.next old.log core block word asking (held_by before core) a.held answer entry) hit a.taken)).1) k.1;
-      logged = takes_logged old a.row.action a.row.next old.log core block word asking (held_by before core) a.held answer entry a.taken within there;
+      item = takes_item old a.row.action a.row.next core block word asking (held_by before core) a.held answer entry a.taken within there k.1;
       accesses = λ c access waits.
           elim (eqb_tells c core) as (λ _. IsWord old.shape access.word) [
             | inl h ↦ takes_access old a.row.action a.row.next old.log core block word asking (held_by before core) a.held answer entry a.taken there (g.accesses core block) access
@@ -191,10 +176,8 @@ order_moves old core block q new g within o =
       as_wide = o.taken.same_length;
       as_many_queues = length-set old.queues core _;
       opened = λ t is_open. opened_block o.next.transaction _ t o.opened is_open;
-      on = tt;
-      logged = tt;
       block_after = k;
-      follows = tt;
+      item = record { on = tt; follows = tt; logged = tt };
       accesses = λ c access waits.
           elim (cases_lt c (length before.caches)) as (λ _. IsWord old.shape access.word) [
             | inl inside ↦ g.accesses c block access (sym (ap (λ (x : Line). x.waiting) (o.taken.rows c inside).2) ∙ waits)
@@ -206,50 +189,23 @@ order_moves old core block q new g within o =
     opened_block : (found : Option Open) (t u : Open) → found ≡ Some t → found ≡ Some u → u.block ≡ t.block
     opened_block found t u e f = let same : t ≡ u = cc in ap (λ (x : Open). x.block) (sym same)
 
--- what a Respond leaves and logs
-arrives_length : (q : Request) (closing : Open) (p : Protocol) (log : List Item) (old new : List Line) (did : Option Did) → ArrivesFor q closing p log old new did → length new ≡ length old
-arrives_length request.PutM closing p log old new did a = ap length a.0
-arrives_length request.GetS closing p log old new did a = ap length a.held ∙ length-set old closing.core a.line
-arrives_length request.GetM closing p log old new did a = ap length a.held ∙ length-set old closing.core a.line
-
-fills_on : (block : ℕ) (closing : Open) (p : Protocol) (log : List Item) (old new : List Line) (did : Option Did) → closing.block ≡ block → FillsRequestor closing p log old new did → IsOn block did
-fills_on block closing p log old new did placed f = subst (IsOn block) (sym f.logged) placed
-
-arrives_on : (q : Request) (block : ℕ) (closing : Open) (p : Protocol) (log : List Item) (old new : List Line) (did : Option Did) → closing.block ≡ block → ArrivesFor q closing p log old new did → IsOn block did
-arrives_on request.PutM block closing p log old new did placed a = subst (IsOn block) (sym a.1) tt
-arrives_on request.GetS block closing p log old new did placed a = fills_on block closing p log old new did placed a
-arrives_on request.GetM block closing p log old new did placed a = fills_on block closing p log old new did placed a
-
-fills_follow : (block : ℕ) (closing : Open) (p : Protocol) (log : List Item) (old new : List Line) (did : Option Did) → closing.block ≡ block → FillsRequestor closing p log old new did → ((access : Access) → (held_at old closing.core).waiting ≡ Some access → access.word < 64) → IsLawful (flat_words log block) did → FollowsIn log (Some (item.Came (came_of closing) did))
-fills_follow block closing p log old new did placed f within lawful =
-    let here : IsLawful (flat_words log closing.block) did = subst (λ (b : ℕ). IsLawful (flat_words log b) did) (sym placed) lawful in
-    subst (λ (x : Option Did). FollowsIn log (Some (item.Came (came_of closing) x))) (sym f.logged) (next_lawful log closing.core closing.block f.asking.word f.asking.op f.value false (within f.asking f.fills.waited) (subst (λ (x : Option Did). IsLawful (flat_words log closing.block) x) f.logged here))
-
-arrives_follow : (q : Request) (block : ℕ) (closing : Open) (p : Protocol) (log : List Item) (old new : List Line) (did : Option Did) → closing.block ≡ block → ArrivesFor q closing p log old new did → ((access : Access) → (held_at old closing.core).waiting ≡ Some access → access.word < 64) → IsLawful (flat_words log block) did → FollowsIn log (Some (item.Came (came_of closing) did))
-arrives_follow request.PutM block closing p log old new did placed a within lawful = subst (λ (x : Option Did). FollowsIn log (Some (item.Came (came_of closing) x))) (sym a.1) tt
-arrives_follow request.GetS block closing p log old new did placed a within lawful = fills_follow block closing p log old new did placed a within lawful
-arrives_follow request.GetM block closing p log old new did placed a within lawful = fills_follow block closing p log old new did placed a within lawful
-
-fills_logged : (s : Situation) (closing : Open) (p : Protocol) (log : List Item) (old new : List Line) (did : Option Did) → IsWithin s closing.core closing.block → FillsRequestor closing p log old new did → AccessWithin s.shape (held_at old closing.core) → IfSome did (IsLogged s)
-fills_logged s closing p log old new did within f was = subst (λ (x : Option Did). IfSome x (IsLogged s)) (sym f.logged) (within, was f.asking f.fills.waited)
-
-arrives_logged : (s : Situation) (q : Request) (closing : Open) (p : Protocol) (log : List Item) (old new : List Line) (did : Option Did) → IsWithin s closing.core closing.block → ArrivesFor q closing p log old new did → AccessWithin s.shape (held_at old closing.core) → IfSome did (IsLogged s)
-arrives_logged s request.PutM closing p log old new did within a was = subst (λ (x : Option Did). IfSome x (IsLogged s)) (sym a.1) tt
-arrives_logged s request.GetS closing p log old new did within a was = fills_logged s closing p log old new did within a was
-arrives_logged s request.GetM closing p log old new did within a was = fills_logged s closing p log old new did within a was
-
-fills_access : (shape : Extent) (closing : Open) (p : Protocol) (log : List Item) (old new : List Line) (did : Option Did) → closing.core < length old → FillsRequestor closing p log old new did → ((c : ℕ) → AccessWithin shape (held_at old c)) → (c : ℕ) → AccessWithin shape (held_at new c)
-fills_access shape closing p log old new did in_row f was c access waits =
-    let now : (held_at (slice_set old closing.core f.line) c).waiting ≡ Some access = ap (λ (x : List Line). (held_at x c).waiting) (sym f.held) ∙ waits in
-    elim (eqb_tells c closing.core) as (λ _. IsWord shape access.word) [
-      | inl h ↦ no_access shape f.line (ap (λ (x : Line). x.waiting) f.fills.held) access (ap (λ (x : Line). x.waiting) (sym (get_or-set_same old closing.core f.line nothing_held in_row)) ∙ subst (λ (x : ℕ). (held_at (slice_set old closing.core f.line) x).waiting ≡ Some access) h.1 now)
-      | inr h ↦ was c access (ap (λ (x : Line). x.waiting) (sym (get_or-set_other old closing.core c f.line nothing_held h.1)) ∙ now)
-    ]
-
-arrives_access : (shape : Extent) (q : Request) (closing : Open) (p : Protocol) (log : List Item) (old new : List Line) (did : Option Did) → closing.core < length old → ArrivesFor q closing p log old new did → ((c : ℕ) → AccessWithin shape (held_at old c)) → (c : ℕ) → AccessWithin shape (held_at new c)
-arrives_access shape request.PutM closing p log old new did in_row a was c access waits = was c access (ap (λ (x : List Line). (held_at x c).waiting) (sym a.0) ∙ waits)
-arrives_access shape request.GetS closing p log old new did in_row a was c access waits = fills_access shape closing p log old new did in_row a was c access waits
-arrives_access shape request.GetM closing p log old new did in_row a was c access waits = fills_access shape closing p log old new did in_row a was c access waits
+-- the item of a Respond
+arrives_item : (s : Situation) (q : Request) (block : ℕ) (closing : Open) (old new : List Line) (did : Option Did)
+    → ArrivesFor q closing s.protocol s.log old new did → closing.block ≡ block → IsWithin s closing.core closing.block
+    → AccessWithin s.shape (held_at old closing.core) → IsLawful (flat_words s.log block) did → IsNextOn s block (Some (item.Came (came_of closing) did))
+arrives_item s q block closing old new did arrives placed within waits lawful = elim (by_request q closing s.protocol s.log old new did arrives) [
+  | inl put ↦ subst (λ (x : Option Did). IsNextOn s block (Some (item.Came (came_of closing) x))) (sym put.2) (record { on = tt; follows = tt; logged = tt })
+  | inr f ↦
+      let has = waits f.asking f.fills.waited in
+      let lawful_fill = subst (λ (x : Option Did). IsLawful (flat_words s.log closing.block) x) f.logged
+      (subst (λ (b : ℕ). IsLawful (flat_words s.log b) did) (sym placed) lawful) in
+      subst (λ (x : Option Did). IsNextOn s block (Some (item.Came (came_of closing) x))) (sym f.logged)
+      (record {
+        on = placed;
+        follows = next_lawful s.log closing.core closing.block f.asking.word f.asking.op f.value false has.1 lawful_fill;
+        logged = (within, has);
+      })
+]
 
 pub respond_moves : (old : Situation) (block : ℕ) (closing : Open) (did : Option Did) (new : Situation) → Invariant old → block < old.shape.blocks → Responds old block closing did new → Invariant new
 respond_moves old block closing did new g within r =
@@ -264,12 +220,13 @@ respond_moves old block closing did new g within r =
       as_wide = arrives_length closing.request closing old.protocol old.log before.caches r.next.caches did r.requestor;
       as_many_queues = refl;
       opened = λ t is_open. absurd (none_open r.next.transaction t r.closed is_open);
-      on = arrives_on closing.request block closing old.protocol old.log before.caches r.next.caches did placed r.requestor;
       block_after = k.0;
-      follows = arrives_follow closing.request block closing old.protocol old.log before.caches r.next.caches did placed r.requestor (λ access waits. (g.accesses closing.core block access waits).1) k.1;
-      logged = arrives_logged old closing.request closing old.protocol old.log before.caches r.next.caches did
-          ((g.blocks block within).requestor_in closing r.opened, subst (λ (b : ℕ). b < old.shape.blocks) (sym placed) within) r.requestor (g.accesses closing.core block);
-      accesses = λ c access waits. arrives_access old.shape closing.request closing old.protocol old.log before.caches r.next.caches did in_row r.requestor (λ d. g.accesses d block) c access waits;
+      item = arrives_item old closing.request block closing before.caches r.next.caches did r.requestor placed
+          ((g.blocks block within).requestor_in closing r.opened, subst (λ (b : ℕ). b < old.shape.blocks) (sym placed) within)
+          (g.accesses closing.core block) k.1;
+      accesses = λ c access waits.
+          let same = still_waiting closing.request closing old.protocol old.log before.caches r.next.caches did r.requestor c access waits in
+          g.accesses c block access (ap (λ (x : Line). x.waiting) (sym same) ∙ waits);
     } in
     subst Invariant (sym r.after) (kept old block r.next old.queues entry g whole)
   where

@@ -1,5 +1,5 @@
 -- The invariant holds at reset, and after each step of a run.
-use Rattle.std.proofs.Common.{Some, ◌≡◌, ℕ, zero, suc, map, ◌+◌, ◌<◌, ◌≤◌, List, [], ◌∷◌, length, replicate, true, false, Option, None, refl, inl, inr, ap, sym, ◌∙◌, subst, arith}
+use Rattle.std.proofs.Common.{Some, ◌≡◌, ℕ, zero, suc, map, ◌+◌, ◌<◌, ◌≤◌, List, [], ◌∷◌, length, replicate, Bool, true, false, Option, None, refl, inl, inr, ap, sym, ◌∙◌, subst, arith}
 use Rattle.std.specs.Prelude.{Result, Ok, Err}
 use Rattle.std.proofs.lemmas.Bool.{cases_lt}
 use Rattle.std.proofs.lemmas.List.{length-replicate, get_or-replicate, get_or_past}
@@ -11,12 +11,13 @@ use Rattle.snoop_history.specs.History.{flat, flat_words}
 use Rattle.snoop_trace.specs.declared.step.Step.{Step}
 use Rattle.snoop_trace.specs.declared.protocol.Protocol.{Protocol}
 use Rattle.snoop_trace.specs.declared.protocol.Protocol.TheVariants as protocol
+use Rattle.snoop_rules.specs.declared.names.CacheState.TheVariants.{I}
 use Rattle.snoop_model.specs.declared.access.Access.{Access}
 use Rattle.snoop_model.specs.Pictures.Lines.{Line}
 use Rattle.snoop_model.specs.declared.replies.Reply.{Reply}
 use Rattle.snoop_model.specs.declared.replies.Refused.{Refused}
 use Rattle.snoop_model.specs.declared.replies.Refused.TheVariants.{NoMemory}
-use Rattle.snoop_model.specs.Pictures.Picture.{Picture, held_by, nothing_held}
+use Rattle.snoop_model.specs.Pictures.Picture.{Picture, first_memory, held_by, nothing_held}
 use Rattle.snoop_model.specs.Pictures.Situation.{Situation, picture_of, reset, untouched, nothing_there}
 use Rattle.snoop_model.specs.Pictures.Proper.{keeps, IsProper}
 use Rattle.snoop_model.specs.Moves.Move.{IsWithin}
@@ -31,38 +32,35 @@ use Rattle.snoop_model.proofs.Invariant.Moves.{move_keeps}
 pub nothing_proper : IsProper nothing_held
 nothing_proper = record { kept = refl; waiting = refl }
 
+-- where the block's value is at reset: with memory, and with each sharer under MSI
+first_claims : (p : Protocol) → (shared : Bool) × (claims_of p (first_memory p) None ≡ Some (record { owned = false; shared = shared; fresh = true }))
+unfolding claims_of
+first_claims protocol.Msi = (true, refl)
+first_claims protocol.Mesi = (false, refl)
+
+idle_fits : (p : Protocol) (shared : Bool) → fits p shared false None I ≡ true
+unfolding fits is_owner is_sharer is_clean wait_fits in_protocol same
+idle_fits protocol.Msi shared = refl
+idle_fits protocol.Mesi shared = refl
+
 untouched_block : (p : Protocol) (n : ℕ) → BlockInvariant p n zero_words (untouched p n)
-unfolding claims_of fits is_owner is_sharer is_clean wait_fits in_protocol same
-untouched_block protocol.Msi n = record {
-  claims = record { owned = false; shared = true; fresh = true };
-  is_claims = refl;
-  owner = None;
-  owner_in = λ o e. cc;
-  is_owned = refl;
-  states = λ d d_in. subst (λ (x : Line). fits protocol.Msi true false None x.state ≡ true) (sym (replicated n d nothing_held)) refl;
-  kept = λ d d_in h. (let P : Line → Type 0 = λ x. keeps x.state ≡ true in let e : false ≡ true = subst P (replicated n d nothing_held) h in cc);
-  clean = λ d d_in h. refl;
-  fresh = λ h. refl;
-  carried = λ o e h. cc;
-  requestor_in = λ o e. cc;
-  sender_in = λ o e. cc;
-  proper = λ d d_in. subst IsProper (sym (replicated n d nothing_held)) nothing_proper;
-}
-untouched_block protocol.Mesi n = record {
-  claims = record { owned = false; shared = false; fresh = true };
-  is_claims = refl;
-  owner = None;
-  owner_in = λ o e. cc;
-  is_owned = refl;
-  states = λ d d_in. subst (λ (x : Line). fits protocol.Mesi false false None x.state ≡ true) (sym (replicated n d nothing_held)) refl;
-  kept = λ d d_in h. (let P : Line → Type 0 = λ x. keeps x.state ≡ true in let e : false ≡ true = subst P (replicated n d nothing_held) h in cc);
-  clean = λ d d_in h. refl;
-  fresh = λ h. refl;
-  carried = λ o e h. cc;
-  requestor_in = λ o e. cc;
-  sender_in = λ o e. cc;
-  proper = λ d d_in. subst IsProper (sym (replicated n d nothing_held)) nothing_proper;
-}
+untouched_block p n =
+    let claims = first_claims p in
+    record {
+      claims = record { owned = false; shared = claims.0; fresh = true };
+      is_claims = claims.1;
+      owner = None;
+      owner_in = λ o e. cc;
+      is_owned = refl;
+      states = λ d d_in. subst (λ (x : Line). fits p claims.0 false None x.state ≡ true) (sym (replicated n d nothing_held)) (idle_fits p claims.0);
+      kept = λ d d_in h. (let P : Line → Type 0 = λ x. keeps x.state ≡ true in let e : false ≡ true = subst P (replicated n d nothing_held) h in cc);
+      clean = λ d d_in h. refl;
+      fresh = λ h. refl;
+      carried = λ o e h. cc;
+      requestor_in = λ o e. cc;
+      sender_in = λ o e. cc;
+      proper = λ d d_in. subst IsProper (sym (replicated n d nothing_held)) nothing_proper;
+    }
 
 reset_picture : (p : Protocol) (shape : Extent) (block : ℕ) → block < shape.blocks → picture_of (reset p shape) block ≡ untouched p shape.cores
 reset_picture p shape block within = get_or-replicate shape.blocks block (untouched p shape.cores) nothing_there within

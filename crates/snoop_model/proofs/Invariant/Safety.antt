@@ -81,7 +81,8 @@ reset_keeps protocol shape = record {
   well_kept = (starts_well protocol shape (λ core. None)).0;
 }
 
-pub move_keeps_all : (block : ℕ) (old new : Situation) (step : Step) (answer : Reply) (entry : Option Item) → MachineKeeps old → MoveOn block old step answer new entry → MachineKeeps new
+pub move_keeps_all : (block : ℕ) (old new : Situation) (step : Step) (answer : Reply) (entry : Option Item) → MachineKeeps old
+    → MoveOn block old step answer new entry → MachineKeeps new
 move_keeps_all block old new step answer entry keeps move = record {
   inductive = move_keeps block old step answer new entry keeps.inductive move;
   on_lines = move_on_lines block old step answer new entry keeps.inductive keeps.on_lines move;
@@ -93,5 +94,6 @@ goes_keeps_all old new step (Ok answer) keeps move = move_keeps_all move.1.0 old
 goes_keeps_all old new step (Err cause) keeps refused = subst MachineKeeps (sym (refusal_same old step cause new refused)) keeps
 
 -- so does a run
-pub run_keeps_all : (steps : List Step) (outcomes : List (Result Reply Refused)) (old new : Situation) → MachineKeeps old → RunFrom old steps outcomes new → MachineKeeps new
+pub run_keeps_all : (steps : List Step) (outcomes : List (Result Reply Refused)) (old new : Situation) → MachineKeeps old → RunFrom old steps outcomes new
+    → MachineKeeps new
 run_keeps_all = kept_along Goes MachineKeeps (λ s step outcome t keeps goes. goes_keeps_all s t step outcome keeps goes)

@@ -1,5 +1,5 @@
 -- Each Order that is taken is a line of the table of senders, and each Respond settles memory by the line of its transaction.
-use Rattle.std.proofs.Common.{◌≡◌, ℕ, ◌<◌, Option, Some, None, refl, sym, ◌∙◌, ap, subst}
+use Rattle.std.proofs.Common.{◌≡◌, ℕ, Option, Some, None, refl, sym, ◌∙◌, ap, subst}
 use Rattle.std.specs.Prelude.{IfSome}
 use Rattle.std.proofs.lemmas.Option.{same_Some}
 use Rattle.snoop_rules.specs.declared.names.MemState.{MemState}
@@ -7,18 +7,18 @@ use Rattle.snoop_rules.specs.declared.names.Request.{Request}
 use Rattle.snoop_rules.specs.declared.names.Payload.{Payload}
 use Rattle.snoop_rules.specs.declared.names.MemCell.{MemCell}
 use Rattle.snoop_rules.specs.Takers.{arrival_at_memory, takes_payload}
-use Rattle.snoop_history.specs.declared.items.Did.{Did}
 use Rattle.snoop_bus.specs.Traffic.{Open}
 use Rattle.snoop_model.specs.Pictures.Picture.{Picture}
 use Rattle.snoop_model.specs.Pictures.Situation.{Situation, picture_of}
 use Rattle.snoop_model.specs.Pictures.Sends.{Sends}
-use Rattle.snoop_model.specs.Moves.Move.{Settles, Orders, Responds, ArrivesAtMemory}
+use Rattle.snoop_model.specs.Moves.Move.{Settles, Orders}
 use Rattle.snoop_model.specs.Moves.SenderTable.{IsSenderLine, IsOpenByTable}
 use Rattle.snoop_model.specs.Invariant.Invariant.{Invariant}
 use Rattle.snoop_model.specs.Invariant.MachineKeeps.{AreOnSenderLines}
 use Rattle.snoop_model.proofs.Invariant.Coherence.{orders_follow_sender_table}
 use Rattle.snoop_model.proofs.OneBlock.AfterMoves.{respond_here}
-use Rattle.snoop_model.proofs.Steps.IsNext.{settled_is, sends_is}
+use Rattle.snoop_model.proofs.Steps.IsNext.{settled_is}
+use Rattle.snoop_model.proofs.Tables.SentBy.{sends_is}
 
 -- an Order is a line of the table
 pub order_is_line : (s : Situation) → Invariant s → (core block : ℕ) (q : Request) (new : Situation) (made : Orders s core block q new) → IsSenderLine s.protocol (picture_of s block) core q made.from made.payload made.next.memory.state
@@ -27,28 +27,13 @@ order_is_line s g core block q new o =
     let before : Picture = picture_of s block in
     let f = orders_follow_sender_table s g core block q o.ready in
     let from : f.from ≡ o.from = o.sent.alone f.from f.payload f.sent.sends in
-    let payload : f.payload ≡ o.payload = same_Some _ _ (sym (sends_is p before core q o.from f.payload (subst (λ (x : Option ℕ). Sends p before core q x f.payload) from f.sent.sends)) ∙ sends_is p before core q o.from o.payload o.sent.sends) in
+    let payload : f.payload ≡ o.payload = same_Some _ _ (sym
+    (sends_is p before core q o.from f.payload (subst (λ (x : Option ℕ). Sends p before core q x f.payload) from f.sent.sends))
+    ∙ sends_is p before core q o.from o.payload o.sent.sends) in
     let memory : f.next ≡ o.next.memory.state = f.ordered.2 ∙ (ap (λ (row : MemCell). row.next) (same_Some _ _ (sym f.ordered.1 ∙ o.memory.1)) ∙ sym o.memory.2) in
     subst (λ (m : MemState). IsSenderLine p before core q o.from o.payload m) memory
     (subst (λ (x : Payload). IsSenderLine p before core q o.from x f.next) payload
     (subst (λ (x : Option ℕ). IsSenderLine p before core q x f.payload f.next) from f.is_line))
-
--- a Respond that led from old to new closed the block's transaction, and memory took its row for the response, or stayed where it takes none
-pub record IsSettled (old : Situation) (block : ℕ) (new : Situation) : Type 0 where
-  pub closing : Open
-  pub opened : (picture_of old block).transaction ≡ Some closing
-  pub settled : ArrivesAtMemory closing old.protocol (picture_of old block).memory (picture_of new block).memory
-  pub closed : (picture_of new block).transaction ≡ None
-
-pub respond_settles : (s : Situation) → Invariant s → (block : ℕ) (closing : Open) (did : Option Did) (new : Situation) → block < s.shape.blocks → Responds s block closing did new → IsSettled s block new
-respond_settles s g block closing did new within r =
-    let there : picture_of new block ≡ r.next = respond_here s block closing did new g within r in
-    record {
-      closing = closing;
-      opened = r.opened;
-      settled = subst (λ (x : Picture). ArrivesAtMemory closing s.protocol (picture_of s block).memory x.memory) (sym there) r.memory;
-      closed = ap (λ (x : Picture). x.transaction) there ∙ r.closed;
-    }
 
 -- a Respond taken next closes the transaction and leaves memory in the last state of its line
 pub open_is_by_table : (s : Situation) → Invariant s → AreOnSenderLines s → (block : ℕ) → IfSome (picture_of s block).transaction (IsOpenByTable s block)
@@ -67,10 +52,12 @@ open_is_by_table s g lines block = go (picture_of s block).transaction refl (lin
           before = line.0;
           on_line = line.1;
           settled = λ answer new entry m.
-              let by = respond_settles s g block m.closing m.did new m.within m.responds in
-              let then : MemState = (picture_of new block).memory.state in
-              let same : by.closing ≡ o = cc in
-              let settles : Settles s.protocol o.request o.payload memory by.settled.act then = subst (λ (x : Open). Settles s.protocol x.request x.payload memory by.settled.act then) same by.settled.settled in
-              let is = settled_is (takes_payload o.request memory) s.protocol (arrival_at_memory o.payload) memory in
-              (by.closed, ap (λ x. x.1) (is by.settled.act then settles ∙ sym (is line.1.act line.1.done line.1.settled)));
+              let r = m.responds in
+              let there : picture_of new block ≡ r.next = respond_here s block m.closing m.did new g m.within r in
+              let same : m.closing ≡ o = same_Some _ _ (sym r.opened ∙ is) in
+              let settles : Settles s.protocol o.request o.payload memory r.memory.act r.next.memory.state = subst
+              (λ (x : Open). Settles s.protocol x.request x.payload memory r.memory.act r.next.memory.state) same r.memory.settled in
+              let settled = settled_is (takes_payload o.request memory) s.protocol (arrival_at_memory o.payload) memory in
+              let done = settled r.memory.act r.next.memory.state settles ∙ sym (settled line.1.act line.1.done line.1.settled) in
+              (ap (λ (x : Picture). x.transaction) there ∙ r.closed, ap (λ (x : Picture). x.memory.state) there ∙ ap (λ x. x.1) done);
         }

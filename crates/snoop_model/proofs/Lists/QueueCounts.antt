@@ -42,7 +42,8 @@ times_gone : (taken : ℕ) (queue : List ℕ) → times taken (filter (λ b. not
 times_gone taken [] = refl
 times_gone taken (x ∷ queue) = by_test (eqb x taken) refl (times_gone taken queue)
   where
-    by_test : (same : Bool) → eqb x taken ≡ same → times taken (filter (λ b. not (eqb b taken)) queue) ≡ 0 → times taken (filter (λ b. not (eqb b taken)) (x ∷ queue)) ≡ 0
+    by_test : (same : Bool) → eqb x taken ≡ same → times taken (filter (λ b. not (eqb b taken)) queue) ≡ 0
+        → times taken (filter (λ b. not (eqb b taken)) (x ∷ queue)) ≡ 0
     by_test true e rest = rw e rest
     by_test false e rest =
         let none : one_if (eqb x taken) ≡ 0 = rw e refl in
@@ -50,19 +51,22 @@ times_gone taken (x ∷ queue) = by_test (eqb x taken) refl (times_gone taken qu
 
 times_left : (block taken : ℕ) (queue : List ℕ) → block ≢ taken → times block (filter (λ b. not (eqb b taken)) queue) ≡ times block queue
 times_left block taken [] apart = refl
-times_left block taken (x ∷ queue) apart = elim (eqb_tells x taken) as (λ _. times block (filter (λ b. not (eqb b taken)) (x ∷ queue)) ≡ times block (x ∷ queue)) [
-  | inl same ↦
-      let none : one_if (eqb x block) ≡ 0 = rw (same.1, ne_eqb taken block (λ e. apart (sym e))) refl in
-      rw same.0 (omega (arith, times_left block taken queue apart, times_cons block x queue))
-  | inr other ↦ rw other.0 (omega (arith, times_left block taken queue apart, times_cons block x queue, times_cons block x (filter (λ b. not (eqb b taken)) queue)))
-]
+times_left block taken (x ∷ queue) apart = elim (eqb_tells x taken) as
+    (λ _. times block (filter (λ b. not (eqb b taken)) (x ∷ queue)) ≡ times block (x ∷ queue)) [
+      | inl same ↦
+          let none : one_if (eqb x block) ≡ 0 = rw (same.1, ne_eqb taken block (λ e. apart (sym e))) refl in
+          rw same.0 (omega (arith, times_left block taken queue apart, times_cons block x queue))
+      | inr other ↦ rw other.0 (omega
+          (arith, times_left block taken queue apart, times_cons block x queue, times_cons block x (filter (λ b. not (eqb b taken)) queue)))
+    ]
 
 -- an issue adds its block to its core's queue once
 module _ (queues : List (List ℕ)) (core block : ℕ) where
   pub issued_own : core < length queues → times block (queue_of (after_issue queues core block) core) ≡ times block (queue_of queues core) + 1
   issued_own within =
       let one : one_if (eqb block block) ≡ 1 = rw (eq-eqb block block refl) refl in
-      ap (times block) (get_or-set_same queues core (queue_of queues core ++ block ∷ []) [] within) ∙ (times_push block block (queue_of queues core) ∙ ap (λ n. times block (queue_of queues core) + n) one)
+      ap (times block) (get_or-set_same queues core (queue_of queues core ++ block ∷ []) [] within) ∙
+      (times_push block block (queue_of queues core) ∙ ap (λ n. times block (queue_of queues core) + n) one)
 
   pub issued_others : (k : ℕ) → k ≢ core → queue_of (after_issue queues core block) k ≡ queue_of queues k
   issued_others k apart = get_or-set_other queues core k (queue_of queues core ++ block ∷ []) [] apart
@@ -78,7 +82,8 @@ module _ (queues : List (List ℕ)) (core block : ℕ) where
 
   -- an Order takes it out
   pub ordered_own : core < length queues → times block (queue_of (after_order queues core block) core) ≡ 0
-  ordered_own within = ap (times block) (get_or-set_same queues core (filter (λ b. not (eqb b block)) (queue_of queues core)) [] within) ∙ times_gone block (queue_of queues core)
+  ordered_own within = ap (times block) (get_or-set_same queues core (filter (λ b. not (eqb b block)) (queue_of queues core)) [] within) ∙ times_gone block
+      (queue_of queues core)
 
   pub ordered_others : (k : ℕ) → k ≢ core → queue_of (after_order queues core block) k ≡ queue_of queues k
   ordered_others k apart = get_or-set_other queues core k (filter (λ b. not (eqb b block)) (queue_of queues core)) [] apart

@@ -6,55 +6,25 @@ use Rattle.snoop_trace.specs.declared.step.Op.{Op}
 use Rattle.snoop_trace.specs.declared.step.Op.TheVariants as op
 use Rattle.snoop_trace.specs.declared.protocol.Protocol.{Protocol}
 use Rattle.snoop_rules.specs.declared.names.CacheState.{CacheState}
-use Rattle.snoop_rules.specs.declared.names.CacheEvent.{CacheEvent}
-use Rattle.snoop_rules.specs.declared.names.CacheEvent.TheVariants as event
 use Rattle.snoop_rules.specs.declared.names.CacheAction.{CacheAction}
 use Rattle.snoop_rules.specs.declared.names.CacheAction.TheVariants as action
-use Rattle.snoop_rules.specs.declared.names.Request.{Request}
 use Rattle.snoop_rules.specs.Cell.{Cell}
 use Rattle.snoop_rules.specs.Takers.{asked}
-use Rattle.snoop_rules.specs.declared.names.CacheCell.{CacheCell}
-use Rattle.snoop_rules.proofs.Every.{all_protocols, all_states, all_events}
-use Rattle.snoop_rules.proofs.Rows.{each_row, each_row-at}
 use Rattle.snoop_history.specs.declared.items.Did.{Did}
 use Rattle.snoop_history.specs.declared.items.Item.{Item}
 use Rattle.snoop_model.specs.declared.access.Access.{Access}
 use Rattle.snoop_model.specs.Pictures.Lines.{Line}
 use Rattle.snoop_model.specs.declared.replies.Reply.{Reply}
-use Rattle.snoop_model.specs.Pictures.Proper.{IsProper, request_for, missed_request}
+use Rattle.snoop_model.specs.Pictures.Proper.{IsProper, request_for}
 use Rattle.snoop_model.specs.Moves.Move.{Takes, Performs, kept_waiting, is_load, next_did}
 use Rattle.snoop_model.specs.Runs.Once.{same_op, same_access, did_access}
 use Rattle.snoop_model.proofs.Lists.Facts.{one_if}
-use Rattle.snoop_model.proofs.Tables.Rows.{same_request, same_request-true}
+use Rattle.snoop_model.proofs.Tables.Rows.{issue-missed, drop_evicts}
 use Rattle.snoop_model.proofs.OneBlock.Operation.{did_in}
 use Rattle.snoop_model.proofs.Once.Counts.{did_so}
 
 abbrev pub waits_so : Access → Option Access → ℕ
 waits_so wanted waiting = option_map_or (λ access. one_if (same_access wanted access)) waiting 0
-
--- where a request is issued no operation waited
-abbrev idle_test : Protocol → CacheState → CacheEvent → CacheCell → Bool
-idle_test p s e row = elim row.action [ action.Issue q ↦ same_request (missed_request s) None | _ ↦ true ]
-
-issue_idle : (p : Protocol) (s : CacheState) (e : CacheEvent) (q : Request) (n : CacheState) → Cell p s e (action.Issue q) n → missed_request s ≡ None
-unfolding each_row all_protocols all_states all_events
-issue_idle p s e q n row =
-    let t : same_request (missed_request s) None ≡ true = each_row-at idle_test refl p s e (action.Issue q) n row in
-    same_request-true (missed_request s) None t
-
--- only an Evict drops a line
-abbrev pub is_evict : CacheEvent → Bool
-is_evict event.Evict = true
-is_evict _ = false
-
-abbrev drop_test : Protocol → CacheState → CacheEvent → CacheCell → Bool
-drop_test p s e row = elim row.action [ action.Drop ↦ is_evict e | _ ↦ true ]
-
-pub drop_evicts : (p : Protocol) (s : CacheState) (e : CacheEvent) (n : CacheState) → Cell p s e action.Drop n → is_evict e ≡ true
-unfolding each_row all_protocols all_states all_events
-drop_evicts p s e n row =
-    let t : is_evict e ≡ true = each_row-at drop_test refl p s e action.Drop n row in
-    t
 
 pub no_evict : (wanted : Access) (word : ℕ) → one_if (same_access wanted (record { word = word; op = op.Evict })) ≡ 0
 no_evict wanted word = go wanted.op (wanted.word == word)
@@ -64,10 +34,6 @@ no_evict wanted word = go wanted.op (wanted.word == word)
     go (op.Store v) true = refl
     go op.Evict true = refl
     go o false = refl
-
-evict_asked : (wanted : Access) (word : ℕ) (asking : Op) → is_evict (asked asking) ≡ true → one_if (same_access wanted (record { word = word; op = asking })) ≡ 0
-evict_asked wanted word op.Evict h = no_evict wanted word
-evict_asked wanted word _ h = cc
 
 nothing_so : (wanted : Access) (waiting : Option Access) → option_map (λ access. request_for access.op) waiting ≡ None → waits_so wanted waiting ≡ 0
 nothing_so wanted None h = refl
@@ -95,11 +61,11 @@ line_once p action.Hit next log core block word asking old new answer entry prop
 line_once p (action.Issue q) next log core block word asking old new answer entry proper row t wanted =
     let e : waits_so wanted new.waiting ≡ one_if (same_access wanted (record { word = word; op = asking })) = ap (λ (x : Line). waits_so wanted x.waiting) t.0 ∙ kept_so wanted word asking in
     let f : did_so wanted (did_in entry) ≡ 0 = ap (λ (x : Option Item). did_so wanted (did_in x)) t.2 in
-    let g : waits_so wanted old.waiting ≡ 0 = nothing_so wanted old.waiting (proper.waiting ∙ issue_idle p old.state (asked asking) q next row) in
+    let g : waits_so wanted old.waiting ≡ 0 = nothing_so wanted old.waiting (proper.waiting ∙ (issue-missed p old.state (asked asking) q next row).0) in
     omega arith
 line_once p action.Drop next log core block word asking old new answer entry proper row t wanted =
     let e : waits_so wanted new.waiting ≡ waits_so wanted old.waiting = ap (λ (x : Line). waits_so wanted x.waiting) t.0 in
     let f : did_so wanted (did_in entry) ≡ 0 = ap (λ (x : Option Item). did_so wanted (did_in x)) t.2 in
-    let g : one_if (same_access wanted (record { word = word; op = asking })) ≡ 0 = evict_asked wanted word asking (drop_evicts p old.state (asked asking) next row) in
+    let g : one_if (same_access wanted (record { word = word; op = asking })) ≡ 0 = rw (drop_evicts p old.state asking next row) (no_evict wanted word) in
     omega arith
 line_once p _ next log core block word asking old new answer entry proper row t wanted = absurd t

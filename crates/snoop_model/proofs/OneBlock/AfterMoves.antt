@@ -1,7 +1,7 @@
 -- The pictures after each kind of move.
-use Rattle.std.proofs.Common.{◌≡◌, ◌≢◌, ℕ, ◌<◌, List, ◌++◌, Option, Some, ap, sym, ◌∙◌, subst}
+use Rattle.std.proofs.Common.{◌≡◌, ℕ, ◌<◌, List, ◌++◌, Option, Some, ap, sym, ◌∙◌, subst}
 use Rattle.std.specs.Prelude.{option_to_list}
-use Rattle.std.proofs.lemmas.List.{get_or-set_same, get_or-set_other}
+use Rattle.std.proofs.lemmas.List.{get_or-set_same}
 use Rattle.snoop_trace.specs.declared.step.Op.{Op}
 use Rattle.snoop_rules.specs.declared.names.Request.{Request}
 use Rattle.snoop_history.specs.declared.items.Did.{Did}
@@ -14,7 +14,7 @@ use Rattle.snoop_model.specs.Pictures.Picture.{Picture, held_by, nothing_held, w
 use Rattle.snoop_model.specs.Pictures.Situation.{Situation, picture_of}
 use Rattle.snoop_model.specs.Moves.Move.{Asks, Orders, Responds, IsWithin, queues_after, came_of}
 use Rattle.snoop_model.specs.Invariant.Invariant.{Invariant}
-use Rattle.snoop_model.proofs.OneBlock.OfBlocks.{in_pictures, picture_here, picture_elsewhere}
+use Rattle.snoop_model.proofs.OneBlock.OfBlocks.{in_pictures, picture_here}
 
 module _ (old : Situation) (c b word : ℕ) (asking : Op) (answer : Reply) (new : Situation) (entry : Option Item) (g : Invariant old) (within : IsWithin old c b) (a : Asks old c b word asking answer new entry) where
   pub ask_here : picture_of new b ≡ with_line (picture_of old b) c a.held
@@ -23,12 +23,6 @@ module _ (old : Situation) (c b word : ℕ) (asking : Op) (answer : Reply) (new 
   pub ask_line : held_by (picture_of new b) c ≡ a.held
   ask_line = ap (λ (x : Picture). held_by x c) ask_here ∙ get_or-set_same (picture_of old b).caches c a.held nothing_held (subst (λ (n : ℕ). c < n) (sym (g.shaped.row b within.1)) within.0)
 
-  pub ask_other_core : (k : ℕ) → k ≢ c → held_by (picture_of new b) k ≡ held_by (picture_of old b) k
-  ask_other_core k apart = ap (λ (x : Picture). held_by x k) ask_here ∙ get_or-set_other (picture_of old b).caches c k a.held nothing_held apart
-
-  pub ask_other_block : (k : ℕ) → k ≢ b → picture_of new k ≡ picture_of old k
-  ask_other_block k apart = ap (λ (s : Situation). picture_of s k) a.after ∙ picture_elsewhere old b (with_line (picture_of old b) c a.held) (queues_after a.row.action old.queues c b) (old.log ++ option_to_list entry) k apart
-
 module _ (old : Situation) (c b : ℕ) (q : Request) (new : Situation) (g : Invariant old) (within : IsWithin old c b) (o : Orders old c b q new) where
   sent : List Item
   sent = old.log ++ option_to_list (Some (item.Sent (record { core = c; request = q; block = b })))
@@ -36,15 +30,9 @@ module _ (old : Situation) (c b : ℕ) (q : Request) (new : Situation) (g : Inva
   pub order_here : picture_of new b ≡ o.next
   order_here = ap (λ (s : Situation). picture_of s b) o.after ∙ picture_here old b o.next (after_order old.queues c b) sent (in_pictures old b g.shaped within.1)
 
-  pub order_other_block : (k : ℕ) → k ≢ b → picture_of new k ≡ picture_of old k
-  order_other_block k apart = ap (λ (s : Situation). picture_of s k) o.after ∙ picture_elsewhere old b o.next (after_order old.queues c b) sent k apart
-
 module _ (old : Situation) (b : ℕ) (closing : Open) (did : Option Did) (new : Situation) (g : Invariant old) (within : b < old.shape.blocks) (r : Responds old b closing did new) where
   came : List Item
   came = old.log ++ option_to_list (Some (item.Came (came_of closing) did))
 
   pub respond_here : picture_of new b ≡ r.next
   respond_here = ap (λ (s : Situation). picture_of s b) r.after ∙ picture_here old b r.next old.queues came (in_pictures old b g.shaped within)
-
-  pub respond_other_block : (k : ℕ) → k ≢ b → picture_of new k ≡ picture_of old k
-  respond_other_block k apart = ap (λ (s : Situation). picture_of s k) r.after ∙ picture_elsewhere old b r.next old.queues came k apart

@@ -1,8 +1,8 @@
 -- What follows from the invariant of one block.
-use Rattle.std.proofs.Common.{◌≡◌, ◌≢◌, ◌<◌, ◌&&◌, ◌||◌, ◌⊎◌, ◌∙◌, ℕ, List, Bool, true, false, not, cond, eqb, Option, Some, None, refl, inl, inr, ap, sym}
+use Rattle.std.proofs.Common.{◌≡◌, ◌≢◌, ◌<◌, ◌&&◌, ◌||◌, ◌∙◌, ℕ, List, Bool, true, false, not, cond, eqb, Option, Some, None, refl, inl, inr, ap, sym}
 use Rattle.std.specs.Prelude.{is_some}
 use Rattle.std.proofs.lemmas.Bool.Decides.{eqb_tells}
-use Rattle.std.proofs.lemmas.Bool.{eqb-true, and_parts}
+use Rattle.std.proofs.lemmas.Bool.{and_parts, cases_Bool, eqb-true, ne_eqb, not-true}
 use Rattle.snoop_trace.specs.declared.protocol.Protocol.{Protocol}
 use Rattle.snoop_rules.specs.declared.names.CacheState.{CacheState}
 use Rattle.snoop_rules.specs.declared.names.Request.{Request}
@@ -26,22 +26,11 @@ or_true false = refl
 pub some_is : {A : Type 0} (o : Option A) (a b : A) → o ≡ Some a → o ≡ Some b → a ≡ b
 some_is o a b e f = cc
 
-pub not_eqb : (d c : ℕ) → d ≢ c → eqb d c ≡ false
-not_eqb d c apart = elim (eqb_tells d c) as (λ _. eqb d c ≡ false) [ inl h ↦ absurd (apart h.1) | inr h ↦ h.0 ]
-
-pub or_not : (b : Bool) → (b ≡ true) ⊎ (b ≡ false)
-or_not true = inl refl
-or_not false = inr refl
-
-pub either_of : (a b : Bool) → (a || b) ≡ true → (a ≡ true) ⊎ (b ≡ true)
-either_of true b h = inl refl
-either_of false b h = inr h
-
 pub some_true : {A : Type 0} (o : Option A) (a : A) → o ≡ Some a → is_some o ≡ true
 some_true o a e = rw e refl
 
 pub not_eqb_true : (d c : ℕ) → d ≢ c → not (eqb d c) ≡ true
-not_eqb_true d c apart = rw (not_eqb d c apart) refl
+not_eqb_true d c apart = rw (ne_eqb d c apart) refl
 
 pub owns_owned : (owner : Option ℕ) (d : ℕ) (b : Bool) → is_some owner ≡ b → (not (owns owner d) || b) ≡ true
 owns_owned None d b e = refl
@@ -91,10 +80,6 @@ carried_by old new next state kept carry =
 pub came_to : (old new : Line) (next : CacheState) → new ≡ moves_to next old → carries old.state next ≡ true → Carried old new
 came_to old new next comes carry = carried_by old new next (ap (λ (x : Line). x.state) comes) (λ e. ap (λ (x : Line). x.kept) comes ∙ kept_reader next old.kept e) carry
 
-pub not_true : (b : Bool) → not b ≡ true → b ≡ false
-not_true true h = cc
-not_true false h = refl
-
 pub clash : (b : Bool) → b ≡ true → b ≡ false → ⊥
 clash b e f = cc
 
@@ -109,11 +94,11 @@ owned_alone p n flat picture g is_owned =
     let h = owned_rule p picture.memory.state (talk_of picture.transaction) g.claims g.is_claims is_owned in
     let a = and_parts (not g.claims.shared) (not g.claims.fresh && calm_talk (talk_of picture.transaction)) h in
     let b = and_parts (not g.claims.fresh) (calm_talk (talk_of picture.transaction)) a.1 in
-    record { unshared = not_true g.claims.shared a.0; unfresh = not_true g.claims.fresh b.0; calm = b.1 }
+    record { unshared = not-true g.claims.shared a.0; unfresh = not-true g.claims.fresh b.0; calm = b.1 }
 
 pub calm_wait : (t : Option Open) (d : ℕ) → calm_talk (talk_of t) ≡ true → is_calm (awaited t d) ≡ true
 calm_wait None d h = refl
-calm_wait (Some o) d h = elim (or_not (eqb d o.core)) as (λ _. is_calm (cond (eqb d o.core) (Some o.request) None) ≡ true) [
+calm_wait (Some o) d h = elim (cases_Bool (eqb d o.core)) as (λ _. is_calm (cond (eqb d o.core) (Some o.request) None) ≡ true) [
   | inl e ↦ rw e (and_parts (is_put_m o.request) (not (carries_value o.payload)) h).0
   | inr e ↦ rw e refl
 ]
@@ -123,7 +108,8 @@ pub others_blind : (p : Protocol) (n : ℕ) (flat : List ℕ) (picture : Picture
 others_blind p n flat picture g is_owned d d_in not_owner =
     let a = owned_alone p n flat picture g is_owned in
     let fit : fits p false false (awaited picture.transaction d) (held_by picture d).state ≡ true = rw (a.unshared, not_owner) at (g.states d d_in) in
-    not_true (keeps (held_by picture d).state) (alone_rule p (awaited picture.transaction d) (held_by picture d).state (calm_wait picture.transaction d a.calm) fit)
+    not-true (keeps (held_by picture d).state) (alone_rule p (awaited picture.transaction d) (held_by picture d).state
+    (calm_wait picture.transaction d a.calm) fit)
 
 pub owner_is : (owner : Option ℕ) (d : ℕ) → owns owner d ≡ true → owner ≡ Some d
 owner_is None d h = cc
@@ -133,7 +119,7 @@ pub owner_owned : (p : Protocol) (n : ℕ) (flat : List ℕ) (picture : Picture)
 owner_owned p n flat picture g d h = sym g.is_owned ∙ rw (owner_is g.owner d h) refl
 
 pub owns_one : (owner : Option ℕ) (c d : ℕ) → owns owner c ≡ true → d ≢ c → owns owner d ≡ false
-owns_one owner c d h apart = not_true (owns owner d) (rw (owner_is owner c h) (not_eqb_true d c apart))
+owns_one owner c d h apart = not-true (owns owner d) (rw (owner_is owner c h) (not_eqb_true d c apart))
 
 -- one writer alone, or only readers
 pub one_writer : (p : Protocol) (n : ℕ) (flat : List ℕ) (picture : Picture) → BlockInvariant p n flat picture → (c d : ℕ) → c < n → d < n → is_owner (held_by picture c).state ≡ true → d ≢ c → keeps (held_by picture d).state ≡ false
@@ -145,7 +131,7 @@ one_writer p n flat picture g c d c_in d_in writes apart =
 pub calm_carries : (t : Option Open) (o : Open) → calm_talk (talk_of t) ≡ true → t ≡ Some o → carries_value o.payload ≡ true → ⊥
 calm_carries t o h e carrying =
     let h2 : calm_talk (talk_of (Some o)) ≡ true = ap (λ (x : Option Open). calm_talk (talk_of x)) (sym e) ∙ h in
-    clash (carries_value o.payload) carrying (not_true (carries_value o.payload) (and_parts (is_put_m o.request) (not (carries_value o.payload)) h2).1)
+    clash (carries_value o.payload) carrying (not-true (carries_value o.payload) (and_parts (is_put_m o.request) (not (carries_value o.payload)) h2).1)
 
 pub none_of : (o : Option ℕ) → is_some o ≡ false → o ≡ None
 none_of None e = refl

@@ -1,5 +1,6 @@
 -- One block has a new picture, and the others are as they were.
 use Rattle.std.proofs.Common.{◌≡◌, ◌≢◌, ℕ, ◌<◌, List, length, Option, inl, inr, ap, sym, ◌∙◌, subst}
+use Rattle.std.proofs.lemmas.Bool.{cases_eq}
 use Rattle.std.proofs.lemmas.List.{length-set, get_or-set_same, get_or-set_other}
 use Rattle.snoop_rules.specs.declared.names.MemState.{MemState}
 use Rattle.snoop_bus.specs.Traffic.{Open}
@@ -36,9 +37,13 @@ module _ (s : Situation) (block : ℕ) (next : Picture) (queues : List (List ℕ
   pub picture_elsewhere : (b : ℕ) → b ≢ block → picture_of (changed s block next queues log) b ≡ picture_of s b
   picture_elsewhere b apart = get_or-set_other s.pictures block b next nothing_there apart
 
-  -- what holds of each picture and of the new one holds of each picture then
-  pub all_pictures : (P : Picture → Type 0) → ((b : ℕ) → P (picture_of s b)) → P next → (b : ℕ) → P (picture_of (changed s block next queues log) b)
-  all_pictures P all here b = elim (set_cases s.pictures block b next nothing_there) [ inl p ↦ subst P (sym p.1) here | inr e ↦ subst P (sym e) (all b) ]
+  -- what holds of each other block's picture and of the new one holds of each block's then
+  pub each_picture : (P : ℕ → Picture → Type 0) → block < length s.pictures → ((b : ℕ) → b ≢ block → P b (picture_of s b)) → P block next → (b : ℕ)
+      → P b (picture_of (changed s block next queues log) b)
+  each_picture P within others here b = elim (cases_eq b block) [
+    | inl e ↦ subst (λ (x : ℕ). P x (picture_of (changed s block next queues log) x)) (sym e) (subst (P block) (sym (picture_here within)) here)
+    | inr apart ↦ subst (P b) (sym (picture_elsewhere b apart)) (others b apart)
+  ]
 
   -- what the new picture leaves as it was is so of every block
   pub same_everywhere : {A : Type 0} (f : Picture → A) → f next ≡ f (picture_of s block) → (b : ℕ) → f (picture_of (changed s block next queues log) b) ≡ f (picture_of s b)

@@ -2,7 +2,7 @@
 use Rattle.std.proofs.Common.{◌≡◌, ◌≢◌, ◌<◌, ◌&&◌, ◌⊎◌, ◌∙◌, ℕ, length, List, Bool, true, false, not, cond, Option, Some, None, refl, inl, inr, ap, sym, subst}
 use Rattle.std.specs.Prelude.{is_some}
 use Rattle.std.proofs.lemmas.Bool.Decides.{eqb_tells}
-use Rattle.std.proofs.lemmas.Bool.{eq-eqb, and_parts}
+use Rattle.std.proofs.lemmas.Bool.{and_parts, cases_Bool, cases_eq, eq-eqb, ne_eqb, not-true}
 use Rattle.snoop_trace.specs.declared.step.Op.{Op}
 use Rattle.snoop_trace.specs.declared.protocol.Protocol.{Protocol}
 use Rattle.snoop_rules.specs.declared.names.CacheState.{CacheState}
@@ -10,7 +10,7 @@ use Rattle.snoop_rules.specs.declared.names.CacheEvent.{CacheEvent}
 use Rattle.snoop_rules.specs.declared.names.Request.{Request}
 use Rattle.snoop_rules.specs.declared.names.Payload.{Payload}
 use Rattle.snoop_rules.specs.Waits.{waiting_request}
-use Rattle.snoop_rules.specs.Takers.{asked, other, seen_by, at_memory, arrival, arrival_at_memory, takes_payload}
+use Rattle.snoop_rules.specs.Takers.{asked, seen_by, at_memory, arrival, arrival_at_memory, takes_payload}
 use Rattle.snoop_rules.specs.declared.names.CacheCell.{CacheCell}
 use Rattle.snoop_rules.specs.declared.names.MemCell.{MemCell}
 use Rattle.snoop_rules.specs.Cell.{cell_of}
@@ -21,13 +21,13 @@ use Rattle.snoop_history.specs.Totals.{is_put_m}
 use Rattle.snoop_bus.specs.Traffic.{Open}
 use Rattle.snoop_model.specs.Pictures.Picture.{Picture, held_by}
 use Rattle.snoop_model.specs.Pictures.Sends.{Sends, IsOnlySender}
-use Rattle.snoop_model.proofs.Tables.SentBy.{sent_by, sent_by_memory, sends_row, memory_sends_row}
+use Rattle.snoop_model.proofs.Tables.SentBy.{payload_from, sends_is, sends_row, memory_sends_row}
 use Rattle.snoop_model.specs.Invariant.Fits.{claims_of, in_protocol, fits}
 use Rattle.snoop_model.specs.Invariant.Block.{BlockInvariant, talk_of, awaited, owns}
-use Rattle.snoop_model.proofs.Tables.Every.{either-at, same_is, some_of, when_at}
+use Rattle.snoop_model.proofs.Tables.Every.{either-at, some_of, when_at}
 use Rattle.snoop_model.proofs.Tables.SenderTests.{follows_sender_table}
-use Rattle.snoop_model.proofs.OneBlock.Facts.{not_eqb, or_not, some_true, implied, not_true, clash, owner_is, none_of}
-use Rattle.snoop_model.proofs.OneBlock.OrderStep.{Looked, look, end_of, other_of, other_cell, sent_payload, seen_own, seen_other}
+use Rattle.snoop_model.proofs.OneBlock.Facts.{implied, clash, owner_is, none_of}
+use Rattle.snoop_model.proofs.OneBlock.OrderStep.{Looked, look, end_of, other_of, other_cell, sent_payload, seen_own, seen_other, Roles, roles}
 use Rattle.snoop_model.proofs.OneBlock.AskStep.{right_of}
 use Rattle.snoop_model.proofs.Tables.AskTests.{ask_row, is_idle_evict}
 use Rattle.snoop_model.proofs.Tables.OrderTests.{order_rule}
@@ -52,48 +52,22 @@ possible_rows p flat before c q l d d_in = elim (eqb_tells d c) as (λ _. (r : C
       (x.0, ap (λ (e : CacheEvent). cell_of p (held_by before d).state e) (seen_other d c q h.1) ∙ x.1)
 ]
 
--- each controller sends exactly where it is meant to
-pub record Roles (p : Protocol) (flat : List ℕ) (before : Picture) (c : ℕ) (q : Request) (l : Looked p flat before c q) : Type 0 where
-  pub memory : is_some (sent_by_memory (Some l.mc)) ≡ (not (is_put_m q) && not l.good.claims.owned)
-  pub requestor : is_some (sent_by (Some l.oc)) ≡ is_put_m q
-  pub puts : owns l.good.owner c ≡ true → is_put_m q ≡ true
-  pub others : (d : ℕ) → d < length before.caches → d ≢ c → (xc : CacheCell) → cell_of p (held_by before d).state (other q) ≡ Some xc → is_some (sent_by (Some xc)) ≡ (owns l.good.owner d && not (is_put_m q))
-
-roles : (p : Protocol) (flat : List ℕ) (before : Picture) (c : ℕ) (q : Request) (l : Looked p flat before c q) → Roles p flat before c q l
-roles p flat before c q l = record {
-  memory = same_is _ _ (end_of p flat before c q l OrderTests.memory_sends OrderTests.memory_sends_holds);
-  requestor = same_is _ _ (end_of p flat before c q l OrderTests.requestor_sends OrderTests.requestor_sends_holds);
-  puts = implied (owns l.good.owner c) (is_put_m q) (order_rule OrderTests.owner_only_puts OrderTests.owner_only_puts_holds p before.memory.state l.good.claims (held_by before c).state (owns l.good.owner c) q l.quiet l.requestor_fits l.owned l.waits);
-  others = λ d d_in apart xc is_xc. same_is _ _ (other_of p flat before c q l OrderTests.other_sends OrderTests.other_sends_holds d d_in apart xc is_xc);
-}
-
--- the row of a core that is d
-own_row : (p : Protocol) (flat : List ℕ) (before : Picture) (c : ℕ) (q : Request) (l : Looked p flat before c q) (d : ℕ) → d ≡ c → cell_of p (held_by before d).state (seen_by d c q) ≡ Some l.oc
-own_row p flat before c q l d e = subst (λ (x : ℕ). cell_of p (held_by before x).state (seen_by x c q) ≡ Some l.oc) (sym e) (ap (λ (x : CacheEvent). cell_of p (held_by before c).state x) (seen_own c q) ∙ l.is_oc)
-
--- who sends: the requestor of a PutM, else memory where no core owns, else the owner
+-- who is meant to send
 abbrev pub meant : Request → ℕ → Option ℕ → Option ℕ
 meant q c owner = cond (is_put_m q) (Some c) owner
 
 only : (p : Protocol) (flat : List ℕ) (before : Picture) (c : ℕ) (q : Request) (l : Looked p flat before c q) → Roles p flat before c q l → (another : Option ℕ) (sent : Payload) → Sends p before c q another sent → another ≡ meant q c l.good.owner
 only p flat before c q l roles None sent sends =
-    let e : is_some (sent_by_memory (Some l.mc)) ≡ true = some_true (sent_by_memory (Some l.mc)) sent (ap sent_by_memory (sym l.is_mc) ∙ ap sent_by_memory sends.1) in
-    let h = and_parts (not (is_put_m q)) (not l.good.claims.owned) (sym roles.memory ∙ e) in
-    let no_put = not_true (is_put_m q) h.0 in
-    let no_owner : is_some l.good.owner ≡ false = l.good.is_owned ∙ not_true l.good.claims.owned h.1 in
-    sym (rw no_put (none_of l.good.owner no_owner))
-only p flat before c q l roles (Some d) sent sends = elim (eqb_tells d c) as (λ _. Some d ≡ meant q c l.good.owner) [
-  | inl h ↦
-      let e : is_some (sent_by (Some l.oc)) ≡ true = some_true (sent_by (Some l.oc)) sent (ap sent_by (sym (own_row p flat before c q l d h.1)) ∙ ap sent_by sends.1.1.1) in
-      let put : is_put_m q ≡ true = sym roles.requestor ∙ e in
-      rw put (ap (λ (x : ℕ). Some x) h.1)
-  | inr h ↦
-      let x = other_cell p flat before c q l d sends.0 in
-      let row : cell_of p (held_by before d).state (seen_by d c q) ≡ Some x.0 = ap (λ (e : CacheEvent). cell_of p (held_by before d).state e) (seen_other d c q h.1) ∙ x.1 in
-      let e : is_some (sent_by (Some x.0)) ≡ true = some_true (sent_by (Some x.0)) sent (ap sent_by (sym row) ∙ ap sent_by sends.1.1.1) in
-      let both = and_parts (owns l.good.owner d) (not (is_put_m q)) (sym (roles.others d sends.0 h.1 x.0 x.1) ∙ e) in
-      rw (not_true (is_put_m q) both.1) (sym (owner_is l.good.owner d both.0))
-]
+    let h = and_parts (not (is_put_m q)) (not l.good.claims.owned) (sym roles.memory ∙ ap is_some (sends_is p before c q None sent sends)) in
+    sym (rw (not-true (is_put_m q) h.0) (none_of l.good.owner (l.good.is_owned ∙ not-true l.good.claims.owned h.1)))
+only p flat before c q l roles (Some d) sent sends =
+    let does : is_some (payload_from p before c q (Some d)) ≡ true = ap is_some (sends_is p before c q (Some d) sent sends) in
+    elim (cases_eq d c) as (λ _. Some d ≡ meant q c l.good.owner) [
+      | inl e ↦ let put : is_put_m q ≡ true = sym roles.requestor ∙ (rw e at does) in rw put (ap (λ (x : ℕ). Some x) e)
+      | inr apart ↦
+          let both = and_parts (owns l.good.owner d) (not (is_put_m q)) (sym (roles.others d sends.0 apart) ∙ does) in
+          rw (not-true (is_put_m q) both.1) (sym (owner_is l.good.owner d both.0))
+    ]
 
 -- the sender sends, and its line is in the table
 pub record Sent (p : Protocol) (flat : List ℕ) (before : Picture) (c : ℕ) (q : Request) (l : Looked p flat before c q) : Type 0 where
@@ -103,25 +77,25 @@ pub record Sent (p : Protocol) (flat : List ℕ) (before : Picture) (c : ℕ) (q
 
 sent_put : (p : Protocol) (flat : List ℕ) (before : Picture) (c : ℕ) (q : Request) (l : Looked p flat before c q) → Roles p flat before c q l → is_put_m q ≡ true → Sent p flat before c q l
 sent_put p flat before c q l roles put =
-    let x = some_of (sent_by (Some l.oc)) (roles.requestor ∙ put) in
-    let row = own_row p flat before c q l c refl in
-    let line : follows_sender_table p q before.memory.state (Requestor (held_by before c).state) l.pl l.mc.next ≡ true = implied (is_put_m q) _ (end_of p flat before c q l OrderTests.order_line_of_put OrderTests.order_line_of_put_holds) put in
+    let x = some_of (payload_from p before c q (Some c)) (roles.requestor ∙ put) in
+    let line : follows_sender_table p q before.memory.state (Requestor (held_by before c).state) l.pl l.mc.next ≡ true = implied (is_put_m q) _
+    (end_of p flat before c q l OrderTests.order_line_of_put) put in
     let who : meant q c l.good.owner ≡ Some c = rw put refl in
     record {
       payload = x.0;
-      sends = subst (λ (w : Option ℕ). Sends p before c q w x.0) (sym who) (l.requestor_in, sends_row _ _ (ap sent_by row ∙ x.1));
+      sends = subst (λ (w : Option ℕ). Sends p before c q w x.0) (sym who) (l.requestor_in, sends_row _ _ x.1);
       order_line = subst (λ (w : Option ℕ). follows_sender_table p q before.memory.state (sender_of c (λ k. (held_by before k).state) w) l.pl l.mc.next ≡ true) (sym who) (rw (eq-eqb c c refl) line);
     }
 
 sent_memory : (p : Protocol) (flat : List ℕ) (before : Picture) (c : ℕ) (q : Request) (l : Looked p flat before c q) → Roles p flat before c q l → is_put_m q ≡ false → l.good.claims.owned ≡ false → Sent p flat before c q l
 sent_memory p flat before c q l roles no_put unowned =
-    let e : is_some (sent_by_memory (Some l.mc)) ≡ true = roles.memory ∙ rw (no_put, unowned) refl in
-    let x = some_of (sent_by_memory (Some l.mc)) e in
-    let line : follows_sender_table p q before.memory.state Memory l.pl l.mc.next ≡ true = implied (is_some (sent_by_memory (Some l.mc))) _ (end_of p flat before c q l OrderTests.order_line_of_memory OrderTests.order_line_of_memory_holds) e in
+    let x = some_of (payload_from p before c q None) (roles.memory ∙ rw (no_put, unowned) refl) in
+    let line : follows_sender_table p q before.memory.state Memory l.pl l.mc.next ≡ true = implied (not (is_put_m q) && not l.good.claims.owned) _
+    (end_of p flat before c q l OrderTests.order_line_of_memory) (rw (no_put, unowned) refl) in
     let who : meant q c l.good.owner ≡ None = rw no_put (none_of l.good.owner (l.good.is_owned ∙ unowned)) in
     record {
       payload = x.0;
-      sends = subst (λ (w : Option ℕ). Sends p before c q w x.0) (sym who) (memory_sends_row _ _ (ap sent_by_memory l.is_mc ∙ x.1));
+      sends = subst (λ (w : Option ℕ). Sends p before c q w x.0) (sym who) (memory_sends_row _ _ x.1);
       order_line = subst (λ (w : Option ℕ). follows_sender_table p q before.memory.state (sender_of c (λ k. (held_by before k).state) w) l.pl l.mc.next ≡ true) (sym who) line;
     }
 
@@ -131,15 +105,16 @@ sent_owner p flat before c q l roles no_put d is_d =
     let owning : owns l.good.owner d ≡ true = rw is_d (eq-eqb d d refl) in
     let apart : d ≢ c = λ e. clash (is_put_m q) (roles.puts (ap (owns l.good.owner) (sym e) ∙ owning)) no_put in
     let xc = other_cell p flat before c q l d d_in in
-    let e : is_some (sent_by (Some xc.0)) ≡ true = roles.others d d_in apart xc.0 xc.1 ∙ rw (owning, no_put) refl in
-    let x = some_of (sent_by (Some xc.0)) e in
-    let row : cell_of p (held_by before d).state (seen_by d c q) ≡ Some xc.0 = ap (λ (v : CacheEvent). cell_of p (held_by before d).state v) (seen_other d c q apart) ∙ xc.1 in
-    let line : follows_sender_table p q before.memory.state (Other (held_by before d).state) l.pl l.mc.next ≡ true = implied (is_some (sent_by (Some xc.0))) _ (other_of p flat before c q l OrderTests.order_line_of_core OrderTests.order_line_of_core_holds d d_in apart xc.0 xc.1) e in
+    let x = some_of (payload_from p before c q (Some d)) (roles.others d d_in apart ∙ rw (owning, no_put) refl) in
+    let line : follows_sender_table p q before.memory.state (Other (held_by before d).state) l.pl l.mc.next ≡ true = implied
+    (owns l.good.owner d && not (is_put_m q)) _ (other_of p flat before c q l OrderTests.order_line_of_core d d_in apart xc.0 xc.1)
+    (rw (owning, no_put) refl) in
     let who : meant q c l.good.owner ≡ Some d = rw no_put is_d in
     record {
       payload = x.0;
-      sends = subst (λ (w : Option ℕ). Sends p before c q w x.0) (sym who) (d_in, sends_row _ _ (ap sent_by row ∙ x.1));
-      order_line = subst (λ (w : Option ℕ). follows_sender_table p q before.memory.state (sender_of c (λ k. (held_by before k).state) w) l.pl l.mc.next ≡ true) (sym who) (rw (not_eqb d c apart) line);
+      sends = subst (λ (w : Option ℕ). Sends p before c q w x.0) (sym who) (d_in, sends_row _ _ x.1);
+      order_line = subst (λ (w : Option ℕ). follows_sender_table p q before.memory.state (sender_of c (λ k. (held_by before k).state) w) l.pl l.mc.next ≡ true)
+          (sym who) (rw (ne_eqb d c apart) line);
     }
 
 some_or_none : (o : Option ℕ) → (o ≡ None) ⊎ ((d : ℕ) × (o ≡ Some d))
@@ -147,7 +122,7 @@ some_or_none None = inl refl
 some_or_none (Some d) = inr (d, refl)
 
 sent : (p : Protocol) (flat : List ℕ) (before : Picture) (c : ℕ) (q : Request) (l : Looked p flat before c q) → Roles p flat before c q l → Sent p flat before c q l
-sent p flat before c q l roles = elim (or_not (is_put_m q)) as (λ _. Sent p flat before c q l) [
+sent p flat before c q l roles = elim (cases_Bool (is_put_m q)) as (λ _. Sent p flat before c q l) [
   | inl put ↦ sent_put p flat before c q l roles put
   | inr no_put ↦ elim (some_or_none l.good.owner) as (λ _. Sent p flat before c q l) [
     | inl none ↦ sent_memory p flat before c q l roles no_put (sym l.good.is_owned ∙ rw none refl)
@@ -198,10 +173,10 @@ respond_possible p n flat before o good was_open =
     let fit : fits p good.claims.shared ow (Some o.request) s ≡ true = ap (λ (w : Option Request). fits p good.claims.shared ow w s) (sym waits) ∙ good.states c (good.requestor_in o was_open) in
     record {
       memory = λ h.
-          let t = respond_rule RespondTests.has_memory_arrival RespondTests.has_memory_arrival_holds p before.memory.state o.request o.payload good.claims is_claims in
+          let t = respond_rule RespondTests.has_memory_arrival p before.memory.state o.request o.payload good.claims is_claims in
           some_of (memory_row_for p before.memory.state (arrival_at_memory o.payload)) (implied (takes_payload o.request before.memory.state) _ t h);
       requestor = λ no_put.
           let get : not (is_put_m o.request) ≡ true = rw no_put refl in
-          let test_first = when_at _ _ get (respond_rule RespondTests.has_arrival RespondTests.has_arrival_holds p before.memory.state o.request o.payload good.claims is_claims) in
+          let test_first = when_at _ _ get (respond_rule RespondTests.has_arrival p before.memory.state o.request o.payload good.claims is_claims) in
           some_of (row_for p s (arrival o.payload)) (when_at _ _ fit (either-at _ (all_states-at _ test_first s) ow));
     }

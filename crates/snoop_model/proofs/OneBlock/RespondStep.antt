@@ -2,7 +2,7 @@
 use Rattle.std.proofs.Common.{◌≡◌, ◌≢◌, ◌<◌, ◌&&◌, ◌||◌, ◌∙◌, ℕ, length, List, Bool, true, false, not, cond, eqb, Option, Some, None, refl, inl, inr, ap, sym, subst}
 use Rattle.std.specs.Prelude.{is_some, if◌then◌else◌}
 use Rattle.std.proofs.lemmas.Bool.Decides.{eqb_tells}
-use Rattle.std.proofs.lemmas.Bool.{eq-eqb, and_parts}
+use Rattle.std.proofs.lemmas.Bool.{and_parts, cases_Bool, eq-eqb, ne_eqb, not-true, or_cases}
 use Rattle.std.specs.Prelude.{slice_set}
 use Rattle.std.proofs.lemmas.List.{get_or-set_same, get_or-set_other}
 use Rattle.snoop_trace.specs.Words.{word_at}
@@ -38,7 +38,7 @@ use Rattle.snoop_model.specs.Invariant.Block.{BlockInvariant, talk_of, awaited, 
 use Rattle.snoop_model.proofs.Tables.Every.{either-at, given, given_at, same_is, some_of, when_at}
 use Rattle.snoop_model.proofs.OneBlock.Operation.{flat_after, IsLawful}
 use Rattle.snoop_model.proofs.Tables.SenderTests.{after_respond, next_memory, next_of}
-use Rattle.snoop_model.proofs.OneBlock.Facts.{not_eqb, or_not, either_of, owns_owned, implied, carried_kept, carried_same, not_true, clash}
+use Rattle.snoop_model.proofs.OneBlock.Facts.{owns_owned, implied, carried_kept, carried_same, clash}
 use Rattle.snoop_model.proofs.OneBlock.AskStep.{right_of}
 use Rattle.snoop_model.proofs.Tables.Rows.{IsProper-fill}
 use Rattle.snoop_model.proofs.Tables.RespondTests.{SettlesIf, after_rule, fills_store, gains, memory_row_for, respond_rule, row_for, writes}
@@ -98,11 +98,13 @@ find p n flat before after o g was_open arrives =
     let m = before.memory.state in
     let is_claims : claims_of p m (Some (q, pl)) ≡ Some g.claims = ap (λ (t : Option Open). claims_of p m (talk_of t)) (sym was_open) ∙ g.is_claims in
     let is_memory : after_respond p q m pl ≡ Some after.memory.state = memory_after (takes_payload q m) p m after.memory.state (arrival_at_memory pl) arrives.act arrives.settled in
-    let h1 = respond_rule RespondTests.has_line_after RespondTests.has_line_after_holds p m q pl g.claims is_claims in
+    let h1 = respond_rule RespondTests.has_line_after p m q pl g.claims is_claims in
     let some_next : (a : Claims) × (claims_of p after.memory.state None ≡ Some a) = some_of (claims_of p after.memory.state None) (given_at _ _ after.memory.state is_memory h1) in
     let carried : carries_value pl ≡ true → o.value ≡ flat = g.carried o was_open in
-    let stays : before.memory.value ≡ flat → after.memory.value ≡ flat = value_stays (takes_payload q m) p m after.memory.state (arrival_at_memory pl) arrives.act (carries_value pl) o.value before.memory.value after.memory.value flat arrives.settled arrives.value (respond_rule RespondTests.write_carries RespondTests.write_carries_holds p m q pl g.claims is_claims) carried in
-    let fresh_test = after_rule RespondTests.fresh_respond RespondTests.fresh_respond_holds p m q pl g.claims after.memory.state some_next.0 is_claims is_memory some_next.1 in
+    let stays : before.memory.value ≡ flat → after.memory.value ≡ flat = value_stays (takes_payload q m) p m after.memory.state
+    (arrival_at_memory pl) arrives.act (carries_value pl) o.value before.memory.value after.memory.value flat arrives.settled arrives.value
+    (respond_rule RespondTests.write_carries p m q pl g.claims is_claims) carried in
+    let fresh_test = after_rule RespondTests.fresh_respond p m q pl g.claims after.memory.state some_next.0 is_claims is_memory some_next.1 in
     let written_test = takes_payload q m && carries_value pl && given (memory_row_for p m (arrival_at_memory pl)) (λ (x : MemCell). writes x.action) in
     record {
       is_claims = is_claims;
@@ -113,19 +115,19 @@ find p n flat before after o g was_open arrives =
       stays = stays;
       refreshed = λ h.
           let h2 = and_parts (not (is_get_m q)) (g.claims.fresh || written_test) (implied some_next.0.fresh (not (is_get_m q) && (g.claims.fresh || written_test)) fresh_test h) in
-          let v : after.memory.value ≡ flat = elim (either_of g.claims.fresh written_test h2.1) as (λ _. after.memory.value ≡ flat) [
+          let v : after.memory.value ≡ flat = elim (or_cases g.claims.fresh written_test h2.1) as (λ _. after.memory.value ≡ flat) [
             | inl f ↦ stays (g.fresh f)
             | inr w ↦ value_written (takes_payload q m) p m after.memory.state (arrival_at_memory pl) arrives.act (carries_value pl) o.value before.memory.value after.memory.value flat arrives.settled arrives.value w carried
           ] in
-          (not_true (is_get_m q) h2.0, v);
+          (not-true (is_get_m q) h2.0, v);
       requestor_in = g.requestor_in o was_open;
-      owned = same_is _ _ (after_rule RespondTests.gain_owned RespondTests.gain_owned_holds p m q pl g.claims after.memory.state some_next.0 is_claims is_memory some_next.1);
+      owned = same_is _ _ (after_rule RespondTests.gain_owned p m q pl g.claims after.memory.state some_next.0 is_claims is_memory some_next.1);
     }
 
 -- a core that is not answered keeps its state, and it fits the line after
 stays_fits : (p : Protocol) (n : ℕ) (flat : List ℕ) (before after : Picture) (o : Open) (g : BlockInvariant p n flat before) (f : Found p n flat before after o g) (d : ℕ) → d < n → fits p g.claims.shared (owns g.owner d) None (held_by before d).state ≡ true → fits p f.next.shared (owns g.owner d) None (held_by before d).state ≡ true
 stays_fits p n flat before after o g f d d_in fit =
-    let t = after_rule RespondTests.stay_fits RespondTests.stay_fits_holds p before.memory.state o.request o.payload g.claims after.memory.state f.next f.is_claims f.is_memory f.is_next in
+    let t = after_rule RespondTests.stay_fits p before.memory.state o.request o.payload g.claims after.memory.state f.next f.is_claims f.is_memory f.is_next in
     let s = (held_by before d).state in
     let ow = owns g.owner d in
     let h0 = either-at _ (all_states-at _ t s) ow in
@@ -134,11 +136,12 @@ stays_fits p n flat before after o g f d d_in fit =
 -- after a GetM no other core may read
 stays_blind : (p : Protocol) (n : ℕ) (flat : List ℕ) (before after : Picture) (o : Open) (g : BlockInvariant p n flat before) (f : Found p n flat before after o g) → is_get_m o.request ≡ true → (d : ℕ) → d < n → fits p g.claims.shared (owns g.owner d) None (held_by before d).state ≡ true → keeps (held_by before d).state ≡ false
 stays_blind p n flat before after o g f get_m d d_in fit =
-    let t = when_at _ _ get_m (after_rule RespondTests.stay_alone RespondTests.stay_alone_holds p before.memory.state o.request o.payload g.claims after.memory.state f.next f.is_claims f.is_memory f.is_next) in
+    let t = when_at _ _ get_m
+    (after_rule RespondTests.stay_alone p before.memory.state o.request o.payload g.claims after.memory.state f.next f.is_claims f.is_memory f.is_next) in
     let s = (held_by before d).state in
     let ow = owns g.owner d in
     let h0 = either-at _ (all_states-at _ t s) ow in
-    not_true (keeps s) (when_at _ _ (owns_owned g.owner d g.claims.owned g.is_owned) (when_at _ _ fit h0))
+    not-true (keeps s) (when_at _ _ (owns_owned g.owner d g.claims.owned g.is_owned) (when_at _ _ fit h0))
 
 none_some : (x : Open) → None ≡ Some x → ⊥
 none_some x e = cc
@@ -152,7 +155,7 @@ put_gains request.PutM pl h = refl
 put_gains _ pl h = cc
 
 put_calm : (o : Open) (d : ℕ) → is_put_m o.request ≡ true → is_calm (awaited (Some o) d) ≡ true
-put_calm o d h = elim (or_not (eqb d o.core)) as (λ _. is_calm (cond (eqb d o.core) (Some o.request) None) ≡ true) [ inl e ↦ rw e h | inr e ↦ rw e refl ]
+put_calm o d h = elim (cases_Bool (eqb d o.core)) as (λ _. is_calm (cond (eqb d o.core) (Some o.request) None) ≡ true) [ inl e ↦ rw e h | inr e ↦ rw e refl ]
 
 -- a PutM's end
 respond_put : (p : Protocol) (n : ℕ) (flat : List ℕ) (before after : Picture) (o : Open) (g : BlockInvariant p n flat before) → before.transaction ≡ Some o → ArrivesAtMemory o p before.memory after.memory → after.transaction ≡ None → is_put_m o.request ≡ true → ((d : ℕ) → held_by after d ≡ held_by before d) → BlockInvariant p n flat after
@@ -196,7 +199,7 @@ owns_answered_self true c owner h = eq-eqb c c refl
 owns_answered_self false c owner h = h
 
 owns_answered_other : (gained owned : Bool) (c d : ℕ) (owner : Option ℕ) → d ≢ c → is_some owner ≡ owned → (not gained || not owned) ≡ true → owns (answered_owner gained c owner) d ≡ owns owner d
-owns_answered_other true owned c d None apart e h = not_eqb d c apart
+owns_answered_other true owned c d None apart e h = ne_eqb d c apart
 owns_answered_other true true c d (Some o) apart e h = cc
 owns_answered_other true false c d (Some o) apart e h = cc
 owns_answered_other false owned c d owner apart e h = refl
@@ -216,18 +219,19 @@ arrive p n flat before after o g f row was_open no_put is_row =
     let waits : awaited before.transaction c ≡ Some o.request = ap (λ (t : Option Open). awaited t c) was_open ∙ rw (eq-eqb c c refl) refl in
     let fit : fits p g.claims.shared ow (Some o.request) s ≡ true = ap (λ (w : Option Request). fits p g.claims.shared ow w s) (sym waits) ∙ g.states c f.requestor_in in
     let get : not (is_put_m o.request) ≡ true = rw no_put refl in
-    let test_first = when_at _ _ get (after_rule RespondTests.arrival_fits RespondTests.arrival_fits_holds p before.memory.state o.request o.payload g.claims after.memory.state f.next f.is_claims f.is_memory f.is_next) in
+    let test_first = when_at _ _ get
+    (after_rule RespondTests.arrival_fits p before.memory.state o.request o.payload g.claims after.memory.state f.next f.is_claims f.is_memory f.is_next) in
     let test_second = given_at _ _ row is_row (when_at _ _ fit (either-at _ (all_states-at _ test_first s) ow)) in
-    let u0 = when_at _ _ get (respond_rule RespondTests.arrival_fills RespondTests.arrival_fills_holds p before.memory.state o.request o.payload g.claims f.is_claims) in
+    let u0 = when_at _ _ get (respond_rule RespondTests.arrival_fills p before.memory.state o.request o.payload g.claims f.is_claims) in
     let u1 = given_at _ _ row is_row (when_at _ _ fit (either-at _ (all_states-at _ u0 s) ow)) in
     let a = and_parts (not ow) (fits p f.next.shared (gains o.request o.payload) None row.next && (not (is_clean row.next) || (g.claims.fresh && not (is_get_m o.request)))) test_second in
     let b = and_parts (fits p f.next.shared (gains o.request o.payload) None row.next) (not (is_clean row.next) || (g.claims.fresh && not (is_get_m o.request))) a.1 in
     record {
-      not_owner = not_true ow a.0;
+      not_owner = not-true ow a.0;
       fit = b.0;
       clean = λ h.
           let e = and_parts g.claims.fresh (not (is_get_m o.request)) (implied (is_clean row.next) (g.claims.fresh && not (is_get_m o.request)) b.1 h) in
-          (e.0, not_true (is_get_m o.request) e.1);
+          (e.0, not-true (is_get_m o.request) e.1);
       fills = same_is (fills_store row.action) (is_get_m o.request) u1;
     }
 
@@ -262,12 +266,14 @@ respond_get p n flat before after o g was_open arrives closes no_put log asking 
     let c = o.core in
     let gained = gains o.request o.payload in
     let a = arrive p n flat before after o g f fills.row was_open no_put (ap (row_for p (held_by before c).state) fills.arrives ∙ fills.is_row) in
-    let carries : carries_value o.payload ≡ true = right_of (is_put_m o.request) (carries_value o.payload) (respond_rule RespondTests.data_of_get RespondTests.data_of_get_holds p before.memory.state o.request o.payload g.claims f.is_claims) no_put in
+    let carries : carries_value o.payload ≡ true = right_of (is_put_m o.request) (carries_value o.payload)
+    (respond_rule RespondTests.data_of_get p before.memory.state o.request o.payload g.claims f.is_claims) no_put in
     let l = fill flat p o log (held_by before c) (held_by after c) asking value did fills (f.carried carries) logged in
     let fit : (d : ℕ) → d < n → d ≢ c → fits p g.claims.shared (owns g.owner d) None (held_by before d).state ≡ true = λ d d_in apart.
-    let waits : awaited before.transaction d ≡ None = ap (λ (t : Option Open). awaited t d) was_open ∙ rw (not_eqb d c apart) refl in
+    let waits : awaited before.transaction d ≡ None = ap (λ (t : Option Open). awaited t d) was_open ∙ rw (ne_eqb d c apart) refl in
     ap (λ (w : Option Request). fits p g.claims.shared (owns g.owner d) w (held_by before d).state) (sym waits) ∙ g.states d d_in in
-    let alone = after_rule RespondTests.gain_alone RespondTests.gain_alone_holds p before.memory.state o.request o.payload g.claims after.memory.state f.next f.is_claims f.is_memory f.is_next in
+    let alone = after_rule RespondTests.gain_alone p before.memory.state o.request o.payload g.claims after.memory.state f.next f.is_claims f.is_memory
+    f.is_next in
     -- the flat value is as before, or no other core may read and memory isn't fresh
     let same_flat : is_get_m o.request ≡ false → flat_after flat did ≡ flat = λ h. l.load_keeps (a.fills ∙ h) in
     let good : BlockInvariant p n (flat_after flat did) after = record {
@@ -282,7 +288,7 @@ respond_get p n flat before after o g was_open arrives closes no_put log asking 
       ];
       kept = λ d d_in h. elim (eqb_tells d c) as (λ _. (held_by after d).kept ≡ Some (flat_after flat did)) [
         | inl e ↦ ap (λ (x : ℕ). (held_by after x).kept) e.1 ∙ l.kept
-        | inr e ↦ elim (or_not (is_get_m o.request)) as (λ _. (held_by after d).kept ≡ Some (flat_after flat did)) [
+        | inr e ↦ elim (cases_Bool (is_get_m o.request)) as (λ _. (held_by after d).kept ≡ Some (flat_after flat did)) [
           | inl m ↦ absurd (clash (keeps (held_by before d).state) (ap (λ (x : Line). keeps x.state) (sym (others d e.1)) ∙ h) (stays_blind p n flat before after o g f m d d_in (fit d d_in e.1)))
           | inr m ↦ carried_kept (held_by before d) (held_by after d) flat (carried_same (held_by before d) (held_by after d) (others d e.1)) (g.kept d d_in) h ∙ ap (λ (x : List ℕ). Some x) (sym (same_flat m))
         ]
@@ -293,7 +299,7 @@ respond_get p n flat before after o g was_open arrives closes no_put log asking 
             f.stays (g.fresh k.0) ∙ sym (same_flat k.1)
         | inr e ↦
             let was : is_clean (held_by before d).state ≡ true = ap (λ (x : Line). is_clean x.state) (sym (others d e.1)) ∙ h in
-            elim (or_not (is_get_m o.request)) as (λ _. after.memory.value ≡ flat_after flat did) [
+            elim (cases_Bool (is_get_m o.request)) as (λ _. after.memory.value ≡ flat_after flat did) [
               | inl m ↦ absurd (clash (keeps (held_by before d).state) (clean_reads (held_by before d).state was) (stays_blind p n flat before after o g f m d d_in (fit d d_in e.1)))
               | inr m ↦ f.stays (g.clean d d_in was) ∙ sym (same_flat m)
             ]

@@ -39,7 +39,8 @@ module _ (s : Situation) (kept : IsWellKept s) (core block : ℕ) (within : IsWi
   awaited_after : IsAwaited after
   awaited_after = record {
     awaits = λ k q h. elim (set_cases before.caches core k held nothing_held) [
-      | inl p ↦ (let had = kept.awaits core block q (awaits q (ap awaited_request (sym is_next) ∙ (ap (λ (x : Line). awaited_request x.state) (sym p.1) ∙ h))) in (had.0, (had.1.0, had.1.1 ∙ sym p.0, had.1.2)))
+      | inl p ↦ (let had = kept.awaits core block q (awaits q
+          (ap awaited_request (sym is_next) ∙ (ap (λ (x : Line). awaited_request x.state) (sym p.1) ∙ h))) in (had.0, (had.1.0, had.1.1 ∙ sym p.0, had.1.2)))
       | inr e ↦ kept.awaits k block q (ap (λ (x : Line). awaited_request x.state) (sym e) ∙ h)
     ];
     operations = λ k access h. elim (set_cases before.caches core k held nothing_held) [
@@ -65,7 +66,8 @@ module _ (s : Situation) (kept : IsWellKept s) (core block : ℕ) (within : IsWi
   }
 
   -- the line waits with a request that has just been issued
-  kept_issue : (request : Request) → waiting_request (state_of s core block) ≡ None → waiting_request next ≡ Some request → (queues : List (List ℕ)) → queues ≡ queues_after (action.Issue request) s.queues core block → KeepsOn s block after queues
+  kept_issue : (request : Request) → waiting_request (state_of s core block) ≡ None → waiting_request next ≡ Some request → (queues : List (List ℕ))
+      → queues ≡ queues_after (action.Issue request) s.queues core block → KeepsOn s block after queues
   kept_issue request was is queues issued = rw issued (record {
     within = within.1;
     as_wide = length-set before.caches core held;
@@ -75,7 +77,8 @@ module _ (s : Situation) (kept : IsWellKept s) (core block : ℕ) (within : IsWi
           (let in_queues : core < length s.queues = (let many = kept.shaped.queues in let below = within.0 in omega arith) in
           let in_row : core < length before.caches = (let wide = kept.shaped.row block within.1 in let below = within.0 in omega arith) in
           let none : waits (state_of s core block) ≡ 0 = ap (λ (x : Option Request). one_if (is_some x)) was in
-          let one : waits (held_by after core).state ≡ 1 = ap (λ (x : Line). waits x.state) (get_or-set_same before.caches core held nothing_held in_row) ∙ (ap waits is_next ∙ ap (λ (x : Option Request). one_if (is_some x)) is) in
+          let one : waits (held_by after core).state ≡ 1 = ap (λ (x : Line). waits x.state) (get_or-set_same before.caches core held nothing_held in_row) ∙
+          (ap waits is_next ∙ ap (λ (x : Option Request). one_if (is_some x)) is) in
           rw e (issued_own s.queues core block in_queues ∙ omega (arith, kept.queued core block, none, one)))
       | inr apart ↦
           ap (λ queue. count_by (λ b. b == block) queue) (issued_others s.queues core block k apart)
@@ -86,18 +89,21 @@ module _ (s : Situation) (kept : IsWellKept s) (core block : ℕ) (within : IsWi
   })
 
 -- the line that an Ask leaves, by its row
-module _ (s : Situation) (kept : IsWellKept s) (core block word : ℕ) (asking : Op) (within : IsWithin s core block) (held : Line) (next : CacheState) (answer : Reply) (entry : Option Item) where
+module _ (s : Situation) (kept : IsWellKept s) (core block word : ℕ) (asking : Op) (within : IsWithin s core block) (held : Line) (next : CacheState)
+    (answer : Reply) (entry : Option Item) where
   abbrev line : Line
   line = held_by (picture_of s block) core
 
-  still : (waiting : held.waiting ≡ line.waiting) → missed_request line.state ≡ missed_request next → (access : Access) → held.waiting ≡ Some access → has_missed next ≡ true
+  still : (waiting : held.waiting ≡ line.waiting) → missed_request line.state ≡ missed_request next → (access : Access) → held.waiting ≡ Some access
+      → has_missed next ≡ true
   still waiting same access h = ap is_some (sym same) ∙ kept.operations core block access (sym waiting ∙ h)
 
   kept_taken : (act : CacheAction) → Cell s.protocol line.state (asked asking) act next → Takes act next s.log core block word asking line held answer entry
       → KeepsOn s block (with_line (picture_of s block) core held) (queues_after act s.queues core block)
   kept_taken action.Hit row taken =
       let facts = hit_facts s.protocol line.state (asked asking) next row in
-      kept_line s kept core block within held next (ap (λ (x : Line). x.state) taken.1.0.held) (λ q. awaited-asked s.protocol line.state asking action.Hit next q row)
+      kept_line s kept core block within held next (ap (λ (x : Line). x.state) taken.1.0.held)
+      (λ q. awaited-asked s.protocol line.state asking action.Hit next q row)
       (still (ap (λ (x : Line). x.waiting) taken.1.0.held) facts.1) facts.2
   kept_taken action.Drop row taken =
       let facts = drop_facts s.protocol line.state (asked asking) next row in
@@ -106,13 +112,16 @@ module _ (s : Situation) (kept : IsWellKept s) (core block word : ℕ) (asking :
   kept_taken (action.Issue request) row taken =
       let facts = issue-waits s.protocol line.state (asked asking) request next row in
       let missed = issue-missed s.protocol line.state (asked asking) request next row in
-      kept_issue s kept core block within held next (ap (λ (x : Line). x.state) taken.0) (λ q. awaited-asked s.protocol line.state asking (action.Issue request) next q row)
-      (λ access h. ap is_some (missed.1 ∙ sym (asked_missed word asking)) ∙ ap (λ (x : Option Access). is_some (option_map (λ (a : Access). request_for a.op) x)) (sym (ap (λ (x : Line). x.waiting) taken.0) ∙ h))
+      kept_issue s kept core block within held next (ap (λ (x : Line). x.state) taken.0)
+      (λ q. awaited-asked s.protocol line.state asking (action.Issue request) next q row)
+      (λ access h. ap is_some (missed.1 ∙ sym (asked_missed word asking)) ∙ ap
+      (λ (x : Option Access). is_some (option_map (λ (a : Access). request_for a.op) x)) (sym (ap (λ (x : Line). x.waiting) taken.0) ∙ h))
       request facts.0 facts.1 (queues_after (action.Issue request) s.queues core block) refl
   kept_taken _ row taken = absurd taken
 
 pub kept_asks : (s t : Situation) (core block word : ℕ) (asking : Op) (answer : Reply) (entry : Option Item) → IsWellKept s → IsWithin s core block → Asks s core block word asking answer t entry → IsWellKept t
 kept_asks s t core block word asking answer entry kept within asks =
     let act = asks.row.action in
-    subst IsWellKept (sym asks.after) (well_after s kept block (with_line (picture_of s block) core asks.held) (queues_after act s.queues core block) (s.log ++ option_to_list entry)
+    subst IsWellKept (sym asks.after) (well_after s kept block (with_line (picture_of s block) core asks.held) (queues_after act s.queues core block)
+    (s.log ++ option_to_list entry)
     (kept_taken s kept core block word asking within asks.held asks.row.next answer entry act asks.is_row asks.taken))

@@ -1,7 +1,6 @@
 -- A machine stays well kept where one block and the queues change as they should.
-use Rattle.std.proofs.Common.{◌≡◌, ◌≢◌, ℕ, ◌<◌, List, length, Some, inl, inr, sym, ◌∙◌, ap, subst}
+use Rattle.std.proofs.Common.{◌≡◌, ◌≢◌, ℕ, ◌<◌, List, length, Some, ◌∙◌}
 use Rattle.std.specs.Prelude.{is_some, IsSome}
-use Rattle.std.proofs.lemmas.Bool.{cases_eq}
 use Rattle.snoop_rules.specs.declared.names.CacheState.{CacheState}
 use Rattle.snoop_rules.specs.declared.names.Request.{Request}
 use Rattle.snoop_rules.specs.Waits.{waiting_request}
@@ -11,12 +10,11 @@ use Rattle.snoop_bus.specs.Traffic.{Open}
 use Rattle.snoop_model.specs.declared.access.Access.{Access}
 use Rattle.snoop_model.specs.Pictures.Picture.{Picture, held_by}
 use Rattle.snoop_model.specs.Pictures.Situation.{Situation, picture_of}
-use Rattle.snoop_model.specs.Pictures.InQueue.{IsInQueue}
 use Rattle.snoop_model.specs.Pictures.Proper.{missed_request}
 use Rattle.snoop_model.specs.Invariant.WellKept.{IsWellKept, awaited_request}
 use Rattle.snoop_model.proofs.Lists.Facts.{one_if}
 use Rattle.snoop_model.proofs.Lists.QueueCounts.{times}
-use Rattle.snoop_model.proofs.OneBlock.OfBlocks.{changed, in_pictures, picture_here, picture_elsewhere, all_pictures, shaped_after}
+use Rattle.snoop_model.proofs.OneBlock.OfBlocks.{changed, in_pictures, each_picture, shaped_after}
 
 -- how often a core that holds the block in this state has it in its queue
 abbrev pub waits : CacheState → ℕ
@@ -24,7 +22,8 @@ waits s = one_if (is_some (waiting_request s))
 
 -- a core that awaits data of the block has its transaction open, and an operation waits only where a load or a store has missed
 pub record IsAwaited (picture : Picture) : Type 0 where
-  pub awaits : (core : ℕ) (request : Request) → awaited_request (held_by picture core).state ≡ Some request → (o : Open) × ((picture.transaction ≡ Some o) × (o.core ≡ core) × (o.request ≡ request))
+  pub awaits : (core : ℕ) (request : Request) → awaited_request (held_by picture core).state ≡ Some request
+      → (o : Open) × ((picture.transaction ≡ Some o) × (o.core ≡ core) × (o.request ≡ request))
   pub operations : (core : ℕ) (access : Access) → (held_by picture core).waiting ≡ Some access → IsSome (missed_request (held_by picture core).state)
 
 pub awaited_in : (s : Situation) → IsWellKept s → (block : ℕ) → IsAwaited (picture_of s block)
@@ -39,18 +38,16 @@ pub record KeepsOn (s : Situation) (block : ℕ) (next : Picture) (queues : List
   pub elsewhere : (core b : ℕ) → b ≢ block → times b (queue_of queues core) ≡ times b (queue_of s.queues core)
   pub awaited : IsAwaited next
 
-pub well_after : (s : Situation) → IsWellKept s → (block : ℕ) (next : Picture) (queues : List (List ℕ)) (log : List Item) → KeepsOn s block next queues → IsWellKept (changed s block next queues log)
+pub well_after : (s : Situation) → IsWellKept s → (block : ℕ) (next : Picture) (queues : List (List ℕ)) (log : List Item) → KeepsOn s block next queues
+    → IsWellKept (changed s block next queues log)
 well_after s kept block next queues log k =
-    let new : Situation = changed s block next queues log in
-    let awaited : (b : ℕ) → IsAwaited (picture_of new b) = all_pictures s block next queues log IsAwaited (awaited_in s kept) k.awaited in
+    let within = in_pictures s block kept.shaped k.within in
+    let awaited : (b : ℕ) → IsAwaited (picture_of (changed s block next queues log) b) = each_picture s block next queues log (λ b. IsAwaited) within
+    (λ b apart. awaited_in s kept b) k.awaited in
     record {
       shaped = shaped_after s block next queues log kept.shaped k.as_wide k.as_many;
-      queued = λ core b. elim (cases_eq b block) [
-        | inl e ↦
-            subst (λ (x : ℕ). IsInQueue new core x) (sym e)
-            (k.here core ∙ ap (λ (x : Picture). waits (held_by x core).state) (sym (picture_here s block next queues log (in_pictures s block kept.shaped k.within))))
-        | inr apart ↦ k.elsewhere core b apart ∙ (kept.queued core b ∙ ap (λ (x : Picture). waits (held_by x core).state) (sym (picture_elsewhere s block next queues log b apart)))
-      ];
+      queued = λ core. each_picture s block next queues log (λ b x. times b (queue_of queues core) ≡ waits (held_by x core).state) within
+          (λ b apart. k.elsewhere core b apart ∙ kept.queued core b) (k.here core);
       awaits = λ core b. (awaited b).awaits core;
       operations = λ core b. (awaited b).operations core;
     }

@@ -25,7 +25,8 @@ use Rattle.snoop_model.proofs.Queues.Asks.{kept_asks}
 use Rattle.snoop_model.proofs.Queues.Orders.{kept_orders}
 use Rattle.snoop_model.proofs.Queues.Responds.{kept_responds}
 
-pub on_kept : (block : ℕ) (s t : Situation) (step : Step) (answer : Reply) (entry : Option Item) → IsWellKept s → MoveOn block s step answer t entry → IsWellKept t
+pub on_kept : (block : ℕ) (s t : Situation) (step : Step) (answer : Reply) (entry : Option Item) → IsWellKept s → MoveOn block s step answer t entry
+    → IsWellKept t
 on_kept block s t (Ask core on word asking) answer entry kept move = elim move.moves [
   | inl absent ↦ subst IsWellKept (sym absent.3) kept
   | inr asks ↦ kept_asks s t core block word asking answer entry kept move.within asks

@@ -44,23 +44,27 @@ kept_orders s t core block request kept within orders =
     let taken = orders.taken in
     let in_queues : core < length s.queues = (let many = kept.shaped.queues in let below = within.0 in omega arith) in
     let in_row : core < length before.caches = (let wide = kept.shaped.row block within.1 in let below = within.0 in omega arith) in
-    let nobody : (k : ℕ) → length before.caches ≤ k → held_by next k ≡ nothing_held = λ k past. (let same = taken.same_length in get_or_past next.caches k nothing_held (omega arith)) in
+    let nobody : (k : ℕ) → length before.caches ≤ k → held_by next k ≡ nothing_held = λ k past. (let same = taken.same_length in
+    get_or_past next.caches k nothing_held (omega arith)) in
     subst IsWellKept (sym orders.after) (well_after s kept block next (after_order s.queues core block) _ (record {
       within = within.1;
       as_wide = taken.same_length;
       as_many = length-set s.queues core _;
       here = λ k. elim (cases_eq k core) [
-        | inl e ↦ rw e (ordered_own s.queues core block in_queues ∙ ap (λ (x : Option Request). one_if (is_some x)) (sym (own_waits s.protocol core request before.caches next.caches taken in_row)))
+        | inl e ↦ rw e (ordered_own s.queues core block in_queues ∙ ap (λ (x : Option Request). one_if (is_some x))
+            (sym (own_waits s.protocol core request before.caches next.caches taken in_row)))
         | inr apart ↦
             ap (times block) (ordered_others s.queues core block k apart)
-            ∙ (kept.queued k block ∙ ap (λ (x : Option Request). one_if (is_some x)) (sym (others_wait s.protocol core request before.caches next.caches taken k apart)))
+            ∙ (kept.queued k block ∙ ap (λ (x : Option Request). one_if (is_some x))
+            (sym (others_wait s.protocol core request before.caches next.caches taken k apart)))
       ];
       elsewhere = ordered_elsewhere s.queues core block;
       awaited = record {
         awaits = λ k q h. elim (cases_lt k (length before.caches)) [
           | inl inside ↦
               (let row = taken.rows k inside in
-              let its = awaited-ordered s.protocol (held_by before k).state k core request row.0.action row.0.next q row.1 (ap (λ (x : Line). awaited_request x.state) (sym row.2) ∙ h) in
+              let its = awaited-ordered s.protocol (held_by before k).state k core request row.0.action row.0.next q row.1
+              (ap (λ (x : Line). awaited_request x.state) (sym row.2) ∙ h) in
               (_, (orders.opened, its.0, its.1)))
           | inr past ↦ (let clash : ◌≡◌ {A = Option Request} None (Some q) = ap (λ (x : Line). awaited_request x.state) (sym (nobody k past)) ∙ h in cc)
         ];
@@ -68,7 +72,8 @@ kept_orders s t core block request kept within orders =
           | inl inside ↦
               (let row = taken.rows k inside in
               let missed = (order_facts s.protocol (held_by before k).state k core request row.0.action row.0.next row.1).1 in
-              ap (λ (x : Line). has_missed x.state) row.2 ∙ (ap is_some (sym missed) ∙ kept.operations k block access (sym (ap (λ (x : Line). x.waiting) row.2) ∙ h)))
+              ap (λ (x : Line). has_missed x.state) row.2 ∙ (ap is_some (sym missed) ∙ kept.operations k block access
+              (sym (ap (λ (x : Line). x.waiting) row.2) ∙ h)))
           | inr past ↦ (let clash : ◌≡◌ {A = Option Access} None (Some access) = ap (λ (x : Line). x.waiting) (sym (nobody k past)) ∙ h in cc)
         ];
       };

@@ -6,7 +6,7 @@ use Rattle.std.proofs.lemmas.Option.{same_Some}
 use Rattle.std.proofs.lemmas.List.{length-set, get_or-set_same, get_or-set_other, get_or_past}
 use Rattle.snoop_trace.specs.declared.protocol.Protocol.{Protocol}
 use Rattle.snoop_rules.specs.declared.names.Request.{Request}
-use Rattle.snoop_rules.specs.declared.names.Request.TheVariants.{GetS, GetM, PutM}
+use Rattle.snoop_rules.specs.declared.names.Request.TheVariants.{PutM}
 use Rattle.snoop_rules.specs.Waits.{waiting_request}
 use Rattle.snoop_history.specs.declared.items.Did.{Did}
 use Rattle.snoop_history.specs.declared.items.Item.{Item}
@@ -18,27 +18,14 @@ use Rattle.snoop_model.specs.Pictures.Situation.{Situation, picture_of, state_of
 use Rattle.snoop_model.specs.Moves.Move.{Responds, FillsRequestor, ArrivesFor}
 use Rattle.snoop_model.specs.Invariant.WellKept.{IsWellKept, awaited_request}
 use Rattle.snoop_model.proofs.Lists.Facts.{one_if}
-use Rattle.snoop_model.proofs.Lists.Writes.{set_cases}
 use Rattle.snoop_model.proofs.Tables.Rows.{fill-waits}
 use Rattle.snoop_model.proofs.Tables.WaitingRows.{has_missed, awaited-filled, awaited-get}
+use Rattle.snoop_model.proofs.Lines.Answered.{by_request, filled_or_same, arrives_length, still_waiting}
 use Rattle.snoop_model.proofs.Queues.Changed.{well_after}
 
-by_request : (q : Request) (closing : Open) (p : Protocol) (log : List Item) (old new : List Line) (did : Option Did)
-    → ArrivesFor q closing p log old new did → ((q ≡ PutM) × (new ≡ old)) ⊎ FillsRequestor closing p log old new did
-by_request PutM closing p log old new did h = inl (refl, h.0)
-by_request GetS closing p log old new did h = inr h
-by_request GetM closing p log old new did h = inr h
-
 module _ (closing : Open) (p : Protocol) (log : List Item) (old new : List Line) (did : Option Did) (fills : FillsRequestor closing p log old new did) where
-  -- the requestor's line, or one that is as it was
-  filled_or_same : (k : ℕ) → ((k ≡ closing.core) × (held_at new k ≡ fills.line)) ⊎ (held_at new k ≡ held_at old k)
-  filled_or_same k = elim (set_cases old closing.core k fills.line nothing_held) [
-    | inl e ↦ inl (e.0, ap (λ l. held_at l k) fills.held ∙ e.1)
-    | inr e ↦ inr (ap (λ l. held_at l k) fills.held ∙ e)
-  ]
-
   fills_waits : (k : ℕ) → waiting_request (held_at new k).state ≡ waiting_request (held_at old k).state
-  fills_waits k = elim (filled_or_same k) [
+  fills_waits k = elim (filled_or_same closing p log old new did fills k) [
     | inl e ↦
         ap (λ (x : Line). waiting_request x.state) (e.1 ∙ fills.fills.held)
         ∙ (fill-waits p (held_at old closing.core).state fills.fills.event fills.fills.row.action fills.fills.row.next fills.asking.op fills.fills.fill fills.fills.is_row ∙ ap (λ j. waiting_request (held_at old j).state) (sym e.0))
@@ -50,23 +37,19 @@ module _ (closing : Open) (p : Protocol) (log : List Item) (old new : List Line)
   fills_awaits q h = elim (cases_lt closing.core (length old)) [
     | inl inside ↦
         (let line = ap (λ l. held_at l closing.core) fills.held ∙ (get_or-set_same old closing.core fills.line nothing_held inside ∙ fills.fills.held) in
-        awaited-filled p (held_at old closing.core).state closing.payload fills.fills.event fills.fills.row.action fills.fills.row.next q fills.fills.arrives fills.fills.is_row
+        awaited-filled p (held_at old closing.core).state closing.payload fills.fills.event fills.fills.row.action fills.fills.row.next q fills.fills.arrives
+        fills.fills.is_row
         (ap (λ (x : Line). awaited_request x.state) (sym line) ∙ h))
     | inr past ↦
         (let long = length-set old closing.core fills.line in
         let same : length new ≡ length old = ap length fills.held ∙ long in
-        let clash : ◌≡◌ {A = Option Request} None (Some q) = ap (λ (x : Line). awaited_request x.state) (sym (get_or_past new closing.core nothing_held (omega arith))) ∙ h in
+        let clash : ◌≡◌ {A = Option Request} None (Some q) = ap (λ (x : Line). awaited_request x.state)
+        (sym (get_or_past new closing.core nothing_held (omega arith))) ∙ h in
         cc)
   ]
 
   fills_other : (k : ℕ) → (k ≡ closing.core → ⊥) → held_at new k ≡ held_at old k
   fills_other k apart = ap (λ l. held_at l k) fills.held ∙ get_or-set_other old closing.core k fills.line nothing_held apart
-
-  fills_waiting : (k : ℕ) (access : Access) → (held_at new k).waiting ≡ Some access → held_at new k ≡ held_at old k
-  fills_waiting k access h = elim (filled_or_same k) [
-    | inl e ↦ (let clash : ◌≡◌ {A = Option Access} None (Some access) = sym (ap (λ (x : Line). x.waiting) (e.1 ∙ fills.fills.held)) ∙ h in cc)
-    | inr e ↦ e
-  ]
 
 -- a response changes no wait
 pub arrives_waits : (closing : Open) (p : Protocol) (log : List Item) (old new : List Line) (did : Option Did) → ArrivesFor closing.request closing p log old new did
@@ -81,11 +64,8 @@ module _ (s : Situation) (kept : IsWellKept s) (block : ℕ) (closing : Open) (d
   abbrev before : Picture
   before = picture_of s block
 
-  arrived : ((closing.request ≡ PutM) × (next.caches ≡ before.caches)) ⊎ FillsRequestor closing s.protocol s.log before.caches next.caches did
+  arrived : ((closing.request ≡ PutM) × (next.caches ≡ before.caches) × (did ≡ None)) ⊎ FillsRequestor closing s.protocol s.log before.caches next.caches did
   arrived = by_request closing.request closing s.protocol s.log before.caches next.caches did requestor
-
-  row_length : length next.caches ≡ length before.caches
-  row_length = elim arrived [ inl put ↦ ap length put.1 | inr fills ↦ ap length fills.held ∙ length-set before.caches closing.core fills.line ]
 
   -- a core that awaited data awaited those of this transaction
   its : (k : ℕ) (q : Request) → awaited_request (state_of s k block) ≡ Some q → (closing.core ≡ k) × (closing.request ≡ q)
@@ -102,16 +82,14 @@ module _ (s : Situation) (kept : IsWellKept s) (block : ℕ) (closing : Open) (d
         awaited-get (state_of s k block) (was ∙ ap (λ (r : Request). Some r) (sym (its k q was).1 ∙ put.0)))
     | inr fills ↦ elim (cases_eq k closing.core) [
       | inl e ↦ fills_awaits closing s.protocol s.log before.caches next.caches did fills q (rw e at h)
-      | inr apart ↦ apart (sym (its k q (ap (λ (x : Line). awaited_request x.state) (sym (fills_other closing s.protocol s.log before.caches next.caches did fills k apart)) ∙ h)).0)
+      | inr apart ↦ apart (sym (its k q
+          (ap (λ (x : Line). awaited_request x.state) (sym (fills_other closing s.protocol s.log before.caches next.caches did fills k apart)) ∙ h)).0)
     ]
   ]
 
   missed_after : (k : ℕ) (access : Access) → (held_by next k).waiting ≡ Some access → has_missed (held_by next k).state ≡ true
   missed_after k access h =
-      let same : held_by next k ≡ held_by before k = elim arrived [
-        | inl put ↦ ap (λ l. held_at l k) put.1
-        | inr fills ↦ fills_waiting closing s.protocol s.log before.caches next.caches did fills k access h
-      ] in
+      let same = still_waiting closing.request closing s.protocol s.log before.caches next.caches did requestor k access h in
       ap (λ (x : Line). has_missed x.state) same ∙ kept.operations k block access (ap (λ (x : Line). x.waiting) (sym same) ∙ h)
 
 pub kept_responds : (s t : Situation) (block : ℕ) (closing : Open) (did : Option Did) → IsWellKept s → block < s.shape.blocks → Responds s block closing did t → IsWellKept t
@@ -119,9 +97,10 @@ kept_responds s t block closing did kept within responds =
     let next : Picture = responds.next in
     subst IsWellKept (sym responds.after) (well_after s kept block next s.queues _ (record {
       within = within;
-      as_wide = row_length s kept block closing did next responds.opened responds.requestor;
+      as_wide = arrives_length closing.request closing s.protocol s.log (picture_of s block).caches next.caches did responds.requestor;
       as_many = refl;
-      here = λ k. kept.queued k block ∙ ap (λ (x : Option Request). one_if (is_some x)) (sym (arrives_waits closing s.protocol s.log (picture_of s block).caches next.caches did responds.requestor k));
+      here = λ k. kept.queued k block ∙ ap (λ (x : Option Request). one_if (is_some x))
+          (sym (arrives_waits closing s.protocol s.log (picture_of s block).caches next.caches did responds.requestor k));
       elsewhere = λ k b apart. refl;
       awaited = record {
         awaits = λ k q h. absurd (none_awaits s kept block closing did next responds.opened responds.requestor k q h);

@@ -1,25 +1,30 @@
 -- From every situation of a run each step leads on: it is a move, or refused for a cause.
-use Rattle.std.proofs.Common.{List, [], ◌∷◌, Option, refl, sym, subst}
+use Rattle.std.proofs.Common.{None, List, [], ◌∷◌, Option, refl, sym, subst}
 use Rattle.std.specs.Prelude.{Result, Ok, Err}
+use Rattle.snoop_trace.specs.Extent.{Extent}
 use Rattle.snoop_trace.specs.declared.step.Step.{Step}
 use Rattle.snoop_history.specs.declared.items.Item.{Item}
 use Rattle.snoop_model.specs.declared.replies.Reply.{Reply}
 use Rattle.snoop_model.specs.declared.replies.Refused.{Refused}
-use Rattle.snoop_model.specs.Pictures.Situation.{Situation}
+use Rattle.snoop_model.specs.Pictures.Situation.{Situation, reset}
 use Rattle.snoop_model.specs.Moves.Move.{FirstMove}
 use Rattle.snoop_model.specs.Runs.Run.{GoesFirst, FirstRunFrom}
 use Rattle.snoop_model.specs.Moves.Refuses.{Refuses}
 use Rattle.snoop_model.specs.Invariant.WellKept.{IsWellKept}
 use Rattle.snoop_model.specs.Turns.TurnLaws.{KeepsWell}
 use Rattle.snoop_model.specs.Invariant.Invariant.{Invariant}
+use Rattle.snoop_trace.specs.declared.protocol.Protocol.{Protocol}
+use Rattle.snoop_model.proofs.Invariant.Runs.{reset_invariant}
 use Rattle.snoop_model.proofs.Invariant.Steps.{first_keeps}
+use Rattle.snoop_model.proofs.Queues.Moves.{keeps_well, starts_well}
 use Rattle.snoop_model.proofs.Steps.Next.{next_of}
 use Rattle.snoop_model.proofs.Queues.Waiting.{AreQueued}
 use Rattle.snoop_model.proofs.Steps.GoesNext.{goes_next}
 use Rattle.snoop_model.proofs.Runs.Along.{kept_along}
 
 -- a step that is not refused is a move, an Order's on the first block of its core's queue
-pub moves_on : (s : Situation) → Invariant s → AreQueued s → (step : Step) → ((cause : Refused) → ¬ Refuses s step cause) → (answer : Reply) × ((new : Situation) × ((entry : Option Item) × FirstMove s step answer new entry))
+pub moves_on : (s : Situation) → Invariant s → AreQueued s → (step : Step) → ((cause : Refused) → ¬ Refuses s step cause)
+    → (answer : Reply) × ((new : Situation) × ((entry : Option Item) × FirstMove s step answer new entry))
 moves_on s g queued step allowed = go (next_of s step).0 (next_of s step).1 (goes_next s g queued step)
   where
     go : (outcome : Result Reply Refused) (new : Situation) → GoesFirst s step outcome new → (answer : Reply) × ((new : Situation) × ((entry : Option Item) × FirstMove s step answer new entry))
@@ -34,17 +39,21 @@ pub steady_on : KeepsWell → (old : Situation) (step : Step) (outcome : Result 
 steady_on keeps old step (Ok answer) new steady goes = (first_keeps old step answer new goes.0 steady.0 goes.1, keeps old new step answer goes.0 steady.1 goes.1)
 steady_on keeps old step (Err cause) new steady goes = subst IsSteady (sym goes.1) steady
 
-pub run_steady : KeepsWell → (steps : List Step) (outcomes : List (Result Reply Refused)) (old new : Situation) → IsSteady old → FirstRunFrom old steps outcomes new → IsSteady new
-run_steady keeps = kept_along GoesFirst IsSteady (steady_on keeps)
+pub reset_steady : (protocol : Protocol) (shape : Extent) → IsSteady (reset protocol shape)
+reset_steady protocol shape = (reset_invariant protocol shape, (starts_well protocol shape (λ core. None)).0)
+
+pub run_steady : (steps : List Step) (outcomes : List (Result Reply Refused)) (old new : Situation) → IsSteady old → FirstRunFrom old steps outcomes new
+    → IsSteady new
+run_steady = kept_along GoesFirst IsSteady (steady_on keeps_well)
 
 -- some run of these steps
 abbrev pub SomeRun : Situation → List Step → Type 0
 SomeRun s steps = (outcomes : List (Result Reply Refused)) × ((final : Situation) × FirstRunFrom s steps outcomes final)
 
-pub runs_on : KeepsWell → (steps : List Step) (s : Situation) → IsSteady s → SomeRun s steps
-runs_on keeps [] s steady = ([], (s, refl))
-runs_on keeps (step ∷ steps) s steady =
+pub runs_on : (steps : List Step) (s : Situation) → IsSteady s → SomeRun s steps
+runs_on [] s steady = ([], (s, refl))
+runs_on (step ∷ steps) s steady =
     let next = next_of s step in
     let goes = goes_next s steady.0 steady.1.queued step in
-    let rest = runs_on keeps steps next.1 (steady_on keeps s step next.0 next.1 steady goes) in
+    let rest = runs_on steps next.1 (steady_on keeps_well s step next.0 next.1 steady goes) in
     (next.0 ∷ rest.0, (rest.1.0, (next.1, (goes, rest.1.1))))

@@ -1,5 +1,5 @@
 -- The reply of each move, and the item of a load that hits.
-use Rattle.std.proofs.Common.{◌≡◌, ℕ, Bool, true, false, ◌++◌, List, Option, Some, refl, ap, sym, ◌∙◌, subst, inl, inr}
+use Rattle.std.proofs.Common.{◌≡◌, ℕ, true, ◌++◌, List, Option, Some, refl, ap, sym, ◌∙◌, subst, inl, inr}
 use Rattle.std.specs.Prelude.{option_to_list, Result, Ok, Err, IfOk, if◌then◌else◌}
 use Rattle.snoop_trace.specs.declared.step.Op.{Op}
 use Rattle.snoop_trace.specs.declared.step.Op.TheVariants as op
@@ -7,17 +7,10 @@ use Rattle.snoop_trace.specs.declared.step.Step.{Step}
 use Rattle.snoop_trace.specs.declared.step.Step.TheVariants.{Ask, Order, Respond}
 use Rattle.snoop_trace.specs.declared.protocol.Protocol.{Protocol}
 use Rattle.snoop_rules.specs.declared.names.CacheState.{CacheState}
-use Rattle.snoop_rules.specs.declared.names.CacheEvent.{CacheEvent}
-use Rattle.snoop_rules.specs.declared.names.CacheEvent.TheVariants as event
 use Rattle.snoop_rules.specs.declared.names.CacheAction.{CacheAction}
 use Rattle.snoop_rules.specs.declared.names.CacheAction.TheVariants as action
-use Rattle.snoop_rules.specs.declared.names.Request.{Request}
-use Rattle.snoop_rules.specs.declared.names.Request.TheVariants as request
-use Rattle.snoop_rules.specs.declared.names.CacheCell.{CacheCell}
 use Rattle.snoop_rules.specs.Cell.{Cell}
 use Rattle.snoop_rules.specs.Takers.{asked}
-use Rattle.snoop_rules.proofs.Every.{all_protocols, all_states, all_events}
-use Rattle.snoop_rules.proofs.Rows.{each_row, each_row-at}
 use Rattle.snoop_history.specs.declared.items.Item.{Item}
 use Rattle.snoop_history.specs.declared.items.Item.TheVariants as item
 use Rattle.snoop_model.specs.Pictures.Lines.{Line}
@@ -28,36 +21,14 @@ use Rattle.snoop_model.specs.Pictures.Picture.{held_by}
 use Rattle.snoop_model.specs.Pictures.Situation.{Situation, picture_of}
 use Rattle.snoop_model.specs.Moves.Move.{FirstMove, Takes, Performs, is_load, next_did}
 use Rattle.snoop_model.specs.Moves.Replies.{IsReplyTo, IsLoadHit}
-use Rattle.snoop_model.proofs.Once.Asks.{is_evict, drop_evicts}
+use Rattle.snoop_model.specs.Pictures.Proper.{request_for}
+use Rattle.snoop_model.proofs.Tables.Rows.{issue_serves, drop_evicts}
 use Rattle.snoop_model.proofs.Runs.Logged.{move-log}
 
--- an issue is of the request that serves the operation
-abbrev serves : CacheEvent → Request → Bool
-serves event.Load request.GetS = true
-serves event.Store request.GetM = true
-serves event.Evict request.PutM = true
-serves _ _ = false
-
-abbrev reply_test : Protocol → CacheState → CacheEvent → CacheCell → Bool
-reply_test p s e row = elim row.action [ action.Issue q ↦ serves e q | _ ↦ true ]
-
-issue_serves : (p : Protocol) (s : CacheState) (e : CacheEvent) (q : Request) (n : CacheState) → Cell p s e (action.Issue q) n → serves e q ≡ true
-unfolding each_row all_protocols all_states all_events
-issue_serves p s e q n row = let t : serves e q ≡ true = each_row-at reply_test refl p s e (action.Issue q) n row in t
-
-issued_reply : (core block word : ℕ) (asking : Op) (q : Request) → serves (asked asking) q ≡ true → IsReplyTo (Ask core block word asking) (reply.Issued q)
-issued_reply core block word op.Load request.GetS h = tt
-issued_reply core block word op.Load request.GetM h = cc
-issued_reply core block word op.Load request.PutM h = cc
-issued_reply core block word (op.Store v) request.GetM h = tt
-issued_reply core block word (op.Store v) request.GetS h = cc
-issued_reply core block word (op.Store v) request.PutM h = cc
-issued_reply core block word op.Evict request.PutM h = tt
-issued_reply core block word op.Evict _ h = cc
-
-gone_reply : (core block word : ℕ) (asking : Op) → is_evict (asked asking) ≡ true → IsReplyTo (Ask core block word asking) reply.Gone
-gone_reply core block word op.Evict h = tt
-gone_reply core block word _ h = cc
+issued_reply : (core block word : ℕ) (asking : Op) → IsReplyTo (Ask core block word asking) (reply.Issued (request_for asking))
+issued_reply core block word op.Load = tt
+issued_reply core block word (op.Store v) = tt
+issued_reply core block word op.Evict = tt
 
 performed_reply : (core block word : ℕ) (asking : Op) (before : List ℕ) (value : ℕ) (after : List ℕ) → Performs word asking before value after → IsReplyTo (Ask core block word asking) (if is_load asking then reply.Hit value else reply.StoreHit)
 performed_reply core block word op.Load before value after h = tt
@@ -67,8 +38,9 @@ performed_reply core block word op.Evict before value after h = absurd h
 module _ (p : Protocol) (next : CacheState) (log : List Item) (core block word : ℕ) (asking : Op) (old new : Line) (answer : Reply) (entry : Option Item) where
   taken_reply : (a : CacheAction) → Cell p old.state (asked asking) a next → Takes a next log core block word asking old new answer entry → IsReplyTo (Ask core block word asking) answer
   taken_reply action.Hit row t = subst (λ (r : Reply). IsReplyTo (Ask core block word asking) r) (sym t.1.1) (performed_reply core block word asking t.1.0.before t.0 t.1.0.after t.1.0.performed)
-  taken_reply (action.Issue q) row t = subst (λ (r : Reply). IsReplyTo (Ask core block word asking) r) (sym t.1) (issued_reply core block word asking q (issue_serves p old.state (asked asking) q next row))
-  taken_reply action.Drop row t = subst (λ (r : Reply). IsReplyTo (Ask core block word asking) r) (sym t.1) (gone_reply core block word asking (drop_evicts p old.state (asked asking) next row))
+  taken_reply (action.Issue q) row t = subst (λ (r : Reply). IsReplyTo (Ask core block word asking) r) (sym t.1)
+      (rw (issue_serves p old.state asking q next row) (issued_reply core block word asking))
+  taken_reply action.Drop row t = subst (λ (r : Reply). IsReplyTo (Ask core block word asking) r) (sym t.1) (rw (drop_evicts p old.state asking next row) tt)
   taken_reply _ row t = absurd t
 
 absent_reply : (core block word : ℕ) (asking : Op) (answer : Reply) → asking ≡ op.Evict → answer ≡ reply.Absent → IsReplyTo (Ask core block word asking) answer

@@ -34,19 +34,20 @@ use Rattle.snoop_model.specs.declared.replies.Refused.{Refused}
 use Rattle.snoop_model.specs.declared.replies.Refused.TheVariants.{NoCore, NoBlock, Stalled, NothingWaiting, BusTaken, NoTransaction}
 use Rattle.snoop_model.specs.Pictures.Picture.{Picture, held_at, held_by, nothing_held}
 use Rattle.snoop_model.specs.Pictures.Situation.{Situation, picture_of}
-use Rattle.snoop_model.specs.Pictures.Sends.{Sends, IsOnlySender}
+use Rattle.snoop_model.specs.Pictures.Sends.{IsOnlySender}
 use Rattle.snoop_model.specs.Moves.Move.{Takes, FillsRequestor, ArrivesFor, Asks, Orders, Responds, IsAbsent, FirstMove, Performs, written}
 use Rattle.snoop_model.specs.Moves.Refuses.{Refuses, WaitsOnNone}
 use Rattle.snoop_model.specs.Runs.Run.{GoesFirst}
 use Rattle.snoop_model.proofs.Lines.TheSender.{IsBelow, sends_below}
-use Rattle.snoop_model.proofs.Tables.SentBy.{sent_by, sent_by_memory, sends_row}
+use Rattle.snoop_model.proofs.Tables.SentBy.{payload_from, sends_is, sends_row}
 use Rattle.snoop_model.proofs.Tables.RespondTests.{SettlesIf}
 use Rattle.snoop_model.proofs.OneBlock.OfBlocks.{same_picture, same_memory}
-use Rattle.snoop_model.proofs.Steps.Next.{Next, value_of, words_after, has_word, after_ask, by_row, next_asked, payload_from, sender_below, line_after, next_picture, next_ordered, settled, filled, brought, next_closed, next_of}
+use Rattle.snoop_model.proofs.Steps.Next.{Next, value_of, words_after, has_word, after_ask, by_row, next_asked, sender_below, line_after, next_picture, next_ordered, settled, filled, brought, next_closed, next_of}
 use Rattle.snoop_model.proofs.Queues.Waiting.{AreQueued, first_waits}
 
 -- an operation does one thing
-pub performs_is : (word : ℕ) (asking : Op) (before : List ℕ) (value : ℕ) (after : List ℕ) → Performs word asking before value after → (value ≡ value_of word asking before) × (after ≡ words_after word asking before)
+pub performs_is : (word : ℕ) (asking : Op) (before : List ℕ) (value : ℕ) (after : List ℕ) → Performs word asking before value after
+    → (value ≡ value_of word asking before) × (after ≡ words_after word asking before)
 performs_is word op.Load before value after h = h
 performs_is word (op.Store stored) before value after h = h
 performs_is word op.Evict before value after h = absurd h
@@ -58,7 +59,8 @@ word_decides shape word (op.Store v) = Decides-and _ _ (Decides-ltb word shape.w
 
 -- An Ask.
 module _ (s : Situation) (core block word : ℕ) (asking : Op) where
-  takes_is : (act : CacheAction) (next : CacheState) (held : Line) (answer : Reply) (entry : Option Item) → Takes act next s.log core block word asking (held_by (picture_of s block) core) held answer entry
+  takes_is : (act : CacheAction) (next : CacheState) (held : Line) (answer : Reply) (entry : Option Item)
+      → Takes act next s.log core block word asking (held_by (picture_of s block) core) held answer entry
       → ◌≡◌ {A = Next} (Ok answer, after_ask s core block word asking act held entry) (by_row s core block word asking act next)
   takes_is action.Hit next held answer entry t =
       let does = performs_is word asking t.1.0.before t.0 t.1.0.after t.1.0.performed in
@@ -67,7 +69,8 @@ module _ (s : Situation) (core block word : ℕ) (asking : Op) where
   takes_is action.Drop next held answer entry t = rw (t.0, t.1, t.2) refl
   takes_is _ next held answer entry t = absurd t
 
-  asks_is : (answer : Reply) (new : Situation) (entry : Option Item) → IsAbsent s core block asking answer new entry ⊎ Asks s core block word asking answer new entry
+  asks_is : (answer : Reply) (new : Situation) (entry : Option Item)
+      → IsAbsent s core block asking answer new entry ⊎ Asks s core block word asking answer new entry
       → ◌≡◌ {A = Next} (Ok answer, new) (next_asked s core block word asking)
   asks_is answer new entry (inl a) = rw (a.2, a.3, a.1, a.0) refl
   asks_is answer new entry (inr a) = rw (a.after, a.is_row) (takes_is a.row.action a.row.next a.held answer entry a.taken)
@@ -87,12 +90,9 @@ module _ (s : Situation) (core block word : ℕ) (asking : Op) where
 
 -- An Order.
 module _ (p : Protocol) (before : Picture) (core : ℕ) (q : Request) where
-  pub sends_is : (from : Option ℕ) (payload : Payload) → Sends p before core q from payload → payload_from p before core q from ≡ Some payload
-  sends_is None payload sends = ap sent_by_memory sends.1
-  sends_is (Some k) payload sends = ap sent_by sends.1.1.1
-
   -- the only sender is found
-  pub sender_is : (n : ℕ) → n ≤ length before.caches → (from : Option ℕ) (payload : Payload) → IsOnlySender p before core q from payload → IsBelow n from → sender_below p before core q n ≡ from
+  pub sender_is : (n : ℕ) → n ≤ length before.caches → (from : Option ℕ) (payload : Payload) → IsOnlySender p before core q from payload → IsBelow n from
+      → sender_below p before core q n ≡ from
   sender_is zero few None payload sent below = refl
   sender_is zero few (Some k) payload sent below = absurd (omega arith)
   sender_is (suc n) few from payload sent below = found (payload_from p before core q (Some n)) refl (sender_is n (omega arith) from payload sent)
@@ -101,24 +101,32 @@ module _ (p : Protocol) (before : Picture) (core : ℕ) (q : Request) where
       lower None below apart = tt
       lower (Some k) below apart = elim (cases_eq k n) [ inl e ↦ absurd (apart (ap Some e)) | inr ne ↦ omega arith ]
 
-      found : (sends : Option Payload) → payload_from p before core q (Some n) ≡ sends → (IsBelow n from → sender_below p before core q n ≡ from) → sender_below p before core q (suc n) ≡ from
+      found : (sends : Option Payload) → payload_from p before core q (Some n) ≡ sends → (IsBelow n from → sender_below p before core q n ≡ from)
+          → sender_below p before core q (suc n) ≡ from
       found (Some x) is rest = rw is (sent.alone (Some n) x (omega arith, sends_row _ x is))
       found None is rest =
-          let silent : from ≡ Some n → ⊥ = λ e. (let sends : payload_from p before core q (Some n) ≡ Some payload = subst (λ f. payload_from p before core q f ≡ Some payload) e (sends_is from payload sent.sends) in cc) in
+          let silent : from ≡ Some n → ⊥ = λ e.
+          (let sends : payload_from p before core q (Some n) ≡ Some payload = subst (λ f. payload_from p before core q f ≡ Some payload) e
+          (sends_is p before core q from payload sent.sends) in cc) in
           rw is (rest (lower from below silent))
 
-orders_is : (s : Situation) (core block : ℕ) (q : Request) (new : Situation) → Orders s core block q new → ◌≡◌ {A = Next} (Ok (reply.Ordered q), new) (next_ordered s core block q)
+orders_is : (s : Situation) (core block : ℕ) (q : Request) (new : Situation) → Orders s core block q new
+    → ◌≡◌ {A = Next} (Ok (reply.Ordered q), new) (next_ordered s core block q)
 orders_is s core block q new o =
     let p = s.protocol in
     let before : Picture = picture_of s block in
-    let from = sender_is p before core q (length before.caches) (omega arith) o.from o.payload o.sent (sends_below p before core q o.from o.payload o.sent.sends) in
-    let caches = fill_by_all (line_after p before core q) o.next.caches (length before.caches) nothing_held o.taken.same_length (λ k below. (let row = o.taken.rows k below in row.2 ∙ rw row.1 refl)) in
+    let from = sender_is p before core q (length before.caches) (omega arith) o.from o.payload o.sent
+    (sends_below p before core q o.from o.payload o.sent.sends) in
+    let caches = fill_by_all (line_after p before core q) o.next.caches (length before.caches) nothing_held o.taken.same_length
+    (λ k below. (let row = o.taken.rows k below in row.2 ∙ rw row.1 refl)) in
     let next : o.next ≡ next_picture p before core q block =
-    same_picture _ _ _ _ _ _ caches (same_memory _ _ _ _ (o.memory.2 ∙ rw o.memory.1 refl) o.value) (o.opened ∙ rw (from, sends_is p before core q o.from o.payload o.sent.sends) refl) in
+    same_picture _ _ _ _ _ _ caches (same_memory _ _ _ _ (o.memory.2 ∙ rw o.memory.1 refl) o.value)
+    (o.opened ∙ rw (from, sends_is p before core q o.from o.payload o.sent.sends) refl) in
     rw (o.after, next) refl
 
 -- A Respond.
-pub settled_is : (takes : Bool) (p : Protocol) (found : Option MemEvent) (m : MemState) (act : MemAction) (next : MemState) → SettlesIf takes p found m act next → (act, next) ≡ settled takes p found m
+pub settled_is : (takes : Bool) (p : Protocol) (found : Option MemEvent) (m : MemState) (act : MemAction) (next : MemState)
+    → SettlesIf takes p found m act next → (act, next) ≡ settled takes p found m
 settled_is true p None m act next h = absurd h
 settled_is true p (Some e) m act next h = rw h refl
 settled_is false p found m act next h = rw (h.0, h.1) refl
@@ -133,23 +141,29 @@ module _ (closing : Open) (p : Protocol) (log : List Item) (old new : List Line)
   arrives_is request.PutM a = rw (a.0, a.1) refl
   arrives_is _ a = fills_is a
 
-closed_is : (s : Situation) (block : ℕ) (o : Open) (did : Option Did) (new : Situation) → Responds s block o did new → ◌≡◌ {A = Next} (Ok (reply.Came o.payload o.from did), new) (next_closed s block o)
+closed_is : (s : Situation) (block : ℕ) (o : Open) (did : Option Did) (new : Situation) → Responds s block o did new
+    → ◌≡◌ {A = Next} (Ok (reply.Came o.payload o.from did), new) (next_closed s block o)
 closed_is s block o did new r =
     let before : Picture = picture_of s block in
     let caches = arrives_is o s.protocol s.log before.caches r.next.caches did o.request r.requestor in
-    let memory = settled_is (takes_payload o.request before.memory.state) s.protocol (arrival_at_memory o.payload) before.memory.state r.memory.act r.next.memory.state r.memory.settled in
-    let next = same_picture _ _ _ _ _ _ (ap (λ x. x.0) caches) (same_memory _ _ _ _ (ap (λ x. x.1) memory) (r.memory.value ∙ ap (λ x. written x.0 o.value before.memory.value) memory)) r.closed in
+    let memory = settled_is (takes_payload o.request before.memory.state) s.protocol
+    (arrival_at_memory o.payload) before.memory.state r.memory.act r.next.memory.state r.memory.settled in
+    let next = same_picture _ _ _ _ _ _ (ap (λ x. x.0) caches) (same_memory _ _ _ _ (ap (λ x. x.1) memory)
+    (r.memory.value ∙ ap (λ x. written x.0 o.value before.memory.value) memory)) r.closed in
     rw (r.after, next, ap (λ x. x.1) caches) refl
 
 -- a move comes to what is computed
-move_is : (s : Situation) (step : Step) (answer : Reply) (new : Situation) (entry : Option Item) → FirstMove s step answer new entry → ◌≡◌ {A = Next} (Ok answer, new) (next_of s step)
+move_is : (s : Situation) (step : Step) (answer : Reply) (new : Situation) (entry : Option Item) → FirstMove s step answer new entry
+    → ◌≡◌ {A = Next} (Ok answer, new) (next_of s step)
 move_is s (Ask core on word asking) answer new entry m =
-    rw (m.1.1.on_block, lt-ltb core s.shape.cores m.1.1.within.0, in_place s core m.0 word asking m.1.1.within.1 m.1.1.has_word) (asks_is s core m.0 word asking answer new entry m.1.1.moves)
+    rw (m.1.1.on_block, lt-ltb core s.shape.cores m.1.1.within.0, in_place s core m.0 word asking m.1.1.within.1 m.1.1.has_word)
+    (asks_is s core m.0 word asking answer new entry m.1.1.moves)
 move_is s (Order core) answer new entry m =
     let ready = m.1.1.orders.ready in
     rw (m.1.1.answered, lt-ltb core s.shape.cores m.1.1.within.0, m.1.0, ready.1, ready.0) (orders_is s core m.0 m.1.1.request new m.1.1.orders)
 move_is s (Respond on) answer new entry m =
-    rw (m.1.1.on_block, m.1.1.answered, lt-ltb m.0 s.shape.blocks m.1.1.within, m.1.1.responds.opened) (closed_is s m.0 m.1.1.closing m.1.1.did new m.1.1.responds)
+    rw (m.1.1.on_block, m.1.1.answered, lt-ltb m.0 s.shape.blocks m.1.1.within, m.1.1.responds.opened)
+    (closed_is s m.0 m.1.1.closing m.1.1.did new m.1.1.responds)
 
 -- and so does a refusal
 module _ (s : Situation) (queued : AreQueued s) where

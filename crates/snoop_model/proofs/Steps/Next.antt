@@ -20,7 +20,6 @@ use Rattle.snoop_rules.specs.declared.names.MemEvent.{MemEvent}
 use Rattle.snoop_rules.specs.declared.names.MemState.{MemState}
 use Rattle.snoop_rules.specs.declared.names.Request.{Request}
 use Rattle.snoop_rules.specs.declared.names.Request.TheVariants.{PutM}
-use Rattle.snoop_rules.specs.declared.names.Payload.{Payload}
 use Rattle.snoop_rules.specs.declared.names.Payload.TheVariants as payload
 use Rattle.snoop_rules.specs.Cell.{cell_of}
 use Rattle.snoop_rules.specs.MemoryCell.{memory_cell_of}
@@ -42,7 +41,7 @@ use Rattle.snoop_model.specs.Pictures.Situation.{Situation, picture_of, with_pic
 use Rattle.snoop_model.specs.Pictures.Sends.{value_sent}
 use Rattle.snoop_model.specs.Moves.Move.{is_load, kept_waiting, next_did, moves_to, written, came_of, queues_after}
 use Rattle.snoop_model.proofs.Tables.RespondTests.{row_for, memory_row_for}
-use Rattle.snoop_model.proofs.Tables.SentBy.{sent_by, sent_by_memory}
+use Rattle.snoop_model.proofs.Tables.SentBy.{payload_from}
 
 abbrev pub Next : Type 0
 Next = Result Reply Refused × Situation
@@ -77,9 +76,16 @@ module _ (s : Situation) (core block word : ℕ) (asking : Op) where
   by_row action.Hit next =
       let before = unwrap_or asker.kept zero_words in
       let value = value_of word asking before in
-      let held : Line = record { state = next; kept = Some (words_after word asking before); waiting = asker.waiting } in
-      (Ok (if is_load asking then reply.Hit value else reply.StoreHit), after_ask action.Hit held (Some (item.Did (next_did s.log core block word asking value true))))
-  by_row (action.Issue request) next = (Ok (reply.Issued request), after_ask (action.Issue request) (record (moves_to next asker) { waiting = kept_waiting word asking }) None)
+      let held : Line = record { state = next; kept = Some (words_after word asking before); waiting = asker.waiting } in (
+        Ok (if is_load asking then reply.Hit value else reply.StoreHit),
+        after_ask action.Hit held
+            (Some (item.Did (next_did s.log core block word asking value true))),
+      )
+  by_row (action.Issue request) next = (
+    Ok (reply.Issued request),
+    after_ask (action.Issue request)
+        (record (moves_to next asker) { waiting = kept_waiting word asking }) None,
+  )
   by_row action.Drop next = (Ok reply.Gone, after_ask action.Drop (moves_to next asker) None)
   by_row _ next = (Err (Stalled asker.state), s)
 
@@ -88,15 +94,10 @@ module _ (s : Situation) (core block word : ℕ) (asking : Op) where
 
 -- An Order seen by all caches and memory, each with its row.
 module _ (p : Protocol) (before : Picture) (core : ℕ) (request : Request) where
-  -- what the row of memory, or of a core, sends
-  abbrev pub payload_from : Option ℕ → Option Payload
-  payload_from None = sent_by_memory (memory_cell_of p before.memory.state (at_memory request))
-  payload_from (Some k) = sent_by (cell_of p (held_by before k).state (seen_by k core request))
-
   -- the last core below n whose row sends, else memory
   abbrev pub sender_below : ℕ → Option ℕ
   sender_below zero = None
-  sender_below (suc n) = if is_some (payload_from (Some n)) then Some n else sender_below n
+  sender_below (suc n) = if is_some (payload_from p before core request (Some n)) then Some n else sender_below n
 
   abbrev pub line_after : ℕ → Line
   line_after k =
@@ -106,10 +107,13 @@ module _ (p : Protocol) (before : Picture) (core : ℕ) (request : Request) wher
   abbrev pub next_picture : ℕ → Picture
   next_picture block =
       let from = sender_below (length before.caches) in
-      let payload = unwrap_or (payload_from from) payload.Data in
+      let payload = unwrap_or (payload_from p before core request from) payload.Data in
       record {
         caches = map line_after (range_with_len 0 (length before.caches));
-        memory = record { state = option_map_or (λ row. row.next) (memory_cell_of p before.memory.state (at_memory request)) before.memory.state; value = before.memory.value };
+        memory = record {
+          state = option_map_or (λ row. row.next) (memory_cell_of p before.memory.state (at_memory request)) before.memory.state;
+          value = before.memory.value;
+        };
         transaction = Some (record { core = core; request = request; block = block; payload = payload; value = value_sent before from payload; from = from });
       }
 
@@ -124,7 +128,8 @@ next_ordered s core block request = (
 
 -- what memory does with a message, and its state then
 abbrev pub settled : Bool → Protocol → Option MemEvent → MemState → MemAction × MemState
-settled takes p found m = if takes then option_map_or {U = MemAction × MemState} (λ row. (row.action, row.next)) (memory_row_for p m found) (mem_action.None, m) else (mem_action.None, m)
+settled takes p found m = if takes then option_map_or {U = MemAction × MemState} (λ row. (row.action, row.next)) (memory_row_for p m found)
+    (mem_action.None, m) else (mem_action.None, m)
 
 -- A Respond: what it brings to the lines, with the operation that it performs, and to memory.
 module _ (closing : Open) (p : Protocol) (log : List Item) (lines : List Line) where
@@ -146,7 +151,11 @@ next_closed s block closing =
     let before = picture_of s block in
     let caches = brought closing s.protocol s.log before.caches closing.request in
     let memory = settled (takes_payload closing.request before.memory.state) s.protocol (arrival_at_memory closing.payload) before.memory.state in
-    let next : Picture = record { caches = caches.0; memory = record { state = memory.1; value = written memory.0 closing.value before.memory.value }; transaction = None } in
+    let next : Picture = record {
+      caches = caches.0;
+      memory = record { state = memory.1; value = written memory.0 closing.value before.memory.value };
+      transaction = None;
+    } in
     (Ok (reply.Came closing.payload closing.from caches.1), record (with_picture s block next) { log = s.log ++ item.Came (came_of closing) caches.1 ∷ [] })
 
 -- an Order of the block that stands first, if any
@@ -162,4 +171,5 @@ next_of s (Ask core block word asking) =
     then if ltb block s.shape.blocks && has_word s.shape word asking then next_asked s core block word asking else (Err NoBlock, s)
     else (Err NoCore, s)
 next_of s (Order core) = if ltb core s.shape.cores then next_first s core (slice_get (queue_of s.queues core) 0) else (Err NoCore, s)
-next_of s (Respond block) = if ltb block s.shape.blocks then option_map_or (next_closed s block) (picture_of s block).transaction (Err NoTransaction, s) else (Err NoBlock, s)
+next_of s (Respond block) = if ltb block s.shape.blocks then option_map_or (next_closed s block) (picture_of s block).transaction (Err NoTransaction, s) else
+    (Err NoBlock, s)

@@ -37,39 +37,31 @@ ask_case k p shared ow w s e = when (fits p shared ow w s) (λ _. given (cell_of
 unfoldable pub asks : AskTest → Bool
 asks k = all_protocols (λ p. either (λ shared. either (λ ow. all_waits (λ w. all_states (λ s. all_asks (λ e. ask_case k p shared ow w s e))))))
 
-pub ask_rule : (k : AskTest) → asks k ≡ true → (p : Protocol) (shared ow : Bool) (w : Option Request) (s : CacheState) (o : Op) (r : CacheCell) → fits p shared ow w s ≡ true → cell_of p s (asked o) ≡ Some r → k p shared ow w s (asked o) r ≡ true
+-- what is asked of the row of an Ask
+pub data AskQuestion : Type 0 where
+  ask_fits : AskQuestion
+  ask_carries : AskQuestion
+  ask_hit_reads : AskQuestion
+  ask_store_owns : AskQuestion
+
+abbrev pub ask_test : AskQuestion → AskTest
+ask_test ask_fits p shared ow w s e r = is_stall r.action || fits p shared ow w r.next
+ask_test ask_carries p shared ow w s e r = is_stall r.action || ((is_hit r.action && is_store e) || carries s r.next)
+ask_test ask_hit_reads p shared ow w s e r = not (is_hit r.action) || keeps s
+ask_test ask_store_owns p shared ow w s e r = not (is_hit r.action && is_store e) || (ow && not (is_clean r.next))
+
+ask_holds : (k : AskQuestion) → asks (ask_test k) ≡ true
+unfolding asks ask_case all_protocols all_memories all_states all_requests all_payloads all_asks all_waits either given when claims_of fits is_owner is_sharer is_clean wait_fits in_protocol same
+ask_holds ask_fits = refl
+ask_holds _ = refl
+
+pub ask_rule : (k : AskQuestion) → (p : Protocol) (shared ow : Bool) (w : Option Request) (s : CacheState) (o : Op) (r : CacheCell)
+    → fits p shared ow w s ≡ true → cell_of p s (asked o) ≡ Some r → ask_test k p shared ow w s (asked o) r ≡ true
 unfolding asks ask_case
-ask_rule k h p shared ow w s o r is_fit is_row =
-    let h0 : ask_case k p shared ow w s (asked o) ≡ true = all_asks-at _ (all_states-at _ (all_waits-at _ (either-at _ (either-at _ (all_protocols-at _ h p) shared) ow) w) s) o in
-    given_at _ _ r is_row (when_at _ _ is_fit h0)
-
-abbrev pub ask_fits : AskTest
-ask_fits p shared ow w s e r = is_stall r.action || fits p shared ow w r.next
-
-pub ask_fits_holds : asks ask_fits ≡ true
-unfolding asks ask_case all_protocols all_memories all_states all_requests all_payloads all_asks all_waits either given when claims_of fits is_owner is_sharer is_clean wait_fits in_protocol same
-ask_fits_holds = refl
-
-abbrev pub ask_carries : AskTest
-ask_carries p shared ow w s e r = is_stall r.action || ((is_hit r.action && is_store e) || carries s r.next)
-
-pub ask_carries_holds : asks ask_carries ≡ true
-unfolding asks ask_case all_protocols all_memories all_states all_requests all_payloads all_asks all_waits either given when claims_of fits is_owner is_sharer is_clean wait_fits in_protocol same
-ask_carries_holds = refl
-
-abbrev pub ask_hit_reads : AskTest
-ask_hit_reads p shared ow w s e r = not (is_hit r.action) || keeps s
-
-pub ask_hit_reads_holds : asks ask_hit_reads ≡ true
-unfolding asks ask_case all_protocols all_memories all_states all_requests all_payloads all_asks all_waits either given when claims_of fits is_owner is_sharer is_clean wait_fits in_protocol same
-ask_hit_reads_holds = refl
-
-abbrev pub ask_store_owns : AskTest
-ask_store_owns p shared ow w s e r = not (is_hit r.action && is_store e) || (ow && not (is_clean r.next))
-
-pub ask_store_owns_holds : asks ask_store_owns ≡ true
-unfolding asks ask_case all_protocols all_memories all_states all_requests all_payloads all_asks all_waits either given when claims_of fits is_owner is_sharer is_clean wait_fits in_protocol same
-ask_store_owns_holds = refl
+ask_rule k p shared ow w s o r is_fit is_row =
+    let h : ask_case (ask_test k) p shared ow w s (asked o) ≡ true = all_asks-at _
+    (all_states-at _ (all_waits-at _ (either-at _ (either-at _ (all_protocols-at _ (ask_holds k) p) shared) ow) w) s) o in
+    given_at _ _ r is_row (when_at _ _ is_fit h)
 
 -- an Evict in I, which the machine answers with no row
 abbrev pub is_idle_evict : CacheState → CacheEvent → Bool

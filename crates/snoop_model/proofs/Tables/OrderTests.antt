@@ -19,7 +19,7 @@ use Rattle.snoop_history.specs.Totals.{is_put_m, is_data}
 use Rattle.snoop_model.proofs.Tables.SentBy.{sent_by, sent_by_memory}
 use Rattle.snoop_model.specs.Invariant.Fits.{Claims, claims_of, is_owner, is_sharer, is_clean, wait_fits, in_protocol, same, fits}
 use Rattle.snoop_model.proofs.Tables.Every.{either, either-at, when, when_at, given, given_at}
-use Rattle.snoop_model.proofs.Tables.SenderTests.{is_sender_line, follows_sender_table}
+use Rattle.snoop_model.proofs.Tables.SenderTests.{is_sender_line, is_some_and, follows_sender_table}
 use Rattle.snoop_model.proofs.Tables.StateTests.{carries}
 use Rattle.snoop_model.specs.Pictures.Proper.{keeps}
 
@@ -42,9 +42,10 @@ order_case k p m sr or =
 unfoldable pub orders : OrderTest → Bool
 orders k = all_protocols (λ p. all_memories (λ m. all_states (λ sr. either (λ or. order_case k p m sr or))))
 
-pub order_rule : (k : OrderTest) → orders k ≡ true → (p : Protocol) (m : MemState) (st : Claims) (sr : CacheState) (or : Bool) (q : Request) → claims_of p m None ≡ Some st → fits p st.shared or None sr ≡ true → (not or || st.owned) ≡ true → waiting_request sr ≡ Some q → k p m st sr or q ≡ true
+each_order : (k : OrderTest) → orders k ≡ true → (p : Protocol) (m : MemState) (st : Claims) (sr : CacheState) (or : Bool) (q : Request)
+    → claims_of p m None ≡ Some st → fits p st.shared or None sr ≡ true → (not or || st.owned) ≡ true → waiting_request sr ≡ Some q → k p m st sr or q ≡ true
 unfolding orders order_case
-order_rule k h p m st sr or q is_claims is_fit is_owned is_waiting =
+each_order k h p m st sr or q is_claims is_fit is_owned is_waiting =
     let h0 : order_case k p m sr or ≡ true = either-at _ (all_states-at _ (all_memories-at _ (all_protocols-at _ h p) m) sr) or in
     let h1 = given_at _ _ st is_claims h0 in
     let h2 = when_at _ _ is_fit h1 in
@@ -59,9 +60,12 @@ abbrev pub end_case : EndTest → OrderTest
 end_case k p m st sr or q =
     given (memory_cell_of p m (at_memory q)) (λ mc. given (cell_of p sr (own q)) (λ oc. given (payload_of oc mc) (λ pl. given (claims_of p mc.next (Some (q, pl))) (λ st2. k p m st sr or q mc oc pl st2))))
 
-pub end_rule : (k : EndTest) → orders (end_case k) ≡ true → (p : Protocol) (m : MemState) (st : Claims) (sr : CacheState) (or : Bool) (q : Request) (mc : MemCell) (oc : CacheCell) (pl : Payload) (st2 : Claims) → claims_of p m None ≡ Some st → fits p st.shared or None sr ≡ true → (not or || st.owned) ≡ true → waiting_request sr ≡ Some q → memory_cell_of p m (at_memory q) ≡ Some mc → cell_of p sr (own q) ≡ Some oc → payload_of oc mc ≡ Some pl → claims_of p mc.next (Some (q, pl)) ≡ Some st2 → k p m st sr or q mc oc pl st2 ≡ true
-end_rule k h p m st sr or q mc oc pl st2 is_claims is_fit is_owned is_waiting is_mc is_oc is_pl is_st2 =
-    let h0 : end_case k p m st sr or q ≡ true = order_rule (end_case k) h p m st sr or q is_claims is_fit is_owned is_waiting in
+each_end : (k : EndTest) → orders (end_case k) ≡ true → (p : Protocol) (m : MemState) (st : Claims) (sr : CacheState) (or : Bool) (q : Request) (mc : MemCell)
+    (oc : CacheCell) (pl : Payload) (st2 : Claims) → claims_of p m None ≡ Some st → fits p st.shared or None sr ≡ true → (not or || st.owned) ≡ true
+    → waiting_request sr ≡ Some q → memory_cell_of p m (at_memory q) ≡ Some mc → cell_of p sr (own q) ≡ Some oc → payload_of oc mc ≡ Some pl
+    → claims_of p mc.next (Some (q, pl)) ≡ Some st2 → k p m st sr or q mc oc pl st2 ≡ true
+each_end k h p m st sr or q mc oc pl st2 is_claims is_fit is_owned is_waiting is_mc is_oc is_pl is_st2 =
+    let h0 : end_case k p m st sr or q ≡ true = each_order (end_case k) h p m st sr or q is_claims is_fit is_owned is_waiting in
     let h1 = given_at _ _ mc is_mc h0 in
     let h2 = given_at _ _ oc is_oc h1 in
     let h3 = given_at _ _ pl is_pl h2 in
@@ -75,154 +79,92 @@ unfoldable pub other_case : OtherTest → EndTest
 other_case k p m st sr or q mc oc pl st2 =
     all_states (λ s. either (λ ow. when (fits p st.shared ow None s) (λ _. when (not (ow && or)) (λ _. when (not ow || st.owned) (λ _. given (cell_of p s (other q)) (λ xc. k p m st sr or q mc oc pl st2 s ow xc))))))
 
-pub other_rule : (k : OtherTest) (p : Protocol) (m : MemState) (st : Claims) (sr : CacheState) (or : Bool) (q : Request) (mc : MemCell) (oc : CacheCell) (pl : Payload) (st2 : Claims) → other_case k p m st sr or q mc oc pl st2 ≡ true → (s : CacheState) (ow : Bool) (xc : CacheCell) → fits p st.shared ow None s ≡ true → not (ow && or) ≡ true → (not ow || st.owned) ≡ true → cell_of p s (other q) ≡ Some xc → k p m st sr or q mc oc pl st2 s ow xc ≡ true
+-- what is asked of the rows of an Order: there are memory's, the requestor's, a payload and a line after it; and an owner only gives up
+pub data OrderQuestion : Type 0 where
+  has_rows : OrderQuestion
+  owner_only_puts : OrderQuestion
+
+abbrev pub order_test : OrderQuestion → OrderTest
+order_test has_rows p m st sr or q =
+    is_some_and (memory_cell_of p m (at_memory q)) (λ mc. is_some_and (cell_of p sr (own q))
+    (λ oc. is_some_and (payload_of oc mc) (λ pl. is_some (claims_of p mc.next (Some (q, pl))))))
+order_test owner_only_puts p m st sr or q = not or || is_put_m q
+
+order_holds : (k : OrderQuestion) → orders (order_test k) ≡ true
+unfolding orders order_case other_case all_protocols all_memories all_states all_requests either given when claims_of fits is_owner is_sharer is_clean wait_fits in_protocol same is_sender_line
+order_holds has_rows = refl
+order_holds owner_only_puts = refl
+
+pub order_rule : (k : OrderQuestion) (p : Protocol) (m : MemState) (st : Claims) (sr : CacheState) (or : Bool) (q : Request) → claims_of p m None ≡ Some st
+    → fits p st.shared or None sr ≡ true → (not or || st.owned) ≡ true → waiting_request sr ≡ Some q → order_test k p m st sr or q ≡ true
+order_rule k = each_order (order_test k) (order_holds k)
+
+-- what is asked of its end
+pub data EndQuestion : Type 0 where
+  owned_after : EndQuestion
+  requestor_fits : EndQuestion
+  requestor_carries : EndQuestion
+  fresh_after : EndQuestion
+  memory_sends_fresh : EndQuestion
+  requestor_sends : EndQuestion
+  memory_sends : EndQuestion
+  requestor_reads : EndQuestion
+  order_line_of_put : EndQuestion
+  order_line_of_memory : EndQuestion
+
+abbrev pub end_test : EndQuestion → EndTest
+end_test owned_after p m st sr or q mc oc pl st2 = same st2.owned (is_put_m q && (st.owned && not or))
+end_test requestor_fits p m st sr or q mc oc pl st2 = fits p st2.shared false (Some q) oc.next
+end_test requestor_carries p m st sr or q mc oc pl st2 = carries sr oc.next
+end_test fresh_after p m st sr or q mc oc pl st2 = not st2.fresh || (st.fresh || is_clean sr)
+end_test memory_sends_fresh p m st sr or q mc oc pl st2 = not (is_some (sent_by_memory (Some mc))) || st.fresh
+end_test requestor_sends p m st sr or q mc oc pl st2 = same (is_some (sent_by (Some oc))) (is_put_m q)
+end_test memory_sends p m st sr or q mc oc pl st2 = same (is_some (sent_by_memory (Some mc))) (not (is_put_m q) && not st.owned)
+end_test requestor_reads p m st sr or q mc oc pl st2 = not (is_put_m q && carries_value pl) || keeps sr
+end_test order_line_of_put p m st sr or q mc oc pl st2 = not (is_put_m q) || follows_sender_table p q m (Requestor sr) pl mc.next
+end_test order_line_of_memory p m st sr or q mc oc pl st2 = not (not (is_put_m q) && not st.owned) || follows_sender_table p q m Memory pl mc.next
+
+end_holds : (k : EndQuestion) → orders (end_case (end_test k)) ≡ true
+unfolding orders order_case other_case all_protocols all_memories all_states all_requests either given when claims_of fits is_owner is_sharer is_clean wait_fits in_protocol same is_sender_line
+end_holds owned_after = refl
+end_holds _ = refl
+
+pub end_rule : (k : EndQuestion) → (p : Protocol) (m : MemState) (st : Claims) (sr : CacheState) (or : Bool) (q : Request) (mc : MemCell) (oc : CacheCell)
+    (pl : Payload) (st2 : Claims) → claims_of p m None ≡ Some st → fits p st.shared or None sr ≡ true → (not or || st.owned) ≡ true
+    → waiting_request sr ≡ Some q → memory_cell_of p m (at_memory q) ≡ Some mc → cell_of p sr (own q) ≡ Some oc → payload_of oc mc ≡ Some pl
+    → claims_of p mc.next (Some (q, pl)) ≡ Some st2 → end_test k p m st sr or q mc oc pl st2 ≡ true
+end_rule k = each_end (end_test k) (end_holds k)
+
+-- what is asked of another core at it
+pub data OtherQuestion : Type 0 where
+  other_fits : OtherQuestion
+  other_carries : OtherQuestion
+  other_sends : OtherQuestion
+  other_sends_data : OtherQuestion
+  order_line_of_core : OtherQuestion
+
+abbrev pub other_test : OtherQuestion → OtherTest
+other_test other_fits p m st sr or q mc oc pl st2 s ow xc = fits p st2.shared (ow && is_put_m q) None xc.next
+other_test other_carries p m st sr or q mc oc pl st2 s ow xc = carries s xc.next
+other_test other_sends p m st sr or q mc oc pl st2 s ow xc = same (is_some (sent_by (Some xc))) (ow && not (is_put_m q))
+other_test other_sends_data p m st sr or q mc oc pl st2 s ow xc = given (sent_by (Some xc)) (λ x. is_data x && is_data pl)
+other_test order_line_of_core p m st sr or q mc oc pl st2 s ow xc = not (ow && not (is_put_m q)) || follows_sender_table p q m (Other s) pl mc.next
+
+other_holds : (k : OtherQuestion) → orders (end_case (other_case (other_test k))) ≡ true
+unfolding orders order_case other_case all_protocols all_memories all_states all_requests either given when claims_of fits is_owner is_sharer is_clean wait_fits in_protocol same is_sender_line
+other_holds other_fits = refl
+other_holds _ = refl
+
+pub other_rule : (k : OtherQuestion) → (p : Protocol) (m : MemState) (st : Claims) (sr : CacheState) (or : Bool) (q : Request) (mc : MemCell) (oc : CacheCell)
+    (pl : Payload) (st2 : Claims) → claims_of p m None ≡ Some st → fits p st.shared or None sr ≡ true → (not or || st.owned) ≡ true
+    → waiting_request sr ≡ Some q → memory_cell_of p m (at_memory q) ≡ Some mc → cell_of p sr (own q) ≡ Some oc → payload_of oc mc ≡ Some pl
+    → claims_of p mc.next (Some (q, pl)) ≡ Some st2 → (s : CacheState) (ow : Bool) (xc : CacheCell) → fits p st.shared ow None s ≡ true → not (ow && or) ≡ true
+    → (not ow || st.owned) ≡ true → cell_of p s (other q) ≡ Some xc
+    → other_test k p m st sr or q mc oc pl st2 s ow xc ≡ true
 unfolding other_case
-other_rule k p m st sr or q mc oc pl st2 h s ow xc is_fit apart is_owned is_xc =
-    let h0 = either-at _ (all_states-at _ h s) ow in
-    let h1 = when_at _ _ is_fit h0 in
-    let h2 = when_at _ _ apart h1 in
-    let h3 = when_at _ _ is_owned h2 in
-    given_at _ _ xc is_xc h3
-
-abbrev pub has_mem_row : OrderTest
-has_mem_row p m st sr or q = is_some (memory_cell_of p m (at_memory q))
-
-pub has_mem_row_holds : orders has_mem_row ≡ true
-unfolding orders order_case other_case all_protocols all_memories all_states all_requests either given when claims_of fits is_owner is_sharer is_clean wait_fits in_protocol same is_sender_line
-has_mem_row_holds = refl
-
-abbrev pub has_own_row : OrderTest
-has_own_row p m st sr or q = is_some (cell_of p sr (own q))
-
-pub has_own_row_holds : orders has_own_row ≡ true
-unfolding orders order_case other_case all_protocols all_memories all_states all_requests either given when claims_of fits is_owner is_sharer is_clean wait_fits in_protocol same is_sender_line
-has_own_row_holds = refl
-
-abbrev pub has_payload : OrderTest
-has_payload p m st sr or q = given (memory_cell_of p m (at_memory q)) (λ mc. given (cell_of p sr (own q)) (λ oc. is_some (payload_of oc mc)))
-
-pub has_payload_holds : orders has_payload ≡ true
-unfolding orders order_case other_case all_protocols all_memories all_states all_requests either given when claims_of fits is_owner is_sharer is_clean wait_fits in_protocol same is_sender_line
-has_payload_holds = refl
-
-abbrev pub has_line : OrderTest
-has_line p m st sr or q = given (memory_cell_of p m (at_memory q)) (λ mc. given (cell_of p sr (own q)) (λ oc. given (payload_of oc mc) (λ pl. is_some (claims_of p mc.next (Some (q, pl))))))
-
-pub has_line_holds : orders has_line ≡ true
-unfolding orders order_case other_case all_protocols all_memories all_states all_requests either given when claims_of fits is_owner is_sharer is_clean wait_fits in_protocol same is_sender_line
-has_line_holds = refl
-
-abbrev pub owner_only_puts : OrderTest
-owner_only_puts p m st sr or q = not or || is_put_m q
-
-pub owner_only_puts_holds : orders owner_only_puts ≡ true
-unfolding orders order_case other_case all_protocols all_memories all_states all_requests either given when claims_of fits is_owner is_sharer is_clean wait_fits in_protocol same is_sender_line
-owner_only_puts_holds = refl
-
-abbrev pub owned_after : EndTest
-owned_after p m st sr or q mc oc pl st2 = same st2.owned (is_put_m q && (st.owned && not or))
-
-pub owned_after_holds : orders (end_case owned_after) ≡ true
-unfolding orders order_case other_case all_protocols all_memories all_states all_requests either given when claims_of fits is_owner is_sharer is_clean wait_fits in_protocol same is_sender_line
-owned_after_holds = refl
-
-abbrev pub requestor_fits : EndTest
-requestor_fits p m st sr or q mc oc pl st2 = fits p st2.shared false (Some q) oc.next
-
-pub requestor_fits_holds : orders (end_case requestor_fits) ≡ true
-unfolding orders order_case other_case all_protocols all_memories all_states all_requests either given when claims_of fits is_owner is_sharer is_clean wait_fits in_protocol same is_sender_line
-requestor_fits_holds = refl
-
-abbrev pub requestor_carries : EndTest
-requestor_carries p m st sr or q mc oc pl st2 = carries sr oc.next
-
-pub requestor_carries_holds : orders (end_case requestor_carries) ≡ true
-unfolding orders order_case other_case all_protocols all_memories all_states all_requests either given when claims_of fits is_owner is_sharer is_clean wait_fits in_protocol same is_sender_line
-requestor_carries_holds = refl
-
-abbrev pub fresh_after : EndTest
-fresh_after p m st sr or q mc oc pl st2 = not st2.fresh || (st.fresh || is_clean sr)
-
-pub fresh_after_holds : orders (end_case fresh_after) ≡ true
-unfolding orders order_case other_case all_protocols all_memories all_states all_requests either given when claims_of fits is_owner is_sharer is_clean wait_fits in_protocol same is_sender_line
-fresh_after_holds = refl
-
-abbrev pub memory_sends_fresh : EndTest
-memory_sends_fresh p m st sr or q mc oc pl st2 = not (is_some (sent_by_memory (Some mc))) || st.fresh
-
-pub memory_sends_fresh_holds : orders (end_case memory_sends_fresh) ≡ true
-unfolding orders order_case other_case all_protocols all_memories all_states all_requests either given when claims_of fits is_owner is_sharer is_clean wait_fits in_protocol same is_sender_line
-memory_sends_fresh_holds = refl
-
-abbrev pub requestor_sends : EndTest
-requestor_sends p m st sr or q mc oc pl st2 = same (is_some (sent_by (Some oc))) (is_put_m q)
-
-pub requestor_sends_holds : orders (end_case requestor_sends) ≡ true
-unfolding orders order_case other_case all_protocols all_memories all_states all_requests either given when claims_of fits is_owner is_sharer is_clean wait_fits in_protocol same is_sender_line
-requestor_sends_holds = refl
-
-abbrev pub memory_sends : EndTest
-memory_sends p m st sr or q mc oc pl st2 = same (is_some (sent_by_memory (Some mc))) (not (is_put_m q) && not st.owned)
-
-pub memory_sends_holds : orders (end_case memory_sends) ≡ true
-unfolding orders order_case other_case all_protocols all_memories all_states all_requests either given when claims_of fits is_owner is_sharer is_clean wait_fits in_protocol same is_sender_line
-memory_sends_holds = refl
-
-abbrev pub requestor_reads : EndTest
-requestor_reads p m st sr or q mc oc pl st2 = not (is_put_m q && carries_value pl) || keeps sr
-
-pub requestor_reads_holds : orders (end_case requestor_reads) ≡ true
-unfolding orders order_case other_case all_protocols all_memories all_states all_requests either given when claims_of fits is_owner is_sharer is_clean wait_fits in_protocol same is_sender_line
-requestor_reads_holds = refl
-
-abbrev pub order_line_of_put : EndTest
-order_line_of_put p m st sr or q mc oc pl st2 = not (is_put_m q) || follows_sender_table p q m (Requestor sr) pl mc.next
-
-pub order_line_of_put_holds : orders (end_case order_line_of_put) ≡ true
-unfolding orders order_case other_case all_protocols all_memories all_states all_requests either given when claims_of fits is_owner is_sharer is_clean wait_fits in_protocol same is_sender_line
-order_line_of_put_holds = refl
-
-abbrev pub order_line_of_memory : EndTest
-order_line_of_memory p m st sr or q mc oc pl st2 = not (is_some (sent_by_memory (Some mc))) || follows_sender_table p q m Memory pl mc.next
-
-pub order_line_of_memory_holds : orders (end_case order_line_of_memory) ≡ true
-unfolding orders order_case other_case all_protocols all_memories all_states all_requests either given when claims_of fits is_owner is_sharer is_clean wait_fits in_protocol same is_sender_line
-order_line_of_memory_holds = refl
-
-abbrev pub other_fits : OtherTest
-other_fits p m st sr or q mc oc pl st2 s ow xc = fits p st2.shared (ow && is_put_m q) None xc.next
-
-pub other_fits_holds : orders (end_case (other_case other_fits)) ≡ true
-unfolding orders order_case other_case all_protocols all_memories all_states all_requests either given when claims_of fits is_owner is_sharer is_clean wait_fits in_protocol same is_sender_line
-other_fits_holds = refl
-
-abbrev pub other_carries : OtherTest
-other_carries p m st sr or q mc oc pl st2 s ow xc = carries s xc.next
-
-pub other_carries_holds : orders (end_case (other_case other_carries)) ≡ true
-unfolding orders order_case other_case all_protocols all_memories all_states all_requests either given when claims_of fits is_owner is_sharer is_clean wait_fits in_protocol same is_sender_line
-other_carries_holds = refl
-
-abbrev pub other_sends : OtherTest
-other_sends p m st sr or q mc oc pl st2 s ow xc = same (is_some (sent_by (Some xc))) (ow && not (is_put_m q))
-
-pub other_sends_holds : orders (end_case (other_case other_sends)) ≡ true
-unfolding orders order_case other_case all_protocols all_memories all_states all_requests either given when claims_of fits is_owner is_sharer is_clean wait_fits in_protocol same is_sender_line
-other_sends_holds = refl
-
-abbrev pub other_sends_data : OtherTest
-other_sends_data p m st sr or q mc oc pl st2 s ow xc = given (sent_by (Some xc)) (λ x. is_data x && is_data pl)
-
-pub other_sends_data_holds : orders (end_case (other_case other_sends_data)) ≡ true
-unfolding orders order_case other_case all_protocols all_memories all_states all_requests either given when claims_of fits is_owner is_sharer is_clean wait_fits in_protocol same is_sender_line
-other_sends_data_holds = refl
-
-abbrev pub order_line_of_core : OtherTest
-order_line_of_core p m st sr or q mc oc pl st2 s ow xc = not (is_some (sent_by (Some xc))) || follows_sender_table p q m (Other s) pl mc.next
-
-pub order_line_of_core_holds : orders (end_case (other_case order_line_of_core)) ≡ true
-unfolding orders order_case other_case all_protocols all_memories all_states all_requests either given when claims_of fits is_owner is_sharer is_clean wait_fits in_protocol same is_sender_line
-order_line_of_core_holds = refl
+other_rule k p m st sr or q mc oc pl st2 is_claims is_fit is_owned is_waiting is_mc is_oc is_pl is_st2 s ow xc other_fit apart other_owned is_xc =
+    let h = each_end (other_case (other_test k)) (other_holds k) p m st sr or q mc oc pl st2 is_claims is_fit is_owned is_waiting is_mc is_oc is_pl is_st2 in
+    given_at _ _ xc is_xc (when_at _ _ other_owned (when_at _ _ apart (when_at _ _ other_fit (either-at _ (all_states-at _ h s) ow))))
 
 abbrev pub has_other_row : Protocol → Request → CacheState → Bool → Bool → Bool
 has_other_row p q s shared ow = when (fits p shared ow None s) (λ _. is_some (cell_of p s (other q)))

@@ -49,9 +49,10 @@ respond_case k p m q pl = given (claims_of p m (Some (q, pl))) (λ st. k p m q p
 unfoldable pub responds : RespondTest → Bool
 responds k = all_protocols (λ p. all_memories (λ m. all_requests (λ q. all_payloads (λ pl. respond_case k p m q pl))))
 
-pub respond_rule : (k : RespondTest) → responds k ≡ true → (p : Protocol) (m : MemState) (q : Request) (pl : Payload) (st : Claims) → claims_of p m (Some (q, pl)) ≡ Some st → k p m q pl st ≡ true
+each_respond : (k : RespondTest) → responds k ≡ true → (p : Protocol) (m : MemState) (q : Request) (pl : Payload) (st : Claims)
+    → claims_of p m (Some (q, pl)) ≡ Some st → k p m q pl st ≡ true
 unfolding responds respond_case
-respond_rule k h p m q pl st is_claims =
+each_respond k h p m q pl st is_claims =
     let h0 : respond_case k p m q pl ≡ true = all_payloads-at _ (all_requests-at _ (all_memories-at _ (all_protocols-at _ h p) m) q) pl in
     given_at _ _ st is_claims h0
 
@@ -76,90 +77,65 @@ AfterTest = (p : Protocol) (m : MemState) (q : Request) (pl : Payload) (st : Cla
 abbrev pub after_case : AfterTest → RespondTest
 after_case k p m q pl st = given (after_respond p q m pl) (λ m2. given (claims_of p m2 None) (λ st2. k p m q pl st m2 st2))
 
-pub after_rule : (k : AfterTest) → responds (after_case k) ≡ true → (p : Protocol) (m : MemState) (q : Request) (pl : Payload) (st : Claims) (m2 : MemState) (st2 : Claims) → claims_of p m (Some (q, pl)) ≡ Some st → after_respond p q m pl ≡ Some m2 → claims_of p m2 None ≡ Some st2 → k p m q pl st m2 st2 ≡ true
-after_rule k h p m q pl st m2 st2 is_claims is_m2 is_st2 =
-    given_at _ _ st2 is_st2 (given_at _ _ m2 is_m2 (respond_rule (after_case k) h p m q pl st is_claims))
+-- what is asked of the rows of a Respond
+pub data RespondQuestion : Type 0 where
+  has_line_after : RespondQuestion
+  write_carries : RespondQuestion
+  has_arrival : RespondQuestion
+  data_of_get : RespondQuestion
+  arrival_fills : RespondQuestion
+  has_memory_arrival : RespondQuestion
 
-abbrev pub has_line_after : RespondTest
-has_line_after p m q pl st = given (after_respond p q m pl) (λ m2. is_some (claims_of p m2 None))
+abbrev pub respond_test : RespondQuestion → RespondTest
+respond_test has_line_after p m q pl st = given (after_respond p q m pl) (λ m2. is_some (claims_of p m2 None))
+respond_test write_carries p m q pl st = not (takes_payload q m) || given (memory_row_for p m (arrival_at_memory pl))
+    (λ r. not (writes r.action) || carries_value pl)
+respond_test has_arrival p m q pl st = when (not (is_put_m q))
+    (λ _. all_states (λ s. either (λ ow. when (fits p st.shared ow (Some q) s) (λ _. is_some (row_for p s (arrival pl))))))
+respond_test data_of_get p m q pl st = is_put_m q || carries_value pl
+respond_test arrival_fills p m q pl st = when (not (is_put_m q))
+    (λ _. all_states (λ s. either (λ ow. when (fits p st.shared ow (Some q) s)
+    (λ _. given (row_for p s (arrival pl)) (λ r. same (fills_store r.action) (is_get_m q))))))
+respond_test has_memory_arrival p m q pl st = not (takes_payload q m) || is_some (memory_row_for p m (arrival_at_memory pl))
 
-pub has_line_after_holds : responds has_line_after ≡ true
+respond_holds : (k : RespondQuestion) → responds (respond_test k) ≡ true
 unfolding responds respond_case all_protocols all_memories all_states all_requests all_payloads all_asks all_waits either given when claims_of fits is_owner is_sharer is_clean wait_fits in_protocol same
-has_line_after_holds = refl
+respond_holds has_line_after = refl
+respond_holds _ = refl
 
-abbrev pub write_carries : RespondTest
-write_carries p m q pl st = not (takes_payload q m) || given (memory_row_for p m (arrival_at_memory pl)) (λ r. not (writes r.action) || carries_value pl)
+pub respond_rule : (k : RespondQuestion) → (p : Protocol) (m : MemState) (q : Request) (pl : Payload) (st : Claims) → claims_of p m (Some (q, pl)) ≡ Some st
+    → respond_test k p m q pl st ≡ true
+respond_rule k = each_respond (respond_test k) (respond_holds k)
 
-pub write_carries_holds : responds write_carries ≡ true
+-- what is asked of the line after it
+pub data AfterQuestion : Type 0 where
+  gain_owned : AfterQuestion
+  gain_alone : AfterQuestion
+  fresh_respond : AfterQuestion
+  arrival_fits : AfterQuestion
+  stay_fits : AfterQuestion
+  stay_alone : AfterQuestion
+
+abbrev pub after_test : AfterQuestion → AfterTest
+after_test gain_owned p m q pl st m2 st2 = same st2.owned (st.owned || gains q pl)
+after_test gain_alone p m q pl st m2 st2 = not (gains q pl) || not st.owned
+after_test fresh_respond p m q pl st m2 st2 = not st2.fresh ||
+    (not (is_get_m q) && (st.fresh || (takes_payload q m && carries_value pl && given (memory_row_for p m (arrival_at_memory pl)) (λ r. writes r.action))))
+after_test arrival_fits p m q pl st m2 st2 = when (not (is_put_m q))
+    (λ _. all_states (λ s. either (λ ow. when (fits p st.shared ow (Some q) s)
+    (λ _. given (row_for p s (arrival pl)) (λ r. not ow &&
+    (fits p st2.shared (gains q pl) None r.next && (not (is_clean r.next) || (st.fresh && not (is_get_m q)))))))))
+after_test stay_fits p m q pl st m2 st2 = all_states (λ s. either
+    (λ ow. when (fits p st.shared ow None s) (λ _. when (not ow || st.owned) (λ _. fits p st2.shared ow None s))))
+after_test stay_alone p m q pl st m2 st2 = when (is_get_m q)
+    (λ _. all_states (λ s. either (λ ow. when (fits p st.shared ow None s) (λ _. when (not ow || st.owned) (λ _. not (keeps s))))))
+
+after_holds : (k : AfterQuestion) → responds (after_case (after_test k)) ≡ true
 unfolding responds respond_case all_protocols all_memories all_states all_requests all_payloads all_asks all_waits either given when claims_of fits is_owner is_sharer is_clean wait_fits in_protocol same
-write_carries_holds = refl
+after_holds gain_owned = refl
+after_holds _ = refl
 
-abbrev pub has_arrival : RespondTest
-has_arrival p m q pl st = when (not (is_put_m q)) (λ _. all_states (λ s. either (λ ow. when (fits p st.shared ow (Some q) s) (λ _. is_some (row_for p s (arrival pl))))))
-
-pub has_arrival_holds : responds has_arrival ≡ true
-unfolding responds respond_case all_protocols all_memories all_states all_requests all_payloads all_asks all_waits either given when claims_of fits is_owner is_sharer is_clean wait_fits in_protocol same
-has_arrival_holds = refl
-
-abbrev pub data_of_get : RespondTest
-data_of_get p m q pl st = is_put_m q || carries_value pl
-
-pub data_of_get_holds : responds data_of_get ≡ true
-unfolding responds respond_case all_protocols all_memories all_states all_requests all_payloads all_asks all_waits either given when claims_of fits is_owner is_sharer is_clean wait_fits in_protocol same
-data_of_get_holds = refl
-
-abbrev pub gain_owned : AfterTest
-gain_owned p m q pl st m2 st2 = same st2.owned (st.owned || gains q pl)
-
-pub gain_owned_holds : responds (after_case gain_owned) ≡ true
-unfolding responds respond_case all_protocols all_memories all_states all_requests all_payloads all_asks all_waits either given when claims_of fits is_owner is_sharer is_clean wait_fits in_protocol same
-gain_owned_holds = refl
-
-abbrev pub gain_alone : AfterTest
-gain_alone p m q pl st m2 st2 = not (gains q pl) || not st.owned
-
-pub gain_alone_holds : responds (after_case gain_alone) ≡ true
-unfolding responds respond_case all_protocols all_memories all_states all_requests all_payloads all_asks all_waits either given when claims_of fits is_owner is_sharer is_clean wait_fits in_protocol same
-gain_alone_holds = refl
-
-abbrev pub fresh_respond : AfterTest
-fresh_respond p m q pl st m2 st2 = not st2.fresh || (not (is_get_m q) && (st.fresh || (takes_payload q m && carries_value pl && given (memory_row_for p m (arrival_at_memory pl)) (λ r. writes r.action))))
-
-pub fresh_respond_holds : responds (after_case fresh_respond) ≡ true
-unfolding responds respond_case all_protocols all_memories all_states all_requests all_payloads all_asks all_waits either given when claims_of fits is_owner is_sharer is_clean wait_fits in_protocol same
-fresh_respond_holds = refl
-
-abbrev pub arrival_fits : AfterTest
-arrival_fits p m q pl st m2 st2 = when (not (is_put_m q)) (λ _. all_states (λ s. either (λ ow. when (fits p st.shared ow (Some q) s) (λ _. given (row_for p s (arrival pl)) (λ r. not ow && (fits p st2.shared (gains q pl) None r.next && (not (is_clean r.next) || (st.fresh && not (is_get_m q)))))))))
-
-pub arrival_fits_holds : responds (after_case arrival_fits) ≡ true
-unfolding responds respond_case all_protocols all_memories all_states all_requests all_payloads all_asks all_waits either given when claims_of fits is_owner is_sharer is_clean wait_fits in_protocol same
-arrival_fits_holds = refl
-
-abbrev pub stay_fits : AfterTest
-stay_fits p m q pl st m2 st2 = all_states (λ s. either (λ ow. when (fits p st.shared ow None s) (λ _. when (not ow || st.owned) (λ _. fits p st2.shared ow None s))))
-
-pub stay_fits_holds : responds (after_case stay_fits) ≡ true
-unfolding responds respond_case all_protocols all_memories all_states all_requests all_payloads all_asks all_waits either given when claims_of fits is_owner is_sharer is_clean wait_fits in_protocol same
-stay_fits_holds = refl
-
-abbrev pub stay_alone : AfterTest
-stay_alone p m q pl st m2 st2 = when (is_get_m q) (λ _. all_states (λ s. either (λ ow. when (fits p st.shared ow None s) (λ _. when (not ow || st.owned) (λ _. not (keeps s))))))
-
-pub stay_alone_holds : responds (after_case stay_alone) ≡ true
-unfolding responds respond_case all_protocols all_memories all_states all_requests all_payloads all_asks all_waits either given when claims_of fits is_owner is_sharer is_clean wait_fits in_protocol same
-stay_alone_holds = refl
-
-abbrev pub arrival_fills : RespondTest
-arrival_fills p m q pl st = when (not (is_put_m q)) (λ _. all_states (λ s. either (λ ow. when (fits p st.shared ow (Some q) s) (λ _. given (row_for p s (arrival pl)) (λ r. same (fills_store r.action) (is_get_m q))))))
-
-pub arrival_fills_holds : responds arrival_fills ≡ true
-unfolding responds respond_case all_protocols all_memories all_states all_requests all_payloads all_asks all_waits either given when claims_of fits is_owner is_sharer is_clean wait_fits in_protocol same
-arrival_fills_holds = refl
-
-abbrev pub has_memory_arrival : RespondTest
-has_memory_arrival p m q pl st = not (takes_payload q m) || is_some (memory_row_for p m (arrival_at_memory pl))
-
-pub has_memory_arrival_holds : responds has_memory_arrival ≡ true
-unfolding responds respond_case all_protocols all_memories all_states all_requests all_payloads all_asks all_waits either given when claims_of fits is_owner is_sharer is_clean wait_fits in_protocol same
-has_memory_arrival_holds = refl
+pub after_rule : (k : AfterQuestion) → (p : Protocol) (m : MemState) (q : Request) (pl : Payload) (st : Claims) (m2 : MemState) (st2 : Claims)
+    → claims_of p m (Some (q, pl)) ≡ Some st → after_respond p q m pl ≡ Some m2 → claims_of p m2 None ≡ Some st2 → after_test k p m q pl st m2 st2 ≡ true
+after_rule k p m q pl st m2 st2 is_claims is_m2 is_st2 =
+    given_at _ _ st2 is_st2 (given_at _ _ m2 is_m2 (each_respond (after_case (after_test k)) (after_holds k) p m q pl st is_claims))

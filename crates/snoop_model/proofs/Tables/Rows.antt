@@ -7,7 +7,7 @@ use Rattle.snoop_trace.specs.declared.step.Op.{Op}
 use Rattle.snoop_trace.specs.declared.step.Op.TheVariants as op
 use Rattle.snoop_trace.specs.declared.protocol.Protocol.{Protocol}
 use Rattle.snoop_rules.specs.declared.names.CacheState.{CacheState}
-use Rattle.snoop_rules.specs.declared.names.CacheState.TheVariants.{I, IsAd, IsD, ImAd, ImD, S, SmAd, SmD, E, M, EiA, MiA, IiA}
+use Rattle.snoop_rules.specs.declared.names.CacheState.TheVariants.{I, ImAd, IiA}
 use Rattle.snoop_rules.specs.declared.names.CacheEvent.{CacheEvent}
 use Rattle.snoop_rules.specs.declared.names.CacheEvent.TheVariants as event
 use Rattle.snoop_rules.specs.declared.names.CacheAction.{CacheAction}
@@ -67,50 +67,80 @@ same_three-true x y a b c d h =
     let r = and_parts (same_request a b) (same_request c d) l.1 in
     (same_bool-true x y l.0, same_request-true a b r.0, same_request-true c d r.1)
 
+-- the request that serves the operation
+abbrev serves : CacheEvent → Request → Bool
+serves event.Load GetS = true
+serves event.Store GetM = true
+serves event.Evict PutM = true
+serves _ _ = false
+
+abbrev pub is_evict : CacheEvent → Bool
+is_evict event.Evict = true
+is_evict _ = false
+
+-- an operation is asked
+abbrev is_asked : CacheEvent → Bool
+is_asked event.Load = true
+is_asked event.Store = true
+is_asked event.Evict = true
+is_asked _ = false
+
+-- an action that answers it
+abbrev pub answers : CacheAction → Bool
+answers action.Hit = true
+answers action.Stall = true
+answers (action.Issue q) = true
+answers action.Drop = true
+answers _ = false
+
 -- the request that has missed once one is issued at this event
 abbrev missed_at : CacheEvent → Option Request
 missed_at event.Load = Some GetS
 missed_at event.Store = Some GetM
 missed_at _ = None
 
--- what an action does to what is kept, to what has missed and to what waits: an issue begins to wait where nothing did, a fill ends what has missed, and a hit or a drop leaves both
+-- what an action does to what is kept, to what has missed and to what waits: an issue, of the request that serves, begins to wait where nothing did; a fill ends what has missed; a hit, of kept words, and an Evict's drop, leave both
 abbrev does_so : CacheState → CacheEvent → CacheState → CacheAction → Bool
 does_so s e n (action.Issue q) =
-    same_three (keeps n) (keeps s && not (given_up n)) (waiting_request s) None (waiting_request n) (Some q) && (same_request (missed_request s) None && same_request (missed_request n) (missed_at e))
-does_so s e n action.Hit = same_three (keeps n) true (missed_request s) (missed_request n) (waiting_request n) (waiting_request s)
-does_so s e n action.Drop = same_three (keeps n) (keeps s && not (given_up n)) (missed_request s) (missed_request n) (waiting_request n) (waiting_request s)
+    same_three (keeps n) (keeps s && not (given_up n)) (waiting_request s) None (waiting_request n) (Some q) &&
+    (serves e q && (same_request (missed_request s) None && same_request (missed_request n) (missed_at e)))
+does_so s e n action.Hit = (keeps s && not (is_evict e)) && same_three (keeps n) true (missed_request s) (missed_request n) (waiting_request n)
+    (waiting_request s)
+does_so s e n action.Drop = is_evict e && same_three (keeps n) (keeps s && not (given_up n)) (missed_request s) (missed_request n) (waiting_request n)
+    (waiting_request s)
 does_so s e n action.FillLoad = same_three (keeps n) true (missed_request n) None (waiting_request n) (waiting_request s)
 does_so s e n action.FillStore = same_three (keeps n) true (missed_request n) None (waiting_request n) (waiting_request s)
 does_so s e n _ = true
 
 abbrev action_test : Protocol → CacheState → CacheEvent → CacheCell → Bool
-action_test p s e row = does_so s e row.next row.action
+action_test p s e row = (not (is_asked e) || answers row.action) && does_so s e row.next row.action
 
 action_test_holds : each_row action_test ≡ true
 unfolding each_row all_protocols all_states all_events
 action_test_holds = refl
 
 action_rule : (p : Protocol) (s : CacheState) (e : CacheEvent) (a : CacheAction) (n : CacheState) → Cell p s e a n → does_so s e n a ≡ true
-action_rule p s e a n row = each_row-at action_test action_test_holds p s e a n row
+action_rule p s e a n row = (and_parts _ _ (each_row-at action_test action_test_holds p s e a n row)).1
+
+pub asked_answers : (p : Protocol) (s : CacheState) (asking : Op) (a : CacheAction) (n : CacheState) → Cell p s (asked asking) a n → answers a ≡ true
+asked_answers p s asking a n row =
+    let test = (and_parts (not (is_asked (asked asking)) || answers a) _ (each_row-at action_test action_test_holds p s (asked asking) a n row)).0 in
+    rw (asks asking) at test
+  where
+    asks : (o : Op) → is_asked (asked o) ≡ true
+    asks op.Load = refl
+    asks _ = refl
 
 is_some-kept_on : (next : CacheState) (kept : Option (List ℕ)) (b : Bool) → is_some kept ≡ b → is_some (kept_on next kept) ≡ (b && not (given_up next))
 is_some-kept_on I kept b h = sym (and-false b)
-is_some-kept_on IsAd kept b h = h ∙ sym (and-true b)
-is_some-kept_on IsD kept b h = h ∙ sym (and-true b)
 is_some-kept_on ImAd kept b h = sym (and-false b)
-is_some-kept_on ImD kept b h = h ∙ sym (and-true b)
-is_some-kept_on S kept b h = h ∙ sym (and-true b)
-is_some-kept_on SmAd kept b h = h ∙ sym (and-true b)
-is_some-kept_on SmD kept b h = h ∙ sym (and-true b)
-is_some-kept_on E kept b h = h ∙ sym (and-true b)
-is_some-kept_on M kept b h = h ∙ sym (and-true b)
-is_some-kept_on EiA kept b h = h ∙ sym (and-true b)
-is_some-kept_on MiA kept b h = h ∙ sym (and-true b)
 is_some-kept_on IiA kept b h = sym (and-false b)
+is_some-kept_on _ kept b h = h ∙ sym (and-true b)
 
 -- an issue makes a core wait that did not
 module _ (p : Protocol) (s : CacheState) (e : CacheEvent) (q : Request) (n : CacheState) (row : Cell p s e (action.Issue q) n) where
-  issue_parts : (same_three (keeps n) (keeps s && not (given_up n)) (waiting_request s) None (waiting_request n) (Some q) ≡ true) × ((same_request (missed_request s) None && same_request (missed_request n) (missed_at e)) ≡ true)
+  issue_parts : (same_three (keeps n) (keeps s && not (given_up n)) (waiting_request s) None (waiting_request n) (Some q) ≡ true) ×
+      ((serves e q && (same_request (missed_request s) None && same_request (missed_request n) (missed_at e))) ≡ true)
   issue_parts = and_parts _ _ (action_rule p s e (action.Issue q) n row)
 
   issue_facts : (keeps n ≡ (keeps s && not (given_up n))) × (waiting_request s ≡ None) × (waiting_request n ≡ Some q)
@@ -121,7 +151,17 @@ module _ (p : Protocol) (s : CacheState) (e : CacheEvent) (q : Request) (n : Cac
 
   -- where a request is issued no operation had missed, and then the one that is asked has
   pub issue-missed : (missed_request s ≡ None) × (missed_request n ≡ missed_at e)
-  issue-missed = let parts = and_parts _ _ issue_parts.1 in (same_request-true _ _ parts.0, same_request-true _ _ parts.1)
+  issue-missed = let parts = and_parts _ _ (and_parts _ _ issue_parts.1).1 in (same_request-true _ _ parts.0, same_request-true _ _ parts.1)
+
+pub issue_serves : (p : Protocol) (s : CacheState) (asking : Op) (q : Request) (n : CacheState) → Cell p s (asked asking) (action.Issue q) n
+    → q ≡ request_for asking
+issue_serves p s asking q n row = by_op asking q (and_parts _ _ (issue_parts p s (asked asking) q n row).1).0
+  where
+    by_op : (o : Op) (r : Request) → serves (asked o) r ≡ true → r ≡ request_for o
+    by_op op.Load GetS h = refl
+    by_op (op.Store value) GetM h = refl
+    by_op op.Evict PutM h = refl
+    by_op _ _ h = cc
 
 pub asked_missed : (word : ℕ) (asking : Op) → option_map (λ access. request_for access.op) (kept_waiting word asking) ≡ missed_at (asked asking)
 asked_missed word op.Load = refl
@@ -136,8 +176,14 @@ IsProper-issue p old word asking q n proper row = record {
 }
 
 -- a hit keeps a value, and what waits goes on waiting
-pub hit_facts : (p : Protocol) (s : CacheState) (e : CacheEvent) (n : CacheState) → Cell p s e action.Hit n → (keeps n ≡ true) × (missed_request s ≡ missed_request n) × (waiting_request n ≡ waiting_request s)
-hit_facts p s e n row = same_three-true (keeps n) true (missed_request s) (missed_request n) (waiting_request n) (waiting_request s) (action_rule p s e action.Hit n row)
+pub hit_facts : (p : Protocol) (s : CacheState) (e : CacheEvent) (n : CacheState) → Cell p s e action.Hit n
+    → (keeps n ≡ true) × (missed_request s ≡ missed_request n) × (waiting_request n ≡ waiting_request s)
+hit_facts p s e n row = same_three-true (keeps n) true (missed_request s) (missed_request n) (waiting_request n) (waiting_request s)
+    (and_parts _ _ (action_rule p s e action.Hit n row)).1
+
+-- it is no Evict, of words that are kept
+pub hit_keeps : (p : Protocol) (s : CacheState) (e : CacheEvent) (n : CacheState) → Cell p s e action.Hit n → (keeps s ≡ true) × (not (is_evict e) ≡ true)
+hit_keeps p s e n row = and_parts _ _ (and_parts _ _ (action_rule p s e action.Hit n row)).0
 
 pub IsProper-hit : (p : Protocol) (old : Line) (e : CacheEvent) (n : CacheState) (after : List ℕ) → IsProper old → Cell p old.state e action.Hit n
     → IsProper (record { state = n; kept = Some after; waiting = old.waiting })
@@ -148,7 +194,16 @@ IsProper-hit p old e n after proper row =
 -- so does a drop, which leaves nothing
 pub drop_facts : (p : Protocol) (s : CacheState) (e : CacheEvent) (n : CacheState) → Cell p s e action.Drop n
     → (keeps n ≡ (keeps s && not (given_up n))) × (missed_request s ≡ missed_request n) × (waiting_request n ≡ waiting_request s)
-drop_facts p s e n row = same_three-true (keeps n) (keeps s && not (given_up n)) (missed_request s) (missed_request n) (waiting_request n) (waiting_request s) (action_rule p s e action.Drop n row)
+drop_facts p s e n row = same_three-true (keeps n) (keeps s && not (given_up n)) (missed_request s) (missed_request n) (waiting_request n) (waiting_request s)
+    (and_parts _ _ (action_rule p s e action.Drop n row)).1
+
+-- only an Evict drops a line
+pub drop_evicts : (p : Protocol) (s : CacheState) (asking : Op) (n : CacheState) → Cell p s (asked asking) action.Drop n → asking ≡ op.Evict
+drop_evicts p s asking n row = by_op asking (and_parts _ _ (action_rule p s (asked asking) action.Drop n row)).0
+  where
+    by_op : (o : Op) → is_evict (asked o) ≡ true → o ≡ op.Evict
+    by_op op.Evict h = refl
+    by_op _ h = cc
 
 pub IsProper-drop : (p : Protocol) (old : Line) (e : CacheEvent) (n : CacheState) → IsProper old → Cell p old.state e action.Drop n → IsProper (moves_to n old)
 IsProper-drop p old e n proper row =
@@ -174,7 +229,8 @@ is_other _ = false
 abbrev order_test : Protocol → CacheState → CacheEvent → CacheCell → Bool
 order_test p s e row =
     not (is_own e || is_other e)
-    || same_three (keeps row.next) (keeps s && not (given_up row.next)) (missed_request s) (missed_request row.next) (waiting_request row.next) (if is_own e then None else waiting_request s)
+    || same_three (keeps row.next) (keeps s && not (given_up row.next)) (missed_request s) (missed_request row.next) (waiting_request row.next)
+    (if is_own e then None else waiting_request s)
 
 order_test_holds : each_row order_test ≡ true
 unfolding each_row all_protocols all_states all_events
@@ -195,7 +251,8 @@ pub order_facts : (p : Protocol) (s : CacheState) (k core : ℕ) (q : Request) (
     → (keeps n ≡ (keeps s && not (given_up n))) × (missed_request s ≡ missed_request n) × (waiting_request n ≡ (if k == core then None else waiting_request s))
 order_facts p s k core q a n row =
     let t = each_row-at order_test order_test_holds p s (seen_by k core q) a n row in
-    let f = same_three-true (keeps n) (keeps s && not (given_up n)) (missed_request s) (missed_request n) (waiting_request n) (if is_own (seen_by k core q) then None else waiting_request s) (rw (seen_ordered (k == core) q) at t) in
+    let f = same_three-true (keeps n) (keeps s && not (given_up n)) (missed_request s) (missed_request n) (waiting_request n)
+    (if is_own (seen_by k core q) then None else waiting_request s) (rw (seen_ordered (k == core) q) at t) in
     (f.0, f.1, f.2 ∙ ap (λ mine. if mine then None else waiting_request s) (seen_own (k == core) q))
 
 pub IsProper-order : (p : Protocol) (old : Line) (k core : ℕ) (q : Request) (a : CacheAction) (n : CacheState) → IsProper old → Cell p old.state (seen_by k core q) a n → IsProper (moves_to n old)
@@ -204,11 +261,14 @@ IsProper-order p old k core q a n proper row =
     record { kept = is_some-kept_on n old.kept (keeps old.state) proper.kept ∙ sym f.0; waiting = proper.waiting ∙ f.1 }
 
 -- a fill ends all waiting and keeps a value
-fill_facts : (p : Protocol) (s : CacheState) (e : CacheEvent) (a : CacheAction) (n : CacheState) (asking : Op) → a ≡ (if is_load asking then action.FillLoad else action.FillStore) → Cell p s e a n
+fill_facts : (p : Protocol) (s : CacheState) (e : CacheEvent) (a : CacheAction) (n : CacheState) (asking : Op)
+    → a ≡ (if is_load asking then action.FillLoad else action.FillStore) → Cell p s e a n
     → (keeps n ≡ true) × (missed_request n ≡ None) × (waiting_request n ≡ waiting_request s)
-fill_facts p s e a n asking fill row = same_three-true (keeps n) true (missed_request n) None (waiting_request n) (waiting_request s) (by_kind (is_load asking) fill)
+fill_facts p s e a n asking fill row = same_three-true (keeps n) true (missed_request n) None (waiting_request n) (waiting_request s)
+    (by_kind (is_load asking) fill)
   where
-    by_kind : (load : Bool) → a ≡ (if load then action.FillLoad else action.FillStore) → same_three (keeps n) true (missed_request n) None (waiting_request n) (waiting_request s) ≡ true
+    by_kind : (load : Bool) → a ≡ (if load then action.FillLoad else action.FillStore)
+        → same_three (keeps n) true (missed_request n) None (waiting_request n) (waiting_request s) ≡ true
     by_kind true is = let t = action_rule p s e a n row in rw is at t
     by_kind false is = let t = action_rule p s e a n row in rw is at t
 

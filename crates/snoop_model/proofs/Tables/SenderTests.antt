@@ -1,5 +1,5 @@
 -- The table of senders as a test.
-use Rattle.std.proofs.Common.{Bool, true, false, cond, Option, Some, None}
+use Rattle.std.proofs.Common.{◌≡◌, refl, Bool, true, false, cond, Option, Some, None}
 use Rattle.snoop_trace.specs.declared.protocol.Protocol.{Protocol}
 use Rattle.snoop_trace.specs.declared.protocol.Protocol.TheVariants as protocol
 use Rattle.snoop_rules.specs.declared.names.CacheState.TheVariants as state
@@ -48,6 +48,10 @@ is_sender_line _ _ _ _ _ _ _ = false
 abbrev pub is_some_and : {A : Type 0} → Option A → (A → Bool) → Bool
 is_some_and None f = false
 is_some_and (Some a) f = f a
+
+pub some_and : {A : Type 0} (o : Option A) (f : A → Bool) → is_some_and o f ≡ true → (a : A) × (o ≡ Some a) × (f a ≡ true)
+some_and None f h = cc
+some_and (Some a) f h = (a, refl, h)
 
 abbrev pub next_of : Option MemCell → Option MemState
 next_of None = None

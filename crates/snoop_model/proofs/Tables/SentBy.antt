@@ -1,5 +1,5 @@
 -- What a row sends, as a test.
-use Rattle.std.proofs.Common.{◌≡◌, Option, Some, None, ap}
+use Rattle.std.proofs.Common.{◌≡◌, ℕ, Option, Some, None, ap}
 use Rattle.std.proofs.lemmas.Option.{same_Some}
 use Rattle.snoop_rules.specs.declared.names.CacheAction.{CacheAction}
 use Rattle.snoop_rules.specs.declared.names.CacheAction.TheVariants as action
@@ -11,6 +11,13 @@ use Rattle.snoop_rules.specs.declared.names.MemCell.{MemCell}
 use Rattle.snoop_rules.specs.declared.names.MemState.{MemState}
 use Rattle.snoop_rules.specs.declared.names.Payload.{Payload}
 use Rattle.snoop_rules.specs.declared.names.Target.{Target}
+use Rattle.snoop_rules.specs.declared.names.Request.{Request}
+use Rattle.snoop_rules.specs.Cell.{cell_of}
+use Rattle.snoop_rules.specs.MemoryCell.{memory_cell_of}
+use Rattle.snoop_rules.specs.Takers.{seen_by, at_memory}
+use Rattle.snoop_trace.specs.declared.protocol.Protocol.{Protocol}
+use Rattle.snoop_model.specs.Pictures.Picture.{Picture, held_by}
+use Rattle.snoop_model.specs.Pictures.Sends.{Sends}
 
 -- the payload of a cache's action, if it sends
 abbrev pub payload_sent : CacheAction → Option Payload
@@ -51,3 +58,13 @@ sends_row (Some row) payload h =
 pub memory_sends_row : (found : Option MemCell) (payload : Payload) → sent_by_memory found ≡ Some payload → (next : MemState) × (found ≡ Some (record { action = mem_action.Send payload; next = next }))
 memory_sends_row None payload h = cc
 memory_sends_row (Some row) payload h = (row.next, ap (λ (act : MemAction). let o : Option MemCell = Some (record { action = act; next = row.next }) in o) (sending_memory row.action payload h))
+
+module _ (p : Protocol) (before : Picture) (core : ℕ) (q : Request) where
+  -- what the row of memory, or of a core, sends for the core's request
+  abbrev pub payload_from : Option ℕ → Option Payload
+  payload_from None = sent_by_memory (memory_cell_of p before.memory.state (at_memory q))
+  payload_from (Some k) = sent_by (cell_of p (held_by before k).state (seen_by k core q))
+
+  pub sends_is : (from : Option ℕ) (payload : Payload) → Sends p before core q from payload → payload_from from ≡ Some payload
+  sends_is None payload sends = ap sent_by_memory sends.1
+  sends_is (Some k) payload sends = ap sent_by sends.1.1.1

@@ -44,20 +44,23 @@ awaited_test_holds : each_row awaited_test ≡ true
 unfolding each_row all_protocols all_states all_events
 awaited_test_holds = refl
 
-awaited_rule : (p : Protocol) (s : CacheState) (e : CacheEvent) (a : CacheAction) (n : CacheState) (r : Request) → Cell p s e a n → awaited_request n ≡ Some r → may_await e (awaited_request s) ≡ Some r
+awaited_rule : (p : Protocol) (s : CacheState) (e : CacheEvent) (a : CacheAction) (n : CacheState) (r : Request) → Cell p s e a n → awaited_request n ≡ Some r
+    → may_await e (awaited_request s) ≡ Some r
 awaited_rule p s e a n r row awaits = elim (or_cases _ _ (each_row-at awaited_test awaited_test_holds p s e a n row)) [
   | inl none ↦ (let nothing = same_request-true (awaited_request n) None none in cc)
   | inr same ↦ sym (same_request-true _ _ same) ∙ awaits
 ]
 
 -- an Ask leaves what its core awaits
-pub awaited-asked : (p : Protocol) (s : CacheState) (asking : Op) (a : CacheAction) (n : CacheState) (r : Request) → Cell p s (asked asking) a n → awaited_request n ≡ Some r → awaited_request s ≡ Some r
+pub awaited-asked : (p : Protocol) (s : CacheState) (asking : Op) (a : CacheAction) (n : CacheState) (r : Request) → Cell p s (asked asking) a n
+    → awaited_request n ≡ Some r → awaited_request s ≡ Some r
 awaited-asked p s op.Load a n r row awaits = awaited_rule p s event.Load a n r row awaits
 awaited-asked p s (op.Store v) a n r row awaits = awaited_rule p s event.Store a n r row awaits
 awaited-asked p s op.Evict a n r row awaits = awaited_rule p s event.Evict a n r row awaits
 
 -- after an Order only its core awaits data of the block, that of its request
-pub awaited-ordered : (p : Protocol) (s : CacheState) (k core : ℕ) (q : Request) (a : CacheAction) (n : CacheState) (r : Request) → Cell p s (seen_by k core q) a n → awaited_request n ≡ Some r → (core ≡ k) × (q ≡ r)
+pub awaited-ordered : (p : Protocol) (s : CacheState) (k core : ℕ) (q : Request) (a : CacheAction) (n : CacheState) (r : Request)
+    → Cell p s (seen_by k core q) a n → awaited_request n ≡ Some r → (core ≡ k) × (q ≡ r)
 awaited-ordered p s k core q a n r row awaits = elim (cases_eq k core) [
   | inl e ↦ (sym e, mine q (rw (eq-eqb k core e) at (awaited_rule p s (seen_by k core q) a n r row awaits)))
   | inr ne ↦ absurd (theirs q (rw (ne_eqb k core ne) at (awaited_rule p s (seen_by k core q) a n r row awaits)))
@@ -74,7 +77,8 @@ awaited-ordered p s k core q a n r row awaits = elim (cases_eq k core) [
     theirs PutM is = cc
 
 -- data that has come is awaited no more
-pub awaited-filled : (p : Protocol) (s : CacheState) (message : Payload) (e : CacheEvent) (a : CacheAction) (n : CacheState) (r : Request) → arrival message ≡ Some e → Cell p s e a n → awaited_request n ≡ Some r → ⊥
+pub awaited-filled : (p : Protocol) (s : CacheState) (message : Payload) (e : CacheEvent) (a : CacheAction) (n : CacheState) (r : Request)
+    → arrival message ≡ Some e → Cell p s e a n → awaited_request n ≡ Some r → ⊥
 awaited-filled p s payload.Data e a n r is row awaits = let none = rw (← (same_Some _ _ is)) at (awaited_rule p s e a n r row awaits) in cc
 awaited-filled p s payload.DataE e a n r is row awaits = let none = rw (← (same_Some _ _ is)) at (awaited_rule p s e a n r row awaits) in cc
 awaited-filled p s _ e a n r is row awaits = cc

@@ -15,13 +15,7 @@ use Rattle.snoop_model.proofs.Lists.Writes.{sum_issued, sum_ordered, one, one_sm
 
 sum_asked : (act : CacheAction) (lines : List (List ℕ)) (core block : ℕ) → sum_by length (queues_after act lines core block) ≤ sum_by length lines + 1
 sum_asked (action.Issue request) lines core block = sum_issued lines core block
-sum_asked action.None lines core block = omega arith
-sum_asked action.Hit lines core block = omega arith
-sum_asked action.Stall lines core block = omega arith
-sum_asked action.Drop lines core block = omega arith
-sum_asked action.FillLoad lines core block = omega arith
-sum_asked action.FillStore lines core block = omega arith
-sum_asked (action.Send payload target) lines core block = omega arith
+sum_asked _ lines core block = omega arith
 
 abbrev owes : List (List ℕ) → List Picture → ℕ
 owes queues pictures = 2 * sum_by length queues + count_by has_transaction pictures

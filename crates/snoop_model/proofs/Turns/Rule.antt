@@ -15,7 +15,6 @@ use Rattle.snoop_rules.specs.Waits.{waiting_request}
 use Rattle.snoop_rules.specs.Takers.{asked}
 use Rattle.snoop_bus.specs.Traffic.{Open}
 use Rattle.snoop_bus.specs.Queues.{queue_of}
-use Rattle.snoop_model.specs.declared.access.Access.{Access}
 use Rattle.snoop_model.specs.declared.replies.Refused.{Refused}
 use Rattle.snoop_model.specs.declared.replies.Refused.TheVariants.{NoCore, NoBlock, Stalled, NothingWaiting, BusTaken, NoTransaction}
 use Rattle.snoop_model.specs.Pictures.Picture.{held_by, Picture, with_line}
@@ -42,7 +41,8 @@ under_way_step None (Some o) core block step h = inr (own (o.core == core) h, (o
     own true e = sym (same_Some _ _ e)
     own false e = cc
 
-none_left : (w : Option Request) (t : Option Open) (core block : ℕ) → step_under_way w t core block ≡ None → (w ≡ None) × ((o : Open) → t ≡ Some o → o.core ≡ core → ⊥)
+pub none_left : (w : Option Request) (t : Option Open) (core block : ℕ) → step_under_way w t core block ≡ None
+    → (w ≡ None) × ((o : Open) → t ≡ Some o → o.core ≡ core → ⊥)
 none_left (Some q) None core block h = cc
 none_left (Some q) (Some o) core block h = cc
 none_left None None core block h = (refl, λ o e own. cc)
@@ -101,13 +101,7 @@ module _ (s : Situation) (before after : ℕ → Option ℕ) (serving : IsServin
 
   asked_waits : (act : CacheAction) (core block : ℕ) → after core ≡ Some block → (k : ℕ) → All (λ b. after k ≡ Some b) (queue_of (queues_after act s.queues core block) k)
   asked_waits (action.Issue request) core block its k = all_issued (λ c b. after c ≡ Some b) s.queues core block still_waits its k
-  asked_waits action.None core block its k = still_waits k
-  asked_waits action.Hit core block its k = still_waits k
-  asked_waits action.Stall core block its k = still_waits k
-  asked_waits action.Drop core block its k = still_waits k
-  asked_waits action.FillLoad core block its k = still_waits k
-  asked_waits action.FillStore core block its k = still_waits k
-  asked_waits (action.Send payload target) core block its k = still_waits k
+  asked_waits _ core block its k = still_waits k
 
   -- an open transaction where one block's picture was written
   set_opened : (place : ℕ) (next : Picture) → ((o : Open) → next.transaction ≡ Some o → after o.core ≡ Some place)
@@ -177,17 +171,15 @@ ends s before after core block word asking serving kept works none others =
       ];
     }
 
-no_open : (t : Option Open) → ((o : Open) → t ≡ Some o → ⊥) → t ≡ None
-no_open None h = refl
-no_open (Some o) h = absurd (h o refl)
-
-no_operation : (t : Option Access) → ((o : Access) → t ≡ Some o → ⊥) → t ≡ None
-no_operation None h = refl
-no_operation (Some o) h = absurd (h o refl)
+none_there : {A : Type 0} (found : Option A) → ((a : A) → found ≡ Some a → ⊥) → found ≡ None
+none_there None h = refl
+none_there (Some a) h = absurd (h a refl)
 
 pub comes_to_rest : ComesToRest
 comes_to_rest s serving kept = record {
-  ordered = λ core block request waits. two_blocks block (All-contains (λ b. ◌≡◌ {A = Option ℕ} None (Some b)) (queue_of s.queues core) block (serving.waits core) (waits_queued s kept.queued core block request waits));
-  closed = λ block. no_open (picture_of s block).transaction (λ o is. two_blocks block (serving.opened block o is));
-  performed = λ core block. no_operation (held_by (picture_of s block) core).waiting (λ o is. two_blocks block (busy_under_way s (λ _. None) serving kept core block (missed_busy _ (kept.operations core block o is))));
+  ordered = λ core block request waits. two_blocks block (All-contains (λ b. ◌≡◌ {A = Option ℕ} None (Some b)) (queue_of s.queues core) block
+      (serving.waits core) (waits_queued s kept.queued core block request waits));
+  closed = λ block. none_there (picture_of s block).transaction (λ o is. two_blocks block (serving.opened block o is));
+  performed = λ core block. none_there (held_by (picture_of s block) core).waiting
+      (λ o is. two_blocks block (busy_under_way s (λ _. None) serving kept core block (missed_busy _ (kept.operations core block o is))));
 }

@@ -1,16 +1,14 @@
 -- A core that waits has its work under way.
-use Rattle.std.proofs.Common.{◌≡◌, ℕ, Bool, true, false, not, ◌||◌, Option, Some, refl, subst, inl, inr, ◌⊎◌}
+use Rattle.std.proofs.Common.{◌≡◌, ℕ, Bool, true, false, not, ◌||◌, Option, Some, None, refl, subst, inl, inr, ◌⊎◌}
 use Rattle.std.specs.Prelude.{is_some}
-use Rattle.std.proofs.lemmas.Bool.{false≢true}
 use Rattle.std.proofs.lemmas.List.Elements.{All-contains}
 use Rattle.snoop_trace.specs.declared.protocol.Protocol.{Protocol}
 use Rattle.snoop_rules.specs.declared.names.CacheState.{CacheState}
-use Rattle.snoop_rules.specs.declared.names.CacheState.TheVariants.{I, IsAd, IsD, ImAd, ImD, S, SmAd, SmD, E, M, EiA, MiA, IiA}
+use Rattle.snoop_rules.specs.declared.names.CacheState.TheVariants.{I}
 use Rattle.snoop_rules.specs.declared.names.CacheEvent.{CacheEvent}
 use Rattle.snoop_rules.specs.declared.names.CacheAction.{CacheAction}
 use Rattle.snoop_rules.specs.declared.names.CacheAction.TheVariants as action
 use Rattle.snoop_rules.specs.declared.names.Request.{Request}
-use Rattle.snoop_rules.specs.declared.names.Request.TheVariants.{GetS, GetM, PutM}
 use Rattle.snoop_rules.specs.Cell.{Cell}
 use Rattle.snoop_rules.specs.Waits.{waiting_request}
 use Rattle.snoop_rules.specs.declared.names.CacheCell.{CacheCell}
@@ -42,20 +40,14 @@ stall_test_holds = refl
 pub stall_busy : (p : Protocol) (s : CacheState) (e : CacheEvent) (n : CacheState) → Cell p s e action.Stall n → is_busy s ≡ true
 stall_busy p s e n h = each_row-at stall_test stall_test_holds p s e action.Stall n h
 
+-- one of two is there
+either_some : (a b : Option Request) → (is_some a || is_some b) ≡ true → ((request : Request) × (a ≡ Some request)) ⊎ ((request : Request) × (b ≡ Some request))
+either_some (Some request) b h = inl (request, refl)
+either_some None (Some request) h = inr (request, refl)
+either_some None None h = cc
+
 pub busy_cases : (s : CacheState) → is_busy s ≡ true → ((request : Request) × (waiting_request s ≡ Some request)) ⊎ ((request : Request) × (awaited_request s ≡ Some request))
-busy_cases I h = absurd (false≢true h)
-busy_cases IsAd h = inl (GetS, refl)
-busy_cases IsD h = inr (GetS, refl)
-busy_cases ImAd h = inl (GetM, refl)
-busy_cases ImD h = inr (GetM, refl)
-busy_cases S h = absurd (false≢true h)
-busy_cases SmAd h = inl (GetM, refl)
-busy_cases SmD h = inr (GetM, refl)
-busy_cases E h = absurd (false≢true h)
-busy_cases M h = absurd (false≢true h)
-busy_cases EiA h = inl (PutM, refl)
-busy_cases MiA h = inl (PutM, refl)
-busy_cases IiA h = inl (PutM, refl)
+busy_cases s busy = either_some (waiting_request s) (awaited_request s) busy
 
 pub busy_under_way : (s : Situation) (under_way : ℕ → Option ℕ) → IsServing under_way s → IsWellKept s → (core block : ℕ) → is_busy (state_of s core block) ≡ true → under_way core ≡ Some block
 busy_under_way s under_way serving kept core block busy = elim (busy_cases (state_of s core block) busy) [
@@ -68,16 +60,5 @@ busy_under_way s under_way serving kept core block busy = elim (busy_cases (stat
 
 -- a core that has missed waits
 pub missed_busy : (s : CacheState) → has_missed s ≡ true → is_busy s ≡ true
-missed_busy IsAd h = refl
-missed_busy IsD h = refl
-missed_busy ImAd h = refl
-missed_busy ImD h = refl
-missed_busy SmAd h = refl
-missed_busy SmD h = refl
-missed_busy I h = absurd (false≢true h)
-missed_busy S h = absurd (false≢true h)
-missed_busy E h = absurd (false≢true h)
-missed_busy M h = absurd (false≢true h)
-missed_busy EiA h = absurd (false≢true h)
-missed_busy MiA h = absurd (false≢true h)
-missed_busy IiA h = absurd (false≢true h)
+missed_busy I h = cc
+missed_busy _ h = cc
