@@ -1,5 +1,5 @@
 -- The parts of a machine fit together after an Order.
-use Rattle.std.proofs.Common.{◌≡◌, ℕ, zero, suc, ◌<◌, List, [], ◌∷◌, length, drop, filter, not, eqb, false, true, Option, Some, None, refl, sym, ◌∙◌, ap, subst, arith, inl, inr, get_or}
+use Rattle.std.proofs.Common.{◌≡◌, ℕ, zero, suc, ◌<◌, List, [], ◌∷◌, length, drop, filter, not, eqb, false, true, Option, Some, None, refl, sym, ◌∙◌, ap, arith, inl, inr, get_or}
 use Rattle.std.specs.Prelude.{slice_set, slice_get, Contains, ◌==◌}
 use Rattle.std.proofs.lemmas.Bool.{cases_eq, ne_eqb, eq-eqb, cases_lt}
 use Rattle.std.proofs.lemmas.Option.{same_Some}
@@ -78,19 +78,17 @@ module _ (shape : Extent) (caches after : List (List Line)) (bus : Traffic) (p :
   proper_block k = elim (cases_lt k (length (row_of caches block))) [
     | inl lt ↦
         let t = takes.rows k lt in
-        let P : Line → Type 0 = λ x. IsProper x in
-        subst P (sym t.2) (IsProper-order p (line_at caches k block) k core request t.0.action t.0.next (sound.proper k block) t.1)
+        rw (← t.2) at (IsProper-order p (line_at caches k block) k core request t.0.action t.0.next (sound.proper k block) t.1)
     | inr ge ↦
         let same = takes.same_length in
-        let P : Line → Type 0 = λ x. IsProper x in
         let e : line_at after k block ≡ line_at caches k block = get_or_past (row_of after block) k nothing_held (omega arith) ∙ sym (get_or_past (row_of caches block) k nothing_held ge) in
-        subst P (sym e) (sound.proper k block)
+        rw (← e) at (sound.proper k block)
   ]
 
   proper_after : (k b : ℕ) → IsProper (line_at after k b)
   proper_after k b = elim (cases_eq b block) [
     | inl e ↦ rw e (proper_block k)
-    | inr ne ↦ let P : Line → Type 0 = λ x. IsProper x in subst P (sym (same_elsewhere k b ne)) (sound.proper k b)
+    | inr ne ↦ rw (← (same_elsewhere k b ne)) at (sound.proper k b)
   ]
 
   row_after : (b : ℕ) → b < shape.blocks → length (row_of after b) ≡ shape.cores
@@ -146,7 +144,7 @@ module _ (shape : Extent) (caches after : List (List Line)) (bus : Traffic) (p :
           let at : transaction_on started block ≡ Some (record { core = core; request = request; block = block; payload = payload; value = value; from = from }) =
           get_or-set_same bus.transactions block (Some (record { core = core; request = request; block = block; payload = payload; value = value; from = from })) None (omega arith) in
           let same : record { core = core; request = request; block = block; payload = payload; value = value; from = from } ≡ t = same_Some _ _ (sym at ∙ rw e at h) in
-          (ap (λ (x : Open). x.block) (sym same) ∙ sym e, (let P : Open → Type 0 = λ x. x.core < shape.cores in subst P same in_cores))
+          (ap (λ (x : Open). x.block) (sym same) ∙ sym e, rw (← same) in_cores)
       | inr ne ↦ sound.opened b t (sym (get_or-set_other bus.transactions block b (Some (record { core = core; request = request; block = block; payload = payload; value = value; from = from })) None ne) ∙ h)
     ]
 
@@ -159,25 +157,15 @@ module _ (shape : Extent) (caches after : List (List Line)) (bus : Traffic) (p :
       proper = proper_after;
       opened = opened_after;
       queued = λ k b q h. elim (cases_eq k core) [
-        | inl e ↦
-            let P : ℕ → Type 0 = λ x. waiting_request (line_at after x b).state ≡ Some q in
-            let Q : List (Request × ℕ) → Type 0 = λ x. Contains x (q, b) in
-            subst P (sym e) (queued_own b q (subst Q (ap (λ x. (waiting_of started x).requests) e ∙ own_queue) h))
-        | inr ne ↦
-            let Q : List (Request × ℕ) → Type 0 = λ x. Contains x (q, b) in
-            waiting_kept k b ne ∙ sound.queued k b q (subst Q (other_queue k ne) h)
+        | inl e ↦ rw e (queued_own b q (rw (e, own_queue) at h))
+        | inr ne ↦ waiting_kept k b ne ∙ sound.queued k b q (rw (other_queue k ne) at h)
       ];
       waits = λ k b q h. elim (cases_eq k core) [
-        | inl e ↦
-            let P : ℕ → Type 0 = λ x. waiting_request (line_at after x b).state ≡ Some q in
-            let Q : List (Request × ℕ) → Type 0 = λ x. Contains x (q, b) in
-            subst Q (sym (ap (λ x. (waiting_of started x).requests) e ∙ own_queue)) (waits_rest b q (subst P e h))
-        | inr ne ↦
-            let Q : List (Request × ℕ) → Type 0 = λ x. Contains x (q, b) in
-            subst Q (sym (other_queue k ne)) (sound.waits k b q (sym (waiting_kept k b ne) ∙ h))
+        | inl e ↦ rw (e, own_queue) (waits_rest b q (rw e at h))
+        | inr ne ↦ rw (other_queue k ne) (sound.waits k b q (sym (waiting_kept k b ne) ∙ h))
       ];
       once = λ k. elim (cases_eq k core) [
-        | inl e ↦ let P : List (Request × ℕ) → Type 0 = λ x. IsEachOnce x in subst P (sym (ap (λ x. (waiting_of started x).requests) e ∙ own_queue)) (once_rest (waiting_of bus core).requests (sound.once core))
-        | inr ne ↦ let P : List (Request × ℕ) → Type 0 = λ x. IsEachOnce x in subst P (sym (other_queue k ne)) (sound.once k)
+        | inl e ↦ rw (e, own_queue) (once_rest (waiting_of bus core).requests (sound.once core))
+        | inr ne ↦ rw (other_queue k ne) (sound.once k)
       ];
     }

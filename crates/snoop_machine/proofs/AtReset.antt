@@ -1,5 +1,5 @@
 -- The parts of a machine fit together at reset.
-use Rattle.std.proofs.Common.{◌≡◌, ℕ, List, [], ◌∷◌, length, replicate, Option, Some, None, refl, sym, ◌∙◌, ap, subst, arith, inl, inr}
+use Rattle.std.proofs.Common.{◌≡◌, ℕ, List, [], ◌∷◌, length, replicate, Option, Some, None, refl, sym, ◌∙◌, ap, arith, inl, inr}
 use Rattle.std.specs.Prelude.{slice_index_or, All, Contains}
 use Rattle.std.proofs.lemmas.Bool.{cases_lt}
 use Rattle.std.proofs.lemmas.List.{length-replicate, get_or-replicate, get_or_past}
@@ -11,8 +11,7 @@ use Rattle.snoop_bus.specs.Traffic.{Open}
 use Rattle.snoop_bus.specs.Traffic.{Traffic, Waiting, no_queue, waiting_of, transaction_on}
 use Rattle.snoop_model.specs.Pictures.Lines.{Line}
 use Rattle.snoop_model.specs.Pictures.Picture.{held_at, nothing_held}
-use Rattle.snoop_model.specs.Pictures.Proper.{IsProper}
-use Rattle.snoop_machine.specs.PartsView.{queues_of, IsSound, IsEachOnce}
+use Rattle.snoop_machine.specs.PartsView.{queues_of, IsSound}
 use Rattle.snoop_machine.specs.Lines.{line_at}
 use Rattle.snoop_model.proofs.Lists.Facts.{replicated}
 
@@ -52,9 +51,9 @@ module _ (shape : Extent) (bus : Traffic) (long : length bus.queues ≡ shape.co
     row = λ b h. ap length (get_or-replicate shape.blocks b (replicate shape.cores nothing_held) [] h) ∙ length-replicate shape.cores nothing_held;
     queues = long;
     transactions = ap length closed ∙ length-replicate shape.blocks None;
-    proper = λ k b. (let P : Line → Type 0 = λ x. IsProper x in subst P (sym (line_is k b)) (record { kept = refl; waiting = refl }));
+    proper = λ k b. (rw (line_is k b) (record { kept = refl; waiting = refl }));
     opened = λ b t h. (let clash : ◌≡◌ {A = Option Open} None (Some t) = sym (transaction_is b) ∙ h in cc);
-    queued = λ k b q h. (let P : List (Request × ℕ) → Type 0 = λ x. Contains x (q, b) in absurd (empty (q, b) (subst P (queue_is k) h)));
+    queued = λ k b q h. (absurd (empty (q, b) (rw (queue_is k) at h)));
     waits = λ k b q h. (let clash : ◌≡◌ {A = Option Request} None (Some q) = sym (ap (λ (x : Line). waiting_request x.state) (line_is k b)) ∙ h in cc);
-    once = λ k. (let P : List (Request × ℕ) → Type 0 = λ x. IsEachOnce x in subst P (sym (queue_is k)) (λ i j d before within. absurd (omega arith)));
+    once = λ k. (rw (queue_is k) (λ i j d before within. absurd (omega arith)));
   }

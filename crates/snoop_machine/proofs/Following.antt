@@ -6,14 +6,14 @@ use Rattle.std.proofs.lemmas.List.{get_or-set_same, get_or-set_other}
 use Rattle.snoop_rules.specs.declared.names.CacheState.{CacheState}
 use Rattle.snoop_rules.specs.declared.names.CacheState.TheVariants.{I}
 use Rattle.snoop_model.specs.Pictures.Lines.{Line}
-use Rattle.snoop_model.specs.Pictures.Picture.{Picture, held_at, held_by}
+use Rattle.snoop_model.specs.Pictures.Picture.{Picture, held_by}
 use Rattle.snoop_model.specs.Pictures.Situation.{state_of, nothing_there}
 use Rattle.snoop_machine.specs.Standing.{Standing, line_count}
 use Rattle.snoop_machine.specs.PartsView.{Fields, standing, IsWhole}
 use Rattle.snoop_machine.specs.Lines.{Held, LinesGo, gone, is_invalid, row_of, line_at}
 use Rattle.snoop_machine.specs.Following.{LosesLines}
 use Rattle.snoop_machine.proofs.PlacedLines.{placed}
-use Rattle.snoop_machine.proofs.PictureViews.{seen, core_in, block_in, has_picture}
+use Rattle.snoop_machine.proofs.PictureViews.{state_seen, core_in, block_in, has_picture}
 use Rattle.snoop_machine.proofs.LineMaps.{gone-none, gone-one, is_I}
 use Rattle.snoop_machine.proofs.LinesGoing.{LinesGo-none, LinesGo-set, row_after}
 
@@ -54,19 +54,14 @@ module _ (old new : Standing) (block : ℕ) (next : Picture) (within : block < l
         ];
       }
 
-module _ {count : ℕ} (m : Fields) (whole : IsWhole count m) (old : Standing) (view : standing m ≡ old) (new : Standing) (block : ℕ) (next : Picture) (held : Held)
+module _ {count : ℕ} {m : Fields} (whole : IsWhole count m) {old : Standing} (view : standing m ≡ old) (new : Standing) (block : ℕ) (next : Picture)
+    (held : Held)
     (within : block < old.situation.shape.blocks) (wrote : new.situation.pictures ≡ slice_set (standing m).situation.pictures block next) (lines : new.lines ≡ held.lines) where
   -- the lines of one block have moved
   pub follows-rows : next.caches ≡ row_of held.rows block → LinesGo block m.lines held → (k : ℕ) → LosesLines old new k
   follows-rows row go k =
-      let P : Standing → Type 0 = λ s. LosesLines s new k in
-      subst P view (follows (standing m) new block next (has_picture m whole old view block within) wrote
-      (λ j.
-      let Q : List (List ℕ) → Type 0 = λ l. length (slice_index_or l j []) + gone (state_of (standing m).situation j block) (held_by next j).state ≡ length (slice_index_or m.lines.lines j []) in
-      let R : Picture → Type 0 = λ x. length (slice_index_or held.lines j []) + gone (held_by x j).state (held_by next j).state ≡ length (slice_index_or m.lines.lines j []) in
-      let S : List Line → Type 0 = λ l. length (slice_index_or held.lines j []) + gone (line_at m.lines.rows j block).state (held_at l j).state ≡ length (slice_index_or m.lines.lines j []) in
-      subst Q (sym lines) (subst R (sym (seen m whole (standing m) refl block)) (subst S (sym row) (go j))))
-      k)
+      rw (← view) (follows (standing m) new block next (has_picture whole view block within) wrote
+      (λ j. rw (lines, state_seen whole refl j block, row) (go j)) k)
 
   -- one line has moved
   pub follows-set : (core : ℕ) (line : Line) → core < old.situation.shape.cores → next.caches ≡ slice_set (row_of m.lines.rows block) core line
@@ -75,9 +70,8 @@ module _ {count : ℕ} (m : Fields) (whole : IsWhole count m) (old : Standing) (
       → ((k : ℕ) → k ≢ core → slice_index_or held.lines k [] ≡ slice_index_or m.lines.lines k [])
       → (k : ℕ) → LosesLines old new k
   follows-set core line in_cores row written fewer others =
-      let core_inside = core_in m whole old view core in_cores in
-      let in_blocks = block_in m whole old view block within in
+      let in_blocks = block_in whole view block within in
       let rows_in : block < length m.lines.rows = rw whole.sound.rows in_blocks in
-      let row_in : core < length (row_of m.lines.rows block) = rw (whole.sound.row block in_blocks) core_inside in
+      let row_in : core < length (row_of m.lines.rows block) = rw (whole.sound.row block in_blocks) (core_in whole view core in_cores) in
       let after = row_after block m.lines m.lines held core line rows_in row_in written in
       follows-rows (row ∙ sym after) (LinesGo-set block m.lines m.lines held core line rows_in row_in written (LinesGo-none block m.lines) refl fewer others)

@@ -1,5 +1,5 @@
 -- How many lines each core's map has after a step, or after the room for it was made.
-use Rattle.std.proofs.Common.{◌≡◌, ◌≢◌, ℕ, ◌+◌, ◌<◌, length, sym, ◌∙◌, ap, subst, arith, inl, inr, ◌⊎◌, refl, Option}
+use Rattle.std.proofs.Common.{◌≡◌, ◌≢◌, ℕ, ◌+◌, ◌<◌, length, sym, ◌∙◌, ap, subst, arith, inl, inr, ◌⊎◌, Option}
 use Rattle.std.proofs.lemmas.Bool.{cases_eq}
 use Rattle.std.proofs.lemmas.List.{get_or-set_other}
 use Rattle.std.specs.Prelude.{slice_index}
@@ -16,7 +16,7 @@ use Rattle.snoop_model.specs.Moves.Move.{FirstMove}
 use Rattle.snoop_machine.specs.Standing.{Standing, KeepsRoom, line_count}
 use Rattle.snoop_machine.specs.Holding.{NeedsLine, MovesToI, HoldsOn}
 use Rattle.snoop_model.proofs.Tables.EvictInI.{no_row}
-use Rattle.snoop_machine.specs.declared.ask.Asked.TheVariants.{Absent, Hit, Issue, Drop}
+use Rattle.snoop_machine.specs.declared.ask.Asked.TheVariants.{Issue}
 use Rattle.snoop_machine.specs.declared.plan.Plan.{Plan}
 use Rattle.snoop_machine.specs.declared.plan.Plan.TheVariants as plan
 use Rattle.snoop_machine.specs.Plan.{IsPlan, IsPlanFor, step_of}
@@ -37,8 +37,7 @@ stays_out before new (step.Ask asker block word asking) core answer entry m leav
         moved.1.0 (ap (λ (x : Picture). (held_by x core).state) (sym other) ∙ moved.1.1)
   ]
 ]
-stays_out before new (step.Order orderer) core answer entry m leaves moved = leaves
-stays_out before new (step.Respond block) core answer entry m leaves moved = leaves
+stays_out before new _ core answer entry m leaves moved = leaves
 
 -- the room for a step adds a line where the step needs one
 adds_plan : (old new : Standing) (x : Plan) (core : ℕ) → IsPlan old.situation x → AddsLines x old new core → (line_count new core ≡ line_count old core) ⊎ (NeedsLine old (step_of x) core × (line_count new core ≡ line_count old core + 1))
@@ -46,17 +45,12 @@ adds_plan old new (plan.Ask asker block word asking (Issue request next)) core h
 adds_plan old new (plan.Ask asker block word asking (Issue request next)) core h (inr more) =
     let s = old.situation in
     inr ((more.0, h.0, (λ e. no_row s.protocol (state_of s asker block) asking (action.Issue request) next e more.1 h.1), more.1, more.2, h.3), more.3)
-adds_plan old new (plan.Ask asker block word asking Absent) core h same = inl same
-adds_plan old new (plan.Ask asker block word asking (Hit next value)) core h same = inl same
-adds_plan old new (plan.Ask asker block word asking (Drop next)) core h same = inl same
-adds_plan old new (plan.Order orderer request block from payload memory) core h same = inl same
-adds_plan old new (plan.Writeback came memory) core h same = inl same
-adds_plan old new (plan.Fill came memory filled) core h same = inl same
+adds_plan old new (plan.Ask asker block word asking _) core h same = inl same
+adds_plan old new _ core h same = inl same
 
 adds_step : (old new : Standing) (taking : Step) (x : Plan) (core : ℕ) → IsPlanFor old.situation taking x → AddsLines x old new core → (line_count new core ≡ line_count old core) ⊎ (NeedsLine old taking core × (line_count new core ≡ line_count old core + 1))
 adds_step old new taking x core h adds =
-    let P : Step → Type 0 = λ t. (line_count new core ≡ line_count old core) ⊎ (NeedsLine old t core × (line_count new core ≡ line_count old core + 1)) in
-    subst P h.0 (adds_plan old new x core h.1 adds)
+    rw h.0 at (adds_plan old new x core h.1 adds)
 
 -- the room for the step was made, and nothing else
 pub HoldsOn-room : (old new : Standing) (taking : Step) (x : Plan) (core : ℕ) → IsPlanFor old.situation taking x → new.situation ≡ old.situation → AddsLines x old new core → HoldsOn old new taking core
@@ -67,16 +61,6 @@ HoldsOn-room old new taking x core h unchanged adds =
       lowered = λ moved. absurd (moved.1.0 (subst (λ (s : Situation). state_of s core moved.0 ≡ I) unchanged moved.1.1));
       same = λ stays still. elim all [ inl same ↦ same | inr more ↦ absurd (stays more.0) ];
     }
-
--- nothing has changed
-pub HoldsOn-refused : (old new : Standing) (taking : Step) (core : ℕ) → new ≡ old → HoldsOn old new taking core
-HoldsOn-refused old new taking core same =
-    let P : Standing → Type 0 = λ s. HoldsOn old s taking core in
-    subst P (sym same) (record {
-      raised = λ leaves. (omega arith, omega arith);
-      lowered = λ moved. absurd (moved.1.0 moved.1.1);
-      same = λ stays still. refl;
-    })
 
 -- the room was made, and the step was taken
 pub HoldsOn-taken : (old middle new : Standing) (taking : Step) (x : Plan) (core : ℕ) (answer : Reply) (entry : Option Item) → IsPlanFor old.situation taking x → middle.situation ≡ old.situation → AddsLines x old middle core

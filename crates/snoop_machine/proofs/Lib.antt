@@ -6,6 +6,7 @@ pub mod QueueViews
 pub mod AfterOrders
 pub mod QueueHeads
 pub mod Responses
+pub mod Closing
 pub mod AtReset
 pub mod ConcernedCores
 pub mod Plans

@@ -1,33 +1,35 @@
 -- The lines that callers see, in the maps.
-use Rattle.std.proofs.Common.{◌≡◌, ◌≢◌, ℕ, ◌<◌, Bool, true, false, List, [], length, is_some, refl, sym, ◌∙◌, ap, subst, inl, inr, ◌⊎◌, arith}
+use Rattle.std.proofs.Common.{◌≡◌, ◌≢◌, ℕ, ◌<◌, Bool, true, false, List, [], length, is_some, refl, sym, ◌∙◌, ap, inl, inr, ◌⊎◌, arith, get_or}
 use Rattle.std.specs.Prelude.{slice_index_or, map, nat_eq, if◌then◌else◌}
 use Rattle.std.specs.Map.{lookup}
-use Rattle.std.proofs.lemmas.List.{length-map}
+use Rattle.std.proofs.lemmas.List.{length-map, get_or_read}
 use Rattle.snoop_rules.specs.declared.names.CacheState.{CacheState}
-use Rattle.snoop_rules.specs.declared.names.CacheState.TheVariants.{I, IsAd, IsD, ImAd, ImD, S, SmAd, SmD, E, M, EiA, MiA, IiA}
+use Rattle.snoop_rules.specs.declared.names.CacheState.TheVariants.{I}
 use Rattle.snoop_model.specs.Pictures.Lines.{Line}
 use Rattle.snoop_machine.specs.declared.holders.Holders.{Holders}
 use Rattle.snoop_machine.specs.Cache.{Contents, no_cache, line_in, blocks_of, row_in}
-use Rattle.snoop_machine.specs.Lines.{Held, held, MayMoveTo, is_among, is_invalid, gone, row_of, line_at}
+use Rattle.snoop_machine.specs.Lines.{Held, AreLines, held, MayMoveTo, is_among, is_invalid, gone, row_of, line_at}
 use Rattle.snoop_machine.proofs.MapRows.{within-rows, line-rows, line-none, row-rows, blocks-at, spare-at, among-lookup, found-lookup}
 
-module _ (caches : List Contents) (holders : List Holders) (now : Held) (view : held caches holders ≡ now) where
-  -- a core with a map
-  pub in_maps : (core : ℕ) → core < length now.lines → core < length caches
-  in_maps core within =
-      let long : length now.lines ≡ length (map blocks_of caches) = sym (ap (λ (h : Held). length h.lines) view) in
-      let maps : length (map blocks_of caches) ≡ length caches = length-map caches blocks_of in
-      omega arith
+-- a core's map and its line of a block, where callers see both
+pub record IsMap (caches : List Contents) (holders : List Holders) (now : Held) (core block : ℕ) (map : Contents) : Type 0 where
+  pub in_blocks : block < length holders
+  pub in_cores : core < length caches
+  pub read : map ≡ slice_index_or caches core no_cache
+  pub was : line_in map block ≡ line_at now.rows core block
 
+-- what holds of the lines, of which callers see this
+module _ {caches : List Contents} {holders : List Holders} (lines : AreLines caches holders) {now : Held} (view : held caches holders ≡ now) where
   pub maps-long : length now.lines ≡ length caches
   maps-long = sym (ap (λ (h : Held). length h.lines) view) ∙ length-map caches blocks_of
 
+  -- a core with a map
+  pub in_maps : (core : ℕ) → core < length now.lines → core < length caches
+  in_maps core within = rw maps-long at within
+
   -- a block and a core with a place in the rows
   pub in_rows : (core block : ℕ) → block < length now.rows → core < length (row_of now.rows block) → (block < length holders) × (core < length caches)
-  in_rows core block in_blocks in_cores =
-      let P : Held → Type 0 = λ h. block < length h.rows in
-      let Q : Held → Type 0 = λ h. core < length (row_of h.rows block) in
-      within-rows (length holders) caches core block (subst P (sym view) in_blocks) (subst Q (sym view) in_cores)
+  in_rows core block in_blocks in_cores = within-rows (length holders) caches core block (rw (← view) at in_blocks) (rw (← view) at in_cores)
 
   pub row_seen : (block : ℕ) → block < length holders → row_in caches block ≡ row_of now.rows block
   row_seen block within = sym (row-rows (length holders) caches block within) ∙ ap (λ (h : Held). row_of h.rows block) view
@@ -43,6 +45,22 @@ module _ (caches : List Contents) (holders : List Holders) (now : Held) (view : 
 
   pub among_seen : (core block : ℕ) → is_some (lookup (nat_eq block) (slice_index_or caches core no_cache).entries) ≡ is_among (slice_index_or now.lines core []) block
   among_seen core block = sym (among-lookup (slice_index_or caches core no_cache).entries block) ∙ ap (λ (blocks : List ℕ). is_among blocks block) (blocks_seen core)
+
+  pub is_map : (core block : ℕ) → block < length now.rows → core < length (row_of now.rows block) → (map : Contents) → map ≡ get_or caches core map
+      → IsMap caches holders now core block map
+  is_map core block in_blocks in_cores map found =
+      let within = in_rows core block in_blocks in_cores in
+      let read = get_or_read caches core map within.1 found no_cache in
+      record {
+        in_blocks = within.0;
+        in_cores = within.1;
+        read = read;
+        was = ap (λ (cache : Contents). line_in cache block) read ∙ line_seen core block within.0;
+      }
+
+  -- there are few cores
+  pub core_few : {core block : ℕ} {map : Contents} → IsMap caches holders now core block map → core < 256
+  core_few its = let few = lines.few in let within = its.in_cores in omega arith
 
   -- where the map has no line the core is in I
   pub none_held : (core block : ℕ) → is_some (lookup (nat_eq block) (slice_index_or caches core no_cache).entries) ≡ false → (line_at now.rows core block).state ≡ I
@@ -66,18 +84,7 @@ module _ (caches : List Contents) (holders : List Holders) (now : Held) (view : 
 -- how many lines go
 pub is_invalid-I : (s : CacheState) → s ≢ I → is_invalid s ≡ false
 is_invalid-I I ne = absurd (ne refl)
-is_invalid-I IsAd ne = refl
-is_invalid-I IsD ne = refl
-is_invalid-I ImAd ne = refl
-is_invalid-I ImD ne = refl
-is_invalid-I S ne = refl
-is_invalid-I SmAd ne = refl
-is_invalid-I SmD ne = refl
-is_invalid-I E ne = refl
-is_invalid-I M ne = refl
-is_invalid-I EiA ne = refl
-is_invalid-I MiA ne = refl
-is_invalid-I IiA ne = refl
+is_invalid-I _ ne = refl
 
 -- none, to a state that is not I
 pub gone-none : (old new : CacheState) → new ≢ I → gone old new ≡ 0
@@ -97,15 +104,4 @@ gone-same s = go (is_invalid s)
 
 pub is_I : (s : CacheState) → (s ≡ I) ⊎ (s ≢ I)
 is_I I = inl refl
-is_I IsAd = inr (λ e. cc)
-is_I IsD = inr (λ e. cc)
-is_I ImAd = inr (λ e. cc)
-is_I ImD = inr (λ e. cc)
-is_I S = inr (λ e. cc)
-is_I SmAd = inr (λ e. cc)
-is_I SmD = inr (λ e. cc)
-is_I E = inr (λ e. cc)
-is_I M = inr (λ e. cc)
-is_I EiA = inr (λ e. cc)
-is_I MiA = inr (λ e. cc)
-is_I IiA = inr (λ e. cc)
+is_I _ = inr (λ e. cc)

@@ -1,5 +1,5 @@
 -- What holds between the maps and the holders, after one map has changed.
-use Rattle.std.proofs.Common.{◌≡◌, ℕ, ◌<◌, false, List, length, refl, sym, ◌∙◌, ap, subst, inl, inr}
+use Rattle.std.proofs.Common.{◌≡◌, ℕ, ◌<◌, false, List, length, refl, sym, ◌∙◌, ap, inl, inr}
 use Rattle.std.specs.Prelude.{slice_index_or, slice_set, nat_eq}
 use Rattle.std.proofs.lemmas.Bool.{cases_eq, ne_eqb}
 use Rattle.std.proofs.lemmas.List.{length-set, set-get_or, get_or-set_same, get_or-set_other}
@@ -9,23 +9,21 @@ use Rattle.snoop_model.specs.Pictures.Picture.{held_at}
 use Rattle.snoop_model.specs.Pictures.Proper.{IsProper, keeps}
 use Rattle.snoop_model.specs.Invariant.Fits.{is_owner}
 use Rattle.snoop_machine.specs.declared.holders.Holders.{Holders}
-use Rattle.snoop_machine.specs.Holders.{AreHolders, HaveMoved, HaveFollowed, StandsAs, no_holders}
+use Rattle.snoop_machine.specs.Holders.{HaveMoved, HaveFollowed, StandsAs, no_holders}
 use Rattle.snoop_machine.specs.Cache.{Contents, no_cache, line_in, row_in}
-use Rattle.snoop_machine.specs.Lines.{AreLines}
+use Rattle.snoop_machine.specs.Lines.{Held, AreLines}
+use Rattle.snoop_machine.proofs.LineMaps.{IsMap}
 use Rattle.snoop_machine.proofs.MapRows.{line-row, row-same, row-set, length-row, AreHolders-moved}
 
-module _ (caches : List Contents) (holders : List Holders) (lines : AreLines caches holders) (core : ℕ) (new : Contents) (within : core < length caches) where
+module _ {caches : List Contents} {holders : List Holders} (lines : AreLines caches holders) (core : ℕ) (new : Contents) (within : core < length caches) where
   few_after : length (slice_set caches core new) < 257
   few_after = let few = lines.few in rw (length-set caches core new) few
-
-  here : slice_index_or (slice_set caches core new) core no_cache ≡ new
-  here = get_or-set_same caches core new no_cache within
 
   -- each line is proper, if those of the new map are
   proper_after : ((b : ℕ) → IsProper (line_in new b)) → (k b : ℕ) → IsProper (line_in (slice_index_or (slice_set caches core new) k no_cache) b)
   proper_after proper k b = elim (cases_eq k core) [
-    | inl e ↦ subst (λ (j : ℕ). IsProper (line_in (slice_index_or (slice_set caches core new) j no_cache) b)) (sym e) (subst (λ (cache : Contents). IsProper (line_in cache b)) (sym here) (proper b))
-    | inr ne ↦ subst (λ (cache : Contents). IsProper (line_in cache b)) (sym (get_or-set_other caches core k new no_cache ne)) (lines.proper k b)
+    | inl e ↦ rw (e, get_or-set_same caches core new no_cache within) (proper b)
+    | inr ne ↦ rw (get_or-set_other caches core k new no_cache ne) (lines.proper k b)
   ]
 
   -- the new map has the lines that the old one had
@@ -33,8 +31,8 @@ module _ (caches : List Contents) (holders : List Holders) (lines : AreLines cac
   AreLines-alike same =
       record {
         few = few_after;
-        proper = proper_after (λ b. subst (λ (line : Line). IsProper line) (sym (same b)) (lines.proper core b));
-        indexed = λ b lt. subst (λ (row : List Line). AreHolders (slice_index_or holders b no_holders) row) (sym (row-same caches core b new (same b))) (lines.indexed b lt);
+        proper = proper_after (λ b. rw (same b) (lines.proper core b));
+        indexed = λ b lt. rw (row-same caches core b new (same b)) (lines.indexed b lt);
       }
 
   -- the new map has another line of one block, and the core has moved to its state
@@ -47,20 +45,15 @@ module _ (caches : List Contents) (holders : List Holders) (lines : AreLines cac
       record {
         few = few_after;
         proper = proper_after (λ b. elim (cases_eq b block) [
-          | inl e ↦ subst (λ (line : Line). IsProper line) (sym (ap (λ (j : ℕ). line_in new j) e ∙ wrote)) proper
-          | inr ne ↦ subst (λ (line : Line). IsProper line) (sym (elsewhere b ne)) (lines.proper core b)
+          | inl e ↦ rw (e, wrote) proper
+          | inr ne ↦ rw (elsewhere b ne) (lines.proper core b)
         ]);
         indexed = λ b lt. elim (cases_eq b block) [
-          | inl e ↦
-              let at_block : AreHolders (slice_index_or (slice_set holders block moved) block no_holders) (row_in (slice_set caches core new) block) =
-              subst (λ (h : Holders). AreHolders h (row_in (slice_set caches core new) block)) (sym (get_or-set_same holders block moved no_holders in_blocks))
-              (subst (λ (row : List Line). AreHolders moved row) (sym (row-set caches core block new line wrote))
-              (AreHolders-moved (row_in caches block) core line (slice_index_or holders block no_holders) moved (subst (λ (n : ℕ). core < n) (sym (length-row caches block)) within) (lines.indexed block in_blocks) moves)) in
-              subst (λ (j : ℕ). AreHolders (slice_index_or (slice_set holders block moved) j no_holders) (row_in (slice_set caches core new) j)) (sym e) at_block
-          | inr ne ↦
-              let in_holders : b < length holders = subst (λ (n : ℕ). b < n) (length-set holders block moved) lt in
-              subst (λ (h : Holders). AreHolders h (row_in (slice_set caches core new) b)) (sym (get_or-set_other holders block b moved no_holders ne))
-              (subst (λ (row : List Line). AreHolders (slice_index_or holders b no_holders) row) (sym (row-same caches core b new (elsewhere b ne))) (lines.indexed b in_holders))
+          | inl e ↦ rw (e, get_or-set_same holders block moved no_holders in_blocks, row-set caches core block new line wrote)
+              (AreHolders-moved (row_in caches block) core line (slice_index_or holders block no_holders) moved (rw (length-row caches block) within)
+              (lines.indexed block in_blocks) moves)
+          | inr ne ↦ rw (get_or-set_other holders block b moved no_holders ne, row-same caches core b new (elsewhere b ne))
+              (lines.indexed b (rw (length-set holders block moved) at lt))
         ];
       }
 
@@ -70,14 +63,16 @@ module _ (caches : List Contents) (holders : List Holders) (lines : AreLines cac
       → HaveFollowed core block line.state holders after
       → AreLines (slice_set caches core new) after
   AreLines-followed block line after in_blocks proper wrote others followed =
-      subst (λ (l : List Holders). AreLines (slice_set caches core new) l) (sym followed.set) (AreLines-set block line followed.moved in_blocks proper wrote others followed.follows)
+      rw followed.set (AreLines-set block line followed.moved in_blocks proper wrote others followed.follows)
 
 -- the holders of a block have each core as its line says
-pub stands : (caches : List Contents) (holders : List Holders) → AreLines caches holders → (core block : ℕ) → block < length holders → (old : Contents) → old ≡ slice_index_or caches core no_cache
+pub stands : {caches : List Contents} {holders : List Holders} (lines : AreLines caches holders) {now : Held} {core block : ℕ} {old : Contents}
+    → IsMap caches holders now core block old
     → (before : CacheState) → before ≡ (line_in old block).state → StandsAs core before (slice_index_or holders block no_holders)
-stands caches holders lines core block in_blocks old read before was =
-    let sets = lines.indexed block in_blocks in
-    let stood : (held_at (row_in caches block) core).state ≡ before = ap (λ (x : Line). x.state) (line-row caches core block) ∙ sym (was ∙ ap (λ (cache : Contents). (line_in cache block).state) read) in
+stands {caches} lines {core} {block} its before was =
+    let sets = lines.indexed block its.in_blocks in
+    let stood : (held_at (row_in caches block) core).state ≡ before = ap (λ (x : Line). x.state) (line-row caches core block)
+    ∙ sym (was ∙ ap (λ (cache : Contents). (line_in cache block).state) its.read) in
     (sets.owners core ∙ ap is_owner stood, sets.readers core ∙ ap keeps stood)
 
 -- the holders follow a core that stays

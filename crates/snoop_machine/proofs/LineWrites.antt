@@ -35,8 +35,8 @@ module _ (shape : Extent) (caches : List (List Line)) (bus : Traffic) (sound : I
 
   proper_after : (k b : ℕ) → IsProper (line_at (placed caches core block line) k b)
   proper_after k b = elim (place k b) [
-    | inl e ↦ let P : Line → Type 0 = λ x. IsProper x in rw (e.0, e.1) (subst P (sym here) proper)
-    | inr e ↦ let P : Line → Type 0 = λ x. IsProper x in subst P (sym e) (sound.proper k b)
+    | inl e ↦ rw (e.0, e.1) (rw (← here) at proper)
+    | inr e ↦ rw (← e) at (sound.proper k b)
   ]
 
   rows_after : length (placed caches core block line) ≡ shape.blocks
@@ -89,7 +89,7 @@ module _ (shape : Extent) (caches : List (List Line)) (bus : Traffic) (sound : I
     queued_own : (b : ℕ) (q : Request) → Contains ((waiting_of bus core).requests ++ (request, block) ∷ []) (q, b) → waiting_request (line_at (placed caches core block line) core b).state ≡ Some q
     queued_own b q h = elim (Contains-push_cases (waiting_of bus core).requests (request, block) (q, b) h) [
       | inl old ↦ elim (cases_eq b block) [
-        | inl e ↦ let P : ℕ → Type 0 = λ x. Contains (waiting_of bus core).requests (q, x) in absurd (not_queued q (subst P e old))
+        | inl e ↦ absurd (not_queued q (rw e at old))
         | inr ne ↦ ap (λ x. waiting_request x.state) (line_at-placed_block caches core block line in_caches in_row core b ne) ∙ sound.queued core b q old
       ]
       | inr new ↦
@@ -117,8 +117,8 @@ module _ (shape : Extent) (caches : List (List Line)) (bus : Traffic) (sound : I
               let at_k : get_or ((waiting_of bus core).requests ++ (request, block) ∷ []) k d ≡ (request, block) = get_or_push (waiting_of bus core).requests (request, block) d k (sym e) in
               let its : (get_or (waiting_of bus core).requests j d).1 ≡ block = ap (λ (r : Request × ℕ). r.1) (sym at_j) ∙ (same ∙ ap (λ (r : Request × ℕ). r.1) at_k) in
               let there : Contains (waiting_of bus core).requests (get_or (waiting_of bus core).requests j d) = Contains-get_or (waiting_of bus core).requests j d (omega arith) in
-              let P : ℕ → Type 0 = λ x. Contains (waiting_of bus core).requests ((get_or (waiting_of bus core).requests j d).0, x) in
-              not_queued (get_or (waiting_of bus core).requests j d).0 (subst P its there)
+              not_queued (get_or (waiting_of bus core).requests j d).0
+              (subst (λ (b : ℕ). Contains (waiting_of bus core).requests ((get_or (waiting_of bus core).requests j d).0, b)) its there)
           | inr ne ↦
               let at_k : get_or ((waiting_of bus core).requests ++ (request, block) ∷ []) k d ≡ get_or (waiting_of bus core).requests k d = get_or_append_left (waiting_of bus core).requests ((request, block) ∷ []) d k (omega arith) in
               sound.once core j k d before (omega arith) (ap (λ (r : Request × ℕ). r.1) (sym at_j) ∙ (same ∙ ap (λ (r : Request × ℕ). r.1) at_k))
@@ -133,25 +133,17 @@ module _ (shape : Extent) (caches : List (List Line)) (bus : Traffic) (sound : I
       proper = proper_after;
       opened = sound.opened;
       queued = λ k b q h. elim (cases_eq k core) [
-        | inl e ↦
-            let P : ℕ → Type 0 = λ x. waiting_request (line_at (placed caches core block line) x b).state ≡ Some q in
-            let Q : List (Request × ℕ) → Type 0 = λ x. Contains x (q, b) in
-            subst P (sym e) (queued_own b q (subst Q (ap (λ x. (waiting_of issued x).requests) e ∙ own_queue) h))
-        | inr ne ↦
-            let Q : List (Request × ℕ) → Type 0 = λ x. Contains x (q, b) in
-            ap (λ x. waiting_request x.state) (line_at-placed_core caches core block line in_caches in_row k b ne) ∙ sound.queued k b q (subst Q (other_queue k ne) h)
+        | inl e ↦ rw e (queued_own b q (rw (e, own_queue) at h))
+        | inr ne ↦ ap (λ x. waiting_request x.state) (line_at-placed_core caches core block line in_caches in_row k b ne)
+            ∙ sound.queued k b q (rw (other_queue k ne) at h)
       ];
       waits = λ k b q h. elim (cases_eq k core) [
-        | inl e ↦
-            let P : ℕ → Type 0 = λ x. waiting_request (line_at (placed caches core block line) x b).state ≡ Some q in
-            let Q : List (Request × ℕ) → Type 0 = λ x. Contains x (q, b) in
-            subst Q (sym (ap (λ x. (waiting_of issued x).requests) e ∙ own_queue)) (waits_own b q (subst P e h))
-        | inr ne ↦
-            let Q : List (Request × ℕ) → Type 0 = λ x. Contains x (q, b) in
-            subst Q (sym (other_queue k ne)) (sound.waits k b q (sym (ap (λ x. waiting_request x.state) (line_at-placed_core caches core block line in_caches in_row k b ne)) ∙ h))
+        | inl e ↦ rw (e, own_queue) (waits_own b q (rw e at h))
+        | inr ne ↦ rw (other_queue k ne)
+            (sound.waits k b q (sym (ap (λ x. waiting_request x.state) (line_at-placed_core caches core block line in_caches in_row k b ne)) ∙ h))
       ];
       once = λ k. elim (cases_eq k core) [
-        | inl e ↦ let P : List (Request × ℕ) → Type 0 = λ x. IsEachOnce x in subst P (sym (ap (λ x. (waiting_of issued x).requests) e ∙ own_queue)) once_own
-        | inr ne ↦ let P : List (Request × ℕ) → Type 0 = λ x. IsEachOnce x in subst P (sym (other_queue k ne)) (sound.once k)
+        | inl e ↦ rw (e, own_queue) once_own
+        | inr ne ↦ rw (other_queue k ne) (sound.once k)
       ];
     }

@@ -39,13 +39,12 @@ module _ (block : ℕ) (first old new : Held) (core : ℕ) (line : Line) (in_blo
   LinesGo-set so_far unmoved lines others k = elim (cases_eq k core) [
     | inl e ↦
         let here : line_at new.rows core block ≡ line = ap (λ (row : List Line). held_at row core) row_after ∙ get_or-set_same (row_of old.rows block) core line nothing_held in_row in
-        let P : ℕ → Type 0 = λ j. length (slice_index_or new.lines j []) + gone (line_at first.rows j block).state (line_at new.rows j block).state ≡ length (slice_index_or first.lines j []) in
         let before : length (slice_index_or old.lines core []) + gone (line_at first.rows core block).state (line_at old.rows core block).state ≡ length (slice_index_or first.lines core []) = so_far core in
         let none : gone (line_at first.rows core block).state (line_at old.rows core block).state ≡ 0 =
         ap (λ (l : Line). gone (line_at first.rows core block).state l.state) unmoved ∙ gone-same (line_at first.rows core block).state in
         let went : gone (line_at first.rows core block).state (line_at new.rows core block).state ≡ gone (line_at old.rows core block).state line.state =
         ap (λ (l : Line). gone l.state (line_at new.rows core block).state) (sym unmoved) ∙ ap (λ (l : Line). gone (line_at old.rows core block).state l.state) here in
-        subst P (sym e) (omega arith)
+        rw e (omega arith)
     | inr ne ↦
         let there : line_at new.rows k block ≡ line_at old.rows k block = ap (λ (row : List Line). held_at row k) row_after ∙ get_or-set_other (row_of old.rows block) core k line nothing_held ne in
         let same = ap (λ (blocks : List ℕ). length blocks) (others k ne) in

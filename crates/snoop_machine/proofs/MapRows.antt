@@ -1,16 +1,14 @@
 -- The lines of maps as rows, and what one write does to them.
-use Rattle.std.proofs.Common.{◌≡◌, ◌≢◌, ℕ, zero, suc, ◌<◌, Bool, true, false, ◌||◌, cond, List, [], ◌∷◌, ◌++◌, length, replicate, Option, None, Some, is_some, refl, sym, ◌∙◌, ap, subst, inl, inr, arith}
+use Rattle.std.proofs.Common.{◌≡◌, ℕ, zero, suc, ◌<◌, Bool, true, false, ◌||◌, cond, List, [], ◌∷◌, ◌++◌, length, replicate, Option, None, Some, is_some, refl, sym, ◌∙◌, ap, inl, inr, arith}
 use Rattle.std.specs.Prelude.{slice_index_or, slice_set, map, nat_eq, unwrap_or}
 use Rattle.std.specs.Map.{lookup, keys_of}
+use Rattle.std.specs.List.{range_with_len}
 use Rattle.std.proofs.lemmas.Bool.{cases_eq, cases_lt, ne_eqb}
-use Rattle.std.proofs.lemmas.List.{ext_get_or, get_or-map, map-set, length-map, length-set, set-get_or, get_or_past, get_or-replicate, length-replicate, get_or-set_same, get_or-set_other}
+use Rattle.std.proofs.lemmas.List.{ext_get_or, map-set, length-map, length-set, set-get_or, get_or_past, get_or-replicate, length-replicate, get_or-set_same, get_or-set_other}
 use Rattle.std.proofs.lemmas.List.FromFn.{length-map-range_with_len, get_or-map-range_with_len}
 use Rattle.snoop_model.specs.Pictures.Lines.{Line}
 use Rattle.snoop_model.specs.Pictures.Picture.{held_at, nothing_held}
-use Rattle.snoop_model.specs.Pictures.Proper.{keeps}
-use Rattle.snoop_model.specs.Invariant.Fits.{is_owner}
 use Rattle.snoop_machine.specs.declared.holders.Holders.{Holders}
-use Rattle.snoop_blocks.specs.CoreSet.{has}
 use Rattle.snoop_machine.specs.Holders.{AreHolders, HaveMoved}
 use Rattle.snoop_machine.specs.Cache.{Contents, no_cache, line_in, blocks_of, row_in}
 use Rattle.snoop_machine.specs.Lines.{rows_of, is_among, line_at}
@@ -24,13 +22,14 @@ row-rows blocks caches block h = get_or-map-range_with_len (row_in caches) 0 blo
 pub length-row : (caches : List Contents) (block : ℕ) → length (row_in caches block) ≡ length caches
 length-row caches block = length-map caches (λ cache. line_in cache block)
 
+-- an entry of a mapped list
+pub get_or-mapped : {X Y : Type 0} (f : X → Y) (xs : List X) (d : X) (i : ℕ) → slice_index_or (map f xs) i (f d) ≡ f (slice_index_or xs i d)
+get_or-mapped f [] d i = refl
+get_or-mapped f (x ∷ xs) d zero = refl
+get_or-mapped f (x ∷ xs) d (suc i) = get_or-mapped f xs d i
+
 pub line-row : (caches : List Contents) (core block : ℕ) → held_at (row_in caches block) core ≡ line_in (slice_index_or caches core no_cache) block
-line-row caches core block = elim (cases_lt core (length caches)) [
-  | inl inside ↦ get_or-map (λ cache. line_in cache block) caches core no_cache nothing_held inside
-  | inr outside ↦
-      let long : length (row_in caches block) ≡ length caches = length-row caches block in
-      get_or_past (row_in caches block) core nothing_held (omega arith) ∙ sym (ap (λ (cache : Contents). line_in cache block) (get_or_past caches core no_cache outside))
-]
+line-row caches core block = get_or-mapped (λ cache. line_in cache block) caches no_cache core
 
 -- a map whose line of the block is as it was leaves the row as it was
 pub row-same : (caches : List Contents) (core block : ℕ) (new : Contents) → line_in new block ≡ line_in (slice_index_or caches core no_cache) block
@@ -41,12 +40,7 @@ row-same caches core block new same =
 
 pub rows-same : (blocks : ℕ) (caches : List Contents) (core : ℕ) (new : Contents) → ((b : ℕ) → line_in new b ≡ line_in (slice_index_or caches core no_cache) b)
     → rows_of blocks (slice_set caches core new) ≡ rows_of blocks caches
-rows-same blocks caches core new same =
-    ext_get_or [] (rows_of blocks (slice_set caches core new)) (rows_of blocks caches) (length-rows blocks (slice_set caches core new) ∙ sym (length-rows blocks caches))
-    (λ b h.
-    let long : length (rows_of blocks (slice_set caches core new)) ≡ blocks = length-rows blocks (slice_set caches core new) in
-    let within : b < blocks = omega arith in
-    row-rows blocks (slice_set caches core new) b within ∙ (row-same caches core b new (same b) ∙ sym (row-rows blocks caches b within)))
+rows-same blocks caches core new same = λ i. map (λ b. row-same caches core b new (same b) i) (range_with_len 0 blocks)
 
 -- the row of a block after one line of it is written
 pub row-set : (caches : List Contents) (core block : ℕ) (new : Contents) (line : Line) → line_in new block ≡ line → row_in (slice_set caches core new) block ≡ slice_set (row_in caches block) core line
@@ -64,17 +58,20 @@ rows-set blocks caches core block new line inside here others =
     (λ b h.
     let within : b < blocks = omega arith in
     elim (cases_eq b block) [
-      | inl e ↦
-          let at_block : slice_index_or (rows_of blocks (slice_set caches core new)) block [] ≡ slice_index_or (slice_set rows block row) block [] =
-          row-rows blocks (slice_set caches core new) block inside
-          ∙ (row-set caches core block new line here
-          ∙ (ap (λ (r : List Line). slice_set r core line) (sym (row-rows blocks caches block inside))
-          ∙ sym (get_or-set_same rows block row [] (omega arith)))) in
-          subst (λ (j : ℕ). slice_index_or (rows_of blocks (slice_set caches core new)) j [] ≡ slice_index_or (slice_set rows block row) j []) (sym e) at_block
+      | inl e ↦ rw (
+        e,
+        row-rows blocks (slice_set caches core new) block inside,
+        row-set caches core block new line here,
+        get_or-set_same rows block row [] (omega arith),
+        row-rows blocks caches block inside,
+      )
       | inr ne ↦
-          row-rows blocks (slice_set caches core new) b within
-          ∙ (row-same caches core b new (others b (ne_eqb block b (λ e. ne (sym e))))
-          ∙ (sym (row-rows blocks caches b within) ∙ sym (get_or-set_other rows block b row [] ne)))
+          rw (
+            row-rows blocks (slice_set caches core new) b within,
+            row-same caches core b new (others b (ne_eqb block b (λ e. ne (sym e)))),
+            get_or-set_other rows block b row [] ne,
+            row-rows blocks caches b within,
+          )
     ])
 
 -- a place within the rows is within the maps
@@ -100,19 +97,16 @@ line-none blocks caches core block none = elim (cases_lt block blocks) [
 
 -- the holders of a block are those of its row, once one of its lines has moved
 pub AreHolders-moved : (row : List Line) (core : ℕ) (line : Line) (old new : Holders) → core < length row → AreHolders old row → HaveMoved core line.state old new → AreHolders new (slice_set row core line)
-AreHolders-moved row core line old new within fits moved =
-    let here : held_at (slice_set row core line) core ≡ line = get_or-set_same row core line nothing_held within in
-    let there : (k : ℕ) → k ≢ core → held_at (slice_set row core line) k ≡ held_at row k = λ k ne. get_or-set_other row core k line nothing_held ne in
-    record {
-      owners = λ k. elim (cases_eq k core) [
-        | inl e ↦ ap (has new.owners) e ∙ (moved.owner ∙ sym (ap (λ (j : ℕ). is_owner (held_at (slice_set row core line) j).state) e ∙ ap (λ (l : Line). is_owner l.state) here))
-        | inr ne ↦ moved.other_owners k ne ∙ (fits.owners k ∙ sym (ap (λ (l : Line). is_owner l.state) (there k ne)))
-      ];
-      readers = λ k. elim (cases_eq k core) [
-        | inl e ↦ ap (has new.readers) e ∙ (moved.reader ∙ sym (ap (λ (j : ℕ). keeps (held_at (slice_set row core line) j).state) e ∙ ap (λ (l : Line). keeps l.state) here))
-        | inr ne ↦ moved.other_readers k ne ∙ (fits.readers k ∙ sym (ap (λ (l : Line). keeps l.state) (there k ne)))
-      ];
-    }
+AreHolders-moved row core line old new within fits moved = record {
+  owners = λ k. elim (cases_eq k core) [
+    | inl e ↦ rw (e, get_or-set_same row core line nothing_held within) moved.owner
+    | inr ne ↦ rw (moved.other_owners k ne, get_or-set_other row core k line nothing_held ne) (fits.owners k)
+  ];
+  readers = λ k. elim (cases_eq k core) [
+    | inl e ↦ rw (e, get_or-set_same row core line nothing_held within) moved.reader
+    | inr ne ↦ rw (moved.other_readers k ne, get_or-set_other row core k line nothing_held ne) (fits.readers k)
+  ];
+}
 
 -- one more map without entries
 pub empty-push : (caches : List Contents) (cache : Contents) → ((core : ℕ) → (slice_index_or caches core no_cache).entries ≡ []) → cache.entries ≡ []
@@ -125,14 +119,14 @@ empty-push (first ∷ caches) cache empty own (suc core) = empty-push caches cac
 -- maps without entries hold nothing anywhere
 module _ (caches : List Contents) (empty : (core : ℕ) → (slice_index_or caches core no_cache).entries ≡ []) where
   pub line-empty : (core block : ℕ) → line_in (slice_index_or caches core no_cache) block ≡ nothing_held
-  line-empty core block = ap (λ (entries : List (ℕ × Line)). unwrap_or (lookup (nat_eq block) entries) nothing_held) (empty core)
+  line-empty core block = rw (empty core)
 
   pub row-empty : (block : ℕ) → row_in caches block ≡ replicate (length caches) nothing_held
   row-empty block =
       ext_get_or nothing_held (row_in caches block) (replicate (length caches) nothing_held) (length-row caches block ∙ sym (length-replicate (length caches) nothing_held))
       (λ k h.
       let long = length-row caches block in
-      line-row caches k block ∙ (line-empty k block ∙ sym (get_or-replicate (length caches) k nothing_held nothing_held (omega arith))))
+      rw (line-row caches k block, line-empty k block, get_or-replicate (length caches) k nothing_held nothing_held (omega arith)))
 
   pub rows-empty : (blocks : ℕ) → rows_of blocks caches ≡ replicate blocks (replicate (length caches) nothing_held)
   rows-empty blocks =
@@ -140,18 +134,14 @@ module _ (caches : List Contents) (empty : (core : ℕ) → (slice_index_or cach
       (λ b h.
       let long : length (rows_of blocks caches) ≡ blocks = length-rows blocks caches in
       let within : b < blocks = omega arith in
-      row-rows blocks caches b within ∙ (row-empty b ∙ sym (get_or-replicate blocks b (replicate (length caches) nothing_held) [] within)))
+      rw (row-rows blocks caches b within, row-empty b, get_or-replicate blocks b (replicate (length caches) nothing_held) [] within))
 
 -- the blocks that a core's map has a line for
 pub blocks-at : (caches : List Contents) (core : ℕ) → slice_index_or (map blocks_of caches) core [] ≡ blocks_of (slice_index_or caches core no_cache)
-blocks-at [] core = refl
-blocks-at (cache ∷ caches) zero = refl
-blocks-at (cache ∷ caches) (suc core) = blocks-at caches core
+blocks-at caches core = get_or-mapped blocks_of caches no_cache core
 
 pub spare-at : (caches : List Contents) (core : ℕ) → slice_index_or (map (λ (cache : Contents). cache.spare) caches) core 0 ≡ (slice_index_or caches core no_cache).spare
-spare-at [] core = refl
-spare-at (cache ∷ caches) zero = refl
-spare-at (cache ∷ caches) (suc core) = spare-at caches core
+spare-at caches core = get_or-mapped (λ cache. cache.spare) caches no_cache core
 
 pub length-blocks_of : (cache : Contents) → length (blocks_of cache) ≡ length cache.entries
 length-blocks_of cache = length-map cache.entries (λ (e : ℕ × Line). e.0)

@@ -1,5 +1,5 @@
 -- The pictures that the parts show.
-use Rattle.std.proofs.Common.{◌≡◌, ℕ, ◌<◌, zero, suc, List, [], ◌∷◌, length, replicate, Option, None, refl, sym, ◌∙◌, ap, arith, subst}
+use Rattle.std.proofs.Common.{◌≡◌, ℕ, ◌<◌, zero, suc, List, [], ◌∷◌, length, replicate, Option, None, refl, sym, ◌∙◌, ap, arith}
 use Rattle.std.specs.Prelude.{slice_index_or, slice_set}
 use Rattle.std.proofs.lemmas.List.{set-get_or}
 use Rattle.snoop_trace.specs.Extent.{Extent}
@@ -51,20 +51,23 @@ abbrev pub picture_in : Fields → ℕ → Picture
 picture_in m block = record { caches = row_of m.lines.rows block; memory = slice_index_or m.memory block no_memory; transaction = slice_index_or m.bus.transactions block None }
 
 -- what holds of the parts, of which callers see this
-module _ {count : ℕ} (m : Fields) (whole : IsWhole count m) (now : Standing) (view : standing m ≡ now) where
+module _ {count : ℕ} {m : Fields} (whole : IsWhole count m) {now : Standing} (view : standing m ≡ now) where
   pub seen : (block : ℕ) → picture_of now.situation block ≡ picture_in m block
   seen block =
       ap (λ (s : Standing). picture_of s.situation block) (sym view)
       ∙ pictures-get m.lines.rows m.memory m.bus.transactions block (whole.sized.memory ∙ sym whole.sound.rows) (whole.sound.transactions ∙ sym whole.sound.rows)
 
+  pub line_seen : (core block : ℕ) → held_by (picture_of now.situation block) core ≡ line_at m.lines.rows core block
+  line_seen core block = ap (λ (x : Picture). held_by x core) (seen block)
+
   pub state_seen : (core block : ℕ) → state_of now.situation core block ≡ (line_at m.lines.rows core block).state
-  state_seen core block = ap (λ (x : Picture). (held_by x core).state) (seen block)
+  state_seen core block = ap (λ (x : Line). x.state) (line_seen core block)
 
   pub core_in : (core : ℕ) → core < now.situation.shape.cores → core < m.shape.cores
-  core_in core within = subst (λ (s : Standing). core < s.situation.shape.cores) (sym view) within
+  core_in core within = rw (← view) at within
 
   pub block_in : (block : ℕ) → block < now.situation.shape.blocks → block < m.shape.blocks
-  block_in block within = subst (λ (s : Standing). block < s.situation.shape.blocks) (sym view) within
+  block_in block within = rw (← view) at within
 
   pub has_picture : (block : ℕ) → block < now.situation.shape.blocks → block < length (standing m).situation.pictures
   has_picture block within =
@@ -72,16 +75,6 @@ module _ {count : ℕ} (m : Fields) (whole : IsWhole count m) (now : Standing) (
       let rows = whole.sound.rows in
       let inside = block_in block within in
       omega arith
-
-  -- one line is written
-  pub line-written : (block : ℕ) (rows : List (List Line)) (core : ℕ) (line : Line) → rows ≡ placed m.lines.rows core block line
-      → pictures_of rows m.memory m.bus.transactions ≡ slice_set (standing m).situation.pictures block (with_line (picture_of now.situation block) core line)
-  line-written block rows core line wrote =
-      ap (λ (l : List (List Line)). pictures_of l m.memory m.bus.transactions) wrote
-      ∙ (ap (λ (l : List MemLine). pictures_of (placed m.lines.rows core block line) l m.bus.transactions) (sym (set-get_or m.memory block no_memory))
-      ∙ (ap (λ (l : List (Option Open)). pictures_of (placed m.lines.rows core block line) (slice_set m.memory block (slice_index_or m.memory block no_memory)) l) (sym (set-get_or m.bus.transactions block None))
-      ∙ (pictures-set m.lines.rows m.memory m.bus.transactions block _ _ _
-      ∙ ap (λ (p : Picture). slice_set (standing m).situation.pictures block (with_line p core line)) (sym (seen block)))))
 
 -- the parts are as large as they were
 pub sized_on : {count : ℕ} (m n : Fields) → IsSized count m → n.shape ≡ m.shape → length n.lines.lines ≡ length m.lines.lines → length n.memory ≡ length m.memory
@@ -110,6 +103,13 @@ picture-written m block next rows memories transactions e f h =
     ∙ (ap (λ (l : List MemLine). pictures_of (slice_set m.lines.rows block next.caches) l transactions) f
     ∙ (ap (λ (l : List (Option Open)). pictures_of (slice_set m.lines.rows block next.caches) (slice_set m.memory block next.memory) l) h
     ∙ pictures-set m.lines.rows m.memory m.bus.transactions block next.caches next.memory next.transaction))
+
+-- one line is written
+pub line-written : (m : Fields) (block : ℕ) (rows : List (List Line)) (core : ℕ) (line : Line) → rows ≡ placed m.lines.rows core block line
+    → pictures_of rows m.memory m.bus.transactions ≡ slice_set (standing m).situation.pictures block (with_line (picture_in m block) core line)
+line-written m block rows core line wrote =
+    picture-written m block (with_line (picture_in m block) core line) rows m.memory m.bus.transactions wrote (sym (set-get_or m.memory block no_memory))
+    (sym (set-get_or m.bus.transactions block None))
 
 -- two situations with equal parts
 pub same_situation : (s t : Situation) → s.protocol ≡ t.protocol → s.shape ≡ t.shape → s.pictures ≡ t.pictures → s.queues ≡ t.queues → s.log ≡ t.log → s ≡ t

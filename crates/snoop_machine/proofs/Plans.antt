@@ -1,9 +1,8 @@
 -- A planned step is refused for no cause, adds the plan's item, and needs the plan's room.
 use Rattle.std.proofs.Common.{◌≡◌, ◌≢◌, ℕ, ◌<◌, List, Option, Some, None, true, false, refl, sym, ◌∙◌, ap, subst, arith, ◌⊎◌, inl, inr}
 use Rattle.std.proofs.lemmas.Option.{same_Some}
-use Rattle.std.specs.Prelude.{IsSome, IfSome, is_some, option_map}
+use Rattle.std.specs.Prelude.{is_some, option_map}
 use Rattle.snoop_history.specs.declared.items.Came.{Came}
-use Rattle.snoop_machine.specs.Cache.{filled_line}
 use Rattle.snoop_trace.specs.Words.{HasWord, word_at}
 use Rattle.snoop_trace.specs.declared.step.Op.{Op}
 use Rattle.snoop_trace.specs.declared.step.Op.TheVariants as op
@@ -15,13 +14,12 @@ use Rattle.snoop_rules.specs.declared.names.CacheState.TheVariants.{I}
 use Rattle.snoop_rules.specs.declared.names.CacheAction.{CacheAction}
 use Rattle.snoop_rules.specs.declared.names.CacheAction.TheVariants as action
 use Rattle.snoop_rules.specs.declared.names.Request.{Request}
-use Rattle.snoop_rules.specs.declared.names.Request.TheVariants.{GetS, GetM, PutM}
+use Rattle.snoop_rules.specs.declared.names.Request.TheVariants.{PutM}
 use Rattle.snoop_rules.specs.Cell.{Cell}
 use Rattle.snoop_rules.specs.Takers.{asked}
 use Rattle.snoop_rules.proofs.Rows.{Cell-one}
 use Rattle.snoop_history.specs.declared.items.Did.{Did}
 use Rattle.snoop_history.specs.declared.items.Item.{Item}
-use Rattle.snoop_history.specs.declared.items.Item.TheVariants as item
 use Rattle.snoop_bus.specs.Traffic.{Open}
 use Rattle.snoop_model.specs.declared.access.Access.{Access}
 use Rattle.snoop_model.specs.Pictures.Lines.{Line}
@@ -34,7 +32,7 @@ use Rattle.snoop_model.specs.declared.replies.Refused.{Refused}
 use Rattle.snoop_model.specs.declared.replies.Refused.TheVariants.{NoCore, NoBlock, Stalled, NothingWaiting, BusTaken, NoTransaction, NoMemory}
 use Rattle.snoop_machine.specs.Standing.{Standing}
 use Rattle.snoop_model.specs.Pictures.Picture.{held_at, held_by}
-use Rattle.snoop_model.specs.Pictures.Situation.{Situation, picture_of, state_of, Waits, IsHead}
+use Rattle.snoop_model.specs.Pictures.Situation.{Situation, picture_of, state_of, IsHead}
 use Rattle.snoop_machine.specs.Asked.{TakesAsk, RefusesAsk}
 use Rattle.snoop_model.specs.Moves.Move.{Performs, Takes, Fills, FillsRequestor, ArrivesFor, IsAbsent, Asks, FirstMove, came_of, next_did}
 use Rattle.snoop_model.specs.Moves.Refuses.{Refuses, RefusedFor}
@@ -61,12 +59,7 @@ row_found p line word asking (Drop next) t = inr (next, (t, λ e. cc))
 pub refuses-ask : (s : Situation) (core block word : ℕ) (asking : Op) (cause : Refused) → core < s.shape.cores → block < s.shape.blocks → HasWord s.shape word asking
     → RefusesAsk s.protocol (held_by (picture_of s block) core) asking cause → Refuses s (step.Ask core block word asking) cause
 refuses-ask s core block word asking (Stalled state) in_cores in_blocks in_words h = ((in_cores, in_blocks), h.0, h.1, in_words)
-refuses-ask s core block word asking NoCore in_cores in_blocks in_words h = absurd h
-refuses-ask s core block word asking NoBlock in_cores in_blocks in_words h = absurd h
-refuses-ask s core block word asking NothingWaiting in_cores in_blocks in_words h = absurd h
-refuses-ask s core block word asking (BusTaken b) in_cores in_blocks in_words h = absurd h
-refuses-ask s core block word asking NoTransaction in_cores in_blocks in_words h = absurd h
-refuses-ask s core block word asking NoMemory in_cores in_blocks in_words h = absurd h
+refuses-ask s core block word asking _ in_cores in_blocks in_words h = absurd h
 
 -- an Ask that was found is not refused
 module _ (s : Situation) (core block word : ℕ) (asking : Op) (way : Asked) (in_cores : core < s.shape.cores) (in_blocks : block < s.shape.blocks) (in_words : HasWord s.shape word asking)
@@ -78,38 +71,26 @@ module _ (s : Situation) (core block word : ℕ) (asking : Op) (way : Asked) (in
     | inl absent ↦ no_row s.protocol (state_of s core block) asking action.Stall g.2.0 absent.0 absent.1 g.2.1
     | inr row ↦ row.1.1 (Cell-one s.protocol (state_of s core block) (asked asking) (act_of way) action.Stall row.0 g.2.0 row.1.0 g.2.1).0
   ]
-  ask-allowed NothingWaiting g = g
-  ask-allowed (BusTaken b) g = g
-  ask-allowed NoTransaction g = g
-  ask-allowed NoMemory g = g
+  ask-allowed _ g = g
 
 -- an Order of the oldest request, of a block with no open transaction, is not refused
 pub order-allowed : (s : Situation) (core block : ℕ) (request : Request) → core < s.shape.cores → IsHead s core request block → (picture_of s block).transaction ≡ None
     → (cause : Refused) → ¬ Refuses s (step.Order core) cause
 order-allowed s core block request in_cores head free NoCore h = absurd (omega arith)
-order-allowed s core block request in_cores head free NoBlock h = h
-order-allowed s core block request in_cores head free (Stalled state) h = h
 order-allowed s core block request in_cores head free NothingWaiting h = h.1 block request head.waits
 order-allowed s core block request in_cores head free (BusTaken b) h =
     let same : block ≡ b = same_Some _ _ (sym head.first ∙ h.1) in
-    let P : ℕ → Type 0 = λ x. IsSome (picture_of s x).transaction in
-    let Q : Option Open → Type 0 = λ o. is_some o ≡ true in
-    let there : is_some (picture_of s block).transaction ≡ true = subst P (sym same) h.2 in
-    let clash : false ≡ true = subst Q free there in
+    let there : is_some (picture_of s block).transaction ≡ true = rw (← same) at h.2 in
+    let clash : false ≡ true = rw free at there in
     cc
-order-allowed s core block request in_cores head free NoTransaction h = h
-order-allowed s core block request in_cores head free NoMemory h = h
+order-allowed s core block request in_cores head free _ h = h
 
 -- a Respond of an open transaction is not refused
 pub respond-allowed : (s : Situation) (block : ℕ) (closing : Open) → block < s.shape.blocks → (picture_of s block).transaction ≡ Some closing
     → (cause : Refused) → ¬ Refuses s (step.Respond block) cause
-respond-allowed s block closing in_blocks opened NoCore h = h
 respond-allowed s block closing in_blocks opened NoBlock h = absurd (omega arith)
-respond-allowed s block closing in_blocks opened (Stalled state) h = h
-respond-allowed s block closing in_blocks opened NothingWaiting h = h
-respond-allowed s block closing in_blocks opened (BusTaken b) h = h
 respond-allowed s block closing in_blocks opened NoTransaction h = let clash : ◌≡◌ {A = Option Open} None (Some closing) = sym h.1 ∙ opened in cc
-respond-allowed s block closing in_blocks opened NoMemory h = h
+respond-allowed s block closing in_blocks opened _ h = h
 
 -- a transaction with this response is open
 opened_of : (o : Option Open) (came : Came) → option_map came_of o ≡ Some came → (closing : Open) × ((o ≡ Some closing) × (came_of closing ≡ came))
@@ -136,28 +117,24 @@ module _ (s : Situation) (core block word : ℕ) (asking : Op) (answer : Reply) 
   ask-adds (Hit next value) t (inl absent) = absurd (no_row s.protocol (state_of s core block) asking action.Hit next absent.0 absent.1 t.0)
   ask-adds (Hit next value) t (inr asks) =
       let same = (Cell-one s.protocol (state_of s core block) (asked asking) asks.row.action action.Hit asks.row.next next asks.is_row t.0).0 in
-      let P : CacheAction → Type 0 = λ a. Takes a asks.row.next s.log core block word asking (held_by (picture_of s block) core) asks.held answer added in
-      let h : Takes action.Hit asks.row.next s.log core block word asking (held_by (picture_of s block) core) asks.held answer added = subst P same asks.taken in
-      let its = performs-one word asking h.1.0.before t.1.before h.0 value h.1.0.after t.1.after (same_Some _ _ (sym h.1.0.kept ∙ t.1.kept)) h.1.0.performed t.1.performed in
-      h.1.2 ∙ ap (λ (x : ℕ). let r : Option Item = Some (item.Did (next_did s.log core block word asking x true)) in r) its
+      let h : Takes action.Hit asks.row.next s.log core block word asking (held_by (picture_of s block) core) asks.held answer added = rw same at asks.taken in
+      rw (← performs-one word asking h.1.0.before t.1.before h.0 value h.1.0.after t.1.after
+      (same_Some _ _ (sym h.1.0.kept ∙ t.1.kept)) h.1.0.performed t.1.performed) h.1.2
   ask-adds (Issue request next) t (inl absent) = absurd (no_row s.protocol (state_of s core block) asking (action.Issue request) next absent.0 absent.1 t)
   ask-adds (Issue request next) t (inr asks) =
       let same = (Cell-one s.protocol (state_of s core block) (asked asking) asks.row.action (action.Issue request) asks.row.next next asks.is_row t).0 in
-      let P : CacheAction → Type 0 = λ a. Takes a asks.row.next s.log core block word asking (held_by (picture_of s block) core) asks.held answer added in
-      (subst P same asks.taken).2
+      (rw same at asks.taken).2
   ask-adds (Drop next) t (inl absent) = absurd (no_row s.protocol (state_of s core block) asking action.Drop next absent.0 absent.1 t)
   ask-adds (Drop next) t (inr asks) =
       let same = (Cell-one s.protocol (state_of s core block) (asked asking) asks.row.action action.Drop asks.row.next next asks.is_row t).0 in
-      let P : CacheAction → Type 0 = λ a. Takes a asks.row.next s.log core block word asking (held_by (picture_of s block) core) asks.held answer added in
-      (subst P same asks.taken).2
+      (rw same at asks.taken).2
 
 fills_of : (q : Request) (closing : Open) (p : Protocol) (log : List Item) (old new : List Line) (did : Option Did) → q ≢ PutM → ArrivesFor q closing p log old new did → FillsRequestor closing p log old new did
-fills_of GetS closing p log old new did get fills = fills
-fills_of GetM closing p log old new did get fills = fills
 fills_of PutM closing p log old new did get fills = absurd (get refl)
+fills_of _ closing p log old new did get fills = fills
 
 none_of : (q : Request) (closing : Open) (p : Protocol) (log : List Item) (old new : List Line) (did : Option Did) → q ≡ PutM → ArrivesFor q closing p log old new did → did ≡ None
-none_of q closing p log old new did e arrives = let P : Request → Type 0 = λ x. ArrivesFor x closing p log old new did in (subst P e arrives).1
+none_of q closing p log old new did e arrives = (rw e at arrives).1
 
 -- the requestor performs the operation that waits
 fills-adds : (closing : Open) (p : Protocol) (log : List Item) (old new : List Line) (did : Option Did) (line : Line) (asking : Access) (value : ℕ)
@@ -165,49 +142,39 @@ fills-adds : (closing : Open) (p : Protocol) (log : List Item) (old new : List L
     → did ≡ Some (next_did log closing.core closing.block asking.word asking.op value false)
 fills-adds closing p log old new did line asking value f t =
     let same : f.asking ≡ asking = same_Some _ _ (sym f.fills.waited ∙ t.waited) in
-    let P : Access → Type 0 = λ o. Performs o.word o.op closing.value f.value f.fills.after in
-    let its = performs-one asking.word asking.op closing.value closing.value f.value value f.fills.after t.after refl (subst P same f.fills.performed) t.performed in
-    f.logged ∙ (ap (λ (o : Access). let r : Option Did = Some (next_did log closing.core closing.block o.word o.op f.value false) in r) same
-    ∙ ap (λ (v : ℕ). let r : Option Did = Some (next_did log closing.core closing.block asking.word asking.op v false) in r) its)
+    let its = performs-one asking.word asking.op closing.value closing.value f.value value f.fills.after t.after refl
+    (rw same at f.fills.performed) t.performed in
+    rw (← same, ← its) f.logged
 
 -- a planned step adds the plan's item, whatever move it is
 pub plan-adds : (s : Situation) (x : Plan) → IsPlan s x → (answer : Reply) (new : Situation) (added : Option Item) → FirstMove s (step_of x) answer new added → added ≡ entry_of s.log x
 plan-adds s (plan.Ask core block word asking way) h answer new added m =
-    let P : ℕ → Type 0 = λ x. IsAbsent s core x asking answer new added ⊎ Asks s core x word asking answer new added in
-    ask-adds s core block word asking answer new added way h.1 (subst P (sym m.1.1.on_block) m.1.1.moves)
+    ask-adds s core block word asking answer new added way h.1 (rw (← m.1.1.on_block) at m.1.1.moves)
 plan-adds s (plan.Order core request block from payload memory) h answer new added m =
     let same : m.0 ≡ block = same_Some _ _ (sym m.1.0 ∙ h.1.head.first) in
     let orders = m.1.1.orders in
-    let W : ℕ → Type 0 = λ x. Waits s core x m.1.1.request in
-    let its : m.1.1.request ≡ request = same_Some _ _ (sym (subst W same orders.ready.0) ∙ h.1.head.waits) in
-    m.1.1.logged ∙ (ap (λ (b : ℕ). let r : Option Item = Some (item.Sent (record { core = core; request = m.1.1.request; block = b })) in r) same
-    ∙ ap (λ (q : Request). let r : Option Item = Some (item.Sent (record { core = core; request = q; block = block })) in r) its)
+    let its : m.1.1.request ≡ request = same_Some _ _ (sym (rw same at orders.ready.0) ∙ h.1.head.waits) in
+    rw (← same, ← its) m.1.1.logged
 plan-adds s (plan.Writeback came memory) h answer new added m =
     let k = opened_of (picture_of s came.block).transaction came h.1.opened in
     let responds = m.1.1.responds in
     let on : m.0 ≡ came.block = sym m.1.1.on_block in
-    let P : ℕ → Type 0 = λ b. (picture_of s b).transaction ≡ Some m.1.1.closing in
-    let same : m.1.1.closing ≡ k.0 = same_Some _ _ (sym (subst P on responds.opened) ∙ k.1.0) in
+    let same : m.1.1.closing ≡ k.0 = same_Some _ _ (sym (rw on at responds.opened) ∙ k.1.0) in
     let its : came_of m.1.1.closing ≡ came = ap came_of same ∙ k.1.1 in
     let none = none_of m.1.1.closing.request m.1.1.closing s.protocol s.log (picture_of s m.0).caches responds.next.caches m.1.1.did (ap (λ (x : Came). x.request) its ∙ h.2) responds.requestor in
-    m.1.1.logged ∙ (ap (λ (x : Came). let r : Option Item = Some (item.Came x m.1.1.did) in r) its
-    ∙ ap (λ (d : Option Did). let r : Option Item = Some (item.Came came d) in r) none)
+    rw (← its, ← none) m.1.1.logged
 plan-adds s (plan.Fill came memory filled) h answer new added m =
     let k = opened_of (picture_of s came.block).transaction came h.1.opened in
     let closing = k.0 in
     let responds = m.1.1.responds in
     let on : m.0 ≡ came.block = sym m.1.1.on_block in
-    let P : ℕ → Type 0 = λ b. (picture_of s b).transaction ≡ Some m.1.1.closing in
-    let same : m.1.1.closing ≡ closing = same_Some _ _ (sym (subst P on responds.opened) ∙ k.1.0) in
+    let same : m.1.1.closing ≡ closing = same_Some _ _ (sym (rw on at responds.opened) ∙ k.1.0) in
     let get : closing.request ≢ PutM = λ e. h.2 (sym (ap (λ (x : Came). x.request) k.1.1) ∙ e) in
-    let Q : Open → Type 0 = λ o. ArrivesFor o.request o s.protocol s.log (picture_of s m.0).caches responds.next.caches m.1.1.did in
-    let fills = fills_of closing.request closing s.protocol s.log (picture_of s m.0).caches responds.next.caches m.1.1.did get (subst Q same responds.requestor) in
-    let R : ℕ → Type 0 = λ b. FillsRequestor closing s.protocol s.log (picture_of s b).caches responds.next.caches m.1.1.did in
-    let F : Option Open → Type 0 = λ o. IfSome o (λ x. Fills x s.protocol (held_by (picture_of s came.block) x.core) (filled_line filled.next filled.access x.value) filled.access filled.value) in
-    let did = fills-adds closing s.protocol s.log (picture_of s came.block).caches responds.next.caches m.1.1.did _ filled.access filled.value (subst R on fills) (subst F k.1.0 h.3) in
-    m.1.1.logged ∙ (ap (λ (o : Open). let r : Option Item = Some (item.Came (came_of o) m.1.1.did) in r) same
-    ∙ (ap (λ (d : Option Did). let r : Option Item = Some (item.Came (came_of closing) d) in r) did
-    ∙ ap (λ (x : Came). let r : Option Item = Some (item.Came x (Some (next_did s.log x.core x.block filled.access.word filled.access.op filled.value false))) in r) k.1.1))
+    let fills = fills_of closing.request closing s.protocol s.log (picture_of s m.0).caches responds.next.caches m.1.1.did get
+    (rw same at responds.requestor) in
+    let did = fills-adds closing s.protocol s.log (picture_of s came.block).caches responds.next.caches m.1.1.did _ filled.access filled.value (rw on at fills)
+    (rw k.1.0 at h.3) in
+    rw (← k.1.1, ← did, ← same) m.1.1.logged
 
 -- where the plan has room the step has it
 pub plan-room : (before : Standing) (x : Plan) → IsPlan before.situation x → 0 < room_for before x → ¬ IsFull before (step_of x)
@@ -217,8 +184,7 @@ plan-room before (plan.Ask core block word asking way) h some full =
       | inl absent ↦ no_row s.protocol (state_of s core block) asking full.0 full.1.0 absent.0 absent.1 full.1.1.0
       | inr row ↦
           let same = (Cell-one s.protocol (state_of s core block) (asked asking) full.0 (act_of way) full.1.0 row.0 full.1.1.0 row.1.0).0 in
-          let P : CacheAction → Type 0 = λ a. room_to a before core block ≡ 0 in
-          let none : room_to (act_of way) before core block ≡ 0 = subst P same full.1.1.1 in
+          let none : room_to (act_of way) before core block ≡ 0 = rw same at full.1.1.1 in
           clash before core block way none some
     ]
   where
@@ -227,9 +193,7 @@ plan-room before (plan.Ask core block word asking way) h some full =
     clash b k n (Hit next value) e l = absurd (omega arith)
     clash b k n (Issue request next) e l = absurd (omega arith)
     clash b k n (Drop next) e l = cc
-plan-room before (plan.Order core request block from payload memory) h some full = absurd (omega arith)
-plan-room before (plan.Writeback came memory) h some full = absurd (omega arith)
-plan-room before (plan.Fill came memory filled) h some full = absurd (omega arith)
+plan-room before _ h some full = absurd (omega arith)
 
 -- where the plan has no room the step has none
 plan-full : (before : Standing) (x : Plan) → IsPlan before.situation x → room_for before x ≡ 0 → IsFull before (step_of x)
@@ -237,9 +201,7 @@ plan-full before (plan.Ask core block word asking Absent) h none = absurd (omega
 plan-full before (plan.Ask core block word asking (Hit next value)) h none = (action.Hit, (next, (h.1.0, none)))
 plan-full before (plan.Ask core block word asking (Issue request next)) h none = (action.Issue request, (next, (h.1, none)))
 plan-full before (plan.Ask core block word asking (Drop next)) h none = absurd (omega arith)
-plan-full before (plan.Order core request block from payload memory) h none = none
-plan-full before (plan.Writeback came memory) h none = none
-plan-full before (plan.Fill came memory filled) h none = none
+plan-full before _ h none = none
 
 pub IsFull-plan : (before : Standing) (taking : Step) (x : Plan) → IsPlanFor before.situation taking x → room_for before x ≡ 0 → IsFull before taking
 IsFull-plan before taking x h none = subst (IsFull before) h.0 (plan-full before x h.1 none)
@@ -253,22 +215,18 @@ ask-room before core block (Drop next) h = omega arith
 -- where the room for a plan was made there is room for one such step at least
 some-room : (before : Standing) (x : Plan) → HasRoom before x → 0 < room_for before x
 some-room before (plan.Ask core block word asking way) h = ask-room before core block way h
-some-room before (plan.Order core request block from payload memory) h = h
-some-room before (plan.Writeback came memory) h = h
-some-room before (plan.Fill came memory filled) h = h
+some-room before _ h = h
 
 -- a planned step is refused as out of memory alone
 pub RefusedFor-memory : (s : Situation) (taking : Step) (x : Plan) → IsPlanFor s taking x → RefusedFor s taking NoMemory
 RefusedFor-memory s taking x h =
-    let P : Step → Type 0 = λ t. RefusedFor s t NoMemory in
-    subst P h.0 (plan-allowed s x h.1)
+    rw h.0 at (plan-allowed s x h.1)
 
 -- a planned step with its room is prepared
 pub IsPrepared-plan : (before : Standing) (taking : Step) (x : Plan) (entry : Option Item) → IsPlanFor before.situation taking x → HasRoom before x → entry ≡ entry_of before.situation.log x
     → IsPrepared before taking entry
 IsPrepared-plan before taking x entry h some is =
-    let P : Step → Type 0 = λ t. IsPrepared before t entry in
-    subst P h.0 (record {
+    rw (← h.0) (record {
       allowed = plan-allowed before.situation x h.1;
       room = plan-room before x h.1 (some-room before x some);
       adds = λ answer new added move. plan-adds before.situation x h.1 answer new added move ∙ sym is;

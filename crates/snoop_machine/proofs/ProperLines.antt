@@ -42,16 +42,7 @@ moves_to_same line proper = let kept : kept_on line.state line.kept ≡ line.kep
     go state.I kept e = sym (nothing_kept kept e)
     go state.ImAd kept e = sym (nothing_kept kept e)
     go state.IiA kept e = sym (nothing_kept kept e)
-    go state.IsAd kept e = refl
-    go state.IsD kept e = refl
-    go state.ImD kept e = refl
-    go state.S kept e = refl
-    go state.SmAd kept e = refl
-    go state.SmD kept e = refl
-    go state.E kept e = refl
-    go state.M kept e = refl
-    go state.EiA kept e = refl
-    go state.MiA kept e = refl
+    go _ kept e = refl
 
 -- the next state of a row that is a hit, or this one
 abbrev next_at_hit : Option CacheCell → CacheState → CacheState
@@ -63,21 +54,9 @@ pub load_stays : (p : Protocol) (s n : CacheState) → Cell p s event.Load actio
 load_stays p s n row = sym (ap (λ (o : Option CacheCell). next_at_hit o s) row) ∙ go p s
   where
     go : (p : Protocol) (s : CacheState) → next_at_hit (cell_of p s event.Load) s ≡ s
-    go _ state.I = refl
-    go _ state.IsAd = refl
-    go _ state.IsD = refl
-    go _ state.ImAd = refl
-    go _ state.ImD = refl
-    go _ state.S = refl
-    go _ state.SmAd = refl
-    go _ state.SmD = refl
-    go _ state.M = refl
-    go _ state.MiA = refl
-    go _ state.IiA = refl
     go Msi state.E = refl
     go Mesi state.E = refl
-    go Msi state.EiA = refl
-    go Mesi state.EiA = refl
+    go _ _ = refl
 
 -- and the line
 pub loaded_same : (word : ℕ) (line : Line) → changed line.state (Hit (record { word = word; op = op.Load })) line ≡ line

@@ -1,5 +1,5 @@
 -- The head of a queue, and the first of the line that it shows.
-use Rattle.std.proofs.Common.{◌≡◌, ℕ, ◌<◌, List, [], ◌∷◌, length, Option, Some, None, refl, sym, ◌∙◌, ap, subst, arith}
+use Rattle.std.proofs.Common.{◌≡◌, ℕ, ◌<◌, List, [], ◌∷◌, length, Option, Some, None, refl, sym, ◌∙◌, ap, arith}
 use Rattle.std.specs.Prelude.{slice_get, Contains}
 use Rattle.std.proofs.lemmas.Option.{same_Some}
 use Rattle.std.proofs.Common.{inl, inr, true}
@@ -39,16 +39,13 @@ module _ (shape : Extent) (caches : List (List Line)) (bus : Traffic) (sound : I
   -- the first of the line, with the request that waits, is the head of the queue
   pub head_from_line : (request : Request) (block : ℕ) → slice_get (queue_of (queues_of bus.queues) core) 0 ≡ Some block → waiting_request (line_at caches core block).state ≡ Some request → head_of bus core ≡ Some (request, block)
   head_from_line request block first waits =
-      let P : List ℕ → Type 0 = λ line. slice_get line 0 ≡ Some block in
-      let f = first_of (waiting_of bus core).requests block (subst P (queue_of-queues_of bus.queues core) first) in
+      let f = first_of (waiting_of bus core).requests block (rw (queue_of-queues_of bus.queues core) at first) in
       let same : f.0 ≡ request = same_Some _ _ (sym (sound.queued core block f.0 (contains_first (waiting_of bus core).requests (f.0, block) f.1)) ∙ waits) in
-      let Q : Request → Type 0 = λ q. head_of bus core ≡ Some (q, block) in
-      subst Q same f.1
+      rw same at f.1
 
   pub line_from_head : (request : Request) (block : ℕ) → head_of bus core ≡ Some (request, block) → slice_get (queue_of (queues_of bus.queues) core) 0 ≡ Some block
   line_from_head request block head =
-      let P : List ℕ → Type 0 = λ line. slice_get line 0 ≡ Some block in
-      subst P (sym (queue_of-queues_of bus.queues core)) (shows_first (waiting_of bus core).requests request block head)
+      rw (← (queue_of-queues_of bus.queues core)) at (shows_first (waiting_of bus core).requests request block head)
 
   pub waits_from_head : (request : Request) (block : ℕ) → head_of bus core ≡ Some (request, block) → waiting_request (line_at caches core block).state ≡ Some request
   waits_from_head request block head = sound.queued core block request (contains_first (waiting_of bus core).requests (request, block) head)
@@ -77,8 +74,7 @@ shows_none (x ∷ xs) h = cc
 -- a queue without a head is empty
 pub empty_from_head : (bus : Traffic) (core : ℕ) → head_of bus core ≡ None → slice_get (queue_of (queues_of bus.queues) core) 0 ≡ None
 empty_from_head bus core head =
-    let P : List ℕ → Type 0 = λ queue. slice_get queue 0 ≡ None in
-    subst P (sym (queue_of-queues_of bus.queues core)) (shows_none (waiting_of bus core).requests head)
+    rw (← (queue_of-queues_of bus.queues core)) at (shows_none (waiting_of bus core).requests head)
 
 prefix_shown : (block : ℕ) (rs : List (Request × ℕ)) → prefix_len (λ (r : Request × ℕ). not (r.1 == block)) rs ≡ prefix_len (λ b. not (b == block)) (blocks_of rs)
 prefix_shown block [] = refl

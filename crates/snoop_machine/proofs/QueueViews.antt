@@ -1,6 +1,6 @@
 -- The lines that queues show, and what room changes.
-use Rattle.std.proofs.Common.{◌≡◌, ℕ, ◌<◌, List, [], ◌∷◌, ◌++◌, zero, suc, length, refl, sym, ◌∙◌, ap, subst, map, inl, inr}
-use Rattle.std.specs.Prelude.{slice_index_or, slice_set, Contains}
+use Rattle.std.proofs.Common.{◌≡◌, ℕ, ◌<◌, List, [], ◌∷◌, ◌++◌, length, sym, ◌∙◌, ap, map, inl, inr}
+use Rattle.std.specs.Prelude.{slice_index_or, slice_set}
 use Rattle.std.proofs.lemmas.Bool.{cases_eq}
 use Rattle.std.proofs.lemmas.List.{map-set, map-append, set-get_or, length-set, get_or-set_same, get_or-set_other}
 use Rattle.snoop_trace.specs.Extent.{Extent}
@@ -10,15 +10,14 @@ use Rattle.std.proofs.Common.{Option, Some, None, arith}
 use Rattle.snoop_bus.specs.Traffic.{Traffic, Waiting, no_queue, waiting_of}
 use Rattle.snoop_bus.specs.Queues.{queue_of, after_issue}
 use Rattle.snoop_model.specs.Pictures.Lines.{Line}
-use Rattle.snoop_machine.specs.PartsView.{queues_of, IsSound, IsEachOnce}
+use Rattle.snoop_machine.specs.PartsView.{queues_of, IsSound}
+use Rattle.snoop_machine.proofs.MapRows.{get_or-mapped}
 
 abbrev pub blocks_of : List (Request × ℕ) → List ℕ
 blocks_of requests = map (λ (r : Request × ℕ). r.1) requests
 
 pub queue_of-queues_of : (queues : List Waiting) (core : ℕ) → queue_of (queues_of queues) core ≡ blocks_of (slice_index_or queues core no_queue).requests
-queue_of-queues_of [] core = refl
-queue_of-queues_of (q ∷ qs) zero = refl
-queue_of-queues_of (q ∷ qs) (suc core) = queue_of-queues_of qs core
+queue_of-queues_of queues core = get_or-mapped (λ (q : Waiting). blocks_of q.requests) queues no_queue core
 
 pub queues_of-set : (queues : List Waiting) (core : ℕ) (queue : Waiting) → queues_of (slice_set queues core queue) ≡ slice_set (queues_of queues) core (blocks_of queue.requests)
 queues_of-set queues core queue = map-set (λ (q : Waiting). blocks_of q.requests) queues core queue
@@ -46,19 +45,19 @@ pub IsSound-room : (shape : Extent) (caches : List (List Line)) (bus : Traffic) 
 IsSound-room shape caches bus core room within sound =
     let after : Traffic = record bus { queues = slice_set bus.queues core (record { requests = (waiting_of bus core).requests; room = room }) } in
     let same : (k : ℕ) → (waiting_of after k).requests ≡ (waiting_of bus k).requests = λ k. elim (cases_eq k core) [
-      | inl e ↦ ap (λ x. (waiting_of after x).requests) e ∙ (ap (λ (q : Waiting). q.requests) (get_or-set_same bus.queues core (record { requests = (waiting_of bus core).requests; room = room }) no_queue within) ∙ ap (λ x. (waiting_of bus x).requests) (sym e))
+      | inl e ↦ rw (e, get_or-set_same bus.queues core (record { requests = (waiting_of bus core).requests; room = room }) no_queue within)
       | inr ne ↦ ap (λ (q : Waiting). q.requests) (get_or-set_other bus.queues core k (record { requests = (waiting_of bus core).requests; room = room }) no_queue ne)
     ] in
     record {
       rows = sound.rows;
       row = sound.row;
-      queues = length-set bus.queues core (record { requests = (waiting_of bus core).requests; room = room }) ∙ sound.queues;
       transactions = sound.transactions;
       proper = sound.proper;
       opened = sound.opened;
-      queued = λ k b q h. sound.queued k b q (let P : List (Request × ℕ) → Type 0 = λ x. Contains x (q, b) in subst P (same k) h);
-      waits = λ k b q h. (let P : List (Request × ℕ) → Type 0 = λ x. Contains x (q, b) in subst P (sym (same k)) (sound.waits k b q h));
-      once = λ k. (let P : List (Request × ℕ) → Type 0 = λ x. IsEachOnce x in subst P (sym (same k)) (sound.once k));
+      queues = length-set bus.queues core (record { requests = (waiting_of bus core).requests; room = room }) ∙ sound.queues;
+      queued = λ k b q h. sound.queued k b q (rw (same k) at h);
+      waits = λ k b q h. rw (same k) (sound.waits k b q h);
+      once = λ k. rw (same k) (sound.once k);
     }
 
 -- the parts fit together when a transaction closes

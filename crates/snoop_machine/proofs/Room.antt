@@ -1,5 +1,5 @@
 -- The room that a machine has goes on from step to step.
-use Rattle.std.proofs.Common.{◌≡◌, ◌<◌, ◌≤◌, ◌+◌, ℕ, zero, suc, List, [], ◌∷◌, length, map, inl, inr, refl, sym, ap, subst, arith, ◌∙◌}
+use Rattle.std.proofs.Common.{◌≡◌, ◌<◌, ◌≤◌, ◌+◌, ℕ, zero, suc, List, [], ◌∷◌, length, map, inl, inr, refl, sym, ap, arith, ◌∙◌}
 use Rattle.std.specs.Prelude.{min, slice_index, slice_index_or, slice_set}
 use Rattle.std.proofs.lemmas.Bool.{cases_eq}
 use Rattle.std.proofs.lemmas.List.{length-map, get_or-set_same, get_or-set_other}
@@ -10,6 +10,7 @@ use Rattle.snoop_machine.specs.Standing.{Standing, KeepsRoom}
 use Rattle.snoop_machine.specs.Prepared.{places}
 use Rattle.snoop_machine.specs.Lines.{Held, KeepsMapsRoom}
 use Rattle.snoop_machine.specs.PartsView.{Fields, queues_of, shown_line_room, shown_line_rooms, standing}
+use Rattle.snoop_machine.proofs.MapRows.{get_or-mapped}
 use Rattle.snoop_machine.proofs.QueueViews.{queue_of-queues_of}
 
 -- how many requests of the core find room in all
@@ -23,9 +24,7 @@ none-min : (a b : ℕ) → b ≡ 0 → min a b ≡ 0
 none-min a b none = omega arith
 
 rooms_at : (queues : List Waiting) (core : ℕ) → slice_index (map (λ (q : Waiting). q.room) queues) core ≡ (slice_index_or queues core no_queue).room
-rooms_at [] core = refl
-rooms_at (q ∷ qs) zero = refl
-rooms_at (q ∷ qs) (suc core) = rooms_at qs core
+rooms_at queues core = get_or-mapped (λ (q : Waiting). q.room) queues no_queue core
 
 -- it is the capacity that callers see
 pub capacity_held : (queues : List Waiting) (core : ℕ) → length (queue_of (queues_of queues) core) + slice_index (map (λ (q : Waiting). q.room) queues) core ≡ held_in queues core
@@ -38,16 +37,8 @@ capacity_held queues core =
 -- another queue for one core, of no less capacity
 pub held_in-set : (queues : List Waiting) (core : ℕ) (queue : Waiting) → core < length queues → held_in queues core ≤ length queue.requests + queue.room → (k : ℕ) → held_in queues k ≤ held_in (slice_set queues core queue) k
 held_in-set queues core queue within more k = elim (cases_eq k core) [
-  | inl e ↦
-      let same = get_or-set_same queues core queue no_queue within in
-      let P : ℕ → Type 0 = λ n. held_in queues n ≤ held_in (slice_set queues core queue) n in
-      let Q : Waiting → Type 0 = λ w. held_in queues core ≤ length w.requests + w.room in
-      subst P (sym e) (subst Q (sym same) more)
-  | inr ne ↦
-      let other = get_or-set_other queues core k queue no_queue ne in
-      let Q : Waiting → Type 0 = λ w. held_in queues k ≤ length w.requests + w.room in
-      let here : held_in queues k ≤ held_in queues k = omega arith in
-      subst Q (sym other) here
+  | inl e ↦ rw (e, get_or-set_same queues core queue no_queue within) more
+  | inr ne ↦ rw (get_or-set_other queues core k queue no_queue ne) (omega arith)
 ]
 
 shown-full : (room spare : ℕ) → room ≡ 0 → shown_line_room room spare ≡ 0
@@ -95,8 +86,7 @@ places-map m core full =
 pub keeps_room : (old new : Fields) (view : Standing) → standing old ≡ view → length old.log.items + old.log.room ≤ length new.log.items + new.log.room → ((core : ℕ) → held_in old.bus.queues core ≤ held_in new.bus.queues core)
     → KeepsMapsRoom old.lines new.lines → KeepsRoom view (standing new)
 keeps_room old new view is items queues line_rooms =
-    let P : Standing → Type 0 = λ s. KeepsRoom s (standing new) in
-    subst P is (record {
+    rw (← is) (record {
       items = items;
       requests = λ core.
           let before = capacity_held old.bus.queues core in

@@ -1,5 +1,5 @@
 -- One step more of the steps that a machine takes.
-use Rattle.std.proofs.Common.{◌≡◌, ◌<◌, take, length, get_or, ℕ, ◌+◌, List, [], ◌∷◌, ◌++◌, Option, refl, ap, sym, subst, arith, cond, true, false}
+use Rattle.std.proofs.Common.{◌≡◌, ◌<◌, take, length, get_or, ℕ, ◌+◌, List, [], ◌∷◌, ◌++◌, Option, refl, ap, subst, arith, cond}
 use Rattle.std.specs.Prelude.{Result, Ok, Err, IfOk, IfErr, is_ok, count_by}
 use Rattle.std.proofs.lemmas.List.Sums.{sum_by-append}
 use Rattle.std.proofs.lemmas.List.{take_more}
@@ -39,11 +39,11 @@ pub record Going (old : Standing) (steps : List Step) (taken : ℕ) (new : Stand
 counted : (outcomes : List (Result Reply Refused)) (outcome : Result Reply Refused) → count_by is_ok (outcomes ++ outcome ∷ []) ≡ count_by is_ok outcomes + count_by is_ok (outcome ∷ [])
 counted outcomes outcome = sum_by-append (λ x. cond (is_ok x) 1 0) outcomes (outcome ∷ [])
 
--- one step more, and how many were taken then
-Going-step : (old middle new : Standing) (steps : List Step) (taken : ℕ) (step : Step) (result : Result Reply Refused) → Going old steps taken middle → Answers middle step result new → MachineKeeps new.situation
-    → (all : ℕ) → all ≡ taken + count_by is_ok (result ∷ []) → Going old (steps ++ step ∷ []) all new
-Going-step old middle new steps taken step result g goes keeps all more =
-    let one = counted g.outcomes result in
+-- one step more
+pub Going-more : (old middle new : Standing) (steps : List Step) (taken count : ℕ) (step : Step) (result : Result Reply Refused) → Going old steps taken middle
+    → Answers middle step result new → MachineKeeps new.situation → count ≡ taken + count_by is_ok (result ∷ []) → Going old (steps ++ step ∷ []) count new
+Going-more old middle new steps taken count step result g goes keeps more =
+    let all = counted g.outcomes result in
     let was = g.many in
     record { outcomes = g.outcomes ++ result ∷ []; run = run_more AnswersSafely steps g.outcomes old middle new step result g.run (goes, is_safe new.situation keeps); many = omega arith; keeps = keeps }
 
@@ -69,11 +69,5 @@ module _ (old middle new : Standing) (steps : List Step) (i : ℕ) (d : Step) (t
   keeps : MachineKeeps new.situation
   keeps = step_keeps middle new (get_or steps i d) result so_far.keeps moved refused
 
-  more : (all : ℕ) → all ≡ taken + count_by is_ok (result ∷ []) → Going old (take (i + 1) steps) all new
-  more all counts = subst (λ (l : List Step). Going old l all new) (sym (take_more steps i d within)) (Going-step old middle new (take i steps) taken (get_or steps i d) result so_far goes keeps all counts)
-
-  pub more_taken : is_ok result ≡ true → Going old (take (i + 1) steps) (taken + 1) new
-  more_taken ok = let one : count_by is_ok (result ∷ []) ≡ 1 = rw ok refl in more (taken + 1) (omega arith)
-
-  pub more_refused : is_ok result ≡ false → Going old (take (i + 1) steps) taken new
-  more_refused err = let none : count_by is_ok (result ∷ []) ≡ 0 = rw err refl in more taken (omega arith)
+  pub goes_on : (count : ℕ) → count ≡ taken + count_by is_ok (result ∷ []) → Going old (take (i + 1) steps) count new
+  goes_on count more = rw (take_more steps i d within) (Going-more old middle new (take i steps) taken count (get_or steps i d) result so_far goes keeps more)

@@ -1,14 +1,20 @@
 -- The lines of one core, as its map keeps them.
 -- Source: this project's profile.
-use Rattle.std.specs.Prelude.{ℕ, ◌+◌, ◌-◌, ◌<◌, ◌≤◌, List, [], Option, Some, None, ⊤, length, unwrap_or, option_map, nat_eq, map, slice_set}
+use Rattle.std.specs.Prelude.{◌≡◌, ◌≢◌, ℕ, ◌+◌, ◌-◌, ◌<◌, ◌≤◌, List, [], Option, Some, None, ⊤, length, unwrap_or, option_map, nat_eq, map, slice_set}
 use Rattle.std.specs.Map.{lookup, keys_of}
 use Rattle.snoop_model.specs.Pictures.Lines.{Line}
 use Rattle.snoop_model.specs.Pictures.Picture.{nothing_held, kept_on}
 use Rattle.snoop_model.specs.declared.access.Access.{Access}
 use Rattle.snoop_trace.specs.Words.{Data}
+use Rattle.snoop_trace.specs.declared.protocol.Protocol.{Protocol}
 use Rattle.snoop_trace.specs.declared.step.Op.{Op}
 use Rattle.snoop_trace.specs.declared.step.Op.TheVariants as op
 use Rattle.snoop_rules.specs.declared.names.CacheState.{CacheState}
+use Rattle.snoop_rules.specs.declared.names.CacheState.TheVariants.{I}
+use Rattle.snoop_rules.specs.declared.names.CacheEvent.{CacheEvent}
+use Rattle.snoop_rules.specs.declared.names.CacheAction.{CacheAction}
+use Rattle.snoop_rules.specs.Cell.{Cell}
+use Rattle.snoop_model.specs.Moves.Move.{moves_to}
 use Rattle.snoop_machine.specs.declared.cache.LineChange.{LineChange}
 use Rattle.snoop_machine.specs.declared.cache.LineChange.TheVariants.{Hit, Wait}
 
@@ -68,3 +74,19 @@ filled_line next access words = record { state = next; kept = Some (words_after 
 abbrev pub IsOfWords : ℕ → LineChange → Type 0
 IsOfWords count (Hit access) = access.word < count
 IsOfWords count _ = ⊤
+
+-- the row of the block's line for an event leaves it as it is
+pub record IsStill (protocol : Protocol) (event : CacheEvent) (block : ℕ) (old new : Contents) : Type 0 where
+  pub row : (action : CacheAction) × (next : CacheState) × (Cell protocol (line_in old block).state event action next × (next ≡ (line_in old block).state))
+  pub same : line_in new block ≡ line_in old block
+  pub places : blocks_of new ≡ blocks_of old
+
+-- the block's line takes its row for an event, which moves it from one state to another; one that moves to I is taken out
+pub record TakesRow (protocol : Protocol) (event : CacheEvent) (block : ℕ) (before after : CacheState) (old new : Contents) : Type 0 where
+  pub from : before ≡ (line_in old block).state
+  pub differs : after ≢ before
+  pub row : (action : CacheAction) × Cell protocol (line_in old block).state event action after
+  pub here : after ≢ I → line_in new block ≡ moves_to after (line_in old block)
+  pub places : after ≢ I → blocks_of new ≡ blocks_of old
+  pub taken : after ≡ I → lookup (nat_eq block) new.entries ≡ None
+  pub fewer : after ≡ I → length new.entries + 1 ≡ length old.entries

@@ -2,7 +2,7 @@
 -- Source: this project's profile.
 use Rattle.std.specs.Prelude.{◌≡◌, ℕ, ◌+◌, ◌⊎◌, false}
 use Rattle.snoop_machine.specs.declared.ask.Asked.{Asked}
-use Rattle.snoop_machine.specs.declared.ask.Asked.TheVariants as asked
+use Rattle.snoop_machine.specs.declared.ask.Asked.TheVariants.{Issue}
 use Rattle.snoop_machine.specs.declared.plan.Plan.{Plan}
 use Rattle.snoop_machine.specs.declared.plan.Plan.TheVariants.{Ask}
 use Rattle.snoop_rules.specs.declared.names.CacheState.TheVariants.{I}
@@ -22,10 +22,10 @@ AddsLine asker block old new core =
 
 -- the room for an Ask adds one line at most, and only where it issues a request that has no line yet
 abbrev pub AddsLinesToAsk : Asked → ℕ → ℕ → Standing → Standing → ℕ → Type 0
-AddsLinesToAsk (asked.Issue request next) asker block old new core = AddsLine asker block old new core
+AddsLinesToAsk (Issue request next) asker block old new core = AddsLine asker block old new core
 AddsLinesToAsk _ asker block old new core = line_count new core ≡ line_count old core
 
 -- the room for a step adds one line at most, and only where it is an Ask that issues a request that has no line yet
 abbrev pub AddsLines : Plan → Standing → Standing → ℕ → Type 0
-AddsLines (Ask asker block word asking way) old new core = AddsLinesToAsk way asker block old new core
+AddsLines (Ask asker block word asking asked) old new core = AddsLinesToAsk asked asker block old new core
 AddsLines _ old new core = line_count new core ≡ line_count old core

@@ -15,7 +15,7 @@ use Rattle.snoop_rules.specs.Takers.{at_memory, seen_by}
 use Rattle.snoop_history.specs.declared.items.Came.{Came}
 use Rattle.snoop_history.specs.declared.items.Item.{Item}
 use Rattle.snoop_history.specs.declared.items.Item.TheVariants as item
-use Rattle.snoop_machine.specs.declared.ask.Asked.TheVariants as asked
+use Rattle.snoop_machine.specs.declared.ask.Asked.TheVariants.{Absent, Hit, Issue, Drop}
 use Rattle.snoop_machine.specs.declared.plan.Plan.{Plan}
 use Rattle.snoop_machine.specs.declared.plan.Plan.TheVariants.{Ask, Order, Writeback, Fill}
 use Rattle.snoop_machine.specs.Standing.{Standing, has_line}
@@ -32,7 +32,7 @@ use Rattle.snoop_machine.specs.Asked.{TakesAsk}
 
 -- the step that a plan is for
 abbrev pub step_of : Plan → Step
-step_of (Ask core block word asking way) = step.Ask core block word asking
+step_of (Ask core block word asking asked) = step.Ask core block word asking
 step_of (Order core request block from payload memory) = step.Order core
 step_of (Writeback came memory) = step.Respond came.block
 step_of (Fill came memory filled) = step.Respond came.block
@@ -54,7 +54,7 @@ pub record IsClosing (s : Situation) (came : Came) (memory : MemCell) : Type 0 w
 
 -- the rows were found for what the plan says
 abbrev pub IsPlan : Situation → Plan → Type 0
-IsPlan s (Ask core block word asking way) = IsWithin s core block × TakesAsk s.protocol (held_by (picture_of s block) core) word asking way × IsProper (held_by (picture_of s block) core) × HasWord s.shape word asking
+IsPlan s (Ask core block word asking asked) = IsWithin s core block × TakesAsk s.protocol (held_by (picture_of s block) core) word asking asked × IsProper (held_by (picture_of s block) core) × HasWord s.shape word asking
 IsPlan s (Order core request block from payload memory) = (core < s.shape.cores) × CanBeOrdered s core request block from payload memory
 IsPlan s (Writeback came memory) = (came.block < s.shape.blocks) × IsClosing s came memory × (came.request ≡ PutM)
 IsPlan s (Fill came memory filled) =
@@ -68,38 +68,38 @@ IsPlanFor s taking plan = (step_of plan ≡ taking) × IsPlan s plan
 
 -- for how many more such Asks of the core for the block there is room; one that adds neither item nor request always has it
 abbrev pub room_for_ask : Standing → ℕ → ℕ → Asked → ℕ
-room_for_ask before core block asked.Absent = 1
-room_for_ask before core block (asked.Hit next value) = before.room
-room_for_ask before core block (asked.Issue request next) = room_to_issue before core block
-room_for_ask before core block (asked.Drop next) = 1
+room_for_ask before core block Absent = 1
+room_for_ask before core block (Hit next value) = before.room
+room_for_ask before core block (Issue request next) = room_to_issue before core block
+room_for_ask before core block (Drop next) = 1
 
 -- there is room for what such an Ask of the core adds; and where it issues a request, there is the line that will wait for it
 abbrev pub HasRoomToAsk : Standing → ℕ → ℕ → Asked → Type 0
-HasRoomToAsk before core block asked.Absent = ⊤
-HasRoomToAsk before core block (asked.Hit next value) = 0 < before.room
-HasRoomToAsk before core block (asked.Issue request next) = (has_line before core block ≡ true) × (0 < slice_index before.request_rooms core)
-HasRoomToAsk before core block (asked.Drop next) = ⊤
+HasRoomToAsk before core block Absent = ⊤
+HasRoomToAsk before core block (Hit next value) = 0 < before.room
+HasRoomToAsk before core block (Issue request next) = (has_line before core block ≡ true) × (0 < slice_index before.request_rooms core)
+HasRoomToAsk before core block (Drop next) = ⊤
 
 -- for how many more such steps there is room
 abbrev pub room_for : Standing → Plan → ℕ
-room_for before (Ask core block word asking way) = room_for_ask before core block way
+room_for before (Ask core block word asking asked) = room_for_ask before core block asked
 room_for before _ = before.room
 
 -- there is room for what the planned step adds
 abbrev pub HasRoom : Standing → Plan → Type 0
-HasRoom before (Ask core block word asking way) = HasRoomToAsk before core block way
+HasRoom before (Ask core block word asking asked) = HasRoomToAsk before core block asked
 HasRoom before _ = 0 < before.room
 
 -- the item that an Ask adds: a hit is performed at once
 abbrev pub entry_of_ask : List Item → ℕ → ℕ → ℕ → Op → Asked → Option Item
-entry_of_ask log core block word asking asked.Absent = None
-entry_of_ask log core block word asking (asked.Hit next value) = Some (item.Did (next_did log core block word asking value true))
-entry_of_ask log core block word asking (asked.Issue request next) = None
-entry_of_ask log core block word asking (asked.Drop next) = None
+entry_of_ask log core block word asking Absent = None
+entry_of_ask log core block word asking (Hit next value) = Some (item.Did (next_did log core block word asking value true))
+entry_of_ask log core block word asking (Issue request next) = None
+entry_of_ask log core block word asking (Drop next) = None
 
 -- the item that a planned step adds, if any
 abbrev pub entry_of : List Item → Plan → Option Item
-entry_of log (Ask core block word asking way) = entry_of_ask log core block word asking way
+entry_of log (Ask core block word asking asked) = entry_of_ask log core block word asking asked
 entry_of log (Order core request block from payload memory) = Some (item.Sent (record { core = core; request = request; block = block }))
 entry_of log (Writeback came memory) = Some (item.Came came None)
 entry_of log (Fill came memory filled) =

@@ -1,10 +1,10 @@
 //! The lines of one core.
-ghost use Rattle.std.specs.Prelude.{◌≡◌, ◌≢◌, ℕ, ◌+◌, ◌<◌, ◌≤◌, ◌∷◌, ◌++◌, [], length, option_copied, option_map, unwrap_or, OnOk, OnErr, IfSome, IfNone, IsTrue, ◌↔◌, IsSome, false, is_some, nat_eq, Option, None, if◌then◌else◌};
+ghost use Rattle.std.specs.Prelude.{◌≡◌, ℕ, ◌+◌, ◌<◌, ◌≤◌, ◌∷◌, ◌++◌, [], length, option_copied, option_map, unwrap_or, OnOk, OnErr, IfSome, IfNone, IsTrue, ◌↔◌, IsSome, false, is_some, nat_eq, Option, None, if◌then◌else◌};
 ghost use Rattle.snoop_trace.specs.Words.{Data, word_at, zero_words};
 ghost use Rattle.std.specs.Map.{lookup};
 ghost use Rattle.snoop_rules.specs.declared.names.CacheState.TheVariants.{I};
 ghost use Rattle.snoop_model.specs.Pictures.Picture.{nothing_held, kept_on};
-ghost use Rattle.snoop_machine.specs.Cache.{line_in, line_of, blocks_of, changed, filled_line, IsOfWords, KeepsMapRoom};
+ghost use Rattle.snoop_machine.specs.Cache.{line_in, line_of, blocks_of, changed, filled_line, IsOfWords, KeepsMapRoom, IsStill, TakesRow};
 ghost use Rattle.snoop_machine.specs.declared.cache.LineChange.TheVariants.{Hit};
 ghost use Rattle.snoop_rules.specs.declared.names.CacheState.{CacheState};
 ghost use Rattle.snoop_rules.specs.declared.names.CacheAction.{CacheAction};
@@ -24,7 +24,7 @@ use std::marker::Model;
 pub(crate) enum LineChange {
     /// Nothing is performed.
     Move,
-    /// This is performed on the kept words.
+    /// This is performed on the kept words. The code builds it for stores alone; a load's hit, which changes no words, stands in contracts.
     Hit(Access),
     /// From now on this waits.
     Wait(Option<Access>),
@@ -357,16 +357,8 @@ impl<B: Block> Cache<B> {
     ) -> Option<(CacheState, CacheState)>
         requires row { HasRow protocol (line_in self.old block).state event }
         requires absent { (action : CacheAction) → (next : CacheState) → Cell protocol I event action next → next ≡ I }
-        ensures still { IfNone result ((action : CacheAction) × (next : CacheState) × (Cell protocol (line_in self.old block).state event action next × (next ≡ (line_in self.old block).state))) }
-        ensures same { IfNone result (line_in self.new block ≡ line_in self.old block) }
-        ensures places { IfNone result (blocks_of self.new ≡ blocks_of self.old) }
-        ensures before { IfSome result (λ states. states.0 ≡ (line_in self.old block).state) }
-        ensures differs { IfSome result (λ states. states.1 ≢ states.0) }
-        ensures row { IfSome result (λ states. (action : CacheAction) × Cell protocol (line_in self.old block).state event action states.1) }
-        ensures here { IfSome result (λ states. states.1 ≢ I → line_in self.new block ≡ moves_to states.1 (line_in self.old block)) }
-        ensures taken { IfSome result (λ states. states.1 ≡ I → lookup (nat_eq block) self.new.entries ≡ None) }
-        ensures fewer { IfSome result (λ states. states.1 ≡ I → length self.new.entries + 1 ≡ length self.old.entries) }
-        ensures stays { IfSome result (λ states. states.1 ≢ I → blocks_of self.new ≡ blocks_of self.old) }
+        ensures still { IfNone result (IsStill protocol event block self.old self.new) }
+        ensures moved { IfSome result (λ states. TakesRow protocol event block states.0 states.1 self.old self.new) }
         ensures others { (b : ℕ) → nat_eq block b ≡ false → lookup (nat_eq b) self.new.entries ≡ lookup (nat_eq b) self.old.entries }
         ensures room { KeepsMapRoom self.old self.new }
     {

@@ -132,7 +132,7 @@ impl<B: Block> Parts<B> {
         self.lines.change(core, block, next, change);
     }
 
-    /// The line moves to its next state by a hit, which is performed on its words and logged. A load leaves the line as it is.
+    /// A hit is logged. A store's is performed on the line's words, and the line moves to its next state; a load's leaves the line as it is.
     #[inline(always)]
     fn hit_line(&mut self, core: u32, block: u32, next: CacheState, access: Access, value: u64)
         requires core { core < self.old.situation.shape.cores }

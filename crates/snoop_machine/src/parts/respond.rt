@@ -1,6 +1,5 @@
 //! A Respond: found, and made.
-ghost use Rattle.std.specs.Prelude.{◌≡◌, ◌≢◌, ◌<◌, ℕ, IfOk, IfErr, IfSome, Some, None, Err, false, option_map};
-ghost use Rattle.std.specs.Option.{ForSome};
+ghost use Rattle.std.specs.Prelude.{◌≡◌, ◌≢◌, ◌<◌, ℕ, IfOk, IfErr, IfSome, Some, None, Err, false};
 ghost use Rattle.snoop_trace.specs.declared.step.Step.TheVariants.{Respond};
 ghost use Rattle.snoop_trace.specs.Words.{IsWord};
 ghost use Rattle.snoop_rules.specs.declared.names.Request.TheVariants.{PutM};
@@ -8,10 +7,10 @@ ghost use Rattle.snoop_machine.specs.Standing.{KeepsRoom};
 ghost use Rattle.snoop_machine.specs.Following.{LosesLines};
 ghost use Rattle.snoop_model.specs.Pictures.Situation.{picture_of};
 ghost use Rattle.snoop_model.specs.Pictures.Picture.{held_by};
-ghost use Rattle.snoop_model.specs.Moves.Move.{Fills, Settles, RespondMove, came_of, next_did};
+ghost use Rattle.snoop_model.specs.Moves.Move.{Fills, RespondMove, came_of, next_did};
 ghost use Rattle.snoop_model.specs.Moves.Refuses.{Refuses};
 ghost use Rattle.snoop_machine.specs.Cache.{filled_line};
-ghost use Rattle.snoop_machine.specs.Plan.{IsPlanFor};
+ghost use Rattle.snoop_machine.specs.Plan.{IsClosing, IsPlanFor};
 ghost use Rattle.snoop_model.specs.Invariant.Invariant.{Invariant};
 ghost use Rattle.snoop_model.specs.declared.replies.Refused.{Refused};
 ghost use Rattle.snoop_model.specs.declared.replies.Reply.TheVariants as reply;
@@ -61,13 +60,10 @@ impl<B: Block> Parts<B> {
     /// Memory takes the message of a PutM, and its transaction closes.
     #[inline(always)]
     pub(super) fn finish_put(&mut self, came: Came, memory: MemCell)
-        requires core { came.core < self.old.situation.shape.cores }
-        requires sender { ForSome came.from (λ sender. sender < self.old.situation.shape.cores) }
         requires block { came.block < self.old.situation.shape.blocks }
         requires room { 0 < self.old.room }
-        requires opened { option_map came_of (picture_of self.old.situation came.block).transaction ≡ Some came }
+        requires closing { IsClosing self.old.situation came memory }
         requires put { came.request ≡ PutM }
-        requires settles { Settles self.old.situation.protocol came.request came.payload (picture_of self.old.situation came.block).memory.state memory.action memory.next }
         ensures responded { RespondMove came.block self.old.situation came.block (reply.Came came.payload came.from None) self.new.situation (Some (ItemCame came None)) }
         ensures room { KeepsRoom self.old self.new }
         ensures lines { (k : ℕ) → LosesLines self.old self.new k }
@@ -82,15 +78,12 @@ impl<B: Block> Parts<B> {
     /// The requestor and memory take the message of a GetS or GetM, and its transaction closes.
     #[inline(always)]
     pub(super) fn finish_get(&mut self, came: Came, filled: Filled, memory: MemCell) -> Did
-        requires core { came.core < self.old.situation.shape.cores }
-        requires sender { ForSome came.from (λ sender. sender < self.old.situation.shape.cores) }
         requires block { came.block < self.old.situation.shape.blocks }
         requires room { 0 < self.old.room }
-        requires opened { option_map came_of (picture_of self.old.situation came.block).transaction ≡ Some came }
+        requires closing { IsClosing self.old.situation came memory }
         requires get { came.request ≢ PutM }
         requires filled { IfSome (picture_of self.old.situation came.block).transaction (λ closing. Fills closing self.old.situation.protocol (held_by (picture_of self.old.situation came.block) closing.core) (filled_line filled.next filled.access closing.value) filled.access filled.value) }
         requires word { IsWord self.old.situation.shape filled.access.word }
-        requires settles { Settles self.old.situation.protocol came.request came.payload (picture_of self.old.situation came.block).memory.state memory.action memory.next }
         ensures responded { RespondMove came.block self.old.situation came.block (reply.Came came.payload came.from (Some result)) self.new.situation (Some (ItemCame came (Some (next_did self.old.situation.log came.core came.block filled.access.word filled.access.op filled.value false)))) }
         ensures room { KeepsRoom self.old self.new }
         ensures lines { (k : ℕ) → LosesLines self.old self.new k }

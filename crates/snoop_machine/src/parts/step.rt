@@ -9,8 +9,8 @@ ghost use Rattle.snoop_model.specs.Pictures.Situation.{state_of};
 ghost use Rattle.snoop_machine.specs.Standing.{KeepsRoom, line_count, has_line};
 ghost use Rattle.snoop_machine.specs.Holding.{HoldsOn};
 ghost use Rattle.snoop_machine.specs.Prepared.{IsFull, IsPrepared, places, room_to_issue};
-ghost use Rattle.snoop_machine.specs.Following.{LosesLines, AddsLine, AddsLinesToAsk, AddsLines};
-ghost use Rattle.snoop_machine.specs.Plan.{IsPlan, IsPlanFor, HasRoom, HasRoomToAsk, step_of, room_for, room_for_ask, entry_of};
+ghost use Rattle.snoop_machine.specs.Following.{LosesLines, AddsLine, AddsLines};
+ghost use Rattle.snoop_machine.specs.Plan.{IsPlan, IsPlanFor, HasRoom, step_of, room_for, entry_of};
 ghost use Rattle.snoop_model.specs.Invariant.Invariant.{Invariant};
 ghost use Rattle.snoop_model.specs.declared.replies.Refused.{Refused};
 

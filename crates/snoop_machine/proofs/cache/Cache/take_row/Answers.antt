@@ -1,6 +1,17 @@
-use Rattle.std.proofs.Common.{◌∙◌, ap}
+use Rattle.std.proofs.Common.{rules, ◌∙◌, ap}
 use Rattle.snoop_machine.specs.Cache.{blocks_of}
 use Rattle.snoop_machine.proofs.cache.Cache.take_row.Goals as goal
 
-pub returns-else-matches-clause-stays : goal.returns-else-matches-clause-stays
-returns-else-matches-clause-stays g c = λ ne. (c.get_mut.follows.holds c.move_to.new.self).1 ∙ ap blocks_of c.self.view_is
+pub returns-then-eq-clause-still : goal.returns-then-eq-clause-still
+returns-then-eq-clause-still g c = record { row = search rules; same = search rules; places = search rules }
+
+pub returns-else-matches-clause-moved : goal.returns-else-matches-clause-moved
+returns-else-matches-clause-moved g c = record {
+  from = search rules;
+  differs = search rules;
+  row = search rules;
+  here = search rules;
+  places = λ ne. (c.get_mut.follows.holds c.move_to.new.self).1 ∙ ap blocks_of c.self.view_is;
+  taken = search rules;
+  fewer = search rules;
+}

@@ -16,18 +16,18 @@ use Rattle.snoop_machine.proofs.lines.Lines.concerned.Goals.{After-concerned}
 
 pub concerned-requires : goal.concerned-requires
 concerned-requires g c =
-    let h = (in_rows c.self.inside.caches.items c.self.inside.holders c.args.self.now c.self.view_is c.args.requestor c.args.block c.requires.block c.requires.requestor).1 in
+    let h = (in_rows c.self.invariant c.self.view_is c.args.requestor c.args.block c.requires.block c.requires.requestor).1 in
     let few = c.self.invariant.few in
     omega (arith, h, few)
 
 in_block : (g : Over) (c : After-concerned g) → c.args.block < length c.self.inside.holders
-in_block g c = (in_rows c.self.inside.caches.items c.self.inside.holders c.args.self.now c.self.view_is c.args.requestor c.args.block c.requires.block c.requires.requestor).0
+in_block g c = (in_rows c.self.invariant c.self.view_is c.args.requestor c.args.block c.requires.block c.requires.requestor).0
 
 -- the holders are those of the row
 fits : (g : Over) (c : After-concerned g) → AreHolders c.get_or-holders.result (slice_index_or c.args.self.now.rows c.args.block [])
 fits g c =
     let read : c.get_or-holders.result ≡ slice_index_or c.self.inside.holders c.args.block no_holders = c.get_or-holders.ensures ∙ get_or_default c.self.inside.holders c.args.block c.empty.result no_holders (in_block g c) in
-    subst (λ (row : List Line). AreHolders c.get_or-holders.result row) (row_seen c.self.inside.caches.items c.self.inside.holders c.args.self.now c.self.view_is c.args.block (in_block g c))
+    subst (λ (row : List Line). AreHolders c.get_or-holders.result row) (row_seen c.self.invariant c.self.view_is c.args.block (in_block g c))
     (subst (λ (h : Holders). AreHolders h (row_in c.self.inside.caches.items c.args.block)) (sym read) (c.self.invariant.indexed c.args.block (in_block g c)))
 
 pub returns-clause-others : goal.returns-clause-others
@@ -38,4 +38,4 @@ returns-clause-others g c k ne =
 pub returns-clause-proper : goal.returns-clause-proper
 returns-clause-proper g c k =
     let d = (goal.at.returns-clause-proper g c).After-concerned in
-    subst (λ (line : Line). IsProper line) (line_seen c.self.inside.caches.items c.self.inside.holders c.args.self.now c.self.view_is k c.args.block (in_block g d)) (c.self.invariant.proper k c.args.block)
+    subst (λ (line : Line). IsProper line) (line_seen c.self.invariant c.self.view_is k c.args.block (in_block g d)) (c.self.invariant.proper k c.args.block)

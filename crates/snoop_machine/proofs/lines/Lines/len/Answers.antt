@@ -5,11 +5,11 @@ use Rattle.snoop_machine.proofs.lines.Lines.len.Goals as goal
 
 pub returns-clause-held : goal.returns-clause-held
 returns-clause-held g c block held =
-    sym (among_seen c.self.inside.caches.items c.self.inside.holders c.args.self.now c.self.view_is c.args.core block) ∙ held_placed c.self.inside.caches.items c.self.inside.holders c.args.self.now c.self.view_is c.args.core block held
+    sym (among_seen c.self.invariant c.self.view_is c.args.core block) ∙ held_placed c.self.invariant c.self.view_is c.args.core block held
 
 pub returns-in_err-cache-clause-held : goal.returns-in_err-cache-clause-held
 returns-in_err-cache-clause-held g c block held =
-    sym (among_seen c.self.inside.caches.items c.self.inside.holders c.args.self.now c.self.view_is c.args.core block) ∙ held_placed c.self.inside.caches.items c.self.inside.holders c.args.self.now c.self.view_is c.args.core block held
+    sym (among_seen c.self.invariant c.self.view_is c.args.core block) ∙ held_placed c.self.invariant c.self.view_is c.args.core block held
 
 pub returns-clause-inside : goal.returns-clause-inside
 returns-clause-inside g c = grind (arith, common_steps)

@@ -2,7 +2,7 @@ use Rattle.std.proofs.Common.{◌≡◌, ℕ, ◌<◌, List, ◌++◌, ◌∷◌
 use Rattle.std.specs.Prelude.{slice_index_or, slice_set, nat_eq, map}
 use Rattle.std.specs.Map.{lookup}
 use Rattle.std.proofs.lemmas.List.{get_or_read, map-set}
-use Rattle.snoop_machine.specs.Cache.{Contents, no_cache, line_in, blocks_of, KeepsMapRoom}
+use Rattle.snoop_machine.specs.Cache.{Contents, no_cache, line_in, blocks_of}
 use Rattle.snoop_machine.specs.Lines.{Held}
 use Rattle.snoop_machine.proofs.MapRows.{rows-same}
 use Rattle.snoop_machine.proofs.LineMaps.{in_maps, among_seen, spare_seen, blocks_seen}
@@ -13,7 +13,7 @@ use Rattle.snoop_machine.proofs.lines.Lines.put_ahead.Goals as goal
 use Rattle.snoop_machine.proofs.lines.Lines.put_ahead.Goals.{After-index_mut-cache}
 
 within : (g : Over) (c : After-index_mut-cache g) → c.args.core < length c.self.inside.caches.items
-within g c = in_maps c.self.inside.caches.items c.self.inside.holders c.args.self.now c.self.view_is c.args.core c.requires.core
+within g c = in_maps c.self.invariant c.self.view_is c.args.core c.requires.core
 
 read : (g : Over) (c : After-index_mut-cache g) → c.index_mut-cache.result.now ≡ slice_index_or c.self.inside.caches.items c.args.core no_cache
 read g c = get_or_read c.self.inside.caches.items c.args.core c.index_mut-cache.result.now (within g c) c.index_mut-cache.ensures.value no_cache
@@ -21,36 +21,33 @@ read g c = get_or_read c.self.inside.caches.items c.args.core c.index_mut-cache.
 pub put_ahead-requires-clause-absent : goal.put_ahead-requires-clause-absent
 put_ahead-requires-clause-absent g c =
     let d = (goal.at.put_ahead-requires-clause-absent g c).After-index_mut-cache in
-    ap (λ (cache : Contents). is_some (lookup (nat_eq c.args.block) cache.entries)) (read g d) ∙ (among_seen c.self.inside.caches.items c.self.inside.holders c.args.self.now c.self.view_is c.args.core c.args.block ∙ c.requires.absent)
+    ap (λ (cache : Contents). is_some (lookup (nat_eq c.args.block) cache.entries)) (read g d)
+    ∙ (among_seen c.self.invariant c.self.view_is c.args.core c.args.block ∙ c.requires.absent)
 
 pub put_ahead-requires-clause-room : goal.put_ahead-requires-clause-room
 put_ahead-requires-clause-room g c =
     let d = (goal.at.put_ahead-requires-clause-room g c).After-index_mut-cache in
-    subst (λ (n : ℕ). 0 < n) (sym (ap (λ (cache : Contents). cache.spare) (read g d) ∙ spare_seen c.self.inside.caches.items c.self.inside.holders c.args.self.now c.self.view_is c.args.core)) c.requires.room
+    subst (λ (n : ℕ). 0 < n) (sym (ap (λ (cache : Contents). cache.spare) (read g d) ∙ spare_seen c.self.invariant c.self.view_is c.args.core)) c.requires.room
 
 pub invariant_of-self : goal.invariant_of-self
 invariant_of-self g c =
     let d = (goal.at.invariant_of-self g c).After-index_mut-cache in
-    AreLines-alike c.self.inside.caches.items c.self.inside.holders c.self.invariant c.args.core c.put_ahead.new.self (within g d)
+    AreLines-alike c.self.invariant c.args.core c.put_ahead.new.self (within g d)
     (λ b. c.put_ahead.ensures.same b ∙ ap (λ (cache : Contents). line_in cache b) (read g d))
 
-pub returns-clause-rows : goal.returns-clause-rows
-returns-clause-rows g c =
-    let d = (goal.at.returns-clause-rows g c).After-index_mut-cache in
-    rows-same (length c.self.inside.holders) c.self.inside.caches.items c.args.core c.put_ahead.new.self
-    (λ b. c.put_ahead.ensures.same b ∙ ap (λ (cache : Contents). line_in cache b) (read g d))
-    ∙ ap (λ (h : Held). h.rows) c.self.view_is
-
-pub returns-clause-lines : goal.returns-clause-lines
-returns-clause-lines g c =
-    let d = (goal.at.returns-clause-lines g c).After-index_mut-cache in
-    map-set blocks_of c.self.inside.caches.items c.args.core c.put_ahead.new.self
-    ∙ (ap (λ (blocks : List ℕ). slice_set (map blocks_of c.self.inside.caches.items) c.args.core blocks)
-    (c.put_ahead.ensures.blocks ∙ ap (λ (blocks : List ℕ). blocks ++ c.args.block ∷ []) (ap blocks_of (read g d) ∙ blocks_seen c.self.inside.caches.items c.self.inside.holders c.args.self.now c.self.view_is c.args.core))
-    ∙ ap (λ (lines : List (List ℕ)). slice_set lines c.args.core (slice_index_or c.args.self.now.lines c.args.core [] ++ c.args.block ∷ [])) (ap (λ (h : Held). h.lines) c.self.view_is))
-
-pub returns-clause-room : goal.returns-clause-room
-returns-clause-room g c =
-    let d = (goal.at.returns-clause-room g c).After-index_mut-cache in
-    spares_kept c.self.inside.caches.items c.self.inside.holders c.args.self.now c.self.view_is c.args.core c.put_ahead.new.self c.self.inside.holders (within g d)
-    (subst (λ (cache : Contents). KeepsMapRoom cache c.put_ahead.new.self) (read g d) c.put_ahead.ensures.room)
+pub returns : goal.returns
+returns g c =
+    let d = (goal.at.returns g c).After-index_mut-cache in
+    let caches = c.self.inside.caches.items in
+    let core = c.args.core in
+    let blocks = c.put_ahead.ensures.blocks
+    ∙ ap (λ (blocks : List ℕ). blocks ++ c.args.block ∷ []) (ap blocks_of (read g d) ∙ blocks_seen c.self.invariant c.self.view_is core) in
+    record {
+      rows = rows-same (length c.self.inside.holders) caches core c.put_ahead.new.self
+          (λ b. c.put_ahead.ensures.same b ∙ ap (λ (cache : Contents). line_in cache b) (read g d))
+          ∙ ap (λ (h : Held). h.rows) c.self.view_is;
+      lines = map-set blocks_of caches core c.put_ahead.new.self
+          ∙ (ap (λ (blocks : List ℕ). slice_set (map blocks_of caches) core blocks) blocks
+          ∙ ap (λ (h : Held). slice_set h.lines core (slice_index_or c.args.self.now.lines core [] ++ c.args.block ∷ [])) c.self.view_is);
+      room = spares_kept c.self.invariant c.self.view_is core c.put_ahead.new.self c.self.inside.holders (within g d) (rw (read g d) at c.put_ahead.ensures.room);
+    }

@@ -13,7 +13,7 @@ use Rattle.snoop_machine.proofs.lines.Lines.reserve.Goals as goal
 use Rattle.snoop_machine.proofs.lines.Lines.reserve.Goals.{After-reserve}
 
 within : (g : Over) (c : After-reserve g) → c.args.core < length c.self.inside.caches.items
-within g c = in_maps c.self.inside.caches.items c.self.inside.holders c.args.self.now c.self.view_is c.args.core c.requires.core
+within g c = in_maps c.self.invariant c.self.view_is c.args.core c.requires.core
 
 read : (g : Over) (c : After-reserve g) → c.index_mut-cache.result.now ≡ slice_index_or c.self.inside.caches.items c.args.core no_cache
 read g c = get_or_read c.self.inside.caches.items c.args.core c.index_mut-cache.result.now (within g c) c.index_mut-cache.ensures.value no_cache
@@ -25,7 +25,7 @@ same g c = c.reserve.ensures.same ∙ ap (λ (cache : Contents). cache.entries) 
 pub invariant_of-self : goal.invariant_of-self
 invariant_of-self g c =
     let d = (goal.at.invariant_of-self g c).After-reserve in
-    AreLines-alike c.self.inside.caches.items c.self.inside.holders c.self.invariant c.args.core c.reserve.new.self (within g d)
+    AreLines-alike c.self.invariant c.args.core c.reserve.new.self (within g d)
     (line-same c.reserve.new.self (slice_index_or c.self.inside.caches.items c.args.core no_cache) (same g d))
 
 pub returns-clause-rows : goal.returns-clause-rows
@@ -54,9 +54,9 @@ returns-clause-ok g c =
     let d = (goal.at.returns-clause-ok g c).After-reserve in
     subst (λ (n : ℕ). OnOk c.reserve.result (0 < n)) (sym (here g d)) c.reserve.ensures.ok
 
-pub returns-clause-spares : goal.returns-clause-spares
-returns-clause-spares g c =
-    let d = (goal.at.returns-clause-spares g c).After-reserve in
+pub returns-clause-line_rooms : goal.returns-clause-line_rooms
+returns-clause-line_rooms g c =
+    let d = (goal.at.returns-clause-line_rooms g c).After-reserve in
     map-set (λ (cache : Contents). cache.spare) c.self.inside.caches.items c.args.core c.reserve.new.self
     ∙ (ap (λ (n : ℕ). slice_set (map (λ (cache : Contents). cache.spare) c.self.inside.caches.items) c.args.core n) (sym (here g d))
     ∙ ap (λ (h : Held). slice_set h.line_rooms c.args.core (slice_index_or (line_rooms g d) c.args.core 0)) c.self.view_is)
@@ -64,5 +64,5 @@ returns-clause-spares g c =
 pub returns-clause-room : goal.returns-clause-room
 returns-clause-room g c =
     let d = (goal.at.returns-clause-room g c).After-reserve in
-    spares_kept c.self.inside.caches.items c.self.inside.holders c.args.self.now c.self.view_is c.args.core c.reserve.new.self c.self.inside.holders (within g d)
+    spares_kept c.self.invariant c.self.view_is c.args.core c.reserve.new.self c.self.inside.holders (within g d)
     (subst (λ (cache : Contents). KeepsMapRoom cache c.reserve.new.self) (read g d) c.reserve.ensures.room)

@@ -1,34 +1,24 @@
-use Rattle.std.proofs.Common.{◌≡◌, ℕ, ◌<◌, length, arith, sym, ap, ◌∙◌, subst, Option, Some, None}
+use Rattle.std.proofs.Common.{ℕ, ◌<◌, length, arith, sym, ap, ◌∙◌, Option, Some, None}
 use Rattle.std.specs.Prelude.{slice_index_or}
-use Rattle.snoop_rules.specs.declared.names.CacheState.{CacheState}
-use Rattle.snoop_rules.specs.declared.names.CacheEvent.{CacheEvent}
-use Rattle.snoop_rules.specs.declared.names.CacheAction.{CacheAction}
-use Rattle.snoop_rules.specs.declared.names.MemAction.{MemAction}
-use Rattle.snoop_rules.specs.declared.names.MemEvent.{MemEvent}
-use Rattle.snoop_rules.specs.declared.names.MemState.{MemState}
 use Rattle.snoop_rules.specs.declared.names.Payload.{Payload}
-use Rattle.snoop_rules.specs.declared.names.CacheCell.{CacheCell}
 use Rattle.snoop_rules.specs.Cell.{Cell}
 use Rattle.snoop_rules.specs.MemoryCell.{MemoryCell}
-use Rattle.snoop_rules.specs.Possible.{IsImpossible}
 use Rattle.snoop_rules.specs.Takers.{seen_by, at_memory}
 use Rattle.snoop_model.specs.Pictures.Picture.{free_picture, held_at}
 use Rattle.snoop_model.specs.Pictures.Sends.{Sends, IsOnlySender}
 use Rattle.snoop_model.proofs.Tables.SentBy.{sent_by, sends_row}
 use Rattle.snoop_model.proofs.Lines.TheSender.{Silent-none, Silent-more, Silent-past, Silent-all}
-use Rattle.snoop_machine.proofs.ConcernedCores.{concerned_within, waits_within, Cell-passed}
+use Rattle.snoop_machine.proofs.ConcernedCores.{AreConcerned, concerned_within, waits_within, Cell-passed}
 use Rattle.snoop_machine.proofs.lines.Lines.sender.Given.{Over}
 use Rattle.snoop_machine.proofs.lines.Lines.sender.Goals as goal
-use Rattle.snoop_machine.proofs.lines.Lines.sender.Goals.{In-Some, In-Some-cache_cell, In-Some-next}
+use Rattle.snoop_machine.proofs.lines.Lines.sender.Goals.{After-concerned-concerned, In-Some, In-Some-cache_cell, In-Some-next}
 use Rattle.snoop_machine.specs.Lines.{row_of}
 use Rattle.snoop_machine.specs.PartsView.{no_memory}
 
 -- memory's row
 memory_row : (g : Over) (c : In-Some g) → MemoryCell c.args.protocol (slice_index_or c.args.memory.now c.args.block no_memory).state (at_memory c.args.request) c.in-Some.row.action c.in-Some.row.next
 memory_row g c =
-    let P : MemEvent → Type 0 = λ event. MemoryCell c.args.protocol c.state.result event c.in-Some.row.action c.in-Some.row.next in
-    let Q : MemState → Type 0 = λ state. MemoryCell c.args.protocol state (at_memory c.args.request) c.in-Some.row.action c.in-Some.row.next in
-    subst Q c.state.ensures (subst P c.event_at_memory.ensures c.in-Some.ensures.row)
+    rw (c.event_at_memory.ensures, c.state.ensures) at c.in-Some.ensures.row
 
 -- who sends is the only one that does
 sends : (g : Over) (c : In-Some g) (from : Option ℕ) (payload : Payload)
@@ -40,14 +30,19 @@ pub returns-in-Some-sent_by_memory-clause-sender : goal.returns-in-Some-sent_by_
 returns-in-Some-sent_by_memory-clause-sender g c =
     let d = (goal.at.returns-in-Some-sent_by_memory-clause-sender g c).In-Some in
     let held = slice_index_or c.args.memory.now c.args.block no_memory in
-    let P : MemAction → Type 0 = λ act. MemoryCell c.args.protocol held.state (at_memory c.args.request) act c.in-Some.row.next in
-    sends g d None c.in-Some-sent_by_memory.payload (c.in-Some.row.next, subst P c.in-Some-sent_by_memory.ensures.some (memory_row g d))
+    sends g d None c.in-Some-sent_by_memory.payload (c.in-Some.row.next, rw c.in-Some-sent_by_memory.ensures.some at (memory_row g d))
 
 requestor_within : (g : Over) (c : In-Some-next g) → c.args.requestor < length (row_of c.args.self.now.rows c.args.block)
 requestor_within g c = waits_within (row_of c.args.self.now.rows c.args.block) c.args.requestor c.args.request c.requires.waits
 
+-- the set has the cores that the request concerns
+concerned : (g : Over) (c : After-concerned-concerned g)
+    → AreConcerned (row_of c.args.self.now.rows c.args.block) c.args.requestor c.args.request c.concerned-concerned.result
+concerned g c = record { own = c.concerned-concerned.ensures.own; others = c.concerned-concerned.ensures.others }
+
 within_row : (g : Over) (c : In-Some-next g) → c.in-Some-next.core < length (row_of c.args.self.now.rows c.args.block)
-within_row g c = concerned_within c.args.protocol (row_of c.args.self.now.rows c.args.block) c.args.requestor c.args.request c.concerned-concerned.result c.concerned-concerned.ensures.own c.concerned-concerned.ensures.others (requestor_within g c) c.in-Some-next.core c.in-Some-next.ensures.some.2
+within_row g c =
+    concerned_within (concerned g (goal.at.In-Some-next g c).After-concerned-concerned) (requestor_within g c) c.in-Some-next.core c.in-Some-next.ensures.some.2
 
 pub state-state-requires-clause-core : goal.state-state-requires-clause-core
 state-state-requires-clause-core g c = within_row g (goal.at.state-state-requires-clause-core g c).In-Some-next
@@ -55,18 +50,14 @@ state-state-requires-clause-core g c = within_row g (goal.at.state-state-require
 -- the row of the core that is looked at, in the picture
 row : (g : Over) (c : In-Some-cache_cell g) → Cell c.args.protocol (held_at (row_of c.args.self.now.rows c.args.block) c.in-Some-next.core).state (seen_by c.in-Some-next.core c.args.requestor c.args.request) c.in-Some-cache_cell.cell.action c.in-Some-cache_cell.cell.next
 row g c =
-    let P : CacheEvent → Type 0 = λ event. Cell c.args.protocol c.state-state.result event c.in-Some-cache_cell.cell.action c.in-Some-cache_cell.cell.next in
-    let Q : CacheState → Type 0 = λ state. Cell c.args.protocol state (seen_by c.in-Some-next.core c.args.requestor c.args.request) c.in-Some-cache_cell.cell.action c.in-Some-cache_cell.cell.next in
-    subst Q (c.state-state.ensures) (subst P c.event_seen.ensures c.in-Some-cache_cell.ensures.row)
+    rw (c.event_seen.ensures, c.state-state.ensures) at c.in-Some-cache_cell.ensures.row
 
 pub unreachable-requires-in_default-cache_cell : goal.unreachable-requires-in_default-cache_cell
 unreachable-requires-in_default-cache_cell g c =
     let core = c.in-Some-next.core in
-    let P : CacheEvent → Type 0 = λ event. IsImpossible c.args.protocol c.state-state.result event in
-    let Q : CacheState → Type 0 = λ state. IsImpossible c.args.protocol state (seen_by core c.args.requestor c.args.request) in
-    let none = subst Q (c.state-state.ensures) (subst P c.event_seen.ensures c.in_default-cache_cell.ensures.impossible) in
-    let there = c.requires.rows core (within_row g (goal.at.unreachable-requires-in_default-cache_cell g c).In-Some-next) in
-    let clash : ◌≡◌ {A = Option CacheCell} None (Some there.0) = sym none ∙ there.1 in
+    let none = rw (c.event_seen.ensures, c.state-state.ensures) at c.in_default-cache_cell.ensures.impossible in
+    let there = (c.requires.rows core (within_row g (goal.at.unreachable-requires-in_default-cache_cell g c).In-Some-next)).1 in
+    let clash = sym none ∙ there in
     cc
 
 pub returns-in-Send-clause-sender : goal.returns-in-Send-clause-sender
@@ -74,8 +65,8 @@ returns-in-Send-clause-sender g c =
     let d = (goal.at.returns-in-Send-clause-sender g c).In-Some-cache_cell in
     let before = free_picture (row_of c.args.self.now.rows c.args.block) (slice_index_or c.args.memory.now c.args.block no_memory) in
     let core = c.in-Some-next.core in
-    let P : CacheAction → Type 0 = λ act. Cell c.args.protocol (held_at (row_of c.args.self.now.rows c.args.block) core).state (seen_by core c.args.requestor c.args.request) act c.in-Some-cache_cell.cell.next in
-    sends g (goal.at.returns-in-Send-clause-sender g c).In-Some (Some core) c.in-Send.payload (within_row g (goal.at.returns-in-Send-clause-sender g c).In-Some-next, sends_row _ _ (ap sent_by (subst P c.in-Send.is (row g d))))
+    sends g (goal.at.returns-in-Send-clause-sender g c).In-Some (Some core) c.in-Send.payload
+    (within_row g (goal.at.returns-in-Send-clause-sender g c).In-Some-next, sends_row _ _ (ap sent_by (rw c.in-Send.is at (row g d))))
 
 pub loop-core-init : goal.loop-core-init
 loop-core-init g c =
@@ -94,7 +85,7 @@ loop-core-preserved g c =
     let core = c.in-Some-next.core in
     let within : core < length (row_of c.args.self.now.rows c.args.block) = within_row g (goal.at.loop-core-preserved g c).In-Some-next in
     let silent = Silent-past c.args.protocol before c.args.requestor c.args.request c.loop-core.from core c.in-Some-next.ensures.some.0
-    (λ k above below. Cell-passed c.args.protocol (row_of c.args.self.now.rows c.args.block) c.args.requestor c.args.request c.concerned-concerned.result c.concerned-concerned.ensures.own c.concerned-concerned.ensures.others c.requires.rows k (omega arith)
+    (λ k above below. Cell-passed (concerned g (goal.at.loop-core-preserved g c).After-concerned-concerned) c.args.protocol c.requires.rows k (omega arith)
     (c.in-Some-next.ensures.some.3 k above below))
     c.loop-core.invariant.0 in (
       Silent-more c.args.protocol before c.args.requestor c.args.request core c.in-Some-cache_cell.cell.action c.in-Some-cache_cell.cell.next
@@ -106,7 +97,7 @@ pub unreachable-requires-2 : goal.unreachable-requires-2
 unreachable-requires-2 g c =
     let before = free_picture (row_of c.args.self.now.rows c.args.block) (slice_index_or c.args.memory.now c.args.block no_memory) in
     let silent = Silent-past c.args.protocol before c.args.requestor c.args.request c.loop-core.from (length (row_of c.args.self.now.rows c.args.block)) c.loop-core.invariant.1
-    (λ k above below. Cell-passed c.args.protocol (row_of c.args.self.now.rows c.args.block) c.args.requestor c.args.request c.concerned-concerned.result c.concerned-concerned.ensures.own c.concerned-concerned.ensures.others c.requires.rows k below
+    (λ k above below. Cell-passed (concerned g (goal.at.unreachable-requires-2 g c).After-concerned-concerned) c.args.protocol c.requires.rows k below
     (c.in_default-next.ensures.none k above))
     c.loop-core.invariant.0 in
     Silent-all c.args.protocol before c.args.requestor c.args.request silent c.requires.line

@@ -2,32 +2,32 @@ use Rattle.std.proofs.Common.{◌≡◌, ◌<◌, List, length, arith, sym, ap, 
 use Rattle.std.specs.Prelude.{slice_set}
 use Rattle.std.proofs.lemmas.Grind.{common_steps}
 use Rattle.std.proofs.lemmas.List.{set-set, length-set}
-use Rattle.snoop_rules.specs.declared.names.CacheEvent.{CacheEvent}
-use Rattle.snoop_rules.specs.declared.names.CacheState.TheVariants.{I}
-use Rattle.snoop_rules.specs.Cell.{Cell}
-use Rattle.snoop_rules.specs.Takers.{seen_by}
 use Rattle.snoop_model.specs.Pictures.Lines.{Line}
 use Rattle.snoop_model.specs.Pictures.Proper.{IsProper}
 use Rattle.snoop_model.specs.Moves.Move.{moves_to}
-use Rattle.snoop_model.specs.Moves.LookUps.{HasRow}
 use Rattle.snoop_model.proofs.Tables.Rows.{IsProper-order}
 use Rattle.snoop_machine.specs.Lines.{row_of, line_at}
 use Rattle.snoop_machine.proofs.LinesGoing.{LinesGo-set, KeepsMapsRoom-more, row_after}
 use Rattle.snoop_model.proofs.Lines.EachRow.{Taking, Taking-more, Taking-past}
-use Rattle.snoop_machine.proofs.ConcernedCores.{concerned_within, TakesRow-passed, Cell-leaves}
+use Rattle.snoop_machine.proofs.ConcernedCores.{AreConcerned, concerned_within, TakesRow-passed, Cell-leaves}
 use Rattle.snoop_machine.proofs.lines.Lines.take_rows.Given.{Over}
 use Rattle.snoop_machine.proofs.lines.Lines.take_rows.Goals as goal
-use Rattle.snoop_machine.proofs.lines.Lines.take_rows.Goals.{In-Some}
+use Rattle.snoop_machine.proofs.lines.Lines.take_rows.Goals.{After-concerned-concerned, In-Some}
+
+-- the set has the cores that the request concerns
+concerned : (g : Over) (c : After-concerned-concerned g)
+    → AreConcerned (row_of c.args.self.now.rows c.args.block) c.args.requestor c.args.request c.concerned-concerned.result
+concerned g c = record { own = c.concerned-concerned.ensures.own; others = c.concerned-concerned.ensures.others }
 
 within_row : (g : Over) (c : In-Some g) → c.in-Some.core < length (row_of c.args.self.now.rows c.args.block)
-within_row g c = concerned_within c.args.protocol (row_of c.args.self.now.rows c.args.block) c.args.requestor c.args.request c.concerned-concerned.result c.concerned-concerned.ensures.own c.concerned-concerned.ensures.others c.requires.requestor c.in-Some.core c.in-Some.ensures.some.2
+within_row g c = concerned_within (concerned g (goal.at.In-Some g c).After-concerned-concerned) c.requires.requestor c.in-Some.core c.in-Some.ensures.some.2
 
 -- the cores up to the one that is looked at have taken their rows
 so_far : (g : Over) (c : In-Some g) → Taking c.args.protocol c.args.requestor c.args.request (row_of c.args.self.now.rows c.args.block) (row_of c.loop-core.self.rows c.args.block) c.in-Some.core
 so_far g c =
     let within = within_row g c in
     Taking-past c.args.protocol c.args.requestor c.args.request (row_of c.args.self.now.rows c.args.block) (row_of c.loop-core.self.rows c.args.block) c.loop-core.from c.in-Some.core
-    (λ k above below. TakesRow-passed c.args.protocol (row_of c.args.self.now.rows c.args.block) c.args.requestor c.args.request c.concerned-concerned.result c.concerned-concerned.ensures.own c.concerned-concerned.ensures.others c.requires.rows k (omega arith)
+    (λ k above below. TakesRow-passed (concerned g (goal.at.In-Some g c).After-concerned-concerned) c.args.protocol c.requires.rows k (omega arith)
     (c.in-Some.ensures.some.3 k above below) (c.concerned-concerned.ensures.proper k))
     c.in-Some.ensures.some.0 c.loop-core.invariant.0
 
@@ -61,22 +61,18 @@ pub take_row-requires-clause-row : goal.take_row-requires-clause-row
 take_row-requires-clause-row g c =
     let d = (goal.at.take_row-requires-clause-row g c).In-Some in
     let n = c.in-Some.core in
-    let P : Line → Type 0 = λ x. HasRow c.args.protocol x.state (seen_by n c.args.requestor c.args.request) in
-    let Q : CacheEvent → Type 0 = λ event. HasRow c.args.protocol (line_at c.loop-core.self.rows n c.args.block).state event in
-    subst Q (sym c.event_seen.ensures) (subst P (sym (first_line g d)) (c.requires.rows n (within_row g d)))
+    rw c.event_seen.ensures (rw (← (first_line g d)) at (c.requires.rows n (within_row g d)))
 
 pub take_row-requires-clause-lands : goal.take_row-requires-clause-lands
 take_row-requires-clause-lands g c action next cell =
     let d = (goal.at.take_row-requires-clause-lands g c).In-Some in
     let n = c.in-Some.core in
     let here = line_at c.loop-core.self.rows n c.args.block in
-    let P : CacheEvent → Type 0 = λ event. Cell c.args.protocol here.state event action next in
-    IsProper-order c.args.protocol here n c.args.requestor c.args.request action next (proper_line g d) (subst P c.event_seen.ensures cell)
+    IsProper-order c.args.protocol here n c.args.requestor c.args.request action next (proper_line g d) (rw c.event_seen.ensures at cell)
 
 pub take_row-requires-clause-absent : goal.take_row-requires-clause-absent
 take_row-requires-clause-absent g c action next cell =
-    let P : CacheEvent → Type 0 = λ event. Cell c.args.protocol I event action next in
-    Cell-leaves c.args.protocol c.in-Some.core c.args.requestor c.args.request action next (subst P c.event_seen.ensures cell)
+    Cell-leaves c.args.protocol c.in-Some.core c.args.requestor c.args.request action next (rw c.event_seen.ensures at cell)
 
 pub loop-core-preserved : goal.loop-core-preserved
 loop-core-preserved g c =
@@ -91,8 +87,7 @@ loop-core-preserved g c =
     let before = c.loop-core.invariant in
     let took = c.take_row.ensures in
     let line : Line = moves_to took.next (line_at now.rows n block) in
-    let P : CacheEvent → Type 0 = λ event. Cell c.args.protocol (line_at now.rows n block).state event took.action took.next in
-    let found = subst P c.event_seen.ensures took.row in
+    let found = rw c.event_seen.ensures at took.row in
     let after : row_of new.rows block ≡ slice_set (row_of now.rows block) n line = row_after block first now new n line (in_blocks g d) (in_row g d) took.rows in (
       Taking-more c.args.protocol c.args.requestor c.args.request old (row_of now.rows block) (row_of new.rows block) n took.action took.next within (so_far g d) found after,
       omega arith,
@@ -109,7 +104,7 @@ returns-clause-taken g c =
     let old = row_of c.args.self.now.rows c.args.block in
     let taking : Taking c.args.protocol c.args.requestor c.args.request old (row_of c.loop-core.self.rows c.args.block) (length old) =
     Taking-past c.args.protocol c.args.requestor c.args.request old (row_of c.loop-core.self.rows c.args.block) c.loop-core.from (length old)
-    (λ k above below. TakesRow-passed c.args.protocol old c.args.requestor c.args.request c.concerned-concerned.result c.concerned-concerned.ensures.own c.concerned-concerned.ensures.others c.requires.rows k below
+    (λ k above below. TakesRow-passed (concerned g (goal.at.returns-clause-taken g c).After-concerned-concerned) c.args.protocol c.requires.rows k below
     (c.in_default.ensures.none k above) (c.concerned-concerned.ensures.proper k))
     c.loop-core.invariant.1 before in
     record { same_length = before.same_length; rows = taking.taken }

@@ -1,13 +1,10 @@
-use Rattle.std.proofs.Common.{◌≡◌, ◌<◌, ◌≤◌, ◌++◌, ◌∷◌, [], ◌∙◌, ℕ, List, sym, ap, subst, length, arith, refl}
+use Rattle.std.proofs.Common.{◌≡◌, ◌<◌, ◌≤◌, ◌++◌, ◌∷◌, [], ◌∙◌, ℕ, List, ap, length, arith, refl}
 use Rattle.std.specs.Prelude.{slice_set, slice_index_or}
 use Rattle.std.proofs.lemmas.Grind.{common_steps}
 use Rattle.std.proofs.lemmas.Result.{err_from_is_err_and}
 use Rattle.std.proofs.lemmas.List.{length-set}
 use Rattle.snoop_bus.specs.Traffic.{Traffic, Waiting, waiting_of}
-use Rattle.snoop_machine.specs.PartsView.{Fields, fields, shown_line_rooms, IsSound}
-use Rattle.snoop_model.specs.Pictures.Lines.{Line}
-use Rattle.snoop_machine.specs.Standing.{Standing}
-use Rattle.snoop_machine.specs.Prepared.{places}
+use Rattle.snoop_machine.specs.PartsView.{Fields, fields, shown_line_rooms}
 use Rattle.snoop_machine.specs.Lines.{KeepsMapsRoom}
 use Rattle.snoop_machine.proofs.Room.{held_in, held_in-set, keeps_room, shown-same, places-map, places-queue}
 use Rattle.snoop_machine.proofs.QueueViews.{queues_of-room, same_traffic, IsSound-room}
@@ -25,14 +22,13 @@ invariant_of-self-2 g c =
     let bus = m.bus in
     let core = c.args.core in
     let room = (waiting_of c.reserve-2.new.self core).room in
-    let in_cores = core_in m c.self.invariant c.args.self.now c.self.view_is core c.requires.core in
+    let in_cores = core_in c.self.invariant c.self.view_is core c.requires.core in
     let in_queues : core < length bus.queues = omega (arith, c.self.invariant.sound.queues) in
     let after : Traffic = record bus { queues = slice_set bus.queues core (record { requests = (waiting_of bus core).requests; room = room }) } in
     let same : c.reserve-2.new.self ≡ after = same_traffic c.reserve-2.new.self after c.reserve-2.ensures.queue c.reserve-2.ensures.transactions in
-    let Q : Traffic → Type 0 = λ b. IsSound m.shape m.lines.rows b in
-    let R : List (List Line) → Type 0 = λ caches. IsSound m.shape caches c.reserve-2.new.self in
     record {
-      sound = subst R (sym (rows g (goal.at.invariant_of-self-2 g c).After-put_ahead)) (subst Q (sym same) (IsSound-room m.shape m.lines.rows bus core room in_queues c.self.invariant.sound));
+      sound = rw (rows g (goal.at.invariant_of-self-2 g c).After-put_ahead)
+          (rw (← same) at (IsSound-room m.shape m.lines.rows bus core room in_queues c.self.invariant.sound));
       sized = sized_on m _ c.self.invariant.sized refl
           (ap (λ (lines : List (List ℕ)). length lines) c.put_ahead.ensures.lines
           ∙ (length-set c.reserve.new.self.lines core (slice_index_or c.reserve.new.self.lines core [] ++ c.args.block ∷ [])
@@ -44,15 +40,13 @@ pub returns-in_err-reserve-clause-full : goal.returns-in_err-reserve-clause-full
 returns-in_err-reserve-clause-full g c =
     let m = (fields c.self.inside.protocol c.self.inside.shape c.self.inside.lines c.self.inside.memory c.self.inside.bus c.self.inside.log) in
     let p = err_from_is_err_and c.from_residual.result c.from_residual.ensures.1 in
-    let P : Standing → Type 0 = λ s. places s c.args.core ≡ 0 in
-    rw p.1 (subst P c.self.view_is (places-map m c.args.core c.in_err-reserve.ensures.full))
+    rw (p.1, ← c.self.view_is) (places-map m c.args.core c.in_err-reserve.ensures.full)
 
 pub returns-in_err-reserve-2-clause-full : goal.returns-in_err-reserve-2-clause-full
 returns-in_err-reserve-2-clause-full g c =
     let m = (fields c.self.inside.protocol c.self.inside.shape c.self.inside.lines c.self.inside.memory c.self.inside.bus c.self.inside.log) in
     let p = err_from_is_err_and c.from_residual-in_err-reserve-2.result c.from_residual-in_err-reserve-2.ensures.1 in
-    let P : Standing → Type 0 = λ s. places s c.args.core ≡ 0 in
-    rw p.1 (subst P c.self.view_is (places-queue m c.args.core c.in_err-reserve-2.ensures.full))
+    rw (p.1, ← c.self.view_is) (places-queue m c.args.core c.in_err-reserve-2.ensures.full)
 
 pub returns-in_err-reserve-2-clause-refused : goal.returns-in_err-reserve-2-clause-refused
 returns-in_err-reserve-2-clause-refused g c =
@@ -68,7 +62,7 @@ returns-in_err-reserve-2-clause-room g c =
     let m = (fields c.self.inside.protocol c.self.inside.shape c.self.inside.lines c.self.inside.memory c.self.inside.bus c.self.inside.log) in
     let new : Fields = record m { lines = c.reserve.new.self; bus = c.reserve-2.new.self } in
     let queues : (core : ℕ) → held_in m.bus.queues core ≤ held_in c.reserve-2.new.self.queues core =
-    λ core. (let B : Traffic → Type 0 = λ bus. held_in m.bus.queues core ≤ held_in bus.queues core in subst B (sym c.in_err-reserve-2.ensures.refused) (omega arith)) in
+    λ core. (rw c.in_err-reserve-2.ensures.refused (omega arith)) in
     keeps_room m new c.args.self.now c.self.view_is (omega arith) queues c.reserve.ensures.room
 
 pub returns-clause-ok : goal.returns-clause-ok
@@ -87,15 +81,15 @@ pub returns-clause-room : goal.returns-clause-room
 returns-clause-room g c =
     let m = (fields c.self.inside.protocol c.self.inside.shape c.self.inside.lines c.self.inside.memory c.self.inside.bus c.self.inside.log) in
     let core = c.args.core in
-    let in_cores = core_in m c.self.invariant c.args.self.now c.self.view_is core c.requires.core in
+    let in_cores = core_in c.self.invariant c.self.view_is core c.requires.core in
     let in_queues : core < length m.bus.queues = omega (arith, c.self.invariant.sound.queues) in
     let queue : Waiting = record { requests = (waiting_of m.bus core).requests; room = (waiting_of c.reserve-2.new.self core).room } in
     let more = c.reserve-2.ensures.room in
     let new : Fields = record m { lines = c.put_ahead.new.self; bus = c.reserve-2.new.self } in
-    let Q : List Waiting → Type 0 = λ queues. (k : ℕ) → held_in m.bus.queues k ≤ held_in queues k in
     let line_rooms : KeepsMapsRoom m.lines new.lines = λ k.
     (let grown = c.reserve.ensures.room k in
     let used = c.put_ahead.ensures.room k in
     let same = ap (λ (lines : List (List ℕ)). length (slice_index_or lines k [])) c.reserve.ensures.lines in
     omega arith) in
-    keeps_room m new c.args.self.now c.self.view_is (omega arith) (subst Q (sym c.reserve-2.ensures.queue) (held_in-set m.bus.queues core queue in_queues (omega arith))) line_rooms
+    keeps_room m new c.args.self.now c.self.view_is (omega arith)
+    (rw (← c.reserve-2.ensures.queue) at (held_in-set m.bus.queues core queue in_queues (omega arith))) line_rooms

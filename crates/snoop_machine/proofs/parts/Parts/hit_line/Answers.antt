@@ -1,4 +1,4 @@
-use Rattle.std.proofs.Common.{◌≡◌, ℕ, ◌++◌, ◌∷◌, [], List, refl, sym, ap, subst, ◌∙◌, Bool, true, false}
+use Rattle.std.proofs.Common.{◌≡◌, ℕ, ◌++◌, ◌∷◌, [], List, refl, sym, ap, ◌∙◌, Bool, true, false}
 use Rattle.std.proofs.lemmas.List.{set-get_or}
 use Rattle.snoop_history.specs.declared.items.Item.{Item}
 use Rattle.snoop_history.specs.declared.items.Item.TheVariants.{Did as ItemDid}
@@ -51,16 +51,14 @@ moved g c = elim c.if-not-matches.branch [
   | then-not-matches w ↦ ap (λ (s : Standing). s.situation) w.self-is ∙ w.move_line.ensures.written
   | else-not-matches w ↦
       let s = c.args.self.now.situation in
-      let P : Line → Type 0 = λ x. s ≡ with_picture s c.args.block (with_line (picture_of s c.args.block) c.args.core x) in
-      ap (λ (x : Standing). x.situation) w.self-is ∙ subst P (sym (load_kept g c (is_load g c w.if-not-matches.false))) (sym (line_kept s c.args.block c.args.core))
+      ap (λ (x : Standing). x.situation) w.self-is ∙ rw (← (load_kept g c (is_load g c w.if-not-matches.false))) at (sym (line_kept s c.args.block c.args.core))
 ]
 
 loses : (g : Over) (c : After-push g) (k : ℕ) → LosesLines c.args.self.now c.if-not-matches.self k
 loses g c k = elim c.if-not-matches.branch [
-  | then-not-matches w ↦ (let P : Standing → Type 0 = λ s. LosesLines c.args.self.now s k in subst P (sym w.self-is) (w.move_line.ensures.lines k))
+  | then-not-matches w ↦ (rw (← w.self-is) at (w.move_line.ensures.lines k))
   | else-not-matches w ↦
-      let P : Standing → Type 0 = λ s. LosesLines c.args.self.now s k in
-      subst P (sym w.self-is) (record { lowered = λ m. absurd (m.1.0 m.1.1); same = λ none. refl })
+      rw w.self-is (record { lowered = λ m. absurd (m.1.0 m.1.1); same = λ none. refl })
 ]
 
 pub returns-clause-written : goal.returns-clause-written
@@ -77,6 +75,5 @@ returns-clause-written g c =
 
 pub returns-clause-lines : goal.returns-clause-lines
 returns-clause-lines g c k =
-    let P : Standing → Type 0 = λ s. LosesLines c.args.self.now s k in
-    let its = subst P (sym c.self-2.view_is) (loses g (goal.at.returns-clause-lines g c).After-push k) in
+    let its = rw (← c.self-2.view_is) at (loses g (goal.at.returns-clause-lines g c).After-push k) in
     record { lowered = its.lowered; same = its.same }

@@ -1,10 +1,8 @@
 use Rattle.std.proofs.Common.{◌∙◌, sym, ap}
 use Rattle.snoop_model.specs.Pictures.Picture.{Picture}
-use Rattle.snoop_machine.specs.PartsView.{fields}
 use Rattle.snoop_machine.proofs.PictureViews.{seen}
 use Rattle.snoop_machine.proofs.parts.Parts.memory_words.Goals as goal
 
 pub returns : goal.returns
 returns g c =
-    let m = (fields c.self.inside.protocol c.self.inside.shape c.self.inside.lines c.self.inside.memory c.self.inside.bus c.self.inside.log) in
-    c.words.ensures ∙ sym (ap (λ (x : Picture). x.memory.value) (seen m c.self.invariant c.args.self.now c.self.view_is c.args.block))
+    c.words.ensures ∙ sym (ap (λ (x : Picture). x.memory.value) (seen c.self.invariant c.self.view_is c.args.block))

@@ -3,7 +3,6 @@ use Rattle.std.specs.Prelude.{option_copied}
 use Rattle.snoop_bus.specs.Traffic.{Open}
 use Rattle.snoop_model.specs.Pictures.Picture.{Picture}
 use Rattle.snoop_model.specs.Pictures.Situation.{picture_of}
-use Rattle.snoop_machine.specs.PartsView.{fields}
 use Rattle.snoop_machine.proofs.PictureViews.{seen}
 use Rattle.snoop_machine.proofs.parts.Parts.open.Given.{Over}
 use Rattle.snoop_machine.proofs.parts.Parts.open.Goals as goal
@@ -11,8 +10,7 @@ use Rattle.snoop_machine.proofs.parts.Parts.open.Goals.{After-opened}
 
 shown : (g : Over) (c : After-opened g) → option_copied c.opened.result ≡ (picture_of c.args.self.now.situation c.args.block).transaction
 shown g c =
-    let m = (fields c.self.inside.protocol c.self.inside.shape c.self.inside.lines c.self.inside.memory c.self.inside.bus c.self.inside.log) in
-    c.opened.ensures ∙ sym (ap (λ (x : Picture). x.transaction) (seen m c.self.invariant c.args.self.now c.self.view_is c.args.block))
+    c.opened.ensures ∙ sym (ap (λ (x : Picture). x.transaction) (seen c.self.invariant c.self.view_is c.args.block))
 
 pub returns-in_err-opened-clause-value : goal.returns-in_err-opened-clause-value
 returns-in_err-opened-clause-value g c = c.from_residual.ensures ∙ (sym (ap option_copied c.in_err-opened.was) ∙ shown g (goal.at.returns-in_err-opened-clause-value g c).After-opened)

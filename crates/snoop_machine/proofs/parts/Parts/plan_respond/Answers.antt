@@ -1,18 +1,15 @@
 use Rattle.std.proofs.Common.{rules, arith, ℕ, ◌≡◌, ◌≢◌, true, false, Some, refl, sym, ap, ◌∙◌, subst}
-use Rattle.std.specs.Prelude.{Option, IfSome, IsSomeAnd, IsTrue, option_copied, option_map}
-use Rattle.snoop_rules.specs.declared.names.MemState.{MemState}
+use Rattle.std.specs.Prelude.{Option, option_copied, option_map}
 use Rattle.snoop_bus.specs.Traffic.{Open}
 use Rattle.snoop_history.specs.declared.items.Came.{Came}
-use Rattle.snoop_model.specs.Moves.Move.{Fills, Settles, came_of}
-use Rattle.snoop_machine.specs.Cache.{filled_line}
+use Rattle.snoop_model.specs.Moves.Move.{came_of}
 use Rattle.snoop_trace.specs.declared.step.Step.TheVariants.{Respond}
 use Rattle.snoop_rules.specs.declared.names.Request.TheVariants.{PutM}
-use Rattle.snoop_rules.specs.Takers.{arrival, arrival_at_memory, takes_payload}
+use Rattle.snoop_rules.specs.Takers.{arrival, arrival_at_memory}
 use Rattle.snoop_model.specs.Pictures.Lines.{Line}
 use Rattle.snoop_machine.specs.Standing.{Standing}
 use Rattle.snoop_model.specs.Pictures.Situation.{picture_of}
 use Rattle.snoop_model.specs.Pictures.Picture.{held_by}
-use Rattle.snoop_model.specs.Moves.LookUps.{HasRow, HasMemRow}
 use Rattle.snoop_model.proofs.Invariant.Coherence.{finds_rows, sender_within}
 use Rattle.snoop_machine.specs.Plan.{IsClosing}
 use Rattle.snoop_machine.proofs.WordsHeld.{waiting_held}
@@ -25,11 +22,10 @@ settle-memory-requires g c =
     let s = c.args.self.now.situation in
     let block = c.args.block in
     let closing = c.in-Some.closing.now in
-    let P : MemState → Type 0 = λ x. IsTrue (takes_payload closing.request x) → IsSomeAnd (arrival_at_memory closing.payload) (HasMemRow c.self.inside.protocol x) in
-    let Q : Standing → Type 0 = λ x. IsTrue (takes_payload closing.request (picture_of s block).memory.state) → IsSomeAnd (arrival_at_memory closing.payload) (HasMemRow x.situation.protocol (picture_of s block).memory.state) in
     let finds = finds_rows s c.requires.inductive (Respond block) in
-    subst P (sym c.memory_state.ensures) (subst Q (sym c.self.view_is)
-    (λ takes. finds.memory block (arrival_at_memory closing.payload) (closing, (refl, sym c.transaction.ensures.value ∙ ap option_copied c.in-Some.is, takes, refl))))
+    rw (c.memory_state.ensures, ap (λ (x : Standing). x.situation.protocol) c.self.view_is)
+    (λ takes. finds.memory block (arrival_at_memory closing.payload)
+    (closing, (refl, sym c.transaction.ensures.value ∙ ap option_copied c.in-Some.is, takes, refl)))
 
 pub fill-filled-requires-clause-possible : goal.fill-filled-requires-clause-possible
 fill-filled-requires-clause-possible g c =
@@ -40,11 +36,10 @@ fill-filled-requires-clause-possible g c =
       | in_default-matches w ↦ w.in_default-matches.not-PutM
     ] in
     let line = held_by (picture_of s c.args.block) closing.core in
-    let P : Line → Type 0 = λ x. IsSomeAnd (arrival closing.payload) (HasRow c.self.inside.protocol x.state) in
-    let Q : Standing → Type 0 = λ x. IsSomeAnd (arrival closing.payload) (HasRow x.situation.protocol line.state) in
     let finds = finds_rows s c.requires.inductive (Respond c.args.block) in
-    subst P (sym c.line-found.ensures.line) (subst Q (sym c.self.view_is)
-    (finds.cache closing.core c.args.block (arrival closing.payload) (closing, (refl, sym c.transaction.ensures.value ∙ ap option_copied c.in-Some.is, refl, get, refl))))
+    rw (c.line-found.ensures.line, ap (λ (x : Standing). x.situation.protocol) c.self.view_is)
+    (finds.cache closing.core c.args.block (arrival closing.payload)
+    (closing, (refl, sym c.transaction.ensures.value ∙ ap option_copied c.in-Some.is, refl, get, refl)))
 
 pub fill-filled-requires-clause-word : goal.fill-filled-requires-clause-word
 fill-filled-requires-clause-word g c =
@@ -63,16 +58,12 @@ closes : (g : Over) (c : After-came-came g) → IsClosing c.args.self.now.situat
 closes g c =
     let s = c.args.self.now.situation in
     let closing = c.in-Some.closing.now in
-    let P : Came → Type 0 = λ came. IsClosing s came c.settle-memory.result in
-    let Q : MemState → Type 0 = λ x. Settles c.self.inside.protocol closing.request closing.payload x c.settle-memory.result.action c.settle-memory.result.next in
-    let R : Standing → Type 0 = λ x. Settles x.situation.protocol closing.request closing.payload (picture_of s c.args.block).memory.state c.settle-memory.result.action c.settle-memory.result.next in
     let here : closing.block ≡ c.args.block = c.in-Some.ensures.within.0 in
-    let S : ℕ → Type 0 = λ b. Settles s.protocol closing.request closing.payload (picture_of s b).memory.state c.settle-memory.result.action c.settle-memory.result.next in
-    subst P (sym c.came-came.ensures) (record {
+    rw c.came-came.ensures (record {
       opened = subst (λ (b : ℕ). option_map came_of (picture_of s b).transaction ≡ Some (came_of closing)) (sym here) (ap (λ (o : Option Open). option_map came_of o) (opened g c));
       core = c.in-Some.ensures.within.1;
       sender = sender_within s c.requires.inductive c.args.block closing (opened g c);
-      settles = subst S (sym here) (subst R c.self.view_is (subst Q c.memory_state.ensures c.settle-memory.ensures));
+      settles = rw here (rw (c.memory_state.ensures, ap (λ (x : Standing). x.situation.protocol) c.self.view_is) at c.settle-memory.ensures);
     })
 
 pub returns-then-matches-clause-found : goal.returns-then-matches-clause-found
@@ -94,12 +85,16 @@ returns-clause-found g c =
       | in_default-matches w ↦ w.in_default-matches.not-PutM
     ] in
     let filled = c.fill-filled.result in
-    let P : Line → Type 0 = λ x. Fills closing c.self.inside.protocol x (filled_line filled.next filled.access closing.value) filled.access filled.value in
-    let Q : Standing → Type 0 = λ x. Fills closing x.situation.protocol (held_by (picture_of s block) closing.core) (filled_line filled.next filled.access closing.value) filled.access filled.value in
-    let F : Option Open → Type 0 = λ o. IfSome o (λ x. Fills x s.protocol (held_by (picture_of s block) x.core) (filled_line filled.next filled.access x.value) filled.access filled.value) in
-    let fills = subst Q c.self.view_is (subst P c.line-found.ensures.line c.fill-filled.ensures) in
+    let fills = rw (c.line-found.ensures.line, ap (λ (x : Standing). x.situation.protocol) c.self.view_is) at c.fill-filled.ensures in
     let waits = ap (λ (x : Line). x.waiting) (sym c.line-found.ensures.line) ∙ c.fill-filled.ensures.waited in
-    let T : ℕ → Type 0 = λ b. IfSome (picture_of s b).transaction (λ x. Fills x s.protocol (held_by (picture_of s b) x.core) (filled_line filled.next filled.access x.value) filled.access filled.value) in
     let here = its g d in
-    let inside = c.requires.block in
-    (ap Respond (its g d), (omega arith, closes g d, (λ e. get (sym (ap (λ (x : Came). x.request) c.came-came.ensures) ∙ e)), subst T (sym (its g d)) (subst F (sym (opened g d)) fills), c.requires.inductive.accesses closing.core block filled.access waits))
+    let inside = c.requires.block in (
+      ap Respond (its g d),
+      (
+        omega arith,
+        closes g d,
+        (λ e. get (sym (ap (λ (x : Came). x.request) c.came-came.ensures) ∙ e)),
+        rw (its g d, opened g d) fills,
+        c.requires.inductive.accesses closing.core block filled.access waits,
+      ),
+    )

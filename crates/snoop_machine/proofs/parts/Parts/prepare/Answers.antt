@@ -1,7 +1,4 @@
-use Rattle.std.proofs.Common.{sym, subst}
 use Rattle.std.proofs.lemmas.Result.{err_from_is_err_and}
-use Rattle.snoop_model.specs.Pictures.Situation.{Situation}
-use Rattle.snoop_machine.specs.Plan.{IsPlanFor}
 use Rattle.snoop_machine.proofs.Plans.{RefusedFor-memory, IsPrepared-plan, IsFull-plan}
 use Rattle.snoop_machine.proofs.Holding.{HoldsOn-room}
 use Rattle.snoop_machine.proofs.parts.Parts.prepare.Goals as goal
@@ -16,9 +13,8 @@ returns-in_err-make_room-clause-full g c = λ e. IsFull-plan c.args.self.now c.a
 
 pub returns-clause-prepared : goal.returns-clause-prepared
 returns-clause-prepared g c =
-    let P : Situation → Type 0 = λ s. IsPlanFor s c.args.step c.in-Ok.plan in
     IsPrepared-plan c.make_room.new.self c.args.step c.in-Ok.plan c.item.result
-    (subst P (sym c.make_room.ensures.unchanged) c.in-Ok.ensures.found) c.in_ok-make_room.ensures.ok c.item.ensures
+    (rw (← c.make_room.ensures.unchanged) at c.in-Ok.ensures.found) c.in_ok-make_room.ensures.ok c.item.ensures
 
 pub returns-clause-lines : goal.returns-clause-lines
 returns-clause-lines g c core =

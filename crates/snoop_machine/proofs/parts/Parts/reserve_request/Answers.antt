@@ -1,9 +1,9 @@
-use Rattle.std.proofs.Common.{◌≡◌, ◌<◌, ◌≤◌, ℕ, List, sym, ap, subst, length, arith, refl}
+use Rattle.std.proofs.Common.{◌≡◌, ◌<◌, ap, length, arith, refl}
 use Rattle.std.specs.Prelude.{slice_set}
 use Rattle.snoop_bus.specs.Traffic.{Traffic, Waiting, waiting_of}
-use Rattle.snoop_machine.proofs.Room.{held_in, held_in-set, keeps_room, KeepsMapsRoom-same}
+use Rattle.snoop_machine.proofs.Room.{held_in-set, keeps_room, KeepsMapsRoom-same}
 use Rattle.snoop_machine.proofs.QueueViews.{queues_of-room, same_traffic, IsSound-room}
-use Rattle.snoop_machine.specs.PartsView.{Fields, fields, IsSound}
+use Rattle.snoop_machine.specs.PartsView.{Fields, fields}
 use Rattle.snoop_machine.proofs.parts.Parts.reserve_request.Goals as goal
 use Rattle.snoop_machine.proofs.PictureViews.{core_in, sized_on}
 
@@ -12,13 +12,12 @@ invariant_of-self g c =
     let bus = c.self.inside.bus in
     let core = c.args.core in
     let room = (waiting_of c.reserve.new.self core).room in
-    let in_cores = core_in (fields c.self.inside.protocol c.self.inside.shape c.self.inside.lines c.self.inside.memory c.self.inside.bus c.self.inside.log) c.self.invariant c.args.self.now c.self.view_is core c.requires in
+    let in_cores = core_in c.self.invariant c.self.view_is core c.requires in
     let in_queues : core < length bus.queues = omega (arith, c.self.invariant.sound.queues) in
     let after : Traffic = record bus { queues = slice_set bus.queues core (record { requests = (waiting_of bus core).requests; room = room }) } in
     let same : c.reserve.new.self ≡ after = same_traffic c.reserve.new.self after c.reserve.ensures.queue c.reserve.ensures.transactions in
-    let Q : Traffic → Type 0 = λ b. IsSound c.self.inside.shape c.self.inside.lines.rows b in
     record {
-      sound = subst Q (sym same) (IsSound-room c.self.inside.shape c.self.inside.lines.rows bus core room in_queues c.self.invariant.sound);
+      sound = rw (← same) at (IsSound-room c.self.inside.shape c.self.inside.lines.rows bus core room in_queues c.self.invariant.sound);
       sized = sized_on (fields c.self.inside.protocol c.self.inside.shape c.self.inside.lines c.self.inside.memory c.self.inside.bus c.self.inside.log) _ c.self.invariant.sized refl refl refl (refl, refl, refl);
     }
 
@@ -32,10 +31,10 @@ pub returns-clause-room : goal.returns-clause-room
 returns-clause-room g c =
     let m = (fields c.self.inside.protocol c.self.inside.shape c.self.inside.lines c.self.inside.memory c.self.inside.bus c.self.inside.log) in
     let core = c.args.core in
-    let in_cores = core_in m c.self.invariant c.args.self.now c.self.view_is core c.requires in
+    let in_cores = core_in c.self.invariant c.self.view_is core c.requires in
     let in_queues : core < length m.bus.queues = omega (arith, c.self.invariant.sound.queues) in
     let queue : Waiting = record { requests = (waiting_of m.bus core).requests; room = (waiting_of c.reserve.new.self core).room } in
     let more = c.reserve.ensures.room in
     let new : Fields = record m { bus = c.reserve.new.self } in
-    let Q : List Waiting → Type 0 = λ queues. (k : ℕ) → held_in m.bus.queues k ≤ held_in queues k in
-    keeps_room m new c.args.self.now c.self.view_is (omega arith) (subst Q (sym c.reserve.ensures.queue) (held_in-set m.bus.queues core queue in_queues (omega arith))) (KeepsMapsRoom-same m.lines)
+    keeps_room m new c.args.self.now c.self.view_is (omega arith)
+    (rw (← c.reserve.ensures.queue) at (held_in-set m.bus.queues core queue in_queues (omega arith))) (KeepsMapsRoom-same m.lines)

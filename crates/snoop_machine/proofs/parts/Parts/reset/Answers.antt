@@ -2,7 +2,7 @@ use Rattle.snoop_model.specs.Pictures.Picture.{first_memory, nothing_held}
 use Rattle.snoop_model.specs.Pictures.Lines.{MemLine, Line}
 use Rattle.snoop_rules.specs.declared.names.MemState.{MemState}
 use Rattle.snoop_model.specs.Pictures.Situation.{reset}
-use Rattle.std.proofs.Common.{rules, ◌≡◌, ℕ, List, [], length, replicate, refl, sym, ap, subst, ◌∙◌, Option, None}
+use Rattle.std.proofs.Common.{rules, ◌≡◌, ℕ, List, [], length, replicate, refl, ap, ◌∙◌, Option, None}
 use Rattle.snoop_trace.specs.Words.{zero_words}
 use Rattle.snoop_history.specs.Journal.{Journal}
 use Rattle.std.specs.Prelude.{slice_index_or}
@@ -11,12 +11,11 @@ use Rattle.snoop_model.proofs.Lists.Facts.{replicated}
 use Rattle.snoop_machine.proofs.AtReset.{IsSound-reset, queues_of-reset}
 use Rattle.snoop_machine.proofs.parts.Parts.reset.Goals as goal
 use Rattle.snoop_machine.proofs.PictureViews.{pictures_of-replicate, same_situation}
-use Rattle.snoop_machine.specs.PartsView.{IsSound, pictures_of}
+use Rattle.snoop_machine.specs.PartsView.{pictures_of}
 use Rattle.snoop_bus.specs.Traffic.{Open}
 
 pub invariant_of-result : goal.invariant_of-result
 invariant_of-result g c =
-    let S : List (List Line) → Type 0 = λ caches. IsSound c.args.shape caches c.in_ok-bus.bus in
     record {
       sized = record {
         few = search rules;
@@ -28,7 +27,7 @@ invariant_of-result g c =
         held = c.requires.words;
         few_words = search rules;
       };
-      sound = subst S (sym c.in_ok-lines.ensures.rows) (IsSound-reset c.args.shape c.in_ok-bus.bus c.in_ok-bus.ensures.queues.0 c.in_ok-bus.ensures.queues.1 c.in_ok-bus.ensures.transactions);
+      sound = rw (← c.in_ok-lines.ensures.rows) at (IsSound-reset c.args.shape c.in_ok-bus.bus c.in_ok-bus.ensures.queues.0 c.in_ok-bus.ensures.queues.1 c.in_ok-bus.ensures.transactions);
     }
 
 pub returns-clause-situation : goal.returns-clause-situation

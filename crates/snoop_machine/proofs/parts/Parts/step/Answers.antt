@@ -1,9 +1,6 @@
-use Rattle.std.proofs.Common.{refl, subst}
+use Rattle.std.proofs.Common.{refl}
 use Rattle.std.proofs.lemmas.Result.{err_from_is_err_and}
-use Rattle.snoop_trace.specs.declared.step.Step.{Step}
-use Rattle.snoop_model.specs.Pictures.Situation.{Situation}
-use Rattle.snoop_model.specs.Moves.Move.{FirstMove}
-use Rattle.snoop_machine.specs.Plan.{step_of, entry_of}
+use Rattle.snoop_machine.specs.Plan.{entry_of}
 use Rattle.snoop_machine.proofs.StepKeeps.{prepared-log}
 use Rattle.snoop_machine.proofs.Plans.{RefusedFor-memory, IsFull-plan}
 use Rattle.snoop_machine.proofs.Holding.{HoldsOn-taken, KeepsRoom-taken}
@@ -21,18 +18,14 @@ pub returns-clause-prepared : goal.returns-clause-prepared
 returns-clause-prepared g c =
     let plan = c.in-Ok.plan in
     let new = c.perform.new.self.situation in
-    let P : Situation → Type 0 = λ s. FirstMove s (step_of plan) c.perform.result new (entry_of s.log plan) in
-    let Q : Step → Type 0 = λ t. FirstMove c.args.self.now.situation t c.perform.result new (entry_of c.args.self.now.situation.log plan) in
-    let move = subst Q c.in-Ok.ensures.found.0 (subst P c.make_room.ensures.unchanged c.perform.ensures.moved) in
+    let move = rw (c.make_room.ensures.unchanged, c.in-Ok.ensures.found.0) at c.perform.ensures.moved in
     λ entry prepared. (refl, prepared-log c.args.self.now new c.args.step c.perform.result (entry_of c.args.self.now.situation.log plan) entry prepared move)
 
 pub returns-clause-lines : goal.returns-clause-lines
 returns-clause-lines g c core =
     let plan = c.in-Ok.plan in
     let new = c.perform.new.self.situation in
-    let P : Situation → Type 0 = λ s. FirstMove s (step_of plan) c.perform.result new (entry_of s.log plan) in
-    let Q : Step → Type 0 = λ t. FirstMove c.args.self.now.situation t c.perform.result new (entry_of c.args.self.now.situation.log plan) in
-    let move = subst Q c.in-Ok.ensures.found.0 (subst P c.make_room.ensures.unchanged c.perform.ensures.moved) in
+    let move = rw (c.make_room.ensures.unchanged, c.in-Ok.ensures.found.0) at c.perform.ensures.moved in
     HoldsOn-taken c.args.self.now c.make_room.new.self c.perform.new.self c.args.step plan core c.perform.result (entry_of c.args.self.now.situation.log plan)
     c.in-Ok.ensures.found c.make_room.ensures.unchanged (c.make_room.ensures.lines core) (c.perform.ensures.lines core) move
 
@@ -40,8 +33,6 @@ pub returns-clause-room : goal.returns-clause-room
 returns-clause-room g c =
     let plan = c.in-Ok.plan in
     let new = c.perform.new.self.situation in
-    let P : Situation → Type 0 = λ s. FirstMove s (step_of plan) c.perform.result new (entry_of s.log plan) in
-    let Q : Step → Type 0 = λ t. FirstMove c.args.self.now.situation t c.perform.result new (entry_of c.args.self.now.situation.log plan) in
-    let move = subst Q c.in-Ok.ensures.found.0 (subst P c.make_room.ensures.unchanged c.perform.ensures.moved) in
+    let move = rw (c.make_room.ensures.unchanged, c.in-Ok.ensures.found.0) at c.perform.ensures.moved in
     KeepsRoom-taken c.args.self.now c.make_room.new.self c.perform.new.self c.args.step plan c.perform.result (entry_of c.args.self.now.situation.log plan)
     c.in-Ok.ensures.found c.make_room.ensures.unchanged c.make_room.ensures.lines c.perform.ensures.lines move c.make_room.ensures.room c.perform.ensures.room

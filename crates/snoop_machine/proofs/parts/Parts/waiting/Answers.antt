@@ -1,4 +1,4 @@
-use Rattle.std.proofs.Common.{ℕ, ◌<◌, List, length, sym, ap, subst, ◌∙◌}
+use Rattle.std.proofs.Common.{sym, ap, ◌∙◌}
 use Rattle.std.specs.Prelude.{is_some}
 use Rattle.snoop_bus.specs.Traffic.{waiting_of}
 use Rattle.snoop_bus.specs.Queues.{queue_of}
@@ -12,5 +12,4 @@ returns g c =
     let f = some_first (waiting_of c.self.inside.bus c.args.core).requests in
     let r = c.is_some.ensures ∙ ap is_some c.head.ensures in
     let line = sym (queue_of-queues_of c.self.inside.bus.queues c.args.core) ∙ ap (λ (s : Standing). queue_of s.situation.queues c.args.core) c.self.view_is in
-    let P : List ℕ → Type 0 = λ l. 0 < length l in
-    (λ e. subst P line (f.0 (sym r ∙ e)), λ h. r ∙ f.1 (subst P (sym line) h))
+    (λ e. rw line at (f.0 (sym r ∙ e)), λ h. r ∙ f.1 (rw (← line) at h))

@@ -1,0 +1,131 @@
+-- A transaction closes: memory takes its message, and the lines are those that took it.
+use Rattle.std.proofs.Common.{◌≡◌, ◌≢◌, ◌<◌, ℕ, ◌+◌, ◌-◌, List, ◌++◌, ◌∷◌, [], length, Option, Some, None, refl, sym, ◌∙◌, ap, arith}
+use Rattle.std.specs.Prelude.{option_map, slice_index_or, slice_set}
+use Rattle.std.proofs.lemmas.Option.{same_Some}
+use Rattle.std.proofs.lemmas.List.{length-set, length-append}
+use Rattle.snoop_rules.specs.declared.names.MemCell.{MemCell}
+use Rattle.snoop_history.specs.declared.items.Came.{Came}
+use Rattle.snoop_history.specs.declared.items.Did.{Did}
+use Rattle.snoop_history.specs.declared.items.Item.{Item}
+use Rattle.snoop_history.specs.declared.items.Item.TheVariants as item
+use Rattle.snoop_bus.specs.Traffic.{Open, transaction_on}
+use Rattle.snoop_model.specs.declared.replies.Reply.TheVariants as reply
+use Rattle.snoop_model.specs.Pictures.Lines.{Line, MemLine}
+use Rattle.snoop_model.specs.Pictures.Picture.{Picture}
+use Rattle.snoop_model.specs.Pictures.Situation.{picture_of}
+use Rattle.snoop_machine.specs.Standing.{Standing, KeepsRoom}
+use Rattle.snoop_model.specs.Moves.Move.{ArrivesFor, RespondMove, came_of, written}
+use Rattle.snoop_machine.specs.Following.{LosesLines}
+use Rattle.snoop_machine.specs.Lines.{Held, KeepsMapsRoom, LinesGo, gone, row_of, line_at}
+use Rattle.snoop_machine.specs.PartsView.{Fields, standing, no_memory, IsSound, IsWhole}
+use Rattle.snoop_machine.specs.Plan.{IsClosing}
+use Rattle.snoop_machine.proofs.Following.{follows-rows, follows-set}
+use Rattle.snoop_machine.proofs.PlacedLines.{placed}
+use Rattle.snoop_machine.proofs.QueueViews.{IsSound-close}
+use Rattle.snoop_machine.proofs.Room.{keeps_room}
+use Rattle.snoop_machine.proofs.PictureViews.{seen, picture-written, sized_on}
+
+-- of the block of this response the transaction is open, and what memory does was found
+pub record Closes (m : Fields) (now : Standing) (came : Came) (memory : MemCell) (closing : Open) : Type 0 where
+  pub count : ℕ
+  pub whole : IsWhole count m
+  pub view : standing m ≡ now
+  pub within : came.block < now.situation.shape.blocks
+  pub found : IsClosing now.situation came memory
+  pub is_open : transaction_on m.bus came.block ≡ Some closing
+
+-- it is not missing
+pub not_missing : (transaction : Option Open) (came : Came) → option_map came_of transaction ≡ Some came → transaction ≢ None
+not_missing transaction came found none = cc
+
+module _ {m : Fields} {now : Standing} {came : Came} {memory : MemCell} {closing : Open} (closes : Closes m now came memory closing) where
+  -- callers see it open
+  pub opened : (picture_of now.situation came.block).transaction ≡ Some closing
+  opened = ap (λ (p : Picture). p.transaction) (seen closes.whole closes.view came.block) ∙ closes.is_open
+
+  -- the response is its
+  pub header : came_of closing ≡ came
+  header = same_Some _ _ (sym (ap (option_map came_of) opened) ∙ closes.found.opened)
+
+  -- memory's line of the block then
+  abbrev pub settled : MemLine
+  settled = record { state = memory.next; value = written memory.action closing.value (slice_index_or m.memory came.block no_memory).value }
+
+  -- the parts then, with these lines, where this was performed
+  abbrev pub closed : Held → Option Did → Fields
+  closed lines did = record m {
+    lines = lines;
+    memory = slice_set m.memory came.block settled;
+    bus = record m.bus { transactions = slice_set m.bus.transactions came.block None };
+    log = record m.log { items = m.log.items ++ item.Came came did ∷ []; room = m.log.room - 1 };
+  }
+
+  -- they are whole
+  pub whole_after : (lines : Held) (did : Option Did) → IsSound m.shape lines.rows m.bus → length lines.lines ≡ length m.lines.lines
+      → IsWhole closes.count (closed lines did)
+  whole_after lines did sound many = record {
+    sound = IsSound-close m.shape lines.rows m.bus came.block (rw (← closes.view) at closes.within) sound;
+    sized = sized_on m (closed lines did) closes.whole.sized refl many (length-set m.memory came.block settled) (refl, refl, refl);
+  }
+
+  -- no room is lost
+  pub room_after : (lines : Held) (did : Option Did) → 0 < now.room → KeepsMapsRoom m.lines lines → KeepsRoom now (standing (closed lines did))
+  room_after lines did room line_rooms =
+      let had : 0 < m.log.room = rw (← closes.view) at room in
+      let long = length-append m.log.items (item.Came came did ∷ []) in
+      keeps_room m (closed lines did) now closes.view (omega arith) (λ core. omega arith) line_rooms
+
+  -- the block's picture is written
+  abbrev pub next : List Line → Picture
+  next row = record { caches = row; memory = settled; transaction = None }
+
+  pub pictures_after : (lines : Held) (row : List Line) (did : Option Did) → lines.rows ≡ slice_set m.lines.rows came.block row
+      → (standing (closed lines did)).situation.pictures ≡ slice_set (standing m).situation.pictures came.block (next row)
+  pictures_after lines row did rows = picture-written m came.block (next row) lines.rows _ _ rows refl refl
+
+  -- it is the move of a Respond
+  pub responded : (lines : Held) (row : List Line) (did : Option Did) → lines.rows ≡ slice_set m.lines.rows came.block row
+      → ArrivesFor closing.request closing m.protocol m.log.items (row_of m.lines.rows came.block) row did
+      → RespondMove came.block now.situation came.block (reply.Came came.payload came.from did) (standing (closed lines did)).situation (Some (item.Came came did))
+  responded lines row did rows arrives =
+      let here = seen closes.whole refl came.block in
+      let pictures = pictures_after lines row did rows in
+      rw (← closes.view) (record {
+        closing = closing;
+        did = did;
+        on_block = refl;
+        within = rw (← closes.view) at closes.within;
+        answered = ap (λ (x : Came). reply.Came x.payload x.from did) (sym header);
+        logged = ap (λ (x : Came). let r : Option Item = Some (item.Came x did) in r) (sym header);
+        responds = record {
+          opened = rw (← closes.view) at opened;
+          next = next row;
+          requestor = rw here arrives;
+          memory = record {
+            act = memory.action;
+            settled = rw (ap (λ (x : Came). x.request) header, ap (λ (x : Came). x.payload) header) (rw (← closes.view) at closes.found.settles);
+            value = ap (λ (x : Picture). written memory.action closing.value x.memory.value) (sym here);
+          };
+          closed = refl;
+          after = cc (header, pictures);
+        };
+      })
+
+  -- of the lines as many go as cores move to I
+  pub loses_rows : (lines : Held) (row : List Line) (did : Option Did) → lines.rows ≡ slice_set m.lines.rows came.block row → row ≡ row_of lines.rows came.block
+      → LinesGo came.block m.lines lines
+      → (k : ℕ) → LosesLines now (standing (closed lines did)) k
+  loses_rows lines row did rows here go =
+      follows-rows closes.whole closes.view (standing (closed lines did)) came.block (next row) lines closes.within
+      (pictures_after lines row did rows) refl here go
+
+  -- the same where one line has moved
+  pub loses_set : (lines : Held) (did : Option Did) (core : ℕ) (line : Line) → core < now.situation.shape.cores
+      → lines.rows ≡ placed m.lines.rows core came.block line
+      → length (slice_index_or lines.lines core []) + gone (line_at m.lines.rows core came.block).state line.state ≡ length (slice_index_or m.lines.lines core [])
+      → ((k : ℕ) → k ≢ core → slice_index_or lines.lines k [] ≡ slice_index_or m.lines.lines k [])
+      → (k : ℕ) → LosesLines now (standing (closed lines did)) k
+  loses_set lines did core line in_cores rows fewer others =
+      let row = slice_set (row_of m.lines.rows came.block) core line in
+      follows-set closes.whole closes.view (standing (closed lines did)) came.block (next row) lines closes.within
+      (pictures_after lines row did rows) refl core line in_cores refl rows fewer others
