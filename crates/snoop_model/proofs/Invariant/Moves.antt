@@ -5,7 +5,7 @@ use Rattle.std.proofs.lemmas.Bool.Decides.{eqb_tells}
 use Rattle.std.proofs.lemmas.List.{append-nil, length-set, get_or_past, get_or-set_same, get_or-set_other}
 use Rattle.std.proofs.lemmas.List.Elements.{All-nil, All-cons, All-append, filter_map-append}
 use Rattle.std.proofs.lemmas.Bool.{cases_lt, eq-eqb, ne_eqb}
-use Rattle.std.specs.Option.{option_map_or}
+use Rattle.std.proofs.lemmas.Option.{same_Some}
 use Rattle.snoop_trace.specs.Extent.{Extent}
 use Rattle.snoop_trace.specs.Words.{HasWord, IsWord}
 use Rattle.snoop_trace.specs.declared.step.Op.{Op}
@@ -103,12 +103,9 @@ same_access shape old new same within access waits = within access (sym same ∙
 no_access : (shape : Extent) (new : Line) → new.waiting ≡ None → AccessWithin shape new
 no_access shape new none access waits = let e : ◌≡◌ {A = Option Access} None (Some access) = sym none ∙ waits in cc
 
-word_of_access : (word : ℕ) (asking : Op) (access : Access) → ◌≡◌ {A = Option Access} (Some (record { word = word; op = asking })) (Some access) → word ≡ access.word
-word_of_access word asking access e = ap (λ (x : Option Access). option_map_or (λ a. a.word) x 0) e
-
 issued_access : (s : Situation) (word : ℕ) (asking : Op) (access : Access) → HasWord s.shape word asking → kept_waiting word asking ≡ Some access → IsWord s.shape access.word
-issued_access s word op.Load access within e = subst (λ (w : ℕ). IsWord s.shape w) (word_of_access word op.Load access e) within
-issued_access s word (op.Store v) access within e = subst (λ (w : ℕ). IsWord s.shape w) (word_of_access word (op.Store v) access e) within
+issued_access s word op.Load access within e = subst (λ (a : Access). IsWord s.shape a.word) (same_Some _ _ e) within
+issued_access s word (op.Store v) access within e = subst (λ (a : Access). IsWord s.shape a.word) (same_Some _ _ e) within
 issued_access s word op.Evict access within e = cc
 
 takes_access : (s : Situation) (a : CacheAction) (next : CacheState) (log : List Item) (core block word : ℕ) (asking : Op) (old new : Line) (answer : Reply) (entry : Option Item) → Takes a next log core block word asking old new answer entry → HasWord s.shape word asking → AccessWithin s.shape old → AccessWithin s.shape new

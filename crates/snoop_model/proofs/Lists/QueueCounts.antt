@@ -82,8 +82,9 @@ module _ (queues : List (List ℕ)) (core block : ℕ) where
 
   -- an Order takes it out
   pub ordered_own : core < length queues → times block (queue_of (after_order queues core block) core) ≡ 0
-  ordered_own within = ap (times block) (get_or-set_same queues core (filter (λ b. not (eqb b block)) (queue_of queues core)) [] within) ∙ times_gone block
-      (queue_of queues core)
+  ordered_own within =
+      ap (times block) (get_or-set_same queues core (filter (λ b. not (eqb b block)) (queue_of queues core)) [] within)
+      ∙ times_gone block (queue_of queues core)
 
   pub ordered_others : (k : ℕ) → k ≢ core → queue_of (after_order queues core block) k ≡ queue_of queues k
   ordered_others k apart = get_or-set_other queues core k (filter (λ b. not (eqb b block)) (queue_of queues core)) [] apart

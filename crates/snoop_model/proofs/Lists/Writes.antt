@@ -7,6 +7,7 @@ use Rattle.std.proofs.lemmas.List.{set_past, get_or_past, length_push}
 use Rattle.std.proofs.lemmas.List.Elements.{All-head, All-push, All-filter}
 use Rattle.std.proofs.lemmas.List.Sums.{sum_by-set, sum_by-cons, length-filter, count_by-le-length}
 use Rattle.snoop_bus.specs.Queues.{queue_of, after_issue, after_order}
+use Rattle.snoop_model.proofs.Lists.Facts.{one_if}
 
 -- what stands in a place after a write
 pub set_cases : {A : Type 0} (xs : List A) (i k : ℕ) (a d : A) → ((k ≡ i) × (slice_index_or (slice_set xs i a) k d ≡ a)) ⊎ (slice_index_or (slice_set xs i a) k d ≡ slice_index_or xs k d)
@@ -72,20 +73,17 @@ sum_ordered lines core block first =
     let left : List ℕ = filter (λ b. not (b == block)) (queue_of lines core) in
     omega (arith, sum_by-set (λ (l : List ℕ). length l) lines core left [] (first_within lines core block first), left_shorter (queue_of lines core) block first)
 
--- 1 where it is so, else 0
-abbrev pub one : Bool → ℕ
-one t = cond t 1 0
-
-pub one_small : (t : Bool) → one t ≤ 1
+pub one_small : (t : Bool) → one_if t ≤ 1
 one_small true = omega arith
 one_small false = omega arith
 
 -- how many pass a test before and after a write, which past the end of the list does nothing
-pub count_set : {A : Type 0} (test : A → Bool) (xs : List A) (i : ℕ) (a d : A) → test d ≡ false → count_by test (slice_set xs i a) + one (test (slice_index_or xs i d)) ≤ count_by test xs + one (test a)
+pub count_set : {A : Type 0} (test : A → Bool) (xs : List A) (i : ℕ) (a d : A) → test d ≡ false
+    → count_by test (slice_set xs i a) + one_if (test (slice_index_or xs i d)) ≤ count_by test xs + one_if (test a)
 count_set test xs i a d none = elim (cases_lt i (length xs)) [
-  | inl lt ↦ omega (arith, sum_by-set (λ x. one (test x)) xs i a d lt)
+  | inl lt ↦ omega (arith, sum_by-set (λ x. one_if (test x)) xs i a d lt)
   | inr ge ↦
       let same : count_by test (slice_set xs i a) ≡ count_by test xs = ap (λ l. count_by test l) (set_past xs i a ge) in
-      let nothing : one (test (slice_index_or xs i d)) ≡ 0 = ap (λ x. one (test x)) (get_or_past xs i d ge) ∙ ap one none in
+      let nothing : one_if (test (slice_index_or xs i d)) ≡ 0 = ap (λ x. one_if (test x)) (get_or_past xs i d ge) ∙ ap one_if none in
       omega arith
 ]

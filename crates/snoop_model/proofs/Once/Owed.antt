@@ -15,6 +15,7 @@ use Rattle.snoop_model.specs.Runs.Once.{did_it, tally, waits_for, asks, same_acc
 use Rattle.snoop_model.proofs.Lists.Facts.{one_if}
 use Rattle.snoop_model.specs.Runs.Owed.{IsOwed, Owes}
 use Rattle.snoop_model.proofs.Runs.Logged.{move-log}
+use Rattle.snoop_model.proofs.Lists.Writes.{one_small}
 
 -- the operation of an item, if there is one
 abbrev pub entry_op : Option Item → Option Did
@@ -41,13 +42,9 @@ last_push o (x ∷ xs) d = last_push (Some x) xs d
 pub one_waits : (s : Situation) (core block : ℕ) (wanted : Access) → waits_for s core block wanted ≤ 1
 one_waits s core block wanted = by_op (held_by (picture_of s block) core).waiting
   where
-    one : (b : Bool) → one_if b ≤ 1
-    one true = omega arith
-    one false = omega arith
-
     by_op : (o : Option Access) → option_map_or (λ access. one_if (same_access wanted access)) o 0 ≤ 1
     by_op None = omega arith
-    by_op (Some access) = one (same_access wanted access)
+    by_op (Some access) = one_small (same_access wanted access)
 
 -- more stand in the log or wait than the log had: it waits, or is the core's last operation
 waits_or_last : (s t : Situation) (core block : ℕ) (wanted : Access) (entry : Option Item) → count_by (did_it block wanted) (answers_of s.log core) + 1 ≤ tally t core block wanted → t.log ≡ s.log ++ option_to_list entry → IsOwed t core block wanted

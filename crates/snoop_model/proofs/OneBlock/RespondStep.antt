@@ -61,23 +61,22 @@ written_now : (a : MemAction) (v old flat : List ℕ) → writes a ≡ true → 
 written_now mem_action.Write v old flat h e = e
 written_now _ v old flat h e = cc
 
--- what memory had of the flat value it keeps
-value_stays : (b : Bool) (p : Protocol) (m next : MemState) (found : Option MemEvent) (act : MemAction) (carrying : Bool) (v old new flat : List ℕ) → SettlesIf b p found m act next → new ≡ written act v old
-    → (not b || given (memory_row_for p m found) (λ r. not (writes r.action) || carrying)) ≡ true → (carrying ≡ true → v ≡ flat) → old ≡ flat → new ≡ flat
-value_stays true p m next None act carrying v old new flat settled wrote test carried e = absurd settled
-value_stays true p m next (Some event) act carrying v old new flat settled wrote test carried e =
-    let h = given_at (memory_cell_of p m event) (λ r. not (writes r.action) || carrying) (record { action = act; next = next }) settled test in
-    wrote ∙ written_flat act v old flat (λ w. carried (implied (writes act) carrying h w)) e
-value_stays false p m next found act carrying v old new flat settled wrote test carried e = wrote ∙ (ap (λ (a : MemAction). written a v old) settled.0 ∙ e)
+-- memory writes only data that comes, and it writes where its row does
+module _ (p : Protocol) (m next : MemState) (act : MemAction) (carrying : Bool) where
+  writes_carried : (b : Bool) (found : Option MemEvent) → SettlesIf b p found m act next
+      → (not b || given (memory_row_for p m found) (λ r. not (writes r.action) || carrying)) ≡ true → writes act ≡ true → carrying ≡ true
+  writes_carried true None settled test w = absurd settled
+  writes_carried true (Some event) settled test w =
+      implied (writes act) carrying (given_at (memory_cell_of p m event) (λ r. not (writes r.action) || carrying) _ settled test) w
+  writes_carried false found settled test w = let none = rw settled.0 at w in cc
 
-value_written : (b : Bool) (p : Protocol) (m next : MemState) (found : Option MemEvent) (act : MemAction) (carrying : Bool) (v old new flat : List ℕ) → SettlesIf b p found m act next → new ≡ written act v old
-    → (b && carrying && given (memory_row_for p m found) (λ r. writes r.action)) ≡ true → (carrying ≡ true → v ≡ flat) → new ≡ flat
-value_written true p m next None act carrying v old new flat settled wrote test carried = absurd settled
-value_written true p m next (Some event) act carrying v old new flat settled wrote test carried =
-    let parts = and_parts carrying (given (memory_cell_of p m event) (λ r. writes r.action)) test in
-    let w : writes act ≡ true = given_at (memory_cell_of p m event) (λ r. writes r.action) (record { action = act; next = next }) settled parts.1 in
-    wrote ∙ written_now act v old flat w (carried parts.0)
-value_written false p m next found act carrying v old new flat settled wrote test carried = cc
+  row_writes : (b : Bool) (found : Option MemEvent) → SettlesIf b p found m act next
+      → (b && carrying && given (memory_row_for p m found) (λ r. writes r.action)) ≡ true → (carrying ≡ true) × (writes act ≡ true)
+  row_writes true None settled test = absurd settled
+  row_writes true (Some event) settled test =
+      let parts = and_parts carrying (given (memory_cell_of p m event) (λ r. writes r.action)) test in
+      (parts.0, given_at (memory_cell_of p m event) (λ r. writes r.action) _ settled parts.1)
+  row_writes false found settled test = cc
 
 -- what a Respond looks up of a picture that keeps its invariant
 pub record Found (p : Protocol) (n : ℕ) (flat : List ℕ) (before after : Picture) (opened : Open) (g : BlockInvariant p n flat before) : Type 0 where
@@ -101,9 +100,12 @@ find p n flat before after o g was_open arrives =
     let h1 = respond_rule RespondTests.has_line_after p m q pl g.claims is_claims in
     let some_next : (a : Claims) × (claims_of p after.memory.state None ≡ Some a) = some_of (claims_of p after.memory.state None) (given_at _ _ after.memory.state is_memory h1) in
     let carried : carries_value pl ≡ true → o.value ≡ flat = g.carried o was_open in
-    let stays : before.memory.value ≡ flat → after.memory.value ≡ flat = value_stays (takes_payload q m) p m after.memory.state
-    (arrival_at_memory pl) arrives.act (carries_value pl) o.value before.memory.value after.memory.value flat arrives.settled arrives.value
-    (respond_rule RespondTests.write_carries p m q pl g.claims is_claims) carried in
+    let takes = takes_payload q m in
+    let message = arrival_at_memory pl in
+    let written_by = writes_carried p m after.memory.state arrives.act (carries_value pl) takes message arrives.settled
+    (respond_rule RespondTests.write_carries p m q pl g.claims is_claims) in
+    let stays : before.memory.value ≡ flat → after.memory.value ≡ flat = λ e. arrives.value ∙ written_flat arrives.act o.value before.memory.value flat
+    (λ w. carried (written_by w)) e in
     let fresh_test = after_rule RespondTests.fresh_respond p m q pl g.claims after.memory.state some_next.0 is_claims is_memory some_next.1 in
     let written_test = takes_payload q m && carries_value pl && given (memory_row_for p m (arrival_at_memory pl)) (λ (x : MemCell). writes x.action) in
     record {
@@ -117,31 +119,26 @@ find p n flat before after o g was_open arrives =
           let h2 = and_parts (not (is_get_m q)) (g.claims.fresh || written_test) (implied some_next.0.fresh (not (is_get_m q) && (g.claims.fresh || written_test)) fresh_test h) in
           let v : after.memory.value ≡ flat = elim (or_cases g.claims.fresh written_test h2.1) as (λ _. after.memory.value ≡ flat) [
             | inl f ↦ stays (g.fresh f)
-            | inr w ↦ value_written (takes_payload q m) p m after.memory.state (arrival_at_memory pl) arrives.act (carries_value pl) o.value before.memory.value after.memory.value flat arrives.settled arrives.value w carried
+            | inr w ↦
+                let it = row_writes p m after.memory.state arrives.act (carries_value pl) takes message arrives.settled w in
+                arrives.value ∙ written_now arrives.act o.value before.memory.value flat it.1 (carried it.0)
           ] in
           (not-true (is_get_m q) h2.0, v);
       requestor_in = g.requestor_in o was_open;
       owned = same_is _ _ (after_rule RespondTests.gain_owned p m q pl g.claims after.memory.state some_next.0 is_claims is_memory some_next.1);
     }
 
--- a core that is not answered keeps its state, and it fits the line after
-stays_fits : (p : Protocol) (n : ℕ) (flat : List ℕ) (before after : Picture) (o : Open) (g : BlockInvariant p n flat before) (f : Found p n flat before after o g) (d : ℕ) → d < n → fits p g.claims.shared (owns g.owner d) None (held_by before d).state ≡ true → fits p f.next.shared (owns g.owner d) None (held_by before d).state ≡ true
-stays_fits p n flat before after o g f d d_in fit =
-    let t = after_rule RespondTests.stay_fits p before.memory.state o.request o.payload g.claims after.memory.state f.next f.is_claims f.is_memory f.is_next in
+-- a core that is not answered keeps its state, which fits the line after; and after a GetM it may not read
+stays : (p : Protocol) (n : ℕ) (flat : List ℕ) (before after : Picture) (o : Open) (g : BlockInvariant p n flat before) (f : Found p n flat before after o g)
+    (d : ℕ) → d < n
+    → fits p g.claims.shared (owns g.owner d) None (held_by before d).state ≡ true
+    → (fits p f.next.shared (owns g.owner d) None (held_by before d).state ≡ true) × (is_get_m o.request ≡ true → keeps (held_by before d).state ≡ false)
+stays p n flat before after o g f d d_in fit =
+    let t = after_rule RespondTests.stays p before.memory.state o.request o.payload g.claims after.memory.state f.next f.is_claims f.is_memory f.is_next in
     let s = (held_by before d).state in
-    let ow = owns g.owner d in
-    let h0 = either-at _ (all_states-at _ t s) ow in
-    when_at _ _ (owns_owned g.owner d g.claims.owned g.is_owned) (when_at _ _ fit h0)
-
--- after a GetM no other core may read
-stays_blind : (p : Protocol) (n : ℕ) (flat : List ℕ) (before after : Picture) (o : Open) (g : BlockInvariant p n flat before) (f : Found p n flat before after o g) → is_get_m o.request ≡ true → (d : ℕ) → d < n → fits p g.claims.shared (owns g.owner d) None (held_by before d).state ≡ true → keeps (held_by before d).state ≡ false
-stays_blind p n flat before after o g f get_m d d_in fit =
-    let t = when_at _ _ get_m
-    (after_rule RespondTests.stay_alone p before.memory.state o.request o.payload g.claims after.memory.state f.next f.is_claims f.is_memory f.is_next) in
-    let s = (held_by before d).state in
-    let ow = owns g.owner d in
-    let h0 = either-at _ (all_states-at _ t s) ow in
-    not-true (keeps s) (when_at _ _ (owns_owned g.owner d g.claims.owned g.is_owned) (when_at _ _ fit h0))
+    let here = when_at _ _ (owns_owned g.owner d g.claims.owned g.is_owned) (when_at _ _ fit (either-at _ (all_states-at _ t s) (owns g.owner d))) in
+    let parts = and_parts (fits p f.next.shared (owns g.owner d) None s) (not (is_get_m o.request) || not (keeps s)) here in
+    (parts.0, λ get_m. not-true (keeps s) (implied (is_get_m o.request) (not (keeps s)) parts.1 get_m))
 
 none_some : (x : Open) → None ≡ Some x → ⊥
 none_some x e = cc
@@ -171,7 +168,8 @@ respond_put p n flat before after o g was_open arrives closes put same_held =
       is_owned = g.is_owned ∙ (or_false_is g.claims.owned ∙ (ap (λ (b : Bool). g.claims.owned || b) (sym gained) ∙ sym f.owned));
       states = λ d d_in.
           let fit = fits_calm p g.claims.shared (owns g.owner d) (awaited before.transaction d) (held_by before d).state (calm d) (g.states d d_in) in
-          ap (λ (t : Option Open). fits p f.next.shared (owns g.owner d) (awaited t d) (held_by after d).state) closes ∙ (ap (λ (x : Line). fits p f.next.shared (owns g.owner d) None x.state) (same_held d) ∙ stays_fits p n flat before after o g f d d_in fit);
+          ap (λ (t : Option Open). fits p f.next.shared (owns g.owner d) (awaited t d) (held_by after d).state) closes ∙
+          (ap (λ (x : Line). fits p f.next.shared (owns g.owner d) None x.state) (same_held d) ∙ (stays p n flat before after o g f d d_in fit).0);
       kept = λ d d_in h. carried_kept (held_by before d) (held_by after d) flat (carried_same (held_by before d) (held_by after d) (same_held d)) (g.kept d d_in) h;
       clean = λ d d_in h. f.stays (g.clean d d_in ((carried_same (held_by before d) (held_by after d) (same_held d)).cleans h));
       fresh = λ h. (f.refreshed h).1;
@@ -222,17 +220,16 @@ arrive p n flat before after o g f row was_open no_put is_row =
     let test_first = when_at _ _ get
     (after_rule RespondTests.arrival_fits p before.memory.state o.request o.payload g.claims after.memory.state f.next f.is_claims f.is_memory f.is_next) in
     let test_second = given_at _ _ row is_row (when_at _ _ fit (either-at _ (all_states-at _ test_first s) ow)) in
-    let u0 = when_at _ _ get (respond_rule RespondTests.arrival_fills p before.memory.state o.request o.payload g.claims f.is_claims) in
-    let u1 = given_at _ _ row is_row (when_at _ _ fit (either-at _ (all_states-at _ u0 s) ow)) in
-    let a = and_parts (not ow) (fits p f.next.shared (gains o.request o.payload) None row.next && (not (is_clean row.next) || (g.claims.fresh && not (is_get_m o.request)))) test_second in
-    let b = and_parts (fits p f.next.shared (gains o.request o.payload) None row.next) (not (is_clean row.next) || (g.claims.fresh && not (is_get_m o.request))) a.1 in
+    let a = and_parts _ _ test_second in
+    let b = and_parts _ _ a.1 in
+    let c = and_parts _ _ b.1 in
     record {
       not_owner = not-true ow a.0;
       fit = b.0;
       clean = λ h.
-          let e = and_parts g.claims.fresh (not (is_get_m o.request)) (implied (is_clean row.next) (g.claims.fresh && not (is_get_m o.request)) b.1 h) in
+          let e = and_parts g.claims.fresh (not (is_get_m o.request)) (implied (is_clean row.next) (g.claims.fresh && not (is_get_m o.request)) c.0 h) in
           (e.0, not-true (is_get_m o.request) e.1);
-      fills = same_is (fills_store row.action) (is_get_m o.request) u1;
+      fills = same_is (fills_store row.action) (is_get_m o.request) c.1;
     }
 
 -- what a fill leaves: the state, the kept value, and the flat value
@@ -284,12 +281,16 @@ respond_get p n flat before after o g was_open arrives closes no_put log asking 
       is_owned = answered_owned gained g.claims.owned c g.owner g.is_owned ∙ sym f.owned;
       states = λ d d_in. ap (λ (t : Option Open). fits p f.next.shared (owns (answered_owner gained c g.owner) d) (awaited t d) (held_by after d).state) closes ∙ elim (eqb_tells d c) as (λ _. fits p f.next.shared (owns (answered_owner gained c g.owner) d) None (held_by after d).state ≡ true) [
         | inl h ↦ ap (λ (x : ℕ). fits p f.next.shared (owns (answered_owner gained c g.owner) x) None (held_by after x).state) h.1 ∙ (ap (λ (b : Bool). fits p f.next.shared b None (held_by after c).state) (owns_answered_self gained c g.owner a.not_owner) ∙ (ap (fits p f.next.shared gained None) l.state ∙ a.fit))
-        | inr h ↦ ap (λ (b : Bool). fits p f.next.shared b None (held_by after d).state) (owns_answered_other gained g.claims.owned c d g.owner h.1 g.is_owned alone) ∙ (ap (λ (x : Line). fits p f.next.shared (owns g.owner d) None x.state) (others d h.1) ∙ stays_fits p n flat before after o g f d d_in (fit d d_in h.1))
+        | inr h ↦ ap (λ (b : Bool). fits p f.next.shared b None (held_by after d).state)
+            (owns_answered_other gained g.claims.owned c d g.owner h.1 g.is_owned alone) ∙
+            (ap (λ (x : Line). fits p f.next.shared (owns g.owner d) None x.state) (others d h.1) ∙
+            (stays p n flat before after o g f d d_in (fit d d_in h.1)).0)
       ];
       kept = λ d d_in h. elim (eqb_tells d c) as (λ _. (held_by after d).kept ≡ Some (flat_after flat did)) [
         | inl e ↦ ap (λ (x : ℕ). (held_by after x).kept) e.1 ∙ l.kept
         | inr e ↦ elim (cases_Bool (is_get_m o.request)) as (λ _. (held_by after d).kept ≡ Some (flat_after flat did)) [
-          | inl m ↦ absurd (clash (keeps (held_by before d).state) (ap (λ (x : Line). keeps x.state) (sym (others d e.1)) ∙ h) (stays_blind p n flat before after o g f m d d_in (fit d d_in e.1)))
+          | inl m ↦ absurd (clash (keeps (held_by before d).state) (ap (λ (x : Line). keeps x.state) (sym (others d e.1)) ∙ h)
+              ((stays p n flat before after o g f d d_in (fit d d_in e.1)).1 m))
           | inr m ↦ carried_kept (held_by before d) (held_by after d) flat (carried_same (held_by before d) (held_by after d) (others d e.1)) (g.kept d d_in) h ∙ ap (λ (x : List ℕ). Some x) (sym (same_flat m))
         ]
       ];
@@ -300,7 +301,8 @@ respond_get p n flat before after o g was_open arrives closes no_put log asking 
         | inr e ↦
             let was : is_clean (held_by before d).state ≡ true = ap (λ (x : Line). is_clean x.state) (sym (others d e.1)) ∙ h in
             elim (cases_Bool (is_get_m o.request)) as (λ _. after.memory.value ≡ flat_after flat did) [
-              | inl m ↦ absurd (clash (keeps (held_by before d).state) (clean_reads (held_by before d).state was) (stays_blind p n flat before after o g f m d d_in (fit d d_in e.1)))
+              | inl m ↦ absurd (clash (keeps (held_by before d).state) (clean_reads (held_by before d).state was)
+                  ((stays p n flat before after o g f d d_in (fit d d_in e.1)).1 m))
               | inr m ↦ f.stays (g.clean d d_in was) ∙ sym (same_flat m)
             ]
       ];

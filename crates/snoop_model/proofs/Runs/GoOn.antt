@@ -39,6 +39,7 @@ pub steady_on : KeepsWell → (old : Situation) (step : Step) (outcome : Result 
 steady_on keeps old step (Ok answer) new steady goes = (first_keeps old step answer new goes.0 steady.0 goes.1, keeps old new step answer goes.0 steady.1 goes.1)
 steady_on keeps old step (Err cause) new steady goes = subst IsSteady (sym goes.1) steady
 
+-- it holds at reset, and after each step of a run
 pub reset_steady : (protocol : Protocol) (shape : Extent) → IsSteady (reset protocol shape)
 reset_steady protocol shape = (reset_invariant protocol shape, (starts_well protocol shape (λ core. None)).0)
 

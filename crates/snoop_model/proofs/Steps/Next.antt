@@ -43,6 +43,7 @@ use Rattle.snoop_model.specs.Moves.Move.{is_load, kept_waiting, next_did, moves_
 use Rattle.snoop_model.proofs.Tables.RespondTests.{row_for, memory_row_for}
 use Rattle.snoop_model.proofs.Tables.SentBy.{payload_from}
 
+-- what a step is answered, and where it leads
 abbrev pub Next : Type 0
 Next = Result Reply Refused × Situation
 

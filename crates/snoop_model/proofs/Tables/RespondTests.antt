@@ -83,7 +83,6 @@ pub data RespondQuestion : Type 0 where
   write_carries : RespondQuestion
   has_arrival : RespondQuestion
   data_of_get : RespondQuestion
-  arrival_fills : RespondQuestion
   has_memory_arrival : RespondQuestion
 
 abbrev pub respond_test : RespondQuestion → RespondTest
@@ -93,9 +92,6 @@ respond_test write_carries p m q pl st = not (takes_payload q m) || given (memor
 respond_test has_arrival p m q pl st = when (not (is_put_m q))
     (λ _. all_states (λ s. either (λ ow. when (fits p st.shared ow (Some q) s) (λ _. is_some (row_for p s (arrival pl))))))
 respond_test data_of_get p m q pl st = is_put_m q || carries_value pl
-respond_test arrival_fills p m q pl st = when (not (is_put_m q))
-    (λ _. all_states (λ s. either (λ ow. when (fits p st.shared ow (Some q) s)
-    (λ _. given (row_for p s (arrival pl)) (λ r. same (fills_store r.action) (is_get_m q))))))
 respond_test has_memory_arrival p m q pl st = not (takes_payload q m) || is_some (memory_row_for p m (arrival_at_memory pl))
 
 respond_holds : (k : RespondQuestion) → responds (respond_test k) ≡ true
@@ -113,22 +109,20 @@ pub data AfterQuestion : Type 0 where
   gain_alone : AfterQuestion
   fresh_respond : AfterQuestion
   arrival_fits : AfterQuestion
-  stay_fits : AfterQuestion
-  stay_alone : AfterQuestion
+  stays : AfterQuestion
 
 abbrev pub after_test : AfterQuestion → AfterTest
 after_test gain_owned p m q pl st m2 st2 = same st2.owned (st.owned || gains q pl)
 after_test gain_alone p m q pl st m2 st2 = not (gains q pl) || not st.owned
 after_test fresh_respond p m q pl st m2 st2 = not st2.fresh ||
     (not (is_get_m q) && (st.fresh || (takes_payload q m && carries_value pl && given (memory_row_for p m (arrival_at_memory pl)) (λ r. writes r.action))))
-after_test arrival_fits p m q pl st m2 st2 = when (not (is_put_m q))
-    (λ _. all_states (λ s. either (λ ow. when (fits p st.shared ow (Some q) s)
-    (λ _. given (row_for p s (arrival pl)) (λ r. not ow &&
-    (fits p st2.shared (gains q pl) None r.next && (not (is_clean r.next) || (st.fresh && not (is_get_m q)))))))))
-after_test stay_fits p m q pl st m2 st2 = all_states (λ s. either
-    (λ ow. when (fits p st.shared ow None s) (λ _. when (not ow || st.owned) (λ _. fits p st2.shared ow None s))))
-after_test stay_alone p m q pl st m2 st2 = when (is_get_m q)
-    (λ _. all_states (λ s. either (λ ow. when (fits p st.shared ow None s) (λ _. when (not ow || st.owned) (λ _. not (keeps s))))))
+after_test arrival_fits p m q pl st m2 st2 =
+    when (not (is_put_m q)) (λ _. all_states (λ s. either (λ ow. when (fits p st.shared ow (Some q) s) (λ _. given (row_for p s (arrival pl)) (λ r.
+    not ow && (fits p st2.shared (gains q pl) None r.next && ((not (is_clean r.next) || (st.fresh && not (is_get_m q))) && same (fills_store r.action)
+    (is_get_m q))))))))
+after_test stays p m q pl st m2 st2 =
+    all_states (λ s. either (λ ow.
+    when (fits p st.shared ow None s) (λ _. when (not ow || st.owned) (λ _. fits p st2.shared ow None s && (not (is_get_m q) || not (keeps s))))))
 
 after_holds : (k : AfterQuestion) → responds (after_case (after_test k)) ≡ true
 unfolding responds respond_case all_protocols all_memories all_states all_requests all_payloads all_asks all_waits either given when claims_of fits is_owner is_sharer is_clean wait_fits in_protocol same

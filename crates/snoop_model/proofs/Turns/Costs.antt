@@ -11,7 +11,8 @@ use Rattle.snoop_model.specs.Pictures.Picture.{Picture, with_line}
 use Rattle.snoop_model.specs.Moves.Move.{queues_after}
 use Rattle.snoop_model.specs.Turns.Serving.{steps_owed, has_transaction}
 use Rattle.snoop_model.specs.Turns.TurnLaws.{Pays}
-use Rattle.snoop_model.proofs.Lists.Writes.{sum_issued, sum_ordered, one, one_small, count_set}
+use Rattle.snoop_model.proofs.Lists.Writes.{sum_issued, sum_ordered, one_small, count_set}
+use Rattle.snoop_model.proofs.Lists.Facts.{one_if}
 
 sum_asked : (act : CacheAction) (lines : List (List ℕ)) (core block : ℕ) → sum_by length (queues_after act lines core block) ≤ sum_by length lines + 1
 sum_asked (action.Issue request) lines core block = sum_issued lines core block
@@ -35,6 +36,6 @@ pays s t (Order core) answer entry move =
 pays s t (Respond on) answer entry move =
     let responds = move.1.1.responds in
     let e : steps_owed t ≡ owes s.queues (slice_set s.pictures move.0 responds.next) = ap (λ (x : Situation). steps_owed x) responds.after in
-    let was : one (has_transaction (picture_of s move.0)) ≡ 1 = ap (λ (o : Option Open). one (is_some o)) responds.opened in
-    let is : one (has_transaction responds.next) ≡ 0 = ap (λ (o : Option Open). one (is_some o)) responds.closed in
+    let was : one_if (has_transaction (picture_of s move.0)) ≡ 1 = ap (λ (o : Option Open). one_if (is_some o)) responds.opened in
+    let is : one_if (has_transaction responds.next) ≡ 0 = ap (λ (o : Option Open). one_if (is_some o)) responds.closed in
     omega (arith, e, count_set has_transaction s.pictures move.0 responds.next nothing_there refl, was, is)
