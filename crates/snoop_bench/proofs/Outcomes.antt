@@ -28,7 +28,7 @@ use Rattle.snoop_trace.specs.declared.step.Work.{Work}
 use Rattle.snoop_bench.specs.declared.work.Turn.{Turn}
 use Rattle.snoop_bench.specs.declared.work.Turn.TheVariants as turn
 use Rattle.snoop_bench.specs.Works.{access_of, work_at, IsOp, Does}
-use Rattle.snoop_bench.specs.Recording.{Recording, Takes}
+use Rattle.snoop_bench.specs.Recording.{Recording, TakesAndPublishes}
 use Rattle.snoop_bench.specs.Locked.{Locked, IsClosed, EndsWith, record_of}
 use Rattle.snoop_bench.specs.Turns.{Finishes, Asked, TurnsIn, Turns, case_under_way}
 use Rattle.snoop_bench.specs.Outcomes.{works_asked, turn_asked, turn_over}
@@ -128,17 +128,17 @@ asked_so rule s t core work (reply.Came payload from did) given p q u idle insid
 
 -- the turn of a core whose request waits
 pub served_turn : (w : Option Request) (o : Option Open) (core : ℕ) (work : Work) (step : Step) (p q : Locked) → step_under_way w o core work.block ≡ Some step → is_some w ≡ true
-    → (answer : Reply) × (Takes step answer (record_of p) (record_of q) × (q.works ≡ p.works)) → TurnsIn (case_under_way w o core) core work turn.Going p q
+    → (answer : Reply) × (TakesAndPublishes step answer (record_of p) (record_of q) × (q.works ≡ p.works)) → TurnsIn (case_under_way w o core) core work turn.Going p q
 served_turn None o core work step p q is waits t = absurd (true≢false (sym waits))
 served_turn (Some r) None core work step p q is waits t =
     let same : step ≡ Order core = same_step (Order core) step is in
-    (t.0, (subst (λ (x : Step). Takes x t.0 (record_of p) (record_of q)) same t.1.0, (refl, t.1.1)))
+    (t.0, (subst (λ (x : Step). TakesAndPublishes x t.0 (record_of p) (record_of q)) same t.1.0, (refl, t.1.1)))
   where
     same_step : (a b : Step) → Some a ≡ Some b → b ≡ a
     same_step a b e = cc
 served_turn (Some r) (Some o) core work step p q is waits t =
     let same : step ≡ Respond work.block = same_step (Respond work.block) step is in
-    (t.0, (subst (λ (x : Step). Takes x t.0 (record_of p) (record_of q)) same t.1.0, (refl, t.1.1)))
+    (t.0, (subst (λ (x : Step). TakesAndPublishes x t.0 (record_of p) (record_of q)) same t.1.0, (refl, t.1.1)))
   where
     same_step : (a b : Step) → Some a ≡ Some b → b ≡ a
     same_step a b e = cc

@@ -8,7 +8,7 @@ use Rattle.snoop_bus.specs.Queues.{queue_of}
 use Rattle.snoop_model.specs.Pictures.Situation.{Situation}
 use Rattle.snoop_model.specs.Turns.Serving.{IsServing}
 use Rattle.snoop_trace.specs.declared.step.Work.{Work}
-use Rattle.snoop_bench.specs.Works.{work_at, under_way}
+use Rattle.snoop_bench.specs.Works.{work_at, works_under_way}
 
 -- the changed place holds the new work
 pub changed : (works : List (Option Work)) (core : ℕ) (work : Option Work) → core < length works → work_at (slice_set works core work) core ≡ work
@@ -27,7 +27,7 @@ unchanged works core other work h = by_length (cases_lt other (length works))
     by_length (inr ge) =
         ap (λ (o : Option (Option Work)). option_and_then (λ w. w) o) (slice_get_past (slice_set works core work) other (let n = length-set works core work in omega arith) ∙ sym (slice_get_past works other ge))
 
-pub under_way-unchanged : (works : List (Option Work)) (core other : ℕ) (work : Option Work) → other ≢ core → under_way (slice_set works core work) other ≡ under_way works other
+pub under_way-unchanged : (works : List (Option Work)) (core other : ℕ) (work : Option Work) → other ≢ core → works_under_way (slice_set works core work) other ≡ works_under_way works other
 under_way-unchanged works core other work h = ap (λ (o : Option Work). option_map (λ w. w.block) o) (unchanged works core other work h)
 
 -- serving asks only which block each core has under way

@@ -37,7 +37,7 @@ use Rattle.snoop_model.specs.Moves.Refuses.{Refuses}
 use Rattle.snoop_model.specs.declared.replies.Refused.{Refused}
 use Rattle.snoop_model.proofs.Turns.ClosedWorks.{has_step}
 use Rattle.snoop_trace.specs.declared.step.Work.{Work}
-use Rattle.snoop_bench.specs.Works.{access_of, work_at, under_way, IsOp, Does}
+use Rattle.snoop_bench.specs.Works.{access_of, work_at, works_under_way, IsOp, Does}
 use Rattle.snoop_bench.specs.Outcomes.{works_asked}
 use Rattle.snoop_bench.specs.Keeps.{AreUnderWay}
 use Rattle.snoop_bench.proofs.Places.{changed, unchanged, under_way-unchanged, serving-same, has_place}
@@ -59,10 +59,10 @@ no_asked : (core block : ℕ) (wanted : Access) (step : Step) → IsNoAsk step �
 no_asked core block wanted step none e = true≢false (sym e ∙ none core block wanted)
 
 -- while the works stay, a step that asks nothing keeps them under way
-pub step_keeps : TurnLaws → (s t : Situation) (step : Step) (answer : Reply) (works : List (Option Work)) → AreUnderWay works s → Stepped s t step answer → IsNoAsk step → IsUnderWay (under_way works) step → AreUnderWay works t
+pub step_keeps : TurnLaws → (s t : Situation) (step : Step) (answer : Reply) (works : List (Option Work)) → AreUnderWay works s → Stepped s t step answer → IsNoAsk step → IsUnderWay (works_under_way works) step → AreUnderWay works t
 step_keeps rule s t step answer works u m none under = record {
   places = u.places ∙ sym m.cores;
-  serving = rule.serves_on s t (under_way works) (under_way works) step answer m.entry u.serving m.move (λ core block e. e) under;
+  serving = rule.serves_on s t (works_under_way works) (works_under_way works) step answer m.entry u.serving m.move (λ core block e. e) under;
   waiting = λ core block wanted waits. by_was core block wanted (waited_or_asked s t step answer m.entry m.move m.once core block wanted waits);
   owed = λ core work its isnt. owed_still s t step answer m.entry works m.move m.once u.waiting core work its (none core) (u.owed core work its isnt);
 }
@@ -75,7 +75,7 @@ step_keeps rule s t step answer works u m none under = record {
 pub over_keeps : TurnLaws → (s : Situation) (works : List (Option Work)) (core : ℕ) (work : Work) → AreUnderWay works s → IsWellKept s → work_at works core ≡ Some work → turn_of s core work.block work.word work.op true ≡ None → AreUnderWay (slice_set works core None) s
 over_keeps rule s works core work u kept its closed = record {
   places = length-set works core None ∙ u.places;
-  serving = rule.ends s (under_way works) (under_way (slice_set works core None)) core work.block work.word work.op u.serving kept (ap (λ (o : Option Work). option_map (λ w. w.block) o) its) closed (λ other apart. under_way-unchanged works core other None apart);
+  serving = rule.ends s (works_under_way works) (works_under_way (slice_set works core None)) core work.block work.word work.op u.serving kept (ap (λ (o : Option Work). option_map (λ w. w.block) o) its) closed (λ other apart. under_way-unchanged works core other None apart);
   waiting = λ c block wanted waits. by_core c block wanted waits (cases_eq c core);
   owed = λ c w theirs isnt. by_owner c w theirs isnt (cases_eq c core);
 }
@@ -135,7 +135,7 @@ ended_keeps rule s t works core work answer u idle inside m ended = (
   closed,
   record {
     places = u.places ∙ sym m.cores;
-    serving = rule.ends t (under_way asking) (under_way works) core work.block work.word work.op serves m.kept its closed (λ other apart. sym (under_way-unchanged works core other (Some work) apart));
+    serving = rule.ends t (works_under_way asking) (works_under_way works) core work.block work.word work.op serves m.kept its closed (λ other apart. sym (under_way-unchanged works core other (Some work) apart));
     waiting = λ c block wanted waits. by_was c block wanted waits (waited_or_asked s t (Ask core work.block work.word work.op) answer m.entry m.move m.once c block wanted waits);
     owed = λ c w theirs isnt. owed_still s t (Ask core work.block work.word work.op) answer m.entry works m.move m.once u.waiting c w theirs (others_ask_nothing core c work.block work.word work.op (apart_from c w theirs)) (u.owed c w theirs isnt);
   },
@@ -147,24 +147,24 @@ ended_keeps rule s t works core work answer u idle inside m ended = (
     asking : List (Option Work)
     asking = slice_set works core (Some work)
 
-    its : under_way asking core ≡ Some work.block
+    its : works_under_way asking core ≡ Some work.block
     its = ap (λ (o : Option Work). option_map (λ w. w.block) o) (changed works core (Some work) (omega (arith, u.places)))
 
-    more : (c block : ℕ) → under_way works c ≡ Some block → under_way asking c ≡ Some block
+    more : (c block : ℕ) → works_under_way works c ≡ Some block → works_under_way asking c ≡ Some block
     more c block e = by_core (cases_eq c core)
       where
         nothing : (o : Option Work) → o ≡ None → option_map (λ w. w.block) o ≡ Some block → ⊥
         nothing o none some = cc
 
-        by_core : (c ≡ core) ⊎ (c ≢ core) → under_way asking c ≡ Some block
-        by_core (inl same) = absurd (nothing (work_at works core) idle (subst (λ (k : ℕ). under_way works k ≡ Some block) same e))
+        by_core : (c ≡ core) ⊎ (c ≢ core) → works_under_way asking c ≡ Some block
+        by_core (inl same) = absurd (nothing (work_at works core) idle (subst (λ (k : ℕ). works_under_way works k ≡ Some block) same e))
         by_core (inr apart) = under_way-unchanged works core c (Some work) apart ∙ e
 
-    serves : IsServing (under_way asking) t
-    serves = rule.serves_on s t (under_way works) (under_way asking) (Ask core work.block work.word work.op) answer m.entry u.serving m.move more its
+    serves : IsServing (works_under_way asking) t
+    serves = rule.serves_on s t (works_under_way works) (works_under_way asking) (Ask core work.block work.word work.op) answer m.entry u.serving m.move more its
 
     closed : turn_of t core work.block work.word work.op true ≡ None
-    closed = rule.asked_once s t (under_way works) core work.block work.word work.op answer m.entry u.serving (ap (λ (o : Option Work). option_map (λ w. w.block) o) idle) m.kept m.move ended
+    closed = rule.asked_once s t (works_under_way works) core work.block work.word work.op answer m.entry u.serving (ap (λ (o : Option Work). option_map (λ w. w.block) o) idle) m.kept m.move ended
 
     by_was : (c block : ℕ) (wanted : Access) → waits_for t c block wanted ≡ 1 → (waits_for s c block wanted ≡ 1) ⊎ (asks c block wanted (Ask core work.block work.word work.op) ≡ true) → work_at works c ≡ Some (record { block = block; word = wanted.word; op = wanted.op })
     by_was c block wanted waits (inl was) = u.waiting c block wanted was
@@ -179,7 +179,7 @@ pub issued_keeps : TurnLaws → (s t : Situation) (works : List (Option Work)) (
     → AreUnderWay (slice_set works core (Some work)) t
 issued_keeps rule s t works core work answer u idle inside m = record {
   places = length-set works core (Some work) ∙ u.places ∙ sym m.cores;
-  serving = rule.serves_on s t (under_way works) (under_way after) (Ask core work.block work.word work.op) answer m.entry u.serving m.move more (ap (λ (o : Option Work). option_map (λ w. w.block) o) its);
+  serving = rule.serves_on s t (works_under_way works) (works_under_way after) (Ask core work.block work.word work.op) answer m.entry u.serving m.move more (ap (λ (o : Option Work). option_map (λ w. w.block) o) its);
   waiting = λ c block wanted waits. by_was c block wanted (waited_or_asked s t (Ask core work.block work.word work.op) answer m.entry m.move m.once c block wanted waits);
   owed = λ c w theirs isnt. by_owner c w theirs isnt (cases_eq c core);
 }
@@ -196,11 +196,11 @@ issued_keeps rule s t works core work answer u idle inside m = record {
     nothing : (o : Option Work) (block : ℕ) → o ≡ None → option_map (λ w. w.block) o ≡ Some block → ⊥
     nothing o block none some = cc
 
-    more : (c block : ℕ) → under_way works c ≡ Some block → under_way after c ≡ Some block
+    more : (c block : ℕ) → works_under_way works c ≡ Some block → works_under_way after c ≡ Some block
     more c block e = by_core (cases_eq c core)
       where
-        by_core : (c ≡ core) ⊎ (c ≢ core) → under_way after c ≡ Some block
-        by_core (inl same) = absurd (nothing (work_at works core) block idle (subst (λ (k : ℕ). under_way works k ≡ Some block) same e))
+        by_core : (c ≡ core) ⊎ (c ≢ core) → works_under_way after c ≡ Some block
+        by_core (inl same) = absurd (nothing (work_at works core) block idle (subst (λ (k : ℕ). works_under_way works k ≡ Some block) same e))
         by_core (inr apart) = under_way-unchanged works core c (Some work) apart ∙ e
 
     by_was : (c block : ℕ) (wanted : Access) → (waits_for s c block wanted ≡ 1) ⊎ (asks c block wanted (Ask core work.block work.word work.op) ≡ true) → work_at after c ≡ Some (record { block = block; word = wanted.word; op = wanted.op })
@@ -232,11 +232,11 @@ asked_keeps rule s t works core work (reply.Came payload from did) u idle inside
 -- no cause refuses the step of a turn
 pub never : TurnLaws → (s : Situation) (works : List (Option Work)) (core : ℕ) (work : Work) (begun : Bool) (step : Step) → AreUnderWay works s → IsWellKept s → core < s.shape.cores → work.block < s.shape.blocks → HasWord s.shape work.word work.op
     → work_at works core ≡ (if begun then Some work else None) → turn_of s core work.block work.word work.op begun ≡ Some step → (cause : Refused) → ¬ Refuses s step cause
-never rule s works core work true step u kept c b word its turn = rule.never_refused s (under_way works) core work.block work.word work.op true step u.serving kept c b word (ap (λ (o : Option Work). option_map (λ w. w.block) o) its) turn
-never rule s works core work false step u kept c b word its turn = rule.never_refused s (under_way works) core work.block work.word work.op false step u.serving kept c b word (ap (λ (o : Option Work). option_map (λ w. w.block) o) its) turn
+never rule s works core work true step u kept c b word its turn = rule.never_refused s (works_under_way works) core work.block work.word work.op true step u.serving kept c b word (ap (λ (o : Option Work). option_map (λ w. w.block) o) its) turn
+never rule s works core work false step u kept c b word its turn = rule.never_refused s (works_under_way works) core work.block work.word work.op false step u.serving kept c b word (ap (λ (o : Option Work). option_map (λ w. w.block) o) its) turn
 
 -- the step of a work under way is no Ask
-no_ask : (core block : ℕ) (w : Option Request) (o : Option Open) (step : Step) (works : List (Option Work)) → step_under_way w o core block ≡ Some step → IsNoAsk step × IsUnderWay (under_way works) step
+no_ask : (core block : ℕ) (w : Option Request) (o : Option Open) (step : Step) (works : List (Option Work)) → step_under_way w o core block ≡ Some step → IsNoAsk step × IsUnderWay (works_under_way works) step
 no_ask core block w o (Order c) works is = (λ k b wanted. refl, tt)
 no_ask core block w o (Respond b') works is = (λ k b wanted. refl, tt)
 no_ask core block (Some r) None (Ask c b w' a) works is = cc
@@ -244,7 +244,7 @@ no_ask core block (Some r) (Some t) (Ask c b w' a) works is = cc
 no_ask core block None None (Ask c b w' a) works is = cc
 no_ask core block None (Some t) (Ask c b w' a) works is = by_core (t.core == core) refl
   where
-    by_core : (x : Bool) → (t.core == core) ≡ x → IsNoAsk (Ask c b w' a) × IsUnderWay (under_way works) (Ask c b w' a)
+    by_core : (x : Bool) → (t.core == core) ≡ x → IsNoAsk (Ask c b w' a) × IsUnderWay (works_under_way works) (Ask c b w' a)
     by_core true e = let n : ◌≡◌ {A = Option Step} (Some (Respond block)) (Some (Ask c b w' a)) = rw e at is in cc
     by_core false e = let n : ◌≡◌ {A = Option Step} None (Some (Ask c b w' a)) = rw e at is in cc
 
@@ -257,7 +257,7 @@ serving_step rule s t core block word asking step answer works u m turn =
 pub reset_under_way : TurnLaws → (protocol : Protocol) (shape : Extent) → AreUnderWay (replicate shape.cores None) (reset protocol shape)
 reset_under_way rule protocol shape = record {
   places = length-replicate shape.cores None;
-  serving = (rule.starts_well protocol shape (under_way (replicate shape.cores None))).1;
+  serving = (rule.starts_well protocol shape (works_under_way (replicate shape.cores None))).1;
   waiting = λ core block wanted waits. absurd (nothing_waits core block wanted waits);
   owed = λ core work its isnt. absurd (nothing_under_way core work its (cases_lt core shape.cores));
 }

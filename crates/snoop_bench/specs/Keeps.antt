@@ -10,7 +10,7 @@ use Rattle.snoop_model.specs.Turns.Serving.{IsServing}
 use Rattle.snoop_model.specs.Runs.Owed.{IsOwed}
 use Rattle.snoop_trace.specs.declared.step.Work.{Work}
 use Rattle.snoop_bench.specs.declared.bench.Bench.TheInside.{Inside}
-use Rattle.snoop_bench.specs.Works.{access_of, work_at, under_way}
+use Rattle.snoop_bench.specs.Works.{access_of, work_at, works_under_way}
 use Rattle.snoop_bench.specs.Locked.{Locked}
 
 -- a bench as callers see it
@@ -21,12 +21,12 @@ locked b = record { situation = b.recorder.situation; steps = b.recorder.steps; 
 pub record AreUnderWay (works : List (Option Work)) (s : Situation) : Type 0 where
   pub places : length works ≡ s.shape.cores
   -- a core waits, and has a transaction open, on no block but that of its work under way
-  pub serving : IsServing (under_way works) s
+  pub serving : IsServing (works_under_way works) s
   -- an operation that waits is that of the core's work under way
   pub waiting : (core block : ℕ) (wanted : Access) → waits_for s core block wanted ≡ 1 → work_at works core ≡ Some (record { block = block; word = wanted.word; op = wanted.op })
   -- the load or store of a work under way waits, or is the core's last operation
   pub owed : (core : ℕ) (work : Work) → work_at works core ≡ Some work → work.op ≢ op.Evict → IsOwed s core work.block (access_of work)
 
 -- what every bench keeps
-abbrev pub Keeps : Inside → Type 0
-Keeps b = AreUnderWay b.works.items b.recorder.situation
+abbrev pub BenchKeeps : Inside → Type 0
+BenchKeeps b = AreUnderWay b.works.items b.recorder.situation

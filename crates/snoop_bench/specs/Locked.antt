@@ -16,7 +16,7 @@ use Rattle.snoop_model.specs.Runs.Run.{AllTaken}
 use Rattle.snoop_model.specs.Turns.Serving.{IsServing}
 use Rattle.snoop_trace.specs.declared.step.Work.{Work}
 use Rattle.snoop_bench.specs.Recording.{Recording}
-use Rattle.snoop_bench.specs.Works.{work_at, under_way, Does}
+use Rattle.snoop_bench.specs.Works.{work_at, works_under_way, Does}
 
 -- the machine's situation, the steps that it has taken, each core's work under way, and the list that is published
 pub record Locked : Type 0 where
@@ -52,7 +52,7 @@ pub record IsKept (b : Locked) : Type 0 where
   -- each core has a place for its work
   pub places : length b.works ≡ b.situation.shape.cores
   -- a core waits, and has a transaction open, on no block but that of its work under way
-  pub serving : IsServing (under_way b.works) b.situation
+  pub serving : IsServing (works_under_way b.works) b.situation
   -- where a load or a store is under way that neither waits nor is open, the core's last operation is that of the work
   pub closed : (core : ℕ) (work : Work) → work_at b.works core ≡ Some work → work.op ≢ op.Evict → IsClosed b.situation core work.block → (did : Did) × EndsWith b.situation core work did
   -- the published list is the log

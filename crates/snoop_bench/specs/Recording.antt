@@ -34,7 +34,7 @@ pub record Records (r : Inside) : Type 0 where
   pub shape : r.writer.shape ≡ r.machine.situation.shape
 
 -- one step is taken: it is a move, stands last among the steps, and its item is published
-pub record Takes (step : Step) (answer : Reply) (p q : Recording) : Type 0 where
+pub record TakesAndPublishes (step : Step) (answer : Reply) (p q : Recording) : Type 0 where
   pub item : Option Item
   pub move : FirstMove p.situation step answer q.situation item
   pub steps : q.steps ≡ p.steps ++ step ∷ []

@@ -18,7 +18,7 @@ use Rattle.snoop_bench.specs.declared.work.Evicted.TheVariants as evicted
 use Rattle.snoop_bench.specs.declared.work.Turn.{Turn}
 use Rattle.snoop_bench.specs.declared.work.Turn.TheVariants as turn
 use Rattle.snoop_bench.specs.Works.{work_at}
-use Rattle.snoop_bench.specs.Recording.{Takes}
+use Rattle.snoop_bench.specs.Recording.{TakesAndPublishes}
 use Rattle.snoop_bench.specs.Locked.{Locked, record_of, EndsWith}
 
 -- the cases of a turn
@@ -69,10 +69,10 @@ Asked _ core work given p q = ⊥
 
 -- a turn in its case
 abbrev pub TurnsIn : Case → ℕ → Work → Turn → Locked → Locked → Type 0
-TurnsIn asks core work given p q = (answer : Reply) × (Takes (Ask core work.block work.word work.op) answer (record_of p) (record_of q) × Asked answer core work given p q)
-TurnsIn orders core work given p q = (answer : Reply) × (Takes (Order core) answer (record_of p) (record_of q) × ((given ≡ turn.Going) × (q.works ≡ p.works)))
-TurnsIn helps core work given p q = (answer : Reply) × (Takes (Respond work.block) answer (record_of p) (record_of q) × ((given ≡ turn.Going) × (q.works ≡ p.works)))
-TurnsIn ends core work given p q = (answer : Reply) × (Takes (Respond work.block) answer (record_of p) (record_of q) × (Finishes q.situation core work work.op given × (q.works ≡ slice_set p.works core None)))
+TurnsIn asks core work given p q = (answer : Reply) × (TakesAndPublishes (Ask core work.block work.word work.op) answer (record_of p) (record_of q) × Asked answer core work given p q)
+TurnsIn orders core work given p q = (answer : Reply) × (TakesAndPublishes (Order core) answer (record_of p) (record_of q) × ((given ≡ turn.Going) × (q.works ≡ p.works)))
+TurnsIn helps core work given p q = (answer : Reply) × (TakesAndPublishes (Respond work.block) answer (record_of p) (record_of q) × ((given ≡ turn.Going) × (q.works ≡ p.works)))
+TurnsIn ends core work given p q = (answer : Reply) × (TakesAndPublishes (Respond work.block) answer (record_of p) (record_of q) × (Finishes q.situation core work work.op given × (q.works ≡ slice_set p.works core None)))
 TurnsIn over core work given p q = Rests p q × (Finishes q.situation core work work.op given × (q.works ≡ slice_set p.works core None))
 
 -- one turn of the core with the work

@@ -12,8 +12,8 @@ abbrev pub work_at : List (Option Work) → ℕ → Option Work
 work_at works core = option_and_then (λ work. work) (slice_get works core)
 
 -- the block of the core's work under way
-abbrev pub under_way : List (Option Work) → ℕ → Option ℕ
-under_way works core = option_map (λ work. work.block) (work_at works core)
+abbrev pub works_under_way : List (Option Work) → ℕ → Option ℕ
+works_under_way works core = option_map (λ work. work.block) (work_at works core)
 
 -- the word that an operation is asked of; an eviction's is 0, whatever was given
 abbrev pub asked_word : Op → ℕ → ℕ

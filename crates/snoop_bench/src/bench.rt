@@ -13,7 +13,7 @@ ghost use Rattle.snoop_bench.specs.Works.{as_asked, work_at};
 ghost use Rattle.snoop_bench.specs.Locked.{opened, record_of, IsKept};
 ghost use Rattle.snoop_bench.specs.Turns.{Turns, TurnsIn};
 ghost use Rattle.snoop_bench.specs.Turns.Case.{asks, ends, over};
-ghost use Rattle.snoop_bench.specs.Recording.{Takes};
+ghost use Rattle.snoop_bench.specs.Recording.{TakesAndPublishes};
 ghost use Rattle.snoop_bench.specs.Faults.{IsInside, RefusesTurn, MustRefuse};
 
 use crate::outcome::{asked, note, over, set_work};
@@ -38,13 +38,13 @@ pub struct Bench {
 
 impl Model for Bench {
     ghost use Rattle.snoop_bench.specs.Locked.{Locked};
-    ghost use Rattle.snoop_bench.specs.Keeps.{locked, Keeps};
+    ghost use Rattle.snoop_bench.specs.Keeps.{locked, BenchKeeps};
 
     ghost Value = { Locked };
 
     ghost view = { locked };
 
-    ghost invariant = { Keeps };
+    ghost invariant = { BenchKeeps };
 }
 
 impl Bench {
@@ -207,7 +207,7 @@ impl Bench {
         requires its { work_at self.old.works core ≡ Some work }
         requires step { turn_of self.old.situation core work.block work.word work.op true ≡ Some step }
         requires waits { is_some (waiting_request (state_of self.old.situation core work.block)) ≡ true }
-        ensures ok { OnOk result ((answer : Reply) × (Takes step answer (record_of self.old) (record_of self.new) × (self.new.works ≡ self.old.works))) }
+        ensures ok { OnOk result ((answer : Reply) × (TakesAndPublishes step answer (record_of self.old) (record_of self.new) × (self.new.works ≡ self.old.works))) }
         ensures err { OnErr result (self.new ≡ self.old) }
     {
         turns_are_served();

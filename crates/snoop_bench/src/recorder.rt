@@ -9,7 +9,7 @@ ghost use Rattle.snoop_model.specs.Moves.Replies.{IsReplyTo, IsLoadHit};
 ghost use Rattle.snoop_model.specs.Runs.Once.{OnceMore};
 ghost use Rattle.snoop_machine.specs.Standing.{Standing};
 ghost use Rattle.snoop_machine.specs.Prepared.{IsPrepared};
-ghost use Rattle.snoop_bench.specs.Recording.{IsRecorded, Takes};
+ghost use Rattle.snoop_bench.specs.Recording.{IsRecorded, TakesAndPublishes};
 
 use snoop_history::Item;
 use snoop_machine::{Machine, Refused, Reply};
@@ -87,7 +87,7 @@ impl Recorder {
     pub(crate) fn take<R: Wait>(&mut self, rt: &R, step: Step) -> Result<Reply, NoMemory>
         requires allowed { (cause : Refused) → ¬ Refuses self.old.situation step cause }
         requires within { IsStepWithin self.old.situation.shape step }
-        ensures takes { IfOk result (λ answer. Takes step answer self.old self.new) }
+        ensures takes { IfOk result (λ answer. TakesAndPublishes step answer self.old self.new) }
         ensures replied { IfOk result (λ answer. IsReplyTo step answer) }
         ensures hit { IfOk result (λ answer. (value : ℕ) → answer ≡ Hit value → IsLoadHit step value self.old.situation.log self.new.situation.log) }
         ensures once { IfOk result (λ answer. OnceMore self.old.situation (step ∷ []) (Ok answer ∷ []) self.new.situation) }

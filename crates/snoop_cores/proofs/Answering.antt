@@ -8,7 +8,7 @@ use Rattle.snoop_trace.specs.declared.step.Row.{Row}
 use Rattle.snoop_history.specs.declared.items.Did.{Did}
 use Rattle.snoop_history.specs.declared.items.Item.{Item}
 use Rattle.snoop_history.specs.History.{answers_of, next_number, operation_of, IsNumbered}
-use Rattle.snoop_cores.specs.Seats.{Seating, InOrder}
+use Rattle.snoop_cores.specs.Seats.{Seating, AreInOrder}
 use Rattle.snoop_cores.specs.Rows.{IsServed}
 use Rattle.snoop_cores.proofs.Joining.{length_take, next_passes, next_stands}
 
@@ -85,7 +85,7 @@ stands_there seats core d did own is same h =
     some_is e = cc
 
 -- where seats stand in order of core, the one at a row's core serves it
-pub serves_one : (seats : List Seating) (row : Row) (seat : Seating) → InOrder seats → slice_get seats row.core ≡ Some seat → IsSome (block_at seat.shape row.address) → IsServed seats row
+pub serves_one : (seats : List Seating) (row : Row) (seat : Seating) → AreInOrder seats → slice_get seats row.core ≡ Some seat → IsSome (block_at seat.shape row.address) → IsServed seats row
 serves_one seats row seat order there inside = record {
   has = (row.core, within seats row.core seat there, λ d. order row.core d (within seats row.core seat there));
   within = λ k d lt same.

@@ -9,7 +9,7 @@ use Rattle.std.proofs.lemmas.Option.{slice_get_within, slice_get-get_or, get_or_
 use Rattle.std.proofs.lemmas.Bool.Decides.{nat_tests}
 use Rattle.snoop_trace.specs.declared.step.Row.{Row}
 use Rattle.snoop_cores.specs.Seats.{Seating}
-use Rattle.snoop_cores.specs.Rows.{rows_of, shown, AreDealt, Ran, RanTo, RanDealt}
+use Rattle.snoop_cores.specs.Rows.{rows_of_core, shown, AreDealt, Ran, RanTo, RanDealt}
 
 abbrev pub Own : Type 0
 Own = Vec (Bor Row) Global
@@ -22,18 +22,18 @@ tests_false core row e = grind (arith, nat_tests)
 
 -- the rows up to a row of the core, and with it
 pub rows_mine : (core : ℕ) (rows : List Row) (i : ℕ) (d : Row) → i < length rows → (get_or rows i d).core ≡ core
-    → rows_of core (take (i + 1) rows) ≡ rows_of core (take i rows) ++ get_or rows i d ∷ []
+    → rows_of_core core (take (i + 1) rows) ≡ rows_of_core core (take i rows) ++ get_or rows i d ∷ []
 rows_mine core rows i d h mine =
-    ap (rows_of core) (take_more rows i d h) ∙ filter-append (λ (r : Row). r.core == core) (take i rows) (get_or rows i d ∷ []) ∙ ap (λ (l : List Row). rows_of core (take i rows) ++ l) (one (get_or rows i d) (tests_true core (get_or rows i d) mine))
+    ap (rows_of_core core) (take_more rows i d h) ∙ filter-append (λ (r : Row). r.core == core) (take i rows) (get_or rows i d ∷ []) ∙ ap (λ (l : List Row). rows_of_core core (take i rows) ++ l) (one (get_or rows i d) (tests_true core (get_or rows i d) mine))
   where
-    one : (row : Row) → (row.core == core) ≡ true → rows_of core (row ∷ []) ≡ row ∷ []
+    one : (row : Row) → (row.core == core) ≡ true → rows_of_core core (row ∷ []) ≡ row ∷ []
     one row e = rw e refl
 
-pub rows_other : (core : ℕ) (rows : List Row) (i : ℕ) (d : Row) → i < length rows → (get_or rows i d).core ≢ core → rows_of core (take (i + 1) rows) ≡ rows_of core (take i rows)
+pub rows_other : (core : ℕ) (rows : List Row) (i : ℕ) (d : Row) → i < length rows → (get_or rows i d).core ≢ core → rows_of_core core (take (i + 1) rows) ≡ rows_of_core core (take i rows)
 rows_other core rows i d h other =
-    ap (rows_of core) (take_more rows i d h) ∙ filter-append (λ (r : Row). r.core == core) (take i rows) (get_or rows i d ∷ []) ∙ ap (λ (l : List Row). rows_of core (take i rows) ++ l) (one (get_or rows i d) (tests_false core (get_or rows i d) other)) ∙ append-nil (rows_of core (take i rows))
+    ap (rows_of_core core) (take_more rows i d h) ∙ filter-append (λ (r : Row). r.core == core) (take i rows) (get_or rows i d ∷ []) ∙ ap (λ (l : List Row). rows_of_core core (take i rows) ++ l) (one (get_or rows i d) (tests_false core (get_or rows i d) other)) ∙ append-nil (rows_of_core core (take i rows))
   where
-    one : (row : Row) → (row.core == core) ≡ false → rows_of core (row ∷ []) ≡ []
+    one : (row : Row) → (row.core == core) ≡ false → rows_of_core core (row ∷ []) ≡ []
     one row e = rw e refl
 
 -- before the first row each list is empty
@@ -50,20 +50,20 @@ dealt_more rows i d dealt row old new h is inside was put dealt_so core own ther
     at : ℕ
     at = (get_or rows i d).core
 
-    mine : core ≡ at → shown own.items ≡ rows_of core (take (i + 1) rows)
+    mine : core ≡ at → shown own.items ≡ rows_of_core core (take (i + 1) rows)
     mine e =
         let own_is : own ≡ new = sym (get_or_from_slice_get (slice_set dealt at new) core own own there) ∙ ap (λ (k : ℕ). get_or (slice_set dealt at new) k own) e ∙ get_or-set_same dealt at new own inside in
         let before = dealt_so at old (slice_get-get_or dealt at old inside ∙ ap Some was) in
         ap (λ (o : Own). shown o.items) own_is ∙ ap shown put ∙ map-append (λ (row : Bor Row). row.now) old.items (row ∷ [])
-        ∙ ap (λ (l : List Row). l ++ row.now ∷ []) before ∙ ap (λ (r : Row). rows_of at (take i rows) ++ r ∷ []) is ∙ sym (rows_mine at rows i d h refl) ∙ ap (λ (k : ℕ). rows_of k (take (i + 1) rows)) (sym e)
+        ∙ ap (λ (l : List Row). l ++ row.now ∷ []) before ∙ ap (λ (r : Row). rows_of_core at (take i rows) ++ r ∷ []) is ∙ sym (rows_mine at rows i d h refl) ∙ ap (λ (k : ℕ). rows_of_core k (take (i + 1) rows)) (sym e)
 
-    other : core ≢ at → shown own.items ≡ rows_of core (take (i + 1) rows)
+    other : core ≢ at → shown own.items ≡ rows_of_core core (take (i + 1) rows)
     other e =
         let lt : core < length dealt = (let w = slice_get_within (slice_set dealt at new) core own there in let len = length-set dealt at new in omega (arith, w, len)) in
         let same : get_or dealt core own ≡ own = sym (get_or-set_other dealt at core new own e) ∙ get_or_from_slice_get (slice_set dealt at new) core own own there in
         dealt_so core own (slice_get-get_or dealt core own lt ∙ ap Some same) ∙ sym (rows_other core rows i d h (λ same. e (sym same)))
 
-    by_core : (b : Bool) → (core == at) ≡ b → shown own.items ≡ rows_of core (take (i + 1) rows)
+    by_core : (b : Bool) → (core == at) ≡ b → shown own.items ≡ rows_of_core core (take (i + 1) rows)
     by_core true e = mine (grind (arith, nat_tests))
     by_core false e = other (grind (arith, nat_tests))
 

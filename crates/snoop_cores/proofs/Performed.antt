@@ -11,7 +11,7 @@ use Rattle.snoop_cores.specs.Seats.{Seating}
 use Rattle.snoop_cores.specs.declared.fault.SeatFault.{SeatFault}
 use Rattle.snoop_cores.specs.declared.stop.Stop.{Stop}
 use Rattle.snoop_cores.specs.Calls.{Stays, IsSettled}
-use Rattle.snoop_cores.specs.Rows.{is_answered, DoesRow, Answers, MayDo, MayDoFirst, Leaves, Grows, FailsRow, IsRefused}
+use Rattle.snoop_cores.specs.Rows.{is_answered, DoesRow, AnswersRows, MayDo, MayDoFirst, Leaves, Grows, FailsRow, IsRefused}
 use Rattle.snoop_cores.proofs.Beginnings.{starts_on, starts_same}
 
 pub AllZip-append : {A B : Type 0} (R : A → B → Type 0) (xs us : List A) (ys vs : List B) → AllZip R xs ys → AllZip R us vs → AllZip R (xs ++ us) (ys ++ vs)
@@ -20,7 +20,7 @@ AllZip-append R [] us (y ∷ ys) vs h k = absurd h
 AllZip-append R (x ∷ xs) us [] vs h k = absurd h
 AllZip-append R (x ∷ xs) us (y ∷ ys) vs h k = (h.0, AllZip-append R xs us ys vs h.1 k)
 
-pub answers-append : (shape : Extent) (rows more : List Row) (dids also : List Did) → Answers shape rows dids → Answers shape more also → Answers shape (rows ++ more) (dids ++ also)
+pub answers-append : (shape : Extent) (rows more : List Row) (dids also : List Did) → AnswersRows shape rows dids → AnswersRows shape more also → AnswersRows shape (rows ++ more) (dids ++ also)
 answers-append shape rows more dids also h k =
     subst (λ (l : List Row). AllZip (DoesRow shape) l (dids ++ also)) (sym (filter-append (λ row. is_answered row.op) rows more))
     (AllZip-append (DoesRow shape) (filter (λ row. is_answered row.op) rows) (filter (λ row. is_answered row.op) more) dids also h k)
@@ -54,7 +54,7 @@ grows_more rows more s t u h k = record {
   added = (
     h.added.0 ++ k.added.0,
     k.added.1 ∙ ap (λ (l : List Did). l ++ k.added.0) h.added.1 ∙ append_assoc s.answers h.added.0 k.added.0,
-    answers-append s.shape rows more h.added.0 k.added.0 h.added.2 (subst (λ (shape : Extent). Answers shape more k.added.0) h.stays.shape k.added.2),
+    answers-append s.shape rows more h.added.0 k.added.0 h.added.2 (subst (λ (shape : Extent). AnswersRows shape more k.added.0) h.stays.shape k.added.2),
   );
   leaves = leaves_more rows more s t u h.leaves k.leaves;
 }

@@ -20,7 +20,7 @@ use Rattle.snoop_model.specs.Runs.Once.{asks, did_it, waits_for, same_access, ta
 use Rattle.snoop_model.proofs.Lists.Facts.{one_if}
 use Rattle.snoop_model.specs.Runs.Run.{AllTaken}
 use Rattle.snoop_trace.specs.declared.step.Work.{Work}
-use Rattle.snoop_bench.specs.Works.{work_at, under_way}
+use Rattle.snoop_bench.specs.Works.{work_at, works_under_way}
 use Rattle.snoop_bench.specs.Locked.{Locked, IsKept}
 use Rattle.snoop_cores.specs.Seats.{Seating}
 use Rattle.snoop_cores.specs.Joined.{OneForEach, IsFree, IsAnswered, IsJoined}
@@ -38,13 +38,13 @@ nothing_under_way works cores size free core = by_order (cases_order core cores)
     by_order (inr (inr g)) = past (omega (arith, g))
 
 -- so nothing is served
-serves_nothing : (works : List (Option Work)) (s : Situation) → ((core : ℕ) → work_at works core ≡ None) → IsServing (under_way works) s → IsServing (λ _. None) s
+serves_nothing : (works : List (Option Work)) (s : Situation) → ((core : ℕ) → work_at works core ≡ None) → IsServing (works_under_way works) s → IsServing (λ _. None) s
 serves_nothing works s none serving = record {
   waits = λ core k d lt. never core (slice_index_or (queue_of s.queues core) k d) (serving.waits core k d lt);
   opened = λ block transaction is. never transaction.core block (serving.opened block transaction is);
 }
   where
-    never : (core block : ℕ) → under_way works core ≡ Some block → None ≡ Some block
+    never : (core block : ℕ) → works_under_way works core ≡ Some block → None ≡ Some block
     never core block is = sym (ap (λ (o : Option Work). option_map (λ work. work.block) o) (none core)) ∙ is
 
 -- at rest no operation waits, so those asked are those performed

@@ -7,7 +7,7 @@ use Rattle.snoop_cores.specs.declared.fault.SeatFault.TheVariants.{NoBlock, NoMe
 use Rattle.snoop_cores.specs.declared.stop.Stop.{Stop}
 use Rattle.snoop_cores.specs.declared.stop.Stop.TheVariants.{Late, Fault}
 use Rattle.snoop_cores.specs.Seats.{Seating}
-use Rattle.snoop_cores.specs.Calls.{Stays, Keeps, MayBegin, Fails}
+use Rattle.snoop_cores.specs.Calls.{Stays, AddsNoAnswer, MayBegin, Fails}
 use Rattle.snoop_cores.proofs.Performed.{settled_noted}
 use Rattle.snoop_cores.specs.Rows.{Leaves, Grows, FailsOn, Ran, work_on}
 
@@ -18,7 +18,7 @@ noted stop s = record s { stop = stop }
 stays_noted : (stop : Option Stop) (s t : Seating) → Stays s t → Stays s (noted stop t)
 stays_noted stop s t h = record { core = h.core; shape = h.shape; begins = h.begins }
 
-keeps_noted : (stop : Option Stop) (s t : Seating) → Keeps s t → Keeps (noted stop s) (noted stop t)
+keeps_noted : (stop : Option Stop) (s t : Seating) → AddsNoAnswer s t → AddsNoAnswer (noted stop s) (noted stop t)
 keeps_noted stop s t h = record { stays = record { core = h.stays.core; shape = h.stays.shape; begins = h.stays.begins }; answers = h.answers }
 
 begins_noted : (stop : Option Stop) (work : Work) (s : Seating) → MayBegin work s → MayBegin work (noted stop s)

@@ -44,7 +44,7 @@ pub record Completes (work : Work) (dids : List Did) (s t : Seating) : Type 0 wh
   pub settled : IsSettled t
 
 -- no answer was added
-pub record Keeps (s t : Seating) : Type 0 where
+pub record AddsNoAnswer (s t : Seating) : Type 0 where
   pub stays : Stays s t
   pub answers : t.answers ≡ s.answers
 
@@ -58,8 +58,8 @@ pub record IsStranger (did : Did) (work : Work) (dids answers : List Did) : Type
 abbrev pub Fails : SeatFault → Work → Seating → Seating → Type 0
 Fails NoBlock work s t = (¬ IsHere s.shape work) × (t ≡ s)
 Fails (Busy other) work s t = (s.strange ≡ None) × (s.pending ≡ Some other) × (other ≢ work) × (t ≡ s)
-Fails NoMemory work s t = MayBegin work s × Keeps s t × (t.pending ≡ Some work) × (t.strange ≡ None) × (t.seen ≡ s.seen)
-Fails (Stranger did) work s t = ((s.strange ≡ Some did) × (t ≡ s)) ⊎ (MayBegin work s × Keeps s t × (t.strange ≡ Some did) × IsStranger did work (answers_of t.seen s.core) s.answers)
+Fails NoMemory work s t = MayBegin work s × AddsNoAnswer s t × (t.pending ≡ Some work) × (t.strange ≡ None) × (t.seen ≡ s.seen)
+Fails (Stranger did) work s t = ((s.strange ≡ Some did) × (t ≡ s)) ⊎ (MayBegin work s × AddsNoAnswer s t × (t.strange ≡ Some did) × IsStranger did work (answers_of t.seen s.core) s.answers)
 
 -- the fault that is answered before any turn
 pub record RefusedAtOnce (work : Work) (s : Seating) (answered : SeatFault → Type 0) : Type 0 where

@@ -45,12 +45,12 @@ abbrev pub IsNotAllSeats : ℕ → List Seating → ℕ → Type 0
 IsNotAllSeats cores seats core = IsLeastNotSeated cores seats core ⊎ (IsFirstOutside cores seats core × ((each : ℕ) → each < cores → seats_of seats each ≡ 1))
 
 -- the core's seats have no pending operation
-abbrev pub IsIdle : List Seating → ℕ → Type 0
-IsIdle seats core = All (λ seat. seat.core ≡ core → seat.pending ≡ None) seats
+abbrev pub HasNonePending : List Seating → ℕ → Type 0
+HasNonePending seats core = All (λ seat. seat.core ≡ core → seat.pending ≡ None) seats
 
 -- the core has no work under way, and its seats have no pending operation
 abbrev pub IsFree : Locked → List Seating → ℕ → Type 0
-IsFree b seats core = (work_at b.works core ≡ None) × IsIdle seats core
+IsFree b seats core = (work_at b.works core ≡ None) × HasNonePending seats core
 
 -- the core's operations in the list are its seats' answers
 abbrev pub IsAnswered : List Item → List Seating → ℕ → Type 0

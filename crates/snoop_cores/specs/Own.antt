@@ -36,8 +36,8 @@ Judged (More did) count last answered = (count ≡ Some (answered + 1)) × (last
 Judged (Strange did) count last answered = (number : ℕ) × (count ≡ Some number) × (last ≡ Some did) × (number < most) × (number ≢ answered) × (number ≢ answered + 1)
 
 -- a work is over in the way of its operation: a load with a value, a store, an eviction with its answer
-abbrev pub IsOver : Op → Turn → Type 0
-IsOver op.Load (turn.Loaded value) = ⊤
-IsOver (op.Store stored) turn.Stored = ⊤
-IsOver op.Evict (turn.Evicted evicted) = ⊤
-IsOver _ _ = ⊥
+abbrev pub EndsWork : Op → Turn → Type 0
+EndsWork op.Load (turn.Loaded value) = ⊤
+EndsWork (op.Store stored) turn.Stored = ⊤
+EndsWork op.Evict (turn.Evicted evicted) = ⊤
+EndsWork _ _ = ⊥

@@ -36,12 +36,12 @@ abbrev pub DoesRow : Extent → Row → Did → Type 0
 DoesRow shape row did = (block : ℕ) × (block_at shape row.address ≡ Some block) × Does did (work_on shape block row)
 
 -- the core's rows, in order
-abbrev pub rows_of : ℕ → List Row → List Row
-rows_of core rows = filter (λ (row : Row). row.core == core) rows
+abbrev pub rows_of_core : ℕ → List Row → List Row
+rows_of_core core rows = filter (λ (row : Row). row.core == core) rows
 
 -- one operation for each load and store among the rows, in order
-abbrev pub Answers : Extent → List Row → List Did → Type 0
-Answers shape rows dids = AllZip (DoesRow shape) (filter (λ (row : Row). is_answered row.op) rows) dids
+abbrev pub AnswersRows : Extent → List Row → List Did → Type 0
+AnswersRows shape rows dids = AllZip (DoesRow shape) (filter (λ (row : Row). is_answered row.op) rows) dids
 
 -- the row's operation, on the block and the word of its address, may begin
 abbrev pub MayDo : Row → Seating → Type 0
@@ -61,7 +61,7 @@ Leaves (row ∷ rows) s t = IsSettled t
 pub record Grows (rows : List Row) (s t : Seating) : Type 0 where
   pub began : MayDoFirst rows s
   pub stays : Stays s t
-  pub added : (dids : List Did) × (t.answers ≡ s.answers ++ dids) × Answers s.shape rows dids
+  pub added : (dids : List Did) × (t.answers ≡ s.answers ++ dids) × AnswersRows s.shape rows dids
   pub leaves : Leaves rows s t
 
 -- the row was refused: as its operation on its block is, or as outside the shape
@@ -98,7 +98,7 @@ Ran (Some (Fault number fault)) rows s t = IsRefused number fault rows s t
 
 -- the seat has done all its rows; or it stopped at a row, and has done those before it
 abbrev pub RanTo : Option Stop → List Row → Seating → Seating → Type 0
-RanTo stop rows s t = Ran stop (rows_of s.core rows) s t
+RanTo stop rows s t = Ran stop (rows_of_core s.core rows) s t
 
 -- the rows that a list of references shows
 abbrev pub shown : List (Bor Row) → List Row
@@ -106,7 +106,7 @@ shown rows = map (λ (row : Bor Row). row.now) rows
 
 -- the list at each core's place has the core's rows, in order
 abbrev pub AreDealt : List Row → List (Vec (Bor Row) Global) → Type 0
-AreDealt rows dealt = (core : ℕ) (own : Vec (Bor Row) Global) → slice_get dealt core ≡ Some own → shown own.items ≡ rows_of core rows
+AreDealt rows dealt = (core : ℕ) (own : Vec (Bor Row) Global) → slice_get dealt core ≡ Some own → shown own.items ≡ rows_of_core core rows
 
 -- the seat has done all the rows of the list at its core's place; or it stopped at one of them, and has done those before it
 abbrev pub RanDealt : List (Vec (Bor Row) Global) → Seating → Seating → Type 0

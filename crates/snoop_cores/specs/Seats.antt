@@ -31,7 +31,7 @@ pub record Watching : Type 0 where
   pub seen : List Item
 
 -- a version was read: its list is legal, and begins with what was seen before
-pub record Sees (before after : List Item) : Type 0 where
+pub record SeesMore (before after : List Item) : Type 0 where
   pub legal : Legal after
   pub begins : StartsWith after before
 
@@ -48,8 +48,8 @@ abbrev pub AreSeats : Extent → List Seating → Type 0
 AreSeats shape seats = (length seats ≡ shape.cores) × ((core : ℕ) (d : Seating) → core < shape.cores → IsNew core shape (slice_index_or seats core d))
 
 -- each seat stands at its core's place
-abbrev pub InOrder : List Seating → Type 0
-InOrder seats = (core : ℕ) (d : Seating) → core < length seats → (slice_index_or seats core d).core ≡ core
+abbrev pub AreInOrder : List Seating → Type 0
+AreInOrder seats = (core : ℕ) (d : Seating) → core < length seats → (slice_index_or seats core d).core ≡ core
 
 -- so many watches, of this shape
 abbrev pub AreWatches : ℕ → Extent → List Watching → Type 0

@@ -1,8 +1,8 @@
 //! The log of the lock, joined with what the seats were answered.
 ghost use Rattle.std.specs.Prelude.{◌≡◌, ℕ, ◌<◌, Err, IfOk, IfErr, OnOk, IfSome, IfNone, IsTrue, [], ◌∷◌, length, option_to_list, Some, slice_get, slice_index_or};
 ghost use Rattle.snoop_history.specs.History.{answers_of, next_number};
-ghost use Rattle.snoop_cores.specs.Seats.{Seating, InOrder};
-ghost use Rattle.snoop_cores.specs.Joined.{seats_of, OneForEach, IsNotAllSeats, IsIdle, IsFree, IsAnswered, IsFreeOfWork, IsFirst, DiffersAt, IsJoined, RefusesJoin, RefusesGather};
+ghost use Rattle.snoop_cores.specs.Seats.{Seating, AreInOrder};
+ghost use Rattle.snoop_cores.specs.Joined.{seats_of, OneForEach, IsNotAllSeats, HasNonePending, IsFree, IsAnswered, IsFreeOfWork, IsFirst, DiffersAt, IsJoined, RefusesJoin, RefusesGather};
 ghost use Rattle.snoop_cores.specs.declared.fault.GatherFault.TheVariants.{NotAllSeats};
 
 use crate::fault::GatherFault;
@@ -137,8 +137,8 @@ fn busy_core(bench: &Bench, seats: &[Seat]) -> Option<u32>
 
 // Whether the core's seats have no pending operation.
 fn is_idle(seats: &[Seat], core: u32) -> bool
-    ensures sound { IsTrue result → IsIdle seats.now core }
-    ensures whole { IsIdle seats.now core → IsTrue result }
+    ensures sound { IsTrue result → HasNonePending seats.now core }
+    ensures whole { HasNonePending seats.now core → IsTrue result }
 {
     for seat in seats {
         if seat.core() == core && seat.pending().is_some() {
@@ -186,7 +186,7 @@ fn answers_match(log: &Log, seats: &[Seat]) -> bool
 
 // Whether each seat, in order of core, has as many answers as its core has operations.
 fn counts_match(log: &Log, seats: &[Seat]) -> bool
-    requires { InOrder seats.now }
+    requires { AreInOrder seats.now }
     ensures sound { IsTrue result → (core : ℕ) (d : Seating) → core < length seats.now → length (slice_index_or seats.now core d).answers ≡ next_number log.now.items core }
 {
     for seat in seats {

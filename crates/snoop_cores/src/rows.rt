@@ -1,6 +1,6 @@
 //! Rows that threads perform, one thread for each seat.
 ghost use Rattle.std.specs.Prelude.{◌≡◌, ℕ, ◌<◌, true, length, IfOk, IfErr, IfSome, IfNone, OnOk, OnErr, All, IsTrue, None, slice_index_or};
-ghost use Rattle.snoop_cores.specs.Seats.{Seating, InOrder};
+ghost use Rattle.snoop_cores.specs.Seats.{Seating, AreInOrder};
 ghost use Rattle.snoop_cores.specs.Rows.{RanTo, RanDealt, IsNotLate, IsServed, IsUnserved, RefusesRows};
 
 use crate::deal::deal;
@@ -70,7 +70,7 @@ fn unserved(seats: &[Seat], rows: &[Row]) -> Option<Row>
 
 // Whether the row is served. Where seats stand in order of core, the one at its core's place is looked at first.
 fn serves(seats: &[Seat], ordered: bool, row: &Row) -> bool
-    requires { ordered ≡ true → InOrder seats.now }
+    requires { ordered ≡ true → AreInOrder seats.now }
     ensures sound { IsTrue result → IsServed seats.now row.now }
     ensures whole { IsServed seats.now row.now → IsTrue result }
 {
@@ -79,7 +79,7 @@ fn serves(seats: &[Seat], ordered: bool, row: &Row) -> bool
 
 // Whether each seat stands at its core's place.
 pub(crate) fn in_order(seats: &[Seat]) -> bool
-    ensures sound { IsTrue result → InOrder seats.now }
+    ensures sound { IsTrue result → AreInOrder seats.now }
 {
     for place in 0..seats.len() {
         if seats[place].core() as usize != place {
@@ -91,7 +91,7 @@ pub(crate) fn in_order(seats: &[Seat]) -> bool
 
 // Whether the row is served, by the one seat that its core has where seats stand in order of core.
 fn is_served_at_its_place(seats: &[Seat], row: &Row) -> bool
-    requires { InOrder seats.now }
+    requires { AreInOrder seats.now }
     ensures sound { IsTrue result → IsServed seats.now row.now }
 {
     match seats.get(row.core as usize) {

@@ -1,7 +1,7 @@
 //! A share of the lock.
 ghost use Rattle.std.specs.Prelude.{◌≡◌, IfOk};
 ghost use Rattle.std.specs.Sync.Mutex.{mutex_guard_value};
-ghost use Rattle.snoop_cores.specs.Own.{IsOver};
+ghost use Rattle.snoop_cores.specs.Own.{EndsWork};
 
 use snoop_bench::{AdvanceFault, Bench, Turn, Work};
 use snoop_rules::Protocol;
@@ -78,7 +78,7 @@ impl Share {
 
     /// Takes turns of the core until its work is over, each under the lock, and reports the last of them.
     pub(crate) fn finish<R: Wait>(&self, rt: &R, core: u32, work: Work) -> Result<Turn, NoMemory>
-        ensures { IfOk result (λ turn. IsOver work.op turn) }
+        ensures { IfOk result (λ turn. EndsWork work.op turn) }
     {
         for _ in rt.forever() {
             let turn = self.lock(rt).advance(rt, core, work);

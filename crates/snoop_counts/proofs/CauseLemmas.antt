@@ -9,12 +9,12 @@ use Rattle.snoop_rules.specs.declared.names.CacheState.{CacheState}
 use Rattle.snoop_history.specs.declared.items.Did.{Did}
 use Rattle.snoop_model.specs.Pictures.Situation.{Situation}
 use Rattle.snoop_engine.specs.Frames.{Frame, FramesFrom}
-use Rattle.snoop_engine.specs.Taken.{lines_of}
+use Rattle.snoop_engine.specs.Taken.{lines_of_step}
 use Rattle.snoop_engine.specs.declared.taken.Taken.{Taken}
 use Rattle.snoop_engine.specs.declared.taken.Taken.TheVariants.{Core}
-use Rattle.snoop_counts.specs.Causes.{cause_after, cause_of, gives_up, is_stored_to, last_step, loses, operation_in, takes_row, word_of}
+use Rattle.snoop_counts.specs.Causes.{cause_after, cause_of, gives_up, is_stored_to, last_step, loses, operation_in, takes_such_row, word_of}
 use Rattle.snoop_counts.specs.Counted.{is_giving_up, is_loss, is_miss}
-use Rattle.snoop_counts.specs.LastSteps.{Follows, HasLastSteps, Marks, MarksLines, MarksStore, number_at}
+use Rattle.snoop_counts.specs.LastSteps.{KnowsLastSteps, HasLastSteps, Marks, MarksLines, MarksStore, number_at}
 use Rattle.snoop_counts.specs.declared.copies.Copies.{Copies}
 use Rattle.snoop_counts.specs.declared.count.Cause.{Cause}
 use Rattle.snoop_counts.specs.declared.last_steps.LastSteps.{LastSteps}
@@ -59,8 +59,8 @@ marks_more test number lines line old middle new first next block at =
 
 pub lines_more : (number : ℕ) (lines : List Taken) (line : Taken) (old middle new : Copies) → MarksLines number lines old middle → MarksLines number (line ∷ []) middle new → MarksLines number (lines ++ line ∷ []) old new
 lines_more number lines line old middle new first next = record {
-  given_up = marks_more (takes_row is_giving_up) number lines line old.given_up middle.given_up new.given_up first.given_up next.given_up;
-  lost = marks_more (takes_row is_loss) number lines line old.lost middle.lost new.lost first.lost next.lost;
+  given_up = marks_more (takes_such_row is_giving_up) number lines line old.given_up middle.given_up new.given_up first.given_up next.given_up;
+  lost = marks_more (takes_such_row is_loss) number lines line old.lost middle.lost new.lost first.lost next.lost;
   stored = next.stored ∙ first.stored;
 }
 
@@ -68,8 +68,8 @@ pub lines_none : (number : ℕ) (copies : Copies) → MarksLines number [] copie
 lines_none number copies = record { given_up = λ block at. refl; lost = λ block at. refl; stored = refl }
 
 -- a step's lines and its store are marked
-pub follows_more : (frames : List Frame) (frame : Frame) (number : ℕ) (lines : List Taken) (operation : Option Did) (old middle new : Copies) → Follows frames old → number ≡ 1 + length frames
-    → lines ≡ lines_of frame.before frame.step frame.outcome → operation ≡ operation_in frame → MarksLines number lines old middle → MarksStore number operation middle new → Follows (frames ++ frame ∷ []) new
+pub follows_more : (frames : List Frame) (frame : Frame) (number : ℕ) (lines : List Taken) (operation : Option Did) (old middle new : Copies) → KnowsLastSteps frames old → number ≡ 1 + length frames
+    → lines ≡ lines_of_step frame.before frame.step frame.outcome → operation ≡ operation_in frame → MarksLines number lines old middle → MarksStore number operation middle new → KnowsLastSteps (frames ++ frame ∷ []) new
 follows_more frames frame number lines operation old middle new far is same did marks stores =
     let marked = subst (λ (l : List Taken). MarksLines number l old middle) same marks in
     let stored = subst (λ (o : Option Did). MarksStore number o middle new) did stores in

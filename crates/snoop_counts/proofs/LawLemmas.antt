@@ -9,7 +9,7 @@ use Rattle.snoop_history.specs.declared.items.Item.{Item}
 use Rattle.snoop_model.specs.declared.replies.Refused.{Refused}
 use Rattle.snoop_model.specs.declared.replies.Reply.{Reply}
 use Rattle.snoop_engine.specs.Frames.{Frame}
-use Rattle.snoop_engine.specs.Taken.{lines_of}
+use Rattle.snoop_engine.specs.Taken.{lines_of_step}
 use Rattle.snoop_engine.specs.declared.taken.Taken.{Taken}
 use Rattle.snoop_engine.specs.declared.taken.Taken.TheVariants.{Core, Memory, Nobody}
 use Rattle.snoop_counts.specs.Causes.{cause_after, cause_of, item_of, operation_in, word_of}
@@ -108,7 +108,7 @@ module _ (whose : Subjects) (subject : ℕ) where
   all_have earlier (frame ∷ frames) =
       let P : Happening → Type 0 = HasOneCause whose subject in
       let of_line : Taken → Happening = λ line. happening.Line frame.step frame.outcome line (cause_of earlier (operation_in frame) line) in
-      let lines : List Taken = lines_of frame.before frame.step frame.outcome in
+      let lines : List Taken = lines_of_step frame.before frame.step frame.outcome in
       let items : List Item = option_to_list (item_of frame) in
       All-append P (seen_in earlier frame) (seen_after (earlier ++ frame ∷ []) frames)
       (All-append P (map of_line lines) (map happening.Item items)

@@ -50,7 +50,7 @@ use Rattle.snoop_model.proofs.Lists.Writes.{set_cases}
 use Rattle.snoop_model.proofs.Queues.Moves.{keeps_well, starts_well}
 use Rattle.snoop_model.proofs.Runs.GoOn.{IsSteady, steady_on}
 use Rattle.snoop_engine.specs.Frames.{Frame, FramesFrom}
-use Rattle.snoop_engine.specs.Taken.{lines_of}
+use Rattle.snoop_engine.specs.Taken.{lines_of_step}
 use Rattle.snoop_engine.specs.TrueLines.{FitsStep, ShowsRows, TakesCoreRow}
 use Rattle.snoop_engine.specs.declared.taken.Taken.{Taken}
 use Rattle.snoop_engine.specs.declared.taken.Taken.TheVariants.{Core, Memory, Nobody}
@@ -58,7 +58,7 @@ use Rattle.snoop_engine.proofs.FrameLemmas.{frames_keep}
 use Rattle.snoop_engine.proofs.TakenLemmas.{same_shape}
 use Rattle.snoop_engine.proofs.TrueLines.{lines_fit}
 use Rattle.snoop_counts.specs.Causes.{cause_of, item_of, operation_in}
-use Rattle.snoop_counts.specs.Counted.{core_named, counts, counts_cause, counts_item, counts_lines, counts_refusal, counts_row, has_row, is_counted, is_from_cache, is_invalidation, is_it, is_refused, named_place, own_word, place_of_word, requestor_of, times}
+use Rattle.snoop_counts.specs.Counted.{core_named, counts, counts_cause, counts_item, counts_lines, counts_refusal, counts_row, has_row, is_counted, is_from_cache, is_invalidation, is_it, is_refused, named_place, own_word, place_of_word, requestor_of, times_counted}
 use Rattle.snoop_counts.specs.Happenings.{happenings, seen_after, seen_in}
 use Rattle.snoop_counts.specs.Laws.{sum_of, sum_of_words}
 use Rattle.snoop_counts.specs.declared.count.Cause.{Cause}
@@ -317,7 +317,7 @@ module _ (protocol : Protocol) (shape : Extent) (frames : List Frame) (final : S
   -- the counts of the words of a block have the sum that the block has
   pub words_sum : (c : Count) (test : Did → Bool) → ((entry : Item) → counts_item c entry ≡ performed test entry) → counts_lines c ≡ false → ((state : CacheState) (event : CacheEvent) → counts_row c state event ≡ false)
       → ((cause : Refused) → counts_refusal c cause ≡ false) → ((cause : Cause) → counts_cause c cause ≡ false)
-      → (b : ℕ) → sum_of_words shape (happenings frames) b c ≡ times Blocks (happenings frames) b c
+      → (b : ℕ) → sum_of_words shape (happenings frames) b c ≡ times_counted Blocks (happenings frames) b c
   words_sum c test is of_lines of_rows of_refusals of_causes b =
       let words : ℕ = shape.words in
       let q : ℕ → Item → Bool = λ w entry. counts_item c entry && is_it (own_word words (happening.Item entry)) (place_of_word words b w) in
@@ -447,7 +447,7 @@ module _ (cores : ℕ) where
       let from : IsSteady frame.before = subst IsSteady (sym run.0.before) steady in
       let same : frame.before.shape.cores ≡ cores = ap (λ (s : Situation). s.shape.cores) run.0.before ∙ few in
       let of_line : Taken → Happening = λ line. happening.Line frame.step frame.outcome line (cause_of earlier (operation_in frame) line) in
-      let lines : List Taken = lines_of frame.before frame.step frame.outcome in
+      let lines : List Taken = lines_of_step frame.before frame.step frame.outcome in
       let items : List Item = option_to_list (item_of frame) in
       let rows_here = All-head ShowsRows frame frames rows in
       All-append AreOnes (seen_in earlier frame) (seen_after (earlier ++ frame ∷ []) frames)

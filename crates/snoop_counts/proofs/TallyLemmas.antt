@@ -17,9 +17,9 @@ use Rattle.snoop_model.specs.declared.replies.Reply.{Reply}
 use Rattle.snoop_model.specs.declared.replies.Refused.{Refused}
 use Rattle.snoop_engine.specs.declared.taken.Taken.{Taken}
 use Rattle.snoop_engine.specs.declared.taken.Taken.TheVariants.{Core, Memory, Nobody}
-use Rattle.snoop_counts.specs.Counted.{core_counted, counts, counts_cause, counts_refusal, counts_row, has_row, is_counted, is_it, is_refused, own_core, subject_of, times}
+use Rattle.snoop_counts.specs.Counted.{core_counted, counts, counts_cause, counts_refusal, counts_row, has_row, is_counted, is_it, is_refused, own_core, subject_of, times_counted}
 use Rattle.snoop_blocks.specs.Places.{changed_at}
-use Rattle.snoop_counts.specs.Tally.{HasCounted, Tallies, counter_in, empty_row, number, own_raised, raised, raised_all, raised_by, raised_if, raised_row, row_at, tried}
+use Rattle.snoop_counts.specs.Tally.{HasCounted, TalliesSubjects, counter_in, empty_row, number, own_raised, raised, raised_all, raised_by, raised_if, raised_row, row_at, tried}
 use Rattle.snoop_counts.specs.declared.count.Cause.{Cause}
 use Rattle.snoop_counts.specs.declared.count.Count.{Count}
 use Rattle.snoop_counts.specs.declared.count.Count.TheVariants as count
@@ -447,7 +447,7 @@ counted_capped n true = omega arith
 counted_capped n false = omega arith
 
 -- all counts have counted what has happened
-tallies_more : (whose : Subjects) (all : List Happening) (seen : Happening) (old new : List Counters) → Raises whose seen (named seen) old new → Tallies whose old all → Tallies whose new (all ++ seen ∷ [])
+tallies_more : (whose : Subjects) (all : List Happening) (seen : Happening) (old new : List Counters) → Raises whose seen (named seen) old new → TalliesSubjects whose old all → TalliesSubjects whose new (all ++ seen ∷ [])
 tallies_more whose all seen old new far before = record {
   long = λ s there. far.long s (omega (arith, far.many)) ∙ before.long s (omega (arith, far.many));
   counted = λ s c there.
@@ -456,11 +456,11 @@ tallies_more whose all seen old new far before = record {
       far.done s c there' (before.long s there')
       ∙ ap (counted (counter_in (row_at old s) c)) (passed (is_one_of (named seen) c) (counts c seen) (is_it (subject_of whose c seen) s) (each_count false (λ c. is_one_of (named seen) c && counts c seen) (λ c. counts c seen) (all_named seen) c))
       ∙ ap (λ (n : ℕ). counted n b) (before.counted s c there')
-      ∙ counted_capped (times whose all s c) b ∙ ap capped (sym (one_more (is_counted whose s c) all seen));
+      ∙ counted_capped (times_counted whose all s c) b ∙ ap capped (sym (one_more (is_counted whose s c) all seen));
 }
 
 -- nothing is counted yet
-pub tallies_none : (whose : Subjects) (n : ℕ) → Tallies whose (replicate n empty_row) []
+pub tallies_none : (whose : Subjects) (n : ℕ) → TalliesSubjects whose (replicate n empty_row) []
 tallies_none whose n = record {
   long = λ s there. let lt : s < n = omega (arith, length-replicate {A = Counters} n empty_row) in ap (λ (row : Counters). length row.counters) (get_or-replicate n s empty_row empty_row lt) ∙ length-replicate {A = ℕ} 31 0;
   counted = λ s c there.
@@ -481,6 +481,6 @@ counted_more whose many seen it old before =
     record {
       subjects = before.subjects;
       rows = raises.many ∙ before.rows;
-      counted = subst (λ (w : Subjects). Tallies w (all_raised old.subjects it old.rows) (seen ++ it ∷ [])) before.subjects
-          (tallies_more old.subjects seen it old.rows (all_raised old.subjects it old.rows) raises (subst (λ (w : Subjects). Tallies w old.rows seen) (sym before.subjects) before.counted));
+      counted = subst (λ (w : Subjects). TalliesSubjects w (all_raised old.subjects it old.rows) (seen ++ it ∷ [])) before.subjects
+          (tallies_more old.subjects seen it old.rows (all_raised old.subjects it old.rows) raises (subst (λ (w : Subjects). TalliesSubjects w old.rows seen) (sym before.subjects) before.counted));
     }

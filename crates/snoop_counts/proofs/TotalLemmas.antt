@@ -21,11 +21,11 @@ use Rattle.snoop_model.specs.Runs.Run.{GoesFirst}
 use Rattle.snoop_model.specs.declared.replies.Refused.{Refused}
 use Rattle.snoop_model.specs.declared.replies.Reply.{Reply}
 use Rattle.snoop_engine.specs.Frames.{Frame, FramesFrom}
-use Rattle.snoop_engine.specs.Taken.{lines_of}
+use Rattle.snoop_engine.specs.Taken.{lines_of_step}
 use Rattle.snoop_engine.specs.declared.taken.Taken.{Taken}
 use Rattle.snoop_engine.specs.declared.taken.Taken.TheVariants.{Core, Memory, Nobody}
 use Rattle.snoop_counts.specs.Causes.{cause_of, item_of, operation_in}
-use Rattle.snoop_counts.specs.Counted.{counts, counts_cause, counts_item, counts_lines, counts_refusal, counts_row, has_row, is_counted, is_it, is_refused, subject_of, times}
+use Rattle.snoop_counts.specs.Counted.{counts, counts_cause, counts_item, counts_lines, counts_refusal, counts_row, has_row, is_counted, is_it, is_refused, subject_of, times_counted}
 use Rattle.snoop_counts.specs.Happenings.{happenings, seen_after}
 use Rattle.snoop_counts.specs.Laws.{SumsAreTotals, sum_of, sums_of}
 use Rattle.snoop_counts.specs.declared.count.Cause.{Cause}
@@ -111,13 +111,13 @@ module _ (c : Count) (of_lines : counts_lines c ≡ false) (of_rows : (state : C
   no_line step outcome line why = λ i. of_lines i || no_row line i || no_refusal outcome i || no_cause why i
 
   module _ (whose : Subjects) (subject : ℕ) where
-    pub items_alone : (earlier frames : List Frame) → times whose (seen_after earlier frames) subject c ≡ length (filter (λ entry. is_counted whose subject c (happening.Item entry)) (items_in frames))
+    pub items_alone : (earlier frames : List Frame) → times_counted whose (seen_after earlier frames) subject c ≡ length (filter (λ entry. is_counted whose subject c (happening.Item entry)) (items_in frames))
     items_alone earlier [] = refl
     items_alone earlier (frame ∷ frames) =
         let p : Happening → Bool = is_counted whose subject c in
         let q : Item → Bool = λ entry. p (happening.Item entry) in
         let of_line : Taken → Happening = λ line. happening.Line frame.step frame.outcome line (cause_of earlier (operation_in frame) line) in
-        let lines : List Taken = lines_of frame.before frame.step frame.outcome in
+        let lines : List Taken = lines_of_step frame.before frame.step frame.outcome in
         let items : List Item = option_to_list (item_of frame) in
         let rest : List Happening = seen_after (earlier ++ frame ∷ []) frames in
         let none = none_kept p of_line (λ line. ap (λ (b : Bool). b && is_it (subject_of whose c (of_line line)) subject) (no_line frame.step frame.outcome line (cause_of earlier (operation_in frame) line))) lines in

@@ -9,7 +9,7 @@ use Rattle.snoop_history.specs.declared.items.Did.{Did}
 use Rattle.snoop_history.specs.declared.items.Item.{Item}
 use Rattle.snoop_history.specs.History.{is_store_to, operation_of}
 use Rattle.snoop_engine.specs.Frames.{Frame}
-use Rattle.snoop_engine.specs.Taken.{lines_of}
+use Rattle.snoop_engine.specs.Taken.{lines_of_step}
 use Rattle.snoop_engine.specs.declared.taken.Taken.{Taken}
 use Rattle.snoop_engine.specs.declared.taken.Taken.TheVariants.{Core, Memory, Nobody}
 use Rattle.snoop_counts.specs.Counted.{block_named, core_named, has_row, is_giving_up, is_it, is_loss, is_miss}
@@ -21,16 +21,16 @@ abbrev pub last_step : (Frame → Bool) → List Frame → ℕ
 last_step test frames = length frames - position_or_len test (reverse frames)
 
 -- the line is a row of the core for the block that passes the test
-abbrev pub takes_row : (CacheState → CacheEvent → Bool) → ℕ → ℕ → Taken → Bool
-takes_row test block core line = has_row test line && is_it (block_named line) block && is_it (core_named line) core
+abbrev pub takes_such_row : (CacheState → CacheEvent → Bool) → ℕ → ℕ → Taken → Bool
+takes_such_row test block core line = has_row test line && is_it (block_named line) block && is_it (core_named line) core
 
 -- in the step the core loses its copy of the block to another's GetM
 abbrev pub loses : ℕ → ℕ → Frame → Bool
-loses block core frame = list_any (takes_row is_loss block core) (lines_of frame.before frame.step frame.outcome)
+loses block core frame = list_any (takes_such_row is_loss block core) (lines_of_step frame.before frame.step frame.outcome)
 
 -- in the step the core gives its copy of the block up
 abbrev pub gives_up : ℕ → ℕ → Frame → Bool
-gives_up block core frame = list_any (takes_row is_giving_up block core) (lines_of frame.before frame.step frame.outcome)
+gives_up block core frame = list_any (takes_such_row is_giving_up block core) (lines_of_step frame.before frame.step frame.outcome)
 
 -- what the step adds to the history, if anything
 abbrev pub item_of : Frame → Option Item

@@ -224,14 +224,14 @@ requestor_of (happening.Line (Order core) outcome line why) = Some core
 requestor_of _ = None
 
 -- the core that sent the response
-abbrev pub sender_of : Happening → Option ℕ
-sender_of (happening.Item (item.Came came did)) = came.from
-sender_of _ = None
+abbrev pub responder_named : Happening → Option ℕ
+responder_named (happening.Item (item.Came came did)) = came.from
+responder_named _ = None
 
 -- the core for which it is counted: the one that it is of, but for what a core does to others
 abbrev pub core_counted : Count → Happening → Option ℕ
 core_counted count.Invalidates = requestor_of
-core_counted count.Supplied = sender_of
+core_counted count.Supplied = responder_named
 core_counted _ = own_core
 
 -- for whom it is counted
@@ -250,13 +250,13 @@ abbrev pub is_counted : Subjects → ℕ → Count → Happening → Bool
 is_counted whose subject counted seen = counts counted seen && is_it (subject_of whose counted seen) subject
 
 -- how often
-abbrev pub times : Subjects → List Happening → ℕ → Count → ℕ
-times whose seen subject counted = length (filter (is_counted whose subject counted) seen)
+abbrev pub times_counted : Subjects → List Happening → ℕ → Count → ℕ
+times_counted whose seen subject counted = length (filter (is_counted whose subject counted) seen)
 
 -- the same as a `u64` holds it
 abbrev pub counted_of : Subjects → List Happening → ℕ → Count → ℕ
-counted_of whose seen subject counted = capped (times whose seen subject counted)
+counted_of whose seen subject counted = capped (times_counted whose seen subject counted)
 
 -- the subject has a line: a line of a step names it
 abbrev pub is_named : Subjects → List Happening → ℕ → Bool
-is_named whose seen subject = nat_lt 0 (times whose seen subject count.Lines)
+is_named whose seen subject = nat_lt 0 (times_counted whose seen subject count.Lines)

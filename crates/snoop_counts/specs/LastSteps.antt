@@ -7,7 +7,7 @@ use Rattle.snoop_history.specs.declared.items.Did.{Did}
 use Rattle.snoop_history.specs.History.{is_store_to}
 use Rattle.snoop_engine.specs.Frames.{Frame}
 use Rattle.snoop_engine.specs.declared.taken.Taken.{Taken}
-use Rattle.snoop_counts.specs.Causes.{gives_up, is_stored_to, last_step, loses, takes_row}
+use Rattle.snoop_counts.specs.Causes.{gives_up, is_stored_to, last_step, loses, takes_such_row}
 use Rattle.snoop_counts.specs.Counted.{is_giving_up, is_loss}
 use Rattle.snoop_counts.specs.declared.copies.Copies.{Copies}
 use Rattle.snoop_counts.specs.declared.last_steps.LastSteps.{LastSteps}
@@ -23,8 +23,8 @@ Marks test number old new = (block at : ℕ) → number_at new.rows.items block 
 
 -- what the lines of a step of this number say of copies is written
 pub record MarksLines (number : ℕ) (lines : List Taken) (old new : Copies) : Type 0 where
-  pub given_up : Marks (λ block core. list_any (takes_row is_giving_up block core) lines) number old.given_up new.given_up
-  pub lost : Marks (λ block core. list_any (takes_row is_loss block core) lines) number old.lost new.lost
+  pub given_up : Marks (λ block core. list_any (takes_such_row is_giving_up block core) lines) number old.given_up new.given_up
+  pub lost : Marks (λ block core. list_any (takes_such_row is_loss block core) lines) number old.lost new.lost
   pub stored : new.stored ≡ old.stored
 
 -- the store of a step of this number is written, if it has one
@@ -38,7 +38,7 @@ pub record HasLastSteps (test : ℕ → ℕ → Frame → Bool) (frames : List F
   pub number : (block at : ℕ) → number_at last.rows.items block at ≡ last_step (test block at) frames
 
 -- it is known when each core last gave up and lost a copy of each block, and when each word was last stored to
-pub record Follows (frames : List Frame) (copies : Copies) : Type 0 where
+pub record KnowsLastSteps (frames : List Frame) (copies : Copies) : Type 0 where
   pub given_up : HasLastSteps gives_up frames copies.given_up
   pub lost : HasLastSteps loses frames copies.lost
   pub stored : HasLastSteps is_stored_to frames copies.stored

@@ -7,7 +7,7 @@ use Rattle.snoop_history.specs.Totals.{totals_of}
 use Rattle.snoop_history.specs.declared.items.Item.{Item}
 use Rattle.snoop_history.specs.declared.items.Totals.{Totals}
 use Rattle.snoop_engine.specs.Frames.{Frame}
-use Rattle.snoop_counts.specs.Counted.{place_of_word, times}
+use Rattle.snoop_counts.specs.Counted.{place_of_word, times_counted}
 use Rattle.snoop_counts.specs.Happenings.{happenings, seen_after}
 use Rattle.snoop_counts.specs.declared.count.Count.{Count}
 use Rattle.snoop_counts.specs.declared.count.Count.TheVariants as count
@@ -17,7 +17,7 @@ use Rattle.snoop_counts.specs.declared.count.Subjects.TheVariants.{Blocks, Cores
 
 -- the sum of a count over so many subjects
 abbrev pub sum_of : Subjects → ℕ → List Happening → Count → ℕ
-sum_of whose many seen counted = sum_by (λ subject. times whose seen subject counted) (range_with_len 0 many)
+sum_of whose many seen counted = sum_by (λ subject. times_counted whose seen subject counted) (range_with_len 0 many)
 
 -- the sums of the twelve counts of the report
 abbrev pub sums_of : Subjects → ℕ → List Happening → Totals
@@ -46,14 +46,14 @@ pub record SumsAreTotals (shape : Extent) (frames : List Frame) (items : List It
 abbrev pub CausesAreAll : Type 0
 CausesAreAll =
     (frames : List Frame) (whose : Subjects) (subject : ℕ) → let seen = happenings frames in
-    times whose seen subject count.Misses
-    ≡ times whose seen subject count.Cold + times whose seen subject count.GivenUp + times whose seen subject count.TrueSharing + times whose seen subject count.FalseSharing
+    times_counted whose seen subject count.Misses
+    ≡ times_counted whose seen subject count.Cold + times_counted whose seen subject count.GivenUp + times_counted whose seen subject count.TrueSharing + times_counted whose seen subject count.FalseSharing
 
 -- steps that are cut in two, at any place, have the counts of both parts together
 abbrev pub PartsAddUp : Type 0
 PartsAddUp =
     (earlier first rest : List Frame) (whose : Subjects) (subject : ℕ) (counted : Count)
-    → times whose (seen_after earlier (first ++ rest)) subject counted ≡ times whose (seen_after earlier first) subject counted + times whose (seen_after (earlier ++ first) rest) subject counted
+    → times_counted whose (seen_after earlier (first ++ rest)) subject counted ≡ times_counted whose (seen_after earlier first) subject counted + times_counted whose (seen_after (earlier ++ first) rest) subject counted
 
 -- over all cores, what cores do to others has the sum of what others do to them
 pub record DoneIsSuffered (shape : Extent) (frames : List Frame) : Type 0 where
@@ -62,11 +62,11 @@ pub record DoneIsSuffered (shape : Extent) (frames : List Frame) : Type 0 where
 
 -- the sum of a count over the words of a block
 abbrev pub sum_of_words : Extent → List Happening → ℕ → Count → ℕ
-sum_of_words shape seen block counted = sum_by (λ word. times (Words shape.words) seen (place_of_word shape.words block word) counted) (range_with_len 0 shape.words)
+sum_of_words shape seen block counted = sum_by (λ word. times_counted (Words shape.words) seen (place_of_word shape.words block word) counted) (range_with_len 0 shape.words)
 
 -- over the words of a block, the counts of the words have the sums that the block has
 pub record WordsAddUp (shape : Extent) (seen : List Happening) (block : ℕ) : Type 0 where
-  pub loads : sum_of_words shape seen block count.Loads ≡ times Blocks seen block count.Loads
-  pub load_hits : sum_of_words shape seen block count.LoadHits ≡ times Blocks seen block count.LoadHits
-  pub stores : sum_of_words shape seen block count.Stores ≡ times Blocks seen block count.Stores
-  pub store_hits : sum_of_words shape seen block count.StoreHits ≡ times Blocks seen block count.StoreHits
+  pub loads : sum_of_words shape seen block count.Loads ≡ times_counted Blocks seen block count.Loads
+  pub load_hits : sum_of_words shape seen block count.LoadHits ≡ times_counted Blocks seen block count.LoadHits
+  pub stores : sum_of_words shape seen block count.Stores ≡ times_counted Blocks seen block count.Stores
+  pub store_hits : sum_of_words shape seen block count.StoreHits ≡ times_counted Blocks seen block count.StoreHits

@@ -118,7 +118,7 @@ abbrev pub row_at : List Counters → ℕ → Counters
 row_at rows subject = slice_index_or rows subject empty_row
 
 -- the rows say how often each count was counted for each subject
-pub record Tallies (whose : Subjects) (rows : List Counters) (seen : List Happening) : Type 0 where
+pub record TalliesSubjects (whose : Subjects) (rows : List Counters) (seen : List Happening) : Type 0 where
   pub long : (subject : ℕ) → subject < length rows → length (row_at rows subject).counters ≡ 31
   pub counted : (subject : ℕ) (counted : Count) → subject < length rows → counter_in (row_at rows subject) counted ≡ counted_of whose seen subject counted
 
@@ -126,7 +126,7 @@ pub record Tallies (whose : Subjects) (rows : List Counters) (seen : List Happen
 pub record HasCounted (whose : Subjects) (many : ℕ) (seen : List Happening) (tally : Tally) : Type 0 where
   pub subjects : tally.subjects ≡ whose
   pub rows : length tally.rows ≡ many
-  pub counted : Tallies whose tally.rows seen
+  pub counted : TalliesSubjects whose tally.rows seen
 
 -- the counters of a subject, or none where no line names it
 abbrev pub IsRowOf : Subjects → List Happening → ℕ → Option Counters → Type 0

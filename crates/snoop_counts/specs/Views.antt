@@ -9,7 +9,7 @@ use Rattle.snoop_engine.specs.Frames.{Frame, FramesFrom}
 use Rattle.snoop_counts.specs.BlockTally.{CountsBlocks}
 use Rattle.snoop_counts.specs.BySteps.{seen_last}
 use Rattle.snoop_counts.specs.Happenings.{happenings}
-use Rattle.snoop_counts.specs.LastSteps.{Follows}
+use Rattle.snoop_counts.specs.LastSteps.{KnowsLastSteps}
 use Rattle.snoop_counts.specs.Tally.{HasCounted}
 use Rattle.snoop_counts.specs.WordTally.{CountsWords}
 use Rattle.snoop_counts.specs.declared.by_block.ByBlock.{ByBlock}
@@ -23,7 +23,7 @@ use Rattle.snoop_counts.specs.declared.watch.Watch.{Watch}
 
 -- the watch has followed these frames of a run, and seen the history so far
 pub record HasWatched (protocol : Protocol) (shape : Extent) (frames : List Frame) (watch : Watch) : Type 0 where
-  pub follows : Follows frames watch.copies
+  pub follows : KnowsLastSteps frames watch.copies
   pub items : (here : Situation) → FramesFrom (reset protocol shape) frames here → watch.items ≡ length here.log
 
 -- the run has begun, and these frames are counted

@@ -1,9 +1,9 @@
 //! How the copies of each core went, for the causes of its misses.
 ghost use Rattle.std.specs.Prelude.{◌≡◌, ◌+◌, ◌++◌, ◌∷◌, [], List, OnOk, length};
 ghost use Rattle.snoop_engine.specs.Frames.{Frame};
-ghost use Rattle.snoop_engine.specs.Taken.{lines_of};
+ghost use Rattle.snoop_engine.specs.Taken.{lines_of_step};
 ghost use Rattle.snoop_counts.specs.Causes.{cause_after, cause_of, operation_in, word_of};
-ghost use Rattle.snoop_counts.specs.LastSteps.{Follows, MarksLines, MarksStore};
+ghost use Rattle.snoop_counts.specs.LastSteps.{KnowsLastSteps, MarksLines, MarksStore};
 
 use crate::count::Cause;
 use crate::counted::{is_giving_up, is_loss, is_miss};
@@ -34,7 +34,7 @@ pub(crate) struct Copies {
 impl Copies {
     /// No step was taken yet.
     pub(crate) fn new(alloc: Global) -> Copies
-        ensures { Follows [] result }
+        ensures { KnowsLastSteps [] result }
     {
         Copies {
             given_up: LastSteps::new(alloc),
@@ -45,7 +45,7 @@ impl Copies {
 
     // Why the core has no copy of the block, when it misses the word.
     fn cause_of_miss(&self, block: u32, core: u32, word: u32) -> Cause
-        ensures { (frames : List Frame) → Follows frames self.now → result ≡ cause_after frames block core word }
+        ensures { (frames : List Frame) → KnowsLastSteps frames self.now → result ≡ cause_after frames block core word }
     {
         let given_up = self.given_up.of(block, core);
         let lost = self.lost.of(block, core);
@@ -64,7 +64,7 @@ impl Copies {
 
     /// The cause of a line that is a miss, where its step performs this operation.
     pub(crate) fn cause_of(&self, operation: Option<Did>, line: Taken) -> Option<Cause>
-        ensures { (frames : List Frame) → Follows frames self.now → result ≡ cause_of frames operation line }
+        ensures { (frames : List Frame) → KnowsLastSteps frames self.now → result ≡ cause_of frames operation line }
     {
         let Taken::Core {
             core,
@@ -130,7 +130,7 @@ impl Copies {
         lines: &[Taken],
         operation: Option<Did>,
     ) -> Result<(), NoMemory>
-        ensures { (frames : List Frame) (frame : Frame) → Follows frames self.old → number ≡ 1 + length frames
+        ensures { (frames : List Frame) (frame : Frame) → KnowsLastSteps frames self.old → number ≡ 1 + length frames
             → lines.now ≡ lines_of frame.before frame.step frame.outcome → operation ≡ operation_in frame
             → OnOk result (Follows (frames ++ frame ∷ []) self.new) }
     {

@@ -6,10 +6,10 @@ ghost use Rattle.snoop_trace.specs.declared.protocol.Protocol.{Protocol};
 ghost use Rattle.snoop_history.specs.History.{operation_of};
 ghost use Rattle.snoop_model.specs.Pictures.Situation.{Situation};
 ghost use Rattle.snoop_engine.specs.Frames.{Frame};
-ghost use Rattle.snoop_engine.specs.Views.{IsNext, frame_seen};
+ghost use Rattle.snoop_engine.specs.Views.{IsNextSeen, frame_seen};
 ghost use Rattle.snoop_counts.specs.Causes.{cause_of};
 ghost use Rattle.snoop_counts.specs.Happenings.{seen_in};
-ghost use Rattle.snoop_counts.specs.LastSteps.{Follows};
+ghost use Rattle.snoop_counts.specs.LastSteps.{KnowsLastSteps};
 ghost use Rattle.snoop_counts.specs.Views.{HasWatched};
 ghost use Rattle.snoop_counts.specs.declared.count.Happening.TheVariants as happening;
 
@@ -49,7 +49,7 @@ fn write_lines(
     lines: &[Taken],
     operation: Option<Did>,
 ) -> Result<(), NoMemory>
-    ensures { (frames : List Frame) → Follows frames copies.now → OnOk result (all.new.items ≡ map (λ line. happening.Line step outcome line (cause_of frames operation line)) lines.now) }
+    ensures { (frames : List Frame) → KnowsLastSteps frames copies.now → OnOk result (all.new.items ≡ map (λ line. happening.Line step outcome line (cause_of frames operation line)) lines.now) }
 {
     all.clear();
     for line in lines {

@@ -33,7 +33,7 @@ use Rattle.snoop_model.specs.declared.replies.Refused.{Refused}
 use Rattle.snoop_model.specs.declared.replies.Reply.{Reply}
 use Rattle.snoop_engine.specs.Frames.{AreFrames, Frame, FramesFrom, steps_of}
 use Rattle.snoop_draw.specs.Laws.{HoldsNothing}
-use Rattle.snoop_draw.specs.Panels.{asks, is_ask_for}
+use Rattle.snoop_draw.specs.Panels.{asks_somewhere, is_ask_for}
 
 -- the state to which a row leads, or I
 next_of : Option CacheCell → CacheState
@@ -180,10 +180,10 @@ step_stays old (Ask asking on word op) (Ok answer) new block core goes never bef
 step_stays old (Order requestor) (Ok answer) new block core goes never before = ordered_stays goes.1.0 old requestor answer new goes.0 block core goes.1.1.1 before
 step_stays old (Respond on) (Ok answer) new block core goes never before = answered_stays goes.1.0 old on answer new goes.0 block core goes.1.1.1 before
 
-frames_stay : (old : Situation) (frames : List Frame) (final : Situation) (block core : ℕ) → FramesFrom old frames final → asks (steps_of frames) block core ≡ false → state_of old core block ≡ I → HoldsNothing block core frames
+frames_stay : (old : Situation) (frames : List Frame) (final : Situation) (block core : ℕ) → FramesFrom old frames final → asks_somewhere (steps_of frames) block core ≡ false → state_of old core block ≡ I → HoldsNothing block core frames
 frames_stay old [] final block core run never before = tt
 frames_stay old (frame ∷ frames) final block core run never before =
-    let parts = or_parts (is_ask_for block core frame.step) (asks (steps_of frames) block core) never in
+    let parts = or_parts (is_ask_for block core frame.step) (asks_somewhere (steps_of frames) block core) never in
     let here : state_of frame.before core block ≡ I = ap (λ (s : Situation). state_of s core block) run.0.before ∙ before in
     let after = step_stays frame.before frame.step frame.outcome frame.after block core run.0.goes parts.0 here in
     (after, frames_stay frame.after frames final block core run.1 parts.1 after)
@@ -206,6 +206,6 @@ at_reset protocol shape block core =
 
 -- a core that asks for a block in no step is in I throughout
 pub unasked_hold_nothing : (protocol : Protocol) (shape : Extent) (steps : List Step) (frames : List Frame) (final : Situation)
-    → AreFrames protocol shape steps frames final → (block core : ℕ) → asks steps block core ≡ false → HoldsNothing block core frames
+    → AreFrames protocol shape steps frames final → (block core : ℕ) → asks_somewhere steps block core ≡ false → HoldsNothing block core frames
 unasked_hold_nothing protocol shape steps frames final are block core never =
-    frames_stay (reset protocol shape) frames final block core are.run (ap (λ (given : List Step). asks given block core) are.whole ∙ never) (at_reset protocol shape block core)
+    frames_stay (reset protocol shape) frames final block core are.run (ap (λ (given : List Step). asks_somewhere given block core) are.whole ∙ never) (at_reset protocol shape block core)

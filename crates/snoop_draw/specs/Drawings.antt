@@ -13,8 +13,8 @@ use Rattle.snoop_engine.specs.Chosen.{Chosen, is_shown}
 use Rattle.snoop_engine.specs.Frames.{Frame, steps_of}
 use Rattle.snoop_engine.specs.Line.{line_text}
 use Rattle.snoop_engine.specs.Numbered.{numbered_from}
-use Rattle.snoop_engine.specs.Taken.{lines_of}
-use Rattle.snoop_engine.specs.Views.{block_of}
+use Rattle.snoop_engine.specs.Taken.{lines_of_step}
+use Rattle.snoop_engine.specs.Views.{block_of_step}
 use Rattle.snoop_engine.specs.declared.taken.Taken.{Taken}
 use Rattle.snoop_draw.specs.declared.cells.Style.{Style}
 use Rattle.snoop_draw.specs.declared.event.Event.TheVariants.{Before}
@@ -64,7 +64,7 @@ rows_seen sheet shape number s of step outcome lines =
 -- the same of a frame: by the machine after it, and the block and the lines of its step
 abbrev pub rows_at : Sheet → Extent → ℕ → Frame → List ℕ
 rows_at sheet shape number frame =
-    rows_seen sheet shape number frame.after (block_of frame.before frame.step) frame.step frame.outcome (lines_of frame.before frame.step frame.outcome)
+    rows_seen sheet shape number frame.after (block_of_step frame.before frame.step) frame.step frame.outcome (lines_of_step frame.before frame.step frame.outcome)
 
 -- what is drawn at steps, the first of which has this number
 abbrev pub rows_from : Sheet → Extent → ℕ → List Frame → List ℕ

@@ -9,7 +9,7 @@ use Rattle.snoop_model.specs.Pictures.Situation.{Situation, state_of}
 use Rattle.snoop_engine.specs.Frames.{AreFrames, Frame}
 use Rattle.snoop_draw.specs.declared.marks.Mark.TheVariants.{Blank, MayWrite}
 use Rattle.snoop_draw.specs.Events.{may}
-use Rattle.snoop_draw.specs.Panels.{asks}
+use Rattle.snoop_draw.specs.Panels.{asks_somewhere}
 use Rattle.snoop_draw.specs.Rows.{held_in}
 
 -- beside a core that is marked as one that may write, no other has a mark
@@ -25,4 +25,4 @@ HoldsNothing block core (frame ∷ frames) = (state_of frame.after core block �
 abbrev pub UnaskedHoldNothing : Type 0
 UnaskedHoldNothing =
     (protocol : Protocol) (shape : Extent) (steps : List Step) (frames : List Frame) (final : Situation) →
-    AreFrames protocol shape steps frames final → (block core : ℕ) → asks steps block core ≡ false → HoldsNothing block core frames
+    AreFrames protocol shape steps frames final → (block core : ℕ) → asks_somewhere steps block core ≡ false → HoldsNothing block core frames

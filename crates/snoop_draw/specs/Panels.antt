@@ -17,12 +17,12 @@ is_ask_for block core (Ask asking asked word op) = (asked == block) && (asking =
 is_ask_for block core _ = false
 
 -- the core asks for the block somewhere
-abbrev pub asks : List Step → ℕ → ℕ → Bool
-asks steps block core = list_any (is_ask_for block core) steps
+abbrev pub asks_somewhere : List Step → ℕ → ℕ → Bool
+asks_somewhere steps block core = list_any (is_ask_for block core) steps
 
 -- the cores that ask for the block somewhere, rising
 abbrev pub columns : Extent → List Step → ℕ → List ℕ
-columns shape steps block = filter (asks steps block) (range_with_len 0 shape.cores)
+columns shape steps block = filter (asks_somewhere steps block) (range_with_len 0 shape.cores)
 
 -- the panel of a block, if it has a column of a core
 abbrev pub panel_with : ℕ → List ℕ → List Panel
@@ -37,4 +37,4 @@ panels_for shape steps (Some block) = if nat_lt block shape.blocks then record {
 -- a table by block and core of who asks for what
 pub record IsAskedTable (shape : Extent) (steps : List Step) (table : List Bool) : Type 0 where
   pub size : length table ≡ shape.blocks * shape.cores
-  pub entries : (block core : ℕ) → block < shape.blocks → core < shape.cores → slice_index_or table (block * shape.cores + core) false ≡ asks steps block core
+  pub entries : (block core : ℕ) → block < shape.blocks → core < shape.cores → slice_index_or table (block * shape.cores + core) false ≡ asks_somewhere steps block core

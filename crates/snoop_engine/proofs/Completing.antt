@@ -29,7 +29,7 @@ use Rattle.snoop_engine.specs.OneRow.{ServesOnly, nothing}
 use Rattle.snoop_engine.specs.Round.{IsEnabled, IsFit, IsIdle, IsOver, Progress, TakesUp, remaining}
 use Rattle.snoop_engine.specs.Serial.{is_ask}
 use Rattle.snoop_engine.specs.Served.{ask_of}
-use Rattle.snoop_engine.specs.Todo.{Todo, block_of, left_in, nothing_to_do, todo_of, under_way}
+use Rattle.snoop_engine.specs.Todo.{Todo, block_of_work, left_in, nothing_to_do, todo_of, lanes_under_way}
 use Rattle.snoop_engine.proofs.CourseLemmas.{driver_leads, fewer_in_order, in_order_ends, in_order_leads}
 use Rattle.snoop_engine.proofs.Driving.{first_in, fit_begins, fit_idles, fit_moves, goes_begun, goes_on, over_idle, over_now, takes_first}
 use Rattle.snoop_engine.proofs.Fewer.{leaves_fewer, left_same}
@@ -100,7 +100,7 @@ module _ (go_on : RunsGoOn) (protocol : Protocol) (shape : Extent) where
     here = (0, omega arith, refl)
 
     -- by one step more
-    by : (next : List Todo) (step : Step) → IsFit s next (core ∷ turns) → IsUnderWay (under_way next) step → IsEnabled s step → TakesUp lanes step next → Ends s lanes (core ∷ turns)
+    by : (next : List Todo) (step : Step) → IsFit s next (core ∷ turns) → IsUnderWay (lanes_under_way next) step → IsEnabled s step → TakesUp lanes step next → Ends s lanes (core ∷ turns)
     by next step fit_next its enabled takes =
         let one = taken before answered s run step enabled in
         let old : Progress = record { situation = s; lanes = lanes; turns = core ∷ turns } in
@@ -155,7 +155,7 @@ module _ (go_on : RunsGoOn) (protocol : Protocol) (shape : Extent) where
     begins over work works first =
         let lane : Todo = record { left = works; work = Some work } in
         let next : List Todo = slice_set lanes core lane in
-        let its : under_way next core ≡ Some work.block = ap (λ (t : Todo). block_of t.work) (get_or-set_same lanes core lane nothing_to_do has_lane) in
+        let its : lanes_under_way next core ≡ Some work.block = ap (λ (t : Todo). block_of_work t.work) (get_or-set_same lanes core lane nothing_to_do has_lane) in
         let within = first_in turn_rule s lanes (core ∷ turns) fit core has_core work works first in
         by next (Ask core work.block work.word work.op) (fit_begins turn_rule s lanes (core ∷ turns) fit core has_core over here lane work first refl) its
         (goes_begun turn_rule s lanes (core ∷ turns) fit core has_core over work within (Some (Ask core work.block work.word work.op)) refl)
@@ -169,7 +169,7 @@ module _ (go_on : RunsGoOn) (protocol : Protocol) (shape : Extent) where
     by_step work works None is = by_left (over_now turn_rule s lanes (core ∷ turns) fit core has_core work works None is) (todo_of lanes core).left refl
     by_step work works (Some step) is =
         let own = under_way_asks_nothing (waiting_request (state_of s core work.block)) (picture_of s work.block).transaction core work.block step (sym is) in
-        by lanes step fit (own.2 (under_way lanes)) (goes_on turn_rule s lanes (core ∷ turns) fit core has_core work works (Some step) is)
+        by lanes step fit (own.2 (lanes_under_way lanes)) (goes_on turn_rule s lanes (core ∷ turns) fit core has_core work works (Some step) is)
         (λ k. ap (λ (o : Option Work). option_to_list o ++ (todo_of lanes k).left) (sym (no_ask step own.0 k)))
 
     by_work : (work : Option Work) → (todo_of lanes core).work ≡ work → Ends s lanes (core ∷ turns)
@@ -195,7 +195,7 @@ module _ (go_on : RunsGoOn) (protocol : Protocol) (shape : Extent) where
   module _ (fuel : ℕ) (again : CompleteInOrder fuel) (before : List Step) (answered : List (Result Reply Refused)) (s : Situation) (left : List Row) (row : Option Row)
       (run : TheRun protocol shape before answered s) (fit : IsInOrder s left row) (few : remaining_in_order (record { situation = s; left = left; row = row }) < suc fuel) where
     -- by one step more
-    then : (rest : List Row) (next : Option Row) (step : Step) → IsInOrder s rest next → IsUnderWay (in_order.under_way s.shape next) step → IsEnabled s step
+    then : (rest : List Row) (next : Option Row) (step : Step) → IsInOrder s rest next → IsUnderWay (in_order.row_under_way s.shape next) step → IsEnabled s step
         → TakesUpNext (record { situation = s; left = left; row = row }) step (record { situation = s; left = rest; row = next }) → EndsSo s left row
     then rest next step fit_next its enabled takes =
         let one = taken before answered s run step enabled in
@@ -230,12 +230,12 @@ module _ (go_on : RunsGoOn) (protocol : Protocol) (shape : Extent) where
         let word : ℕ = word_asked s.shape own.address own.op in
         let asks_nothing : is_ask step ≡ false = goes_on_asks_nothing s own at.limits at.begun block word refl refl at.serves (Some step) is in
         let under = goes_on_under_way s own at.limits at.begun block word refl refl at.serves (Some step) is in
-        then left row step fit (subst (λ (o : Option Row). IsUnderWay (in_order.under_way s.shape o) step) (sym its) under)
+        then left row step fit (subst (λ (o : Option Row). IsUnderWay (in_order.row_under_way s.shape o) step) (sym its) under)
         (goes_on_enabled s own at.limits at.begun block word refl refl at.serves (Some step) is)
         (order.asks_nothing_more (record { situation = s; left = left; row = row }) (record { situation = s; left = left; row = row }) step asks_nothing refl)
 
     then_row : (own : Option Row) → row ≡ own → EndsSo s left row
-    then_row None none = then_left (subst (λ (o : Option Row). ServesOnly s.shape (in_order.under_way s.shape o) s) none fit.serves) left refl
+    then_row None none = then_left (subst (λ (o : Option Row). ServesOnly s.shape (in_order.row_under_way s.shape o) s) none fit.serves) left refl
     then_row (Some own) its =
         then_step own its (subst (λ (o : Option Row). IsInOrder s left o) its fit)
         (turn_of s own.core (own.address / s.shape.block_bytes) (word_asked s.shape own.address own.op) own.op true) refl

@@ -5,14 +5,14 @@ use Rattle.snoop_trace.specs.declared.protocol.Protocol.{Protocol}
 use Rattle.snoop_model.specs.Pictures.Situation.{Situation}
 use Rattle.snoop_engine.specs.Counts.{all_lines, counts_text, frames_counts_text}
 use Rattle.snoop_engine.specs.Frames.{Frame}
-use Rattle.snoop_engine.specs.Taken.{lines_of}
+use Rattle.snoop_engine.specs.Taken.{lines_of_step}
 use Rattle.snoop_engine.specs.Tallies.{Tallies, counts_in, memory_counts_in}
 use Rattle.snoop_engine.specs.Views.{view_text}
 use Rattle.snoop_engine.proofs.ViewLemmas.{quiet_view}
 
 -- the lines of one frame more
-pub all_lines_more : (frames : List Frame) (frame : Frame) → all_lines frames ++ lines_of frame.before frame.step frame.outcome ≡ all_lines (frames ++ frame ∷ [])
-all_lines_more frames frame = flat_map_more (λ (f : Frame). lines_of f.before f.step f.outcome) [] frames frame
+pub all_lines_more : (frames : List Frame) (frame : Frame) → all_lines frames ++ lines_of_step frame.before frame.step frame.outcome ≡ all_lines (frames ++ frame ∷ [])
+all_lines_more frames frame = flat_map_more (λ (f : Frame). lines_of_step f.before f.step f.outcome) [] frames frame
 
 -- the text of the counters is that of the frames
 pub text_of_frames : (protocol : Protocol) (frames : List Frame) (counters : List ℕ) → Tallies counters (all_lines frames)

@@ -23,7 +23,7 @@ use Rattle.snoop_engine.specs.Courses.{Leading, LeadsOn}
 use Rattle.snoop_engine.specs.InOrder.{EndsInOrder, FindsInOrder, FollowsInOrder, InOrder, IsDoneInOrder, LeadsToRest, remaining_in_order}
 use Rattle.snoop_engine.specs.Inputs.{StepsServe, StepsServeSerially}
 use Rattle.snoop_engine.specs.Journey.{IsAtTheEnd, IsAtTheStart}
-use Rattle.snoop_engine.specs.Round.{Finds, Follows, IsDone, Progress, TakesUp, remaining}
+use Rattle.snoop_engine.specs.Round.{Finds, Advances, IsDone, Progress, TakesUp, remaining}
 use Rattle.snoop_engine.specs.Serial.{all_asks, ask_for, is_ask}
 use Rattle.snoop_engine.specs.Served.{ask_of, asks_of}
 use Rattle.snoop_engine.specs.Todo.{Todo, todo_of}
@@ -74,7 +74,7 @@ asks_first core step steps = go (ask_of core step)
     go (Some work) = refl
 
 -- a driver of rows leads on by its step
-pub driver_leads : (old new : Progress) (step : Step) (answer : Reply) → Follows old step answer new
+pub driver_leads : (old new : Progress) (step : Step) (answer : Reply) → Advances old step answer new
     → (steps : List Step) (outcomes : List (Result Reply Refused)) (final : Situation) → IsAtTheEnd new steps outcomes final → IsAtTheEnd old (step ∷ steps) (Ok answer ∷ outcomes) final
 driver_leads old new step answer follows steps outcomes final h = record {
   run = (new.situation, ((follows.entry, follows.move), h.run));
@@ -199,7 +199,7 @@ in_order_serves protocol shape rows start steps outcomes final at left end =
 
 -- a step that a driver found, taken
 module _ (before old new : Progress) (step : Step) (answer : Reply) (finds : Finds before step old) (move : (entry : Option Item) × FirstMove old.situation step answer new.situation entry) (lanes : new.lanes ≡ old.lanes) where
-  pub driver_follows : Follows before step answer new
+  pub driver_follows : Advances before step answer new
   driver_follows =
       let moved : FirstMove before.situation step answer new.situation move.0 = subst (λ (s : Situation). FirstMove s step answer new.situation move.0) finds.situation move.1 in
       let takes_up : TakesUp before.lanes step new.lanes = subst (λ (l : List Todo). TakesUp before.lanes step l) (sym lanes) finds.takes_up in

@@ -22,7 +22,7 @@ use Rattle.snoop_model.specs.Pictures.Situation.{reset}
 use Rattle.snoop_model.specs.Turns.TurnLaws.{TurnLaws}
 use Rattle.snoop_engine.specs.Round.{IsFit, IsWorkWithin}
 use Rattle.snoop_engine.specs.Packed.{largest}
-use Rattle.snoop_engine.specs.Todo.{IsAskedWithin, Todo, todo_of, nothing_to_do, under_way, left_in, work_of, works, works_by, works_of}
+use Rattle.snoop_engine.specs.Todo.{IsAskedWithin, Todo, todo_of, nothing_to_do, lanes_under_way, left_in, work_of, works, works_by, works_of}
 
 -- all asks but those that are left have been dealt
 pub record Dealt (shape : Extent) (all rest : List Asked) (lanes : List Todo) : Type 0 where
@@ -190,7 +190,7 @@ pub fit_new : TurnLaws → (protocol : Protocol) (shape : Extent) (asks : List A
     → length lanes ≡ shape.cores → ((core : ℕ) → (todo_of lanes core).left ≡ works_by asks core) → ((core : ℕ) → (todo_of lanes core).work ≡ None)
     → All (λ core. core < shape.cores) turns → ((core : ℕ) → core < shape.cores → Contains turns core) → IsFit (reset protocol shape) lanes turns
 fit_new rule protocol shape asks lanes turns limits within cores left idle few all =
-    let start = rule.starts_well protocol shape (under_way lanes) in
+    let start = rule.starts_well protocol shape (lanes_under_way lanes) in
     record {
       cores = cores;
       within = λ core.

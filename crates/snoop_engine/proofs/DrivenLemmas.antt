@@ -21,7 +21,7 @@ use Rattle.snoop_model.specs.Pictures.Situation.{Situation, reset}
 use Rattle.snoop_model.specs.Runs.Run.{FirstRunFrom, TheRun}
 use Rattle.snoop_engine.specs.Line.{line_text, line_texts}
 use Rattle.snoop_engine.specs.Todo.{todo_of, left_in, works_of}
-use Rattle.snoop_engine.specs.Round.{Progress, Follows, IsDone}
+use Rattle.snoop_engine.specs.Round.{Progress, Advances, IsDone}
 use Rattle.snoop_engine.specs.Journey.{IsOnTheWay}
 use Rattle.snoop_engine.specs.Driven.{WritesDriven, WritesDrivenFront}
 use Rattle.snoop_engine.specs.SimulatedRun.{BeginsRun, ReadsRows, ReportsRun, SimulatesRun}
@@ -39,7 +39,7 @@ pub driving_none : (shape : Extent) (start : Progress) (a : Option (List ℕ)) (
 driving_none shape start a chunk e = record { steps = []; outcomes = []; way = way_begins start; lines = gathers_none a chunk e }
 
 module _ (shape : Extent) (start here : Progress) (a b : Option (List ℕ)) (chunk : List ℕ) (far : Driving shape start here a b chunk) where
-  pub driving_more : (next : Progress) (step : Step) (answer : Reply) (chunk2 : List ℕ) → Follows here step answer next → chunk2 ≡ chunk ++ line_text shape step (Ok answer)
+  pub driving_more : (next : Progress) (step : Step) (answer : Reply) (chunk2 : List ℕ) → Advances here step answer next → chunk2 ≡ chunk ++ line_text shape step (Ok answer)
       → Driving shape start next a b chunk2
   driving_more next step answer chunk2 follows e = record {
     steps = far.steps ++ step ∷ [];

@@ -22,7 +22,7 @@ use Rattle.snoop_trace.specs.declared.step.Work.{Work}
 use Rattle.snoop_model.specs.Turns.Turn.{turn_of}
 use Rattle.snoop_model.specs.Turns.Serving.{IsUnderWay}
 use Rattle.snoop_model.specs.Turns.TurnLaws.{TurnLaws}
-use Rattle.snoop_engine.specs.Todo.{Todo, todo_of, nothing_to_do, under_way, block_of}
+use Rattle.snoop_engine.specs.Todo.{Todo, todo_of, nothing_to_do, lanes_under_way, block_of_work}
 use Rattle.snoop_engine.specs.Round.{IsOver, IsEnabled, IsFit, IsIdle, IsTodoWithin, IsWorkWithin, TakesUp}
 use Rattle.snoop_engine.specs.Served.{ask_of}
 use Rattle.snoop_engine.proofs.TakenLemmas.{same_shape}
@@ -56,20 +56,20 @@ module _ (rule : TurnLaws) (s : Situation) (lanes : List Todo) (turns : List ℕ
     goes_on None is = tt
     goes_on (Some step) is =
         let within : IsWorkWithin s work = within_of (todo_of lanes core).work work s works (fit.within core).work in
-        rule.never_refused s (under_way lanes) core work.block work.word work.op true step fit.serving fit.kept has_core
-        within.0 within.1 (ap block_of works) (sym is)
+        rule.never_refused s (lanes_under_way lanes) core work.block work.word work.op true step fit.serving fit.kept has_core
+        within.0 within.1 (ap block_of_work works) (sym is)
 
     pub over_now : (r : Option Step) → r ≡ turn_of s core work.block work.word work.op true → IfNone r (IsOver lanes s core)
     over_now (Some step) is = tt
-    over_now None is = λ after others. rule.ends s (under_way lanes) after core work.block work.word work.op fit.serving fit.kept (ap block_of works) (sym is) others
+    over_now None is = λ after others. rule.ends s (lanes_under_way lanes) after core work.block work.word work.op fit.serving fit.kept (ap block_of_work works) (sym is) others
 
   -- a core with nothing under way may have anything else
   pub over_idle : (todo_of lanes core).work ≡ None → IsOver lanes s core
   over_idle idle after others =
-      let extends : (k block : ℕ) → under_way lanes k ≡ Some block → after k ≡ Some block = λ k block h. elim (cases_eq k core) [
+      let extends : (k block : ℕ) → lanes_under_way lanes k ≡ Some block → after k ≡ Some block = λ k block h. elim (cases_eq k core) [
         | inl e ↦
-            (let P : ℕ → Type 0 = λ j. under_way lanes j ≡ Some block in
-            let clash : ◌≡◌ {A = Option ℕ} None (Some block) = sym (ap block_of idle) ∙ subst P e h in
+            (let P : ℕ → Type 0 = λ j. lanes_under_way lanes j ≡ Some block in
+            let clash : ◌≡◌ {A = Option ℕ} None (Some block) = sym (ap block_of_work idle) ∙ subst P e h in
             cc)
         | inr ne ↦ others k ne ∙ h
       ] in
@@ -96,7 +96,7 @@ module _ (rule : TurnLaws) (s : Situation) (lanes : List Todo) (turns : List ℕ
               subst P (sym e) (subst T (sym here) within))
           | inr ne ↦ subst T (sym (get_or-set_other lanes core k next nothing_to_do ne)) (fit.within k)
         ];
-        serving = over (under_way (slice_set lanes core next)) (λ other ne. ap (λ (t : Todo). block_of t.work) (get_or-set_other lanes core other next nothing_to_do ne));
+        serving = over (lanes_under_way (slice_set lanes core next)) (λ other ne. ap (λ (t : Todo). block_of_work t.work) (get_or-set_other lanes core other next nothing_to_do ne));
         kept = fit.kept;
         few = fit.few;
         busy = λ k. elim (cases_eq k core) [
@@ -129,9 +129,9 @@ module _ (rule : TurnLaws) (s : Situation) (lanes : List Todo) (turns : List ℕ
   pub goes_begun : IsOver lanes s core → (w : Work) → IsWorkWithin s w → (r : Option Step) → r ≡ Some (Ask core w.block w.word w.op) → IfSome r (IsEnabled s)
   goes_begun over w within None is = tt
   goes_begun over w within (Some step) is =
-      let bare : ℕ → Option ℕ = λ k. cond {A = Option ℕ} (eqb k core) None (under_way lanes k) in
-      let away : (other : ℕ) → other ≢ core → bare other ≡ under_way lanes other = λ other ne. ap (λ (b : Bool). cond {A = Option ℕ} b None (under_way lanes other)) (ne_eqb other core ne) in
-      let here : bare core ≡ None = ap (λ (b : Bool). cond {A = Option ℕ} b None (under_way lanes core)) (eq-eqb core core refl) in
+      let bare : ℕ → Option ℕ = λ k. cond {A = Option ℕ} (eqb k core) None (lanes_under_way lanes k) in
+      let away : (other : ℕ) → other ≢ core → bare other ≡ lanes_under_way lanes other = λ other ne. ap (λ (b : Bool). cond {A = Option ℕ} b None (lanes_under_way lanes other)) (ne_eqb other core ne) in
+      let here : bare core ≡ None = ap (λ (b : Bool). cond {A = Option ℕ} b None (lanes_under_way lanes core)) (eq-eqb core core refl) in
       rule.never_refused s bare core w.block w.word w.op false step (over bare away) fit.kept has_core within.0 within.1 here (sym is)
 
 -- the step asks the first of what the core had left
@@ -151,13 +151,13 @@ takes_first lanes core next w has_lane first (Some step) is = λ k.
 
 -- a move keeps what holds between turns
 pub fit_moves : TurnLaws → (s t : Situation) (lanes : List Todo) (turns : List ℕ) (step : Step) (answer : Reply) (entry : Option Item)
-    → IsFit s lanes turns → IsUnderWay (under_way lanes) step → FirstMove s step answer t entry → IsFit t lanes turns
+    → IsFit s lanes turns → IsUnderWay (lanes_under_way lanes) step → FirstMove s step answer t entry → IsFit t lanes turns
 fit_moves rule s t lanes turns step answer entry fit its move =
     let e = same_shape s t step answer entry move in
     record {
       cores = fit.cores ∙ ap (λ (x : Extent). x.cores) (sym e);
       within = λ core. todo_along s t (todo_of lanes core) e (fit.within core);
-      serving = rule.serves_on s t (under_way lanes) (under_way lanes) step answer entry fit.serving move (λ k b h. h) its;
+      serving = rule.serves_on s t (lanes_under_way lanes) (lanes_under_way lanes) step answer entry fit.serving move (λ k b h. h) its;
       kept = rule.keeps_well s t step answer entry fit.kept move;
       few = (let P : Extent → Type 0 = λ x. All (λ core. core < x.cores) turns in subst P (sym e) fit.few);
       busy = fit.busy;

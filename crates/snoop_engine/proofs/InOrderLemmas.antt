@@ -17,7 +17,7 @@ use Rattle.snoop_model.specs.Turns.Quiet.{IsQuiet}
 use Rattle.snoop_model.specs.Turns.Serving.{IsUnderWay}
 use Rattle.snoop_model.specs.Turns.Turn.{turn_of}
 use Rattle.snoop_model.proofs.Turns.Laws.{turn_rule}
-use Rattle.snoop_engine.specs.InOrder.{InOrder, IsInOrder, TakesUpNext, under_way}
+use Rattle.snoop_engine.specs.InOrder.{InOrder, IsInOrder, TakesUpNext, row_under_way}
 use Rattle.snoop_engine.specs.OneRow.{ServesOnly, nothing, only}
 use Rattle.snoop_engine.specs.Round.{IsEnabled}
 use Rattle.snoop_engine.specs.Serial.{ask_for, is_ask}
@@ -49,10 +49,10 @@ at_rest s serves = turn_rule.comes_to_rest s serves.serving serves.kept
 
 module _ (s : Situation) (row : Row) (limits : IsWithinLimits s.shape) (within : IsRowWithin s.shape row) (block word : ℕ)
     (is_block : block ≡ row.address / s.shape.block_bytes) (is_word : word ≡ word_asked s.shape row.address row.op) where
-  its_block : under_way s.shape (Some row) row.core ≡ Some block
+  its_block : row_under_way s.shape (Some row) row.core ≡ Some block
   its_block = here row.core (row.address / s.shape.block_bytes) ∙ ap (λ (b : ℕ). Some b) (sym is_block)
 
-  module _ (serves : ServesOnly s.shape (under_way s.shape (Some row)) s) where
+  module _ (serves : ServesOnly s.shape (row_under_way s.shape (Some row)) s) where
     on_block : ServesOnly s.shape (only row.core block) s
     on_block = subst (λ (b : ℕ). ServesOnly s.shape (only row.core b) s) (sym is_block) serves
 
@@ -60,10 +60,10 @@ module _ (s : Situation) (row : Row) (limits : IsWithinLimits s.shape) (within :
     goes_on_asks_nothing None is = tt
     goes_on_asks_nothing (Some step) is = (under_way_asks_nothing (waiting_request (state_of s row.core block)) (picture_of s block).transaction row.core block step (sym is)).0
 
-    pub goes_on_under_way : (r : Option Step) → r ≡ turn_of s row.core block word row.op true → IfSome r (IsUnderWay (under_way s.shape (Some row)))
+    pub goes_on_under_way : (r : Option Step) → r ≡ turn_of s row.core block word row.op true → IfSome r (IsUnderWay (row_under_way s.shape (Some row)))
     goes_on_under_way None is = tt
     goes_on_under_way (Some step) is =
-        (under_way_asks_nothing (waiting_request (state_of s row.core block)) (picture_of s block).transaction row.core block step (sym is)).2 (under_way s.shape (Some row))
+        (under_way_asks_nothing (waiting_request (state_of s row.core block)) (picture_of s block).transaction row.core block step (sym is)).2 (row_under_way s.shape (Some row))
 
     pub goes_on_enabled : (r : Option Step) → r ≡ turn_of s row.core block word row.op true → IfSome r (IsEnabled s)
     goes_on_enabled None is = tt
@@ -73,7 +73,7 @@ module _ (s : Situation) (row : Row) (limits : IsWithinLimits s.shape) (within :
     over_now None is = row_ends s.shape row within limits block word is_block is_word s on_block (sym is)
     over_now (Some step) is = tt
 
-  pub begun_under_way : IsUnderWay (under_way s.shape (Some row)) (Ask row.core block word row.op)
+  pub begun_under_way : IsUnderWay (row_under_way s.shape (Some row)) (Ask row.core block word row.op)
   begun_under_way = its_block
 
   pub begun_enabled : ServesOnly s.shape nothing s → IsEnabled s (Ask row.core block word row.op)
@@ -101,7 +101,7 @@ begun_within s left rest row first within =
 pub begun_fit : (s : Situation) (left rest : List Row) (row : Row) (old : Option Row) → IsInOrder s left old → ServesOnly s.shape nothing s → left ≡ row ∷ rest → IsInOrder s rest (Some row)
 begun_fit s left rest row old fit serves first =
     let within = begun_within s left rest row first fit.within in
-    record { limits = fit.limits; within = within.1; begun = within.0; serves = serves_any s.shape s (under_way s.shape (Some row)) serves }
+    record { limits = fit.limits; within = within.1; begun = within.0; serves = serves_any s.shape s (row_under_way s.shape (Some row)) serves }
 
 pub none_and : {X : Type 0} (r : Option X) (P Q : Type 0) → Q → IfNone r P → IfNone r (P × Q)
 none_and None P Q q p = (p, q)
@@ -120,15 +120,15 @@ asks_nothing_more old new step none same = record {
     clash e = cc
 
 -- a move keeps what holds between steps
-pub in_order_moves : (s t : Situation) (left : List Row) (row : Option Row) (step : Step) (answer : Reply) (entry : Option Item) → IsInOrder s left row → IsUnderWay (under_way s.shape row) step
+pub in_order_moves : (s t : Situation) (left : List Row) (row : Option Row) (step : Step) (answer : Reply) (entry : Option Item) → IsInOrder s left row → IsUnderWay (row_under_way s.shape row) step
     → FirstMove s step answer t entry → IsInOrder t left row
 in_order_moves s t left row step answer entry fit its move =
     let e : t.shape ≡ s.shape = same_shape s t step answer entry move in
-    let serving = turn_rule.serves_on s t (under_way s.shape row) (under_way s.shape row) step answer entry fit.serves.serving move (λ k b h. h) its in
+    let serving = turn_rule.serves_on s t (row_under_way s.shape row) (row_under_way s.shape row) step answer entry fit.serves.serving move (λ k b h. h) its in
     record {
       limits = subst IsWithinLimits (sym e) fit.limits;
       within = subst (λ (x : Extent). All (IsRowWithin x) left) (sym e) fit.within;
       begun = subst (λ (x : Extent). IfSome row (IsRowWithin x)) (sym e) fit.begun;
-      serves = subst (λ (x : Extent). ServesOnly t.shape (under_way x row) t) (sym e)
+      serves = subst (λ (x : Extent). ServesOnly t.shape (row_under_way x row) t) (sym e)
           (record { shaped = refl; kept = turn_rule.keeps_well s t step answer entry fit.serves.kept move; serving = serving });
     }

@@ -18,7 +18,7 @@ use Rattle.snoop_model.specs.Turns.Serving.{steps_owed, has_transaction}
 use Rattle.snoop_engine.proofs.TakenLemmas.{run_more}
 use Rattle.snoop_trace.specs.declared.step.Work.{Work}
 use Rattle.snoop_engine.specs.Todo.{todo_of, left_in, works_of}
-use Rattle.snoop_engine.specs.Round.{Progress, Follows, IsDone}
+use Rattle.snoop_engine.specs.Round.{Progress, Advances, IsDone}
 use Rattle.snoop_engine.specs.Served.{Serves, asks_of, ask_of}
 use Rattle.snoop_engine.specs.Journey.{IsOnTheWay, IsAtTheEnd}
 
@@ -55,7 +55,7 @@ way_begins start = record {
 }
 
 module _ (start : Progress) (steps : List Step) (outcomes : List (Result Reply Refused)) (old : Progress) (way : IsOnTheWay start steps outcomes old) where
-  pub way_on : (new : Progress) (step : Step) (answer : Reply) → Follows old step answer new → IsOnTheWay start (steps ++ step ∷ []) (outcomes ++ Ok answer ∷ []) new
+  pub way_on : (new : Progress) (step : Step) (answer : Reply) → Advances old step answer new → IsOnTheWay start (steps ++ step ∷ []) (outcomes ++ Ok answer ∷ []) new
   way_on new step answer follows = record {
     run = run_more steps outcomes start.situation old.situation new.situation step (Ok answer) way.run (follows.entry, follows.move);
     taken = All-push IsOk outcomes (Ok answer) way.taken refl;

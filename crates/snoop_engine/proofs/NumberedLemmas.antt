@@ -3,7 +3,7 @@ use Rattle.std.proofs.Common.{◌≡◌, ℕ, ◌+◌, true, false, List, [], �
 use Rattle.std.specs.Prelude.{is_none}
 use Rattle.std.proofs.lemmas.Bool.{and_left, and_parts}
 use Rattle.snoop_model.specs.Pictures.Situation.{Situation}
-use Rattle.snoop_engine.specs.Chosen.{Chosen, is_chosen, is_shown, is_within}
+use Rattle.snoop_engine.specs.Chosen.{Chosen, is_chosen, is_shown, is_in_range}
 use Rattle.snoop_engine.specs.Frames.{Frame}
 use Rattle.snoop_engine.specs.Numbered.{Numbered, led_to, numbered_from}
 
@@ -24,11 +24,11 @@ led_on here [] frame = refl
 led_on here (f ∷ fs) frame = led_on f.after fs frame
 
 -- a step whose number is not chosen is not shown
-pub not_within : (choice : Chosen) (of : Option ℕ) (number : ℕ) → is_within choice number ≡ false → is_shown choice of number ≡ false
-not_within choice None number off = and_left (is_within choice number) (is_none choice.block) off
-not_within choice (Some block) number off = and_left (is_within choice number) (is_chosen choice.block block) off
+pub not_within : (choice : Chosen) (of : Option ℕ) (number : ℕ) → is_in_range choice number ≡ false → is_shown choice of number ≡ false
+not_within choice None number off = and_left (is_in_range choice number) (is_none choice.block) off
+not_within choice (Some block) number off = and_left (is_in_range choice number) (is_chosen choice.block block) off
 
 -- and the number of one that is shown is chosen
-pub within_of_shown : (choice : Chosen) (of : Option ℕ) (number : ℕ) → is_shown choice of number ≡ true → is_within choice number ≡ true
-within_of_shown choice None number on = (and_parts (is_within choice number) (is_none choice.block) on).0
-within_of_shown choice (Some block) number on = (and_parts (is_within choice number) (is_chosen choice.block block) on).0
+pub within_of_shown : (choice : Chosen) (of : Option ℕ) (number : ℕ) → is_shown choice of number ≡ true → is_in_range choice number ≡ true
+within_of_shown choice None number on = (and_parts (is_in_range choice number) (is_none choice.block) on).0
+within_of_shown choice (Some block) number on = (and_parts (is_in_range choice number) (is_chosen choice.block block) on).0

@@ -7,7 +7,7 @@ use Rattle.snoop_trace.specs.declared.step.Step.TheVariants.{Ask}
 use Rattle.snoop_engine.specs.declared.packed.Kind.{Kind}
 use Rattle.snoop_engine.specs.declared.packed.Kind.TheVariants as kind
 use Rattle.snoop_engine.specs.declared.packed.Head.{Head}
-use Rattle.snoop_engine.specs.Packed.{step_by, step_of, steps_in, stored_by, stored_in, worded_by, worded_in}
+use Rattle.snoop_engine.specs.Packed.{step_by, step_of_head, steps_in, stored_by, stored_in, worded_by, worded_in}
 
 -- a longer list begins as the list does
 first_on : (xs more : List ℕ) → 1 ≤ length xs → slice_index_or (xs ++ more) 0 0 ≡ slice_index_or xs 0 0
@@ -65,7 +65,7 @@ stored_more (k ∷ ks) h = let more = stored_more ks h in omega arith
 
 -- a head at the end, with its word and what it stores
 steps_more : (hs : List Head) (ws vs : List ℕ) (h : Head) (mw mv : List ℕ) → worded_in hs ≡ length ws → stored_in hs ≡ length vs
-    → steps_in (hs ++ h ∷ []) (ws ++ mw) (vs ++ mv) ≡ steps_in hs ws vs ++ step_of h (slice_index_or mw 0 0) (slice_index_or mv 0 0) ∷ []
+    → steps_in (hs ++ h ∷ []) (ws ++ mw) (vs ++ mv) ≡ steps_in hs ws vs ++ step_of_head h (slice_index_or mw 0 0) (slice_index_or mv 0 0) ∷ []
 steps_more [] [] [] h mw mv e f = refl
 steps_more [] (w ∷ ws) vs h mw mv e f = absurd (omega arith)
 steps_more [] [] (v ∷ vs) h mw mv e f = absurd (omega arith)
@@ -76,7 +76,7 @@ steps_more (k ∷ ks) ws vs h mw mv e f =
     let v : stored_by k.kind ≤ length vs = omega (arith, f) in
     let rest_w : worded_in ks ≡ length (drop (worded_by k.kind) ws) = omega (arith, e, w, length-drop (worded_by k.kind) ws) in
     let rest_v : stored_in ks ≡ length (drop (stored_by k.kind) vs) = omega (arith, f, v, length-drop (stored_by k.kind) vs) in
-    let here : Step = step_of k (slice_index_or ws 0 0) (slice_index_or vs 0 0) in
+    let here : Step = step_of_head k (slice_index_or ws 0 0) (slice_index_or vs 0 0) in
     ap (λ (s : Step). s ∷ steps_in (ks ++ h ∷ []) (drop n (ws ++ mw)) (drop m (vs ++ mv))) (step_on k.kind k ws mw vs mv w v)
     ∙ ap (λ (l : List ℕ). here ∷ steps_in (ks ++ h ∷ []) l (drop m (vs ++ mv))) (dropped_on (worded_by k.kind) ws mw (few_words k.kind) w)
     ∙ ap (λ (l : List ℕ). here ∷ steps_in (ks ++ h ∷ []) (drop n ws ++ mw) l) (dropped_on (stored_by k.kind) vs mv (few_values k.kind) v)
@@ -94,7 +94,7 @@ values_after hs hs2 hs3 vs vs2 more h same heads values one e =
     rw (heads, same, values) (let a = stored_more hs h in let b = length-append vs more in omega arith)
 
 pub steps_after : (hs hs2 hs3 : List Head) (ws ws2 mw vs vs2 mv : List ℕ) (h : Head) (step : Step) (old : List Step) → hs2 ≡ hs → hs3 ≡ hs2 ++ h ∷ []
-    → ws2 ≡ ws ++ mw → vs2 ≡ vs ++ mv → step_of h (slice_index_or mw 0 0) (slice_index_or mv 0 0) ≡ step
+    → ws2 ≡ ws ++ mw → vs2 ≡ vs ++ mv → step_of_head h (slice_index_or mw 0 0) (slice_index_or mv 0 0) ≡ step
     → worded_in hs ≡ length ws → stored_in hs ≡ length vs → steps_in hs ws vs ≡ old → steps_in hs3 ws2 vs2 ≡ old ++ step ∷ []
 steps_after hs hs2 hs3 ws ws2 mw vs vs2 mv h step old same heads words values is e f view =
     rw (heads, same, words, values)

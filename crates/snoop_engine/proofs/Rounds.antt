@@ -9,7 +9,7 @@ use Rattle.snoop_model.specs.Pictures.Situation.{Situation}
 use Rattle.snoop_model.specs.Turns.Quiet.{IsQuiet}
 use Rattle.snoop_model.specs.Turns.Serving.{IsServing, IsUnderWay}
 use Rattle.snoop_model.specs.Turns.TurnLaws.{TurnLaws}
-use Rattle.snoop_engine.specs.Todo.{Todo, todo_of, under_way, block_of}
+use Rattle.snoop_engine.specs.Todo.{Todo, todo_of, lanes_under_way, block_of_work}
 use Rattle.snoop_engine.specs.Round.{Progress, IsFit, IsIdle, IsUnasked, IsDone, IsEnabled, TakesUp, Finds}
 
 -- the turns may come in another order
@@ -44,7 +44,7 @@ pub all_done : TurnLaws → (s : Situation) (lanes : List Todo) (turns : List �
 all_done rule s lanes turns fit (Some first) is = tt
 all_done rule s lanes turns fit None is =
     let idle : (core : ℕ) → IsIdle (todo_of lanes core) = λ core. elim (fit.busy core) [ inl there ↦ absurd (none_left turns (sym is) core there) | inr h ↦ h ] in
-    let none : (core : ℕ) → under_way lanes core ≡ None = λ core. ap block_of (idle core).1 in
+    let none : (core : ℕ) → lanes_under_way lanes core ≡ None = λ core. ap block_of_work (idle core).1 in
     let serving : IsServing (λ core. None) s = record {
       waits = λ core i d lt. sym (none core) ∙ fit.serving.waits core i d lt;
       opened = λ block transaction open_here. sym (none transaction.core) ∙ fit.serving.opened block transaction open_here;
@@ -66,14 +66,14 @@ module _ (start loop : Progress) (so_far : IsUnasked start loop) where
       record { situation = same_too ∙ (same ∙ so_far.situation); left = subst L (sym lanes) left }
 
   -- a turn with a step finds it
-  pub found_on : (mid passed : Progress) (step : Step) → mid.situation ≡ loop.situation → TakesUp loop.lanes step mid.lanes → IsUnderWay (under_way mid.lanes) step → IsEnabled mid.situation step
+  pub found_on : (mid passed : Progress) (step : Step) → mid.situation ≡ loop.situation → TakesUp loop.lanes step mid.lanes → IsUnderWay (lanes_under_way mid.lanes) step → IsEnabled mid.situation step
       → passed.situation ≡ mid.situation → passed.lanes ≡ mid.lanes → Finds start step passed
   found_on mid passed step same takes its enabled same_too lanes =
       let taken : TakesUp start.lanes step mid.lanes = λ core. sym (so_far.left core) ∙ takes core in
       record {
         situation = same_too ∙ (same ∙ so_far.situation);
         takes_up = subst (λ (l : List Todo). TakesUp start.lanes step l) (sym lanes) taken;
-        under_way = subst (λ (l : List Todo). IsUnderWay (under_way l) step) (sym lanes) its;
+        under_way = subst (λ (l : List Todo). IsUnderWay (lanes_under_way l) step) (sym lanes) its;
         enabled = subst (λ (s : Situation). IsEnabled s step) (sym same_too) enabled;
       }
 

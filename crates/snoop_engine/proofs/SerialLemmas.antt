@@ -24,7 +24,7 @@ use Rattle.snoop_model.specs.Runs.Run.{TheRun}
 use Rattle.snoop_model.proofs.Turns.Laws.{turn_rule}
 use Rattle.snoop_engine.specs.Line.{line_texts}
 use Rattle.snoop_engine.specs.OneRow.{ServesOnly, ServesRow, nothing}
-use Rattle.snoop_engine.specs.Serial.{AsksAtRest, ComesToRest, ServesSerially, all_asks, ask_for, is_ask}
+use Rattle.snoop_engine.specs.Serial.{AsksAtRest, EndsQuiet, ServesSerially, all_asks, ask_for, is_ask}
 use Rattle.snoop_engine.specs.Served.{ask_of, asks_of}
 use Rattle.snoop_engine.specs.SimulatedSerial.{BeginsSerial, ReportsSerial}
 use Rattle.snoop_engine.specs.Todo.{work_of, works_of}
@@ -103,7 +103,7 @@ served_none protocol shape rows s a chunk at e =
 module _ (protocol : Protocol) (shape : Extent) (rows : List Row) (n : ℕ) (s : Situation) (a b : Option (List ℕ)) (chunk : List ℕ)
     (far : ServedSoFar protocol shape rows n s a b chunk) where
   -- nothing waits and nothing is open between two rows
-  comes_to_rest : ComesToRest protocol shape far.steps
+  comes_to_rest : EndsQuiet protocol shape far.steps
   comes_to_rest = record { outcomes = far.outcomes; reached = s; run = far.run; quiet = turn_rule.comes_to_rest s far.rest.serving far.rest.kept }
 
   apart_more : (row : Row) (steps : List Step) → all_asks steps ≡ [] → AsksAtRest protocol shape (far.steps ++ ask_for shape row ∷ steps)
@@ -113,9 +113,9 @@ module _ (protocol : Protocol) (shape : Extent) (rows : List Row) (n : ℕ) (s :
         | inr h ↦ second h.0 h.1.0 h.1.1
       ]
     where
-      second : (more : List Step) → before ≡ far.steps ++ more → ask_for shape row ∷ steps ≡ more ++ step ∷ after → ComesToRest protocol shape before
+      second : (more : List Step) → before ≡ far.steps ++ more → ask_for shape row ∷ steps ≡ more ++ step ∷ after → EndsQuiet protocol shape before
       second [] is split =
-          let R : List Step → Type 0 = λ l. ComesToRest protocol shape l in
+          let R : List Step → Type 0 = λ l. EndsQuiet protocol shape l in
           subst R (sym (is ∙ append-nil far.steps)) comes_to_rest
       second (m ∷ more) is split = absurd (none_asks steps more after step none (ap (λ (l : List Step). drop 1 l) split) its)
 

@@ -12,13 +12,13 @@ use Rattle.snoop_trace.proofs.GathersLemmas.{gathers_cut, gathers_done, gathers_
 use Rattle.snoop_trace.proofs.OutputLemmas.{appends_none}
 use Rattle.snoop_model.specs.Pictures.Situation.{Situation, reset}
 use Rattle.snoop_model.specs.Runs.Run.{GoesFirst, RunsGoOn, TheRun}
-use Rattle.snoop_engine.specs.Courses.{CanEnd, EndsWith, Leading, LeadsListed, LeadsOn}
-use Rattle.snoop_engine.specs.Fault.{written}
+use Rattle.snoop_engine.specs.Courses.{CanEnd, HoldsAtEnd, Leading, LeadsListed, LeadsOn}
+use Rattle.snoop_engine.specs.Fault.{fault_of_write}
 use Rattle.snoop_engine.specs.Frames.{AreFrames, Frame, FramesFrom, outcomes_of, steps_of}
 use Rattle.snoop_engine.specs.Inputs.{GivesSteps}
 use Rattle.snoop_engine.specs.SimulatedView.{BeginsToShow, ShowsRun, SimulatesView}
-use Rattle.snoop_engine.specs.Taken.{lines_of}
-use Rattle.snoop_engine.specs.Views.{IsNext, block_of, frame_seen, shown, view_text}
+use Rattle.snoop_engine.specs.Taken.{lines_of_step}
+use Rattle.snoop_engine.specs.Views.{IsNextSeen, block_of_step, frame_seen, shown, view_text}
 use Rattle.snoop_engine.specs.declared.fault.SimFault.{SimFault}
 use Rattle.snoop_engine.specs.declared.input.Input.{Input}
 use Rattle.snoop_engine.specs.declared.fault.SimFault.TheVariants.{Text, NoMemory, Write}
@@ -74,7 +74,7 @@ module _ (protocol : Protocol) (shape : Extent) (heading : List ℕ) (shows : Li
 
 -- nothing was written, and the course can go on to its end
 pub ends_with_nothing : (protocol : Protocol) (shape : Extent) (heading : List ℕ) (shows : List Frame → Frame → List ℕ) (ending : List Frame → Situation → List ℕ) (leads : Leading) → RunsGoOn → CanEnd leads
-    → (a : Option (List ℕ)) → EndsWith leads (λ steps. BeginsToShow protocol shape (view_text heading shows ending) steps a a)
+    → (a : Option (List ℕ)) → HoldsAtEnd leads (λ steps. BeginsToShow protocol shape (view_text heading shows ending) steps a a)
 ends_with_nothing protocol shape heading shows ending leads go_on end a = record {
   steps = end.steps;
   outcomes = end.outcomes;
@@ -111,7 +111,7 @@ module _ (protocol : Protocol) (shape : Extent) (heading : List ℕ) (shows : Pr
   -- what the view does with a step
   abbrev pub Sees : (Protocol → Extent → List Frame → Type 0) → Seen → Situation → List ℕ → Protocol → Extent → Type 0
   Sees after_it what after grown p s =
-      (frames : List Frame) (before : Situation) → seen p s frames → IsNext p s frames before what after
+      (frames : List Frame) (before : Situation) → seen p s frames → IsNextSeen p s frames before what after
       → after_it p s (frames ++ frame_seen before what after ∷ []) × (grown ≡ chunk ++ shows p s frames (frame_seen before what after))
 
   -- the run so far
@@ -120,7 +120,7 @@ module _ (protocol : Protocol) (shape : Extent) (heading : List ℕ) (shows : Pr
 
   -- one more step
   pub showing_more : (after_it : Protocol → Extent → List Frame → Type 0) (next : Leading) (what : Seen) (after : Situation) (grown : List ℕ) → what.number ≡ number + 1
-      → GoesFirst to what.step what.outcome after → what.lines.now ≡ lines_of to what.step what.outcome → what.block ≡ block_of to what.step
+      → GoesFirst to what.step what.outcome after → what.lines.now ≡ lines_of_step to what.step what.outcome → what.block ≡ block_of_step to what.step
       → LeadsOn now what.step what.outcome next → Sees after_it what after grown after.protocol after.shape
       → Showing protocol shape heading (shows protocol shape) (after_it protocol shape) first next what.number after a b grown
   showing_more after_it next what after grown counted goes lines block on sees =
@@ -155,7 +155,7 @@ module _ (protocol : Protocol) (shape : Extent) (heading : List ℕ) (shows : Pr
   module _ (ending : Protocol → Extent → List Frame → Situation → List ℕ) where
     -- what was begun
     abbrev pub Begun : Option (List ℕ) → Type 0
-    Begun c = EndsWith first (λ steps. BeginsToShow protocol shape (view_text heading (shows protocol shape) (ending protocol shape)) steps a c)
+    Begun c = HoldsAtEnd first (λ steps. BeginsToShow protocol shape (view_text heading (shows protocol shape) (ending protocol shape)) steps a c)
 
     -- the course can go on to its end, and something was written
     stopped : RunsGoOn → CanEnd now → (c : Option (List ℕ)) → ((rest : List ℕ) → AppendsFront a c ((heading ++ shown (shows protocol shape) [] far.frames) ++ rest)) → Begun c
@@ -193,7 +193,7 @@ module _ (protocol : Protocol) (shape : Extent) (heading : List ℕ) (shows : Pr
       are = record { whole = refl; run = far.run }
 
       -- all was written
-      pub showing_done : (c : Option (List ℕ)) → Appends b c grown → EndsWith first (λ steps. ShowsRun protocol shape (view_text heading (shows protocol shape) (ending protocol shape)) steps a c)
+      pub showing_done : (c : Option (List ℕ)) → Appends b c grown → HoldsAtEnd first (λ steps. ShowsRun protocol shape (view_text heading (shows protocol shape) (ending protocol shape)) steps a c)
       showing_done c p =
           let all = gathered_all first now (steps_of far.frames) far.leads final over in
           record {
@@ -232,20 +232,20 @@ module _ (protocol : Protocol) (shape : Extent) (heading : List ℕ) (shows : Pr
           }
 
 -- of steps that are all known, those that lead to the end are all of them
-pub all_listed : (P : List Step → Type 0) (left : List Step) (here : Situation) → EndsWith (LeadsListed left here) P → P left
+pub all_listed : (P : List Step → Type 0) (left : List Step) (here : Situation) → HoldsAtEnd (LeadsListed left here) P → P left
 all_listed P left here end = subst P end.way.0 end.holds
 
-pub all_listed_ok : {A E : Type 0} (r : Result A E) (P : List Step → Type 0) (left : List Step) (here : Situation) → OnOk r (EndsWith (LeadsListed left here) P) → OnOk r (P left)
+pub all_listed_ok : {A E : Type 0} (r : Result A E) (P : List Step → Type 0) (left : List Step) (here : Situation) → OnOk r (HoldsAtEnd (LeadsListed left here) P) → OnOk r (P left)
 all_listed_ok (Ok x) P left here h = all_listed P left here h
 all_listed_ok (Err e) P left here h = tt
 
-pub all_listed_err : {A E : Type 0} (r : Result A E) (P : List Step → Type 0) (left : List Step) (here : Situation) → OnErr r (EndsWith (LeadsListed left here) P) → OnErr r (P left)
+pub all_listed_err : {A E : Type 0} (r : Result A E) (P : List Step → Type 0) (left : List Step) (here : Situation) → OnErr r (HoldsAtEnd (LeadsListed left here) P) → OnErr r (P left)
 all_listed_err (Ok x) P left here h = tt
 all_listed_err (Err e) P left here h = all_listed P left here h
 
 -- a failed write, or out of memory, after the whole text was read
 pub simulates_view_front : (protocol : Protocol) (shape : Extent) (input : Input) (text : List Frame → Situation → List ℕ) (bytes : Option (List ℕ)) (steps : List Step) (fault : WriteFault) (result : Result (Unit {0}) SimFault) (old new : Option (List ℕ))
-    → result ≡ Err (written fault) → GivesSteps protocol shape input bytes steps → BeginsToShow protocol shape text steps old new → SimulatesView protocol shape input text bytes result old new
+    → result ≡ Err (fault_of_write fault) → GivesSteps protocol shape input bytes steps → BeginsToShow protocol shape text steps old new → SimulatesView protocol shape input text bytes result old new
 simulates_view_front protocol shape input text bytes steps write.Write result old new e gives begins = rw e (steps, (gives, begins))
 simulates_view_front protocol shape input text bytes steps write.NoMemory result old new e gives begins = rw e (steps, (gives, begins))
 

@@ -17,7 +17,7 @@ use Rattle.snoop_model.specs.declared.replies.Refused.{Refused}
 use Rattle.snoop_engine.specs.Written.{WritesFront, WritesLines}
 use Rattle.snoop_engine.specs.Simulated.{Begins, Reads, Reports, Simulates}
 use Rattle.snoop_engine.proofs.TakenLemmas.{report_words}
-use Rattle.snoop_engine.specs.Fault.{written}
+use Rattle.snoop_engine.specs.Fault.{fault_of_write}
 use Rattle.snoop_engine.specs.declared.fault.SimFault.{SimFault}
 use Rattle.snoop_trace.specs.declared.fault.WriteFault.{WriteFault}
 use Rattle.snoop_trace.specs.declared.fault.WriteFault.TheVariants as write
@@ -99,6 +99,6 @@ begins_nothing go_on protocol shape steps a =
 
 -- a failed write, or out of memory, after the whole text was read
 pub simulates_front : (protocol : Protocol) (shape : Extent) (input : Option (List ℕ)) (steps : List Step) (fault : WriteFault) (result : Result (Unit {0}) SimFault) (old new : Option (List ℕ))
-    → result ≡ Err (written fault) → Reads protocol shape input (Ok steps) → Begins protocol shape steps old new → Simulates protocol shape input result old new
+    → result ≡ Err (fault_of_write fault) → Reads protocol shape input (Ok steps) → Begins protocol shape steps old new → Simulates protocol shape input result old new
 simulates_front protocol shape input steps write.Write result old new e reads begins = rw e (steps, (reads, begins))
 simulates_front protocol shape input steps write.NoMemory result old new e reads begins = rw e (steps, (reads, begins))

@@ -7,8 +7,8 @@ use Rattle.snoop_model.specs.Pictures.Situation.{Situation}
 use Rattle.snoop_engine.specs.Frames.{Frame}
 use Rattle.snoop_engine.specs.Chosen.{Chosen, is_shown}
 use Rattle.snoop_engine.specs.States.{frame_text, header_text, shown_text, states_text, step_fields, taken_text}
-use Rattle.snoop_engine.specs.Taken.{lines_of}
-use Rattle.snoop_engine.specs.Views.{IsNext, block_of, frame_seen, shown, view_text}
+use Rattle.snoop_engine.specs.Taken.{lines_of_step}
+use Rattle.snoop_engine.specs.Views.{IsNextSeen, block_of_step, frame_seen, shown, view_text}
 use Rattle.snoop_engine.specs.declared.seen.Seen.{Seen}
 use Rattle.snoop_engine.proofs.ViewLemmas.{shown_numbered}
 use Rattle.snoop_engine.specs.declared.taken.Taken.{Taken}
@@ -20,15 +20,15 @@ states_view shape choice frames final =
     ∙ ap (λ (t : List ℕ). header_text ++ t) (shown_numbered (shown_text shape choice) [] frames)
 
 -- what is written of a step that is seen
-module _ (choice : Chosen) (frames : List Frame) (before : Situation) (seen : Seen) (after : Situation) (next : IsNext after.protocol after.shape frames before seen after) where
-  is_same : is_shown choice seen.block seen.number ≡ is_shown choice (block_of before seen.step) (1 + length frames)
-  is_same = ap (λ (b : Option ℕ). is_shown choice b seen.number) next.block ∙ ap (is_shown choice (block_of before seen.step)) next.number
+module _ (choice : Chosen) (frames : List Frame) (before : Situation) (seen : Seen) (after : Situation) (next : IsNextSeen after.protocol after.shape frames before seen after) where
+  is_same : is_shown choice seen.block seen.number ≡ is_shown choice (block_of_step before seen.step) (1 + length frames)
+  is_same = ap (λ (b : Option ℕ). is_shown choice b seen.number) next.block ∙ ap (is_shown choice (block_of_step before seen.step)) next.number
 
   pub text_shown : is_shown choice seen.block seen.number ≡ true
       → flat_map (λ taken. step_fields after.shape seen.number seen.step seen.outcome ++ taken_text after taken) seen.lines.now ≡ shown_text after.shape choice (1 + length frames) (frame_seen before seen after)
   text_shown here =
       ap (λ (l : List Taken). flat_map (λ taken. step_fields after.shape seen.number seen.step seen.outcome ++ taken_text after taken) l) next.lines
-      ∙ ap (λ (n : ℕ). flat_map (λ taken. step_fields after.shape n seen.step seen.outcome ++ taken_text after taken) (lines_of before seen.step seen.outcome)) next.number
+      ∙ ap (λ (n : ℕ). flat_map (λ taken. step_fields after.shape n seen.step seen.outcome ++ taken_text after taken) (lines_of_step before seen.step seen.outcome)) next.number
       ∙ ap (λ (b : Bool). cond b (frame_text after.shape (1 + length frames) (frame_seen before seen after)) []) (sym (sym is_same ∙ here))
 
   pub text_hidden : is_shown choice seen.block seen.number ≡ false → [] ≡ shown_text after.shape choice (1 + length frames) (frame_seen before seen after)

@@ -49,8 +49,8 @@ use Rattle.snoop_model.proofs.OneBlock.AfterMoves.{ask_line, order_here, respond
 use Rattle.snoop_model.proofs.Queues.Moves.{keeps_well, starts_well}
 use Rattle.snoop_model.proofs.Runs.GoOn.{IsSteady, steady_on}
 use Rattle.snoop_engine.specs.Frames.{Frame, FramesFrom}
-use Rattle.snoop_engine.specs.Taken.{event_asked, lines_of, of_arrival, of_arrival_at_memory, of_ask, of_core, of_holder, of_memory, of_order, of_request, of_requestor, of_respond, of_waiting_memory, refused_by, unless_i}
-use Rattle.snoop_engine.specs.TrueLines.{FitsStep, HasAllLines, ShowsRows, TakesRows}
+use Rattle.snoop_engine.specs.Taken.{event_asked, lines_of_step, of_arrival, of_arrival_at_memory, of_ask, of_core, of_holder, of_memory, of_order, of_request, of_requestor, of_respond, of_waiting_memory, refused_by, unless_i}
+use Rattle.snoop_engine.specs.TrueLines.{FitsStep, HasAllLines, ShowsRows, HasTakenRows}
 use Rattle.snoop_engine.proofs.AllLines.{asker_listed, cores_listed, memory_rows_listed}
 use Rattle.snoop_engine.specs.declared.taken.Taken.{Taken}
 use Rattle.snoop_engine.specs.declared.taken.Taken.TheVariants.{Core, Memory, Nobody}
@@ -321,7 +321,7 @@ module _ (old new : Situation) where
   refused_fits (Respond block) NoMemory refuses same = nobody_fits old new (Respond block) (Err NoMemory) None None
 
 -- the lines of one step
-step_fits : (old new : Situation) (step : Step) (outcome : Result Reply Refused) → IsSteady old → GoesFirst old step outcome new → All (FitsStep (here old new step outcome)) (lines_of old step outcome)
+step_fits : (old new : Situation) (step : Step) (outcome : Result Reply Refused) → IsSteady old → GoesFirst old step outcome new → All (FitsStep (here old new step outcome)) (lines_of_step old step outcome)
 step_fits old new step (Err cause) steady goes = refused_fits old new step cause goes.0 goes.1
 step_fits old new (Ask core block word asking) (Ok answer) steady goes =
     let m = goes.1 in
@@ -361,7 +361,7 @@ same_protocol old new (Order core) (Ok answer) goes = ap (λ (s : Situation). s.
 same_protocol old new (Respond block) (Ok answer) goes = ap (λ (s : Situation). s.protocol) goes.1.1.1.responds.after
 
 -- none is left out
-step_whole : (old new : Situation) (step : Step) (outcome : Result Reply Refused) → IsSteady old → GoesFirst old step outcome new → TakesRows outcome → HasAllLines (here old new step outcome)
+step_whole : (old new : Situation) (step : Step) (outcome : Result Reply Refused) → IsSteady old → GoesFirst old step outcome new → HasTakenRows outcome → HasAllLines (here old new step outcome)
 step_whole old new step (Ok answer) steady goes takes = record {
   cores = cores_listed old new step answer steady.0 goes;
   memory = memory_rows_listed old new step answer steady.0 goes;

@@ -23,10 +23,10 @@ is_chosen None block = true
 is_chosen (Some one) block = block == one
 
 -- a step of this number is shown, as far as its number goes
-abbrev pub is_within : Chosen → ℕ → Bool
-is_within choice number = nat_le choice.from number && nat_le number choice.to
+abbrev pub is_in_range : Chosen → ℕ → Bool
+is_in_range choice number = nat_le choice.from number && nat_le number choice.to
 
 -- the step of this block, if of any, and of this number is shown; where a block is named, a step of none is not
 abbrev pub is_shown : Chosen → Option ℕ → ℕ → Bool
-is_shown choice None number = is_within choice number && is_none choice.block
-is_shown choice (Some block) number = is_within choice number && is_chosen choice.block block
+is_shown choice None number = is_in_range choice number && is_none choice.block
+is_shown choice (Some block) number = is_in_range choice number && is_chosen choice.block block

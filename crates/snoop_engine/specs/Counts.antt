@@ -20,7 +20,7 @@ use Rattle.snoop_rules.specs.TableOrder.{cache_events, cache_states, memory_even
 use Rattle.snoop_history.specs.Totals.{capped}
 use Rattle.snoop_engine.specs.Frames.{Frame}
 use Rattle.snoop_engine.specs.Numbers.{event_number, memory_event_number, memory_state_number, state_number}
-use Rattle.snoop_engine.specs.Taken.{lines_of}
+use Rattle.snoop_engine.specs.Taken.{lines_of_step}
 use Rattle.snoop_engine.specs.declared.taken.Taken.{Taken}
 use Rattle.snoop_engine.specs.declared.taken.Taken.TheVariants.{Core, Memory, Nobody}
 
@@ -97,7 +97,7 @@ counts_text protocol counts of_memory = counts_header ++ cache_counts protocol c
 
 -- the lines of frames
 abbrev pub all_lines : List Frame → List Taken
-all_lines frames = flat_map (λ frame. lines_of frame.before frame.step frame.outcome) frames
+all_lines frames = flat_map (λ frame. lines_of_step frame.before frame.step frame.outcome) frames
 
 -- how often each row is taken in the frames; a count stops at the largest u64
 abbrev pub frames_counts_text : Protocol → List Frame → List ℕ

@@ -24,7 +24,7 @@ pub record CanEnd (leads : Leading) : Type 0 where
   pub way : leads steps outcomes final
 
 -- this holds of steps that lead to the end
-pub record EndsWith (leads : Leading) (all : List Step → Type 0) : Type 0 where
+pub record HoldsAtEnd (leads : Leading) (all : List Step → Type 0) : Type 0 where
   pub steps : List Step
   pub outcomes : List (Result Reply Refused)
   pub final : Situation

@@ -6,6 +6,6 @@ use Rattle.snoop_engine.specs.declared.fault.SimFault.{SimFault}
 use Rattle.snoop_engine.specs.declared.fault.SimFault.TheVariants.{NoMemory, Write}
 
 -- a simulation that could not write stops with the same fault
-abbrev pub written : WriteFault → SimFault
-written write.Write = Write
-written write.NoMemory = NoMemory
+abbrev pub fault_of_write : WriteFault → SimFault
+fault_of_write write.Write = Write
+fault_of_write write.NoMemory = NoMemory

@@ -24,16 +24,16 @@ pub record InOrder : Type 0 where
   pub row : Option Row
 
 -- the core of the row has its block under way, and no other core has any
-abbrev pub under_way : Extent → Option Row → ℕ → Option ℕ
-under_way shape None = nothing
-under_way shape (Some row) = only row.core (row.address / shape.block_bytes)
+abbrev pub row_under_way : Extent → Option Row → ℕ → Option ℕ
+row_under_way shape None = nothing
+row_under_way shape (Some row) = only row.core (row.address / shape.block_bytes)
 
 -- the rows lie within the shape, and the machine waits only for the row under way
 pub record IsInOrder (s : Situation) (left : List Row) (row : Option Row) : Type 0 where
   pub limits : IsWithinLimits s.shape
   pub within : All (IsRowWithin s.shape) left
   pub begun : IfSome row (IsRowWithin s.shape)
-  pub serves : ServesOnly s.shape (under_way s.shape row) s
+  pub serves : ServesOnly s.shape (row_under_way s.shape row) s
 
 -- the steps that may still come: three for each row that is left, and those that are owed
 abbrev pub remaining_in_order : InOrder → ℕ
@@ -50,7 +50,7 @@ pub record TakesUpNext (old : InOrder) (step : Step) (new : InOrder) : Type 0 wh
 pub record FindsInOrder (old : InOrder) (step : Step) (new : InOrder) : Type 0 where
   pub situation : new.situation ≡ old.situation
   pub takes_up : TakesUpNext old step new
-  pub under_way : IsUnderWay (under_way new.situation.shape new.row) step
+  pub under_way : IsUnderWay (row_under_way new.situation.shape new.row) step
   pub enabled : IsEnabled new.situation step
 
 -- the machine moves by the step

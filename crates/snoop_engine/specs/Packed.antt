@@ -25,8 +25,8 @@ step_by kind.Order head word value = Order head.core
 step_by kind.Respond head word value = Respond head.block
 
 -- the step of a head, with this word and this value where its kind has them
-abbrev pub step_of : Head → ℕ → ℕ → Step
-step_of head word value = step_by head.kind head word value
+abbrev pub step_of_head : Head → ℕ → ℕ → Step
+step_of_head head word value = step_by head.kind head word value
 
 -- the word that a step is of, as a list; a first word is left out
 abbrev pub words_of : Step → List ℕ
@@ -65,4 +65,4 @@ stored_in (head ∷ heads) = stored_by head.kind + stored_in heads
 abbrev pub steps_in : List Head → List ℕ → List ℕ → List Step
 steps_in [] words values = []
 steps_in (head ∷ heads) words values =
-    step_of head (slice_index_or words 0 0) (slice_index_or values 0 0) ∷ steps_in heads (drop (worded_by head.kind) words) (drop (stored_by head.kind) values)
+    step_of_head head (slice_index_or words 0 0) (slice_index_or values 0 0) ∷ steps_in heads (drop (worded_by head.kind) words) (drop (stored_by head.kind) values)

@@ -13,7 +13,7 @@ use Rattle.snoop_model.specs.Turns.Quiet.{IsQuiet}
 use Rattle.snoop_model.specs.Turns.Serving.{IsServing, IsUnderWay, steps_owed}
 use Rattle.snoop_model.specs.Invariant.WellKept.{IsWellKept}
 use Rattle.snoop_trace.specs.declared.step.Work.{Work}
-use Rattle.snoop_engine.specs.Todo.{Todo, todo_of, left_in, under_way}
+use Rattle.snoop_engine.specs.Todo.{Todo, todo_of, left_in, lanes_under_way}
 use Rattle.snoop_engine.specs.Served.{ask_of}
 
 -- the value of a driver: the machine's situation, what each core has to do, and the cores that may have a step, in the order of their turns
@@ -32,7 +32,7 @@ IsIdle todo = (todo.left ≡ []) × (todo.work ≡ None)
 
 -- what the core has under way is over: it may have anything else
 abbrev pub IsOver : List Todo → Situation → ℕ → Type 0
-IsOver lanes s core = (after : ℕ → Option ℕ) → ((other : ℕ) → other ≢ core → after other ≡ under_way lanes other) → IsServing after s
+IsOver lanes s core = (after : ℕ → Option ℕ) → ((other : ℕ) → other ≢ core → after other ≡ lanes_under_way lanes other) → IsServing after s
 
 -- no cause refuses the step
 abbrev pub IsEnabled : Situation → Step → Type 0
@@ -51,7 +51,7 @@ pub record IsTodoWithin (s : Situation) (todo : Todo) : Type 0 where
 pub record IsFit (s : Situation) (lanes : List Todo) (turns : List ℕ) : Type 0 where
   pub cores : length lanes ≡ s.shape.cores
   pub within : (core : ℕ) → IsTodoWithin s (todo_of lanes core)
-  pub serving : IsServing (under_way lanes) s
+  pub serving : IsServing (lanes_under_way lanes) s
   pub kept : IsWellKept s
   pub few : All (λ core. core < s.shape.cores) turns
   pub busy : (core : ℕ) → Contains turns core ⊎ IsIdle (todo_of lanes core)
@@ -64,11 +64,11 @@ remaining progress = 3 * left_in progress.lanes + steps_owed progress.situation
 pub record Finds (old : Progress) (step : Step) (new : Progress) : Type 0 where
   pub situation : new.situation ≡ old.situation
   pub takes_up : TakesUp old.lanes step new.lanes
-  pub under_way : IsUnderWay (under_way new.lanes) step
+  pub under_way : IsUnderWay (lanes_under_way new.lanes) step
   pub enabled : IsEnabled new.situation step
 
 -- the machine moves by the step, which its core has left first, and fewer steps may still come
-pub record Follows (old : Progress) (step : Step) (answer : Reply) (new : Progress) : Type 0 where
+pub record Advances (old : Progress) (step : Step) (answer : Reply) (new : Progress) : Type 0 where
   pub entry : Option Item
   pub move : FirstMove old.situation step answer new.situation entry
   pub takes_up : TakesUp old.lanes step new.lanes

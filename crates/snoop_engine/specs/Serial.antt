@@ -29,7 +29,7 @@ abbrev pub all_asks : List Step → List Step
 all_asks steps = filter is_ask steps
 
 -- after these steps from reset nothing waits and nothing is open
-pub record ComesToRest (protocol : Protocol) (shape : Extent) (steps : List Step) : Type 0 where
+pub record EndsQuiet (protocol : Protocol) (shape : Extent) (steps : List Step) : Type 0 where
   pub outcomes : List (Result Reply Refused)
   pub reached : Situation
   pub run : TheRun protocol shape steps outcomes reached
@@ -38,7 +38,7 @@ pub record ComesToRest (protocol : Protocol) (shape : Extent) (steps : List Step
 -- nothing waits and nothing is open before any Ask of the steps
 abbrev pub AsksAtRest : Protocol → Extent → List Step → Type 0
 AsksAtRest protocol shape steps =
-    (before after : List Step) (step : Step) → steps ≡ before ++ step ∷ after → is_ask step ≡ true → ComesToRest protocol shape before
+    (before after : List Step) (step : Step) → steps ≡ before ++ step ∷ after → is_ask step ≡ true → EndsQuiet protocol shape before
 
 -- the steps serve the rows, whose Asks come in the order of the text, each when nothing waits and nothing is open
 pub record ServesSerially (protocol : Protocol) (shape : Extent) (rows : List Row) (steps : List Step) (outcomes : List (Result Reply Refused)) (final : Situation) : Type 0 where

@@ -26,8 +26,8 @@ use Rattle.snoop_engine.specs.Chosen.{Chosen, is_shown}
 use Rattle.snoop_engine.specs.Line.{outcome_text}
 use Rattle.snoop_engine.specs.Frames.{Frame}
 use Rattle.snoop_engine.specs.Numbered.{numbered_from}
-use Rattle.snoop_engine.specs.Taken.{lines_of, memory_at, state_at}
-use Rattle.snoop_engine.specs.Views.{block_of}
+use Rattle.snoop_engine.specs.Taken.{lines_of_step, memory_at, state_at}
+use Rattle.snoop_engine.specs.Views.{block_of_step}
 use Rattle.snoop_engine.specs.declared.taken.Taken.{Taken}
 use Rattle.snoop_engine.specs.declared.taken.Taken.TheVariants.{Core, Memory, Nobody}
 
@@ -111,11 +111,11 @@ step_fields shape number step outcome = decimal number ++ codes ",\"" ++ step_te
 -- the lines of a step
 abbrev pub frame_text : Extent → ℕ → Frame → List ℕ
 frame_text shape number frame =
-    flat_map (λ taken. step_fields shape number frame.step frame.outcome ++ taken_text frame.after taken) (lines_of frame.before frame.step frame.outcome)
+    flat_map (λ taken. step_fields shape number frame.step frame.outcome ++ taken_text frame.after taken) (lines_of_step frame.before frame.step frame.outcome)
 
 -- the lines of a step, if it is shown
 abbrev pub shown_text : Extent → Chosen → ℕ → Frame → List ℕ
-shown_text shape choice number frame = if is_shown choice (block_of frame.before frame.step) number then frame_text shape number frame else []
+shown_text shape choice number frame = if is_shown choice (block_of_step frame.before frame.step) number then frame_text shape number frame else []
 
 -- the lines of those steps that are shown, where the first step has this number
 abbrev pub shown_texts : Extent → Chosen → ℕ → List Frame → List ℕ

@@ -116,6 +116,6 @@ refused_by s (Respond block) NoTransaction = Nobody None (Some block) ∷ []
 refused_by s _ _ = Nobody None None ∷ []
 
 -- a step, by the machine before it and what was answered
-abbrev pub lines_of : Situation → Step → Result Reply Refused → List Taken
-lines_of s step (Ok answer) = taken_by s step
-lines_of s step (Err cause) = refused_by s step cause
+abbrev pub lines_of_step : Situation → Step → Result Reply Refused → List Taken
+lines_of_step s step (Ok answer) = taken_by s step
+lines_of_step s step (Err cause) = refused_by s step cause

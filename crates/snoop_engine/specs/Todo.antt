@@ -24,13 +24,13 @@ abbrev pub todo_of : List Todo → ℕ → Todo
 todo_of lanes core = slice_index_or lanes core nothing_to_do
 
 -- the block of a work, if there is one
-abbrev pub block_of : Option Work → Option ℕ
-block_of None = None
-block_of (Some work) = Some work.block
+abbrev pub block_of_work : Option Work → Option ℕ
+block_of_work None = None
+block_of_work (Some work) = Some work.block
 
 -- the block on which each core has work under way
-abbrev pub under_way : List Todo → ℕ → Option ℕ
-under_way lanes core = block_of (todo_of lanes core).work
+abbrev pub lanes_under_way : List Todo → ℕ → Option ℕ
+lanes_under_way lanes core = block_of_work (todo_of lanes core).work
 
 -- how many rows are left in all
 abbrev pub left_in : List Todo → ℕ

@@ -19,7 +19,7 @@ use Rattle.snoop_model.specs.Pictures.Situation.{picture_of, state_of}
 use Rattle.snoop_model.specs.Moves.LookUps.{ConsultsCache, ConsultsMemory}
 use Rattle.snoop_model.specs.Moves.Move.{TakesFirst}
 use Rattle.snoop_engine.specs.Frames.{Frame}
-use Rattle.snoop_engine.specs.Taken.{lines_of}
+use Rattle.snoop_engine.specs.Taken.{lines_of_step}
 use Rattle.snoop_engine.specs.declared.taken.Taken.{Taken}
 use Rattle.snoop_engine.specs.declared.taken.Taken.TheVariants.{Core, Memory, Nobody}
 
@@ -57,20 +57,20 @@ DoesNothing (Order requestor) I = ⊤
 DoesNothing _ _ = ⊥
 
 -- rows are taken: the step is taken, or its Ask stalls, which is a row too
-abbrev pub TakesRows : Result Reply Refused → Type 0
-TakesRows (Ok answer) = ⊤
-TakesRows (Err (Stalled held)) = ⊤
-TakesRows _ = ⊥
+abbrev pub HasTakenRows : Result Reply Refused → Type 0
+HasTakenRows (Ok answer) = ⊤
+HasTakenRows (Err (Stalled held)) = ⊤
+HasTakenRows _ = ⊥
 
 -- no row is left out: each that a core looks up for an event has its line, but that of a core in I at an Order, and so has each of memory's
 pub record HasAllLines (frame : Frame) : Type 0 where
   pub cores : (core block : ℕ) (event : CacheEvent) → TakesFirst frame.before frame.step block → ConsultsCache frame.before frame.step core block (Some event)
-      → ¬ DoesNothing frame.step (state_of frame.before core block) → Contains (lines_of frame.before frame.step frame.outcome) (Core core block (Some event) (state_of frame.before core block))
+      → ¬ DoesNothing frame.step (state_of frame.before core block) → Contains (lines_of_step frame.before frame.step frame.outcome) (Core core block (Some event) (state_of frame.before core block))
   pub memory : (block : ℕ) (event : MemEvent) → TakesFirst frame.before frame.step block → ConsultsMemory frame.before frame.step block (Some event)
-      → Contains (lines_of frame.before frame.step frame.outcome) (Memory block event (picture_of frame.before block).memory.state)
+      → Contains (lines_of_step frame.before frame.step frame.outcome) (Memory block event (picture_of frame.before block).memory.state)
 
 -- each line of the frame fits its step, none is left out where rows are taken, and the protocol stays
 pub record ShowsRows (frame : Frame) : Type 0 where
   pub stays : frame.after.protocol ≡ frame.before.protocol
-  pub fit : All (FitsStep frame) (lines_of frame.before frame.step frame.outcome)
-  pub all : TakesRows frame.outcome → HasAllLines frame
+  pub fit : All (FitsStep frame) (lines_of_step frame.before frame.step frame.outcome)
+  pub all : HasTakenRows frame.outcome → HasAllLines frame

@@ -9,7 +9,7 @@ use Rattle.snoop_bus.specs.Queues.{queue_of}
 use Rattle.snoop_model.specs.Pictures.Situation.{Situation, reset}
 use Rattle.snoop_model.specs.Runs.Run.{GoesFirst}
 use Rattle.snoop_engine.specs.Frames.{Frame, FramesFrom}
-use Rattle.snoop_engine.specs.Taken.{lines_of}
+use Rattle.snoop_engine.specs.Taken.{lines_of_step}
 use Rattle.snoop_engine.specs.declared.seen.Seen.{Seen}
 
 -- what is shown of each of some frames, by the frames before it, of which these are the first
@@ -26,15 +26,15 @@ abbrev pub frame_seen : Situation → Seen → Situation → Frame
 frame_seen before seen after = record { step = seen.step; outcome = seen.outcome; before = before; after = after }
 
 -- the block that a step is of, by the machine before it; an Order is of the head of the core's queue
-abbrev pub block_of : Situation → Step → Option ℕ
-block_of s (Ask core block word asking) = Some block
-block_of s (Order core) = slice_get (queue_of s.queues core) 0
-block_of s (Respond block) = Some block
+abbrev pub block_of_step : Situation → Step → Option ℕ
+block_of_step s (Ask core block word asking) = Some block
+block_of_step s (Order core) = slice_get (queue_of s.queues core) 0
+block_of_step s (Respond block) = Some block
 
 -- what is seen is the next step of a run from reset, of which these are the frames so far
-pub record IsNext (protocol : Protocol) (shape : Extent) (frames : List Frame) (before : Situation) (seen : Seen) (after : Situation) : Type 0 where
+pub record IsNextSeen (protocol : Protocol) (shape : Extent) (frames : List Frame) (before : Situation) (seen : Seen) (after : Situation) : Type 0 where
   pub run : FramesFrom (reset protocol shape) frames before
   pub goes : GoesFirst before seen.step seen.outcome after
-  pub lines : seen.lines.now ≡ lines_of before seen.step seen.outcome
-  pub block : seen.block ≡ block_of before seen.step
+  pub lines : seen.lines.now ≡ lines_of_step before seen.step seen.outcome
+  pub block : seen.block ≡ block_of_step before seen.step
   pub number : seen.number ≡ 1 + length frames

@@ -41,7 +41,7 @@ impl Model for Choice {
 impl Choice {
     ghost use Rattle.std.specs.Prelude.{◌+◌, ◌==◌};
     ghost use Rattle.snoop_engine.specs.Choice.{IsBlock, IsChoice};
-    ghost use Rattle.snoop_engine.specs.Chosen.{is_chosen, is_shown, is_within};
+    ghost use Rattle.snoop_engine.specs.Chosen.{is_chosen, is_shown, is_in_range};
 
     /// The steps numbered `from` to `to`, of the block alone where one is named.
     ///
@@ -100,7 +100,7 @@ impl Choice {
 
     /// Whether a step of this number is shown, as far as its number goes.
     pub fn has_number(&self, number: u64) -> bool
-        ensures { result ≡ is_within self.now number }
+        ensures { result ≡ is_in_range self.now number }
     {
         self.from <= number && number <= self.to
     }

@@ -5,9 +5,9 @@ ghost use Rattle.snoop_model.specs.Moves.Move.{FirstMove};
 ghost use Rattle.snoop_model.specs.Pictures.Situation.{reset};
 ghost use Rattle.snoop_model.specs.Turns.Quiet.{IsQuiet};
 ghost use Rattle.snoop_model.specs.Turns.Serving.{IsUnderWay};
-ghost use Rattle.snoop_engine.specs.Todo.{IsAskedWithin, todo_of, under_way, left_in, works_by};
+ghost use Rattle.snoop_engine.specs.Todo.{IsAskedWithin, todo_of, lanes_under_way, left_in, works_by};
 ghost use Rattle.snoop_engine.specs.Served.{ask_of};
-ghost use Rattle.snoop_engine.specs.Round.{TakesUp, Finds, IsIdle, IsOver, IsEnabled, Follows, IsDone};
+ghost use Rattle.snoop_engine.specs.Round.{TakesUp, Finds, IsIdle, IsOver, IsEnabled, Advances, IsDone};
 
 use crate::asks::AskQueue;
 use crate::course::Course;
@@ -105,7 +105,7 @@ impl Driver {
     fn continued(&self, core: u32) -> Option<Step>
         requires core { core < self.now.situation.shape.cores }
         ensures asks_nothing { IfSome result (λ step. (k : ℕ) → ask_of k step ≡ None) }
-        ensures under_way { IfSome result (IsUnderWay (under_way self.now.lanes)) }
+        ensures lanes_under_way { IfSome result (IsUnderWay (lanes_under_way self.now.lanes)) }
         ensures enabled { IfSome result (IsEnabled self.now.situation) }
         ensures over { IfNone result (IsOver self.now.lanes self.now.situation core) }
     {
@@ -123,7 +123,7 @@ impl Driver {
         ensures turns { self.new.turns ≡ self.old.turns }
         ensures others { (k : ℕ) → k ≢ core → todo_of self.new.lanes k ≡ todo_of self.old.lanes k }
         ensures takes_up { IfSome result (λ step. TakesUp self.old.lanes step self.new.lanes) }
-        ensures under_way { IfSome result (IsUnderWay (under_way self.new.lanes)) }
+        ensures lanes_under_way { IfSome result (IsUnderWay (lanes_under_way self.new.lanes)) }
         ensures enabled { IfSome result (IsEnabled self.new.situation) }
         ensures idle { IfNone result (((todo_of self.old.lanes core).left ≡ []) × IsIdle (todo_of self.new.lanes core)) }
     {
@@ -140,7 +140,7 @@ impl Driver {
         ensures turns { self.new.turns ≡ self.old.turns }
         ensures others { (k : ℕ) → k ≢ core → todo_of self.new.lanes k ≡ todo_of self.old.lanes k }
         ensures takes_up { IfSome result (λ step. TakesUp self.old.lanes step self.new.lanes) }
-        ensures under_way { IfSome result (IsUnderWay (under_way self.new.lanes)) }
+        ensures lanes_under_way { IfSome result (IsUnderWay (lanes_under_way self.new.lanes)) }
         ensures enabled { IfSome result (IsEnabled self.new.situation) }
         ensures idle { IfNone result (((todo_of self.old.lanes core).left ≡ []) × IsIdle (todo_of self.new.lanes core)) }
     {
@@ -153,7 +153,7 @@ impl Driver {
     /// Takes the step.
     #[inline(always)]
     fn take_step(&mut self, step: Step) -> Result<Reply, NoMemory>
-        requires under_way { IsUnderWay (under_way self.old.lanes) step }
+        requires lanes_under_way { IsUnderWay (lanes_under_way self.old.lanes) step }
         requires enabled { IsEnabled self.old.situation step }
         ensures taken { IfOk result (λ reply. (entry : Option Item) × FirstMove self.old.situation step reply self.new.situation entry) }
         ensures lanes { self.new.lanes ≡ self.old.lanes }
@@ -185,7 +185,7 @@ impl Driver {
     /// Takes the next step, and answers it with its reply; `None` once every row is done. After `NoMemory` the run can't go on.
     #[inline(always)]
     pub(crate) fn next(&mut self) -> Result<Option<(Step, Reply)>, NoMemory>
-        ensures step { IfOk result (λ taken. IfSome taken (λ t. Follows self.old t.0 t.1 self.new)) }
+        ensures step { IfOk result (λ taken. IfSome taken (λ t. Advances self.old t.0 t.1 self.new)) }
         ensures done { IfOk result (λ taken. IfNone taken (IsDone self.old self.new)) }
     {
         let Some(step) = self.next_step() else {

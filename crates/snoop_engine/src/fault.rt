@@ -16,9 +16,9 @@ pub enum SimFault {
 
 impl From<WriteFault> for SimFault {
     ghost use Rattle.std.specs.Prelude.{◌≡◌};
-    ghost use Rattle.snoop_engine.specs.Fault.{written};
+    ghost use Rattle.snoop_engine.specs.Fault.{fault_of_write};
 
-    ghost from_gives = { λ e r. r ≡ written e };
+    ghost from_gives = { λ e r. r ≡ fault_of_write e };
 
     fn from(fault: WriteFault) -> Self {
         match fault {

@@ -3,7 +3,7 @@ ghost use Rattle.std.specs.Prelude.{◌≡◌, ◌<◌, ◌^◌, ◌++◌, ◌�
 ghost use Rattle.snoop_trace.specs.Grammar.{IsStepWithin};
 ghost use Rattle.snoop_trace.specs.declared.step.Step.TheVariants.{Ask};
 ghost use Rattle.snoop_engine.specs.declared.packed.Head.{Head};
-ghost use Rattle.snoop_engine.specs.Packed.{largest, step_by, step_of, stored_by, values_of, worded_by, words_of};
+ghost use Rattle.snoop_engine.specs.Packed.{largest, step_by, step_of_head, stored_by, values_of, worded_by, words_of};
 
 use snoop_trace::streams::Entries;
 use snoop_trace::{NoMemory, Op, Step};
@@ -56,7 +56,7 @@ impl Head {
     /// The head of a step.
     fn new(step: Step) -> Self
         requires { IsStepWithin largest step }
-        ensures step { step_of result (slice_index_or (words_of step) 0 0) (slice_index_or (values_of step) 0 0) ≡ step }
+        ensures step { step_of_head result (slice_index_or (words_of step) 0 0) (slice_index_or (values_of step) 0 0) ≡ step }
         ensures words { worded_by result.kind ≡ length (words_of step) }
         ensures values { stored_by result.kind ≡ length (values_of step) }
     {
@@ -86,7 +86,7 @@ impl Head {
 
     /// The step, with the word that it is of and the value that it stores, where its kind has them.
     fn step(self, word: u32, value: u64) -> Step
-        ensures { result ≡ step_of self word value }
+        ensures { result ≡ step_of_head self word value }
     {
         let core = self.core as u32;
         let block = self.block as u32;

@@ -6,7 +6,7 @@ ghost use Rattle.snoop_model.specs.Pictures.Situation.{reset};
 ghost use Rattle.snoop_model.specs.Turns.Quiet.{IsQuiet};
 ghost use Rattle.snoop_model.specs.Turns.Serving.{IsUnderWay};
 ghost use Rattle.snoop_trace.specs.Grammar.{IsRowWithin};
-ghost use Rattle.snoop_engine.specs.InOrder.{FollowsInOrder, IsDoneInOrder, TakesUpNext, under_way};
+ghost use Rattle.snoop_engine.specs.InOrder.{FollowsInOrder, IsDoneInOrder, TakesUpNext, row_under_way};
 ghost use Rattle.snoop_engine.specs.OneRow.{ServesOnly, nothing};
 ghost use Rattle.snoop_engine.specs.Round.{IsEnabled};
 ghost use Rattle.snoop_engine.specs.Serial.{is_ask};
@@ -62,7 +62,7 @@ impl<'a> SerialDriver<'a> {
     /// The next step of the row under way.
     fn continued(&self) -> Option<Step>
         ensures asks_nothing { IfSome result (λ step. is_ask step ≡ false) }
-        ensures under_way { IfSome result (IsUnderWay (under_way self.now.situation.shape self.now.row)) }
+        ensures row_under_way { IfSome result (IsUnderWay (row_under_way self.now.situation.shape self.now.row)) }
         ensures enabled { IfSome result (IsEnabled self.now.situation) }
         ensures over { IfNone result (ServesOnly self.now.situation.shape nothing self.now.situation) }
     {
@@ -78,7 +78,7 @@ impl<'a> SerialDriver<'a> {
         requires { ServesOnly self.old.situation.shape nothing self.old.situation }
         ensures machine { self.new.situation ≡ self.old.situation }
         ensures takes_up { IfSome result (λ step. TakesUpNext self.old step self.new) }
-        ensures under_way { IfSome result (IsUnderWay (under_way self.new.situation.shape self.new.row)) }
+        ensures row_under_way { IfSome result (IsUnderWay (row_under_way self.new.situation.shape self.new.row)) }
         ensures enabled { IfSome result (IsEnabled self.new.situation) }
         ensures done { IfNone result (self.old.left ≡ []) }
     {
@@ -100,7 +100,7 @@ impl<'a> SerialDriver<'a> {
     fn turn(&mut self) -> Option<Step>
         ensures machine { self.new.situation ≡ self.old.situation }
         ensures takes_up { IfSome result (λ step. TakesUpNext self.old step self.new) }
-        ensures under_way { IfSome result (IsUnderWay (under_way self.new.situation.shape self.new.row)) }
+        ensures row_under_way { IfSome result (IsUnderWay (row_under_way self.new.situation.shape self.new.row)) }
         ensures enabled { IfSome result (IsEnabled self.new.situation) }
         ensures done { IfNone result ((self.old.left ≡ []) × IsQuiet self.old.situation) }
     {
@@ -113,7 +113,7 @@ impl<'a> SerialDriver<'a> {
     /// Takes the step.
     #[inline(always)]
     fn take_step(&mut self, step: Step) -> Result<Reply, NoMemory>
-        requires under_way { IsUnderWay (under_way self.old.situation.shape self.old.row) step }
+        requires row_under_way { IsUnderWay (row_under_way self.old.situation.shape self.old.row) step }
         requires enabled { IsEnabled self.old.situation step }
         ensures taken { IfOk result (λ reply. (entry : Option Item) × FirstMove self.old.situation step reply self.new.situation entry) }
         ensures left { self.new.left ≡ self.old.left }

@@ -12,9 +12,9 @@ ghost use Rattle.snoop_model.specs.declared.replies.Refused.{Refused as Cause};
 ghost use Rattle.snoop_model.specs.Pictures.Situation.{Situation};
 ghost use Rattle.snoop_engine.specs.Askers.{AreAskers, AreOthersInI, IsHeadFor};
 ghost use Rattle.snoop_engine.specs.Courses.{LeadsOn};
-ghost use Rattle.snoop_engine.specs.Views.{block_of};
+ghost use Rattle.snoop_engine.specs.Views.{block_of_step};
 ghost use Rattle.snoop_engine.specs.declared.taken.Taken.TheVariants as Line;
-ghost use Rattle.snoop_engine.specs.Taken.{IsTransfer, lines_of, memory_at, of_arrival, of_arrival_at_memory, of_ask, of_core, of_holder, of_memory, of_request, of_requestor, of_respond, refused_by, state_at, taken_by, of_waiting_memory, unless_i};
+ghost use Rattle.snoop_engine.specs.Taken.{IsTransfer, lines_of_step, memory_at, of_arrival, of_arrival_at_memory, of_ask, of_core, of_holder, of_memory, of_request, of_requestor, of_respond, refused_by, state_at, taken_by, of_waiting_memory, unless_i};
 
 use crate::askers::Askers;
 use crate::course::Course;
@@ -417,7 +417,7 @@ pub(crate) fn take_step<C: Course>(
     ensures goes { IfOk result (λ outcome. GoesFirst (C.situation course.old) step outcome (C.situation course.new)) }
     ensures fewer { (before : C) → C.finds before step course.old → IfOk result (λ outcome. C.left course.new < C.left before) }
     ensures leads { (before : C) → C.finds before step course.old → IfOk result (λ outcome. LeadsOn (C.leads before) step outcome (C.leads course.new)) }
-    ensures lines { IfOk result (λ outcome. lines.new.items ≡ lines_of (C.situation course.old) step outcome) }
+    ensures lines { IfOk result (λ outcome. lines.new.items ≡ lines_of_step (C.situation course.old) step outcome) }
     ensures askers { IfOk result (λ outcome. AreAskers (C.situation course.new) askers.new.sets) }
 {
     let machine = course.machine();
@@ -449,7 +449,7 @@ pub(crate) fn head_for(machine: &Machine, step: Step) -> Option<(Request, u32)>
 /// The block that a step is of: that of an Ask or a Respond, at an Order that of the core's oldest request, which is handed
 /// in; `None` where none waits.
 pub(crate) fn block_of(step: Step, head: Option<(Request, u32)>) -> Option<u32>
-    ensures { (s : Situation) → IsHeadFor s step head → result ≡ block_of s step }
+    ensures { (s : Situation) → IsHeadFor s step head → result ≡ block_of_step s step }
 {
     match step {
         Step::Ask {

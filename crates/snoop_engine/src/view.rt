@@ -4,7 +4,7 @@ ghost use Rattle.snoop_trace.specs.Extent.{Extent};
 ghost use Rattle.snoop_trace.specs.declared.protocol.Protocol.{Protocol};
 ghost use Rattle.snoop_model.specs.Pictures.Situation.{Situation, reset};
 ghost use Rattle.snoop_engine.specs.Frames.{Frame, FramesFrom};
-ghost use Rattle.snoop_engine.specs.Views.{IsNext, frame_seen};
+ghost use Rattle.snoop_engine.specs.Views.{IsNextSeen, frame_seen};
 
 use crate::seen::Seen;
 use snoop_machine::Machine;

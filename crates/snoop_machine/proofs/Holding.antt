@@ -19,7 +19,7 @@ use Rattle.snoop_model.proofs.Tables.EvictInI.{no_row}
 use Rattle.snoop_machine.specs.declared.ask.Asked.TheVariants.{Issue}
 use Rattle.snoop_machine.specs.declared.plan.Plan.{Plan}
 use Rattle.snoop_machine.specs.declared.plan.Plan.TheVariants as plan
-use Rattle.snoop_machine.specs.Plan.{IsPlan, IsPlanFor, step_of}
+use Rattle.snoop_machine.specs.Plan.{IsPlan, IsPlanFor, planned_step}
 use Rattle.snoop_machine.specs.Following.{LosesLines, AddsLines}
 
 -- a core that leaves I on a block moves to I on none
@@ -40,7 +40,7 @@ stays_out before new (step.Ask asker block word asking) core answer entry m leav
 stays_out before new _ core answer entry m leaves moved = leaves
 
 -- the room for a step adds a line where the step needs one
-adds_plan : (old new : Standing) (x : Plan) (core : ℕ) → IsPlan old.situation x → AddsLines x old new core → (line_count new core ≡ line_count old core) ⊎ (NeedsLine old (step_of x) core × (line_count new core ≡ line_count old core + 1))
+adds_plan : (old new : Standing) (x : Plan) (core : ℕ) → IsPlan old.situation x → AddsLines x old new core → (line_count new core ≡ line_count old core) ⊎ (NeedsLine old (planned_step x) core × (line_count new core ≡ line_count old core + 1))
 adds_plan old new (plan.Ask asker block word asking (Issue request next)) core h (inl same) = inl same
 adds_plan old new (plan.Ask asker block word asking (Issue request next)) core h (inr more) =
     let s = old.situation in

@@ -9,8 +9,8 @@ use Rattle.snoop_machine.specs.declared.holders.Holders.{Holders}
 use Rattle.snoop_model.specs.Pictures.Lines.{Line}
 use Rattle.snoop_model.specs.Pictures.Proper.{IsProper}
 use Rattle.snoop_machine.specs.Holders.{HaveFollowed}
-use Rattle.snoop_machine.specs.Cache.{Contents, no_cache, line_of, line_in, blocks_of, KeepsMapRoom}
-use Rattle.snoop_machine.specs.Lines.{Held, AreLines, KeepsMapsRoom, held, rows_of, gone, line_at, is_among}
+use Rattle.snoop_machine.specs.Cache.{Contents, no_cache, line_found, line_in, blocks_of, KeepsMapRoom}
+use Rattle.snoop_machine.specs.Lines.{Held, AreLines, KeepsMapsRoom, held, held_by_block, gone, line_at, is_among}
 use Rattle.snoop_machine.proofs.MapRows.{rows-set, blocks-at, spare-at, blocks-same, count-same, length-blocks_of, among-lookup}
 use Rattle.snoop_machine.proofs.LineMaps.{IsMap, blocks_seen, spare_seen, maps-long, gone-none, gone-one, is_I}
 use Rattle.snoop_machine.proofs.LineParts.{AreLines-followed}
@@ -44,7 +44,7 @@ pub record HasWritten (caches : List Contents) (holders : List Holders) (now : H
 module _ {caches : List Contents} {holders : List Holders} {now : Held} {core block : ℕ} {line : Line} {old new : Contents} {after : List Holders}
     (wrote : HasWritten caches holders now core block line old new after) (lines : AreLines caches holders) (view : held caches holders ≡ now) where
   elsewhere : (b : ℕ) → nat_eq block b ≡ false → line_in new b ≡ line_in (slice_index_or caches core no_cache) b
-  elsewhere b ne = ap line_of (wrote.others b ne) ∙ ap (λ (cache : Contents). line_in cache b) wrote.map.read
+  elsewhere b ne = ap line_found (wrote.others b ne) ∙ ap (λ (cache : Contents). line_in cache b) wrote.map.read
 
   long : length after ≡ length holders
   long = ap (λ (l : List Holders). length l) wrote.followed.set ∙ length-set holders block wrote.followed.moved
@@ -53,9 +53,9 @@ module _ {caches : List Contents} {holders : List Holders} {now : Held} {core bl
   lines_after =
       AreLines-followed lines core new wrote.map.in_cores block line after wrote.map.in_blocks wrote.proper wrote.here elsewhere wrote.followed
 
-  pub rows_wrote : rows_of (length after) (slice_set caches core new) ≡ slice_set now.rows block (slice_set (slice_index_or now.rows block []) core line)
+  pub rows_wrote : held_by_block (length after) (slice_set caches core new) ≡ slice_set now.rows block (slice_set (slice_index_or now.rows block []) core line)
   rows_wrote =
-      ap (λ (n : ℕ). rows_of n (slice_set caches core new)) long
+      ap (λ (n : ℕ). held_by_block n (slice_set caches core new)) long
       ∙ (rows-set (length holders) caches core block new line wrote.map.in_blocks wrote.here elsewhere
       ∙ ap (λ (h : Held). slice_set h.rows block (slice_set (slice_index_or h.rows block []) core line)) view)
 

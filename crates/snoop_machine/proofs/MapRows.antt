@@ -10,16 +10,16 @@ use Rattle.snoop_model.specs.Pictures.Lines.{Line}
 use Rattle.snoop_model.specs.Pictures.Picture.{held_at, nothing_held}
 use Rattle.snoop_machine.specs.declared.holders.Holders.{Holders}
 use Rattle.snoop_machine.specs.Holders.{AreHolders, HaveMoved}
-use Rattle.snoop_machine.specs.Cache.{Contents, no_cache, line_in, blocks_of, row_in}
-use Rattle.snoop_machine.specs.Lines.{rows_of, is_among, line_at}
+use Rattle.snoop_machine.specs.Cache.{Contents, no_cache, line_in, blocks_of, held_in}
+use Rattle.snoop_machine.specs.Lines.{held_by_block, is_among, line_at}
 
-pub length-rows : (blocks : ℕ) (caches : List Contents) → length (rows_of blocks caches) ≡ blocks
-length-rows blocks caches = length-map-range_with_len (row_in caches) 0 blocks
+pub length-rows : (blocks : ℕ) (caches : List Contents) → length (held_by_block blocks caches) ≡ blocks
+length-rows blocks caches = length-map-range_with_len (held_in caches) 0 blocks
 
-pub row-rows : (blocks : ℕ) (caches : List Contents) (block : ℕ) → block < blocks → slice_index_or (rows_of blocks caches) block [] ≡ row_in caches block
-row-rows blocks caches block h = get_or-map-range_with_len (row_in caches) 0 blocks block block [] h (omega arith)
+pub row-rows : (blocks : ℕ) (caches : List Contents) (block : ℕ) → block < blocks → slice_index_or (held_by_block blocks caches) block [] ≡ held_in caches block
+row-rows blocks caches block h = get_or-map-range_with_len (held_in caches) 0 blocks block block [] h (omega arith)
 
-pub length-row : (caches : List Contents) (block : ℕ) → length (row_in caches block) ≡ length caches
+pub length-row : (caches : List Contents) (block : ℕ) → length (held_in caches block) ≡ length caches
 length-row caches block = length-map caches (λ cache. line_in cache block)
 
 -- an entry of a mapped list
@@ -28,33 +28,33 @@ get_or-mapped f [] d i = refl
 get_or-mapped f (x ∷ xs) d zero = refl
 get_or-mapped f (x ∷ xs) d (suc i) = get_or-mapped f xs d i
 
-pub line-row : (caches : List Contents) (core block : ℕ) → held_at (row_in caches block) core ≡ line_in (slice_index_or caches core no_cache) block
+pub line-row : (caches : List Contents) (core block : ℕ) → held_at (held_in caches block) core ≡ line_in (slice_index_or caches core no_cache) block
 line-row caches core block = get_or-mapped (λ cache. line_in cache block) caches no_cache core
 
 -- a map whose line of the block is as it was leaves the row as it was
 pub row-same : (caches : List Contents) (core block : ℕ) (new : Contents) → line_in new block ≡ line_in (slice_index_or caches core no_cache) block
-    → row_in (slice_set caches core new) block ≡ row_in caches block
+    → held_in (slice_set caches core new) block ≡ held_in caches block
 row-same caches core block new same =
     map-set (λ cache. line_in cache block) caches core new
-    ∙ (ap (λ (x : Line). slice_set (row_in caches block) core x) (same ∙ sym (line-row caches core block)) ∙ set-get_or (row_in caches block) core nothing_held)
+    ∙ (ap (λ (x : Line). slice_set (held_in caches block) core x) (same ∙ sym (line-row caches core block)) ∙ set-get_or (held_in caches block) core nothing_held)
 
 pub rows-same : (blocks : ℕ) (caches : List Contents) (core : ℕ) (new : Contents) → ((b : ℕ) → line_in new b ≡ line_in (slice_index_or caches core no_cache) b)
-    → rows_of blocks (slice_set caches core new) ≡ rows_of blocks caches
+    → held_by_block blocks (slice_set caches core new) ≡ held_by_block blocks caches
 rows-same blocks caches core new same = λ i. map (λ b. row-same caches core b new (same b) i) (range_with_len 0 blocks)
 
 -- the row of a block after one line of it is written
-pub row-set : (caches : List Contents) (core block : ℕ) (new : Contents) (line : Line) → line_in new block ≡ line → row_in (slice_set caches core new) block ≡ slice_set (row_in caches block) core line
-row-set caches core block new line here = map-set (λ cache. line_in cache block) caches core new ∙ ap (λ (x : Line). slice_set (row_in caches block) core x) here
+pub row-set : (caches : List Contents) (core block : ℕ) (new : Contents) (line : Line) → line_in new block ≡ line → held_in (slice_set caches core new) block ≡ slice_set (held_in caches block) core line
+row-set caches core block new line here = map-set (λ cache. line_in cache block) caches core new ∙ ap (λ (x : Line). slice_set (held_in caches block) core x) here
 
 pub rows-set : (blocks : ℕ) (caches : List Contents) (core block : ℕ) (new : Contents) (line : Line) → block < blocks
     → line_in new block ≡ line → ((b : ℕ) → nat_eq block b ≡ false → line_in new b ≡ line_in (slice_index_or caches core no_cache) b)
-    → rows_of blocks (slice_set caches core new) ≡ slice_set (rows_of blocks caches) block (slice_set (slice_index_or (rows_of blocks caches) block []) core line)
+    → held_by_block blocks (slice_set caches core new) ≡ slice_set (held_by_block blocks caches) block (slice_set (slice_index_or (held_by_block blocks caches) block []) core line)
 rows-set blocks caches core block new line inside here others =
-    let rows = rows_of blocks caches in
+    let rows = held_by_block blocks caches in
     let row = slice_set (slice_index_or rows block []) core line in
-    let long : length (rows_of blocks (slice_set caches core new)) ≡ blocks = length-rows blocks (slice_set caches core new) in
+    let long : length (held_by_block blocks (slice_set caches core new)) ≡ blocks = length-rows blocks (slice_set caches core new) in
     let long_rows : length rows ≡ blocks = length-rows blocks caches in
-    ext_get_or [] (rows_of blocks (slice_set caches core new)) (slice_set rows block row) (long ∙ sym (length-set rows block row ∙ long_rows))
+    ext_get_or [] (held_by_block blocks (slice_set caches core new)) (slice_set rows block row) (long ∙ sym (length-set rows block row ∙ long_rows))
     (λ b h.
     let within : b < blocks = omega arith in
     elim (cases_eq b block) [
@@ -75,24 +75,24 @@ rows-set blocks caches core block new line inside here others =
     ])
 
 -- a place within the rows is within the maps
-pub within-rows : (blocks : ℕ) (caches : List Contents) (core block : ℕ) → block < length (rows_of blocks caches) → core < length (slice_index_or (rows_of blocks caches) block [])
+pub within-rows : (blocks : ℕ) (caches : List Contents) (core block : ℕ) → block < length (held_by_block blocks caches) → core < length (slice_index_or (held_by_block blocks caches) block [])
     → (block < blocks) × (core < length caches)
 within-rows blocks caches core block in_rows in_row =
-    let long : length (rows_of blocks caches) ≡ blocks = length-rows blocks caches in
+    let long : length (held_by_block blocks caches) ≡ blocks = length-rows blocks caches in
     let in_block : block < blocks = omega arith in
-    let wide : length (slice_index_or (rows_of blocks caches) block []) ≡ length caches = ap length (row-rows blocks caches block in_block) ∙ length-row caches block in
+    let wide : length (slice_index_or (held_by_block blocks caches) block []) ≡ length caches = ap length (row-rows blocks caches block in_block) ∙ length-row caches block in
     (in_block, omega arith)
 
-pub line-rows : (blocks : ℕ) (caches : List Contents) (core block : ℕ) → block < blocks → line_at (rows_of blocks caches) core block ≡ line_in (slice_index_or caches core no_cache) block
+pub line-rows : (blocks : ℕ) (caches : List Contents) (core block : ℕ) → block < blocks → line_at (held_by_block blocks caches) core block ≡ line_in (slice_index_or caches core no_cache) block
 line-rows blocks caches core block h = ap (λ (r : List Line). held_at r core) (row-rows blocks caches block h) ∙ line-row caches core block
 
 -- a block without a line in any map, and a block that there is not, is held by none
-pub line-none : (blocks : ℕ) (caches : List Contents) (core block : ℕ) → line_in (slice_index_or caches core no_cache) block ≡ nothing_held → line_at (rows_of blocks caches) core block ≡ nothing_held
+pub line-none : (blocks : ℕ) (caches : List Contents) (core block : ℕ) → line_in (slice_index_or caches core no_cache) block ≡ nothing_held → line_at (held_by_block blocks caches) core block ≡ nothing_held
 line-none blocks caches core block none = elim (cases_lt block blocks) [
   | inl inside ↦ line-rows blocks caches core block inside ∙ none
   | inr outside ↦
       let long = length-rows blocks caches in
-      ap (λ (r : List Line). held_at r core) (get_or_past (rows_of blocks caches) block [] (omega arith))
+      ap (λ (r : List Line). held_at r core) (get_or_past (held_by_block blocks caches) block [] (omega arith))
 ]
 
 -- the holders of a block are those of its row, once one of its lines has moved
@@ -121,18 +121,18 @@ module _ (caches : List Contents) (empty : (core : ℕ) → (slice_index_or cach
   pub line-empty : (core block : ℕ) → line_in (slice_index_or caches core no_cache) block ≡ nothing_held
   line-empty core block = rw (empty core)
 
-  pub row-empty : (block : ℕ) → row_in caches block ≡ replicate (length caches) nothing_held
+  pub row-empty : (block : ℕ) → held_in caches block ≡ replicate (length caches) nothing_held
   row-empty block =
-      ext_get_or nothing_held (row_in caches block) (replicate (length caches) nothing_held) (length-row caches block ∙ sym (length-replicate (length caches) nothing_held))
+      ext_get_or nothing_held (held_in caches block) (replicate (length caches) nothing_held) (length-row caches block ∙ sym (length-replicate (length caches) nothing_held))
       (λ k h.
       let long = length-row caches block in
       rw (line-row caches k block, line-empty k block, get_or-replicate (length caches) k nothing_held nothing_held (omega arith)))
 
-  pub rows-empty : (blocks : ℕ) → rows_of blocks caches ≡ replicate blocks (replicate (length caches) nothing_held)
+  pub rows-empty : (blocks : ℕ) → held_by_block blocks caches ≡ replicate blocks (replicate (length caches) nothing_held)
   rows-empty blocks =
-      ext_get_or [] (rows_of blocks caches) (replicate blocks (replicate (length caches) nothing_held)) (length-rows blocks caches ∙ sym (length-replicate blocks (replicate (length caches) nothing_held)))
+      ext_get_or [] (held_by_block blocks caches) (replicate blocks (replicate (length caches) nothing_held)) (length-rows blocks caches ∙ sym (length-replicate blocks (replicate (length caches) nothing_held)))
       (λ b h.
-      let long : length (rows_of blocks caches) ≡ blocks = length-rows blocks caches in
+      let long : length (held_by_block blocks caches) ≡ blocks = length-rows blocks caches in
       let within : b < blocks = omega arith in
       rw (row-rows blocks caches b within, row-empty b, get_or-replicate blocks b (replicate (length caches) nothing_held) [] within))
 

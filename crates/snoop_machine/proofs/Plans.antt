@@ -38,7 +38,7 @@ use Rattle.snoop_model.specs.Moves.Move.{Performs, Takes, Fills, FillsRequestor,
 use Rattle.snoop_model.specs.Moves.Refuses.{Refuses, RefusedFor}
 use Rattle.snoop_machine.specs.Prepared.{room_to, IsFull, IsPrepared}
 use Rattle.snoop_model.proofs.Tables.EvictInI.{no_row}
-use Rattle.snoop_machine.specs.Plan.{IsPlan, IsPlanFor, HasRoom, HasRoomToAsk, step_of, room_for, room_for_ask, entry_of, entry_of_ask}
+use Rattle.snoop_machine.specs.Plan.{IsPlan, IsPlanFor, HasRoom, HasRoomToAsk, planned_step, room_for, room_for_ask, entry_of, entry_of_ask}
 
 -- the action of the row that an Ask takes
 abbrev pub act_of : Asked → CacheAction
@@ -97,7 +97,7 @@ opened_of : (o : Option Open) (came : Came) → option_map came_of o ≡ Some ca
 opened_of None came e = cc
 opened_of (Some closing) came e = (closing, (refl, same_Some _ _ e))
 
-pub plan-allowed : (s : Situation) (x : Plan) → IsPlan s x → (cause : Refused) → ¬ Refuses s (step_of x) cause
+pub plan-allowed : (s : Situation) (x : Plan) → IsPlan s x → (cause : Refused) → ¬ Refuses s (planned_step x) cause
 plan-allowed s (plan.Ask core block word asking way) h = ask-allowed s core block word asking way h.0.0 h.0.1 h.3 h.1
 plan-allowed s (plan.Order core request block from payload memory) h = order-allowed s core block request h.0 h.1.head h.1.free
 plan-allowed s (plan.Writeback came memory) h = let k = opened_of (picture_of s came.block).transaction came h.1.opened in respond-allowed s came.block k.0 h.0 k.1.0
@@ -147,7 +147,7 @@ fills-adds closing p log old new did line asking value f t =
     rw (← same, ← its) f.logged
 
 -- a planned step adds the plan's item, whatever move it is
-pub plan-adds : (s : Situation) (x : Plan) → IsPlan s x → (answer : Reply) (new : Situation) (added : Option Item) → FirstMove s (step_of x) answer new added → added ≡ entry_of s.log x
+pub plan-adds : (s : Situation) (x : Plan) → IsPlan s x → (answer : Reply) (new : Situation) (added : Option Item) → FirstMove s (planned_step x) answer new added → added ≡ entry_of s.log x
 plan-adds s (plan.Ask core block word asking way) h answer new added m =
     ask-adds s core block word asking answer new added way h.1 (rw (← m.1.1.on_block) at m.1.1.moves)
 plan-adds s (plan.Order core request block from payload memory) h answer new added m =
@@ -177,7 +177,7 @@ plan-adds s (plan.Fill came memory filled) h answer new added m =
     rw (← k.1.1, ← did, ← same) m.1.1.logged
 
 -- where the plan has room the step has it
-pub plan-room : (before : Standing) (x : Plan) → IsPlan before.situation x → 0 < room_for before x → ¬ IsFull before (step_of x)
+pub plan-room : (before : Standing) (x : Plan) → IsPlan before.situation x → 0 < room_for before x → ¬ IsFull before (planned_step x)
 plan-room before (plan.Ask core block word asking way) h some full =
     let s = before.situation in
     elim (row_found s.protocol (held_by (picture_of s block) core) word asking way h.1) [
@@ -196,7 +196,7 @@ plan-room before (plan.Ask core block word asking way) h some full =
 plan-room before _ h some full = absurd (omega arith)
 
 -- where the plan has no room the step has none
-plan-full : (before : Standing) (x : Plan) → IsPlan before.situation x → room_for before x ≡ 0 → IsFull before (step_of x)
+plan-full : (before : Standing) (x : Plan) → IsPlan before.situation x → room_for before x ≡ 0 → IsFull before (planned_step x)
 plan-full before (plan.Ask core block word asking Absent) h none = absurd (omega arith)
 plan-full before (plan.Ask core block word asking (Hit next value)) h none = (action.Hit, (next, (h.1.0, none)))
 plan-full before (plan.Ask core block word asking (Issue request next)) h none = (action.Issue request, (next, (h.1, none)))

@@ -32,20 +32,20 @@ abbrev pub KeepsMapRoom : Contents → Contents → Type 0
 KeepsMapRoom old new = old.spare ≤ new.spare + (length new.entries - length old.entries)
 
 -- the line that a map has, or that of a block of which the cache holds nothing
-abbrev pub line_of : Option Line → Line
-line_of found = unwrap_or found nothing_held
+abbrev pub line_found : Option Line → Line
+line_found found = unwrap_or found nothing_held
 
 -- the block's line in a map
 abbrev pub line_in : Contents → ℕ → Line
-line_in cache block = line_of (lookup (nat_eq block) cache.entries)
+line_in cache block = line_found (lookup (nat_eq block) cache.entries)
 
 -- the blocks that have a line there
 abbrev pub blocks_of : Contents → List ℕ
 blocks_of cache = keys_of cache.entries
 
 -- what each core holds of a block
-abbrev pub row_in : List Contents → ℕ → List Line
-row_in caches block = map (λ cache. line_in cache block) caches
+abbrev pub held_in : List Contents → ℕ → List Line
+held_in caches block = map (λ cache. line_in cache block) caches
 
 -- the words after an operation on one of them: a store writes it
 abbrev pub words_after : ℕ → Op → Data → Data

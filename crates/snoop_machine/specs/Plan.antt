@@ -31,11 +31,11 @@ use Rattle.snoop_machine.specs.Cache.{filled_line}
 use Rattle.snoop_machine.specs.Asked.{TakesAsk}
 
 -- the step that a plan is for
-abbrev pub step_of : Plan → Step
-step_of (Ask core block word asking asked) = step.Ask core block word asking
-step_of (Order core request block from payload memory) = step.Order core
-step_of (Writeback came memory) = step.Respond came.block
-step_of (Fill came memory filled) = step.Respond came.block
+abbrev pub planned_step : Plan → Step
+planned_step (Ask core block word asking asked) = step.Ask core block word asking
+planned_step (Order core request block from payload memory) = step.Order core
+planned_step (Writeback came memory) = step.Respond came.block
+planned_step (Fill came memory filled) = step.Respond came.block
 
 -- the core's oldest request can be ordered: each core has a row for it, it has this sender and payload, and leads memory to this state
 pub record CanBeOrdered (s : Situation) (core : ℕ) (request : Request) (block : ℕ) (from : Option ℕ) (payload : Payload) (memory : MemState) : Type 0 where
@@ -64,7 +64,7 @@ IsPlan s (Fill came memory filled) =
 
 -- a plan for this step
 abbrev pub IsPlanFor : Situation → Step → Plan → Type 0
-IsPlanFor s taking plan = (step_of plan ≡ taking) × IsPlan s plan
+IsPlanFor s taking plan = (planned_step plan ≡ taking) × IsPlan s plan
 
 -- for how many more such Asks of the core for the block there is room; one that adds neither item nor request always has it
 abbrev pub room_for_ask : Standing → ℕ → ℕ → Asked → ℕ

@@ -6,7 +6,7 @@ use Rattle.clap.specs.declared.error.kind.ErrorKind.{ErrorKind}
 use Rattle.clap.specs.declared.error.kind.ErrorKind.TheVariants.{InvalidValue, UnknownArgument, InvalidSubcommand, NoEquals, ValueValidation, TooManyValues, TooFewValues, WrongNumberOfValues, ArgumentConflict, MissingRequiredArgument, MissingSubcommand, DisplayHelp, DisplayHelpOnMissingArgumentOrSubcommand, DisplayVersion, Io, Format, OutOfMemory}
 use Rattle.clap.specs.declared.parser.matches.ArgMatches.{ArgMatches}
 use Rattle.clap.proofs.OnLiterals.{clap_on_literals}
-use Rattle.snoop_sim.specs.Asked.{Asks, HasNoTask, HasTask, IsShown, Refuses}
+use Rattle.snoop_sim.specs.Asked.{AsksFor, HasNoTask, HasTask, IsShown, BeginsNothing}
 use Rattle.snoop_sim.specs.Status.{status_of, status_of_fault}
 use Rattle.snoop_sim.specs.CommandLine.{IsSnoop, Names, choice_rules, every_rule, flag_rule, form_rule, grouping_rule, kind_rule, long_rule, shown_rule, simulation_app, table_app, theme_rule, top_app, top_rule, view_app, with_commands}
 use Rattle.snoop_draw.specs.declared.fault.DrawFault.{DrawFault}
@@ -58,7 +58,7 @@ command_named app words matches snoop has = (has (tested is_simple is_simple_sno
 
 -- the words ask for the task of that command
 pub asked : (app : App) (words : List Text) (command : Option (Text × List Row)) (task : Task) → IsSnoop app → fault_of app words ≡ []
-    → command ≡ subcommand_of app words → HasTask command task → Asks words task
+    → command ≡ subcommand_of app words → HasTask command task → AsksFor words task
 asked app words None task snoop well named has = absurd has
 asked app words (Some command) (Help help) snoop well named has = absurd has
 asked app words (Some command) (Table protocol which layout) snoop well named has = (app, snoop, (well, subst (λ c. HasTask c (Table protocol which layout)) named has))
@@ -70,7 +70,7 @@ asked app words (Some command) (DrawSvg protocol shape input choice paper) snoop
 
 -- and are refused where it has none
 pub without_task : (app : App) (words : List Text) (command : Option (Text × List Row)) (failure : Failure) → IsSnoop app → fault_of app words ≡ []
-    → command ≡ subcommand_of app words → HasNoTask command failure → Refuses words failure
+    → command ≡ subcommand_of app words → HasNoTask command failure → BeginsNothing words failure
 without_task app words command NoCommand snoop well named has = (app, snoop, (well, subst (λ c. HasNoTask c NoCommand) named has))
 without_task app words command (Shape fault) snoop well named has = (app, snoop, (well, subst (λ c. HasNoTask c (Shape fault)) named has))
 without_task app words command BadSerial snoop well named has = (app, snoop, (well, subst (λ c. HasNoTask c BadSerial) named has))
@@ -102,9 +102,9 @@ not_shown kind (help, version) (inr is) = version is
 pub refused : (app : App) (words : List Text) (error : Error) (failure : Failure) → IsSnoop app
     → HasKind (fault_of app words) error → (kind_of error ≢ DisplayHelp) × (kind_of error ≢ DisplayVersion)
     → ((kind_of error ≡ OutOfMemory) × (failure ≡ Simulation NoMemory)) ⊎ ((kind_of error ≢ OutOfMemory) × (failure ≡ CommandLine error))
-    → Refuses words failure
-refused app words error failure snoop has mistake (inl (kind, is)) = subst (Refuses words) (sym is) refl
-refused app words error failure snoop has mistake (inr (kind, is)) = subst (Refuses words) (sym is) ((app, snoop, kind_given (fault_of app words) error kind has), not_shown (kind_of error) mistake)
+    → BeginsNothing words failure
+refused app words error failure snoop has mistake (inl (kind, is)) = subst (BeginsNothing words) (sym is) refl
+refused app words error failure snoop has mistake (inr (kind, is)) = subst (BeginsNothing words) (sym is) ((app, snoop, kind_given (fault_of app words) error kind has), not_shown (kind_of error) mistake)
 
 -- what is no mistake is help or the version
 pub shown : (kind : ErrorKind) → (((kind ≢ DisplayHelp) × (kind ≢ DisplayVersion)) → ⊥) → IsShown kind
@@ -132,7 +132,7 @@ not_memory (inr is) = cc
 
 -- the words ask for it
 pub help_asked : (app : App) (words : List Text) (help : Error) → IsSnoop app
-    → HasKind (fault_of app words) help → IsShown (kind_of help) → Asks words (Help help)
+    → HasKind (fault_of app words) help → IsShown (kind_of help) → AsksFor words (Help help)
 help_asked app words help snoop has is_shown = ((app, snoop, kind_given (fault_of app words) help (λ memory. not_memory (subst IsShown memory is_shown)) has), is_shown)
 
 two_is_not_four : ◌≡◌ {A = ℕ} 2 4 → ⊥
@@ -154,7 +154,7 @@ no_drawing None fault has = has
 no_drawing (Some command) fault has = has.1.2
 
 -- the words are never refused with the status of a failed write
-pub refused_status : (words : List Text) (failure : Failure) → Refuses words failure → status_of failure ≢ 4
+pub refused_status : (words : List Text) (failure : Failure) → BeginsNothing words failure → status_of failure ≢ 4
 refused_status words (CommandLine error) refuses = two_is_not_four
 refused_status words NoCommand refuses = two_is_not_four
 refused_status words NotUtf8 refuses = two_is_not_four

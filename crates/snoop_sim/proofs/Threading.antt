@@ -25,7 +25,7 @@ use Rattle.snoop_cores.specs.declared.fault.SeatFault.TheVariants as seat
 use Rattle.snoop_cores.specs.declared.stop.Stop.{Stop}
 use Rattle.snoop_cores.specs.declared.stop.Stop.TheVariants.{Fault}
 use Rattle.snoop_cores.specs.Seats.{AreSeats, IsNew, Seating}
-use Rattle.snoop_cores.specs.Rows.{Answers, Leaves, Grows, FailsOn, IsRefused, IsServed, RanTo, RefusesRows, rows_of}
+use Rattle.snoop_cores.specs.Rows.{AnswersRows, Leaves, Grows, FailsOn, IsRefused, IsServed, RanTo, RefusesRows, rows_of_core}
 use Rattle.snoop_cores.specs.Joined.{IsJoined}
 use Rattle.snoop_engine.specs.SimulatedRun.{ReadsRows}
 use Rattle.snoop_sim.specs.Threaded.{SimulatesThreads, Threaded}
@@ -34,14 +34,14 @@ use Rattle.snoop_sim.specs.declared.fault.ThreadsFault.{ThreadsFault}
 use Rattle.snoop_sim.specs.declared.fault.ThreadsFault.TheVariants as threads
 
 -- a seat that did nothing before has done its rows: its answers, which are its core's operations, are theirs
-answered_rows : (shape : Extent) (rows : List Row) (core : ℕ) (s t : Seating) (log : List Item) → IsNew core shape s → Grows (rows_of s.core rows) s t
-    → answers_of log t.core ≡ t.answers → Answers shape (rows_of core rows) (answers_of log core)
+answered_rows : (shape : Extent) (rows : List Row) (core : ℕ) (s t : Seating) (log : List Item) → IsNew core shape s → Grows (rows_of_core s.core rows) s t
+    → answers_of log t.core ≡ t.answers → AnswersRows shape (rows_of_core core rows) (answers_of log core)
 answered_rows shape rows core s t log new grows told =
     let dids : List Did = grows.added.0 in
     let all : t.answers ≡ dids = grows.added.1 ∙ ap (λ (l : List Did). l ++ dids) new.answers in
     let logged : answers_of log core ≡ dids = subst (λ (c : ℕ). answers_of log c ≡ dids) (grows.stays.core ∙ new.core_is) (told ∙ all) in
-    let here : Answers s.shape (rows_of core rows) dids = subst (λ (c : ℕ). Answers s.shape (rows_of c rows) dids) new.core_is grows.added.2 in
-    subst (λ (l : List Did). Answers shape (rows_of core rows) l) (sym logged) (subst (λ (e : Extent). Answers e (rows_of core rows) dids) new.shape_is here)
+    let here : AnswersRows s.shape (rows_of_core core rows) dids = subst (λ (c : ℕ). AnswersRows s.shape (rows_of_core c rows) dids) new.core_is grows.added.2 in
+    subst (λ (l : List Did). AnswersRows shape (rows_of_core core rows) l) (sym logged) (subst (λ (e : Extent). AnswersRows e (rows_of_core core rows) dids) new.shape_is here)
 
 -- all seats have done their rows, and were gathered
 pub threaded : (protocol : Protocol) (shape : Extent) (rows : List Row) (stops : List (Option Stop)) (old new : List Seating) (log : List Item) (steps : List Step)
@@ -57,11 +57,11 @@ threaded protocol shape rows stops old new log steps fresh each same ran none jo
       answered = λ core lt.
           let d : Seating = record { core = 0; shape = shape; seen = []; answers = []; pending = None; strange = None; stop = None } in
           let inside : core < length old = omega (arith, lt, fresh.0) in
-          let done : Grows (rows_of (slice_index_or old core d).core rows) (slice_index_or old core d) (slice_index_or new core d) =
+          let done : Grows (rows_of_core (slice_index_or old core d).core rows) (slice_index_or old core d) (slice_index_or new core d) =
           subst (λ (stop : Option Stop). RanTo stop rows (slice_index_or old core d) (slice_index_or new core d))
           (All-get_or (λ (stop : Option Stop). stop ≡ None) stops core None (omega (arith, inside, each)) none) (ran core d inside) in
           let told = All-get_or (λ (s : Seating). answers_of log s.core ≡ s.answers) new core d (omega (arith, inside, same)) joined.joins.answered in
-          subst (λ (l : List Item). Answers shape (rows_of core rows) (answers_of l core)) joined.log_is
+          subst (λ (l : List Item). AnswersRows shape (rows_of_core core rows) (answers_of l core)) joined.log_is
           (answered_rows shape rows core (slice_index_or old core d) (slice_index_or new core d) log (fresh.1 core d lt) done told);
     }
 
@@ -119,9 +119,9 @@ why_refused block (seat.Busy other) row s t limits lt idle fails = absurd (let e
 why_refused block (seat.Stranger did) row s t limits lt idle fails = tt
 
 -- what new seats' rows within the shape are refused for
-row_refused : (shape : Extent) (core number : ℕ) (rows : List Row) (s t : Seating) (fault : SeatFault) → IsWithinLimits shape → IsNew core shape s → All (IsRowWithin shape) rows → IsRefused number fault (rows_of s.core rows) s t → IsOfThreads (threads.Seat fault)
+row_refused : (shape : Extent) (core number : ℕ) (rows : List Row) (s t : Seating) (fault : SeatFault) → IsWithinLimits shape → IsNew core shape s → All (IsRowWithin shape) rows → IsRefused number fault (rows_of_core s.core rows) s t → IsOfThreads (threads.Seat fault)
 row_refused shape core number rows s t fault limits new within refused =
-    let own : List Row = rows_of s.core rows in
+    let own : List Row = rows_of_core s.core rows in
     let lt : number < length own = slice_get_within own number refused.row refused.there in
     let all : All (IsRowWithin shape) own = All-filter (λ (row : Row). row.core == s.core) (IsRowWithin shape) rows within in
     let inside : IsRowWithin shape refused.row = subst (IsRowWithin shape) (get_or_from_slice_get own number refused.row refused.row refused.there) (All-get_or (IsRowWithin shape) own number refused.row lt all) in
@@ -141,7 +141,7 @@ first_refused shape rows stops old new fault limits fresh each within ran first 
     let d : Seating = record { core = 0; shape = shape; seen = []; answers = []; pending = None; strange = None; stop = None } in
     let inside : first.place < length old = let lt = slice_get_within stops first.place (Some (Fault first.number first.refused)) first.there in omega (arith, lt, each) in
     let stop : slice_index_or stops first.place None ≡ Some (Fault first.number first.refused) = get_or_from_slice_get stops first.place (Some (Fault first.number first.refused)) None first.there in
-    let refused : IsRefused first.number first.refused (rows_of (slice_index_or old first.place d).core rows) (slice_index_or old first.place d) (slice_index_or new first.place d) =
+    let refused : IsRefused first.number first.refused (rows_of_core (slice_index_or old first.place d).core rows) (slice_index_or old first.place d) (slice_index_or new first.place d) =
     subst (λ (o : Option Stop). RanTo o rows (slice_index_or old first.place d) (slice_index_or new first.place d)) stop (ran first.place d inside) in
     subst IsOfThreads (sym first.is) (row_refused shape first.place first.number rows (slice_index_or old first.place d) (slice_index_or new first.place d) first.refused limits (fresh.1 first.place d (omega (arith, inside, fresh.0))) within refused)
 

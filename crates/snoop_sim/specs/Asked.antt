@@ -91,12 +91,12 @@ abbrev pub StopsAt : List Text → ErrorKind → Type 0
 StopsAt words kind = ByCommandLine (λ app. IsAmong kind (fault_of app words))
 
 -- the words, the first of which is the program's own name, ask for the task: that of their command, or help or the version
-abbrev pub Asks : List Text → Task → Type 0
-Asks words (Help help) = StopsAt words (kind_of help) × IsShown (kind_of help)
-Asks words task = NamesCommand words (λ command. HasTask command task)
+abbrev pub AsksFor : List Text → Task → Type 0
+AsksFor words (Help help) = StopsAt words (kind_of help) × IsShown (kind_of help)
+AsksFor words task = NamesCommand words (λ command. HasTask command task)
 
 -- nothing is begun for the words: there is a mistake in them, their command has no task, or there is no memory to read them
-abbrev pub Refuses : List Text → Failure → Type 0
-Refuses words (CommandLine error) = StopsAt words (kind_of error) × ¬ IsShown (kind_of error)
-Refuses words (Simulation fault) = fault ≡ NoMemory
-Refuses words failure = NamesCommand words (λ command. HasNoTask command failure)
+abbrev pub BeginsNothing : List Text → Failure → Type 0
+BeginsNothing words (CommandLine error) = StopsAt words (kind_of error) × ¬ IsShown (kind_of error)
+BeginsNothing words (Simulation fault) = fault ≡ NoMemory
+BeginsNothing words failure = NamesCommand words (λ command. HasNoTask command failure)

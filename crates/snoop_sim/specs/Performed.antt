@@ -11,7 +11,7 @@ use Rattle.snoop_rules.specs.Matrix.{matrix_text}
 use Rattle.snoop_rules.specs.TableText.{table_text}
 use Rattle.snoop_rules.specs.declared.table_text.Which.{Which}
 use Rattle.clap.specs.Words.{Text}
-use Rattle.snoop_sim.specs.Asked.{Asks, Refuses}
+use Rattle.snoop_sim.specs.Asked.{AsksFor, BeginsNothing}
 use Rattle.snoop_counts.specs.ByBlock.{counts_by_block}
 use Rattle.snoop_counts.specs.BySteps.{counts_by_steps}
 use Rattle.snoop_counts.specs.ByWord.{counts_by_word}
@@ -45,11 +45,11 @@ use Rattle.snoop_sim.specs.declared.options.Task.{Task}
 use Rattle.snoop_sim.specs.declared.options.Task.TheVariants.{Help, Table, Simulate, States, StateFields, Draw, DrawSvg}
 
 -- a text was written whole; or, out of memory, nothing; or, where a write failed, a beginning; there was none to refuse
-abbrev pub Writes : List ℕ → Result (Unit {0}) SimFault → Option (List ℕ) → Option (List ℕ) → Type 0
-Writes text (Ok u) old new = Appends old new text
-Writes text (Err (TextRefused fault)) old new = ⊥
-Writes text (Err NoMemory) old new = new ≡ old
-Writes text (Err Write) old new = AppendsFront old new text
+abbrev pub WritesText : List ℕ → Result (Unit {0}) SimFault → Option (List ℕ) → Option (List ℕ) → Type 0
+WritesText text (Ok u) old new = Appends old new text
+WritesText text (Err (TextRefused fault)) old new = ⊥
+WritesText text (Err NoMemory) old new = new ≡ old
+WritesText text (Err Write) old new = AppendsFront old new text
 
 -- a task ended as its work did: done, or failed with the fault of its work
 abbrev pub EndsAs : {Fault : Type 0} → (Fault → Failure) → Result (Unit {0}) Failure → (Result (Unit {0}) Fault → Type 0) → Type 0
@@ -75,19 +75,19 @@ Runs protocol shape (Counts input (grouping.Steps every)) text ending old new = 
 Runs protocol shape (Lint form most) input ending old new = EndsAs LintFailure ending (λ done. Lints form most protocol shape input done old new)
 
 -- what each task leaves: the text of help, the table by rows or as a matrix, or its engine's output
-abbrev pub Performs : Task → Option (List ℕ) → Result (Unit {0}) Failure → Option (List ℕ) → Option (List ℕ) → Type 0
-Performs (Help help) input ending old new = (text : List ℕ) × EndsAs Simulation ending (λ done. Writes text done old new)
-Performs (Table protocol which layout) input ending old new = EndsAs Simulation ending (λ done. Writes (layout_text protocol which layout) done old new)
-Performs (Simulate protocol shape engine) input ending old new = Runs protocol shape engine input ending old new
-Performs (States protocol shape input choice) text ending old new = EndsAs Simulation ending (λ done. SimulatesView protocol shape input (states_table_text protocol shape choice) text done old new)
-Performs (StateFields protocol shape input choice) text ending old new = EndsAs Simulation ending (λ done. SimulatesView protocol shape input (λ frames final. states_text shape choice frames) text done old new)
-Performs (Draw protocol shape input charset choice) text ending old new = EndsAs Drawing ending (λ done. Draws protocol shape input charset choice text done old new)
-Performs (DrawSvg protocol shape input choice paper) text ending old new = EndsAs Drawing ending (λ done. DrawsSvg protocol shape input choice paper text done old new)
+abbrev pub PerformsTask : Task → Option (List ℕ) → Result (Unit {0}) Failure → Option (List ℕ) → Option (List ℕ) → Type 0
+PerformsTask (Help help) input ending old new = (text : List ℕ) × EndsAs Simulation ending (λ done. WritesText text done old new)
+PerformsTask (Table protocol which layout) input ending old new = EndsAs Simulation ending (λ done. WritesText (layout_text protocol which layout) done old new)
+PerformsTask (Simulate protocol shape engine) input ending old new = Runs protocol shape engine input ending old new
+PerformsTask (States protocol shape input choice) text ending old new = EndsAs Simulation ending (λ done. SimulatesView protocol shape input (states_table_text protocol shape choice) text done old new)
+PerformsTask (StateFields protocol shape input choice) text ending old new = EndsAs Simulation ending (λ done. SimulatesView protocol shape input (λ frames final. states_text shape choice frames) text done old new)
+PerformsTask (Draw protocol shape input charset choice) text ending old new = EndsAs Drawing ending (λ done. Draws protocol shape input charset choice text done old new)
+PerformsTask (DrawSvg protocol shape input choice paper) text ending old new = EndsAs Drawing ending (λ done. DrawsSvg protocol shape input choice paper text done old new)
 
 -- the task that the words ask for was performed; or nothing was begun for them, and nothing written
-abbrev pub Leaves : List Text → Option (List ℕ) → Result (Unit {0}) Failure → Option (List ℕ) → Option (List ℕ) → Type 0
-Leaves words input ending old new = ((task : Task) × Asks words task × Performs task input ending old new)
-    ⊎ ((failure : Failure) × (ending ≡ Err failure) × Refuses words failure × (new ≡ old))
+abbrev pub LeavesOutput : List Text → Option (List ℕ) → Result (Unit {0}) Failure → Option (List ℕ) → Option (List ℕ) → Type 0
+LeavesOutput words input ending old new = ((task : Task) × AsksFor words task × PerformsTask task input ending old new)
+    ⊎ ((failure : Failure) × (ending ≡ Err failure) × BeginsNothing words failure × (new ≡ old))
 
 -- the status of an ending
 abbrev pub status_of_ending : Result (Unit {0}) Failure → ℕ
@@ -103,6 +103,6 @@ IsFailedRead (Err (Drawing (draw.Simulation (TextRefused Read)))) = ⊤
 IsFailedRead ending = ⊥
 
 -- the program, for these words and this input, ended with this status, and left this; whether its reader never fails, and whether a read had failed before and after
-abbrev pub Ends : List Text → Bool → Option Bool → Option Bool → Option (List ℕ) → ℕ → Option (List ℕ) → Option (List ℕ) → Type 0
-Ends words never_fails before after input status old new = (ending : Result (Unit {0}) Failure) × (status ≡ status_of_ending ending)
-    × (never_fails ≡ true → ¬ IsFailedRead ending) × BlamesReader before after (IsFailedRead ending) × Leaves words input ending old new
+abbrev pub EndsWithStatus : List Text → Bool → Option Bool → Option Bool → Option (List ℕ) → ℕ → Option (List ℕ) → Option (List ℕ) → Type 0
+EndsWithStatus words never_fails before after input status old new = (ending : Result (Unit {0}) Failure) × (status ≡ status_of_ending ending)
+    × (never_fails ≡ true → ¬ IsFailedRead ending) × BlamesReader before after (IsFailedRead ending) × LeavesOutput words input ending old new

@@ -12,7 +12,7 @@ use Rattle.snoop_history.specs.History.{answers_of}
 use Rattle.snoop_model.specs.Pictures.Situation.{Situation}
 use Rattle.snoop_model.specs.Turns.Quiet.{IsQuiet}
 use Rattle.snoop_model.specs.Runs.Run.{AllTaken}
-use Rattle.snoop_cores.specs.Rows.{Answers, rows_of}
+use Rattle.snoop_cores.specs.Rows.{AnswersRows, rows_of_core}
 use Rattle.snoop_engine.specs.SimulatedRun.{ReadsRows}
 use Rattle.snoop_sim.specs.ThreadsFault.{IsOfThreads}
 use Rattle.snoop_sim.specs.declared.fault.ThreadsFault.{ThreadsFault}
@@ -25,7 +25,7 @@ pub record Threaded (protocol : Protocol) (shape : Extent) (rows : List Row) (st
   -- each step lies within the shape, so that its text can be read again
   pub readable : All (IsStepWithin shape) steps
   pub quiet : IsQuiet final
-  pub answered : (core : ℕ) → core < shape.cores → Answers shape (rows_of core rows) (answers_of final.log core)
+  pub answered : (core : ℕ) → core < shape.cores → AnswersRows shape (rows_of_core core rows) (answers_of final.log core)
 
 -- the writer got the text of such steps, from which the same steps are read
 pub record WritesThreaded (protocol : Protocol) (shape : Extent) (rows : List Row) (old new : Option (List ℕ)) : Type 0 where

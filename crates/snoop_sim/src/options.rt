@@ -1,7 +1,7 @@
 //! The command line: its words and what they ask for.
 ghost use Rattle.std.specs.Prelude.{◌≡◌, ◌≢◌, ◌^◌, [], IfErr, IfOk, Ok, codes, false, map, string_bytes, true};
 ghost use Rattle.clap.specs.Words.{app_of, found_of, one_of, rows_of, rule_of, subcommand_rows_of};
-ghost use Rattle.snoop_sim.specs.Asked.{Asks, HasNoEngine, HasNoTask, HasTask, IsTaskOf, Refuses};
+ghost use Rattle.snoop_sim.specs.Asked.{AsksFor, HasNoEngine, HasNoTask, HasTask, IsTaskOf, BeginsNothing};
 ghost use Rattle.snoop_sim.specs.CommandLine.{IsCounts, IsDraw, IsForms, IsGroupings, IsKinds, IsLayouts, IsLint, IsLocal, IsProtocols, IsRun, IsSimulation, IsSnoop, IsStates, IsSteps, IsTable, IsThemes, IsThreads, IsView, Names, choice_rules, flag_rule, form_rule, grouping_rule, kind_rule, layout_rule, number_rule, optional_rule, protocol_rule, theme_rule, top_app, with_rules};
 ghost use Rattle.snoop_sim.specs.Options.{IsChoiceOf, HasNoGrouping, HasNoNamed, HasNoSteps, IsGroupingOf, IsInputOf, IsNamed, IsPaperOf, IsSteps as IsStepsOf, names_grouping, names_theme, IsNumberOf, IsReadAs, IsShapeOf, MisplacesPaper, MisplacesSerial, asks_ascii, asks_serial, charset_named, form_named, kind_named, layout_named, protocol_named, says, theme_named, which_named};
 
@@ -86,8 +86,8 @@ static LAYOUTS: [&str; 2] = ["rows", "matrix"];
 
 /// The task that the words ask for; the first of them is the program's own name.
 pub(crate) fn task_in(alloc: Global, words: &[String]) -> Result<Task, Failure>
-    ensures ok { IfOk result (Asks (map string_bytes words.now)) }
-    ensures err { IfErr result (Refuses (map string_bytes words.now)) }
+    ensures ok { IfOk result (AsksFor (map string_bytes words.now)) }
+    ensures err { IfErr result (BeginsNothing (map string_bytes words.now)) }
 {
     match grammar(alloc)?.try_get_matches_from(words) {
         Ok(matches) => task_of(&matches),

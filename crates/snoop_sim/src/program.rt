@@ -5,7 +5,7 @@ ghost use Rattle.std.specs.Io.KnownBytes.{Appends};
 ghost use Rattle.snoop_trace.specs.Output.{AppendsFront, BlamesWriter};
 ghost use Rattle.snoop_trace.specs.Text.{BlamesReader};
 ghost use Rattle.snoop_sim.specs.Status.{status_of};
-ghost use Rattle.snoop_sim.specs.Performed.{Ends, IsFailedRead, Leaves, Performs, Runs, Writes, layout_text, status_of_ending};
+ghost use Rattle.snoop_sim.specs.Performed.{EndsWithStatus, IsFailedRead, LeavesOutput, PerformsTask, Runs, WritesText, layout_text, status_of_ending};
 
 use crate::failure::Failure;
 use crate::options::{Engine, Grouping, Layout, Task, task_in};
@@ -44,7 +44,7 @@ pub fn command<T: Threads + Wait + Sync, R: Source, W: Sink, E: Write>(
     writer: &mut W,
     errors: &mut E,
 ) -> u8
-    ensures does { Ends (map string_bytes words.now) R.never_fails (R.failed reader.old) (R.failed reader.new) (R.remaining reader.old) result (W.contents writer.old) (W.contents writer.new) }
+    ensures does { EndsWithStatus (map string_bytes words.now) R.never_fails (R.failed reader.old) (R.failed reader.new) (R.remaining reader.old) result (W.contents writer.old) (W.contents writer.new) }
     ensures known { result < 6 }
     // A text, a command line or a shape is refused, and leaves the writer as it was.
     ensures unwritten { 0 < result → result < 3 → writer.new ≡ writer.old }
@@ -79,7 +79,7 @@ fn perform<T: Threads + Wait + Sync, R: Source, W: Sink>(
     reader: &mut R,
     writer: &mut W,
 ) -> Result<(), Failure>
-    ensures does { Leaves (map string_bytes words.now) (R.remaining reader.old) result (W.contents writer.old) (W.contents writer.new) }
+    ensures does { LeavesOutput (map string_bytes words.now) (R.remaining reader.old) result (W.contents writer.old) (W.contents writer.new) }
     ensures reads { R.never_fails ≡ true → ¬ IsFailedRead result }
     ensures read_blamed { BlamesReader (R.failed reader.old) (R.failed reader.new) (IsFailedRead result) }
     ensures unwritten { IfErr result (λ failure. status_of failure < 3 → writer.new ≡ writer.old) }
@@ -100,7 +100,7 @@ fn perform_task<T: Threads + Wait + Sync, R: Source, W: Sink>(
     reader: &mut R,
     writer: &mut W,
 ) -> Result<(), Failure>
-    ensures does { Performs task (R.remaining reader.old) result (W.contents writer.old) (W.contents writer.new) }
+    ensures does { PerformsTask task (R.remaining reader.old) result (W.contents writer.old) (W.contents writer.new) }
     ensures reads { R.never_fails ≡ true → ¬ IsFailedRead result }
     ensures read_blamed { BlamesReader (R.failed reader.old) (R.failed reader.new) (IsFailedRead result) }
     ensures unwritten { IfErr result (λ failure. status_of failure < 3 → writer.new ≡ writer.old) }
@@ -225,7 +225,7 @@ fn simulate<T: Threads + Wait + Sync, R: Source, W: Sink>(
 }
 
 fn write_help<W: Sink>(alloc: Global, writer: &mut W, help: &clap::Error) -> Result<(), SimFault>
-    ensures does { (text : List ℕ) × Writes text result (W.contents writer.old) (W.contents writer.new) }
+    ensures does { (text : List ℕ) × WritesText text result (W.contents writer.old) (W.contents writer.new) }
     ensures never_blamed { IfErr result (λ fault. W.never_fails ≡ true → fault ≢ SimFault.Write) }
     ensures blamed { BlamesWriter (W.failed writer.old) (W.failed writer.new) (result ≡ Err SimFault.Write) }
 {

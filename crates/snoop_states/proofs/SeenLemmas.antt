@@ -9,11 +9,11 @@ use Rattle.snoop_trace.specs.declared.protocol.Protocol.{Protocol}
 use Rattle.snoop_model.specs.Pictures.Situation.{Situation}
 use Rattle.snoop_engine.specs.Frames.{Frame}
 use Rattle.snoop_engine.specs.Line.{line_text}
-use Rattle.snoop_engine.specs.Views.{block_of}
+use Rattle.snoop_engine.specs.Views.{block_of_step}
 use Rattle.snoop_states.specs.declared.column.Column.{Column}
 use Rattle.snoop_states.specs.declared.widths.Widths.{Widths}
 use Rattle.snoop_states.specs.declared.table.Table.{Table}
-use Rattle.snoop_engine.specs.Chosen.{Chosen, is_chosen, is_within}
+use Rattle.snoop_engine.specs.Chosen.{Chosen, is_chosen, is_in_range}
 use Rattle.snoop_states.specs.Tables.{shown_block}
 use Rattle.snoop_states.specs.Seen.{AreTables, HalfBegun, HasRows, IsEmpty, IsGrownAt, IsStartedAt, IsTable}
 use Rattle.snoop_states.specs.Tables.{is_of}
@@ -26,38 +26,38 @@ pub are_mapped : (shape : Extent) (choice : Chosen) (P Q : ℕ → Table → Typ
 are_mapped shape choice P Q tables f are = record { count = are.count; each = λ block h chosen d. f block (get_or tables block d) (are.each block h chosen d) }
 
 -- a step that is not shown is not of a block that is, or not within the numbers
-not_shown : (choice : Chosen) (block number : ℕ) (frame : Frame) → is_chosen choice.block block ≡ true → shown_block choice (block_of frame.before frame.step) number ≡ None
-    → (is_within choice number && is_of block frame) ≡ false
-not_shown choice block number frame chosen = with_block (block_of frame.before frame.step) where
-  with_block : (of : Option ℕ) → shown_block choice of number ≡ None → (is_within choice number && option_map_or (λ b. b == block) of false) ≡ false
-  with_block None h = and_right (is_within choice number) false refl
+not_shown : (choice : Chosen) (block number : ℕ) (frame : Frame) → is_chosen choice.block block ≡ true → shown_block choice (block_of_step frame.before frame.step) number ≡ None
+    → (is_in_range choice number && is_of block frame) ≡ false
+not_shown choice block number frame chosen = with_block (block_of_step frame.before frame.step) where
+  with_block : (of : Option ℕ) → shown_block choice of number ≡ None → (is_in_range choice number && option_map_or (λ b. b == block) of false) ≡ false
+  with_block None h = and_right (is_in_range choice number) false refl
   with_block (Some b) h = elim (cases_Bool (b == block)) [
     | inl same ↦
-        elim (cases_Bool (is_within choice number)) [
+        elim (cases_Bool (is_in_range choice number)) [
           | inl within ↦
               let e : b ≡ block = eqb-true b block same in
-              let both : (is_chosen choice.block b && is_within choice number) ≡ true = rw (e, chosen, within) refl in
-              let some : shown_block choice (Some b) number ≡ Some b = cond-true (is_chosen choice.block b && is_within choice number) (Some b) None both in
+              let both : (is_chosen choice.block b && is_in_range choice number) ≡ true = rw (e, chosen, within) refl in
+              let some : shown_block choice (Some b) number ≡ Some b = cond-true (is_chosen choice.block b && is_in_range choice number) (Some b) None both in
               let never : Some b ≡ None = sym some ∙ h in
               absurd cc
-          | inr out ↦ and_left (is_within choice number) (b == block) out
+          | inr out ↦ and_left (is_in_range choice number) (b == block) out
         ]
-    | inr other ↦ and_right (is_within choice number) (b == block) other
+    | inr other ↦ and_right (is_in_range choice number) (b == block) other
   ]
 
 -- a step that is shown
 pub record IsShown (choice : Chosen) (of : Option ℕ) (block number : ℕ) : Type 0 where
   pub is : of ≡ Some block
   pub chosen : is_chosen choice.block block ≡ true
-  pub within : is_within choice number ≡ true
+  pub within : is_in_range choice number ≡ true
 
 shown_is : (choice : Chosen) (of : Option ℕ) (block number : ℕ) → shown_block choice of number ≡ Some block → IsShown choice of block number
 shown_is choice None block number h = absurd cc
-shown_is choice (Some b) block number h = elim (cases_Bool (is_chosen choice.block b && is_within choice number)) [
+shown_is choice (Some b) block number h = elim (cases_Bool (is_chosen choice.block b && is_in_range choice number)) [
   | inl on ↦
-      let some : shown_block choice (Some b) number ≡ Some b = cond-true (is_chosen choice.block b && is_within choice number) (Some b) None on in
+      let some : shown_block choice (Some b) number ≡ Some b = cond-true (is_chosen choice.block b && is_in_range choice number) (Some b) None on in
       let e : b ≡ block = cc in
-      let both = and_parts (is_chosen choice.block b) (is_within choice number) on in
+      let both = and_parts (is_chosen choice.block b) (is_in_range choice number) on in
       record { is = ap (λ n. Some n) e; chosen = subst (λ (n : ℕ). is_chosen choice.block n ≡ true) e both.0; within = both.1 }
   | inr off ↦
       let none : shown_block choice (Some b) number ≡ None = ap (λ (t : Bool). cond t (Some b) None) off in
@@ -81,7 +81,7 @@ module _ (widths : Widths) (choice : Chosen) (protocol : Protocol) (shape : Exte
   }
 
   -- the step is not shown
-  pub all_stay : (choice.from ≡ 2 + length frames → ⊥) → shown_block choice (block_of frame.before frame.step) (1 + length frames) ≡ None
+  pub all_stay : (choice.from ≡ 2 + length frames → ⊥) → shown_block choice (block_of_step frame.before frame.step) (1 + length frames) ≡ None
       → AreTables shape choice (λ block. IsTable widths choice protocol shape (columns block) (frames ++ frame ∷ []) block) tables
   all_stay h none = record {
     count = so_far.count;
@@ -98,32 +98,32 @@ module _ (widths : Widths) (choice : Chosen) (protocol : Protocol) (shape : Exte
   }
 
   -- the step is shown, and the tables of other blocks stay as they were
-  others_stay : (block k : ℕ) → IsShown choice (block_of frame.before frame.step) block (1 + length frames) → (k ≡ block → ⊥) → (table : Table)
+  others_stay : (block k : ℕ) → IsShown choice (block_of_step frame.before frame.step) block (1 + length frames) → (k ≡ block → ⊥) → (table : Table)
       → IsTable widths choice protocol shape (columns k) frames k table → IsTable widths choice protocol shape (columns k) (frames ++ frame ∷ []) k table
   others_stay block k is other table so_far_k =
       let late : choice.from ≤ 1 + length frames = leb-true choice.from (1 + length frames) (and_parts (nat_le choice.from (1 + length frames)) (nat_le (1 + length frames) choice.to) is.within).0 in
       let off : is_of k frame ≡ false = ap (λ (of : Option ℕ). option_map_or (λ b. b == k) of false) is.is ∙ ne_eqb block k (λ e. other (sym e)) in
-      table_stays widths choice protocol shape k (columns k) frames frame table so_far_k late (and_right (is_within choice (1 + length frames)) (is_of k frame) off)
+      table_stays widths choice protocol shape k (columns k) frames frame table so_far_k late (and_right (is_in_range choice (1 + length frames)) (is_of k frame) off)
 
   -- the block of the step is none of the shape
-  pub none_grows : (block : ℕ) → shown_block choice (block_of frame.before frame.step) (1 + length frames) ≡ Some block → shape.blocks ≤ block
+  pub none_grows : (block : ℕ) → shown_block choice (block_of_step frame.before frame.step) (1 + length frames) ≡ Some block → shape.blocks ≤ block
       → AreTables shape choice (λ k. IsTable widths choice protocol shape (columns k) (frames ++ frame ∷ []) k) tables
   none_grows block some outside =
-      let is = shown_is choice (block_of frame.before frame.step) block (1 + length frames) some in
+      let is = shown_is choice (block_of_step frame.before frame.step) block (1 + length frames) some in
       record {
         count = so_far.count;
         each = λ k low chosen d. others_stay block k is (λ e. absurd (omega arith)) (get_or tables k d) (so_far.each k low chosen d);
       }
 
   -- the step is shown in the table of its block
-  pub one_grows : (new : List Table) (block : ℕ) → shown_block choice (block_of frame.before frame.step) (1 + length frames) ≡ Some block → block < shape.blocks
+  pub one_grows : (new : List Table) (block : ℕ) → shown_block choice (block_of_step frame.before frame.step) (1 + length frames) ≡ Some block → block < shape.blocks
       → IsGrownAt widths frame.after block (1 + length frames) (line_text shape frame.step frame.outcome) tables new
       → AreTables shape choice (λ k. IsTable widths choice protocol shape (columns k) (frames ++ frame ∷ []) k) new
   one_grows new block some inside grown =
-      let is = shown_is choice (block_of frame.before frame.step) block (1 + length frames) some in
+      let is = shown_is choice (block_of_step frame.before frame.step) block (1 + length frames) some in
       let late : choice.from ≤ 1 + length frames = leb-true choice.from (1 + length frames) (and_parts (nat_le choice.from (1 + length frames)) (nat_le (1 + length frames) choice.to) is.within).0 in
-      let on : (is_within choice (1 + length frames) && is_of block frame) ≡ true =
-      and_from (is_within choice (1 + length frames)) (is_of block frame) is.within (ap (λ (of : Option ℕ). option_map_or (λ b. b == block) of false) is.is ∙ eq-eqb block block refl) in
+      let on : (is_in_range choice (1 + length frames) && is_of block frame) ≡ true =
+      and_from (is_in_range choice (1 + length frames)) (is_of block frame) is.within (ap (λ (of : Option ℕ). option_map_or (λ b. b == block) of false) is.is ∙ eq-eqb block block refl) in
       let here : block < length tables = omega (arith, so_far.count) in
       let old = so_far.each block inside is.chosen grown.table in
       let grows : IsTable widths choice protocol shape (columns block) (frames ++ frame ∷ []) block grown.table =

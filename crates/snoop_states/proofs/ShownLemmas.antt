@@ -15,15 +15,15 @@ use Rattle.snoop_engine.proofs.NumberedLemmas.{led_on, numbered_on}
 use Rattle.snoop_states.specs.declared.column.Column.{Column}
 use Rattle.snoop_states.specs.declared.widths.Widths.{Widths}
 use Rattle.snoop_states.specs.Cells.{cell_text}
-use Rattle.snoop_engine.specs.Chosen.{Chosen, is_within}
+use Rattle.snoop_engine.specs.Chosen.{Chosen, is_in_range}
 use Rattle.snoop_states.specs.Rows.{cells_text}
 use Rattle.snoop_states.specs.Tables.{first_shown, is_of, rows_text, shown_of}
 
 -- a frame more is shown, or is not
 pub shown_on : (choice : Chosen) (block : ℕ) (frames : List Frame) (frame : Frame) (number : ℕ) → number ≡ 1 + length frames
-    → shown_of choice block (frames ++ frame ∷ []) ≡ shown_of choice block frames ++ (if is_within choice number && is_of block frame then (record { number = number; frame = frame }) ∷ [] else [])
+    → shown_of choice block (frames ++ frame ∷ []) ≡ shown_of choice block frames ++ (if is_in_range choice number && is_of block frame then (record { number = number; frame = frame }) ∷ [] else [])
 shown_on choice block frames frame number e =
-    let test : Numbered → Bool = λ n. is_within choice n.number && is_of block n.frame in
+    let test : Numbered → Bool = λ n. is_in_range choice n.number && is_of block n.frame in
     let one : ℕ → Numbered = λ n. record { number = n; frame = frame } in
     ap (filter test) (numbered_on 1 frames frame) ∙ filter-append test (numbered_from 1 frames) (one (1 + length frames) ∷ [])
     ∙ ap (λ (n : ℕ). filter test (numbered_from 1 frames) ++ filter test (one n ∷ [])) (sym e)
@@ -54,14 +54,14 @@ rows_on widths shape block columns above (m ∷ ms) n =
     ap (λ (t : List ℕ). first ++ t) (rows_on widths shape block columns m.frame.after ms n) ∙ sym (append_assoc first (rows_text widths shape block columns m.frame.after ms) last)
 
 none_from : (choice : Chosen) (block number : ℕ) (frames : List Frame) → number + length frames ≤ choice.from
-    → filter (λ (n : Numbered). is_within choice n.number && is_of block n.frame) (numbered_from number frames) ≡ []
+    → filter (λ (n : Numbered). is_in_range choice n.number && is_of block n.frame) (numbered_from number frames) ≡ []
 none_from choice block number [] h = refl
 none_from choice block number (f ∷ fs) h =
     let low : number < choice.from = omega arith in
     let more : number + 1 + length fs ≤ choice.from = omega arith in
     let off : (nat_le choice.from number && nat_le number choice.to && is_of block f) ≡ false =
     and_left (nat_le choice.from number && nat_le number choice.to) (is_of block f) (and_left (nat_le choice.from number) (nat_le number choice.to) (lt-leb choice.from number low)) in
-    cond-false (is_within choice number && is_of block f) _ _ off ∙ none_from choice block (number + 1) fs more
+    cond-false (is_in_range choice number && is_of block f) _ _ off ∙ none_from choice block (number + 1) fs more
 
 -- nothing is shown before the first step that is
 pub none_yet : (choice : Chosen) (block : ℕ) (frames : List Frame) → 1 + length frames ≤ choice.from → shown_of choice block frames ≡ []

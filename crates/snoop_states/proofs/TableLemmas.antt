@@ -14,7 +14,7 @@ use Rattle.snoop_states.specs.declared.column.Column.{Column}
 use Rattle.snoop_states.specs.declared.widths.Widths.{Widths}
 use Rattle.snoop_states.specs.declared.table.Table.{Table}
 use Rattle.snoop_states.specs.Cells.{cell_text}
-use Rattle.snoop_engine.specs.Chosen.{Chosen, is_within}
+use Rattle.snoop_engine.specs.Chosen.{Chosen, is_in_range}
 use Rattle.snoop_states.specs.Rows.{cells_text, names_text}
 use Rattle.snoop_states.specs.Seen.{HasCells, HasRows, IsEmpty, IsRowMore, IsTable}
 use Rattle.snoop_states.specs.Tables.{first_row, first_shown, heading_text, is_of, rows_text, shown_of, table_text}
@@ -49,7 +49,7 @@ module _ (widths : Widths) (choice : Chosen) (protocol : Protocol) (shape : Exte
       }
 
   -- the step is not shown
-  pub table_stays : choice.from ≤ 1 + length frames → (is_within choice (1 + length frames) && is_of block frame) ≡ false
+  pub table_stays : choice.from ≤ 1 + length frames → (is_in_range choice (1 + length frames) && is_of block frame) ≡ false
       → IsTable widths choice protocol shape columns (frames ++ frame ∷ []) block table
   table_stays h off =
       let here : first_shown choice protocol shape (frames ++ frame ∷ []) ≡ first_shown choice protocol shape frames = first_stays choice protocol shape frames frame h in
@@ -62,7 +62,7 @@ module _ (widths : Widths) (choice : Chosen) (protocol : Protocol) (shape : Exte
       }
 
   -- the step is shown: the table gets its row
-  pub table_grows : (new : Table) → choice.from ≤ 1 + length frames → (is_within choice (1 + length frames) && is_of block frame) ≡ true
+  pub table_grows : (new : Table) → choice.from ≤ 1 + length frames → (is_in_range choice (1 + length frames) && is_of block frame) ≡ true
       → ((above : Column → List ℕ) → HasCells columns above table.cells.items
       → IsRowMore widths columns above (cell_text frame.after block) (1 + length frames) (line_text shape frame.step frame.outcome) table new × (new.is_shown ≡ true))
       → IsTable widths choice protocol shape columns (frames ++ frame ∷ []) block new

@@ -11,13 +11,13 @@ use Rattle.snoop_states.specs.declared.column.Column.TheVariants.{Core, Bus, Mem
 use Rattle.snoop_states.specs.declared.widths.Widths.{Widths}
 
 -- in this step the core asks for the block
-abbrev pub asks : ℕ → ℕ → Step → Bool
-asks block core (Ask c b word op) = (b == block) && (c == core)
-asks block core _ = false
+abbrev pub asks_for : ℕ → ℕ → Step → Bool
+asks_for block core (Ask c b word op) = (b == block) && (c == core)
+asks_for block core _ = false
 
 -- the core asks for the block somewhere in the text
 abbrev pub is_asker : List Step → ℕ → ℕ → Bool
-is_asker steps block core = list_any (asks block core) steps
+is_asker steps block core = list_any (asks_for block core) steps
 
 -- a column for each core that passes the test, then the bus and memory
 abbrev pub columns_for : Extent → (ℕ → Bool) → List Column

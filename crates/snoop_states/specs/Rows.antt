@@ -13,8 +13,8 @@ abbrev pub blanks : ℕ → List ℕ
 blanks n = replicate n 32
 
 -- a text, filled up with blanks to the width, and with one where it is as long
-abbrev pub padded : ℕ → List ℕ → List ℕ
-padded width text = text ++ blanks (max 1 (width - length text))
+abbrev pub padded_text : ℕ → List ℕ → List ℕ
+padded_text width text = text ++ blanks (max 1 (width - length text))
 
 -- a text to the right of the width, and two blanks
 abbrev pub to_the_right : ℕ → List ℕ → List ℕ
@@ -27,8 +27,8 @@ below above cell = if pointwise nat_eq above cell then codes "." else cell
 -- the number of a row and its cells, by what stands in each column above it and in it
 abbrev pub cells_text : Widths → List Column → (Column → List ℕ) → (Column → List ℕ) → ℕ → List ℕ
 cells_text widths columns above cell number =
-    to_the_right widths.number (decimal number) ++ flat_map (λ column. padded (width_of widths column) (below (above column) (cell column))) columns
+    to_the_right widths.number (decimal number) ++ flat_map (λ column. padded_text (width_of widths column) (below (above column) (cell column))) columns
 
 -- the names of the columns
 abbrev pub names_text : Widths → List Column → List ℕ
-names_text widths columns = to_the_right widths.number (codes "step") ++ flat_map (λ column. padded (width_of widths column) (column_name column)) columns ++ codes "line\n"
+names_text widths columns = to_the_right widths.number (codes "step") ++ flat_map (λ column. padded_text (width_of widths column) (column_name column)) columns ++ codes "line\n"

@@ -8,11 +8,11 @@ use Rattle.snoop_trace.specs.Extent.{Extent}
 use Rattle.snoop_trace.specs.Output.{address_of}
 use Rattle.snoop_trace.specs.declared.protocol.Protocol.{Protocol}
 use Rattle.snoop_model.specs.Pictures.Situation.{Situation, reset}
-use Rattle.snoop_engine.specs.Chosen.{Chosen, is_chosen, is_within}
+use Rattle.snoop_engine.specs.Chosen.{Chosen, is_chosen, is_in_range}
 use Rattle.snoop_engine.specs.Frames.{Frame}
 use Rattle.snoop_engine.specs.Line.{line_text}
 use Rattle.snoop_engine.specs.Numbered.{Numbered, led_to, numbered_from}
-use Rattle.snoop_engine.specs.Views.{block_of}
+use Rattle.snoop_engine.specs.Views.{block_of_step}
 use Rattle.snoop_engine.specs.Words.{capitals}
 use Rattle.snoop_states.specs.declared.column.Column.{Column}
 use Rattle.snoop_states.specs.declared.widths.Widths.{Widths}
@@ -21,16 +21,16 @@ use Rattle.snoop_states.specs.Rows.{cells_text, names_text}
 
 -- the step is of the block
 abbrev pub is_of : ℕ → Frame → Bool
-is_of block frame = option_map_or (λ b. b == block) (block_of frame.before frame.step) false
+is_of block frame = option_map_or (λ b. b == block) (block_of_step frame.before frame.step) false
 
 -- the frames of the block's steps that are shown
 abbrev pub shown_of : Chosen → ℕ → List Frame → List Numbered
-shown_of choice block frames = filter (λ n. is_within choice n.number && is_of block n.frame) (numbered_from 1 frames)
+shown_of choice block frames = filter (λ n. is_in_range choice n.number && is_of block n.frame) (numbered_from 1 frames)
 
 -- the block in whose table a step stands that is of this block, if any, and has this number
 abbrev pub shown_block : Chosen → Option ℕ → ℕ → Option ℕ
 shown_block choice None number = None
-shown_block choice (Some block) number = if is_chosen choice.block block && is_within choice number then Some block else None
+shown_block choice (Some block) number = if is_chosen choice.block block && is_in_range choice number then Some block else None
 
 -- the machine before the first step that is chosen
 abbrev pub first_shown : Chosen → Protocol → Extent → List Frame → Situation

@@ -3,7 +3,7 @@ ghost use Rattle.std.specs.Prelude.{◌≡◌, ◌<◌, ◌||◌, ◌==◌, ◌+
 ghost use Rattle.std.specs.List.{filter, range_with_len};
 ghost use Rattle.snoop_trace.specs.Extent.{Extent};
 ghost use Rattle.snoop_states.specs.Asked.{AreMarks, HasMarks, mark_at, mark_of};
-ghost use Rattle.snoop_states.specs.Columns.{asks, is_asker};
+ghost use Rattle.snoop_states.specs.Columns.{asks_for, is_asker};
 
 use crate::pieces::add_if;
 use snoop_trace::{NoMemory, Shape, Step};
@@ -68,7 +68,7 @@ fn no_marks(alloc: Global, shape: Shape) -> Result<Vec<Marks>, NoMemory>
 
 // Sets the mark of the core that asks in a step, if one does.
 fn mark(asked: &mut Vec<Marks>, step: Step)
-    ensures { (shape : Extent) (test : ℕ → ℕ → Bool) → AreMarks shape test asked.old.items → AreMarks shape (λ block core. test block core || asks block core step) asked.new.items }
+    ensures { (shape : Extent) (test : ℕ → ℕ → Bool) → AreMarks shape test asked.old.items → AreMarks shape (λ block core. test block core || asks_for block core step) asked.new.items }
 {
     if let Step::Ask {
         core,

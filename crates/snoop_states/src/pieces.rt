@@ -1,7 +1,7 @@
 //! Pieces of texts, and texts that are filled up with blanks.
 ghost use Rattle.std.specs.Prelude.{◌≡◌, ◌++◌, ◌∷◌, [], if◌then◌else◌, IfOk, OnOk};
 ghost use Rattle.std.specs.Fmt.{decimal};
-ghost use Rattle.snoop_states.specs.Rows.{below, blanks, padded, to_the_right};
+ghost use Rattle.snoop_states.specs.Rows.{below, blanks, padded_text, to_the_right};
 
 use snoop_trace::NoMemory;
 use snoop_trace::streams::{push_byte, push_decimal, push_text};
@@ -29,7 +29,7 @@ pub(crate) fn push_blanks(out: &mut Vec<u8>, count: usize) -> Result<(), NoMemor
 
 /// Appends a text, filled up with blanks to the width, and with one where it is as long.
 pub(crate) fn push_padded(out: &mut Vec<u8>, width: usize, text: &[u8]) -> Result<(), NoMemory>
-    ensures { OnOk result (out.new.items ≡ out.old.items ++ padded width text.now) }
+    ensures { OnOk result (out.new.items ≡ out.old.items ++ padded_text width text.now) }
 {
     push_bytes(out, text)?;
     let left = width.saturating_sub(text.len());
@@ -56,7 +56,7 @@ pub(crate) fn push_below(
     above: &[u8],
     cell: &[u8],
 ) -> Result<(), NoMemory>
-    ensures { OnOk result (out.new.items ≡ out.old.items ++ padded width (below above.now cell.now)) }
+    ensures { OnOk result (out.new.items ≡ out.old.items ++ padded_text width (below above.now cell.now)) }
 {
     if above == cell {
         push_padded(out, width, b".")

@@ -7,7 +7,7 @@ ghost use Rattle.snoop_engine.specs.Line.{line_text};
 ghost use Rattle.snoop_states.specs.Cells.{cell_text};
 ghost use Rattle.snoop_engine.specs.Chosen.{Chosen};
 ghost use Rattle.snoop_states.specs.Columns.{column_name, width_of};
-ghost use Rattle.snoop_states.specs.Rows.{below, names_text, padded, to_the_right};
+ghost use Rattle.snoop_states.specs.Rows.{below, names_text, padded_text, to_the_right};
 ghost use Rattle.snoop_states.specs.Seen.{HasCells, HasRows, IsEmpty, IsRowMore, IsTable, pair};
 ghost use Rattle.snoop_states.specs.Tables.{first_line, first_shown, shown_of, table_text};
 ghost use Rattle.snoop_states.specs.declared.column.Column.{Column};
@@ -91,7 +91,7 @@ fn push_cells(
     above: &[Cell],
 ) -> Result<Vec<Cell>, NoMemory>
     ensures cells { IfOk result (λ cells. map pair cells.items ≡ map (λ cell. (cell.column, cell_text machine.now.situation block cell.column)) above.now) }
-    ensures text { OnOk result (out.new.items ≡ out.old.items ++ flat_map (λ cell. padded (width_of widths cell.column) (below cell.text.items (cell_text machine.now.situation block cell.column))) above.now) }
+    ensures text { OnOk result (out.new.items ≡ out.old.items ++ flat_map (λ cell. padded_text (width_of widths cell.column) (below cell.text.items (cell_text machine.now.situation block cell.column))) above.now) }
 {
     let mut cells = Vec::new(alloc);
     for cell in above {
@@ -110,7 +110,7 @@ fn push_names(
     widths: Widths,
     cells: &[Cell],
 ) -> Result<(), NoMemory>
-    ensures { OnOk result (out.new.items ≡ out.old.items ++ flat_map (λ cell. padded (width_of widths cell.column) (column_name cell.column)) cells.now) }
+    ensures { OnOk result (out.new.items ≡ out.old.items ++ flat_map (λ cell. padded_text (width_of widths cell.column) (column_name cell.column)) cells.now) }
 {
     for cell in cells {
         let name = name_of(alloc, cell.column)?;

@@ -5,7 +5,7 @@ ghost use Rattle.snoop_trace.specs.declared.protocol.Protocol.{Protocol};
 ghost use Rattle.snoop_model.specs.Pictures.Situation.{reset};
 ghost use Rattle.snoop_engine.specs.Frames.{Frame};
 ghost use Rattle.snoop_engine.specs.Line.{line_text};
-ghost use Rattle.snoop_engine.specs.Views.{block_of};
+ghost use Rattle.snoop_engine.specs.Views.{block_of_step};
 ghost use Rattle.snoop_states.specs.Asked.{mark_at};
 ghost use Rattle.snoop_engine.specs.Chosen.{Chosen};
 ghost use Rattle.snoop_states.specs.Tables.{shown_block};

@@ -9,16 +9,16 @@ use Rattle.snoop_engine.specs.Chosen.{Chosen}
 use Rattle.snoop_engine.specs.Numbered.{led_to}
 use Rattle.snoop_svg.specs.declared.drawing.Drawing.{Drawing}
 use Rattle.snoop_svg.specs.Drawings.{HasSeen, StandsBelow, beginning_text, drawn, opening, standing}
-use Rattle.snoop_svg.specs.Sheets.{Plan, Standing, first_row}
+use Rattle.snoop_svg.specs.Sheets.{Plan, AfterSteps, first_row}
 
 -- the machine at reset
-abbrev pub at_reset : Protocol → Extent → Standing
+abbrev pub at_reset : Protocol → Extent → AfterSteps
 at_reset protocol shape = record { number = 0; situation = reset protocol shape }
 
 first_is : (choice : Chosen) (protocol : Protocol) (shape : Extent) → choice.from ≡ 1 → at_reset protocol shape ≡ standing choice protocol shape []
 first_is choice protocol shape one =
     let none : 0 ≡ choice.from - 1 = omega arith in
-    let standing_at : ℕ → Standing = λ n. record { number = n; situation = led_to (reset protocol shape) (take n []) } in
+    let standing_at : ℕ → AfterSteps = λ n. record { number = n; situation = led_to (reset protocol shape) (take n []) } in
     ap standing_at none
 
 module _ (first now : Drawing) (protocol : Protocol) (shape : Extent) (plan : now.plan ≡ first.plan) (place : now.place ≡ 0) where

@@ -9,15 +9,15 @@ use Rattle.snoop_trace.specs.Extent.{Extent}
 use Rattle.snoop_trace.specs.declared.protocol.Protocol.{Protocol}
 use Rattle.snoop_model.specs.Pictures.Situation.{Situation, reset}
 use Rattle.snoop_engine.specs.Frames.{Frame}
-use Rattle.snoop_engine.specs.Views.{block_of}
+use Rattle.snoop_engine.specs.Views.{block_of_step}
 use Rattle.snoop_engine.specs.Chosen.{Chosen}
 use Rattle.snoop_engine.specs.Numbered.{Numbered, led_to, numbered_from}
 use Rattle.snoop_engine.proofs.NumberedLemmas.{led_on, not_within, numbered, numbered_on}
 use Rattle.snoop_svg.specs.Drawings.{drawn, first_standing, has_row, last_standing, standing}
-use Rattle.snoop_svg.specs.Sheets.{Standing}
+use Rattle.snoop_svg.specs.Sheets.{AfterSteps}
 
 -- what is there after a frame
-abbrev pub after : ℕ → Frame → Standing
+abbrev pub after : ℕ → Frame → AfterSteps
 after number frame = record { number = number; situation = frame.after }
 
 -- a frame more is drawn, or is not
@@ -31,14 +31,14 @@ none_from choice number [] h = refl
 none_from choice number (f ∷ fs) h =
     let low : number < choice.from = omega arith in
     let more : number + 1 + length fs ≤ choice.from = omega arith in
-    let off : has_row choice (numbered number f) ≡ false = not_within choice (block_of f.before f.step) number (and_left (nat_le choice.from number) (nat_le number choice.to) (lt-leb choice.from number low)) in
+    let off : has_row choice (numbered number f) ≡ false = not_within choice (block_of_step f.before f.step) number (and_left (nat_le choice.from number) (nat_le number choice.to) (lt-leb choice.from number low)) in
     cond-false (has_row choice (numbered number f)) _ _ off ∙ none_from choice (number + 1) fs more
 
 -- nothing is drawn before the first number
 pub none_yet : (choice : Chosen) (frames : List Frame) → 1 + length frames ≤ choice.from → drawn choice frames ≡ []
 none_yet choice frames h = none_from choice 1 frames h
 
-last_on : (above : Standing) (ns : List Numbered) (n : Numbered) → last_standing above (ns ++ n ∷ []) ≡ after n.number n.frame
+last_on : (above : AfterSteps) (ns : List Numbered) (n : Numbered) → last_standing above (ns ++ n ∷ []) ≡ after n.number n.frame
 last_on above [] n = refl
 last_on above (m ∷ ms) n = last_on (after m.number m.frame) ms n
 
@@ -49,7 +49,7 @@ module _ (choice : Chosen) (protocol : Protocol) (shape : Extent) (frames : List
   first_stays : choice.from ≤ 1 + length frames → first_standing choice protocol shape (frames ++ frame ∷ []) ≡ first_standing choice protocol shape frames
   first_stays h =
       let short : choice.from - 1 ≤ length frames = omega arith in
-      let standing_at : Situation → Standing = λ s. record { number = choice.from - 1; situation = s } in
+      let standing_at : Situation → AfterSteps = λ s. record { number = choice.from - 1; situation = s } in
       ap (λ (fs : List Frame). standing_at (led_to (reset protocol shape) fs)) (take-append-le (choice.from - 1) frames (frame ∷ []) short)
 
   -- the frame is the last one before the first number
@@ -58,7 +58,7 @@ module _ (choice : Chosen) (protocol : Protocol) (shape : Extent) (frames : List
       let all : length (frames ++ frame ∷ []) ≤ choice.from - 1 = omega (arith, longer frames frame) in
       let few : 1 + length (frames ++ frame ∷ []) ≤ choice.from = omega (arith, longer frames frame) in
       let number : choice.from - 1 ≡ 1 + length frames = omega arith in
-      let standing_at : ℕ → Situation → Standing = λ n s. record { number = n; situation = s } in
+      let standing_at : ℕ → Situation → AfterSteps = λ n s. record { number = n; situation = s } in
       ap (last_standing (first_standing choice protocol shape (frames ++ frame ∷ []))) (none_yet choice (frames ++ frame ∷ []) few)
       ∙ ap (λ (fs : List Frame). standing_at (choice.from - 1) (led_to (reset protocol shape) fs)) (take_all (choice.from - 1) (frames ++ frame ∷ []) all)
       ∙ ap (standing_at (choice.from - 1)) (led_on (reset protocol shape) frames frame) ∙ ap (λ (n : ℕ). standing_at n frame.after) number
@@ -82,4 +82,4 @@ module _ (choice : Chosen) (protocol : Protocol) (shape : Extent) (frames : List
       → standing choice protocol shape (frames ++ frame ∷ []) ≡ standing choice protocol shape frames
   standing_stays late off =
       ap (last_standing (first_standing choice protocol shape (frames ++ frame ∷ []))) (drawn_stays off)
-      ∙ ap (λ (above : Standing). last_standing above (drawn choice frames)) (first_stays late)
+      ∙ ap (λ (above : AfterSteps). last_standing above (drawn choice frames)) (first_stays late)

@@ -5,14 +5,14 @@ use Rattle.std.proofs.lemmas.Bool.{and_parts, cond-false, cond-true, eq-eqb, leb
 use Rattle.snoop_trace.specs.Extent.{Extent}
 use Rattle.snoop_trace.specs.declared.protocol.Protocol.{Protocol}
 use Rattle.snoop_engine.specs.Frames.{Frame}
-use Rattle.snoop_engine.specs.Taken.{lines_of}
-use Rattle.snoop_engine.specs.Views.{block_of}
+use Rattle.snoop_engine.specs.Taken.{lines_of_step}
+use Rattle.snoop_engine.specs.Views.{block_of_step}
 use Rattle.snoop_engine.specs.Chosen.{Chosen}
 use Rattle.snoop_engine.specs.Numbered.{Numbered}
 use Rattle.snoop_engine.proofs.NumberedLemmas.{numbered, within_of_shown}
 use Rattle.snoop_svg.specs.declared.drawing.Drawing.{Drawing}
 use Rattle.snoop_svg.specs.Drawings.{HasSeen, StandsBelow, drawn, frame_text, has_row, placed_row, rows_per_sheet, standing, turn_text}
-use Rattle.snoop_svg.specs.Sheets.{Plan, Standing, first_row, row_text, row_y}
+use Rattle.snoop_svg.specs.Sheets.{Plan, AfterSteps, first_row, row_text, row_y}
 use Rattle.snoop_svg.proofs.DrawnLemmas.{after, drawn_grows, drawn_stays, none_yet, standing_grows, standing_starts, standing_stays}
 
 longer : (frames : List Frame) (frame : Frame) → length (frames ++ frame ∷ []) ≡ 1 + length frames
@@ -21,7 +21,7 @@ longer frames frame = omega (arith, length-append frames (frame ∷ []))
 -- a step that is drawn has a number that may be
 pub late_row : (choice : Chosen) (number : ℕ) (frame : Frame) → has_row choice (numbered number frame) ≡ true → choice.from ≤ number
 late_row choice number frame on =
-    leb-true choice.from number (and_parts (nat_le choice.from number) (nat_le number choice.to) (within_of_shown choice (block_of frame.before frame.step) number on)).0
+    leb-true choice.from number (and_parts (nat_le choice.from number) (nat_le number choice.to) (within_of_shown choice (block_of_step frame.before frame.step) number on)).0
 
 -- how many rows there are
 abbrev pub shown_rows : Plan → List Frame → ℕ
@@ -117,10 +117,10 @@ module _ (plan : Plan) (protocol : Protocol) (shape : Extent) (frames : List Fra
         cond-false (1 + length frames + 1 == plan.choice.from) _ _ not_first ∙ cond-false (has_row plan.choice (numbered (1 + length frames) frame)) _ _ off
 
 -- the text of a row that is shown, and of one that is not
-module _ (plan : Plan) (protocol : Protocol) (shape : Extent) (place : ℕ) (above : Standing) (n : Numbered) where
+module _ (plan : Plan) (protocol : Protocol) (shape : Extent) (place : ℕ) (above : AfterSteps) (n : Numbered) where
   pub row_shown : place < plan.paper.shown → placed_row plan protocol shape place above n
       ≡ turn_text plan protocol shape place above
-      ++ row_text plan shape (row_y (place % rows_per_sheet plan.paper.form)) above n.number n.frame.after (block_of n.frame.before n.frame.step) n.frame.step n.frame.outcome (lines_of n.frame.before n.frame.step n.frame.outcome)
+      ++ row_text plan shape (row_y (place % rows_per_sheet plan.paper.form)) above n.number n.frame.after (block_of_step n.frame.before n.frame.step) n.frame.step n.frame.outcome (lines_of_step n.frame.before n.frame.step n.frame.outcome)
   row_shown low = cond-true (nat_lt place plan.paper.shown) _ _ (lt-ltb place plan.paper.shown low)
 
   pub row_blank : plan.paper.shown ≤ place → placed_row plan protocol shape place above n ≡ []

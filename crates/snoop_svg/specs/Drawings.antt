@@ -9,8 +9,8 @@ use Rattle.snoop_model.specs.Pictures.Situation.{Situation, reset}
 use Rattle.snoop_engine.specs.Chosen.{Chosen, is_shown}
 use Rattle.snoop_engine.specs.Frames.{Frame, steps_of}
 use Rattle.snoop_engine.specs.Numbered.{Numbered, led_to, numbered_from}
-use Rattle.snoop_engine.specs.Taken.{lines_of}
-use Rattle.snoop_engine.specs.Views.{block_of, view_text}
+use Rattle.snoop_engine.specs.Taken.{lines_of_step}
+use Rattle.snoop_engine.specs.Views.{block_of_step, view_text}
 use Rattle.snoop_draw.specs.Panels.{panels_for}
 use Rattle.snoop_svg.specs.declared.drawing.Drawing.{Drawing}
 use Rattle.snoop_svg.specs.declared.paper.Form.{Form}
@@ -18,28 +18,28 @@ use Rattle.snoop_svg.specs.declared.paper.Form.TheVariants.{Svg, Html}
 use Rattle.snoop_svg.specs.declared.paper.Paper.{Paper}
 use Rattle.snoop_svg.specs.Layout.{after_panels, columns_from, sizes_for}
 use Rattle.snoop_svg.specs.Looks.{cells_at}
-use Rattle.snoop_svg.specs.Sheets.{Plan, Standing, first_row, heading_text, row_text, row_y, sheet_closed}
+use Rattle.snoop_svg.specs.Sheets.{Plan, AfterSteps, first_row, heading_text, row_text, row_y, sheet_closed}
 use Rattle.snoop_svg.specs.Styles.{page_end, page_head}
 
 -- the step of a frame is drawn
 abbrev pub has_row : Chosen → Numbered → Bool
-has_row choice n = is_shown choice (block_of n.frame.before n.frame.step) n.number
+has_row choice n = is_shown choice (block_of_step n.frame.before n.frame.step) n.number
 
 -- the frames whose steps are drawn
 abbrev pub drawn : Chosen → List Frame → List Numbered
 drawn choice frames = filter (has_row choice) (numbered_from 1 frames)
 
 -- the first row: the machine before the first step that may be drawn
-abbrev pub first_standing : Chosen → Protocol → Extent → List Frame → Standing
+abbrev pub first_standing : Chosen → Protocol → Extent → List Frame → AfterSteps
 first_standing choice protocol shape frames = record { number = choice.from - 1; situation = led_to (reset protocol shape) (take (choice.from - 1) frames) }
 
 -- what the last of these rows shows, or the one above them
-abbrev pub last_standing : Standing → List Numbered → Standing
+abbrev pub last_standing : AfterSteps → List Numbered → AfterSteps
 last_standing above [] = above
 last_standing above (n ∷ ns) = last_standing (record { number = n.number; situation = n.frame.after }) ns
 
 -- what the row above the next one shows
-abbrev pub standing : Chosen → Protocol → Extent → List Frame → Standing
+abbrev pub standing : Chosen → Protocol → Extent → List Frame → AfterSteps
 standing choice protocol shape frames = last_standing (first_standing choice protocol shape frames) (drawn choice frames)
 
 -- how many rows a sheet has at most
@@ -60,15 +60,15 @@ abbrev pub turned : Plan → Protocol → Extent → ℕ → List ℕ
 turned plan protocol shape place = sheet_closed protocol (rows_per_sheet plan.paper.form) ++ heading_text plan protocol shape (sheet_rows plan place)
 
 -- before the next row: where the sheet is full its end, and the beginning of another
-abbrev pub turn_text : Plan → Protocol → Extent → ℕ → Standing → List ℕ
+abbrev pub turn_text : Plan → Protocol → Extent → ℕ → AfterSteps → List ℕ
 turn_text plan protocol shape place above = if is_full plan place then (turned plan protocol shape place ++ first_row plan above) else []
 
 -- the row of a step in this place of all rows, if it is shown
-abbrev pub placed_row : Plan → Protocol → Extent → ℕ → Standing → Numbered → List ℕ
+abbrev pub placed_row : Plan → Protocol → Extent → ℕ → AfterSteps → Numbered → List ℕ
 placed_row plan protocol shape place above n =
     if nat_lt place plan.paper.shown then
     (turn_text plan protocol shape place above
-    ++ row_text plan shape (row_y (place % rows_per_sheet plan.paper.form)) above n.number n.frame.after (block_of n.frame.before n.frame.step) n.frame.step n.frame.outcome (lines_of n.frame.before n.frame.step n.frame.outcome))
+    ++ row_text plan shape (row_y (place % rows_per_sheet plan.paper.form)) above n.number n.frame.after (block_of_step n.frame.before n.frame.step) n.frame.step n.frame.outcome (lines_of_step n.frame.before n.frame.step n.frame.outcome))
     else []
 
 -- what is drawn of a frame, by those before it: after the last step that is not drawn the first row, and for a step that is drawn its row
@@ -133,7 +133,7 @@ abbrev pub drawing_text : Protocol → Extent → Chosen → Paper → List Fram
 drawing_text protocol shape choice paper frames = planned_text (plan_for shape choice paper (steps_of frames) (length (drawn choice frames))) protocol shape frames
 
 -- the drawing stands below this row
-pub record StandsBelow (now : Drawing) (above : Standing) : Type 0 where
+pub record StandsBelow (now : Drawing) (above : AfterSteps) : Type 0 where
   pub number : now.above ≡ above.number
   pub cells : now.cells.items ≡ cells_at above.situation now.plan.columns
 

@@ -122,13 +122,13 @@ abbrev pub performed_text : ℕ → ℕ → Did → List ℕ
 performed_text x y did = operation_opened x y (codes "done") ++ operation_name did.load ++ decimal did.value ++ text_closed
 
 -- the end of a rail at this height, where an arrow comes from the bus
-abbrev pub arrival : ℕ → ℕ → ℕ → List ℕ
-arrival y rail bus = line rail y rail (y + 19) (codes "d") ++ left_arrow bus rail (y + 19) (codes "g")
+abbrev pub arriving_arrow : ℕ → ℕ → ℕ → List ℕ
+arriving_arrow y rail bus = line rail y rail (y + 19) (codes "d") ++ left_arrow bus rail (y + 19) (codes "g")
 
 -- the message arrives at the requestor
 abbrev pub to_core : ℕ → Option Column → Option Column → Payload → Did → List ℕ
 to_core y (Some column) (Some bus) payload did =
-    performed_text column.x y did ++ payload_text column.x y payload ++ arrival y (rail_of column) bus.x
+    performed_text column.x y did ++ payload_text column.x y payload ++ arriving_arrow y (rail_of column) bus.x
 to_core y _ _ payload did = []
 
 -- the message arrives at the core that performs an operation by it, if any

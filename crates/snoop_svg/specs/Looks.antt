@@ -36,14 +36,14 @@ look_at s (Bus block) = record { band = bus_band (picture_of s block).transactio
 look_at s (Memory block) = record { band = memory_band (memory_at s block); rail = rail.Free; words = memory_words s block }
 
 -- a column, and what it shows
-pub record Cell : Type 0 where
+pub record SheetCell : Type 0 where
   pub column : Column
   pub look : Look
 
 -- a column, and what it shows of a situation
-abbrev pub cell_at : Situation → Column → Cell
+abbrev pub cell_at : Situation → Column → SheetCell
 cell_at s column = record { column = column; look = look_at s column.subject }
 
 -- the same of columns
-abbrev pub cells_at : Situation → List Column → List Cell
+abbrev pub cells_at : Situation → List Column → List SheetCell
 cells_at s columns = map (cell_at s) columns

@@ -38,7 +38,7 @@ pub record Plan : Type 0 where
   pub paper : Paper
 
 -- a machine after so many steps
-pub record Standing : Type 0 where
+pub record AfterSteps : Type 0 where
   pub number : ℕ
   pub situation : Situation
 
@@ -113,7 +113,7 @@ abbrev pub first_words : Plan → ℕ → List ℕ
 first_words plan taken = number plan.sizes.numbers 77 taken ++ text plan.sizes.records 77 (first_word taken) (codes "t")
 
 -- a first row: the machine after so many steps
-abbrev pub first_row : Plan → Standing → List ℕ
+abbrev pub first_row : Plan → AfterSteps → List ℕ
 first_row plan standing = first_words plan standing.number ++ first_cells 28 plan.columns standing.situation
 
 -- the link that a row is
@@ -149,7 +149,7 @@ abbrev pub row_end : Plan → ℕ → Situation → Option ℕ → Step → Resu
 row_end plan y s of step outcome lines = event_text y plan.columns s of step outcome lines ++ codes "</a>\n"
 
 -- the row of a step, below one that shows what stands above; the machine after the step is in s, and the step is of this block if of any
-abbrev pub row_text : Plan → Extent → ℕ → Standing → ℕ → Situation → Option ℕ → Step → Result Reply Refused → List Taken → List ℕ
+abbrev pub row_text : Plan → Extent → ℕ → AfterSteps → ℕ → Situation → Option ℕ → Step → Result Reply Refused → List Taken → List ℕ
 row_text plan shape y above taken s of step outcome lines =
     row_head plan shape y above.number taken s step outcome lines ++ next_cells y plan.columns above.situation s ++ row_end plan y s of step outcome lines
 

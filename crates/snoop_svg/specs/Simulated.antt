@@ -26,7 +26,7 @@ abbrev pub IsUndrawable : Protocol → Extent → Chosen → List Step → Type 
 IsUndrawable protocol shape choice steps = (rows : ℕ) × (HasRows protocol shape choice steps rows × ¬ IsSmall rows (panels_for shape steps choice.block))
 
 -- this is the plan of the drawing of the steps, which is small enough
-pub record IsPlan (protocol : Protocol) (shape : Extent) (choice : Chosen) (paper : Paper) (steps : List Step) (plan : Plan) : Type 0 where
+pub record IsPlanOf (protocol : Protocol) (shape : Extent) (choice : Chosen) (paper : Paper) (steps : List Step) (plan : Plan) : Type 0 where
   pub rows : ℕ
   pub has : HasRows protocol shape choice steps rows
   pub small : IsSmall rows (panels_for shape steps choice.block)
@@ -35,7 +35,7 @@ pub record IsPlan (protocol : Protocol) (shape : Extent) (choice : Chosen) (pape
 -- there is a plan, unless the drawing is too large
 abbrev pub IsPlanned : Protocol → Extent → Chosen → Paper → List Step → Option Plan → Type 0
 IsPlanned protocol shape choice paper steps None = IsUndrawable protocol shape choice steps
-IsPlanned protocol shape choice paper steps (Some plan) = IsPlan protocol shape choice paper steps plan
+IsPlanned protocol shape choice paper steps (Some plan) = IsPlanOf protocol shape choice paper steps plan
 
 -- the steps were drawn, or a beginning of that; or their drawing would be too large
 abbrev pub DrawsSteps : Protocol → Extent → Chosen → Paper → List Step → Result (Unit {0}) DrawFault → Option (List ℕ) → Option (List ℕ) → Type 0

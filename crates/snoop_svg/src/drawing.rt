@@ -3,7 +3,7 @@ ghost use Rattle.std.specs.Prelude.{◌≡◌, ◌≤◌, ◌<◌, ◌+◌, ◌-
 ghost use Rattle.snoop_model.specs.Pictures.Situation.{Situation};
 ghost use Rattle.snoop_svg.specs.Drawings.{StandsBelow, closing, head_text, is_full, opening, rows_per_sheet, sheet_rows, sheet_start, tail_text, turn_text, turned};
 ghost use Rattle.snoop_svg.specs.Looks.{cells_at};
-ghost use Rattle.snoop_svg.specs.Sheets.{Standing, first_row, heading_text, row_text, row_y, sheet_closed};
+ghost use Rattle.snoop_svg.specs.Sheets.{AfterSteps, first_row, heading_text, row_text, row_y, sheet_closed};
 
 use crate::looks::{Cell, cells_at};
 use crate::paper::{Form, Paper};
@@ -204,8 +204,8 @@ impl Drawing {
         seen: &Seen<'_>,
     ) -> Result<(), NoMemory>
         ensures plan { self.new.plan ≡ self.old.plan × self.new.place ≡ self.old.place }
-        ensures below { (above : Standing) → StandsBelow self.old above → OnOk result (StandsBelow self.new (record { number = seen.now.number; situation = machine.now.situation })) }
-        ensures text { (above : Standing) → StandsBelow self.old above
+        ensures below { (above : AfterSteps) → StandsBelow self.old above → OnOk result (StandsBelow self.new (record { number = seen.now.number; situation = machine.now.situation })) }
+        ensures text { (above : AfterSteps) → StandsBelow self.old above
             → OnOk result (out.new.items ≡ out.old.items
             ++ (turn_text self.old.plan machine.now.situation.protocol machine.now.situation.shape self.old.place above
             ++ row_text self.old.plan machine.now.situation.shape (row_y (self.old.place % rows_per_sheet self.old.plan.paper.form)) above seen.now.number machine.now.situation seen.now.block seen.now.step seen.now.outcome seen.now.lines.now)) }
@@ -242,9 +242,9 @@ impl Drawing {
     ) -> Result<(), NoMemory>
         ensures plan { self.new.plan ≡ self.old.plan }
         ensures place { self.old.place < self.old.plan.paper.shown → OnOk result (self.new.place ≡ self.old.place + 1) }
-        ensures below { (above : Standing) → self.old.place < self.old.plan.paper.shown → StandsBelow self.old above
+        ensures below { (above : AfterSteps) → self.old.place < self.old.plan.paper.shown → StandsBelow self.old above
             → OnOk result (StandsBelow self.new (record { number = seen.now.number; situation = machine.now.situation })) }
-        ensures shown { (above : Standing) → self.old.place < self.old.plan.paper.shown → StandsBelow self.old above
+        ensures shown { (above : AfterSteps) → self.old.place < self.old.plan.paper.shown → StandsBelow self.old above
             → OnOk result (out.new.items ≡ out.old.items
             ++ (turn_text self.old.plan machine.now.situation.protocol machine.now.situation.shape self.old.place above
             ++ row_text self.old.plan machine.now.situation.shape (row_y (self.old.place % rows_per_sheet self.old.plan.paper.form)) above seen.now.number machine.now.situation seen.now.block seen.now.step seen.now.outcome seen.now.lines.now)) }

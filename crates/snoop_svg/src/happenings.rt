@@ -1,7 +1,7 @@
 //! What happens at a step, in the panel of its block.
 ghost use Rattle.std.specs.Prelude.{◌≡◌, ◌+◌, ◌++◌, codes, OnOk};
 ghost use Rattle.snoop_svg.specs.Elements.{text_closed, text_opened};
-ghost use Rattle.snoop_svg.specs.Happenings.{answer_mark, answer_words, arrival, ask_text, asked_text, barred_text, barrier, event_text, from_core, from_memory, is_hit, missing_text, opened_text, operation_name, order_line, order_text, ordered_text, payload_text, performed_text, ray, request_text, respond_text, sent_text, square, to_core, to_memory, to_requestor};
+ghost use Rattle.snoop_svg.specs.Happenings.{answer_mark, answer_words, arriving_arrow, ask_text, asked_text, barred_text, barrier, event_text, from_core, from_memory, is_hit, missing_text, opened_text, operation_name, order_line, order_text, ordered_text, payload_text, performed_text, ray, request_text, respond_text, sent_text, square, to_core, to_memory, to_requestor};
 
 use crate::columns::{Column, Subject, column_for};
 use crate::elements::{
@@ -322,7 +322,7 @@ fn push_performed(out: &mut Vec<u8>, x: u32, y: u32, did: Did) -> Result<(), NoM
 
 // Appends the end of a rail, where an arrow comes from the bus.
 fn push_arrival(out: &mut Vec<u8>, y: u32, rail: u32, bus: u32) -> Result<(), NoMemory>
-    ensures { OnOk result (out.new.items ≡ out.old.items ++ arrival y rail bus) }
+    ensures { OnOk result (out.new.items ≡ out.old.items ++ arriving_arrow y rail bus) }
 {
     push_line(out, rail as u64, y as u64, rail as u64, y as u64 + 19, "d")?;
     push_left_arrow(out, bus as u64, rail, y as u64 + 19, "g")

@@ -101,7 +101,7 @@ pub(crate) struct Cell {
 }
 
 impl Model for Cell {
-    ghost use Rattle.snoop_svg.specs.Looks.{Cell as Filled};
+    ghost use Rattle.snoop_svg.specs.Looks.{SheetCell as Filled};
 
     ghost Value = { Filled };
 

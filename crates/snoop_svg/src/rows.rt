@@ -28,14 +28,14 @@ fn push_mark(out: &mut Vec<u8>, choice: Choice, seen: &Seen<'_>) -> Result<(), N
 
 impl View for Rows {
     ghost use Rattle.std.specs.Prelude.{◌≡◌, ◌+◌, [], length};
-    ghost use Rattle.snoop_engine.specs.Views.{block_of};
+    ghost use Rattle.snoop_engine.specs.Views.{block_of_step};
     ghost use Rattle.snoop_svg.specs.Size.{mark_text};
 
     ghost has_seen = { λ first protocol shape frames now. now ≡ first };
 
     ghost heading = { λ rows protocol shape. [] };
 
-    ghost shows = { λ rows protocol shape frames frame. mark_text rows.choice (1 + length frames) (block_of frame.before frame.step) };
+    ghost shows = { λ rows protocol shape frames frame. mark_text rows.choice (1 + length frames) (block_of_step frame.before frame.step) };
 
     ghost ending = { λ rows protocol shape frames final. [] };
 

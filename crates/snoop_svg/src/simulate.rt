@@ -8,7 +8,7 @@ ghost use Rattle.snoop_engine.specs.SimulatedView.{BeginsToShow, ShowsRun};
 ghost use Rattle.snoop_engine.specs.Chosen.{Chosen};
 ghost use Rattle.snoop_draw.specs.Panels.{panels_for};
 ghost use Rattle.snoop_svg.specs.Drawings.{drawing_text, plan_for};
-ghost use Rattle.snoop_svg.specs.Simulated.{Draws, DrawsSteps, IsPlan, IsPlanned};
+ghost use Rattle.snoop_svg.specs.Simulated.{Draws, DrawsSteps, IsPlanOf, IsPlanned};
 ghost use Rattle.snoop_svg.specs.Size.{IsSmall};
 
 use crate::columns::columns_for;
@@ -108,8 +108,8 @@ fn draw_planned<W: Sink>(
     steps: &[Step],
     plan: Plan,
 ) -> Result<(), WriteFault>
-    ensures ok { (choice : Chosen) (paper : Paper) → IsPlan protocol shape choice paper steps.now plan → OnOk result (ShowsRun protocol shape (drawing_text protocol shape choice paper) steps.now (W.contents writer.old) (W.contents writer.new)) }
-    ensures front { (choice : Chosen) (paper : Paper) → IsPlan protocol shape choice paper steps.now plan → OnErr result (BeginsToShow protocol shape (drawing_text protocol shape choice paper) steps.now (W.contents writer.old) (W.contents writer.new)) }
+    ensures ok { (choice : Chosen) (paper : Paper) → IsPlanOf protocol shape choice paper steps.now plan → OnOk result (ShowsRun protocol shape (drawing_text protocol shape choice paper) steps.now (W.contents writer.old) (W.contents writer.new)) }
+    ensures front { (choice : Chosen) (paper : Paper) → IsPlanOf protocol shape choice paper steps.now plan → OnErr result (BeginsToShow protocol shape (drawing_text protocol shape choice paper) steps.now (W.contents writer.old) (W.contents writer.new)) }
     ensures never_blamed { W.never_fails ≡ true → result ≢ Err WriteFault.Write }
     ensures blamed { BlamesWriter (W.failed writer.old) (W.failed writer.new) (result ≡ Err WriteFault.Write) }
 {

@@ -10,7 +10,7 @@ ghost use Rattle.snoop_machine.specs.Standing.{KeepsRoom, line_count, has_line};
 ghost use Rattle.snoop_machine.specs.Holding.{HoldsOn};
 ghost use Rattle.snoop_machine.specs.Prepared.{IsFull, IsPrepared, places, room_to_issue};
 ghost use Rattle.snoop_machine.specs.Following.{LosesLines, AddsLine, AddsLines};
-ghost use Rattle.snoop_machine.specs.Plan.{IsPlan, IsPlanFor, HasRoom, step_of, room_for, entry_of};
+ghost use Rattle.snoop_machine.specs.Plan.{IsPlan, IsPlanFor, HasRoom, planned_step, room_for, entry_of};
 ghost use Rattle.snoop_model.specs.Invariant.Invariant.{Invariant};
 ghost use Rattle.snoop_model.specs.declared.replies.Refused.{Refused};
 
@@ -210,7 +210,7 @@ impl<B: Block> Parts<B> {
     fn perform(&mut self, plan: Plan) -> Reply
         requires found { IsPlan self.old.situation plan }
         requires room { HasRoom self.old plan }
-        ensures moved { FirstMove self.old.situation (step_of plan) result self.new.situation (entry_of self.old.situation.log plan) }
+        ensures moved { FirstMove self.old.situation (planned_step plan) result self.new.situation (entry_of self.old.situation.log plan) }
         ensures room { KeepsRoom self.old self.new }
         ensures lines { (core : ℕ) → LosesLines self.old self.new core }
     {

@@ -1,10 +1,10 @@
 use Rattle.std.proofs.Common.{◌≡◌, List, map, take}
 use Rattle.snoop_engine.specs.Frames.{Frame}
 use Rattle.snoop_counts.specs.Causes.{cause_of}
-use Rattle.snoop_counts.specs.LastSteps.{Follows}
+use Rattle.snoop_counts.specs.LastSteps.{KnowsLastSteps}
 use Rattle.snoop_counts.specs.declared.count.Happening.TheVariants.{Line}
 use Rattle.snoop_counts.proofs.watch.write_lines.Given as goal
 
 -- the lines so far
 abbrev pub invariant-loop-line : goal.invariant-loop-line
-invariant-loop-line l = (frames : List Frame) → Follows frames l.copies → l.all.items ≡ map (λ line. Line l.step l.outcome line (cause_of frames l.operation line)) (take l.line-index l.lines)
+invariant-loop-line l = (frames : List Frame) → KnowsLastSteps frames l.copies → l.all.items ≡ map (λ line. Line l.step l.outcome line (cause_of frames l.operation line)) (take l.line-index l.lines)

@@ -1,7 +1,7 @@
 use Rattle.std.proofs.Common.{rules, map, string_bytes}
 use Rattle.std.proofs.lemmas.Result.{IfErr-weaker, IfOk-weaker}
 use Rattle.clap.specs.Words.{app_of, kind_of}
-use Rattle.snoop_sim.specs.Asked.{Asks, Refuses}
+use Rattle.snoop_sim.specs.Asked.{AsksFor, BeginsNothing}
 use Rattle.snoop_sim.proofs.AskedLemmas.{asked, command_named, help_asked, is_free, refused, shown, without_task}
 use Rattle.snoop_sim.proofs.options.task_in.Goals as goal
 
@@ -11,7 +11,7 @@ returns-in-Ok-clause-ok c =
     let words = map string_bytes c.args.words.now in
     let named = command_named app words c.in-Ok.matches c.in_ok-grammar.ensures c.in-Ok.ensures.matches in
     let well = c.in-Ok.ensures.kinds (is_free app c.in_ok-grammar.ensures) in
-    IfOk-weaker c.task_of.result _ (Asks words) (λ task has. asked app words _ task c.in_ok-grammar.ensures well named has) c.task_of.ensures.ok
+    IfOk-weaker c.task_of.result _ (AsksFor words) (λ task has. asked app words _ task c.in_ok-grammar.ensures well named has) c.task_of.ensures.ok
 
 pub returns-in-Ok-clause-err : goal.returns-in-Ok-clause-err
 returns-in-Ok-clause-err c =
@@ -19,7 +19,7 @@ returns-in-Ok-clause-err c =
     let words = map string_bytes c.args.words.now in
     let named = command_named app words c.in-Ok.matches c.in_ok-grammar.ensures c.in-Ok.ensures.matches in
     let well = c.in-Ok.ensures.kinds (is_free app c.in_ok-grammar.ensures) in
-    IfErr-weaker c.task_of.result _ (Refuses words) (λ failure has. without_task app words _ failure c.in_ok-grammar.ensures well named has) c.task_of.ensures.err
+    IfErr-weaker c.task_of.result _ (BeginsNothing words) (λ failure has. without_task app words _ failure c.in_ok-grammar.ensures well named has) c.task_of.ensures.err
 
 pub returns-in-Err-clause-err : goal.returns-in-Err-clause-err
 returns-in-Err-clause-err c =

@@ -5,7 +5,7 @@ use Rattle.snoop_trace.specs.declared.step.Step.{Step}
 use Rattle.snoop_trace.specs.declared.step.Op.TheVariants.{Load}
 use Rattle.snoop_trace.specs.declared.step.Step.TheVariants.{Ask}
 use Rattle.snoop_states.specs.Asked.{AreMarks}
-use Rattle.snoop_states.specs.Columns.{asks, is_asker}
+use Rattle.snoop_states.specs.Columns.{asks_for, is_asker}
 use Rattle.snoop_states.specs.declared.asked.Marks.{Marks}
 use Rattle.snoop_states.proofs.AskLemmas.{any_more}
 use Rattle.snoop_states.proofs.asked.asked_by.Goals as goal
@@ -22,7 +22,7 @@ loop-step-preserved c =
     let steps : List Step = c.args.steps.now in
     let i : ℕ = c.loop-step.step-index in
     same_marks c.args.shape _ (is_asker (take (i + 1) steps)) c.mark.new.asked.items
-    (λ block core. any_more (asks block core) steps i (Ask 0 0 0 Load) c.loop-step-test.true)
+    (λ block core. any_more (asks_for block core) steps i (Ask 0 0 0 Load) c.loop-step-test.true)
     (c.mark.ensures c.args.shape (is_asker (take i steps)) c.loop-step.invariant)
 
 pub returns : goal.returns

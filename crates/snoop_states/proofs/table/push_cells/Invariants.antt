@@ -2,7 +2,7 @@ use Rattle.std.proofs.Common.{◌≡◌, ◌++◌, map, take}
 use Rattle.std.specs.List.{flat_map}
 use Rattle.snoop_states.specs.Cells.{cell_text}
 use Rattle.snoop_states.specs.Columns.{width_of}
-use Rattle.snoop_states.specs.Rows.{below, padded}
+use Rattle.snoop_states.specs.Rows.{below, padded_text}
 use Rattle.snoop_states.specs.Seen.{pair}
 use Rattle.snoop_states.proofs.table.push_cells.Given as goal
 
@@ -10,4 +10,4 @@ use Rattle.snoop_states.proofs.table.push_cells.Given as goal
 abbrev pub invariant-loop-cell : goal.invariant-loop-cell
 invariant-loop-cell l =
     (map pair l.cells.items ≡ map (λ cell. (cell.column, cell_text l.machine.situation l.block cell.column)) (take l.cell-index l.above))
-    × (l.out.items ≡ l.fn.out.items ++ flat_map (λ cell. padded (width_of l.widths cell.column) (below cell.text.items (cell_text l.machine.situation l.block cell.column))) (take l.cell-index l.above))
+    × (l.out.items ≡ l.fn.out.items ++ flat_map (λ cell. padded_text (width_of l.widths cell.column) (below cell.text.items (cell_text l.machine.situation l.block cell.column))) (take l.cell-index l.above))

@@ -1,9 +1,9 @@
 use Rattle.std.proofs.Common.{◌≡◌, ◌++◌, take}
 use Rattle.std.specs.List.{flat_map}
 use Rattle.snoop_states.specs.Columns.{column_name, width_of}
-use Rattle.snoop_states.specs.Rows.{padded}
+use Rattle.snoop_states.specs.Rows.{padded_text}
 use Rattle.snoop_states.proofs.table.push_names.Given as goal
 
 -- the names so far
 abbrev pub invariant-loop-cell : goal.invariant-loop-cell
-invariant-loop-cell l = l.out.items ≡ l.fn.out.items ++ flat_map (λ cell. padded (width_of l.widths cell.column) (column_name cell.column)) (take l.cell-index l.cells)
+invariant-loop-cell l = l.out.items ≡ l.fn.out.items ++ flat_map (λ cell. padded_text (width_of l.widths cell.column) (column_name cell.column)) (take l.cell-index l.cells)

@@ -7,7 +7,7 @@ use Rattle.snoop_model.specs.declared.replies.Reply.{Reply}
 use Rattle.snoop_model.specs.declared.replies.Refused.{Refused}
 use Rattle.snoop_model.specs.Pictures.Situation.{Situation}
 use Rattle.snoop_engine.specs.Line.{line_text}
-use Rattle.snoop_engine.specs.Views.{block_of}
+use Rattle.snoop_engine.specs.Views.{block_of_step}
 use Rattle.snoop_states.specs.declared.table.Table.{Table}
 use Rattle.snoop_states.specs.Tables.{shown_block}
 use Rattle.snoop_states.specs.Seen.{AreTables, HasRows, IsGrownAt, IsTable}
@@ -29,7 +29,7 @@ returns-in-None c protocol columns frames frame after step outcome counted of ar
     let none : shown_block c.args.choice c.args.of c.args.number ≡ None = sym c.in-None.ensures in
     all_stay c.args.widths c.args.choice protocol s.shape columns frames frame c.args.tables.now.items are
     (λ e. omega (arith, c.from.ensures.value, c.from.ensures.within, c.if-number-from.false))
-    (subst (λ (n : ℕ). shown_block c.args.choice (block_of frame.before frame.step) n ≡ None) counted
+    (subst (λ (n : ℕ). shown_block c.args.choice (block_of_step frame.before frame.step) n ≡ None) counted
     (subst (λ (o : Option ℕ). shown_block c.args.choice o c.args.number ≡ None) of none))
 
 pub returns-in-Some : goal.returns-in-Some
@@ -37,8 +37,8 @@ returns-in-Some c protocol columns frames frame after step outcome counted of ar
     let s = c.args.machine.now.situation in
     let block : ℕ = c.in-Some.block in
     let some : shown_block c.args.choice c.args.of c.args.number ≡ Some block = sym c.in-Some.ensures in
-    let here : shown_block c.args.choice (block_of frame.before frame.step) (1 + length frames) ≡ Some block =
-    subst (λ (n : ℕ). shown_block c.args.choice (block_of frame.before frame.step) n ≡ Some block) counted
+    let here : shown_block c.args.choice (block_of_step frame.before frame.step) (1 + length frames) ≡ Some block =
+    subst (λ (n : ℕ). shown_block c.args.choice (block_of_step frame.before frame.step) n ≡ Some block) counted
     (subst (λ (o : Option ℕ). shown_block c.args.choice o c.args.number ≡ Some block) of some) in
     let old : List Table = c.args.tables.now.items in
     let new : List Table = c.show_at.new.tables.items in

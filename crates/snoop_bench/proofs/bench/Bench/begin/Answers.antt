@@ -6,7 +6,7 @@ use Rattle.snoop_model.specs.Pictures.Situation.{Situation}
 use Rattle.snoop_model.specs.Invariant.WellKept.{IsWellKept}
 use Rattle.snoop_trace.specs.declared.step.Work.{Work}
 use Rattle.snoop_bench.specs.Locked.{Locked, record_of}
-use Rattle.snoop_bench.specs.Recording.{Recording, Takes}
+use Rattle.snoop_bench.specs.Recording.{Recording, TakesAndPublishes}
 use Rattle.snoop_bench.specs.Keeps.{AreUnderWay, locked}
 use Rattle.snoop_bench.specs.Turns.{Asked, TurnsIn}
 use Rattle.snoop_bench.specs.Turns.Case.{asks}

@@ -11,7 +11,7 @@ use Rattle.snoop_model.specs.Moves.Move.{FirstMove}
 use Rattle.snoop_model.specs.Invariant.WellKept.{IsWellKept}
 use Rattle.snoop_trace.specs.declared.step.Work.{Work}
 use Rattle.snoop_bench.specs.Locked.{Locked, record_of}
-use Rattle.snoop_bench.specs.Recording.{Takes}
+use Rattle.snoop_bench.specs.Recording.{TakesAndPublishes}
 use Rattle.snoop_bench.specs.Keeps.{AreUnderWay, locked}
 use Rattle.snoop_bench.specs.Turns.{Finishes, TurnsIn}
 use Rattle.snoop_bench.specs.Turns.Case.{ends}
@@ -86,6 +86,6 @@ returns-clause-ok g c =
     let done = finishes t c.args.core c.args.work c.last-last.result last (λ isnt. c.turns_are_served.ensures.closed_is_last t c.args.core c.args.work.block c.args.work.word c.args.work.op (access_of c.args.work) well (f.2.owed c.args.core c.args.work its isnt) f.1) in
     let p : Locked = locked c.self.inside in
     let q : Locked = record { situation = t; steps = c.take.new.self.steps; works = c.set_work.new.works.items; published = c.take.new.self.published } in
-    let takes : Takes (Respond c.args.work.block) c.in_ok-take.field-0 (record_of p) (record_of q) = subst (λ (x : Step). Takes x c.in_ok-take.field-0 (record_of p) (record_of q)) f.0 took in
+    let takes : TakesAndPublishes (Respond c.args.work.block) c.in_ok-take.field-0 (record_of p) (record_of q) = subst (λ (x : Step). TakesAndPublishes x c.in_ok-take.field-0 (record_of p) (record_of q)) f.0 took in
     let whole : TurnsIn ends c.args.core c.args.work c.over.result p q = (c.in_ok-take.field-0, (takes, (subst (Finishes t c.args.core c.args.work c.args.work.op) (sym c.over.ensures) done, c.set_work.ensures))) in
     subst (λ (l : Locked). TurnsIn ends c.args.core c.args.work c.over.result l q) c.self.view_is whole

@@ -6,7 +6,7 @@ use Rattle.snoop_history.specs.declared.items.Item.{Item}
 use Rattle.snoop_model.specs.Pictures.Situation.{Situation}
 use Rattle.snoop_model.specs.Moves.Move.{FirstMove}
 use Rattle.snoop_versions.specs.Readings.{Publishing}
-use Rattle.snoop_bench.specs.Recording.{Recording, Takes}
+use Rattle.snoop_bench.specs.Recording.{Recording, TakesAndPublishes}
 use Rattle.snoop_bench.proofs.Recorded.{moved, run_on, readable_on}
 use Rattle.snoop_bench.proofs.recorder.Recorder.take.Goals as goal
 
@@ -48,10 +48,10 @@ returns-clause-takes g c =
     let ready = c.in-Ok-ready.ensures.ok in
     let p : Recording = record { situation = s; steps = c.self.inside.steps.items; published = c.self.inside.writer.list } in
     let q : Recording = record { situation = t; steps = c.push_reserved.new.self.items; published = c.publish.new.self.list } in
-    let takes : Takes c.args.step c.in-Ok-step.reply p q = record {
+    let takes : TakesAndPublishes c.args.step c.in-Ok-step.reply p q = record {
       item = c.in-Ok-prepared.item;
       move = move;
       steps = c.push_reserved.ensures.items ∙ ap (λ (l : List Step). l ++ c.args.step ∷ []) c.reserve.ensures.items;
       published = ap (λ (w : Publishing). w.list) c.publish.ensures ∙ ap (λ (w : Publishing). w.list ++ w.ready) ready;
     } in
-    subst (λ (x : Recording). Takes c.args.step c.in-Ok-step.reply x q) c.self.view_is takes
+    subst (λ (x : Recording). TakesAndPublishes c.args.step c.in-Ok-step.reply x q) c.self.view_is takes

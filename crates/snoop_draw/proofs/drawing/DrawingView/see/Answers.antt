@@ -1,6 +1,6 @@
 use Rattle.std.proofs.Common.{◌++◌, ◌+◌, ℕ, List, Option, ap, ◌∙◌, length}
 use Rattle.std.proofs.lemmas.Result.{on_ok_weaker}
-use Rattle.snoop_engine.specs.Views.{block_of}
+use Rattle.snoop_engine.specs.Views.{block_of_step}
 use Rattle.snoop_engine.specs.declared.taken.Taken.{Taken}
 use Rattle.snoop_draw.specs.Drawings.{Sheet, rows_seen}
 use Rattle.snoop_draw.proofs.drawing.DrawingView.see.Goals as goal
@@ -14,6 +14,6 @@ returns c first frames before has next =
     (λ e. (
       has,
       e ∙ ap (λ sheet. text sheet seen.number seen.block seen.lines.now) has ∙ ap (λ n. text first n seen.block seen.lines.now) next.number
-          ∙ ap (λ of. text first (1 + length frames) of seen.lines.now) next.block ∙ ap (text first (1 + length frames) (block_of before seen.step)) next.lines,
+          ∙ ap (λ of. text first (1 + length frames) of seen.lines.now) next.block ∙ ap (text first (1 + length frames) (block_of_step before seen.step)) next.lines,
     ))
     c.push_rows.ensures

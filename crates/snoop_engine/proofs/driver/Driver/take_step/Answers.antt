@@ -7,7 +7,7 @@ use Rattle.snoop_model.specs.Moves.Move.{FirstMove}
 use Rattle.snoop_model.specs.Pictures.Situation.{Situation}
 use Rattle.snoop_model.specs.Turns.Serving.{IsUnderWay}
 use Rattle.snoop_model.proofs.Turns.Laws.{turn_rule}
-use Rattle.snoop_engine.specs.Todo.{under_way}
+use Rattle.snoop_engine.specs.Todo.{lanes_under_way}
 use Rattle.snoop_engine.specs.Round.{Progress, IsEnabled, IsFit}
 use Rattle.snoop_engine.proofs.Driving.{fit_moves, only_memory}
 use Rattle.snoop_engine.proofs.driver.Driver.take_step.Goals as goal
@@ -15,7 +15,7 @@ use Rattle.snoop_engine.proofs.driver.Driver.take_step.Goals.{in-Ok, in-Err-NoMe
 
 pub invariant_of-self : goal.invariant_of-self
 invariant_of-self c =
-    let U : Progress → Type 0 = λ p. IsUnderWay (under_way p.lanes) c.args.step in
+    let U : Progress → Type 0 = λ p. IsUnderWay (lanes_under_way p.lanes) c.args.step in
     let F : Situation → Type 0 = λ s. IsFit s c.self.inside.lanes.items c.self.inside.turns.items in
     elim c.match-step.branch [
       | in-Ok w ↦

@@ -6,7 +6,7 @@ use Rattle.snoop_model.specs.declared.replies.Reply.{Reply}
 use Rattle.snoop_model.specs.Moves.Move.{FirstMove}
 use Rattle.snoop_model.specs.Pictures.Situation.{Situation}
 use Rattle.snoop_model.specs.Turns.Serving.{IsUnderWay}
-use Rattle.snoop_engine.specs.InOrder.{InOrder, IsInOrder, under_way}
+use Rattle.snoop_engine.specs.InOrder.{InOrder, IsInOrder, row_under_way}
 use Rattle.snoop_engine.specs.Round.{IsEnabled}
 use Rattle.snoop_engine.proofs.Driving.{only_memory}
 use Rattle.snoop_engine.proofs.InOrderLemmas.{in_order_moves}
@@ -15,7 +15,7 @@ use Rattle.snoop_engine.proofs.serial_driver.SerialDriver.take_step.Goals.{in-Ok
 
 pub invariant_of-self : goal.invariant_of-self
 invariant_of-self c =
-    let U : InOrder → Type 0 = λ d. IsUnderWay (under_way d.situation.shape d.row) c.args.step in
+    let U : InOrder → Type 0 = λ d. IsUnderWay (row_under_way d.situation.shape d.row) c.args.step in
     let F : Situation → Type 0 = λ s. IsInOrder s c.self.inside.rows.now c.self.inside.row in
     elim c.match-step.branch [
       | in-Ok w ↦

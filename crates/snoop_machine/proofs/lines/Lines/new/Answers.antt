@@ -11,7 +11,7 @@ use Rattle.snoop_model.proofs.Lists.Facts.{replicated}
 use Rattle.snoop_model.proofs.Invariant.Runs.{nothing_proper}
 use Rattle.snoop_machine.specs.declared.holders.Holders.{Holders}
 use Rattle.snoop_machine.specs.Holders.{AreHolders, no_holders}
-use Rattle.snoop_machine.specs.Lines.{rows_of}
+use Rattle.snoop_machine.specs.Lines.{held_by_block}
 use Rattle.snoop_machine.proofs.MapRows.{empty-push, line-empty, row-empty, rows-empty, blocks-empty}
 use Rattle.snoop_machine.proofs.lines.Lines.new.Given.{Over}
 use Rattle.snoop_machine.proofs.lines.Lines.new.Goals as goal
@@ -65,7 +65,7 @@ returns-clause-rows g c =
     let d = (goal.at.returns-clause-rows g c).In_ok-holders in
     let caches = c.loop.caches.items in
     let long : length c.in_ok-holders.holders ≡ c.args.shape.blocks = ap (λ (l : List Holders). length l) (holders_are g d) ∙ length-replicate c.args.shape.blocks c.empty.result in
-    ap (λ (n : ℕ). rows_of n caches) long ∙ (rows-empty caches c.loop.invariant.0 c.args.shape.blocks ∙ ap (λ (n : ℕ). replicate c.args.shape.blocks (replicate n nothing_held)) (counted g d))
+    ap (λ (n : ℕ). held_by_block n caches) long ∙ (rows-empty caches c.loop.invariant.0 c.args.shape.blocks ∙ ap (λ (n : ℕ). replicate c.args.shape.blocks (replicate n nothing_held)) (counted g d))
 
 pub returns-clause-lines : goal.returns-clause-lines
 returns-clause-lines g c =

@@ -2,7 +2,7 @@ use Rattle.std.proofs.Common.{◌≡◌, ◌<◌, ℕ, List, ◌++◌, refl, sym
 use Rattle.std.proofs.lemmas.Result.{on_ok_weaker}
 use Rattle.snoop_model.specs.Pictures.Situation.{Situation}
 use Rattle.snoop_svg.specs.Drawings.{StandsBelow, opening}
-use Rattle.snoop_svg.specs.Sheets.{Standing, first_row}
+use Rattle.snoop_svg.specs.Sheets.{AfterSteps, first_row}
 use Rattle.snoop_svg.proofs.BeginLemmas.{at_reset, begun_at_reset, begun_early, text_at_reset, text_early}
 use Rattle.snoop_svg.proofs.TextLemmas.{joined}
 use Rattle.snoop_svg.proofs.drawing.DrawingView.begin.Goals as goal
@@ -11,7 +11,7 @@ pub returns-then-from-eq1-clause-begins : goal.returns-then-from-eq1-clause-begi
 returns-then-from-eq1-clause-begins c =
     let s = c.args.machine.now.situation in
     let one : c.args.self.now.plan.choice.from ≡ 1 = omega (arith, c.from.ensures.value, ap (λ choice. choice.from) c.choice.ensures) in
-    let standing_in : Situation → Standing = λ x. record { number = 0; situation = x } in
+    let standing_in : Situation → AfterSteps = λ x. record { number = 0; situation = x } in
     on_ok_weaker c.start.result
     (λ stands. begun_at_reset c.args.self.now c.start.new.self s.protocol s.shape c.start.ensures.plan.0 c.start.ensures.plan.1 one
     (subst (λ (x : Situation). StandsBelow c.start.new.self (standing_in x)) c.requires stands))
@@ -23,7 +23,7 @@ returns-then-from-eq1-clause-text c =
     let plan = c.args.self.now.plan in
     let out : List ℕ = c.args.out.now.items in
     let one : plan.choice.from ≡ 1 = omega (arith, c.from.ensures.value, ap (λ choice. choice.from) c.choice.ensures) in
-    let standing_in : Situation → Standing = λ x. record { number = 0; situation = x } in
+    let standing_in : Situation → AfterSteps = λ x. record { number = 0; situation = x } in
     on_ok_weaker c.start.result
     (λ e. joined out (opening plan s.protocol s.shape) (first_row plan (standing_in s)) _ _ c.in_ok-begin_sheets.ensures e
     ∙ ap (λ (x : Situation). out ++ (opening plan s.protocol s.shape ++ first_row plan (standing_in x))) c.requires

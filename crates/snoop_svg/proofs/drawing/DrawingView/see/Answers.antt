@@ -2,14 +2,14 @@ use Rattle.std.proofs.Common.{◌≡◌, ◌+◌, ◌<◌, ◌≤◌, ◌%◌, t
 use Rattle.std.specs.Prelude.{◌==◌}
 use Rattle.std.proofs.lemmas.Bool.{cases_lt, eqb-true, eq-eqb}
 use Rattle.std.proofs.lemmas.Result.{on_ok_weaker}
-use Rattle.snoop_engine.specs.Taken.{lines_of}
-use Rattle.snoop_engine.specs.Views.{block_of, frame_seen}
+use Rattle.snoop_engine.specs.Taken.{lines_of_step}
+use Rattle.snoop_engine.specs.Views.{block_of_step, frame_seen}
 use Rattle.snoop_engine.specs.declared.taken.Taken.{Taken}
 use Rattle.snoop_engine.specs.Frames.{Frame}
 use Rattle.snoop_engine.specs.Chosen.{Chosen, is_shown}
 use Rattle.snoop_engine.proofs.NumberedLemmas.{numbered}
 use Rattle.snoop_svg.specs.Drawings.{HasSeen, StandsBelow, drawn, frame_text, has_row, placed_row, rows_per_sheet, standing, turn_text}
-use Rattle.snoop_svg.specs.Sheets.{Plan, Standing, first_row, row_text, row_y}
+use Rattle.snoop_svg.specs.Sheets.{Plan, AfterSteps, first_row, row_text, row_y}
 use Rattle.snoop_svg.proofs.DrawnLemmas.{after}
 use Rattle.snoop_svg.proofs.SeenLemmas.{row_blank, row_shown, seen_blank, seen_drawn, seen_start, seen_stays, shown_rows, stands_above, text_drawn, text_start, text_stays}
 use Rattle.snoop_svg.proofs.TextLemmas.{on_ok_any, on_ok_three, on_ok_two}
@@ -26,7 +26,7 @@ returns-then-is_first_after c first frames before has next =
     let same : c.args.seen.number + 1 ≡ old.plan.choice.from = eqb-true (c.args.seen.number + 1) old.plan.choice.from test in
     let from : old.plan.choice.from ≡ 2 + length frames = omega arith in
     let first_from : first.plan.choice.from ≡ 2 + length frames = ap (λ (plan : Plan). plan.choice.from) (sym has.plan) ∙ from in
-    let standing_after : ℕ → Standing = λ n. record { number = n; situation = s } in
+    let standing_after : ℕ → AfterSteps = λ n. record { number = n; situation = s } in
     on_ok_two c.start.result
     (λ stands e. (
       seen_start first old c.start.new.self s.protocol s.shape frames frame has c.start.ensures.plan.0 c.start.ensures.plan.1 from (subst (λ (n : ℕ). StandsBelow c.start.new.self (standing_after n)) number stands),
@@ -45,7 +45,7 @@ returns-then-has_step c first frames before has next =
     let frame : Frame = frame_seen before seen s in
     let number : seen.number ≡ 1 + length frames = next.number in
     let on : has_row old.plan.choice (numbered (1 + length frames) frame) ≡ true =
-    ap (is_shown old.plan.choice (block_of before seen.step)) (sym number) ∙ ap (λ (of : Option ℕ). is_shown old.plan.choice of seen.number) (sym next.block)
+    ap (is_shown old.plan.choice (block_of_step before seen.step)) (sym number) ∙ ap (λ (of : Option ℕ). is_shown old.plan.choice of seen.number) (sym next.block)
     ∙ ap (λ (choice : Chosen). is_shown choice seen.block seen.number) (sym c.choice-choice.ensures) ∙ sym c.has_step.ensures ∙ c.if-has_step.true in
     let first_on : has_row first.plan.choice (numbered (1 + length frames) frame) ≡ true = ap (λ (plan : Plan). has_row plan.choice (numbered (1 + length frames) frame)) (sym has.plan) ∙ on in
     let other : first.plan.choice.from ≡ 2 + length frames → ⊥ =
@@ -54,13 +54,13 @@ returns-then-has_step c first frames before has next =
     let never : c.is_first_after.result ≡ false = c.if-is_first_after.false in
     cc) in
     let count : ℕ = length (drawn first.plan.choice frames) in
-    let above : Standing = standing old.plan.choice s.protocol s.shape frames in
+    let above : AfterSteps = standing old.plan.choice s.protocol s.shape frames in
     let place : old.place ≡ shown_rows first.plan frames = has.place ∙ ap (λ (plan : Plan). shown_rows plan frames) has.plan in
     let shown : old.plan.paper.shown ≡ first.plan.paper.shown = ap (λ (plan : Plan). plan.paper.shown) has.plan in
     let drawn_is : frame_text first.plan s.protocol s.shape frames (numbered (1 + length frames) frame)
     ≡ placed_row first.plan s.protocol s.shape count (standing first.plan.choice s.protocol s.shape frames) (numbered (1 + length frames) frame) = text_drawn first.plan s.protocol s.shape frames frame other first_on in
-    let standing_after : ℕ → Standing = λ n. record { number = n; situation = s } in
-    let row : Plan → ℕ → Standing → ℕ → Option ℕ → List Taken → List ℕ =
+    let standing_after : ℕ → AfterSteps = λ n. record { number = n; situation = s } in
+    let row : Plan → ℕ → AfterSteps → ℕ → Option ℕ → List Taken → List ℕ =
     λ plan at one n of lines. turn_text plan s.protocol s.shape at one ++ row_text plan s.shape (row_y (at % rows_per_sheet plan.paper.form)) one n s of seen.step seen.outcome lines in
     elim (cases_lt old.place old.plan.paper.shown) [
       | inl low ↦
@@ -74,7 +74,7 @@ returns-then-has_step c first frames before has next =
                 ∙ ap (λ (n : ℕ). out ++ row first.plan n (standing first.plan.choice s.protocol s.shape frames) seen.number seen.block seen.lines.now) at
                 ∙ ap (λ (n : ℕ). out ++ row first.plan count (standing first.plan.choice s.protocol s.shape frames) n seen.block seen.lines.now) number
                 ∙ ap (λ (of : Option ℕ). out ++ row first.plan count (standing first.plan.choice s.protocol s.shape frames) (1 + length frames) of seen.lines.now) next.block
-                ∙ ap (λ (lines : List Taken). out ++ row first.plan count (standing first.plan.choice s.protocol s.shape frames) (1 + length frames) (block_of before seen.step) lines) next.lines
+                ∙ ap (λ (lines : List Taken). out ++ row first.plan count (standing first.plan.choice s.protocol s.shape frames) (1 + length frames) (block_of_step before seen.step) lines) next.lines
                 ∙ ap (λ (t : List ℕ). out ++ t)
                 (sym (drawn_is ∙ row_shown first.plan s.protocol s.shape count (standing first.plan.choice s.protocol s.shape frames) (numbered (1 + length frames) frame) few)),
           ))
@@ -97,7 +97,7 @@ returns-else-has_step c first frames before has next =
     let frame : Frame = frame_seen before seen s in
     let number : seen.number ≡ 1 + length frames = next.number in
     let off : has_row old.plan.choice (numbered (1 + length frames) frame) ≡ false =
-    ap (is_shown old.plan.choice (block_of before seen.step)) (sym number) ∙ ap (λ (of : Option ℕ). is_shown old.plan.choice of seen.number) (sym next.block)
+    ap (is_shown old.plan.choice (block_of_step before seen.step)) (sym number) ∙ ap (λ (of : Option ℕ). is_shown old.plan.choice of seen.number) (sym next.block)
     ∙ ap (λ (choice : Chosen). is_shown choice seen.block seen.number) (sym c.choice-choice.ensures) ∙ sym c.has_step.ensures ∙ c.if-has_step.false in
     let other : old.plan.choice.from ≡ 2 + length frames → ⊥ =
     λ from. absurd (let e : seen.number + 1 ≡ old.plan.choice.from = omega arith in
